@@ -1,0 +1,9 @@
+pub mod CodecLemmas
+pub mod MessageLemmas
+pub mod OrderedLemmas
+pub mod Distinct
+pub mod Entries
+pub mod Deques
+pub mod References
+pub mod Counting
+pub mod Storing

@@ -1,0 +1,70 @@
+-- Keys in rising order, each of them once.
+use Rattle.std.proofs.Common.{◌≡◌, ℕ, zero, suc, ◌+◌, ◌<◌, Bool, true, false, List, [], ◌∷◌, length, get_or, Result, Ok, Err, is_some, refl, sym, ap, ◌∙◌, arith, inl, inr}
+use Rattle.std.specs.Prelude.{IfSome, IfOk, IsSomeAnd}
+use Rattle.std.specs.Cmp.{IsTotalOrder, IsEquivalence}
+use Rattle.std.specs.List.{All, HoldsAt, list_any, slice_get, dedup}
+use Rattle.std.specs.List.Sorted.{IsSorted, IsStrictlySortedBy, IsBinarySearchResult, IsSearchInRange}
+use Rattle.std.specs.Ordering.{eq_by_cmp, is_eq, is_lt, ordering_reverse}
+use Rattle.std.specs.Result.{result_ok}
+use Rattle.std.specs.declared.cmp.Ordering.{Ordering}
+use Rattle.std.specs.declared.cmp.Ordering.TheVariants.{Equal}
+use Rattle.std.proofs.lemmas.Bool.{cases_lt}
+use Rattle.std.proofs.lemmas.Cmp.{eq_by_cmp_equiv, tied_back}
+use Rattle.std.proofs.lemmas.List.Folds.{Any-from_list_any, list_any-from_Any, list_any_at, list_any_none}
+use Rattle.std.proofs.lemmas.List.Kept.{Any-dedup, Contains-from_dedup}
+use Rattle.std.proofs.lemmas.List.Sorted.{searchable_from_sorted}
+use Rattle.std.proofs.lemmas.Map.Keys.{Less-from_sorted}
+
+same_tests : (a b : Bool) → (a ≡ true → b ≡ true) → (b ≡ true → a ≡ true) → a ≡ b
+same_tests true b f g = sym (f refl)
+same_tests false true f g = g refl
+same_tests false false f g = refl
+
+-- what is left of the keys has a key equal to each of them, and no other
+pub list_any-dedup : {K : Type 0} {R : K → K → Ordering} (o : IsTotalOrder R) {E : K → K → Bool} (e : IsEquivalence E) → ((x y : K) → E x y ≡ eq_by_cmp R x y) → (xs : List K) (q : K) → list_any (eq_by_cmp R q) (dedup E xs) ≡ list_any (eq_by_cmp R q) xs
+list_any-dedup {K} {R} o {E} e ties xs q =
+    let equal = eq_by_cmp R q in
+    let was : list_any equal (dedup E xs) ≡ true → list_any equal xs ≡ true = λ h.
+    let a = Any-from_list_any equal (dedup E xs) h in
+    let b = Contains-from_dedup E xs a.1 (a.0, a.2, a.3) in
+    list_any-from_Any equal xs (b.0, a.1, b.1, b.2, a.4) in
+    let stays : list_any equal xs ≡ true → list_any equal (dedup E xs) ≡ true = λ h.
+    let a = Any-from_list_any equal xs h in
+    let b = Any-dedup e xs a.1 (a.0, a.2, a.3) in
+    let tied : eq_by_cmp R a.1 b.1 ≡ true = sym (ties a.1 b.1) ∙ b.4 in
+    list_any-from_Any equal (dedup E xs) (b.0, b.1, b.2, b.3, (eq_by_cmp_equiv o).congr q a.1 b.1 a.4 ∙ tied) in
+    same_tests _ _ was stays
+
+-- a key at a place
+key_at : {K : Type 0} (P : K → Type 0) (xs : List K) (i : ℕ) → i < length xs → HoldsAt P xs i → IsSomeAnd (slice_get xs i) P
+key_at P [] i lt h = absurd (omega arith)
+key_at P (x ∷ xs) zero lt h = h x
+key_at P (x ∷ xs) (suc i) lt h = key_at P xs i (omega arith) h
+
+is_eq-Equal : (o : Ordering) → o ≡ Equal → is_eq o ≡ true
+is_eq-Equal o e = rw e refl
+
+-- keys that rise don't fall
+IsSorted-from_rising : {K : Type 0} {R : K → K → Ordering} (o : IsTotalOrder R) → (xs : List K) → IsStrictlySortedBy R xs → IsSorted R xs
+IsSorted-from_rising {K} {R} o xs rises k d low high =
+    let below = Less-from_sorted R xs k (k + 1) d rises (omega arith) high in
+    ap is_lt (o.antisymm (get_or xs (k + 1) d) (get_or xs k d) ∙ ap ordering_reverse below)
+
+-- what a search finds has the key
+pub place_found : {K : Type 0} {R : K → K → Ordering} (o : IsTotalOrder R) → (xs : List K) (x : K) (r : Result ℕ ℕ) → IsSearchInRange r (length xs) → IfOk r (HoldsAt (λ y. R y x ≡ Equal) xs) → IfSome (result_ok r) (λ i. IsSomeAnd (slice_get xs i) (λ q. eq_by_cmp R x q ≡ true))
+place_found o xs x (Ok i) lt h =
+    key_at _ xs i lt (λ d. is_eq-Equal _ (tied_back o (get_or xs i d) x (h d)))
+place_found o xs x (Err i) lt h = tt
+
+-- a search finds a place exactly where there is an equal key
+pub place_decides : {K : Type 0} {R : K → K → Ordering} (o : IsTotalOrder R) → (xs : List K) (x : K) (r : Result ℕ ℕ) → IsStrictlySortedBy R xs → IsSearchInRange r (length xs) → IsBinarySearchResult (λ y. R y x) xs r → is_some (result_ok r) ≡ list_any (eq_by_cmp R x) xs
+place_decides {K} {R} o xs x (Ok i) rises lt h =
+    sym (list_any_at (eq_by_cmp R x) xs i x lt (is_eq-Equal _ (tied_back o (get_or xs i x) x (h x))))
+place_decides {K} {R} o xs x (Err i) rises lt h =
+    let parts = h (searchable_from_sorted o (λ y. y) xs x (IsSorted-from_rising o xs rises)) in
+    let apart : All (λ q. eq_by_cmp R x q ≡ false) xs = λ k d within.
+    elim (cases_lt k i) [
+      | inl before ↦ ap is_eq (o.antisymm x (get_or xs k d) ∙ ap ordering_reverse (parts.0 k d (omega arith) before))
+      | inr after ↦ ap is_eq (o.antisymm x (get_or xs k d) ∙ ap ordering_reverse (parts.1 k d after within))
+    ] in
+    sym (list_any_none (eq_by_cmp R x) xs apart)

@@ -1,0 +1,9 @@
+use Rattle.std.proofs.Common.{arith}
+use Rattle.broadcast_core.proofs.MessageLemmas.{read_found, read_only}
+use Rattle.broadcast_core.proofs.mocks.TestMessageRead.read_cfg.Goals as goal
+
+pub returns-clause-found : goal.returns-clause-found
+returns-clause-found c = read_found c.args.cfg.now c.args.buf.now _ (λ i. omega (arith, c.type_inv.buf i)) c.copied_at.ensures
+
+pub returns-clause-only : goal.returns-clause-only
+returns-clause-only c = read_only c.args.cfg.now c.args.buf.now _ c.copied_at.ensures

@@ -1,0 +1,17 @@
+use Rattle.std.proofs.Common.{sym, ap, ◌∙◌}
+use Rattle.std.specs.List.{list_any}
+use Rattle.std.specs.Ordering.{eq_by_cmp}
+use Rattle.std.proofs.lemmas.List.Filters.{dedup_is}
+use Rattle.std.proofs.lemmas.List.Kept.{IsStrictlySortedBy-dedup}
+use Rattle.std.proofs.lemmas.List.Sorted.{list_any-IsPermutation}
+use Rattle.broadcast_core.proofs.OrderedLemmas.{list_any-dedup}
+use Rattle.broadcast_core.proofs.ordered.sort_dedup.Goals as goal
+
+pub returns-clause-members : goal.returns-clause-members
+returns-clause-members g c q =
+    let left = dedup_is _ _ _ c.dedup.ensures.filtered in
+    ap (list_any (eq_by_cmp g.K.Ord.cmp q)) left ∙ list_any-dedup g.met.K.Ord.total g.met.K.Eq.laws g.met.K.Ord.matches_eq _ q ∙ sym (list_any-IsPermutation _ _ _ c.in_ok-sort.ensures.permutation)
+
+pub returns-clause-rises : goal.returns-clause-rises
+returns-clause-rises g c =
+    rw (dedup_is _ _ _ c.dedup.ensures.filtered) (IsStrictlySortedBy-dedup g.met.K.Ord.total g.met.K.Ord.matches_eq _ c.in_ok-sort.ensures.sorted)

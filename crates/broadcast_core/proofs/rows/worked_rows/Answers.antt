@@ -1,0 +1,14 @@
+use Rattle.std.proofs.Common.{refl}
+use Rattle.broadcast_core.proofs.rows.worked_rows.Goals as goal
+
+pub returns-clause-repeats : goal.returns-clause-repeats
+returns-clause-repeats c = record { answered = refl; listed = refl; with_no_place = refl }
+
+pub returns-clause-broadcasts : goal.returns-clause-broadcasts
+returns-clause-broadcasts c = record { answered = refl; listed = refl; sent = refl }
+
+pub returns-clause-stays : goal.returns-clause-stays
+returns-clause-stays c = record { answered = refl; listed = refl }
+
+pub returns-clause-requests : goal.returns-clause-requests
+returns-clause-requests c = record { answered = refl; waiting = refl }

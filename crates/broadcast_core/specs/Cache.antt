@@ -1,0 +1,20 @@
+-- What is cached.
+use Rattle.std.specs.Prelude.{Bool, if◌then◌else◌, List, [], ◌∷◌, Option, None, Some}
+use Rattle.std.specs.List.{list_any}
+use Rattle.broadcast_core.specs.Carried.{Carried}
+use Rattle.broadcast_core.specs.Content.{among}
+use Rattle.broadcast_core.specs.History.{Setting, taken, carried_by}
+use Rattle.broadcast_core.specs.Peers.{primary}
+use Rattle.broadcast_core.specs.Lists.{list}
+use Rattle.broadcast_core.specs.declared.event.Event.{Event}
+
+module _ {P M D : Type 0} (s : Setting P M D) where
+  -- whether some key has the digest on its list; the list of a key that is not primary is empty
+  abbrev pub is_listed : D → List (Event P M D) → Bool
+  is_listed d past = list_any (λ p. among s.same.digest d (list s p past)) (primary s past)
+
+  -- the message of a listed digest: that of the event since which the digest has been listed
+  abbrev pub message : D → List (Event P M D) → Option (Carried M D)
+  message d [] = None
+  message d (e ∷ older) =
+      if is_listed d (e ∷ older) then (if is_listed d older then message d older else carried_by s (taken s e)) else None

@@ -1,0 +1,155 @@
+-- What the laws of reading a test message rest on.
+use Rattle.std.proofs.Common.{◌≡◌, ℕ, ◌-◌, ◌^◌, ◌<◌, ◌≤◌, Bool, true, false, cond, ltb, ◌&&◌, List, ◌++◌, length, drop, Some, None, Result, Ok, Err, refl, sym, ap, subst, ◌∙◌, append_assoc, arith, ◌⊎◌, inl, inr, ⊎_elim}
+use Rattle.std.proofs.lemmas.Bool.{ltb-true, le-ltb, and_parts}
+use Rattle.std.proofs.lemmas.List.{take_at, drop_at, length-append}
+use Rattle.byteorder.specs.Endian.{big_bytes, big_number}
+use Rattle.byteorder.specs.Numbers.{big_number-reads_back, length-bytes_high_first}
+use Rattle.broadcast_core.specs.declared.codec.CodecError.{CodecError}
+use Rattle.broadcast_core.specs.declared.codec.CodecError.TheVariants.{EndOfBuffer, InvalidLength}
+use Rattle.broadcast_core.specs.declared.codec.RangeCfg.{RangeCfg}
+use Rattle.broadcast_core.specs.Codec.{IsRefusal, ◌>>=◌, contains, has_spelling, spelled, length_at, bytes_at, list_at}
+use Rattle.broadcast_core.specs.TestMessage.{Parts, encoding_of, message_at}
+
+-- ---- steps
+
+-- the value of a step that did not refuse
+pub bind_ok : {A B : Type 0} (r : Result A CodecError) (f : A → Result B CodecError) (y : B) → (r >>= f) ≡ Ok y → (x : A) × (r ≡ Ok x) × (f x ≡ Ok y)
+bind_ok (Ok x) f y e = (x, refl, e)
+bind_ok (Err d) f y e = absurd cc
+
+-- a refusal is that of the first step, or of what follows it
+pub bind_err : {A B : Type 0} (r : Result A CodecError) (f : A → Result B CodecError) (e : CodecError) → (r >>= f) ≡ Err e → (r ≡ Err e) ⊎ ((x : A) × (f x ≡ Err e))
+bind_err (Ok x) f e h = inr (x, h)
+bind_err (Err d) f e h = inl cc
+
+abbrev done : {A : Type 0} → A → Result A CodecError
+done x = Ok x
+
+-- what was read is one value
+pub ok_is : {A : Type 0} (x y : A) → done x ≡ done y → x ≡ y
+ok_is x y e = cc
+
+-- a test that refuses
+pub guard_ok : {A : Type 0} (b : Bool) (d : CodecError) (x y : A) → cond b (Err d) (Ok x) ≡ Ok y → (b ≡ false) × (x ≡ y)
+guard_ok true d x y e = absurd cc
+guard_ok false d x y e = (refl, cc)
+
+-- a test without which all is refused
+pub chosen_ok : {A : Type 0} (b : Bool) (d : CodecError) (x : Result A CodecError) (y : A) → cond b x (Err d) ≡ Ok y → (b ≡ true) × (x ≡ Ok y)
+chosen_ok true d x y e = (refl, e)
+chosen_ok false d x y e = absurd cc
+
+-- ---- bytes are refused by these kinds alone
+
+guard_refuses : {A : Type 0} (b : Bool) (d e : CodecError) (x : A) → IsRefusal d → cond b (Err d) (Ok x) ≡ Err e → IsRefusal e
+guard_refuses true d e x is h = let same : d ≡ e = cc in subst IsRefusal same is
+guard_refuses false d e x is h = absurd cc
+
+chosen_refuses : {A : Type 0} (b : Bool) (d e : CodecError) (x : Result A CodecError) → IsRefusal d → (x ≡ Err e → IsRefusal e) → cond b x (Err d) ≡ Err e → IsRefusal e
+chosen_refuses true d e x is first h = first h
+chosen_refuses false d e x is first h = let same : d ≡ e = cc in subst IsRefusal same is
+
+list_refusals : (range : RangeCfg) (bytes : List ℕ) (e : CodecError) → list_at range bytes ≡ Err e → IsRefusal e
+unfolding list_at
+list_refusals range bytes e h =
+    let f : ℕ × List ℕ → Result (List ℕ × List ℕ) CodecError = λ n. cond (contains range n.0) (bytes_at n.0 n.1) (Err (InvalidLength n.0)) in
+    ⊎_elim (guard_refuses _ EndOfBuffer e _ tt)
+    (λ (s : (n : ℕ × List ℕ) × (f n ≡ Err e)). chosen_refuses (contains range s.0.0) (InvalidLength s.0.0) e (bytes_at s.0.0 s.0.1) tt (guard_refuses _ EndOfBuffer e _ tt) s.1)
+    (bind_err (length_at bytes) f e h)
+
+pub message_refusals : (range : RangeCfg) (bytes : List ℕ) (e : CodecError) → message_at range bytes ≡ Err e → IsRefusal e
+unfolding message_at
+message_refusals range bytes e h =
+    let g : List ℕ → List ℕ × List ℕ → Result (Parts × ℕ) CodecError = λ c d. Ok (record { commitment = c; content = d.0 }, length bytes - length d.1) in
+    let f : List ℕ × List ℕ → Result (Parts × ℕ) CodecError = λ c. list_at range c.1 >>= g c.0 in
+    ⊎_elim (list_refusals range bytes e)
+    (λ (s : (c : List ℕ × List ℕ) × (f c ≡ Err e)). ⊎_elim (list_refusals range s.0.1 e) (λ (t : (d : List ℕ × List ℕ) × (g s.0.0 d ≡ Err e)). absurd cc) (bind_err (list_at range s.0.1) (g s.0.0) e s.1))
+    (bind_err (list_at range bytes) f e h)
+
+-- ---- a message takes no more bytes than there are
+
+pub message_within : (range : RangeCfg) (bytes : List ℕ) (m : Parts) (n : ℕ) → message_at range bytes ≡ Ok (m, n) → n ≤ length bytes
+unfolding message_at
+message_within range bytes m n h =
+    let g : List ℕ → List ℕ × List ℕ → Result (Parts × ℕ) CodecError = λ c d. Ok (record { commitment = c; content = d.0 }, length bytes - length d.1) in
+    let a = bind_ok (list_at range bytes) (λ c. list_at range c.1 >>= g c.0) (m, n) h in
+    let b = bind_ok (list_at range a.0.1) (g a.0.0) (m, n) a.2 in
+    let used = ap (λ (r : Parts × ℕ). r.1) (ok_is _ _ b.2) in
+    omega (arith, used)
+
+-- ---- what is spelled so is read
+
+number_again : (k n : ℕ) (rest : List ℕ) → n < 256 ^ k → cond {A = Result (ℕ × List ℕ) CodecError} (ltb (length (big_bytes k n ++ rest)) k) (Err EndOfBuffer) (Ok (big_number k (big_bytes k n ++ rest), drop k (big_bytes k n ++ rest))) ≡ Ok (n, rest)
+number_again k n rest lt =
+    let len = length-bytes_high_first k n in
+    let long : ltb (length (big_bytes k n ++ rest)) k ≡ false = le-ltb _ _ (omega (arith, length-append (big_bytes k n) rest)) in
+    rw (long, big_number-reads_back k n rest lt, drop_at (big_bytes k n) rest k len) refl
+
+bytes_again : (xs rest : List ℕ) → bytes_at (length xs) (xs ++ rest) ≡ Ok (xs, rest)
+bytes_again xs rest =
+    let long : ltb (length (xs ++ rest)) (length xs) ≡ false = le-ltb _ _ (omega (arith, length-append xs rest)) in
+    rw (long, take_at xs rest (length xs) refl, drop_at xs rest (length xs) refl) refl
+
+-- the spelling of a list is refused for its length alone
+pub list_again : (range : RangeCfg) (xs rest : List ℕ) → length xs < 2 ^ 32 → list_at range (spelled xs ++ rest) ≡ cond (contains range (length xs)) (Ok (xs, rest)) (Err (InvalidLength (length xs)))
+unfolding list_at
+list_again range xs rest lt =
+    let n = length xs in
+    let f : ℕ × List ℕ → Result (List ℕ × List ℕ) CodecError = λ n. cond (contains range n.0) (bytes_at n.0 n.1) (Err (InvalidLength n.0)) in
+    ap (list_at range) (append_assoc (big_bytes 4 n) xs rest)
+    ∙ ap (λ (r : Result (ℕ × List ℕ) CodecError). r >>= f) (number_again 4 n (xs ++ rest) lt)
+    ∙ ap (λ (r : Result (List ℕ × List ℕ) CodecError). cond (contains range n) r (Err (InvalidLength n))) (bytes_again xs rest)
+
+-- what has an encoding has this one
+pub encoded_parts : (m : Parts) (e : List ℕ) → encoding_of m ≡ Some e → (length m.commitment < 2 ^ 32) × (length m.content < 2 ^ 32) × (spelled m.commitment ++ spelled m.content ≡ e)
+encoded_parts m e h =
+    let both = chosen_some (has_spelling m.commitment && has_spelling m.content) (spelled m.commitment ++ spelled m.content) e h in
+    let each = and_parts _ _ both.0 in
+    (ltb-true _ _ each.0, ltb-true _ _ each.1, both.1)
+  where
+    chosen_some : {A : Type 0} (b : Bool) (x y : A) → cond b (Some x) None ≡ Some y → (b ≡ true) × (x ≡ y)
+    chosen_some true x y e = (refl, cc)
+    chosen_some false x y e = absurd cc
+
+-- the two spellings, followed by any rest
+pub message_again : (range : RangeCfg) (m : Parts) (rest : List ℕ) → length m.commitment < 2 ^ 32 → length m.content < 2 ^ 32 → contains range (length m.commitment) ≡ true → contains range (length m.content) ≡ true → message_at range ((spelled m.commitment ++ spelled m.content) ++ rest) ≡ Ok (m, length (spelled m.commitment ++ spelled m.content))
+unfolding message_at
+message_again range m rest short0 short1 in0 in1 =
+    let c = spelled m.commitment in
+    let d = spelled m.content in
+    let bytes = (c ++ d) ++ rest in
+    let g : List ℕ → List ℕ × List ℕ → Result (Parts × ℕ) CodecError = λ x y. Ok (record { commitment = x; content = y.0 }, length bytes - length y.1) in
+    let first : list_at range bytes ≡ Ok (m.commitment, d ++ rest) = ap (list_at range) (append_assoc c d rest) ∙ list_again range m.commitment (d ++ rest) short0 ∙ rw in0 refl in
+    let second : list_at range (d ++ rest) ≡ Ok (m.content, rest) = list_again range m.content rest short1 ∙ rw in1 refl in
+    let used : length bytes - length rest ≡ length (c ++ d) = omega (arith, length-append (c ++ d) rest) in
+    ap (λ (r : Result (List ℕ × List ℕ) CodecError). r >>= (λ x. list_at range x.1 >>= g x.0)) first
+    ∙ ap (λ (r : Result (List ℕ × List ℕ) CodecError). r >>= g m.commitment) second
+    ∙ ap (λ (n : ℕ). Ok (m, n)) used
+
+-- a spelling is read only where its lengths are in the range
+spelled_in_range : (range : RangeCfg) (m : Parts) (rest : List ℕ) (r : Parts × ℕ) → length m.commitment < 2 ^ 32 → length m.content < 2 ^ 32 → message_at range ((spelled m.commitment ++ spelled m.content) ++ rest) ≡ Ok r → (contains range (length m.commitment) ≡ true) × (contains range (length m.content) ≡ true)
+unfolding message_at
+spelled_in_range range m rest r short0 short1 h =
+    let c = spelled m.commitment in
+    let d = spelled m.content in
+    let bytes = (c ++ d) ++ rest in
+    let g : List ℕ → List ℕ × List ℕ → Result (Parts × ℕ) CodecError = λ x y. Ok (record { commitment = x; content = y.0 }, length bytes - length y.1) in
+    let a = bind_ok (list_at range bytes) (λ x. list_at range x.1 >>= g x.0) r h in
+    let here : Result (List ℕ × List ℕ) CodecError = Ok (m.commitment, d ++ rest) in
+    let first = chosen_ok (contains range (length m.commitment)) (InvalidLength (length m.commitment)) here a.0 (sym (ap (list_at range) (append_assoc c d rest) ∙ list_again range m.commitment (d ++ rest) short0) ∙ a.1) in
+    let b = bind_ok (list_at range a.0.1) (g a.0.0) r a.2 in
+    let after = ap (λ (x : List ℕ × List ℕ). x.1) (ok_is (m.commitment, d ++ rest) a.0 first.1) in
+    let next : Result (List ℕ × List ℕ) CodecError = Ok (m.content, rest) in
+    let second = chosen_ok (contains range (length m.content)) (InvalidLength (length m.content)) next b.0 (sym (list_again range m.content rest short1) ∙ ap (list_at range) after ∙ b.1) in
+    (first.0, second.0)
+
+-- what an encoding, followed by any bytes, reads as
+pub message_reads_back : (range : RangeCfg) (m w : Parts) (encoded rest : List ℕ) (n : ℕ) → encoding_of m ≡ Some encoded → message_at range (encoded ++ rest) ≡ Ok (w, n) → (w ≡ m) × (n ≡ length encoded)
+message_reads_back range m w encoded rest n has read =
+    let parts = encoded_parts m encoded has in
+    let whole = spelled m.commitment ++ spelled m.content in
+    let same : message_at range (whole ++ rest) ≡ Ok (w, n) = ap (λ (bytes : List ℕ). message_at range (bytes ++ rest)) parts.2 ∙ read in
+    let ins = spelled_in_range range m rest (w, n) parts.0 parts.1 same in
+    let again = sym (message_again range m rest parts.0 parts.1 ins.0 ins.1) ∙ same in
+    let which : (m, length whole) ≡ (w, n) = cc again in
+    (ap (λ (r : Parts × ℕ). r.0) (sym which), sym (ap (λ (r : Parts × ℕ). r.1) which) ∙ ap length parts.2)

@@ -1,0 +1,15 @@
+pub mod Carried
+pub mod Codec
+pub mod CodecLaws
+pub mod TestMessage
+pub mod Content
+pub mod Stored
+pub mod History
+pub mod Peers
+pub mod Lists
+pub mod Cache
+pub mod Waiting
+pub mod Sent
+pub mod Answers
+pub mod Follows
+pub mod Rows

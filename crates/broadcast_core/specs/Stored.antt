@@ -1,0 +1,91 @@
+-- What a cache contains, and what a taking and a peer set make of it.
+use Rattle.std.specs.Prelude.{◌≡◌, ℕ, ◌+◌, ◌-◌, ◌<◌, ◌==◌, nat_lt, Bool, false, true, ◌||◌, cond, if◌then◌else◌, List, [], ◌∷◌, ◌++◌, take, Option, Some, None, is_some, unwrap_or}
+use Rattle.std.specs.List.{list_any, count_by, sum_by, IsDistinct}
+use Rattle.std.specs.Option.{option_map}
+use Rattle.std.specs.Map.{lookup, keys_of, values_of}
+use Rattle.broadcast_core.specs.Carried.{Carried}
+use Rattle.broadcast_core.specs.Content.{Same, among, without, items_at}
+use Rattle.broadcast_core.specs.declared.buffer.cached.Cached.{Cached}
+
+-- the deques by peer, and the messages by digest
+pub record Stored (P M D : Type 0) : Type 0 where
+  pub lists : List (P × List D)
+  pub messages : List (D × Carried M D)
+
+-- the deque of the key is another, and the others stay
+pub record PutsDeque {P D : Type 0} (same : P → P → Bool) (p : P) (ds : List D) (old new : List (P × List D)) : Type 0 where
+  pub lists : (q : P) → items_at same q new ≡ (if same p q then ds else items_at same q old)
+  pub keys : (q : P) → is_some (lookup (same q) new) ≡ true → (same p q || is_some (lookup (same q) old)) ≡ true
+  -- a sum over the deques changes by this one
+  pub added_up : (weight : List D → ℕ) → weight [] ≡ 0
+      → sum_by weight (values_of new) + weight (items_at same p old) ≡ sum_by weight (values_of old) + weight ds
+  pub distinct : IsDistinct same (keys_of new)
+
+-- the oldest digest leaves the key's deque
+pub record DropsOldest {P D : Type 0} (same : Same P D) (p : P) (stale : D) (old new : List (P × List D)) : Type 0 where
+  pub rest : List D
+  pub last : items_at same.key p old ≡ rest ++ stale ∷ []
+  pub gone : among same.digest stale rest ≡ false
+  pub put : PutsDeque same.key p rest old new
+
+-- 1 where the test holds
+abbrev pub one_if : Bool → ℕ
+one_if b = if b then 1 else 0
+
+-- with one reference more
+abbrev pub one_more : {M D : Type 0} → Cached M D → Cached M D
+one_more c = record c { references = c.references + 1 }
+
+module _ {M D : Type 0} (same : D → D → Bool) where
+  -- the references that are counted for the digest
+  abbrev pub references_of : D → List (D × Cached M D) → ℕ
+  references_of d items = unwrap_or (option_map (λ c. c.references) (lookup (same d) items)) 0
+
+  -- the digest's message
+  abbrev pub message_of : D → List (D × Cached M D) → Option (Carried M D)
+  message_of d items = option_map (λ c. c.message) (lookup (same d) items)
+
+  -- what is there has a reference, and the digest that it is kept under
+  abbrev pub IsHeld : List (D × Cached M D) → Type 0
+  IsHeld items = (d : D) (c : Cached M D) → lookup (same d) items ≡ Some c → (0 < c.references) × (same d c.message.digest ≡ true)
+
+  -- one reference less to the digest's message, which leaves with its last one
+  pub record Releases (d : D) (old new : List (D × Cached M D)) : Type 0 where
+    pub counted : (e : D) → references_of e new + one_if (same d e) ≡ references_of e old
+    pub messages : (e : D) → message_of e new ≡ (if nat_lt 0 (references_of e new) then message_of e old else None)
+    pub held : IsHeld new
+
+module _ {P D : Type 0} (same : Same P D) where
+  -- whether some deque has the digest
+  abbrev pub is_stored : D → List (P × List D) → Bool
+  is_stored d lists = list_any (λ e. among same.digest d e.1) lists
+
+  -- how many deques have it
+  abbrev pub deques_with : D → List (P × List D) → ℕ
+  deques_with d lists = count_by (λ ds. among same.digest d ds) (values_of lists)
+
+  module _ {M : Type 0} where
+    -- each digest of a deque has its message, with one reference a deque
+    pub record IsCounted (lists : List (P × List D)) (items : List (D × Cached M D)) : Type 0 where
+      pub counted : (d : D) → references_of same.digest d items ≡ deques_with d lists
+      pub held : IsHeld same.digest items
+
+    -- the digest stands in front of the key's deque, with its message
+    pub record Adds (p : P) (x : Carried M D) (old_lists new_lists : List (P × List D)) (old_items new_items : List (D × Cached M D)) : Type 0 where
+      pub put : PutsDeque same.key p (x.digest ∷ items_at same.key p old_lists) old_lists new_lists
+      pub counted : IsCounted new_lists new_items
+      pub messages : (d : D) → message_of same.digest d new_items
+          ≡ (if is_stored d new_lists then (if is_stored d old_lists then message_of same.digest d old_items else Some x) else None)
+
+    -- the key's deque is another, and the messages of digests that no deque has any more are gone
+    pub record Cuts (p : P) (ds : List D) (old_lists new_lists : List (P × List D)) (old_items new_items : List (D × Cached M D)) : Type 0 where
+      pub put : PutsDeque same.key p ds old_lists new_lists
+      pub counted : IsCounted new_lists new_items
+      pub fewer : (d : D) → is_stored d new_lists ≡ true → is_stored d old_lists ≡ true
+      pub messages : (d : D) → message_of same.digest d new_items ≡ (if is_stored d new_lists then message_of same.digest d old_items else None)
+
+    -- a taking under the key leads from the old content to the new
+    pub record Stores (p : P) (x : Carried M D) (size : ℕ) (old new : Stored P M D) : Type 0 where
+      pub put : PutsDeque same.key p (take size (x.digest ∷ without same.digest x.digest (items_at same.key p old.lists))) old.lists new.lists
+      pub messages : (d : D) → lookup (same.digest d) new.messages
+          ≡ (if is_stored d new.lists then (if is_stored d old.lists then lookup (same.digest d) old.messages else Some x) else None)

@@ -1,0 +1,86 @@
+//! What a node keeps of its peers: their deques, and each listed message once.
+ghost use Rattle.std.specs.Prelude.{◌≡◌, ◌≤◌, false, true, not, length, [], IfOk, OnOk, OnErr, IsOk, is_ok};
+ghost use Rattle.std.specs.Option.{option_copied};
+ghost use Rattle.std.specs.Map.{lookup};
+ghost use Rattle.std.specs.Ordering.{eq_by_cmp};
+ghost use Rattle.broadcast_core.specs.Content.{same_by, among, items_at};
+
+use crate::buffer::cached::Cached;
+use crate::buffer::deque::Deque;
+use crate::buffer::{counting, deques, items};
+use crate::digested::{Digested, Digestible};
+use crate::ordered::PublicKey;
+use std::alloc::{AllocError, Global};
+use std::collections::BTreeMap;
+use std::marker::Model;
+
+/// The deques of the peers, and the messages of their digests.
+#[derive(Drop)]
+pub struct Cache<P: PublicKey, M: Digestible> {
+    alloc: Global,
+    deques: BTreeMap<P, Deque<M::Digest>>,
+    items: BTreeMap<M::Digest, Cached<M>>,
+}
+
+impl<P: PublicKey, M: Digestible> Model for Cache<P, M> {
+    ghost use Rattle.std.specs.Prelude.{map};
+    ghost use Rattle.broadcast_core.specs.Content.{same_by};
+    ghost use Rattle.broadcast_core.specs.Stored.{Stored, IsCounted};
+
+    ghost Value = { Stored P M M.Digest };
+
+    ghost view = { λ it. record { lists = it.deques.entries; messages = map (λ e. (e.0, e.1.message)) it.items.entries } };
+
+    ghost invariant = { λ it. IsCounted (same_by P.cmp M.Digest.cmp) it.deques.entries it.items.entries };
+}
+
+impl<P: PublicKey, M: Digestible> Cache<P, M> {
+    ghost use Rattle.broadcast_core.specs.Stored.{Stores};
+
+    /// No deques and no messages. Takes no memory.
+    pub fn new(alloc: Global) -> Self
+        ensures { result ≡ record { lists = []; messages = [] } }
+    {
+        Cache {
+            alloc,
+            deques: BTreeMap::new(alloc),
+            items: BTreeMap::new(alloc),
+        }
+    }
+
+    /// The digest's message.
+    pub fn get(&self, digest: &M::Digest) -> Option<&Digested<M>>
+        ensures { option_copied result ≡ lookup (eq_by_cmp M.Digest.cmp digest.now) self.now.messages }
+    {
+        match self.items.get(digest) {
+            Some(item) => Some(item.message()),
+            None => None,
+        }
+    }
+
+    /// How many messages there are.
+    pub fn len(&self) -> usize
+        ensures { result ≡ length self.now.messages }
+    {
+        self.items.len()
+    }
+
+    /// Puts a digest that the peer has not in front of its deque, and its message into the cache
+    /// where it is not there yet; then drops the oldest digest where they are too many.
+    fn insert(
+        &mut self,
+        peer: &P,
+        message: &Digested<M>,
+        deque_size: usize,
+    ) -> Result<(), AllocError>
+        requires absent { among (eq_by_cmp M.Digest.cmp) message.now.digest
+            (items_at (eq_by_cmp P.cmp) peer.now self.old.lists) ≡ false }
+        requires fits { length (items_at (eq_by_cmp P.cmp) peer.now self.old.lists) ≤ deque_size }
+        ensures ok { OnOk result (Stores (same_by P.cmp M.Digest.cmp) peer.now message.now deque_size self.old self.new) }
+        ensures err { OnErr result (self.new ≡ self.old) }
+    {
+        counting::add(self.alloc, &mut self.deques, &mut self.items, peer, message)?;
+        counting::cut(&mut self.deques, &mut self.items, peer, deque_size);
+        Ok(())
+    }
+}

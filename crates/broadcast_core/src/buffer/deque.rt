@@ -1,0 +1,88 @@
+//! The digests of one peer.
+ghost use Rattle.std.specs.Prelude.{◌≡◌, ◌<◌, ◌≤◌, ◌+◌, ◌++◌, ◌↔◌, [], ◌∷◌, false, true, length, if◌then◌else◌, IsSome, IfSome, IfOk, OnOk, OnErr, position};
+ghost use Rattle.std.specs.Option.{option_to_list};
+ghost use Rattle.std.specs.Ordering.{eq_by_cmp};
+ghost use Rattle.std.specs.List.{list_any, IsDistinct};
+ghost use Rattle.broadcast_core.specs.Content.{among, without};
+
+use std::alloc::{AllocError, Global};
+use std::collections::VecDeque;
+use std::marker::Model;
+
+/// The digests of one peer, the newest first, each once.
+#[derive(Drop)]
+pub struct Deque<D: Ord + Copy> {
+    digests: VecDeque<D>,
+}
+
+impl<D: Ord + Copy> Model for Deque<D> {
+    ghost use Rattle.std.specs.Prelude.{List};
+    ghost use Rattle.std.specs.List.{IsDistinct};
+    ghost use Rattle.std.specs.Ordering.{eq_by_cmp};
+
+    ghost Value = { List D };
+
+    ghost view = { λ it. it.digests.items };
+
+    ghost invariant = { λ it. IsDistinct (eq_by_cmp D.cmp) it.digests.items };
+}
+
+impl<D: Ord + Copy> Deque<D> {
+    /// No digests. Takes no memory.
+    pub fn new(alloc: Global) -> Self
+        ensures { result ≡ [] }
+    {
+        Deque {
+            digests: VecDeque::new(alloc),
+        }
+    }
+
+    /// How many digests there are.
+    pub fn len(&self) -> usize
+        ensures { result ≡ length self.now }
+    {
+        self.digests.len()
+    }
+
+    /// Puts a digest in front. Without memory the digests stay.
+    pub fn push_front(&mut self, digest: D) -> Result<(), AllocError>
+        requires { among (eq_by_cmp D.cmp) digest self.old ≡ false }
+        ensures ok { OnOk result (self.new ≡ digest ∷ self.old) }
+        ensures err { OnErr result (self.new ≡ self.old) }
+    {
+        self.digests.push_front(digest)?;
+        Ok(())
+    }
+
+    /// Moves the digest to the front, if it is there, and says whether it is.
+    pub fn move_to_front(&mut self, digest: D) -> bool
+        ensures found { result ≡ among (eq_by_cmp D.cmp) digest self.old }
+        ensures moved { self.new
+            ≡ (if result then digest ∷ without (eq_by_cmp D.cmp) digest self.old else self.old) }
+    {
+        match place_of(&self.digests, &digest) {
+            None => false,
+            Some(place) => {
+                let _old = self.digests.remove(place);
+                self.digests.push_front_reserved(digest);
+                true
+            }
+        }
+    }
+
+    /// Takes out the oldest digest.
+    pub fn pop_oldest(&mut self) -> Option<D>
+        ensures last { self.old ≡ self.new ++ option_to_list result }
+        ensures gone { IfSome result (λ digest. among (eq_by_cmp D.cmp) digest self.new ≡ false) }
+        ensures empty { IsSome result ↔ (0 < length self.old) }
+    {
+        self.digests.pop_back()
+    }
+}
+
+/// The first place of the digest.
+fn place_of<D: Ord>(digests: &VecDeque<D>, digest: &D) -> Option<usize>
+    ensures { result ≡ position (eq_by_cmp D.cmp digest.now) digests.now.items }
+{
+    digests.iter().position(|other| digest.cmp(other).is_eq())
+}

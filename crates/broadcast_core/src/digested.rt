@@ -1,0 +1,116 @@
+//! Messages with their digests.
+ghost use Rattle.std.specs.Prelude.{◌≡◌, IfOk};
+ghost use Rattle.std.specs.Arc.{arc_value};
+
+use crate::codec::{CodecError, EncodeSize, Write};
+use std::alloc::{AllocError, Global};
+use std::hash::Hash;
+use std::marker::Model;
+use std::sync::Arc;
+
+/// A message that has a digest of its own.
+pub trait Digestible: Drop {
+    /// What names a message: digests that compare equal name one message.
+    type Digest: Copy + Ord + Eq + Hash + Send + Sync;
+
+    /// The message's own digest.
+    ghost digest_of: { Self → Self.Digest };
+
+    /// The message's own digest. Takes no memory.
+    fn digest(&self) -> Self::Digest
+        ensures { result ≡ digest_of self.now };
+}
+
+/// A message, shared between its copies, with the digest that it goes by.
+///
+/// A digest that is handed in is taken as it is, whether or not it is the message's own.
+#[derive(Drop)]
+pub struct Digested<M: Digestible> {
+    message: Arc<M>,
+    digest: M::Digest,
+}
+
+impl<M: Digestible> Model for Digested<M> {
+    ghost use Rattle.broadcast_core.specs.Carried.{Carried};
+    ghost use Rattle.std.specs.Arc.{arc_value};
+
+    ghost Value = { Carried M M.Digest };
+
+    ghost view = { λ it. record { message = arc_value it.message; digest = it.digest } };
+}
+
+impl<M: Digestible> Digested<M> {
+    /// The message under the digest that is handed in.
+    pub fn precomputed(alloc: Global, message: M, digest: M::Digest) -> Result<Self, AllocError>
+        ensures { IfOk result (λ it. it ≡ record { message = message; digest = digest }) }
+    {
+        Ok(Digested {
+            message: Arc::new(alloc, message)?,
+            digest,
+        })
+    }
+
+    /// The shared message under the digest that is handed in. Takes no memory.
+    pub fn precomputed_shared(message: Arc<M>, digest: M::Digest) -> Self
+        ensures { result ≡ record { message = arc_value message; digest = digest } }
+    {
+        Digested { message, digest }
+    }
+
+    /// The message under its own digest.
+    pub fn compute(alloc: Global, message: M) -> Result<Self, AllocError>
+        ensures { IfOk result (λ it. it ≡ record { message = message; digest = M.digest_of message }) }
+    {
+        let digest = message.digest();
+        Digested::precomputed(alloc, message, digest)
+    }
+
+    /// The message.
+    pub fn inner(&self) -> &M
+        ensures { result.now ≡ self.now.message }
+    {
+        &self.message
+    }
+
+    /// The digest that the message goes by.
+    pub fn digest(&self) -> M::Digest
+        ensures { result ≡ self.now.digest }
+    {
+        self.digest
+    }
+
+    /// The message, shared with this one.
+    pub fn inner_shared(&self) -> Result<Arc<M>, AllocError>
+        ensures { IfOk result (λ message. arc_value message ≡ self.now.message) }
+    {
+        Arc::try_clone(&self.message)
+    }
+}
+
+impl<M: Digestible> Clone for Digested<M> {
+    ghost is_clone = { λ message copy. copy ≡ message };
+
+    /// A copy that shares the message, or no memory for it.
+    fn clone(&self) -> Result<Self, AllocError> {
+        Ok(Digested {
+            message: Arc::try_clone(&self.message)?,
+            digest: self.digest,
+        })
+    }
+}
+
+impl<M: Digestible + Write> Write for Digested<M> {
+    ghost encoding = { λ it. M.encoding it.message };
+
+    /// Appends the encoding of the message. The digest is not written.
+    fn write(&self, out: &mut Vec<u8>) -> Result<(), CodecError> {
+        self.message.write(out)
+    }
+}
+
+impl<M: Digestible + EncodeSize> EncodeSize for Digested<M> {
+    /// The length of the message's encoding.
+    fn encode_size(&self) -> Option<usize> {
+        self.message.encode_size()
+    }
+}

@@ -1,0 +1,176 @@
+//! A message for tests.
+ghost use Rattle.std.specs.Prelude.{◌≡◌, ℕ, List, Option, Some, None, Result, Ok, Err, IfOk};
+ghost use Rattle.std.specs.Str.{bytes_eq};
+ghost use Rattle.std.specs.Ordering.{on, eq_of_both};
+ghost use Rattle.std.specs.Cmp.Rules.{comparing};
+ghost use Rattle.std.proofs.Common.{rules};
+ghost use Rattle.sha2.specs.Sha256.{sha256};
+ghost use Rattle.broadcast_core.specs.Codec.{layout_of, Gives, GivesOrLacks};
+ghost use Rattle.broadcast_core.specs.TestMessage.{Parts, encoding_of, message_at, Begins};
+ghost use Rattle.broadcast_core.specs.CodecLaws.{message_within, message_refusals, message_reads_back};
+
+use crate::codec::{
+    Codec, CodecError, EncodeSize, RangeCfg, Read, Write, list_at, list_size, put_list,
+};
+use crate::digested::Digestible;
+use sha2::{Digest, Sha256};
+use std::alloc::{AllocError, Global};
+use std::marker::Model;
+
+/// A message of two byte lists. Its digest is that of its content alone.
+#[derive(Debug, Drop)]
+pub struct TestMessage {
+    /// What the message is said to commit to.
+    pub commitment: Vec<u8>,
+    /// What the message says.
+    pub content: Vec<u8>,
+}
+
+impl Model for TestMessage {
+    ghost use Rattle.broadcast_core.specs.TestMessage.{Parts};
+
+    ghost Value = { Parts };
+
+    ghost view = { λ m. record { commitment = m.commitment.items; content = m.content.items } };
+}
+
+impl TestMessage {
+    /// A message of the two byte lists. Takes no memory.
+    pub fn new(commitment: Vec<u8>, content: Vec<u8>) -> Self
+        ensures { result ≡ record { commitment = commitment.items; content = content.items } }
+    {
+        TestMessage {
+            commitment,
+            content,
+        }
+    }
+
+    /// A message whose commitment is its content.
+    pub fn shared(alloc: Global, message: Vec<u8>) -> Result<Self, AllocError>
+        ensures { IfOk result (λ m. m ≡ record { commitment = message.items; content = message.items }) }
+    {
+        let commitment = Vec::from_slice(alloc, &message)?;
+        Ok(TestMessage::new(commitment, message))
+    }
+}
+
+impl Clone for TestMessage {
+    ghost is_clone = { λ message copy. copy ≡ message };
+
+    /// A copy of both lists, or no memory for it.
+    fn clone(&self) -> Result<Self, AllocError> {
+        Ok(TestMessage::new(self.commitment.clone()?, self.content.clone()?))
+    }
+}
+
+impl PartialEq for TestMessage {
+    ghost eq = { eq_of_both (on (λ m. m.commitment) bytes_eq) (on (λ m. m.content) bytes_eq) };
+
+    ghost laws = { Prim.search (comparing, rules) };
+
+    /// Whether both lists are the same bytes.
+    fn eq(&self, other: &Self) -> bool {
+        self.commitment == other.commitment && self.content == other.content
+    }
+}
+
+impl Eq for TestMessage {
+    ghost laws = { Prim.search (comparing, rules) };
+}
+
+impl Digestible for TestMessage {
+    type Digest = [u8; 32];
+
+    ghost digest_of = { λ m. sha256 m.content };
+
+    /// The SHA-256 digest of the content alone.
+    fn digest(&self) -> [u8; 32] {
+        Sha256::digest(&self.content)
+    }
+}
+
+impl Write for TestMessage {
+    ghost encoding = { encoding_of };
+
+    /// Appends the commitment, then the content. A list of more than 4,294,967,295 bytes cannot be
+    /// written.
+    fn write(&self, out: &mut Vec<u8>) -> Result<(), CodecError> {
+        let size = self.encode_size().ok_or(CodecError::Unencodable)?;
+        // Nothing is written before there is room for all of it.
+        out.reserve(size)?;
+        put_list(out, &self.commitment);
+        put_list(out, &self.content);
+        Ok(())
+    }
+}
+
+impl EncodeSize for TestMessage {
+    /// The length of the encoding, or `None` where a list has more than 4,294,967,295 bytes.
+    fn encode_size(&self) -> Option<usize> {
+        let commitment = list_size(&self.commitment)?;
+        let content = list_size(&self.content)?;
+        Some(commitment + content)
+    }
+}
+
+impl Read for TestMessage {
+    type Cfg = RangeCfg;
+
+    ghost reading = { message_at };
+
+    /// How many bytes in front the message takes.
+    fn layout(buf: &[u8], cfg: &RangeCfg) -> Result<usize, CodecError>
+        // What has a layout begins with a message.
+        ensures found { IfOk result (λ n. (m : Parts) × Begins cfg.now buf.now m n) }
+        // What begins with a message has its layout.
+        ensures only { (m : Parts) (n : ℕ) → Begins cfg.now buf.now m n → result ≡ Ok n }
+        // Which refusal it is.
+        ensures exact { result ≡ layout_of (message_at cfg.now buf.now) }
+    {
+        parts_at(buf, cfg).map(|(_, _, used)| used)
+    }
+
+    /// The message in front, and how many bytes it takes.
+    fn read_cfg(alloc: Global, buf: &[u8], cfg: &RangeCfg) -> Result<(Self, usize), CodecError>
+        // What is read is spelled so, each byte of it.
+        ensures found { IfOk result (λ r. Begins cfg.now buf.now r.0 r.1) }
+        // What is spelled so is read.
+        ensures only { (m : Parts) (n : ℕ) → Begins cfg.now buf.now m n → GivesOrLacks result (Ok (m, n)) }
+        // Which refusal it is.
+        ensures exact { GivesOrLacks result (message_at cfg.now buf.now) }
+    {
+        copied_at(alloc, buf, cfg)
+    }
+
+    ghost within = { message_within };
+
+    ghost refusals = { message_refusals };
+}
+
+impl Codec for TestMessage {
+    ghost reads_back = { message_reads_back };
+}
+
+/// The two byte lists in front, and how many bytes they take.
+#[tactic(auto, unfolding(crate::specs::TestMessage::message_at))]
+fn parts_at<'a>(buf: &'a [u8], range: &RangeCfg) -> Result<(&'a [u8], &'a [u8], usize), CodecError>
+    ensures { Gives (λ x. (record { commitment = x.0.now; content = x.1.now }, x.2)) result (message_at range.now buf.now) }
+{
+    let (commitment, rest) = list_at(buf, range)?;
+    let (content, rest) = list_at(rest, range)?;
+    Ok((commitment, content, buf.len() - rest.len()))
+}
+
+/// A message of the two byte lists in front. Memory is asked for once both are there.
+fn copied_at(
+    alloc: Global,
+    buf: &[u8],
+    range: &RangeCfg,
+) -> Result<(TestMessage, usize), CodecError>
+    ensures { GivesOrLacks result (message_at range.now buf.now) }
+{
+    let (commitment, content, used) = parts_at(buf, range)?;
+    let commitment = Vec::from_slice(alloc, commitment)?;
+    let content = Vec::from_slice(alloc, content)?;
+    Ok((TestMessage::new(commitment, content), used))
+}

@@ -1,0 +1,121 @@
+//! Keys of peers, sets of them, and whom a message is for.
+ghost use Rattle.std.specs.Prelude.{◌≡◌, ◌==◌, true, List, [], length, is_some, IfSome, IfOk, OnOk, IsSomeAnd};
+ghost use Rattle.std.specs.List.{list_any, slice_get};
+ghost use Rattle.std.specs.List.Sorted.{IsStrictlySortedBy};
+ghost use Rattle.std.specs.Option.{option_copied};
+ghost use Rattle.std.specs.Ordering.{eq_by_cmp};
+ghost use Rattle.std.proofs.Common.{rules};
+
+use crate::items::Items;
+use std::alloc::{AllocError, Global};
+use std::hash::Hash;
+use std::marker::Model;
+
+/// The key of a peer. Keys that compare equal are one key.
+pub trait PublicKey: Clone + Ord + Eq + Hash + Send + Drop + 'static {
+    /// A copy of a key equals it.
+    ghost copies: { (key copy : Self) → Self.is_clone key copy → eq_by_cmp Self.cmp key copy ≡ true };
+}
+
+impl PublicKey for u64 {
+    ghost copies = { Prim.search rules };
+}
+
+/// Whom a message is for.
+#[derive(Debug, Drop)]
+pub enum Recipients<P> {
+    /// Every peer.
+    All,
+    /// These peers.
+    Some(Items<P>),
+    /// One peer.
+    One(P),
+}
+
+/// A set of keys, in rising order. No two of them are equal.
+#[derive(Drop)]
+pub struct Set<P: PublicKey> {
+    keys: Items<P>,
+}
+
+impl<P: PublicKey> Model for Set<P> {
+    ghost use Rattle.std.specs.Prelude.{List};
+    ghost use Rattle.std.specs.List.Sorted.{IsStrictlySortedBy};
+
+    ghost Value = { List P };
+
+    ghost view = { λ set. set.keys };
+
+    ghost invariant = { λ set. IsStrictlySortedBy P.cmp set.keys };
+}
+
+impl<P: PublicKey> Set<P> {
+    /// No keys. Takes no memory.
+    pub fn default(alloc: Global) -> Self
+        ensures { result ≡ [] }
+    {
+        Set {
+            keys: Items::new(alloc),
+        }
+    }
+
+    /// The keys, sorted, each of them once.
+    pub fn from_iter_dedup(mut keys: Vec<P>) -> Result<Self, AllocError>
+        ensures members { IfOk result (λ set. (q : P) → list_any (eq_by_cmp P.cmp q) set ≡ list_any (eq_by_cmp P.cmp q) keys.items) }
+        ensures rises { IfOk result (IsStrictlySortedBy P.cmp) }
+    {
+        sort_dedup(&mut keys)?;
+        Ok(Set {
+            keys: Items::from_vec(keys),
+        })
+    }
+
+    /// The place of the key that equals this one, or `None` where there is none. Takes no memory.
+    pub fn position(&self, key: &P) -> Option<usize>
+        ensures place { IfSome result (λ i. IsSomeAnd (slice_get self.now i) (λ q. eq_by_cmp P.cmp key.now q ≡ true)) }
+        ensures some { is_some result ≡ list_any (eq_by_cmp P.cmp key.now) self.now }
+    {
+        place_of(self.keys.as_slice(), key)
+    }
+
+    /// How many keys there are.
+    pub fn len(&self) -> usize
+        ensures len { result ≡ length self.now }
+        ensures rises { IsStrictlySortedBy P.cmp self.now }
+    {
+        self.keys.len()
+    }
+
+    /// Whether there are none.
+    pub fn is_empty(&self) -> bool
+        ensures { result ≡ (length self.now == 0) }
+    {
+        self.len() == 0
+    }
+
+    /// The key at the place, or `None` past the end.
+    pub fn get(&self, i: usize) -> Option<&P>
+        ensures { option_copied result ≡ slice_get self.now i }
+    {
+        self.keys.as_slice().get(i)
+    }
+}
+
+// Sorts the keys, and drops repeats.
+fn sort_dedup<K: Ord + Drop>(keys: &mut Vec<K>) -> Result<(), AllocError>
+    ensures members { OnOk result ((q : K) → list_any (eq_by_cmp K.cmp q) keys.new.items ≡ list_any (eq_by_cmp K.cmp q) keys.old.items) }
+    ensures rises { OnOk result (IsStrictlySortedBy K.cmp keys.new.items) }
+{
+    keys.sort()?;
+    keys.dedup();
+    Ok(())
+}
+
+// The place of the key in keys that rise.
+fn place_of<K: Ord>(keys: &[K], key: &K) -> Option<usize>
+    requires { IsStrictlySortedBy K.cmp keys.now }
+    ensures place { IfSome result (λ i. IsSomeAnd (slice_get keys.now i) (λ q. eq_by_cmp K.cmp key.now q ≡ true)) }
+    ensures some { is_some result ≡ list_any (eq_by_cmp K.cmp key.now) keys.now }
+{
+    keys.binary_search(key).ok()
+}
