@@ -8,6 +8,7 @@ use Rattle.std.specs.Cmp.{IsTotalOrder, eq_by_cmp_equiv}
 use Rattle.std.specs.BTreeMap.{insert_entry}
 use Rattle.std.specs.Ordering.{eq_by_cmp}
 use Rattle.std.specs.declared.cmp.Ordering.{Ordering}
+use Rattle.std.proofs.lemmas.Map.Keys.{IsDistinct-from_sorted}
 use Rattle.broadcast_core.specs.Content.{Same, same_by, among, without, items_at}
 use Rattle.broadcast_core.specs.Stored.{PutsDeque, DropsOldest}
 use Rattle.broadcast_core.proofs.Entries.{PutsDeque-written, PutsDeque-inserted, PutsDeque-kept, set_value-same, lookup-same}
@@ -36,7 +37,7 @@ pushed-inserted {R = R} o p k d front es mid fs equal none same one is at sorted
 pub kept-missing : {P D : Type 0} {R : P → P → Ordering} (o : IsTotalOrder R) (p : P) (size : ℕ) (es fs : List (P × List D)) → lookup (eq_by_cmp R p) es ≡ None
     → fs ≡ es → IsStrictlySortedBy R (keys_of es) → PutsDeque (eq_by_cmp R) p (items_at (eq_by_cmp R) p es) es fs × (fs ≡ es) × (length (items_at (eq_by_cmp R) p es) ≤ size)
 kept-missing {R = R} o p size es fs none same sorted =
-    (subst (λ gs. PutsDeque (eq_by_cmp R) p (items_at (eq_by_cmp R) p es) es gs) (sym same) (PutsDeque-kept o p es sorted), same, rw none (omega arith))
+    (subst (λ gs. PutsDeque (eq_by_cmp R) p (items_at (eq_by_cmp R) p es) es gs) (sym same) (PutsDeque-kept (eq_by_cmp_equiv o) p es (IsDistinct-from_sorted R (keys_of es) sorted)), same, rw none (omega arith))
 
 module _ {P D : Type 0} {R : P → P → Ordering} (o : IsTotalOrder R) (p : P) (es fs : List (P × List D)) where
   -- the key's deque was written, from old to new

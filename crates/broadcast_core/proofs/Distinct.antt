@@ -1,5 +1,5 @@
 -- Lists of which no two elements are equal, and lists without an element.
-use Rattle.std.proofs.Common.{◌≡◌, ℕ, suc, ◌+◌, ◌<◌, Bool, true, false, not, ◌||◌, ◌&&◌, cond, List, [], ◌∷◌, ◌++◌, length, take, drop, get_or, Option, Some, None, refl, sym, ap, ◌∙◌, arith, one-add}
+use Rattle.std.proofs.Common.{◌≡◌, ℕ, suc, ◌+◌, ◌<◌, ◌≤◌, Bool, true, false, not, ◌||◌, ◌&&◌, cond, List, [], ◌∷◌, ◌++◌, length, take, drop, get_or, Option, Some, None, refl, sym, ap, ◌∙◌, arith, one-add}
 use Rattle.std.specs.Prelude.{nat_lt}
 use Rattle.std.specs.List.{list_any, filter, IsDistinct, AllByRecursion, remove, position, position_or_len}
 use Rattle.std.specs.Cmp.{IsEquivalence}
@@ -9,6 +9,10 @@ use Rattle.broadcast_core.specs.Content.{among, without}
 pub or_false : (a b : Bool) → (a || b) ≡ false → (a ≡ false) × (b ≡ false)
 or_false true b h = absurd cc
 or_false false b h = (refl, h)
+
+pub length-filter_le : {X : Type 0} (p : X → Bool) (xs : List X) → length (filter p xs) ≤ length xs
+length-filter_le p [] = omega arith
+length-filter_le p (x ∷ xs) = elim (p x) as (λ b. length (cond b (x ∷ filter p xs) (filter p xs)) ≤ suc (length xs)) [ true ↦ omega (arith, length-filter_le p xs) | false ↦ omega (arith, length-filter_le p xs) ]
 
 -- by what a test answers
 pub by_test : {P : Type 0} (b : Bool) → (b ≡ true → P) → (b ≡ false → P) → P
@@ -161,3 +165,18 @@ module _ {D : Type 0} {same : D → D → Bool} (laws : IsEquivalence same) wher
   -- where a search found it
   pub remove-found : (d : D) (xs : List D) (i : ℕ) → IsDistinct same xs → position (same d) xs ≡ Some i → remove xs i ≡ without same d xs
   remove-found d xs i k h = rw (place-found (same d) xs i h) (first_removed d xs k (any-found (same d) xs i h))
+
+  -- a digest that moves makes the list no longer
+  pub length-moved : (d : D) (xs : List D) → among same d xs ≡ true → length (d ∷ without same d xs) ≤ length xs
+  length-moved d [] h = absurd cc
+  length-moved d (x ∷ xs) h = by_test (same d x)
+      (λ e. rw e (omega (arith, length-filter_le (λ y. not (same d y)) xs)))
+      (λ e. let rest : among same d xs ≡ true = sym (ap (λ b. b || among same d xs) e) ∙ h in rw e (omega (arith, length-moved d xs rest)))
+
+  -- an element is not among those before it
+  pub among-before : (xs : List D) (d : D) (ys : List D) → IsDistinct same (xs ++ d ∷ ys) → among same d xs ≡ false
+  among-before [] d ys h = refl
+  among-before (x ∷ xs) d ys h =
+      let both = or_false (among same x xs) (same x d || among same x ys) (sym (list_any-append (same x) xs (d ∷ ys)) ∙ among-head x (xs ++ d ∷ ys) h) in
+      let apart : same d x ≡ false = laws.symm d x ∙ (or_false (same x d) (among same x ys) both.1).0 in
+      rw apart (among-before xs d ys (IsDistinct-rest x (xs ++ d ∷ ys) h))

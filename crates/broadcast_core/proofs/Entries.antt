@@ -6,7 +6,7 @@ use Rattle.std.specs.List.{sum_by, IsDistinct}
 use Rattle.std.specs.List.Sorted.{IsStrictlySortedBy}
 use Rattle.std.specs.Map.{lookup, set_value, remove_entry, keys_of, values_of}
 use Rattle.std.specs.BTreeMap.{insert_entry, is_at}
-use Rattle.std.specs.Cmp.{IsTotalOrder, eq_by_cmp_equiv}
+use Rattle.std.specs.Cmp.{IsTotalOrder, IsEquivalence, eq_by_cmp_equiv}
 use Rattle.std.specs.Ordering.{eq_by_cmp}
 use Rattle.std.specs.declared.cmp.Ordering.{Ordering}
 use Rattle.std.specs.declared.cmp.Ordering.TheVariants.{Less, Equal, Greater}
@@ -52,7 +52,7 @@ remove_entry-insert_entry {R = R} o k v (e ∷ es) h = by_order (R k e.0) (R k e
     (λ less. rw (less, tied_itself o k) refl)
     (λ equal. absurd (let found : lookup (is_at (R k)) (e ∷ es) ≡ Some e.1 = rw equal refl in cc))
     (λ more. let rest : lookup (is_at (R k)) es ≡ None = sym (ap (λ r. cond (is_eq r) (Some e.1) (lookup (is_at (R k)) es)) more) ∙ h in
-        rw (more, more) (ap (λ fs. e ∷ fs) (remove_entry-insert_entry o k v es rest)))
+    rw (more, more) (ap (λ fs. e ∷ fs) (remove_entry-insert_entry o k v es rest)))
 
 put_at : {D : Type 0} (b : Bool) (ds : List D) (o : Option (List D)) → unwrap_or (cond b (Some ds) o) [] ≡ cond b ds (unwrap_or o [])
 put_at true ds o = refl
@@ -95,13 +95,13 @@ module _ {P D : Type 0} {R : P → P → Ordering} (o : IsTotalOrder R) where
         distinct = IsDistinct-from_sorted R (keys_of fs) sorted_new;
       }
 
-  -- a deque that stays
-  pub PutsDeque-kept : (p : P) (es : List (P × List D)) → IsStrictlySortedBy R (keys_of es) → PutsDeque (eq_by_cmp R) p (items_at (eq_by_cmp R) p es) es es
-  PutsDeque-kept p es sorted = record {
-    lists = λ q. by_test (eq_by_cmp R p q)
-        (λ h. rw h (ap (λ r. unwrap_or r []) (lookup-same (eq_by_cmp R q) (eq_by_cmp R p) es (λ x. sym ((eq_by_cmp_equiv o).congr p q x h)))))
-        (λ h. rw h refl);
-    keys = λ q h. ap (λ b. eq_by_cmp R p q || b) h ∙ or_right (eq_by_cmp R p q);
-    added_up = λ weight nothing. refl;
-    distinct = IsDistinct-from_sorted R (keys_of es) sorted;
-  }
+-- a deque that stays
+pub PutsDeque-kept : {P D : Type 0} {same : P → P → Bool} (laws : IsEquivalence same) (p : P) (es : List (P × List D)) → IsDistinct same (keys_of es) → PutsDeque same p (items_at same p es) es es
+PutsDeque-kept {same = same} laws p es distinct = record {
+  lists = λ q. by_test (same p q)
+      (λ h. rw h (ap (λ r. unwrap_or r []) (lookup-same (same q) (same p) es (λ x. sym (laws.congr p q x h)))))
+      (λ h. rw h refl);
+  keys = λ q h. ap (λ b. same p q || b) h ∙ or_right (same p q);
+  added_up = λ weight nothing. refl;
+  distinct = distinct;
+}

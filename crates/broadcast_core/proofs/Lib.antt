@@ -7,3 +7,4 @@ pub mod Deques
 pub mod References
 pub mod Counting
 pub mod Storing
+pub mod Keeping

@@ -4,7 +4,7 @@ use Rattle.std.specs.Prelude.{nat_lt, unwrap_or, IsSome}
 use Rattle.std.specs.Option.{option_map}
 use Rattle.std.specs.Map.{lookup}
 use Rattle.std.specs.Cmp.{IsEquivalence}
-use Rattle.std.proofs.lemmas.Bool.{lt-ltb, le-ltb}
+use Rattle.std.proofs.lemmas.Bool.{lt-ltb, ltb-true}
 use Rattle.broadcast_core.specs.Carried.{Carried}
 use Rattle.broadcast_core.specs.Stored.{one_if, one_more, references_of, message_of, IsHeld, Releases}
 use Rattle.broadcast_core.specs.declared.buffer.cached.Cached.{Cached}
@@ -41,7 +41,7 @@ module _ {M D : Type 0} {same : D → D → Bool} (laws : IsEquivalence same) wh
       → ((e : D) → lookup (same e) new ≡ cond (same d e) left (lookup (same e) old))
       → references left + 1 ≡ item.references
       → ((c : Cached M D) → left ≡ Some c → (0 < c.references) × (c.message ≡ item.message))
-      → Releases same d old new
+      → Releases same (λ e. one_if (same d e)) old new
   Releases-left d item left old new was found at less kept = record {
     counted = λ e. by_test (same d e)
         (λ h. rw (at e, h, lookup-equal laws d e old h ∙ found) less)
@@ -59,3 +59,23 @@ module _ {M D : Type 0} {same : D → D → Bool} (laws : IsEquivalence same) wh
           → message o ≡ cond (nat_lt 0 (references o)) (Some item.message) None
       message-left None k = refl
       message-left (Some c) k = rw (lt-ltb 0 c.references (k c refl).0) (ap Some (k c refl).1)
+
+module _ {M D : Type 0} (same : D → D → Bool) where
+  -- nothing is released
+  pub Releases-none : (items : List (D × Cached M D)) → IsHeld same items → Releases same (λ e. 0) items items
+  Releases-none items was = record {
+    counted = λ e. omega arith;
+    messages = λ e. message-held (lookup (same e) items) (λ c k. (was e c k).0);
+    held = was;
+  }
+
+  -- releases add up
+  pub Releases-then : (u v w : D → ℕ) (a b c : List (D × Cached M D)) → Releases same u a b → Releases same v b c → ((e : D) → u e + v e ≡ w e) → Releases same w a c
+  Releases-then u v w a b c first second sum = record {
+    counted = λ e. omega (arith, first.counted e, second.counted e, sum e);
+    messages = λ e. by_test (nat_lt 0 (references_of same e c))
+        (λ h. let more : nat_lt 0 (references_of same e b) ≡ true = lt-ltb 0 _ (omega (arith, ltb-true _ _ h, second.counted e)) in
+        second.messages e ∙ rw h (first.messages e ∙ rw more refl))
+        (λ h. second.messages e ∙ rw h refl);
+    held = second.held;
+  }

@@ -1,15 +1,21 @@
 -- What a taking makes of a cache.
 use Rattle.std.proofs.Common.{◌≡◌, ℕ, ◌+◌, ◌<◌, ◌≤◌, Bool, true, false, ◌||◌, cond, List, [], ◌∷◌, ◌++◌, length, take, map, Option, Some, None, refl, sym, ap, ◌∙◌, subst, arith}
-use Rattle.std.specs.Prelude.{is_some}
+use Rattle.std.specs.Prelude.{is_some, nat_lt}
+use Rattle.std.specs.List.{IsDistinct}
+use Rattle.std.proofs.lemmas.Bool.{ltb-false}
+use Rattle.std.proofs.lemmas.List.{take_all, nil_from_length}
 use Rattle.std.specs.Option.{option_map}
-use Rattle.std.specs.Map.{lookup}
+use Rattle.std.specs.Map.{lookup, keys_of}
 use Rattle.std.specs.Cmp.{IsEquivalence}
 use Rattle.std.proofs.lemmas.Map.Made.{lookup-map_values}
 use Rattle.broadcast_core.specs.Carried.{Carried}
 use Rattle.broadcast_core.specs.Content.{Same, among, without, items_at}
-use Rattle.broadcast_core.specs.Stored.{Stored, message_of, PutsDeque, Adds, Cuts, Stores, is_stored}
+use Rattle.broadcast_core.specs.Stored.{Stored, message_of, PutsDeque, Adds, Cuts, Renews, Stores, IsCounted, is_stored, deques_with}
 use Rattle.broadcast_core.specs.declared.buffer.cached.Cached.{Cached}
-use Rattle.broadcast_core.proofs.Distinct.{by_test, without-absent}
+use Rattle.broadcast_core.proofs.Distinct.{by_test, without-absent, length-moved}
+use Rattle.broadcast_core.proofs.Entries.{PutsDeque-kept}
+use Rattle.broadcast_core.proofs.References.{none-held}
+use Rattle.broadcast_core.proofs.Counting.{is_stored-counted}
 
 -- a deque that is written twice
 pub PutsDeque-again : {P D : Type 0} (same : P → P → Bool) (laws : IsEquivalence same) (p : P) (a b : List D) (l0 l1 l2 : List (P × List D))
@@ -39,7 +45,7 @@ module _ {P M D : Type 0} (same : Same P D) (key_laws : IsEquivalence same.key) 
       → Stores same p x size (record { lists = l0; messages = messages_of i0 }) (record { lists = l2; messages = messages_of i2 })
   Stores-added absent adds cuts =
       let front : items_at same.key p l1 ≡ x.digest ∷ without same.digest x.digest (items_at same.key p l0) =
-          adds.put.lists p ∙ rw (key_laws.refl p, without-absent laws x.digest (items_at same.key p l0) absent) refl in
+      adds.put.lists p ∙ rw (key_laws.refl p, without-absent laws x.digest (items_at same.key p l0) absent) refl in
       record {
         put = PutsDeque-again same.key key_laws p (x.digest ∷ items_at same.key p l0) (take size (x.digest ∷ without same.digest x.digest (items_at same.key p l0))) l0 l1 l2
             adds.put (subst (λ ds. PutsDeque same.key p (take size ds) l1 l2) front cuts.put);
@@ -47,3 +53,31 @@ module _ {P M D : Type 0} (same : Same P D) (key_laws : IsEquivalence same.key) 
             (λ h. rw (lookup-messages same.digest d i2, lookup-messages same.digest d i0, cuts.messages d, h, adds.messages d, cuts.fewer d h) refl)
             (λ h. rw (lookup-messages same.digest d i2, cuts.messages d, h) refl);
       }
+
+module _ {P M D : Type 0} (same : Same P D) (key_laws : IsEquivalence same.key) (laws : IsEquivalence same.digest)
+    (p : P) (x : Carried M D) (size : ℕ) (l0 l1 : List (P × List D)) (items : List (D × Cached M D)) (was : IsCounted same l0 items) where
+  -- what no deque has is not there
+  absent : (d : D) → is_stored same d l0 ≡ false → lookup (same.digest d) items ≡ None
+  absent d h = none-held (lookup (same.digest d) items) (λ c e. (was.held d c e).0) (was.counted d ∙ none_above (deques_with same d l0) (sym (is_stored-counted same d l0) ∙ h))
+    where
+      none_above : (n : ℕ) → nat_lt 0 n ≡ false → n ≡ 0
+      none_above n e = omega (arith, ltb-false 0 n e)
+
+  stays : (d : D) (b : Bool) → b ≡ is_stored same d l0 → message_of same.digest d items ≡ cond b (cond (is_stored same d l0) (message_of same.digest d items) (Some x)) None
+  stays d true e = rw (← e) refl
+  stays d false e = rw (absent d (sym e)) refl
+
+  pub Stores-renewed : among same.digest x.digest (items_at same.key p l0) ≡ true → length (items_at same.key p l0) ≤ size → Renews same p x.digest l0 l1 items
+      → Stores same p x size (record { lists = l0; messages = messages_of items }) (record { lists = l1; messages = messages_of items })
+  Stores-renewed there fits renews = record {
+    put = subst (λ ds. PutsDeque same.key p ds l0 l1) (sym (take_all size (x.digest ∷ without same.digest x.digest (items_at same.key p l0)) (omega (arith, length-moved laws x.digest (items_at same.key p l0) there)))) renews.put;
+    messages = λ d. rw (lookup-messages same.digest d items) (stays d (is_stored same d l1) (renews.stored d));
+  }
+
+  pub Stores-nowhere : IsDistinct same.key (keys_of l0) → size ≡ 0 → length (items_at same.key p l0) ≤ size
+      → Stores same p x size (record { lists = l0; messages = messages_of items }) (record { lists = l0; messages = messages_of items })
+  Stores-nowhere distinct none fits = record {
+    put = subst (λ n. PutsDeque same.key p (take n (x.digest ∷ without same.digest x.digest (items_at same.key p l0))) l0 l0) (sym none)
+        (subst (λ ds. PutsDeque same.key p ds l0 l0) (nil_from_length (items_at same.key p l0) (omega arith)) (PutsDeque-kept key_laws p l0 distinct));
+    messages = λ d. rw (lookup-messages same.digest d items) (stays d (is_stored same d l0) refl);
+  }

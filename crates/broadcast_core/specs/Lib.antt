@@ -13,3 +13,4 @@ pub mod Sent
 pub mod Answers
 pub mod Follows
 pub mod Rows
+pub mod Changes

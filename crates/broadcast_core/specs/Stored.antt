@@ -49,9 +49,9 @@ module _ {M D : Type 0} (same : D → D → Bool) where
   abbrev pub IsHeld : List (D × Cached M D) → Type 0
   IsHeld items = (d : D) (c : Cached M D) → lookup (same d) items ≡ Some c → (0 < c.references) × (same d c.message.digest ≡ true)
 
-  -- one reference less to the digest's message, which leaves with its last one
-  pub record Releases (d : D) (old new : List (D × Cached M D)) : Type 0 where
-    pub counted : (e : D) → references_of e new + one_if (same d e) ≡ references_of e old
+  -- each digest's message has so many references less, and leaves with its last one
+  pub record Releases (weight : D → ℕ) (old new : List (D × Cached M D)) : Type 0 where
+    pub counted : (e : D) → references_of e new + weight e ≡ references_of e old
     pub messages : (e : D) → message_of e new ≡ (if nat_lt 0 (references_of e new) then message_of e old else None)
     pub held : IsHeld new
 
@@ -64,11 +64,20 @@ module _ {P D : Type 0} (same : Same P D) where
   abbrev pub deques_with : D → List (P × List D) → ℕ
   deques_with d lists = count_by (λ ds. among same.digest d ds) (values_of lists)
 
+  -- how many deques of keys that are not among these have it
+  abbrev pub deques_without : List P → D → List (P × List D) → ℕ
+  deques_without peers d lists = sum_by (λ e. if list_any (same.key e.0) peers then 0 else one_if (among same.digest d e.1)) lists
+
   module _ {M : Type 0} where
     -- each digest of a deque has its message, with one reference a deque
     pub record IsCounted (lists : List (P × List D)) (items : List (D × Cached M D)) : Type 0 where
       pub counted : (d : D) → references_of same.digest d items ≡ deques_with d lists
       pub held : IsHeld same.digest items
+
+    -- what holds of every cache
+    pub record IsCache (lists : List (P × List D)) (items : List (D × Cached M D)) : Type 0 where
+      pub counted : IsCounted lists items
+      pub distinct : IsDistinct same.key (keys_of lists)
 
     -- the digest stands in front of the key's deque, with its message
     pub record Adds (p : P) (x : Carried M D) (old_lists new_lists : List (P × List D)) (old_items new_items : List (D × Cached M D)) : Type 0 where
@@ -77,6 +86,12 @@ module _ {P D : Type 0} (same : Same P D) where
       pub messages : (d : D) → message_of same.digest d new_items
           ≡ (if is_stored d new_lists then (if is_stored d old_lists then message_of same.digest d old_items else Some x) else None)
 
+    -- the digest moves to the front of the key's deque
+    pub record Renews (p : P) (d : D) (old_lists new_lists : List (P × List D)) (items : List (D × Cached M D)) : Type 0 where
+      pub put : PutsDeque same.key p (d ∷ without same.digest d (items_at same.key p old_lists)) old_lists new_lists
+      pub counted : IsCounted new_lists items
+      pub stored : (e : D) → is_stored e new_lists ≡ is_stored e old_lists
+
     -- the key's deque is another, and the messages of digests that no deque has any more are gone
     pub record Cuts (p : P) (ds : List D) (old_lists new_lists : List (P × List D)) (old_items new_items : List (D × Cached M D)) : Type 0 where
       pub put : PutsDeque same.key p ds old_lists new_lists
@@ -84,8 +99,14 @@ module _ {P D : Type 0} (same : Same P D) where
       pub fewer : (d : D) → is_stored d new_lists ≡ true → is_stored d old_lists ≡ true
       pub messages : (d : D) → message_of same.digest d new_items ≡ (if is_stored d new_lists then message_of same.digest d old_items else None)
 
-    -- a taking under the key leads from the old content to the new
+    -- the digest stands in front of the key's deque, which is cut to its size, and its message is there
     pub record Stores (p : P) (x : Carried M D) (size : ℕ) (old new : Stored P M D) : Type 0 where
       pub put : PutsDeque same.key p (take size (x.digest ∷ without same.digest x.digest (items_at same.key p old.lists))) old.lists new.lists
       pub messages : (d : D) → lookup (same.digest d) new.messages
           ≡ (if is_stored d new.lists then (if is_stored d old.lists then lookup (same.digest d) old.messages else Some x) else None)
+
+    -- only these keys keep their deques, and what no deque has any more is gone
+    pub record Keeps (peers : List P) (old new : Stored P M D) : Type 0 where
+      pub lists : (q : P) → items_at same.key q new.lists ≡ (if list_any (same.key q) peers then items_at same.key q old.lists else [])
+      pub keys : (q : P) → is_some (lookup (same.key q) new.lists) ≡ true → list_any (same.key q) peers ≡ true
+      pub messages : (d : D) → lookup (same.digest d) new.messages ≡ (if is_stored d new.lists then lookup (same.digest d) old.messages else None)

@@ -1,4 +1,5 @@
 //! What happens to a core, and what it answers.
+use crate::buffer::Core;
 use crate::codec::CodecError;
 use crate::digested::{Digested, Digestible};
 use crate::items::Items;
@@ -68,4 +69,15 @@ pub struct Sent<P> {
     pub bytes: Items<u8>,
     /// Whether it goes before others.
     pub priority: bool,
+}
+
+/// What a run leaves.
+#[derive(Drop)]
+pub struct Run<P: PublicKey, M: Digestible> {
+    /// The core after the last event. Its waiters are the tickets.
+    pub core: Core<P, M, u64>,
+    /// The answers, one for each event.
+    pub answers: Items<Answer<M>>,
+    /// What the network is handed, in order.
+    pub sent: Items<Sent<P>>,
 }

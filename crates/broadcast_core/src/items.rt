@@ -1,10 +1,10 @@
 //! A list that contracts see as its elements.
-ghost use Rattle.std.specs.Prelude.{◌≡◌, ℕ, List, [], ◌∷◌, ◌++◌, length, IfOk, OnOk, OnErr, if◌then◌else◌, is_ok, vec_capacity, vec_len, ◌<◌};
-ghost use Rattle.std.specs.Slice.Iter.{iter_rest};
+ghost use Rattle.std.specs.Prelude.{◌≡◌, ℕ, List, [], ◌∷◌, ◌++◌, length, OnOk, IfErr};
+ghost use Rattle.std.specs.Fn.{CalledAt};
+ghost use Rattle.std.specs.List.Retain.{IsFiltered};
 
 use std::alloc::{AllocError, AllocFailed, Global};
 use std::marker::Model;
-use std::slice;
 
 /// A vector, seen by contracts as the list of its elements: where it lies and how many places it
 /// has are left out, so that two of them are equal where their elements are.
@@ -61,8 +61,18 @@ impl<T> Items<T> {
     /// Puts an element behind the others. Without memory the list stays, and the element comes back.
     pub fn push(&mut self, element: T) -> Result<(), AllocFailed<T>>
         ensures ok { OnOk result (self.new ≡ self.old ++ element ∷ []) }
-        ensures err { OnErr result (self.new ≡ self.old) }
+        ensures err { IfErr result (λ refused. (refused.value ≡ element) × (self.new ≡ self.old)) }
     {
         self.elements.push(element)
+    }
+
+    /// Keeps the elements that pass, in order. Takes no memory.
+    pub fn retain<F: FnMut(&T) -> bool>(&mut self, keep: F)
+    where
+        T: Drop,
+        requires { F.IsAlwaysCallable keep }
+        ensures { IsFiltered (CalledAt F.FnMut) keep self.old self.new }
+    {
+        self.elements.retain(keep)
     }
 }

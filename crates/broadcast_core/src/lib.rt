@@ -9,4 +9,6 @@ pub mod items;
 pub mod mocks;
 pub mod ordered;
 pub mod outcome;
+pub mod requests;
 pub mod rows;
+pub mod run;

@@ -78,6 +78,14 @@ impl<P: PublicKey> Set<P> {
         place_of(self.keys.as_slice(), key)
     }
 
+    /// The keys, in rising order.
+    pub fn as_slice(&self) -> &[P]
+        ensures keys { result.now ≡ self.now }
+        ensures rises { IsStrictlySortedBy P.cmp self.now }
+    {
+        self.keys.as_slice()
+    }
+
     /// How many keys there are.
     pub fn len(&self) -> usize
         ensures len { result ≡ length self.now }
@@ -112,7 +120,7 @@ fn sort_dedup<K: Ord + Drop>(keys: &mut Vec<K>) -> Result<(), AllocError>
 }
 
 // The place of the key in keys that rise.
-fn place_of<K: Ord>(keys: &[K], key: &K) -> Option<usize>
+pub(crate) fn place_of<K: Ord>(keys: &[K], key: &K) -> Option<usize>
     requires { IsStrictlySortedBy K.cmp keys.now }
     ensures place { IfSome result (λ i. IsSomeAnd (slice_get keys.now i) (λ q. eq_by_cmp K.cmp key.now q ≡ true)) }
     ensures some { is_some result ≡ list_any (eq_by_cmp K.cmp key.now) keys.now }

@@ -1,6 +1,8 @@
 //! What a node keeps of its peers: their deques, and each listed message once.
 ghost use Rattle.std.specs.Prelude.{◌≡◌, ◌≤◌, false, true, not, length, [], IfOk, OnOk, OnErr, IsOk, is_ok};
 ghost use Rattle.std.specs.Option.{option_copied};
+ghost use Rattle.std.specs.List.{IsDistinct};
+ghost use Rattle.std.specs.List.Sorted.{IsStrictlySortedBy};
 ghost use Rattle.std.specs.Map.{lookup};
 ghost use Rattle.std.specs.Ordering.{eq_by_cmp};
 ghost use Rattle.broadcast_core.specs.Content.{same_by, among, items_at};
@@ -25,17 +27,17 @@ pub struct Cache<P: PublicKey, M: Digestible> {
 impl<P: PublicKey, M: Digestible> Model for Cache<P, M> {
     ghost use Rattle.std.specs.Prelude.{map};
     ghost use Rattle.broadcast_core.specs.Content.{same_by};
-    ghost use Rattle.broadcast_core.specs.Stored.{Stored, IsCounted};
+    ghost use Rattle.broadcast_core.specs.Stored.{Stored, IsCache};
 
     ghost Value = { Stored P M M.Digest };
 
     ghost view = { λ it. record { lists = it.deques.entries; messages = map (λ e. (e.0, e.1.message)) it.items.entries } };
 
-    ghost invariant = { λ it. IsCounted (same_by P.cmp M.Digest.cmp) it.deques.entries it.items.entries };
+    ghost invariant = { λ it. IsCache (same_by P.cmp M.Digest.cmp) it.deques.entries it.items.entries };
 }
 
 impl<P: PublicKey, M: Digestible> Cache<P, M> {
-    ghost use Rattle.broadcast_core.specs.Stored.{Stores};
+    ghost use Rattle.broadcast_core.specs.Stored.{Stores, Keeps};
 
     /// No deques and no messages. Takes no memory.
     pub fn new(alloc: Global) -> Self
@@ -82,5 +84,54 @@ impl<P: PublicKey, M: Digestible> Cache<P, M> {
         counting::add(self.alloc, &mut self.deques, &mut self.items, peer, message)?;
         counting::cut(&mut self.deques, &mut self.items, peer, deque_size);
         Ok(())
+    }
+
+    /// Puts the digest in front of the peer's deque, and says whether it is new there.
+    pub fn take(
+        &mut self,
+        peer: &P,
+        message: &Digested<M>,
+        deque_size: usize,
+    ) -> Result<bool, AllocError>
+        requires { length (items_at (eq_by_cmp P.cmp) peer.now self.old.lists) ≤ deque_size }
+        ensures new { IfOk result (λ new. new ≡ not (among (eq_by_cmp M.Digest.cmp) message.now.digest
+            (items_at (eq_by_cmp P.cmp) peer.now self.old.lists))) }
+        ensures ok { OnOk result (Stores (same_by P.cmp M.Digest.cmp) peer.now message.now deque_size self.old self.new) }
+        ensures err { OnErr result (self.new ≡ self.old) }
+
+        // A digest that is there already takes no memory, nor does a deque without places.
+        ensures free { among (eq_by_cmp M.Digest.cmp) message.now.digest
+            (items_at (eq_by_cmp P.cmp) peer.now self.old.lists) ≡ true → IsOk result }
+        ensures no_places { deque_size ≡ 0 → IsOk result }
+    {
+        let digest = message.digest();
+        if counting::renew(&mut self.deques, &self.items, peer, digest) {
+            return Ok(false);
+        }
+        if deque_size == 0 {
+            return Ok(true);
+        }
+        self.insert(peer, message, deque_size)?;
+        Ok(true)
+    }
+
+    /// The digests of the peer's deque, the newest first.
+    pub fn list(&self, alloc: Global, peer: &P) -> Result<Vec<M::Digest>, AllocError>
+        ensures items { IfOk result (λ digests. digests.items ≡ items_at (eq_by_cmp P.cmp) peer.now self.now.lists) }
+        ensures distinct { IsDistinct (eq_by_cmp M.Digest.cmp) (items_at (eq_by_cmp P.cmp) peer.now self.now.lists) }
+    {
+        match self.deques.get(peer) {
+            Some(deque) => deque.to_vec(alloc),
+            None => Ok(Vec::new(alloc)),
+        }
+    }
+
+    /// Drops the deques of all peers but these, which rise.
+    pub fn retain_peers(&mut self, peers: &[P])
+        requires { IsStrictlySortedBy P.cmp peers.now }
+        ensures { Keeps (same_by P.cmp M.Digest.cmp) peers.now self.old self.new }
+    {
+        counting::release_absent(&self.deques, &mut self.items, peers);
+        deques::retain_keys(&mut self.deques, peers);
     }
 }

@@ -1,10 +1,11 @@
 //! The deques and the cached messages, kept in step: a message has one reference for each deque
 //! that has its digest.
-ghost use Rattle.std.specs.Prelude.{◌≡◌, ◌+◌, ◌≤◌, false, length, take, OnOk, OnErr};
+ghost use Rattle.std.specs.Prelude.{◌≡◌, ◌+◌, ◌≤◌, false, length, take, OnOk, OnErr, MatchBool};
 ghost use Rattle.std.specs.Ordering.{eq_by_cmp};
+ghost use Rattle.std.specs.List.Sorted.{IsStrictlySortedBy};
 ghost use Rattle.std.specs.BTreeMap.{IsUnchanged};
 ghost use Rattle.broadcast_core.specs.Content.{same_by, among, items_at};
-ghost use Rattle.broadcast_core.specs.Stored.{IsCounted, Adds, Cuts};
+ghost use Rattle.broadcast_core.specs.Stored.{IsCounted, IsHeld, Adds, Cuts, Renews, Releases, one_if, references_of, deques_without};
 
 use crate::buffer::cached::Cached;
 use crate::buffer::deque::Deque;
@@ -13,6 +14,26 @@ use crate::digested::{Digested, Digestible};
 use crate::ordered::PublicKey;
 use std::alloc::{AllocError, Global};
 use std::collections::BTreeMap;
+
+/// Moves a digest to the front of the peer's deque, if it is there, and says whether it is.
+pub fn renew<P: PublicKey, M: Digestible>(
+    by_peer: &mut BTreeMap<P, Deque<M::Digest>>,
+    by_digest: &BTreeMap<M::Digest, Cached<M>>,
+    peer: &P,
+    digest: M::Digest,
+) -> bool
+    requires { IsCounted (same_by P.cmp M.Digest.cmp) by_peer.old.entries by_digest.now.entries }
+    ensures found { result ≡ among (eq_by_cmp M.Digest.cmp) digest (items_at (eq_by_cmp P.cmp) peer.now by_peer.old.entries) }
+    ensures moved { MatchBool result
+        (Renews (same_by P.cmp M.Digest.cmp) peer.now digest by_peer.old.entries by_peer.new.entries by_digest.now.entries)
+        (IsUnchanged by_peer.old by_peer.new) }
+{
+    // What is not cached is on no deque, which need not be searched then.
+    if !by_digest.contains_key(&digest) {
+        return false;
+    }
+    deques::move_to_front(by_peer, peer, digest)
+}
 
 /// Puts a digest that the peer has not in front of its deque, with its message.
 pub fn add<P: PublicKey, M: Digestible>(
@@ -58,5 +79,38 @@ pub fn cut<P: PublicKey, M: Digestible>(
 {
     if let Some(stale) = deques::pop_beyond(by_peer, peer, deque_size) {
         items::release(by_digest, &stale);
+    }
+}
+
+/// Takes back the references of all deques but those of these peers.
+pub fn release_absent<P: PublicKey, M: Digestible>(
+    by_peer: &BTreeMap<P, Deque<M::Digest>>,
+    by_digest: &mut BTreeMap<M::Digest, Cached<M>>,
+    peers: &[P],
+)
+    requires counted { IsCounted (same_by P.cmp M.Digest.cmp) by_peer.now.entries by_digest.old.entries }
+    requires rises { IsStrictlySortedBy P.cmp peers.now }
+    ensures { let same = same_by P.cmp M.Digest.cmp in
+        Releases same.digest (λ d. deques_without same peers.now d by_peer.now.entries) by_digest.old.entries by_digest.new.entries }
+{
+    for (peer, deque) in by_peer {
+        if !deques::is_among(peers, peer) {
+            release_all(by_digest, deque);
+        }
+    }
+}
+
+/// Takes back the references of a deque.
+fn release_all<M: Digestible>(
+    by_digest: &mut BTreeMap<M::Digest, Cached<M>>,
+    deque: &Deque<M::Digest>,
+)
+    requires held { IsHeld (eq_by_cmp M.Digest.cmp) by_digest.old.entries }
+    requires counted { (e : _) → one_if (among (eq_by_cmp M.Digest.cmp) e deque.now) ≤ references_of (eq_by_cmp M.Digest.cmp) e by_digest.old.entries }
+    ensures { let same = eq_by_cmp M.Digest.cmp in
+        Releases same (λ e. one_if (among same e deque.now)) by_digest.old.entries by_digest.new.entries }
+{
+    for digest in deque.iter() {
+        items::release(by_digest, digest);
     }
 }

@@ -3,10 +3,11 @@ ghost use Rattle.std.specs.Prelude.{◌≡◌, ◌<◌, ◌≤◌, ◌+◌, ◌+
 ghost use Rattle.std.specs.Option.{option_to_list};
 ghost use Rattle.std.specs.Ordering.{eq_by_cmp};
 ghost use Rattle.std.specs.List.{list_any, IsDistinct};
+ghost use Rattle.std.specs.VecDeque.Iter.{deque_iter_rest};
 ghost use Rattle.broadcast_core.specs.Content.{among, without};
 
 use std::alloc::{AllocError, Global};
-use std::collections::VecDeque;
+use std::collections::{VecDeque, vec_deque};
 use std::marker::Model;
 
 /// The digests of one peer, the newest first, each once.
@@ -68,6 +69,22 @@ impl<D: Ord + Copy> Deque<D> {
                 true
             }
         }
+    }
+
+    /// A copy of the digests.
+    pub fn to_vec(&self, alloc: Global) -> Result<Vec<D>, AllocError>
+        ensures items { IfOk result (λ digests. digests.items ≡ self.now) }
+        ensures distinct { IsDistinct (eq_by_cmp D.cmp) self.now }
+    {
+        self.digests.iter().copied().collect(alloc)
+    }
+
+    /// The digests.
+    pub fn iter(&self) -> vec_deque::Iter<'_, D>
+        ensures rest { deque_iter_rest result ≡ self.now }
+        ensures distinct { IsDistinct (eq_by_cmp D.cmp) self.now }
+    {
+        self.digests.iter()
     }
 
     /// Takes out the oldest digest.

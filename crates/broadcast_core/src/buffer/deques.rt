@@ -1,12 +1,14 @@
 //! The deques by peer.
 ghost use Rattle.std.specs.Prelude.{◌≡◌, ◌<◌, ◌≤◌, ◌∷◌, false, length, OnOk, OnErr, MatchOption, MatchBool};
 ghost use Rattle.std.specs.Ordering.{eq_by_cmp};
+ghost use Rattle.std.specs.List.{list_any, filter};
+ghost use Rattle.std.specs.List.Sorted.{IsStrictlySortedBy};
 ghost use Rattle.std.specs.BTreeMap.{IsUnchanged};
 ghost use Rattle.broadcast_core.specs.Content.{same_by, among, without, items_at};
 ghost use Rattle.broadcast_core.specs.Stored.{PutsDeque, DropsOldest};
 
 use crate::buffer::deque::Deque;
-use crate::ordered::PublicKey;
+use crate::ordered::{PublicKey, place_of};
 use std::alloc::{AllocError, Global};
 use std::collections::BTreeMap;
 
@@ -69,4 +71,20 @@ pub fn pop_beyond<P: PublicKey, D: Ord + Copy>(
         return None;
     }
     deque.pop_oldest()
+}
+
+/// Keeps the entries of these keys alone, which rise.
+pub fn retain_keys<K: Ord + Drop, V: Drop>(entries: &mut BTreeMap<K, V>, keys: &[K])
+    requires { IsStrictlySortedBy K.cmp keys.now }
+    ensures { entries.new.entries ≡ filter (λ e. list_any (eq_by_cmp K.cmp e.0) keys.now) entries.old.entries }
+{
+    entries.retain(|key, _| is_among(keys, key));
+}
+
+/// Whether a key is one of these, which rise.
+pub fn is_among<K: Ord>(keys: &[K], key: &K) -> bool
+    requires { IsStrictlySortedBy K.cmp keys.now }
+    ensures { result ≡ list_any (eq_by_cmp K.cmp key.now) keys.now }
+{
+    place_of(keys, key).is_some()
 }

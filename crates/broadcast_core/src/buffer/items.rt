@@ -3,7 +3,7 @@ ghost use Rattle.std.specs.Prelude.{◌≡◌, ◌+◌, ◌<◌, ◌^◌, ◌&&�
 ghost use Rattle.std.specs.Option.{option_map};
 ghost use Rattle.std.specs.Ordering.{eq_by_cmp};
 ghost use Rattle.std.specs.BTreeMap.{get, insert_entry, IsUnchanged};
-ghost use Rattle.broadcast_core.specs.Stored.{IsHeld, Releases, one_more, references_of};
+ghost use Rattle.broadcast_core.specs.Stored.{IsHeld, Releases, one_if, one_more, references_of};
 
 use crate::buffer::cached::Cached;
 use crate::digested::{Digested, Digestible};
@@ -58,7 +58,7 @@ pub fn refer<M: Digestible>(items: &mut BTreeMap<M::Digest, Cached<M>>, digest: 
 pub fn release<M: Digestible>(items: &mut BTreeMap<M::Digest, Cached<M>>, digest: &M::Digest)
     requires held { IsHeld (eq_by_cmp M.Digest.cmp) items.old.entries }
     requires there { IsSome (get M.Digest.cmp items.old digest.now) }
-    ensures { Releases (eq_by_cmp M.Digest.cmp) digest.now items.old.entries items.new.entries }
+    ensures { Releases (eq_by_cmp M.Digest.cmp) (λ e. one_if (eq_by_cmp M.Digest.cmp digest.now e)) items.old.entries items.new.entries }
 {
     let Some(item) = items.get_mut(digest) else {
         return;

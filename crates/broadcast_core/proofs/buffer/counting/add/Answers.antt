@@ -22,16 +22,17 @@ given_back {R = R} o d k v fresh old mid new same so none held removed =
     is_none_none (Some x) h = absurd cc
 
 pub returns-then-fresh-clause-err : goal.returns-then-fresh-clause-err
-returns-then-fresh-clause-err g c =
-    (c.in-Err.ensures.err,
-     given_back (g.met.M.Digest.Ord g.world.𝓛 g.world.𝓜 g.world.𝓡 (λ s x. x, λ x. x, λ x. x, λ x. x)).total c.digest-digest.result c.args.message.now.digest
-        (record { message = c.args.message.now; references = 0 }) c.in_ok-fresh.fresh c.args.by_digest.now.entries c.hold.new.items.entries c.remove.new.self.entries
-        c.digest-digest.ensures c.if-fresh.true c.in_ok-fresh.ensures.fresh c.in_ok-fresh.ensures.held c.remove.ensures.entries)
+returns-then-fresh-clause-err g c = (
+  c.in-Err.ensures.err,
+  given_back (g.met.M.Digest.Ord g.world.𝓛 g.world.𝓜 g.world.𝓡 (λ s x. x, λ x. x, λ x. x, λ x. x)).total c.digest-digest.result c.args.message.now.digest
+      (record { message = c.args.message.now; references = 0 }) c.in_ok-fresh.fresh c.args.by_digest.now.entries c.hold.new.items.entries c.remove.new.self.entries
+      c.digest-digest.ensures c.if-fresh.true c.in_ok-fresh.ensures.fresh c.in_ok-fresh.ensures.held c.remove.ensures.entries,
+)
 
 pub returns-clause-ok : goal.returns-clause-ok
 returns-clause-ok g c =
     let laws = eq_by_cmp_equiv (g.met.M.Digest.Ord g.world.𝓛 g.world.𝓜 g.world.𝓡 (λ s x. x, λ x. x, λ x. x, λ x. x)).total in
     Adds-made (same_by g.P.Ord.cmp g.M.Digest.Ord.cmp) laws c.args.peer.now c.args.message.now c.args.by_peer.now.entries c.push_front.new.deques.entries
-        c.args.by_digest.now.entries c.hold.new.items.entries c.refer.new.items.entries c.in_ok-fresh.fresh
-        c.requires.counted c.requires.absent (rw c.digest-digest.ensures at c.in_default.ensures.ok) c.in_ok-fresh.ensures.fresh c.in_ok-fresh.ensures.looked_up
-        (rw c.digest-digest.ensures at c.refer.ensures)
+    c.args.by_digest.now.entries c.hold.new.items.entries c.refer.new.items.entries c.in_ok-fresh.fresh
+    c.requires.counted c.requires.absent (rw c.digest-digest.ensures at c.in_default.ensures.ok) c.in_ok-fresh.ensures.fresh c.in_ok-fresh.ensures.looked_up
+    (rw c.digest-digest.ensures at c.refer.ensures)

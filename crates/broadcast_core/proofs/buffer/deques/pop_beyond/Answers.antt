@@ -21,4 +21,4 @@ pub returns-in_default : goal.returns-in_default
 returns-in_default g c =
     let none = sym c.get_mut.ensures.value ∙ ap option_copied_mut (none_from_not_some c.get_mut.result c.in_default.not-Some) in
     kept-missing (g.met.P.Ord g.world.𝓛 g.world.𝓜 g.world.𝓡 (λ s x. x, λ x. x, λ x. x, λ x. x)).total c.args.peer.now c.args.deque_size
-        c.args.deques.now.entries c.get_mut.follows.lender-at-none.entries none (ap (λ m. m.entries) c.get_mut.follows.holds-at-none) c.get_mut.ensures.ordered
+    c.args.deques.now.entries c.get_mut.follows.lender-at-none.entries none (ap (λ m. m.entries) c.get_mut.follows.holds-at-none) c.get_mut.ensures.ordered

@@ -11,5 +11,5 @@ returns-clause-ok g c =
     let key_laws = eq_by_cmp_equiv (g.met.P.Ord g.world.𝓛 g.world.𝓜 g.world.𝓡 (λ s x. x, λ x. x, λ x. x, λ x. x)).total in
     let laws = eq_by_cmp_equiv (g.met.M.Digest.Ord g.world.𝓛 g.world.𝓜 g.world.𝓡 (λ s x. x, λ x. x, λ x. x, λ x. x)).total in
     rw (← c.self.view_is) (Stores-added same key_laws laws c.args.peer.now c.args.message.now c.args.deque_size
-        c.self.inside.deques.entries c.add.new.by_peer.entries c.cut.new.by_peer.entries c.self.inside.items.entries c.add.new.by_digest.entries c.cut.new.by_digest.entries
-        (rw (← c.self.view_is) at c.requires.absent) c.in_ok-add.ensures.ok c.cut.ensures)
+    c.self.inside.deques.entries c.add.new.by_peer.entries c.cut.new.by_peer.entries c.self.inside.items.entries c.add.new.by_digest.entries c.cut.new.by_digest.entries
+    (rw (← c.self.view_is) at c.requires.absent) c.in_ok-add.ensures.ok c.cut.ensures)

@@ -1,0 +1,114 @@
+//! One event.
+use crate::buffer::Core;
+use crate::codec::{Codec, CodecError, decode_cfg};
+use crate::digested::{Digested, Digestible};
+use crate::event::{Answer, Cause, Event, Sent};
+use crate::items::Items;
+use crate::ordered::{PublicKey, Recipients};
+use crate::outcome::Subscribed;
+use std::alloc::Global;
+
+/// Applies one event to the core, and says its answer and what is sent.
+pub fn apply<P: PublicKey, M: Digestible + Codec>(
+    alloc: Global,
+    core: &mut Core<P, M, u64>,
+    priority: bool,
+    cfg: &M::Cfg,
+    event: Event<P, M>,
+) -> (Answer<M>, Option<Sent<P>>) {
+    match event {
+        Event::Peers(peers) => {
+            core.update_primary_peers(peers);
+            (Answer::Peers, None)
+        }
+        Event::Broadcast(recipients, message) => {
+            broadcast(alloc, core, priority, recipients, message)
+        }
+        Event::Payload(peer, bytes) => (payload(alloc, core, cfg, &peer, bytes.as_slice()), None),
+        Event::Subscribe(ticket, digest) => (subscribe(core, ticket, digest), None),
+        Event::Get(_, digest) => (get(core, &digest), None),
+        Event::Cleanup(gone) => (Answer::Removed(core.cleanup(gone.as_slice())), None),
+    }
+}
+
+/// Encodes the message, then takes it under the own key, then hands its encoding on.
+fn broadcast<P: PublicKey, M: Digestible + Codec>(
+    alloc: Global,
+    core: &mut Core<P, M, u64>,
+    priority: bool,
+    recipients: Recipients<P>,
+    message: Digested<M>,
+) -> (Answer<M>, Option<Sent<P>>) {
+    let mut bytes = Vec::new(alloc);
+    match message.inner().write(&mut bytes) {
+        Ok(()) => {}
+        Err(CodecError::Unencodable) => return (Answer::Refused(Cause::Unencodable), None),
+        Err(_) => return (Answer::Refused(Cause::Memory), None),
+    }
+    match core.take_own(&message) {
+        Err(_) => (Answer::Refused(Cause::Memory), None),
+        Ok(taken) => {
+            let sent = Sent {
+                recipients,
+                bytes: Items::from_vec(bytes),
+                priority,
+            };
+            let answer = Answer::Taken {
+                outcome: taken.outcome,
+                served: taken.served,
+                message,
+            };
+            (answer, Some(sent))
+        }
+    }
+}
+
+/// Decodes the bytes, and takes the message under the peer's key.
+fn payload<P: PublicKey, M: Digestible + Codec>(
+    alloc: Global,
+    core: &mut Core<P, M, u64>,
+    cfg: &M::Cfg,
+    peer: &P,
+    bytes: &[u8],
+) -> Answer<M> {
+    let message: M = match decode_cfg(alloc, bytes, cfg) {
+        Ok(message) => message,
+        Err(CodecError::Memory) => return Answer::Refused(Cause::Memory),
+        Err(refusal) => return Answer::Invalid(refusal),
+    };
+    let Ok(message) = Digested::compute(alloc, message) else {
+        return Answer::Refused(Cause::Memory);
+    };
+    match core.take(peer, &message) {
+        Err(_) => Answer::Refused(Cause::Memory),
+        Ok(taken) => Answer::Taken {
+            outcome: taken.outcome,
+            served: taken.served,
+            message,
+        },
+    }
+}
+
+/// Answers a subscribe from the cache, or lets its ticket wait.
+fn subscribe<P: PublicKey, M: Digestible>(
+    core: &mut Core<P, M, u64>,
+    ticket: u64,
+    digest: M::Digest,
+) -> Answer<M> {
+    match core.subscribe(digest, ticket) {
+        Ok(Subscribed::Answered(_, message)) => Answer::Answered(message),
+        Ok(Subscribed::Waiting) => Answer::Waiting,
+        Err(_) => Answer::Refused(Cause::Memory),
+    }
+}
+
+/// Answers a get from the cache.
+fn get<P: PublicKey, M: Digestible>(core: &Core<P, M, u64>, digest: &M::Digest) -> Answer<M> {
+    match core.get(digest) {
+        None => Answer::Got(None),
+        Some(message) => match message.clone() {
+            Ok(message) => Answer::Got(Some(message)),
+            Err(_) => Answer::Refused(Cause::Memory),
+        },
+    }
+}
