@@ -25,6 +25,14 @@ module _ {P D : Type 0} (same : Same P D) where
       (λ h. rw h (sym (lt-ltb 0 _ (let one : one_if (among same.digest d e.1) ≡ 1 = rw h refl in omega (arith, sums, one)))))
       (λ h. rw h (is_stored-counted d es ∙ ap (nat_lt 0) (let none : one_if (among same.digest d e.1) ≡ 0 = rw h refl in omega (arith, sums, none))))
 
+  -- a deque with the digest is some deque
+  pub stored-at : (q : P) (e : D) (ls : List (P × List D)) → among same.digest e (items_at same.key q ls) ≡ true → is_stored same e ls ≡ true
+  stored-at q e [] h = absurd cc
+  stored-at q e (x ∷ ls) h = by_test (same.key q x.0)
+      (λ t. let here : among same.digest e x.1 ≡ true = sym (ap (λ b. among same.digest e (unwrap_or (cond b (Some x.1) (lookup (same.key q) ls)) [])) t) ∙ h in rw here refl)
+      (λ t. let there : among same.digest e (unwrap_or (lookup (same.key q) ls) []) ≡ true = sym (ap (λ b. among same.digest e (unwrap_or (cond b (Some x.1) (lookup (same.key q) ls)) [])) t) ∙ h in
+      ap (λ b. among same.digest e x.1 || b) (stored-at q e ls there) ∙ or_right (among same.digest e x.1))
+
   -- how many deques have a digest, when one deque is written anew
   pub deques_with-put : (d : D) (p : P) (ds : List D) (old new : List (P × List D)) → PutsDeque same.key p ds old new
       → deques_with same d new + one_if (among same.digest d (items_at same.key p old)) ≡ deques_with same d old + one_if (among same.digest d ds)
@@ -153,15 +161,8 @@ module _ {P M D : Type 0} (same : Same P D) (laws : IsEquivalence same.digest) w
       → among same.digest d (items_at same.key p lists) ≡ true → IsSome (lookup (same.digest d) items)
   cached-listed p d lists items was h = is_some-counted (lookup (same.digest d) items) (omega (arith, was.counted d, some_deque p d lists h))
     where
-      lookup-among : (q : P) (e : D) (ls : List (P × List D)) → among same.digest e (unwrap_or (lookup (same.key q) ls) []) ≡ true → is_stored same e ls ≡ true
-      lookup-among q e [] h = absurd cc
-      lookup-among q e (x ∷ ls) h = by_test (same.key q x.0)
-          (λ t. let here : among same.digest e x.1 ≡ true = sym (ap (λ b. among same.digest e (unwrap_or (cond b (Some x.1) (lookup (same.key q) ls)) [])) t) ∙ h in rw here refl)
-          (λ t. let there : among same.digest e (unwrap_or (lookup (same.key q) ls) []) ≡ true = sym (ap (λ b. among same.digest e (unwrap_or (cond b (Some x.1) (lookup (same.key q) ls)) [])) t) ∙ h in
-          ap (λ b. among same.digest e x.1 || b) (lookup-among q e ls there) ∙ or_right (among same.digest e x.1))
-
       some_deque : (q : P) (e : D) (ls : List (P × List D)) → among same.digest e (items_at same.key q ls) ≡ true → 0 < deques_with same e ls
-      some_deque q e ls h = ltb-true _ _ (sym (is_stored-counted same e ls) ∙ lookup-among q e ls h)
+      some_deque q e ls h = ltb-true _ _ (sym (is_stored-counted same e ls) ∙ stored-at same q e ls h)
 
   -- a digest moves within its deque
   pub Renews-moved : (p : P) (d : D) (lists new_lists : List (P × List D)) (items : List (D × Cached M D)) → IsCounted same lists items

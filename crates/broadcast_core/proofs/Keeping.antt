@@ -62,5 +62,6 @@ module _ {P D : Type 0} (same : Same P D) (peers : List P) where
       Keeps-kept = record {
         lists = λ q. items_at-kept q lists;
         keys = λ q h. keys-kept q lists h;
+        distinct = IsDistinct-keys_filter same.key stays lists was.distinct;
         messages = λ d. rw (lookup-messages same.digest d new, lookup-messages same.digest d old, is_stored-counted same d (filter stays lists), ← counted d) (releases.messages d);
       }

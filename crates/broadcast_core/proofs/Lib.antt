@@ -8,3 +8,12 @@ pub mod References
 pub mod Counting
 pub mod Storing
 pub mod Keeping
+pub mod WaitersLemmas
+pub mod Taking
+pub mod Listing
+pub mod Following
+pub mod Waits
+pub mod WaitsAfter
+pub mod WaitsCount
+pub mod Applying
+pub mod Running

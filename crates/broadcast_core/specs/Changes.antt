@@ -2,6 +2,8 @@
 use Rattle.std.specs.Prelude.{◌≡◌, ℕ, Bool, not, if◌then◌else◌, List, [], ◌∷◌, ◌++◌, Option, Some, None}
 use Rattle.std.specs.List.{filter, list_any}
 use Rattle.broadcast_core.specs.Carried.{Carried}
+use Rattle.broadcast_core.specs.declared.outcome.Subscribed.{Subscribed}
+use Rattle.broadcast_core.specs.declared.outcome.Subscribed.TheVariants as subscribed
 use Rattle.broadcast_core.specs.Content.{Content, Same, is_on_list, list_at, list_with, message_at, waiting_at}
 
 module _ {P M D W : Type 0} (same : Same P D) where
@@ -42,3 +44,8 @@ module _ {P M D W : Type 0} (same : Same P D) where
   pub record Cleans (is_gone : W → Bool) (old new : Content P M D W) : Type 0 where
     pub store : KeepsStore old new
     pub waiters : (e : D) → waiting_at same new e ≡ filter (λ w. not (is_gone w)) (waiting_at same old e)
+
+  -- a waiter is answered by the cached message of the digest, or waits where there is none
+  abbrev pub IsSubscribed : D → W → Content P M D W → Content P M D W → Subscribed W M D → Type 0
+  IsSubscribed d w old new (subscribed.Answered v x) = (v ≡ w) × (message_at same old d ≡ Some x) × (new ≡ old)
+  IsSubscribed d w old new subscribed.Waiting = (message_at same old d ≡ None) × Awaits d w old new

@@ -1,12 +1,17 @@
 -- What a core contains after a history.
-use Rattle.std.specs.Prelude.{◌≡◌, ℕ, List}
+use Rattle.std.specs.Prelude.{◌≡◌, ℕ, ◌≤◌, List, [], ◌∷◌, length, Option, if◌then◌else◌}
+use Rattle.std.specs.Option.{option_to_list}
 use Rattle.broadcast_core.specs.Content.{Content, list_at, message_at, waiting_at}
 use Rattle.broadcast_core.specs.History.{Setting}
 use Rattle.broadcast_core.specs.Peers.{primary}
 use Rattle.broadcast_core.specs.Lists.{list}
 use Rattle.broadcast_core.specs.Cache.{message}
 use Rattle.broadcast_core.specs.Waiting.{waiting_for}
+use Rattle.broadcast_core.specs.Sent.{sent_at}
+use Rattle.broadcast_core.specs.Answers.{MayAnswer, is_refused}
 use Rattle.broadcast_core.specs.declared.event.Event.{Event}
+use Rattle.broadcast_core.specs.declared.event.Answer.{Answer}
+use Rattle.broadcast_core.specs.declared.event.Sent.{Sent}
 
 module _ {P M D : Type 0} (s : Setting P M D) where
   -- the core has what the history gives
@@ -17,3 +22,13 @@ module _ {P M D : Type 0} (s : Setting P M D) where
     pub lists : (p : P) → list_at s.same core p ≡ list s p past
     pub cached : (d : D) → message_at s.same core d ≡ message s d past
     pub waiters : (d : D) → waiting_at s.same core d ≡ waiting_for s d past
+
+  -- an event after a history is given an answer that it may have; refused, it changes nothing and nothing is sent
+  pub record Applies (past : List (Event P M D)) (e : Event P M D) (new : Content P M D ℕ) (answer : Answer M D) (sending : List (Sent P)) : Type 0 where
+    pub answered : MayAnswer s e past answer
+    pub content : HasContent (if is_refused s answer then past else e ∷ past) new
+    pub sent : sending ≡ (if is_refused s answer then [] else sent_at s e)
+
+  -- whatever history gave the core its content; it is shorter than the numbers that count
+  abbrev pub Follows : ℕ → Event P M D → Content P M D ℕ → Content P M D ℕ → Answer M D → List (Sent P) → Type 0
+  Follows most e old new answer sending = (past : List (Event P M D)) → length past ≤ most → HasContent past old → Applies past e new answer sending

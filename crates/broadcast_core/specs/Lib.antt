@@ -14,3 +14,4 @@ pub mod Answers
 pub mod Follows
 pub mod Rows
 pub mod Changes
+pub mod Waiters

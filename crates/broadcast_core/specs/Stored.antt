@@ -1,5 +1,5 @@
 -- What a cache contains, and what a taking and a peer set make of it.
-use Rattle.std.specs.Prelude.{◌≡◌, ℕ, ◌+◌, ◌-◌, ◌<◌, ◌==◌, nat_lt, Bool, false, true, ◌||◌, cond, if◌then◌else◌, List, [], ◌∷◌, ◌++◌, take, Option, Some, None, is_some, unwrap_or}
+use Rattle.std.specs.Prelude.{◌≡◌, ℕ, ◌+◌, ◌-◌, ◌<◌, ◌==◌, nat_lt, Bool, false, true, ◌||◌, cond, if◌then◌else◌, List, [], ◌∷◌, ◌++◌, take, length, ◌≤◌, Option, Some, None, is_some, unwrap_or}
 use Rattle.std.specs.List.{list_any, count_by, sum_by, IsDistinct}
 use Rattle.std.specs.Option.{option_map}
 use Rattle.std.specs.Map.{lookup, keys_of, values_of}
@@ -109,4 +109,12 @@ module _ {P D : Type 0} (same : Same P D) where
     pub record Keeps (peers : List P) (old new : Stored P M D) : Type 0 where
       pub lists : (q : P) → items_at same.key q new.lists ≡ (if list_any (same.key q) peers then items_at same.key q old.lists else [])
       pub keys : (q : P) → is_some (lookup (same.key q) new.lists) ≡ true → list_any (same.key q) peers ≡ true
+      pub distinct : IsDistinct same.key (keys_of new.lists)
       pub messages : (d : D) → lookup (same.digest d) new.messages ≡ (if is_stored d new.lists then lookup (same.digest d) old.messages else None)
+
+    -- what holds of every core: deques fit, only primary keys have one, and a message is there exactly where a deque has its digest
+    pub record IsCore (size : ℕ) (primary : List P) (stored : Stored P M D) : Type 0 where
+      pub bounded : (p : P) → length (items_at same.key p stored.lists) ≤ size
+      pub primary_only : (p : P) → is_some (lookup (same.key p) stored.lists) ≡ true → list_any (same.key p) primary ≡ true
+      pub distinct : IsDistinct same.key (keys_of stored.lists)
+      pub messages : (d : D) → is_some (lookup (same.digest d) stored.messages) ≡ is_stored d stored.lists

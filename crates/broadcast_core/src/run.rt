@@ -1,4 +1,12 @@
 //! A whole list of events, one after the other.
+ghost use Rattle.std.specs.Prelude.{◌≡◌, length, IfOk};
+ghost use Rattle.broadcast_core.specs.Answers.{IsAnswered, history, log_of};
+ghost use Rattle.broadcast_core.specs.Codec.{whole};
+ghost use Rattle.broadcast_core.specs.Content.{same_by};
+ghost use Rattle.broadcast_core.specs.Follows.{HasContent};
+ghost use Rattle.broadcast_core.specs.History.{Setting};
+ghost use Rattle.broadcast_core.specs.Sent.{sent};
+
 mod apply;
 
 use crate::buffer::Core;
@@ -21,16 +29,48 @@ pub fn run<P: PublicKey, M: Digestible + Codec>(
     priority: bool,
     cfg: &M::Cfg,
     events: Vec<Event<P, M>>,
-) -> Result<Run<P, M>, AllocError> {
+) -> Result<Run<P, M>, AllocError>
+    ensures one_each { IfOk result (λ run. length run.answers ≡ length events.items) }
+    ensures answers { let s : Setting P M M.Digest = record {
+      own = own;
+      deque_size = deque_size;
+      priority = priority;
+      same = same_by P.cmp M.Digest.cmp;
+      digest_of = M.digest_of;
+      encoding = M.encoding;
+      reading = whole (M.reading cfg.now);
+    } in
+        IfOk result (λ run. IsAnswered s (log_of events.items run.answers)) }
+    ensures content { let s : Setting P M M.Digest = record {
+      own = own;
+      deque_size = deque_size;
+      priority = priority;
+      same = same_by P.cmp M.Digest.cmp;
+      digest_of = M.digest_of;
+      encoding = M.encoding;
+      reading = whole (M.reading cfg.now);
+    } in
+        IfOk result (λ run. HasContent s (history s (log_of events.items run.answers)) run.core) }
+    ensures sent { let s : Setting P M M.Digest = record {
+      own = own;
+      deque_size = deque_size;
+      priority = priority;
+      same = same_by P.cmp M.Digest.cmp;
+      digest_of = M.digest_of;
+      encoding = M.encoding;
+      reading = whole (M.reading cfg.now);
+    } in
+        IfOk result (λ run. run.sent ≡ sent s (history s (log_of events.items run.answers))) }
+{
     let mut answers = Vec::with_capacity(alloc, events.len())?;
     let mut sent = Vec::with_capacity(alloc, events.len())?;
     let mut core = Core::new(alloc, own, deque_size);
     for event in events {
         let (answer, sending) = apply(alloc, &mut core, priority, cfg, event);
-        answers.push(answer)?;
         if let Some(sending) = sending {
             sent.push(sending)?;
         }
+        answers.push(answer)?;
     }
     Ok(Run {
         core,

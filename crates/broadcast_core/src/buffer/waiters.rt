@@ -1,8 +1,16 @@
 //! Who waits, by digest.
+ghost use Rattle.std.specs.Prelude.{◌≡◌, ℕ, ◌+◌, ◌++◌, [], ◌∷◌, not, nat_lt, length, if◌then◌else◌, OnOk, IfErr};
+ghost use Rattle.std.specs.List.{filter, IsDistinct};
+ghost use Rattle.std.specs.Map.{keys_of};
+ghost use Rattle.std.specs.Ordering.{eq_by_cmp};
+ghost use Rattle.broadcast_core.specs.Content.{items_at};
+ghost use Rattle.broadcast_core.specs.Waiters.{NoneEmpty, waiting_in, is_gone, gone_from, DropsClosed, counted};
+
 use crate::items::Items;
 use crate::requests::{Closable, Ticketed};
 use std::alloc::{AllocError, Global};
 use std::collections::BTreeMap;
+use std::marker::Model;
 
 /// Who waits for each digest, in the order in which they came.
 #[derive(Drop)]
@@ -11,9 +19,22 @@ pub struct Waiters<D: Ord, W> {
     by_digest: BTreeMap<D, Items<W>>,
 }
 
+impl<D: Ord, W> Model for Waiters<D, W> {
+    ghost use Rattle.std.specs.Prelude.{List};
+    ghost use Rattle.broadcast_core.specs.Waiters.{AreAwaited};
+
+    ghost Value = { List (D × List W) };
+
+    ghost view = { λ it. it.by_digest.entries };
+
+    ghost invariant = { λ it. AreAwaited D.cmp it.by_digest.entries };
+}
+
 impl<D: Ord + Copy, W: Drop> Waiters<D, W> {
     /// Nobody waits. Takes no memory.
-    pub fn new(alloc: Global) -> Self {
+    pub fn new(alloc: Global) -> Self
+        ensures { result ≡ [] }
+    {
         Waiters {
             alloc,
             by_digest: BTreeMap::new(alloc),
@@ -21,20 +42,32 @@ impl<D: Ord + Copy, W: Drop> Waiters<D, W> {
     }
 
     /// How many digests are awaited.
-    pub fn len(&self) -> usize {
+    pub fn len(&self) -> usize
+        ensures len { result ≡ length self.now }
+        ensures distinct { IsDistinct (eq_by_cmp D.cmp) (keys_of self.now) }
+        ensures none_empty { NoneEmpty (eq_by_cmp D.cmp) self.now }
+    {
         self.by_digest.len()
     }
 
     /// How many wait for the digest.
-    pub fn waiting(&self, digest: &D) -> usize {
+    pub fn waiting(&self, digest: &D) -> usize
+        ensures { result ≡ length (items_at (eq_by_cmp D.cmp) digest.now self.now) }
+    {
         match self.by_digest.get(digest) {
             Some(waiters) => waiters.len(),
             None => 0,
         }
     }
 
-    /// The waiter waits behind the others of its digest. Without memory it comes back.
-    pub fn push(&mut self, digest: D, waiter: W) -> Result<(), (W, AllocError)> {
+    /// The waiter waits behind the others of its digest. Without memory it comes back, and the
+    /// others wait as before.
+    pub fn push(&mut self, digest: D, waiter: W) -> Result<(), (W, AllocError)>
+        ensures ok { let same = eq_by_cmp D.cmp in
+            OnOk result ((e : D) → items_at same e self.new
+            ≡ (if same digest e then items_at same e self.old ++ waiter ∷ [] else items_at same e self.old)) }
+        ensures err { IfErr result (λ refused. (refused.0 ≡ waiter) × (self.new ≡ self.old)) }
+    {
         if let Some(waiters) = self.by_digest.get_mut(&digest) {
             return match waiters.push(waiter) {
                 Ok(()) => Ok(()),
@@ -55,56 +88,97 @@ impl<D: Ord + Copy, W: Drop> Waiters<D, W> {
     }
 
     /// Takes out who waits for the digest. Takes no memory.
-    pub fn take(&mut self, digest: &D) -> Items<W> {
+    pub fn take(&mut self, digest: &D) -> Items<W>
+        ensures served { result ≡ items_at (eq_by_cmp D.cmp) digest.now self.old }
+        ensures left { let same = eq_by_cmp D.cmp in
+            (e : D) → items_at same e self.new ≡ (if same digest.now e then [] else items_at same e self.old) }
+    {
         match self.by_digest.remove(digest) {
             Some(waiters) => waiters,
             None => Items::new(self.alloc),
         }
     }
 
-    /// Drops those whose ticket is gone, and says how many they were. Takes no memory.
+    /// Drops those whose ticket is gone, and says how many they were, or the greatest number where
+    /// they were more. Takes no memory.
     pub fn cleanup(&mut self, gone: &[u64]) -> u64
     where
         W: Ticketed,
+        ensures kept { let same = eq_by_cmp D.cmp in
+            (e : D) → items_at same e self.new
+            ≡ filter (λ w. not (is_gone W.ticket_of gone.now w)) (items_at same e self.old) }
+        ensures removed { result ≡ counted (gone_from W.ticket_of gone.now self.old) }
+        ensures distinct { IsDistinct (eq_by_cmp D.cmp) (keys_of self.old) }
     {
         let before = total(&self.by_digest);
         self.by_digest.retain(|_, waiters| drop_gone(waiters, gone));
-        before.saturating_sub(total(&self.by_digest))
+        clamped(before - total(&self.by_digest))
     }
 
-    /// Drops those that answer closed, and says how many they were. Takes no memory.
+    /// Drops those that answer closed, and says how many they were, or the greatest number where
+    /// they were more. Each is asked once. Takes no memory.
     pub fn cleanup_by(&mut self) -> u64
     where
         W: Closable,
+        ensures kept { let same = eq_by_cmp D.cmp in
+            (e : D) → DropsClosed W.may_answer (items_at same e self.old) (items_at same e self.new) }
+        ensures removed { (n : ℕ) × (waiting_in self.old ≡ waiting_in self.new + n) × (result ≡ counted n) }
+        ensures distinct { IsDistinct (eq_by_cmp D.cmp) (keys_of self.old) }
     {
         let before = total(&self.by_digest);
         self.by_digest.retain(|_, waiters| drop_closed(waiters));
-        before.saturating_sub(total(&self.by_digest))
+        clamped(before - total(&self.by_digest))
     }
 }
 
 /// The waiter of a list of one.
-fn only<W: Drop>(waiters: Items<W>) -> W {
+fn only<W: Drop>(waiters: Items<W>) -> W
+    requires { length waiters ≡ 1 }
+    ensures { waiters ≡ result ∷ [] }
+{
     waiters.into_vec().pop().unwrap()
 }
 
-/// How many wait, at most the greatest number.
-fn total<D: Ord, W>(by_digest: &BTreeMap<D, Items<W>>) -> u64 {
-    let mut all = 0u64;
-    for waiters in by_digest.values() {
-        all = all.saturating_add(waiters.len() as u64);
+/// How many wait.
+fn total<D: Ord, W>(by_digest: &BTreeMap<D, Items<W>>) -> u128
+    ensures { result ≡ waiting_in by_digest.now.entries }
+{
+    let mut all = 0u128;
+    for (_, waiters) in by_digest {
+        all += waiters.len() as u128;
     }
     all
 }
 
+/// The number, or the greatest number where it is above that.
+fn clamped(number: u128) -> u64
+    ensures { result ≡ counted number }
+{
+    u64::try_from(number).unwrap_or(u64::MAX)
+}
+
+/// Whether the waiter's ticket is gone.
+fn has_gone<W: Ticketed>(waiter: &W, gone: &[u64]) -> bool
+    ensures { result ≡ is_gone W.ticket_of gone.now waiter.now }
+{
+    let ticket = waiter.ticket();
+    gone.contains(&ticket)
+}
+
 /// Drops the waiters whose ticket is gone, and says whether any is left.
-fn drop_gone<W: Ticketed + Drop>(waiters: &mut Items<W>, gone: &[u64]) -> bool {
-    waiters.retain(|waiter| !gone.contains(&waiter.ticket()));
+fn drop_gone<W: Ticketed + Drop>(waiters: &mut Items<W>, gone: &[u64]) -> bool
+    ensures kept { waiters.new ≡ filter (λ w. not (is_gone W.ticket_of gone.now w)) waiters.old }
+    ensures left { result ≡ nat_lt 0 (length waiters.new) }
+{
+    waiters.retain(|waiter| !has_gone(waiter, gone));
     waiters.len() > 0
 }
 
 /// Drops the waiters that answer closed, and says whether any is left.
-fn drop_closed<W: Closable + Drop>(waiters: &mut Items<W>) -> bool {
+fn drop_closed<W: Closable + Drop>(waiters: &mut Items<W>) -> bool
+    ensures kept { DropsClosed W.may_answer waiters.old waiters.new }
+    ensures left { result ≡ nat_lt 0 (length waiters.new) }
+{
     waiters.retain(|waiter| !waiter.is_closed());
     waiters.len() > 0
 }

@@ -1,4 +1,12 @@
 //! One event.
+ghost use Rattle.std.specs.Prelude.{◌≡◌, ℕ, []};
+ghost use Rattle.std.specs.Option.{option_to_list};
+ghost use Rattle.broadcast_core.specs.Codec.{whole};
+ghost use Rattle.broadcast_core.specs.Content.{same_by};
+ghost use Rattle.broadcast_core.specs.Follows.{Follows};
+ghost use Rattle.broadcast_core.specs.History.{Setting};
+ghost use Rattle.broadcast_core.specs.declared.event.Event.TheVariants as event;
+ghost use Rattle.broadcast_core.specs.declared.event.Answer.TheVariants as answer;
 use crate::buffer::Core;
 use crate::codec::{Codec, CodecError, decode_cfg};
 use crate::digested::{Digested, Digestible};
@@ -15,7 +23,12 @@ pub fn apply<P: PublicKey, M: Digestible + Codec>(
     priority: bool,
     cfg: &M::Cfg,
     event: Event<P, M>,
-) -> (Answer<M>, Option<Sent<P>>) {
+) -> (Answer<M>, Option<Sent<P>>)
+    ensures { let s : Setting P M M.Digest = record {
+        own = core.old.own; deque_size = core.old.deque_size; priority = priority; same = same_by P.cmp M.Digest.cmp;
+        digest_of = M.digest_of; encoding = M.encoding; reading = whole (M.reading cfg.now) } in
+        Follows s usize.MAX event core.old core.new result.0 (option_to_list result.1) }
+{
     match event {
         Event::Peers(peers) => {
             core.update_primary_peers(peers);
@@ -38,7 +51,10 @@ fn broadcast<P: PublicKey, M: Digestible + Codec>(
     priority: bool,
     recipients: Recipients<P>,
     message: Digested<M>,
-) -> (Answer<M>, Option<Sent<P>>) {
+) -> (Answer<M>, Option<Sent<P>>)
+    ensures { (s : Setting P M M.Digest) → s.same ≡ same_by P.cmp M.Digest.cmp → s.priority ≡ priority → s.encoding ≡ M.encoding
+        → Follows s usize.MAX (event.Broadcast recipients message) core.old core.new result.0 (option_to_list result.1) }
+{
     let mut bytes = Vec::new(alloc);
     match message.inner().write(&mut bytes) {
         Ok(()) => {}
@@ -70,11 +86,13 @@ fn payload<P: PublicKey, M: Digestible + Codec>(
     cfg: &M::Cfg,
     peer: &P,
     bytes: &[u8],
-) -> Answer<M> {
+) -> Answer<M>
+    ensures { (s : Setting P M M.Digest) → s.same ≡ same_by P.cmp M.Digest.cmp → s.digest_of ≡ M.digest_of → s.reading ≡ whole (M.reading cfg.now)
+        → Follows s usize.MAX (event.Payload peer.now bytes.now) core.old core.new result [] }
+{
     let message: M = match decode_cfg(alloc, bytes, cfg) {
         Ok(message) => message,
-        Err(CodecError::Memory) => return Answer::Refused(Cause::Memory),
-        Err(refusal) => return Answer::Invalid(refusal),
+        Err(refusal) => return refused(refusal),
     };
     let Ok(message) = Digested::compute(alloc, message) else {
         return Answer::Refused(Cause::Memory);
@@ -89,12 +107,26 @@ fn payload<P: PublicKey, M: Digestible + Codec>(
     }
 }
 
+/// What a payload is answered that was not read.
+fn refused<M: Digestible>(refusal: CodecError) -> Answer<M>
+    ensures memory { refusal ≡ CodecError.Memory → result ≡ answer.Refused Cause.Memory }
+    ensures invalid { (refusal ≡ CodecError.Memory → ⊥) → result ≡ answer.Invalid refusal }
+{
+    match refusal {
+        CodecError::Memory => Answer::Refused(Cause::Memory),
+        _ => Answer::Invalid(refusal),
+    }
+}
+
 /// Answers a subscribe from the cache, or lets its ticket wait.
 fn subscribe<P: PublicKey, M: Digestible>(
     core: &mut Core<P, M, u64>,
     ticket: u64,
     digest: M::Digest,
-) -> Answer<M> {
+) -> Answer<M>
+    ensures { (s : Setting P M M.Digest) → s.same ≡ same_by P.cmp M.Digest.cmp
+        → Follows s usize.MAX (event.Subscribe ticket digest) core.old core.new result [] }
+{
     match core.subscribe(digest, ticket) {
         Ok(Subscribed::Answered(_, message)) => Answer::Answered(message),
         Ok(Subscribed::Waiting) => Answer::Waiting,
@@ -103,7 +135,10 @@ fn subscribe<P: PublicKey, M: Digestible>(
 }
 
 /// Answers a get from the cache.
-fn get<P: PublicKey, M: Digestible>(core: &Core<P, M, u64>, digest: &M::Digest) -> Answer<M> {
+fn get<P: PublicKey, M: Digestible>(core: &Core<P, M, u64>, digest: &M::Digest) -> Answer<M>
+    ensures { (s : Setting P M M.Digest) → s.same ≡ same_by P.cmp M.Digest.cmp
+        → (ticket : ℕ) → Follows s usize.MAX (event.Get ticket digest.now) core.now core.now result [] }
+{
     match core.get(digest) {
         None => Answer::Got(None),
         Some(message) => match message.clone() {

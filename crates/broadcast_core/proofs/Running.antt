@@ -1,0 +1,107 @@
+-- A list of events, run one after the other.
+use Rattle.std.proofs.Common.{◌≡◌, ℕ, suc, ◌≤◌, Bool, true, false, if◌then◌else◌, List, [], ◌∷◌, ◌++◌, length, reverse, refl, sym, ap, subst, ◌∙◌, arith, append_assoc, length-append}
+use Rattle.std.specs.List.{zip}
+use Rattle.std.proofs.lemmas.List.{reverse-append, append-nil, length-reverse}
+use Rattle.broadcast_core.specs.Content.{Content}
+use Rattle.broadcast_core.specs.History.{Setting}
+use Rattle.broadcast_core.specs.Answers.{IsAnswered, history, log_of, is_refused}
+use Rattle.broadcast_core.specs.Sent.{sent, sent_at}
+use Rattle.broadcast_core.specs.Follows.{HasContent, Applies, Follows}
+use Rattle.broadcast_core.specs.declared.event.Event.{Event}
+use Rattle.broadcast_core.specs.declared.event.Answer.{Answer}
+use Rattle.broadcast_core.specs.declared.event.Sent.{Sent}
+use Rattle.broadcast_core.proofs.Distinct.{by_test}
+use Rattle.broadcast_core.proofs.Following.{HasContent-empty}
+
+zip-push : {A B : Type 0} (xs : List A) (ys : List B) (x : A) (y : B) → length ys ≡ length xs → zip (xs ++ x ∷ []) (ys ++ y ∷ []) ≡ zip xs ys ++ (x, y) ∷ []
+zip-push [] [] x y h = refl
+zip-push [] (b ∷ ys) x y h = absurd (omega arith)
+zip-push (a ∷ xs) [] x y h = absurd (omega arith)
+zip-push (a ∷ xs) (b ∷ ys) x y h = ap (λ zs. (a, b) ∷ zs) (zip-push xs ys x y (omega arith))
+
+length-zip_of : {A B : Type 0} (xs : List A) (ys : List B) → length (zip xs ys) ≤ length xs
+length-zip_of [] ys = omega arith
+length-zip_of (x ∷ xs) [] = omega arith
+length-zip_of (x ∷ xs) (y ∷ ys) = omega (arith, length-zip_of xs ys)
+
+-- the element that came is the first of those that were left
+pub one_come : {X : Type 0} (done : List X) (x : X) (now next all : List X) → now ≡ x ∷ next → done ++ now ≡ all → (done ++ x ∷ []) ++ next ≡ all
+one_come done x now next all h k = append_assoc done (x ∷ []) next ∙ ap (λ l. done ++ l) (sym h) ∙ k
+
+-- all have come
+pub none_left : {X : Type 0} (done left all : List X) → length left ≡ 0 → done ++ left ≡ all → done ≡ all
+none_left done [] all h k = sym (append-nil done) ∙ k
+none_left done (x ∷ left) all h k = absurd (omega arith)
+
+module _ {P M D : Type 0} where
+  -- one more event, with its answer
+  log_of-push : (es : List (Event P M D)) (rs : List (Answer M D)) (e : Event P M D) (a : Answer M D) → length rs ≡ length es
+      → log_of (es ++ e ∷ []) (rs ++ a ∷ []) ≡ (e, a) ∷ log_of es rs
+  log_of-push es rs e a h = ap (λ zs. reverse zs) (zip-push es rs e a h) ∙ reverse-append (zip es rs) ((e, a) ∷ [])
+
+  module _ (s : Setting P M D) where
+    length-history : (log : List (Event P M D × Answer M D)) → length (history s log) ≤ length log
+    length-history [] = omega arith
+    length-history (x ∷ log) = elim (is_refused s x.1) as (λ b. length (if b then history s log else x.0 ∷ history s log) ≤ suc (length log))
+        [ true ↦ omega (arith, length-history log) | false ↦ omega (arith, length-history log) ]
+
+    -- a history has at most as many events as were run
+    pub length-history_of : (es : List (Event P M D)) (rs : List (Answer M D)) → length (history s (log_of es rs)) ≤ length es
+    length-history_of es rs = omega (arith, length-history (log_of es rs), length-reverse (zip es rs), length-zip_of es rs)
+
+    -- the events were run, with these answers and sends
+    pub record HasRun (events : List (Event P M D)) (answers : List (Answer M D)) (sends : List (Sent P)) (core : Content P M D ℕ) : Type 0 where
+      pub one_each : length answers ≡ length events
+      pub answered : IsAnswered s (log_of events answers)
+      pub content : HasContent s (history s (log_of events answers)) core
+      pub sent : sends ≡ sent s (history s (log_of events answers))
+
+    -- none as yet
+    pub HasRun-none : (core : Content P M D ℕ) → core ≡ record { own = s.own; deque_size = s.deque_size; primary = []; lists = []; cached = []; waiters = [] } → HasRun [] [] [] core
+    HasRun-none core new = record {
+      one_each = refl;
+      answered = tt;
+      content = HasContent-empty s core (ap (λ c. c.own) new) (ap (λ c. c.deque_size) new) (ap (λ c. c.primary) new) (ap (λ c. c.lists) new) (ap (λ c. c.cached) new) (ap (λ c. c.waiters) new);
+      sent = refl;
+    }
+
+    -- what is sent, after one more event
+    sent-next : (refused : Bool) (e : Event P M D) (past : List (Event P M D)) (sends : List (Sent P)) → sends ≡ sent s past
+        → sends ++ (if refused then [] else sent_at s e) ≡ sent s (if refused then past else e ∷ past)
+    sent-next true e past sends h = append-nil sends ∙ h
+    sent-next false e past sends h = ap (λ xs. xs ++ sent_at s e) h
+
+    -- one more
+    pub HasRun-next : (es : List (Event P M D)) (rs : List (Answer M D)) (sends : List (Sent P)) (old new : Content P M D ℕ) (e : Event P M D) (a : Answer M D) (sending : List (Sent P))
+        → HasRun es rs sends old → Applies s (history s (log_of es rs)) e new a sending → HasRun (es ++ e ∷ []) (rs ++ a ∷ []) (sends ++ sending) new
+    HasRun-next es rs sends old new e a sending before step =
+        let log : log_of (es ++ e ∷ []) (rs ++ a ∷ []) ≡ (e, a) ∷ log_of es rs = log_of-push es rs e a before.one_each in
+        record {
+          one_each = omega (arith, length-append rs (a ∷ []), length-append es (e ∷ []), before.one_each);
+          answered = subst (λ l. IsAnswered s l) (sym log) (step.answered, before.answered);
+          content = subst (λ l. HasContent s (history s l) new) (sym log) step.content;
+          sent = subst (λ l. sends ++ sending ≡ sent s (history s l)) (sym log)
+              (ap (λ xs. sends ++ xs) step.sent ∙ sent-next (is_refused s a) e (history s (log_of es rs)) sends before.sent);
+        }
+
+    -- the core has the setting's own key and size
+    follows-setting : (most : ℕ) (e : Event P M D) (old new : Content P M D ℕ) (a : Answer M D) (sending : List (Sent P)) → old.own ≡ s.own → old.deque_size ≡ s.deque_size
+        → Follows (record s { own = old.own; deque_size = old.deque_size }) most e old new a sending → Follows s most e old new a sending
+    follows-setting most e old new a sending own size h =
+        subst (λ n. Follows (record s { own = s.own; deque_size = n }) most e old new a sending) size
+        (subst (λ o. Follows (record s { own = o; deque_size = old.deque_size }) most e old new a sending) own h)
+
+    pub HasRun-follows : (most : ℕ) (es : List (Event P M D)) (rs : List (Answer M D)) (sends : List (Sent P)) (old new : Content P M D ℕ) (e : Event P M D) (a : Answer M D) (sending : List (Sent P))
+        → length es ≤ most → HasRun es rs sends old → Follows (record s { own = old.own; deque_size = old.deque_size }) most e old new a sending
+        → HasRun (es ++ e ∷ []) (rs ++ a ∷ []) (sends ++ sending) new
+    HasRun-follows most es rs sends old new e a sending few before step =
+        HasRun-next es rs sends old new e a sending before
+        (follows-setting most e old new a sending before.content.own before.content.deque_size step (history s (log_of es rs))
+        (omega (arith, length-history_of es rs)) before.content)
+
+    -- the same lists, under other names
+    pub HasRun-same : (es fs : List (Event P M D)) (rs qs : List (Answer M D)) (sends others : List (Sent P)) (core : Content P M D ℕ)
+        → HasRun es rs sends core → es ≡ fs → qs ≡ rs → others ≡ sends → HasRun fs qs others core
+    HasRun-same es fs rs qs sends others core run events answers sent =
+        subst (λ l. HasRun l qs others core) events
+        (subst (λ l. HasRun es l others core) (sym answers) (subst (λ l. HasRun es rs l core) (sym sent) run))

@@ -1,0 +1,160 @@
+-- What the changes of a cache make of a core's content.
+use Rattle.std.proofs.Common.{◌≡◌, ℕ, ◌≤◌, Bool, true, false, ◌||◌, cond, List, [], ◌∷◌, length, take, Option, Some, None, refl, sym, ap, ◌∙◌, subst, arith}
+use Rattle.std.specs.Prelude.{is_some, MatchBool}
+use Rattle.std.specs.List.{list_any, IsDistinct}
+use Rattle.std.specs.Map.{lookup, keys_of}
+use Rattle.std.specs.Cmp.{IsEquivalence}
+use Rattle.std.proofs.lemmas.Map.Entries.{none_past_head}
+use Rattle.std.proofs.lemmas.List.{length-take}
+use Rattle.std.proofs.lemmas.Map.{lookup-none}
+use Rattle.std.proofs.lemmas.Map.Keys.{IsDistinct-tail}
+use Rattle.broadcast_core.specs.Carried.{Carried}
+use Rattle.broadcast_core.specs.Content.{Content, Same, among, without, items_at, is_on_list, list_at, list_with, has_primary, message_at, waiting_at}
+use Rattle.broadcast_core.specs.Changes.{Takes, TakesPeers}
+use Rattle.broadcast_core.specs.Stored.{Stored, Stores, Keeps, IsCore, is_stored}
+use Rattle.broadcast_core.proofs.Distinct.{by_test, or_right, among-equal}
+use Rattle.broadcast_core.proofs.References.{lookup-equal}
+use Rattle.broadcast_core.proofs.Counting.{stored-at}
+
+-- two truths are one, where each gives the other
+pub same_truth : (a b : Bool) → (a ≡ true → b ≡ true) → (b ≡ true → a ≡ true) → a ≡ b
+same_truth true b f g = sym (f refl)
+same_truth false true f g = g refl
+same_truth false false f g = refl
+
+module _ {P D : Type 0} (same : Same P D) (laws : IsEquivalence same.key) where
+  -- some key whose deque has the digest
+  pub record HasHolder (d : D) (lists : List (P × List D)) : Type 0 where
+    pub key : P
+    pub there : is_some (lookup (same.key key) lists) ≡ true
+    pub listed : among same.digest d (items_at same.key key lists) ≡ true
+
+  holder-first : (d : D) (e : P × List D) (es : List (P × List D)) → among same.digest d e.1 ≡ true → HasHolder d (e ∷ es)
+  holder-first d e es h = record { key = e.0; there = rw (laws.refl e.0) refl; listed = rw (laws.refl e.0) h }
+
+  holder-later : (d : D) (e : P × List D) (es : List (P × List D)) → IsDistinct same.key (keys_of (e ∷ es)) → HasHolder d es → HasHolder d (e ∷ es)
+  holder-later d e es distinct r =
+      let apart : same.key r.key e.0 ≡ false = by_test (same.key r.key e.0)
+          (λ t. absurd (let none : is_some (lookup (same.key r.key) es) ≡ false = ap is_some (lookup-none (same.key r.key) es (none_past_head laws r.key e es distinct t)) in let some = r.there in cc))
+          (λ t. t) in
+      record { key = r.key; there = rw apart r.there; listed = rw apart r.listed }
+
+  holder : (d : D) (lists : List (P × List D)) → IsDistinct same.key (keys_of lists) → is_stored same d lists ≡ true → HasHolder d lists
+  holder d [] distinct h = absurd cc
+  holder d (e ∷ es) distinct h = by_test (among same.digest d e.1)
+      (λ t. holder-first d e es t)
+      (λ t. holder-later d e es distinct (holder d es (IsDistinct-tail same.key e.0 (keys_of es) distinct) (let rest : is_stored same d es ≡ true = sym (ap (λ b. b || is_stored same d es) t) ∙ h in rest)))
+
+  on-primary : (p : P) (d : D) (lists : List (P × List D)) (primary : List P) → among same.digest d (items_at same.key p lists) ≡ true → list_any (same.key p) primary ≡ true
+      → list_any (λ q. among same.digest d (items_at same.key q lists)) primary ≡ true
+  on-primary p d lists [] h there = absurd cc
+  on-primary p d lists (q ∷ qs) h there = by_test (same.key p q)
+      (λ t. let here : among same.digest d (items_at same.key q lists) ≡ true = rw (lookup-equal laws p q lists t) h in rw here refl)
+      (λ t. let rest : list_any (same.key p) qs ≡ true = sym (ap (λ b. b || list_any (same.key p) qs) t) ∙ there in
+          ap (λ b. among same.digest d (items_at same.key q lists) || b) (on-primary p d lists qs h rest) ∙ or_right (among same.digest d (items_at same.key q lists)))
+
+  from-primary : (d : D) (lists : List (P × List D)) (primary : List P) → list_any (λ q. among same.digest d (items_at same.key q lists)) primary ≡ true → is_stored same d lists ≡ true
+  from-primary d lists [] h = absurd cc
+  from-primary d lists (q ∷ qs) h = by_test (among same.digest d (items_at same.key q lists))
+      (λ t. stored-at same q d lists t)
+      (λ t. from-primary d lists qs (sym (ap (λ b. b || list_any (λ r. among same.digest d (items_at same.key r lists)) qs) t) ∙ h))
+
+  -- a digest is on some deque exactly where it is on the list of a primary key
+  pub stored-listed : {M : Type 0} (size : ℕ) (primary : List P) (stored : Stored P M D) → IsCore same size primary stored → (d : D)
+      → is_stored same d stored.lists ≡ list_any (λ q. among same.digest d (items_at same.key q stored.lists)) primary
+  stored-listed size primary stored core d = same_truth _ _
+      (λ h. let r = holder d stored.lists core.distinct h in on-primary r.key d stored.lists primary r.listed (core.primary_only r.key r.there))
+      (λ h. from-primary d stored.lists primary h)
+
+none_from_no_some : {X : Type 0} (o : Option X) → is_some o ≡ false → o ≡ None
+none_from_no_some None h = refl
+none_from_no_some (Some x) h = absurd cc
+
+abbrev pub content : {P M D W : Type 0} → P → ℕ → List P → Stored P M D → List (D × List W) → Content P M D W
+content own size primary stored waiters = record { own = own; deque_size = size; primary = primary; lists = stored.lists; cached = stored.messages; waiters = waiters }
+
+module _ {P M D : Type 0} (same : Same P D) (key_laws : IsEquivalence same.key) (size : ℕ) where
+  module _ (p : P) (x : Carried M D) (primary : List P) (old new : Stored P M D) (core : IsCore same size primary old) where
+    module _ (eligible : list_any (same.key p) primary ≡ true) (stores : Stores same p x size old new) where
+      pub IsCore-stored : IsCore same size primary new
+      IsCore-stored = record {
+        bounded = λ q. by_test (same.key p q)
+            (λ h. rw (stores.put.lists q, h, length-take size (x.digest ∷ without same.digest x.digest (items_at same.key p old.lists))) (omega arith))
+            (λ h. rw (stores.put.lists q, h) (core.bounded q));
+        primary_only = λ q there. by_test (same.key p q)
+            (λ h. sym (among-equal key_laws p q primary h) ∙ eligible)
+            (λ h. core.primary_only q (let was : is_some (lookup (same.key q) old.lists) ≡ true = sym (ap (λ b. b || is_some (lookup (same.key q) old.lists)) h) ∙ stores.put.keys q there in was));
+        distinct = stores.put.distinct;
+        messages = λ d. by_test (is_stored same d new.lists)
+            (λ h. by_test (is_stored same d old.lists)
+              (λ k. rw (stores.messages d, h, k) (core.messages d ∙ k))
+              (λ k. rw (stores.messages d, h, k) refl))
+            (λ h. rw (stores.messages d, h) refl);
+      }
+
+      pub Takes-stored : {W : Type 0} (own : P) (w0 w1 : List (D × List W)) → ((d : D) → items_at same.digest d w1 ≡ cond (same.digest x.digest d) [] (items_at same.digest d w0))
+          → Takes same p x (content own size primary old w0) (content own size primary new w1)
+      Takes-stored own w0 w1 waits = record {
+        own = refl;
+        deque_size = refl;
+        primary = refl;
+        lists = λ q. rw eligible (stores.put.lists q);
+        cached = λ d. rw (← stored-listed same key_laws size primary new IsCore-stored d, ← stored-listed same key_laws size primary old core d) (stores.messages d);
+        waiters = waits;
+      }
+
+    pub Takes-ineligible : {W : Type 0} (own : P) → list_any (same.key p) primary ≡ false → new ≡ old → (w0 w1 : List (D × List W))
+        → ((d : D) → items_at same.digest d w1 ≡ cond (same.digest x.digest d) [] (items_at same.digest d w0)) → Takes same p x (content own size primary old w0) (content own size primary new w1)
+    Takes-ineligible own ineligible stays w0 w1 waits = rw stays (record {
+      own = refl;
+      deque_size = refl;
+      primary = refl;
+      lists = λ q. by_test (same.key p q)
+          (λ h. rw (h, ineligible, lookup-equal key_laws p q old.lists h) refl)
+          (λ h. rw h refl);
+      cached = λ d. rw (← stored-listed same key_laws size primary old core d) (by_test (is_stored same d old.lists)
+          (λ h. rw h refl)
+          (λ h. rw h (none_from_no_some (lookup (same.digest d) old.messages) (core.messages d ∙ h))));
+      waiters = waits;
+    })
+
+  module _ (peers primary : List P) (old new : Stored P M D) (core : IsCore same size primary old) (keeps : Keeps same peers old new) where
+    was_stored : (d : D) → is_stored same d new.lists ≡ true → is_stored same d old.lists ≡ true
+    was_stored d h =
+        let r = holder same key_laws d new.lists keeps.distinct h in
+        stored-at same r.key d old.lists (by_test (list_any (same.key r.key) peers)
+            (λ t. let is : items_at same.key r.key new.lists ≡ items_at same.key r.key old.lists = keeps.lists r.key ∙ rw t refl in sym (ap (among same.digest d) is) ∙ r.listed)
+            (λ t. let is : items_at same.key r.key new.lists ≡ [] = keeps.lists r.key ∙ rw t refl in absurd (let none : false ≡ true = sym (ap (among same.digest d) is) ∙ r.listed in cc)))
+
+    pub IsCore-kept : IsCore same size peers new
+    IsCore-kept = record {
+      bounded = λ q. by_test (list_any (same.key q) peers)
+          (λ h. rw (keeps.lists q, h) (core.bounded q))
+          (λ h. rw (keeps.lists q, h) (omega arith));
+      primary_only = keeps.keys;
+      distinct = keeps.distinct;
+      messages = λ d. by_test (is_stored same d new.lists)
+          (λ h. rw (keeps.messages d, h) (core.messages d ∙ was_stored d h))
+          (λ h. rw (keeps.messages d, h) refl);
+    }
+
+    pub TakesPeers-kept : {W : Type 0} (own : P) (waiters : List (D × List W)) → TakesPeers same peers (content own size primary old waiters) (content own size peers new waiters)
+    TakesPeers-kept own waiters = record {
+      own = refl;
+      deque_size = refl;
+      primary = refl;
+      lists = keeps.lists;
+      cached = λ d. rw (← stored-listed same key_laws size peers new IsCore-kept d) (keeps.messages d);
+      waiters = λ d. refl;
+    }
+
+module _ {P M D : Type 0} (same : Same P D) (key_laws : IsEquivalence same.key) (size : ℕ) (p : P) (x : Carried M D) (primary : List P)
+    (old new : Stored P M D) (core : IsCore same size primary old) where
+  pub IsCore-taken : (b : Bool) → b ≡ list_any (same.key p) primary → MatchBool b (Stores same p x size old new) (new ≡ old) → IsCore same size primary new
+  IsCore-taken true is h = IsCore-stored same key_laws size p x primary old new core (sym is) h
+  IsCore-taken false is h = rw h core
+
+  pub Takes-taken : {W : Type 0} (own : P) (b : Bool) → b ≡ list_any (same.key p) primary → MatchBool b (Stores same p x size old new) (new ≡ old) → (w0 w1 : List (D × List W))
+      → ((d : D) → items_at same.digest d w1 ≡ cond (same.digest x.digest d) [] (items_at same.digest d w0)) → Takes same p x (content own size primary old w0) (content own size primary new w1)
+  Takes-taken own true is h w0 w1 waits = Takes-stored same key_laws size p x primary old new core (sym is) h own w0 w1 waits
+  Takes-taken own false is h w0 w1 waits = Takes-ineligible same key_laws size p x primary old new core own (sym is) h w0 w1 waits

@@ -1,0 +1,46 @@
+use Rattle.std.proofs.Common.{◌≡◌, [], ◌++◌, length, arith, refl, sym, ap, ◌∙◌, append-nil, length-append}
+use Rattle.std.specs.Option.{option_to_list}
+use Rattle.std.specs.Vec.Iter.{into_iter_items}
+use Rattle.broadcast_core.proofs.Running.{HasRun-none, HasRun-same, HasRun-follows, one_come, none_left}
+use Rattle.broadcast_core.proofs.run.run.Goals as goal
+use Rattle.broadcast_core.proofs.run.run.Goals.{in-Some-sending+in_ok-push, in_default}
+
+pub loop-event-init : goal.loop-event-init
+loop-event-init g c =
+    let gives = c.into_iter-event-iterator.ensures.into_iter_gives in
+    record {
+      rest = refl;
+      left = omega (arith, ap length gives.0, gives.1, c.args.events.ok);
+      has_run = HasRun-same _ [] [] [] c.in_ok-answers.answers.items [] c.in_ok-sent.sent.items _ (HasRun-none _ c.new-core.result c.new-core.ensures)
+          refl c.in_ok-answers.ensures.items c.in_ok-sent.ensures.items;
+    }
+
+pub loop-event-preserved : goal.loop-event-preserved
+loop-event-preserved g c =
+    let at = c.loop-event in
+    let e = c.in-Some.event in
+    let steps = c.in-Some.ensures.steps in
+    let gives = c.into_iter-event-iterator.ensures.into_iter_gives in
+    let applied = c.apply-answer.result in
+    let sent_is : c.match-sending.sent.items ≡ at.sent.items ++ option_to_list applied.1 =
+    elim c.match-sending.branch [
+      | in-Some-sending+in_ok-push w ↦ ap (λ v. v.items) w.sent-is ∙ w.in_ok-push.ensures.items ∙ ap (λ o. at.sent.items ++ option_to_list o) (sym w.in-Some-sending.is)
+      | in_default w ↦ ap (λ v. v.items) w.sent-is ∙ sym (append-nil at.sent.items) ∙ ap (λ o. at.sent.items ++ option_to_list o) (sym w.in_default.is)
+    ] in
+    record {
+      rest = one_come at.yielded e (into_iter_items at.event-iterator) (into_iter_items c.next.new.self) _ steps.0 at.invariant.rest;
+      left = omega (arith, ap length steps.0, steps.1, at.invariant.left);
+      has_run = HasRun-same _ _ _ _ _ _ _ _
+          (HasRun-follows _ _ at.yielded at.answers.items at.sent.items at.core c.apply-answer.new.core e applied.0 (option_to_list applied.1)
+          (omega (arith, ap length at.invariant.rest, length-append at.yielded (into_iter_items at.event-iterator), ap length gives.0, gives.1, gives.2, c.args.events.ok))
+          at.invariant.has_run c.apply-answer.ensures)
+          refl c.in_ok-push-2.ensures.items sent_is;
+    }
+
+pub returns : goal.returns
+returns g c =
+    let at = c.loop-event in
+    let all : at.yielded ≡ c.args.events.items =
+    none_left at.yielded (into_iter_items at.event-iterator) _ (sym at.invariant.left ∙ c.in-None.ensures.steps.0) at.invariant.rest ∙ c.into_iter-event-iterator.ensures.into_iter_gives.0 in
+    let run = HasRun-same _ _ _ _ _ _ _ _ at.invariant.has_run all c.from_vec.ensures c.from_vec-2.ensures in
+    record { one_each = run.one_each; answers = run.answered; content = run.content; sent = run.sent }

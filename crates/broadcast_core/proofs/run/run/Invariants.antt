@@ -1,0 +1,23 @@
+use Rattle.std.proofs.Common.{◌≡◌, ◌++◌, length}
+use Rattle.std.specs.Vec.Iter.{into_iter_items, into_iter_len}
+use Rattle.broadcast_core.specs.Codec.{whole}
+use Rattle.broadcast_core.specs.Content.{same_by}
+use Rattle.broadcast_core.specs.History.{Setting}
+use Rattle.broadcast_core.proofs.Running.{HasRun}
+use Rattle.broadcast_core.proofs.run.run.Given as goal
+
+abbrev pub invariant-loop-event : goal.invariant-loop-event
+invariant-loop-event g l =
+    let s : Setting g.row.P.Denot g.row.M.Denot g.row.M-Digest.Denot = record {
+      own = l.fn.own;
+      deque_size = l.fn.deque_size;
+      priority = l.fn.priority;
+      same = same_by g.P.Ord.cmp g.M.Digest.Ord.cmp;
+      digest_of = g.M.Digestible.digest_of;
+      encoding = g.M.Write.encoding;
+      reading = whole (g.M.Read.reading l.fn.cfg);
+    } in record {
+      rest : l.yielded ++ into_iter_items l.event-iterator ≡ into_iter_items l.initial.event-iterator;
+      left : into_iter_len l.event-iterator ≡ length (into_iter_items l.event-iterator);
+      has_run : HasRun s l.yielded l.answers.items l.sent.items l.core;
+    }

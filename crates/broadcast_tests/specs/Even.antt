@@ -1,0 +1,24 @@
+-- Even numbers as bytes.
+use Rattle.std.proofs.Common.{◌≡◌, ℕ, ◌%◌, ◌≤◌, if◌then◌else◌, ◌==◌, List, [], ◌∷◌, length, Option, Some, None, Result, Ok, Err, ap, subst, arith}
+use Rattle.broadcast_core.specs.Codec.{IsRefusal}
+use Rattle.broadcast_core.specs.CodecLaws.{ok_is}
+use Rattle.broadcast_core.specs.declared.codec.CodecError.{CodecError}
+use Rattle.broadcast_core.specs.declared.codec.CodecError.TheVariants.{EndOfBuffer}
+use Rattle.broadcast_tests.specs.declared.even.Even.{Even}
+
+-- one byte where the number is even
+abbrev pub encoding_of : Even → Option (List ℕ)
+encoding_of even = if even.0 % 2 == 0 then Some (even.0 ∷ []) else None
+
+-- the number in front
+abbrev pub even_at : List ℕ → Result (Even × ℕ) CodecError
+even_at [] = Err EndOfBuffer
+even_at (number ∷ rest) = Ok (record { 0 = number }, 1)
+
+pub even_within : (bytes : List ℕ) (v : Even) (n : ℕ) → even_at bytes ≡ Ok (v, n) → n ≤ length bytes
+even_within [] v n e = absurd cc
+even_within (number ∷ rest) v n e = let one = ap (λ (r : Even × ℕ). r.1) (ok_is (record { 0 = number }, 1) (v, n) e) in omega (arith, one)
+
+pub even_refusals : (bytes : List ℕ) (e : CodecError) → even_at bytes ≡ Err e → IsRefusal e
+even_refusals [] e h = let same : EndOfBuffer ≡ e = cc in subst IsRefusal same tt
+even_refusals (number ∷ rest) e h = absurd cc

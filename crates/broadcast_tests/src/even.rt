@@ -1,0 +1,53 @@
+//! A message that has no encoding for some values.
+ghost use Rattle.broadcast_tests.specs.Even.{encoding_of, even_at, even_within, even_refusals};
+
+use broadcast_core::codec::{CodecError, EncodeSize, Read, Write};
+use std::alloc::Global;
+
+/// A number that is written as one byte where it is even, and has no encoding where it is odd.
+#[derive(Clone, Copy, Debug, PartialEq, Eq)]
+pub struct Even(pub u8);
+
+impl Write for Even {
+    ghost encoding = { encoding_of };
+
+    fn write(&self, out: &mut Vec<u8>) -> Result<(), CodecError> {
+        if self.0 % 2 != 0 {
+            return Err(CodecError::Unencodable);
+        }
+        out.reserve(1)?;
+        out.push_reserved(self.0);
+        Ok(())
+    }
+}
+
+impl EncodeSize for Even {
+    fn encode_size(&self) -> Option<usize> {
+        if self.0 % 2 == 0 { Some(1) } else { None }
+    }
+}
+
+impl Read for Even {
+    type Cfg = ();
+
+    ghost reading = { λ _. even_at };
+
+    fn layout(buf: &[u8], _cfg: &()) -> Result<usize, CodecError> {
+        if buf.is_empty() {
+            Err(CodecError::EndOfBuffer)
+        } else {
+            Ok(1)
+        }
+    }
+
+    fn read_cfg(_alloc: Global, buf: &[u8], _cfg: &()) -> Result<(Self, usize), CodecError> {
+        match buf {
+            [] => Err(CodecError::EndOfBuffer),
+            [number, ..] => Ok((Even(*number), 1)),
+        }
+    }
+
+    ghost within = { λ _. even_within };
+
+    ghost refusals = { λ _. even_refusals };
+}

@@ -1,0 +1,14 @@
+//! Tests of the crates of the repository.
+#![tactic(auto)]
+
+#[cfg(test)]
+mod codec_calls;
+#[cfg(test)]
+mod codec_tables;
+pub mod even;
+#[cfg(test)]
+mod mailbox;
+#[cfg(test)]
+mod ordered_calls;
+#[cfg(test)]
+mod replay_rows;

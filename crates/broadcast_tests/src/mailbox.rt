@@ -1,0 +1,7 @@
+//! The mailbox: what becomes of requests, what callers get, and callers on threads.
+mod broadcasts;
+mod inbox;
+mod note;
+mod overflow;
+mod replies;
+mod threads;

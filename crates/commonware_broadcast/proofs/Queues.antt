@@ -1,0 +1,111 @@
+-- Queues stay sound.
+use Rattle.std.proofs.Common.{◌≡◌, ◌+◌, ◌≤◌, Bool, false, List, [], ◌∷◌, ◌++◌, length, Result, is_ok, is_err, cond, refl, sym, append-nil, ap, ◌∙◌, subst, inl, inr, append_assoc, arith, length-append}
+use Rattle.std.proofs.lemmas.List.{length_push}
+use Rattle.std.proofs.lemmas.Bool.{false≢true, cases_lt}
+use Rattle.commonware_broadcast.specs.declared.ingress.request.Request.{Request}
+use Rattle.commonware_broadcast.specs.Overflow.{Handles, Drains, PutsWithin}
+use Rattle.commonware_broadcast.proofs.Rising.{IsRising-higher, IsRising-lower, IsRising-tickets-push, length-IsRising, length-tickets_of}
+use Rattle.commonware_broadcast.proofs.Refilling.{Refills-fits, Refills-rising}
+use Rattle.commonware_broadcast.proofs.Results.{chosen-ok, handled-ok}
+use Rattle.commonware_broadcast.specs.Queue.{QueueState, IsRising, IsSound, HasRoom, Draws, tickets_of, waiting}
+
+module _ {T : Type 0} where
+  -- in a queue that finds no room the ready list is full
+  pub full-without_room : (queue : QueueState T) → IsSound queue → (¬ HasRoom queue) → length queue.ready ≡ queue.size
+  full-without_room queue sound no_room =
+      elim sound.full [
+        | inl none ↦ elim (cases_lt (length queue.ready) queue.size) [ inl less ↦ absurd (no_room (none, less)) | inr more ↦ omega (arith, sound.within) ]
+        | inr full ↦ full
+      ]
+
+  -- one more request in the ready list
+  pub IsSound-ready : (queue : QueueState T) (ready : List (Request T)) (message : T) → IsSound queue → Draws queue queue.next → HasRoom queue → ready ≡ queue.ready ++ record { ticket = queue.next; message = message } ∷ []
+      → IsSound (record queue { ready = ready; next = queue.next + 1 })
+  IsSound-ready queue ready message sound draws room is =
+      let request : Request T = record { ticket = queue.next; message = message } in
+      let all : waiting queue ≡ queue.ready = ap (λ (xs : List (Request T)). queue.ready ++ xs) room.0 ∙ append-nil queue.ready in
+      let more : ready ++ queue.overflow ≡ waiting queue ++ request ∷ [] =
+      ap (λ (xs : List (Request T)). ready ++ xs) room.0 ∙ append-nil ready ∙ is ∙ ap (λ (xs : List (Request T)). xs ++ request ∷ []) (sym all) in
+      record {
+        some_places = sound.some_places;
+        within = omega (arith, ap length is, length_push queue.ready request, room.1);
+        full = inl room.0;
+        rising = subst (λ (xs : List (Request T)). IsRising 0 (tickets_of xs) (queue.next + 1)) (sym more) (IsRising-tickets-push (waiting queue) request queue.next refl sound.rising);
+        shut = λ closed. absurd (false≢true (sym draws.is_open ∙ closed));
+        drawn = omega (arith, draws.left);
+      }
+
+  -- one more request in the ready list, pushed with no error
+  pub IsSound-pushed : {E : Type 0} (queue : QueueState T) (ready : List (Request T)) (message : T) (r : Result Unit E)
+      → IsSound queue → Draws queue queue.next → HasRoom queue → false ≡ is_err r → ready ≡ cond (is_ok r) (queue.ready ++ record { ticket = queue.next; message = message } ∷ []) queue.ready
+      → IsSound (record queue { ready = ready; next = queue.next + 1 })
+  IsSound-pushed queue ready message r sound draws room fine is = IsSound-ready queue ready message sound draws room (chosen-ok r _ _ _ fine is)
+
+  -- one more request in the overflow
+  pub IsSound-overflow : (queue : QueueState T) (overflow : List (Request T)) (message : T) → IsSound queue → Draws queue queue.next → (¬ HasRoom queue) → overflow ≡ queue.overflow ++ record { ticket = queue.next; message = message } ∷ []
+      → IsSound (record queue { overflow = overflow; next = queue.next + 1 })
+  IsSound-overflow queue overflow message sound draws no_room is =
+      let request : Request T = record { ticket = queue.next; message = message } in
+      let more : queue.ready ++ overflow ≡ waiting queue ++ request ∷ [] =
+      ap (λ (xs : List (Request T)). queue.ready ++ xs) is ∙ sym (append_assoc queue.ready queue.overflow (request ∷ [])) in
+      record {
+        some_places = sound.some_places;
+        within = sound.within;
+        full = inr (full-without_room queue sound no_room);
+        rising = subst (λ (xs : List (Request T)). IsRising 0 (tickets_of xs) (queue.next + 1)) (sym more) (IsRising-tickets-push (waiting queue) request queue.next refl sound.rising);
+        shut = λ closed. absurd (false≢true (sym draws.is_open ∙ closed));
+        drawn = omega (arith, draws.left);
+      }
+
+  -- one more ticket drawn
+  pub IsSound-drawn : (queue : QueueState T) (overflow : List (Request T)) → IsSound queue → Draws queue queue.next → overflow ≡ queue.overflow → IsSound (record queue { overflow = overflow; next = queue.next + 1 })
+  IsSound-drawn queue overflow sound draws is =
+      subst (λ (xs : List (Request T)). IsSound (record queue { overflow = xs; next = queue.next + 1 })) (sym is) (record {
+        some_places = sound.some_places;
+        within = sound.within;
+        full = sound.full;
+        rising = IsRising-higher 0 (tickets_of (waiting queue)) queue.next (queue.next + 1) (omega arith) sound.rising;
+        shut = sound.shut;
+        drawn = omega (arith, draws.left);
+      })
+
+  -- a request that finds no room, handled with no error
+  pub IsSound-handled : {E : Type 0} (answers : Request T → Bool → Type 0) (queue : QueueState T) (overflow : List (Request T)) (message : T) (r : Result Unit E)
+      → IsSound queue → Draws queue queue.next → (¬ HasRoom queue) → false ≡ is_err r → Handles answers queue.overflow (record { ticket = queue.next; message = message }) r overflow
+      → IsSound (record queue { overflow = overflow; next = queue.next + 1 })
+  IsSound-handled answers queue overflow message r sound draws no_room fine handles =
+      elim (handled-ok answers queue.overflow (record { ticket = queue.next; message = message }) r overflow fine handles) [
+        | inl dropped ↦ IsSound-drawn queue overflow sound draws dropped.1
+        | inr kept ↦ IsSound-overflow queue overflow message sound draws no_room kept.1
+      ]
+
+  -- who waits is not nobody where the ready list has a front
+  filled_not_nil : (queue : QueueState T) (request : Request T) (rest : List (Request T)) → queue.ready ≡ request ∷ rest → waiting queue ≡ [] → ⊥
+  filled_not_nil queue request rest is none =
+      let e : request ∷ (rest ++ queue.overflow) ≡ [] = ap (λ (xs : List (Request T)). xs ++ queue.overflow) (sym is) ∙ none in cc
+
+  -- without its front, and filled again
+  pub IsSound-refilled : (answers : Request T → Bool → Type 0) (queue : QueueState T) (request : Request T) (rest skipped left filled : List (Request T)) → IsSound queue → queue.ready ≡ request ∷ rest
+      → Drains answers (PutsWithin queue.size) rest queue.overflow skipped left filled → IsSound (record queue { ready = filled; overflow = left })
+  IsSound-refilled answers queue request rest skipped left filled sound is refills =
+      let fits = Refills-fits answers queue.size rest queue.overflow skipped left filled (omega (arith, ap length is, sound.within)) refills in
+      let rises = subst (λ (xs : List (Request T)). IsRising 0 (tickets_of (xs ++ queue.overflow)) queue.next) is sound.rising in
+      record {
+        some_places = sound.some_places;
+        within = fits.0;
+        full = fits.1;
+        rising = Refills-rising answers queue.size 0 queue.next rest queue.overflow skipped left filled (IsRising-lower 0 (request.ticket + 1) (tickets_of (rest ++ queue.overflow)) queue.next (omega arith) rises.1) refills;
+        shut = λ closed. absurd (filled_not_nil queue request rest is (sound.shut closed));
+        drawn = sound.drawn;
+      }
+
+  -- without its front, whose ticket is the lowest
+  pub IsSound-rest : (queue : QueueState T) (request : Request T) (rest ready : List (Request T)) → IsSound queue → queue.overflow ≡ [] → queue.ready ≡ request ∷ rest → ready ≡ rest → IsSound (record queue { ready = ready })
+  IsSound-rest queue request rest ready sound none is same =
+      let refilled : Drains (λ (r : Request T) (answer : Bool). ⊥) (PutsWithin queue.size) rest queue.overflow [] [] ready = subst (λ (xs : List (Request T)). Drains (λ (r : Request T) (answer : Bool). ⊥) (PutsWithin queue.size) rest xs [] [] ready) (sym none) (refl, refl, same) in
+      subst (λ (xs : List (Request T)). IsSound (record queue { ready = ready; overflow = xs })) (sym none) (IsSound-refilled (λ (r : Request T) (answer : Bool). ⊥) queue request rest [] [] ready sound is refilled)
+
+  -- no more wait than there are tickets
+  pub length-waiting : (queue : QueueState T) → IsSound queue → length queue.ready + length queue.overflow ≤ queue.next
+  length-waiting queue sound =
+      omega (arith, length-IsRising 0 (tickets_of (waiting queue)) queue.next sound.rising, length-tickets_of (waiting queue), length-append queue.ready queue.overflow)

@@ -1,0 +1,150 @@
+-- What the steps of a mailbox do with its tickets.
+use Rattle.std.proofs.Common.{◌≡◌, ℕ, ◌+◌, Bool, List, [], ◌∷◌, ◌++◌, length, Option, None, Some, Ok, Err, ap, inl, inr, arith, length-append}
+use Rattle.std.specs.List.{flat_map}
+use Rattle.commonware_broadcast.specs.declared.ingress.request.Request.{Request}
+use Rattle.commonware_broadcast.specs.declared.ingress.queued.Queued.TheVariants as queued
+use Rattle.commonware_broadcast.specs.declared.broadcaster.MailboxError.TheVariants.{Memory, Exhausted}
+use Rattle.commonware_broadcast.specs.Overflow.{Drains, PutsWithin}
+use Rattle.commonware_broadcast.specs.Queue.{QueueState, IsRising, Pops, tickets_of, waiting, with_ready, with_overflow}
+use Rattle.commonware_broadcast.specs.Mailbox.{MailboxState, empty_mailbox}
+use Rattle.commonware_broadcast.specs.Tickets.{Step, Enqueued, Took, StopRequested, GaveUp, times, handed_out_by, taken_by, skipped_by, given_up_by, ends, Moves, Runs, IsLawful}
+use Rattle.commonware_broadcast.proofs.Rising.{IsRising-append, length-tickets_of}
+use Rattle.commonware_broadcast.proofs.Refilling.{Pops-next}
+use Rattle.commonware_broadcast.proofs.TicketCounts.{times-append, times-Contains, times-none}
+
+module _ {T : Type 0} (ticket : ℕ) where
+  -- how often a ticket stands among requests
+  abbrev held : List (Request T) → ℕ
+  held requests = times ticket (tickets_of requests)
+
+  held-append : (xs ys : List (Request T)) → held (xs ++ ys) ≡ held xs + held ys
+  held-append [] ys = omega arith
+  held-append (x ∷ xs) ys = omega (arith, held-append xs ys)
+
+  -- refilling keeps each ticket
+  held-Refills : (answers : Request T → Bool → Type 0) (size : ℕ) (ready overflow skipped left filled : List (Request T)) → Drains answers (PutsWithin size) ready overflow skipped left filled → held filled + held left + held skipped ≡ held ready + held overflow
+  held-Refills answers size ready [] skipped left filled (none, nothing, same) = omega (arith, ap held same, ap held nothing, ap held none)
+  held-Refills answers size ready (x ∷ xs) skipped left filled (inl (closed, (others, is, d))) =
+      omega (arith, held-Refills answers size ready xs others left filled d, ap held is)
+  held-Refills answers size ready (x ∷ xs) skipped left filled (inr (inl (opened, (mid, (room, is), d)))) =
+      omega (arith, held-Refills answers size mid xs skipped left filled d, ap held is, held-append ready (x ∷ []))
+  held-Refills answers size ready (x ∷ xs) skipped left filled (inr (inr (opened, none, (back, (full, same, stays), is)))) =
+      omega (arith, ap held stays, ap held is, ap (λ (b : Request T). held (b ∷ xs)) same, ap held none)
+
+  -- a queue with one more request, in its ready list or in its overflow
+  held-ready : (queue : QueueState T) (message : T) → held (waiting (with_ready queue message)) ≡ held (waiting queue) + times ticket (queue.next ∷ [])
+  held-ready queue message =
+      let request : Request T = record { ticket = queue.next; message = message } in
+      omega (arith, held-append (queue.ready ++ request ∷ []) queue.overflow, held-append queue.ready (request ∷ []), held-append queue.ready queue.overflow)
+
+  held-overflow : (queue : QueueState T) (message : T) → held (waiting (with_overflow queue message)) ≡ held (waiting queue) + times ticket (queue.next ∷ [])
+  held-overflow queue message =
+      let request : Request T = record { ticket = queue.next; message = message } in
+      omega (arith, held-append queue.ready (queue.overflow ++ request ∷ []), held-append queue.overflow (request ∷ []), held-append queue.ready queue.overflow)
+
+module _ {T : Type 0} (answers : T → Bool → Type 0) where
+  -- one step keeps each ticket
+  times-Moves : (ticket : ℕ) (old : MailboxState T) (step : Step T) (new : MailboxState T) → Moves answers old step new
+      → held ticket (waiting old.queue) + times ticket (handed_out_by step) ≡ times ticket (taken_by step) + times ticket (skipped_by step) + held ticket (waiting new.queue) + times ticket (given_up_by step)
+  times-Moves ticket old (Enqueued message (Ok (queued.Ready k))) new ((draws, room, same), state) =
+      omega (arith, ap (λ (q : QueueState T). held ticket (waiting q)) same, held-ready ticket old.queue message, ap (λ (n : ℕ). times ticket (n ∷ [])) draws.next)
+  times-Moves ticket old (Enqueued message (Ok (queued.Overflow k))) new ((draws, no_room, opened, same), state) =
+      omega (arith, ap (λ (q : QueueState T). held ticket (waiting q)) same, held-overflow ticket old.queue message, ap (λ (n : ℕ). times ticket (n ∷ [])) draws.next)
+  times-Moves ticket old (Enqueued message (Ok (queued.Skipped k))) new ((draws, no_room, closed, same), state) =
+      omega (arith, ap (λ (q : QueueState T). held ticket (waiting q)) same)
+  times-Moves ticket old (Enqueued message (Ok queued.Closed)) new ((closed, same), state) =
+      omega (arith, ap (λ (q : QueueState T). held ticket (waiting q)) same)
+  times-Moves ticket old (Enqueued message (Err Memory)) new ((draws, lacks, same), state) =
+      omega (arith, ap (λ (q : QueueState T). held ticket (waiting q)) same)
+  times-Moves ticket old (Enqueued message (Err Exhausted)) new ((opened, last, same), state) =
+      omega (arith, ap (λ (q : QueueState T). held ticket (waiting q)) same)
+  times-Moves ticket old (Took None skipped) new ((nobody, none, same), state) =
+      omega (arith, ap (λ (q : QueueState T). held ticket (waiting q)) same, ap (held ticket) none)
+  times-Moves ticket old (Took (Some taken) skipped) new ((rest, front, refills, same), state) =
+      let moved = held-Refills ticket (λ (request : Request T) (answer : Bool). answers request.message answer) old.queue.size rest old.queue.overflow skipped new.queue.overflow new.queue.ready refills in
+      omega (arith, moved, ap (held ticket) front, held-append ticket old.queue.ready old.queue.overflow, held-append ticket new.queue.ready new.queue.overflow)
+  times-Moves ticket old StopRequested new same = omega (arith, ap (λ (s : MailboxState T). held ticket (waiting s.queue)) same)
+  times-Moves ticket old (GaveUp requests) new (all, (len, same)) =
+      omega (arith, ap (λ (s : MailboxState T). held ticket (waiting s.queue)) same, ap (held ticket) all)
+
+  rising-Took : (old : QueueState T) (result : Option (ℕ × T)) (skipped : List (Request T)) (new : QueueState T) → Pops answers old result skipped new → IsRising old.next (handed_out_by (Took result skipped)) new.next
+  rising-Took old None skipped new pops = omega (arith, Pops-next answers old None skipped new pops)
+  rising-Took old (Some taken) skipped new pops = omega (arith, Pops-next answers old (Some taken) skipped new pops)
+
+  -- one step hands out the next tickets
+  rising-Moves : (old : MailboxState T) (step : Step T) (new : MailboxState T) → Moves answers old step new → IsRising old.queue.next (handed_out_by step) new.queue.next
+  rising-Moves old (Enqueued message (Ok (queued.Ready k))) new ((draws, room, same), state) =
+      (omega (arith, draws.next), omega (arith, draws.next, ap (λ (q : QueueState T). q.next) same))
+  rising-Moves old (Enqueued message (Ok (queued.Overflow k))) new ((draws, no_room, opened, same), state) =
+      (omega (arith, draws.next), omega (arith, draws.next, ap (λ (q : QueueState T). q.next) same))
+  rising-Moves old (Enqueued message (Ok (queued.Skipped k))) new ((draws, no_room, closed, same), state) =
+      (omega (arith, draws.next), omega (arith, draws.next, ap (λ (q : QueueState T). q.next) same))
+  rising-Moves old (Enqueued message (Ok queued.Closed)) new ((closed, same), state) = omega (arith, ap (λ (q : QueueState T). q.next) same)
+  rising-Moves old (Enqueued message (Err Memory)) new ((draws, lacks, same), state) = omega (arith, ap (λ (q : QueueState T). q.next) same)
+  rising-Moves old (Enqueued message (Err Exhausted)) new ((opened, last, same), state) = omega (arith, ap (λ (q : QueueState T). q.next) same)
+  rising-Moves old (Took result skipped) new (pops, state) = rising-Took old.queue result skipped new.queue pops
+  rising-Moves old StopRequested new same = omega (arith, ap (λ (s : MailboxState T). s.queue.next) same)
+  rising-Moves old (GaveUp requests) new (all, (len, same)) = omega (arith, ap (λ (s : MailboxState T). s.queue.next) same)
+
+  -- one step counts what it takes, skips and gives up
+  counted-Moves : (old : MailboxState T) (step : Step T) (new : MailboxState T) → Moves answers old step new
+      → (new.taken ≡ old.taken + length (taken_by step)) × (new.skipped ≡ old.skipped + length (skipped_by step)) × (new.given_up ≡ old.given_up + length (given_up_by step))
+  counted-Moves old (Enqueued message (Ok (queued.Ready k))) new (step, same) =
+      (omega (arith, ap (λ (s : MailboxState T). s.taken) same), omega (arith, ap (λ (s : MailboxState T). s.skipped) same), omega (arith, ap (λ (s : MailboxState T). s.given_up) same))
+  counted-Moves old (Enqueued message (Ok (queued.Overflow k))) new (step, same) =
+      (omega (arith, ap (λ (s : MailboxState T). s.taken) same), omega (arith, ap (λ (s : MailboxState T). s.skipped) same), omega (arith, ap (λ (s : MailboxState T). s.given_up) same))
+  counted-Moves old (Enqueued message (Ok (queued.Skipped k))) new (step, same) =
+      (omega (arith, ap (λ (s : MailboxState T). s.taken) same), omega (arith, ap (λ (s : MailboxState T). s.skipped) same), omega (arith, ap (λ (s : MailboxState T). s.given_up) same))
+  counted-Moves old (Enqueued message (Ok queued.Closed)) new (step, same) =
+      (omega (arith, ap (λ (s : MailboxState T). s.taken) same), omega (arith, ap (λ (s : MailboxState T). s.skipped) same), omega (arith, ap (λ (s : MailboxState T). s.given_up) same))
+  counted-Moves old (Enqueued message (Err Memory)) new (step, same) =
+      (omega (arith, ap (λ (s : MailboxState T). s.taken) same), omega (arith, ap (λ (s : MailboxState T). s.skipped) same), omega (arith, ap (λ (s : MailboxState T). s.given_up) same))
+  counted-Moves old (Enqueued message (Err Exhausted)) new (step, same) =
+      (omega (arith, ap (λ (s : MailboxState T). s.taken) same), omega (arith, ap (λ (s : MailboxState T). s.skipped) same), omega (arith, ap (λ (s : MailboxState T). s.given_up) same))
+  counted-Moves old (Took None skipped) new (step, same) =
+      (omega (arith, ap (λ (s : MailboxState T). s.taken) same, length-tickets_of skipped), omega (arith, ap (λ (s : MailboxState T). s.skipped) same, length-tickets_of skipped), omega (arith, ap (λ (s : MailboxState T). s.given_up) same, length-tickets_of skipped))
+  counted-Moves old (Took (Some taken) skipped) new (step, same) =
+      (omega (arith, ap (λ (s : MailboxState T). s.taken) same, length-tickets_of skipped), omega (arith, ap (λ (s : MailboxState T). s.skipped) same, length-tickets_of skipped), omega (arith, ap (λ (s : MailboxState T). s.given_up) same, length-tickets_of skipped))
+  counted-Moves old StopRequested new same =
+      (omega (arith, ap (λ (s : MailboxState T). s.taken) same), omega (arith, ap (λ (s : MailboxState T). s.skipped) same), omega (arith, ap (λ (s : MailboxState T). s.given_up) same))
+  counted-Moves old (GaveUp requests) new (all, (len, same)) =
+      (omega (arith, ap (λ (s : MailboxState T). s.taken) same, length-tickets_of requests), omega (arith, ap (λ (s : MailboxState T). s.skipped) same, length-tickets_of requests), omega (arith, ap (λ (s : MailboxState T). s.given_up) same, length-tickets_of requests))
+
+  -- a run keeps each ticket
+  times-Runs : (ticket : ℕ) (old : MailboxState T) (steps : List (Step T)) (new : MailboxState T) → Runs answers old steps new → held ticket (waiting old.queue) + times ticket (flat_map handed_out_by steps) ≡ ends ticket steps new
+  times-Runs ticket old [] new same = omega (arith, ap (λ (s : MailboxState T). held ticket (waiting s.queue)) same)
+  times-Runs ticket old (step ∷ steps) new (mid, moves, runs) =
+      omega (arith, times-Moves ticket old step mid moves, times-Runs ticket mid steps new runs, times-append ticket (handed_out_by step) (flat_map handed_out_by steps), times-append ticket (taken_by step) (flat_map taken_by steps), times-append ticket (skipped_by step) (flat_map skipped_by steps), times-append ticket (given_up_by step) (flat_map given_up_by steps))
+
+  -- a run hands out the next tickets
+  rising-Runs : (old : MailboxState T) (steps : List (Step T)) (new : MailboxState T) → Runs answers old steps new → IsRising old.queue.next (flat_map handed_out_by steps) new.queue.next
+  rising-Runs old [] new same = omega (arith, ap (λ (s : MailboxState T). s.queue.next) same)
+  rising-Runs old (step ∷ steps) new (mid, moves, runs) =
+      IsRising-append old.queue.next (handed_out_by step) mid.queue.next (flat_map handed_out_by steps) new.queue.next (rising-Moves old step mid moves) (rising-Runs mid steps new runs)
+
+  -- a run counts what it takes, skips and gives up
+  counted-Runs : (old : MailboxState T) (steps : List (Step T)) (new : MailboxState T) → Runs answers old steps new
+      → (new.taken ≡ old.taken + length (flat_map taken_by steps)) × (new.skipped ≡ old.skipped + length (flat_map skipped_by steps)) × (new.given_up ≡ old.given_up + length (flat_map given_up_by steps))
+  counted-Runs old [] new same =
+      (omega (arith, ap (λ (s : MailboxState T). s.taken) same), omega (arith, ap (λ (s : MailboxState T). s.skipped) same), omega (arith, ap (λ (s : MailboxState T). s.given_up) same))
+  counted-Runs old (step ∷ steps) new (mid, moves, runs) =
+      let one = counted-Moves old step mid moves in
+      let others = counted-Runs mid steps new runs in (
+        omega (arith, one.0, others.0, length-append (taken_by step) (flat_map taken_by steps)),
+        omega (arith, one.1, others.1, length-append (skipped_by step) (flat_map skipped_by steps)),
+        omega (arith, one.2, others.2, length-append (given_up_by step) (flat_map given_up_by steps)),
+      )
+
+  -- what holds of every list of steps
+  pub IsLawful-Runs : (size : ℕ) (steps : List (Step T)) (last : MailboxState T) → Runs answers (empty_mailbox size) steps last → IsLawful steps last
+  IsLawful-Runs size steps last runs =
+      let rises = rising-Runs (empty_mailbox size) steps last runs in
+      let counted = counted-Runs (empty_mailbox size) steps last runs in
+      record {
+        rising = rises;
+        once = λ ticket given. omega (arith, times-Runs ticket (empty_mailbox size) steps last runs, times-Contains ticket 0 (flat_map handed_out_by steps) last.queue.next rises given);
+        others = λ ticket none. omega (arith, times-Runs ticket (empty_mailbox size) steps last runs, times-none ticket (flat_map handed_out_by steps) none);
+        taken = omega (arith, counted.0);
+        skipped = omega (arith, counted.1);
+        given_up = omega (arith, counted.2);
+      }

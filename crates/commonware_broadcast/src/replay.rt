@@ -1,0 +1,62 @@
+//! The program `replay`: it runs a file of events, and prints what each of them is answered.
+mod arguments;
+mod byte_list;
+mod events;
+mod fault;
+mod line;
+mod lines;
+mod report;
+mod words;
+
+use arguments::Settings;
+pub use arguments::read_arguments;
+use broadcast_core::run::run;
+use events::read_events;
+pub use fault::Fault;
+use report::{lists_of, write_report};
+use std::alloc::Global;
+use std::io::{BufWriter, Read, Write};
+
+/// How many bytes are read or written at once.
+const BUFFER_LEN: usize = 64 * 1024;
+
+/// Runs the events of the reader, and writes the answers to `out`, or the fault to `err`. Answers
+/// the exit status. The words are the arguments, without the program's name.
+pub fn play<R: Read + Drop, W: Write + Drop, E: Write + Drop>(
+    alloc: Global,
+    words: &[String],
+    reader: R,
+    out: W,
+    err: E,
+) -> u8 {
+    match replay(alloc, words, reader, out) {
+        Ok(()) => 0,
+        Err(fault) => fault.report(err),
+    }
+}
+
+fn replay<R: Read + Drop, W: Write + Drop>(
+    alloc: Global,
+    words: &[String],
+    reader: R,
+    out: W,
+) -> Result<(), Fault> {
+    let settings = Settings::parse(words).ok_or(Fault::Usage)?;
+    let events = read_events(alloc, reader)?;
+    let Settings {
+        own,
+        deque_size,
+        range,
+    } = settings;
+    let run = run(alloc, own, deque_size, false, &range, events)?;
+    // All that needs memory comes before the first line, so that want of it prints nothing.
+    let lists = lists_of(alloc, &run.core)?;
+    let Ok(mut out) = BufWriter::with_capacity(alloc, BUFFER_LEN, out) else {
+        return Err(Fault::Memory);
+    };
+    let written = write_report(&mut out, &run, &lists);
+    if written.is_err() || out.flush().is_err() {
+        return Err(Fault::Write);
+    }
+    Ok(())
+}

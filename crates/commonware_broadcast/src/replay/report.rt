@@ -1,0 +1,148 @@
+//! What the program prints.
+use super::byte_list::write_byte_list;
+use broadcast_core::buffer::Core;
+use broadcast_core::codec::CodecError;
+use broadcast_core::event::{Answer, Cause, Run, Sent};
+use broadcast_core::mocks::TestMessage;
+use broadcast_core::ordered::Recipients;
+use broadcast_core::outcome::Outcome;
+use std::alloc::{AllocError, Global};
+use std::io::{self, Write};
+
+/// The digests of a peer, the newest first.
+#[derive(Drop)]
+pub struct PeerList {
+    peer: u64,
+    digests: Vec<[u8; 32]>,
+}
+
+/// The lists that are not empty, in rising order of their keys.
+pub fn lists_of(
+    alloc: Global,
+    core: &Core<u64, TestMessage, u64>,
+) -> Result<Vec<PeerList>, AllocError> {
+    let mut lists = Vec::new(alloc);
+    // Only primary peers have lists.
+    let primary = core.primary();
+    for i in 0..primary.len() {
+        if let Some(peer) = primary.get(i) {
+            let digests = core.list(alloc, peer)?;
+            if !digests.is_empty() {
+                lists.push(PeerList {
+                    peer: *peer,
+                    digests,
+                })?;
+            }
+        }
+    }
+    Ok(lists)
+}
+
+/// Writes the answers and the closing report.
+pub fn write_report<W: Write>(
+    out: &mut W,
+    run: &Run<u64, TestMessage>,
+    lists: &[PeerList],
+) -> io::Result<()> {
+    for answer in run.answers.as_slice() {
+        write_answer(out, answer)?;
+    }
+    for list in lists {
+        write_list(out, &run.core, list)?;
+    }
+    writeln!(out, "cached {}", run.core.cached_len())?;
+    writeln!(out, "awaited {}", run.core.awaited())?;
+    for sent in run.sent.as_slice() {
+        write_sent(out, sent)?;
+    }
+    Ok(())
+}
+
+fn write_answer<W: Write>(out: &mut W, answer: &Answer<TestMessage>) -> io::Result<()> {
+    match answer {
+        Answer::Peers => writeln!(out, "ok"),
+        Answer::Taken {
+            outcome,
+            served,
+            message: _,
+        } => write_taken(out, *outcome, served.as_slice()),
+        Answer::Invalid(refusal) => write_invalid(out, *refusal),
+        Answer::Waiting => writeln!(out, "waiting"),
+        Answer::Answered(message) => write_message(out, "answered", message.inner()),
+        Answer::Got(Some(message)) => write_message(out, "found", message.inner()),
+        Answer::Got(None) => writeln!(out, "none"),
+        Answer::Removed(count) => writeln!(out, "removed {count}"),
+        Answer::Refused(Cause::Memory) => writeln!(out, "refused memory"),
+        Answer::Refused(Cause::Unencodable) => writeln!(out, "refused unencodable"),
+    }
+}
+
+fn write_taken<W: Write>(out: &mut W, outcome: Outcome, served: &[u64]) -> io::Result<()> {
+    match outcome {
+        Outcome::Inserted => write!(out, "inserted")?,
+        Outcome::Duplicate => write!(out, "duplicate")?,
+        Outcome::Ineligible => write!(out, "ineligible")?,
+    }
+    for ticket in served {
+        write!(out, " {ticket}")?;
+    }
+    writeln!(out)
+}
+
+fn write_invalid<W: Write>(out: &mut W, refusal: CodecError) -> io::Result<()> {
+    match refusal {
+        CodecError::EndOfBuffer => writeln!(out, "invalid EndOfBuffer"),
+        CodecError::InvalidLength(length) => writeln!(out, "invalid InvalidLength {length}"),
+        CodecError::ExtraData(count) => writeln!(out, "invalid ExtraData {count}"),
+        CodecError::Unencodable => writeln!(out, "invalid Unencodable"),
+        CodecError::Memory => writeln!(out, "invalid Memory"),
+    }
+}
+
+fn write_message<W: Write>(out: &mut W, what: &str, message: &TestMessage) -> io::Result<()> {
+    write!(out, "{what} ")?;
+    write_byte_list(out, &message.commitment)?;
+    write!(out, " ")?;
+    write_byte_list(out, &message.content)?;
+    writeln!(out)
+}
+
+fn write_list<W: Write>(
+    out: &mut W,
+    core: &Core<u64, TestMessage, u64>,
+    list: &PeerList,
+) -> io::Result<()> {
+    let peer = list.peer;
+    write!(out, "list {peer}")?;
+    for digest in &list.digests {
+        // Each listed digest is cached.
+        if let Some(message) = core.get(digest) {
+            write!(out, " ")?;
+            write_byte_list(out, &message.inner().content)?;
+        }
+    }
+    writeln!(out)
+}
+
+fn write_sent<W: Write>(out: &mut W, sent: &Sent<u64>) -> io::Result<()> {
+    write!(out, "sent ")?;
+    match &sent.recipients {
+        Recipients::All => write!(out, "all")?,
+        Recipients::One(key) => write!(out, "{key}")?,
+        Recipients::Some(keys) => write_keys(out, keys.as_slice())?,
+    }
+    write!(out, " ")?;
+    write_byte_list(out, sent.bytes.as_slice())?;
+    writeln!(out)
+}
+
+/// Writes the keys with commas between.
+fn write_keys<W: Write>(out: &mut W, keys: &[u64]) -> io::Result<()> {
+    for (i, key) in keys.iter().enumerate() {
+        if i > 0 {
+            write!(out, ",")?;
+        }
+        write!(out, "{key}")?;
+    }
+    Ok(())
+}

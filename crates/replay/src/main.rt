@@ -1,0 +1,13 @@
+//! Runs a file of events from standard input, as `replay OWN SIZE [MAX]`.
+#![tactic(auto)]
+
+use commonware_broadcast::replay::{play, read_arguments};
+use std::process::ExitCode;
+
+fn main(rt: HostRuntime) -> ExitCode {
+    let status = match read_arguments(&rt) {
+        Ok(words) => play(rt.alloc(), &words, rt.stdin(), rt.stdout(), rt.stderr()),
+        Err(fault) => fault.report(rt.stderr()),
+    };
+    ExitCode::from(status)
+}
