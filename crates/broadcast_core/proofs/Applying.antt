@@ -103,8 +103,8 @@ module _ {P M D : Type 0} (s : Setting P M D) (key_laws : IsEquivalence s.same.k
   Applies-waiting k d new none awaits =
       let same_message = message-other s d (Subscribe k d) past refl refl in
       let nowhere : is_listed s d (Subscribe k d ∷ past) ≡ false = by_test (is_listed s d (Subscribe k d ∷ past))
-          (λ t. absurd (let some = held d (Subscribe k d ∷ past) t in let nothing = same_message ∙ sym (has.cached d) ∙ none in let is = sym (ap is_some nothing) ∙ some in cc))
-          (λ t. t) in
+      (λ t. absurd (let some = held d (Subscribe k d ∷ past) t in let nothing = same_message ∙ sym (has.cached d) ∙ none in let is = sym (ap is_some nothing) ∙ some in cc))
+      (λ t. t) in
       record {
         answered = inl (sym (rw (same_message, ← has.cached d, none) refl));
         content = HasContent-store s (Subscribe k d ∷ past) new (HasStore-other s (Subscribe k d) past old new (HasStore-content s past old has) awaits.store refl refl)

@@ -227,7 +227,7 @@ module _ {P M D : Type 0} (same : Same P D) (peers : List P) (seen rest all : Li
   enough-next d =
       let w = λ (e : P × List D). one_if (among same.digest d e.1) in
       let whole : deques_with same d all ≡ sum_by w seen + (w x + sum_by w rest) =
-          sum_by-values (λ ds. one_if (among same.digest d ds)) all ∙ ap (sum_by w) (sym is) ∙ sum_by-append w seen (x ∷ rest) ∙ ap (λ n. sum_by w seen + n) (sum_by-cons w x rest) in
+      sum_by-values (λ ds. one_if (among same.digest d ds)) all ∙ ap (sum_by w) (sym is) ∙ sum_by-append w seen (x ∷ rest) ∙ ap (λ n. sum_by w seen + n) (sum_by-cons w x rest) in
       let less = sum_by-le-sum_by (λ e. cond (list_any (same.key e.0) peers) 0 (one_if (among same.digest d e.1))) w seen (weight-le d) in
       omega (arith, first.counted d, was.counted d, whole, less)
 

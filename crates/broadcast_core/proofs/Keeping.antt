@@ -30,11 +30,11 @@ module _ {P D : Type 0} (same : Same P D) (peers : List P) where
   deques_with-kept d (e ∷ es) =
       by_test (stays e)
       (λ h. let none : unless_kept d e ≡ 0 = rw h refl in
-          let kept : filter stays (e ∷ es) ≡ e ∷ filter stays es = rw h refl in
-          rw kept (omega (arith, sum_by-cons (here d) e.1 (values_of (filter stays es)), sum_by-cons (here d) e.1 (values_of es), sum_by-cons (unless_kept d) e es, deques_with-kept d es, none)))
+      let kept : filter stays (e ∷ es) ≡ e ∷ filter stays es = rw h refl in
+      rw kept (omega (arith, sum_by-cons (here d) e.1 (values_of (filter stays es)), sum_by-cons (here d) e.1 (values_of es), sum_by-cons (unless_kept d) e es, deques_with-kept d es, none)))
       (λ h. let one : unless_kept d e ≡ one_if (among same.digest d e.1) = rw h refl in
-          let skipped : filter stays (e ∷ es) ≡ filter stays es = rw h refl in
-          rw skipped (omega (arith, sum_by-cons (here d) e.1 (values_of es), sum_by-cons (unless_kept d) e es, deques_with-kept d es, one)))
+      let skipped : filter stays (e ∷ es) ≡ filter stays es = rw h refl in
+      rw skipped (omega (arith, sum_by-cons (here d) e.1 (values_of es), sum_by-cons (unless_kept d) e es, deques_with-kept d es, one)))
 
   module _ (laws : IsEquivalence same.key) where
     pub lookup-kept : (q : P) (lists : List (P × List D)) → lookup (same.key q) (filter stays lists) ≡ cond (list_any (same.key q) peers) (lookup (same.key q) lists) None

@@ -35,8 +35,8 @@ module _ {P D : Type 0} (same : Same P D) (laws : IsEquivalence same.key) where
   holder-later : (d : D) (e : P × List D) (es : List (P × List D)) → IsDistinct same.key (keys_of (e ∷ es)) → HasHolder d es → HasHolder d (e ∷ es)
   holder-later d e es distinct r =
       let apart : same.key r.key e.0 ≡ false = by_test (same.key r.key e.0)
-          (λ t. absurd (let none : is_some (lookup (same.key r.key) es) ≡ false = ap is_some (lookup-none (same.key r.key) es (none_past_head laws r.key e es distinct t)) in let some = r.there in cc))
-          (λ t. t) in
+      (λ t. absurd (let none : is_some (lookup (same.key r.key) es) ≡ false = ap is_some (lookup-none (same.key r.key) es (none_past_head laws r.key e es distinct t)) in let some = r.there in cc))
+      (λ t. t) in
       record { key = r.key; there = rw apart r.there; listed = rw apart r.listed }
 
   holder : (d : D) (lists : List (P × List D)) → IsDistinct same.key (keys_of lists) → is_stored same d lists ≡ true → HasHolder d lists
@@ -51,7 +51,7 @@ module _ {P D : Type 0} (same : Same P D) (laws : IsEquivalence same.key) where
   on-primary p d lists (q ∷ qs) h there = by_test (same.key p q)
       (λ t. let here : among same.digest d (items_at same.key q lists) ≡ true = rw (lookup-equal laws p q lists t) h in rw here refl)
       (λ t. let rest : list_any (same.key p) qs ≡ true = sym (ap (λ b. b || list_any (same.key p) qs) t) ∙ there in
-          ap (λ b. among same.digest d (items_at same.key q lists) || b) (on-primary p d lists qs h rest) ∙ or_right (among same.digest d (items_at same.key q lists)))
+      ap (λ b. among same.digest d (items_at same.key q lists) || b) (on-primary p d lists qs h rest) ∙ or_right (among same.digest d (items_at same.key q lists)))
 
   from-primary : (d : D) (lists : List (P × List D)) (primary : List P) → list_any (λ q. among same.digest d (items_at same.key q lists)) primary ≡ true → is_stored same d lists ≡ true
   from-primary d lists [] h = absurd cc
@@ -87,8 +87,8 @@ module _ {P M D : Type 0} (same : Same P D) (key_laws : IsEquivalence same.key) 
         distinct = stores.put.distinct;
         messages = λ d. by_test (is_stored same d new.lists)
             (λ h. by_test (is_stored same d old.lists)
-              (λ k. rw (stores.messages d, h, k) (core.messages d ∙ k))
-              (λ k. rw (stores.messages d, h, k) refl))
+            (λ k. rw (stores.messages d, h, k) (core.messages d ∙ k))
+            (λ k. rw (stores.messages d, h, k) refl))
             (λ h. rw (stores.messages d, h) refl);
       }
 
@@ -123,8 +123,8 @@ module _ {P M D : Type 0} (same : Same P D) (key_laws : IsEquivalence same.key) 
     was_stored d h =
         let r = holder same key_laws d new.lists keeps.distinct h in
         stored-at same r.key d old.lists (by_test (list_any (same.key r.key) peers)
-            (λ t. let is : items_at same.key r.key new.lists ≡ items_at same.key r.key old.lists = keeps.lists r.key ∙ rw t refl in sym (ap (among same.digest d) is) ∙ r.listed)
-            (λ t. let is : items_at same.key r.key new.lists ≡ [] = keeps.lists r.key ∙ rw t refl in absurd (let none : false ≡ true = sym (ap (among same.digest d) is) ∙ r.listed in cc)))
+        (λ t. let is : items_at same.key r.key new.lists ≡ items_at same.key r.key old.lists = keeps.lists r.key ∙ rw t refl in sym (ap (among same.digest d) is) ∙ r.listed)
+        (λ t. let is : items_at same.key r.key new.lists ≡ [] = keeps.lists r.key ∙ rw t refl in absurd (let none : false ≡ true = sym (ap (among same.digest d) is) ∙ r.listed in cc)))
 
     pub IsCore-kept : IsCore same size peers new
     IsCore-kept = record {

@@ -43,8 +43,13 @@ impl<P: PublicKey, M: Digestible, W> Model for Core<P, M, W> {
     ghost Value = { Content P M M.Digest W };
 
     ghost view = { λ it. record {
-        own = it.own; deque_size = it.deque_size; primary = it.primary;
-        lists = it.cache.lists; cached = it.cache.messages; waiters = it.waiters } };
+      own = it.own;
+      deque_size = it.deque_size;
+      primary = it.primary;
+      lists = it.cache.lists;
+      cached = it.cache.messages;
+      waiters = it.waiters;
+    } };
 
     ghost invariant = { λ it. IsCore (same_by P.cmp M.Digest.cmp) it.deque_size it.primary it.cache };
 }

@@ -20,7 +20,7 @@ use std::alloc::{AllocError, Global};
 
 /// Runs the events in order, from an empty core of this own key.
 ///
-/// Places for the answers and for what is sent are reserved first: after an `Err` nothing was run.
+/// `Err` is want of memory for the answers or for what is sent: nothing comes of the run then.
 /// An event that is answered `Refused` changes nothing and is sent to nobody.
 pub fn run<P: PublicKey, M: Digestible + Codec>(
     alloc: Global,

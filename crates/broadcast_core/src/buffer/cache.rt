@@ -9,7 +9,7 @@ ghost use Rattle.broadcast_core.specs.Content.{same_by, among, items_at};
 
 use crate::buffer::cached::Cached;
 use crate::buffer::deque::Deque;
-use crate::buffer::{counting, deques, items};
+use crate::buffer::{counting, deques};
 use crate::digested::{Digested, Digestible};
 use crate::ordered::PublicKey;
 use std::alloc::{AllocError, Global};

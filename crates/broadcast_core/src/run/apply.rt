@@ -7,6 +7,7 @@ ghost use Rattle.broadcast_core.specs.Follows.{Follows};
 ghost use Rattle.broadcast_core.specs.History.{Setting};
 ghost use Rattle.broadcast_core.specs.declared.event.Event.TheVariants as event;
 ghost use Rattle.broadcast_core.specs.declared.event.Answer.TheVariants as answer;
+
 use crate::buffer::Core;
 use crate::codec::{Codec, CodecError, decode_cfg};
 use crate::digested::{Digested, Digestible};
@@ -25,8 +26,14 @@ pub fn apply<P: PublicKey, M: Digestible + Codec>(
     event: Event<P, M>,
 ) -> (Answer<M>, Option<Sent<P>>)
     ensures { let s : Setting P M M.Digest = record {
-        own = core.old.own; deque_size = core.old.deque_size; priority = priority; same = same_by P.cmp M.Digest.cmp;
-        digest_of = M.digest_of; encoding = M.encoding; reading = whole (M.reading cfg.now) } in
+      own = core.old.own;
+      deque_size = core.old.deque_size;
+      priority = priority;
+      same = same_by P.cmp M.Digest.cmp;
+      digest_of = M.digest_of;
+      encoding = M.encoding;
+      reading = whole (M.reading cfg.now);
+    } in
         Follows s usize.MAX event core.old core.new result.0 (option_to_list result.1) }
 {
     match event {

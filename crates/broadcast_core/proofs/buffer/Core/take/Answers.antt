@@ -10,4 +10,4 @@ returns-clause-ok g c =
     let laws = eq_by_cmp_equiv (g.met.P.Ord g.world.𝓛 g.world.𝓜 g.world.𝓡 (λ s x. x, λ x. x, λ x. x, λ x. x)).total in
     let waits = rw c.digest.ensures at c.take-served.ensures.left in
     rw (← c.self.view_is) (Takes-taken same laws c.self.inside.deque_size c.args.peer.now c.args.message.now c.self.inside.primary c.self.inside.cache c.store.new.cache c.self.invariant
-        c.self.inside.own _ refl c.in_ok-outcome.ensures.ok c.self.inside.waiters c.take-served.new.self waits)
+    c.self.inside.own _ refl c.in_ok-outcome.ensures.ok c.self.inside.waiters c.take-served.new.self waits)

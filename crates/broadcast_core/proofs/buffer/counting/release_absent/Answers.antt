@@ -18,8 +18,8 @@ loop-peer-init g c = record {
 pub release_all-requires-clause-counted : goal.release_all-requires-clause-counted
 release_all-requires-clause-counted g c = λ κs k.
     enough-next (same_by g.P.Ord.cmp g.M.Digest.Ord.cmp) c.args.peers.now (map deref_pair c.loop-peer.yielded) c.next.new.self c.args.by_peer.now.entries (c.in-Some.peer.now, c.in-Some.deque.now)
-        c.args.by_digest.now.entries c.loop-peer.by_digest.entries (ap (λ r. map deref_pair c.loop-peer.yielded ++ r) (sym c.in-Some.ensures.steps) ∙ c.loop-peer.invariant.rest)
-        c.requires.counted c.loop-peer.invariant.released
+    c.args.by_digest.now.entries c.loop-peer.by_digest.entries (ap (λ r. map deref_pair c.loop-peer.yielded ++ r) (sym c.in-Some.ensures.steps) ∙ c.loop-peer.invariant.rest)
+    c.requires.counted c.loop-peer.invariant.released
 
 pub loop-peer-preserved-then-not-is_among : goal.loop-peer-preserved-then-not-is_among
 loop-peer-preserved-then-not-is_among g c =

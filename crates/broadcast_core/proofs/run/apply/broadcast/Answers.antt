@@ -25,5 +25,5 @@ returns-in-Ok-take_own g c = λ s e pr enc past short has.
     let outcome = subst (λ m'. c.in-Ok-take_own.taken.outcome ≡ outcome_at m' c.args.core.now s.own m.digest) (sym e) (subst (λ o. c.in-Ok-take_own.taken.outcome ≡ outcome_at (same_by g.P.Ord.cmp g.M.Digest.Ord.cmp) c.args.core.now o m.digest) has.own r.outcome) in
     let served = subst (λ m'. c.in-Ok-take_own.taken.served ≡ waiting_at m' c.args.core.now m.digest) (sym e) r.served in
     let applies = Applies-taken s key_laws laws past c.args.core.now has event (record { key = s.own; carried = m }) c.take_own.new.self c.in-Ok-take_own.taken.outcome c.in-Ok-take_own.taken.served
-        refl (rw spelled refl) takes outcome served in
+    refl (rw spelled refl) takes outcome served in
     rw (← pr, c.from_vec.ensures) (subst (λ xs. Applies s past event c.take_own.new.self (Taken c.in-Ok-take_own.taken.outcome c.in-Ok-take_own.taken.served m) xs) (rw spelled refl) applies)
