@@ -1,5 +1,5 @@
 //! What a node keeps of its peers, and who waits.
-ghost use Rattle.std.specs.Prelude.{◌≡◌, ◌≤◌, true, false, [], length, is_some, if◌then◌else◌, IfOk, OnOk, OnErr, IfErr, IsOk, MatchBool};
+ghost use Rattle.std.specs.Prelude.{◌≡◌, ◌≤◌, true, false, [], length, is_some, if◌then◌else◌, IfOk, IfSome, OnOk, OnErr, IfErr, IsOk, MatchBool};
 ghost use Rattle.std.specs.List.{list_any, IsDistinct};
 ghost use Rattle.std.specs.Map.{lookup, keys_of};
 ghost use Rattle.std.specs.Option.{option_copied};
@@ -125,6 +125,7 @@ impl<P: PublicKey, M: Digestible, W: Drop> Core<P, M, W> {
     /// The cached message of the digest. Takes no memory.
     pub fn get(&self, digest: &M::Digest) -> Option<&Digested<M>>
         ensures message { option_copied result ≡ message_at (same_by P.cmp M.Digest.cmp) self.now digest.now }
+        ensures named { IfSome result (λ message. eq_by_cmp M.Digest.cmp digest.now message.now.digest ≡ true) }
         ensures listed { let same = same_by P.cmp M.Digest.cmp in
             is_some (message_at same self.now digest.now) ≡ is_on_list same self.now digest.now }
     {

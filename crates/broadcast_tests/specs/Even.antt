@@ -1,5 +1,5 @@
 -- Even numbers as bytes.
-use Rattle.std.proofs.Common.{◌≡◌, ℕ, ◌%◌, ◌≤◌, if◌then◌else◌, ◌==◌, List, [], ◌∷◌, length, Option, Some, None, Result, Ok, Err, ap, subst, arith}
+use Rattle.std.proofs.Common.{◌≡◌, ℕ, ◌%◌, ◌≤◌, if◌then◌else◌, ◌==◌, Bool, true, false, List, [], ◌∷◌, ◌++◌, length, Option, Some, None, Result, Ok, Err, sym, ap, ◌∙◌, subst, arith}
 use Rattle.broadcast_core.specs.Codec.{IsRefusal}
 use Rattle.broadcast_core.specs.CodecLaws.{ok_is}
 use Rattle.broadcast_core.specs.declared.codec.CodecError.{CodecError}
@@ -22,3 +22,14 @@ even_within (number ∷ rest) v n e = let one = ap (λ (r : Even × ℕ). r.1) (
 pub even_refusals : (bytes : List ℕ) (e : CodecError) → even_at bytes ≡ Err e → IsRefusal e
 even_refusals [] e h = let same : EndOfBuffer ≡ e = cc in subst IsRefusal same tt
 even_refusals (number ∷ rest) e h = absurd cc
+
+-- an encoding is the number alone
+even_spelled : (v : Even) (b : Bool) (encoded : List ℕ) → (if b then Some (v.0 ∷ []) else None) ≡ Some encoded → encoded ≡ v.0 ∷ []
+even_spelled v true encoded e = cc
+even_spelled v false encoded e = absurd cc
+
+pub even_reads_back : (v w : Even) (encoded rest : List ℕ) (n : ℕ) → encoding_of v ≡ Some encoded → even_at (encoded ++ rest) ≡ Ok (w, n) → (w ≡ v) × (n ≡ length encoded)
+even_reads_back v w encoded rest n spelled read =
+    let is = even_spelled v (v.0 % 2 == 0) encoded spelled in
+    let both = ok_is (record { 0 = v.0 }, 1) (w, n) (subst (λ bytes. even_at (bytes ++ rest) ≡ Ok (w, n)) is read) in
+    (ap (λ (r : Even × ℕ). r.0) (sym both), ap (λ (r : Even × ℕ). r.1) (sym both) ∙ ap length (sym is))

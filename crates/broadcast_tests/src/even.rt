@@ -1,7 +1,8 @@
 //! A message that has no encoding for some values.
-ghost use Rattle.broadcast_tests.specs.Even.{encoding_of, even_at, even_within, even_refusals};
+ghost use Rattle.broadcast_tests.specs.Even.{encoding_of, even_at, even_within, even_refusals, even_reads_back};
 
-use broadcast_core::codec::{CodecError, EncodeSize, Read, Write};
+use broadcast_core::codec::{Codec, CodecError, EncodeSize, Read, Write};
+use broadcast_core::digested::Digestible;
 use std::alloc::Global;
 
 /// A number that is written as one byte where it is even, and has no encoding where it is odd.
@@ -50,4 +51,18 @@ impl Read for Even {
     ghost within = { λ _. even_within };
 
     ghost refusals = { λ _. even_refusals };
+}
+
+impl Codec for Even {
+    ghost reads_back = { λ _. even_reads_back };
+}
+
+impl Digestible for Even {
+    type Digest = u8;
+
+    ghost digest_of = { λ even. even.0 };
+
+    fn digest(&self) -> u8 {
+        self.0
+    }
 }

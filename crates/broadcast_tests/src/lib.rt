@@ -12,3 +12,5 @@ mod mailbox;
 mod ordered_calls;
 #[cfg(test)]
 mod replay_rows;
+#[cfg(test)]
+mod sends;

@@ -1,5 +1,5 @@
 //! What a node keeps of its peers: their deques, and each listed message once.
-ghost use Rattle.std.specs.Prelude.{◌≡◌, ◌≤◌, false, true, not, length, [], IfOk, OnOk, OnErr, IsOk, is_ok};
+ghost use Rattle.std.specs.Prelude.{◌≡◌, ◌≤◌, false, true, not, length, [], IfOk, IfSome, OnOk, OnErr, IsOk, is_ok};
 ghost use Rattle.std.specs.Option.{option_copied};
 ghost use Rattle.std.specs.List.{IsDistinct};
 ghost use Rattle.std.specs.List.Sorted.{IsStrictlySortedBy};
@@ -52,7 +52,8 @@ impl<P: PublicKey, M: Digestible> Cache<P, M> {
 
     /// The digest's message.
     pub fn get(&self, digest: &M::Digest) -> Option<&Digested<M>>
-        ensures { option_copied result ≡ lookup (eq_by_cmp M.Digest.cmp digest.now) self.now.messages }
+        ensures message { option_copied result ≡ lookup (eq_by_cmp M.Digest.cmp digest.now) self.now.messages }
+        ensures named { IfSome result (λ message. eq_by_cmp M.Digest.cmp digest.now message.now.digest ≡ true) }
     {
         match self.items.get(digest) {
             Some(item) => Some(item.message()),
