@@ -1,5 +1,4 @@
 //! How callers reach a node: requests, the queue that they wait in, and the mailbox over it.
-pub mod closable;
 pub mod get;
 pub mod inbox;
 pub mod laws;

@@ -1,7 +1,7 @@
 //! What callers of a mailbox get.
 use super::note::{Ask, Kind, Note, kind_of};
 use broadcast_core::digested::Digested;
-use commonware_broadcast::ingress::closable::Closable;
+use broadcast_core::requests::Closable;
 use commonware_broadcast::ingress::inbox::Inbox;
 use commonware_broadcast::ingress::mailbox::{Mailbox, SharedInbox};
 use commonware_broadcast::ingress::message::Message;

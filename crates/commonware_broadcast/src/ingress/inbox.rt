@@ -9,7 +9,7 @@ ghost use Rattle.commonware_broadcast.specs.Mailbox.{Enqueues, Takes, RequestsSt
 mod tests;
 
 use crate::broadcaster::MailboxError;
-use crate::ingress::closable::Closable;
+use broadcast_core::requests::Closable;
 use crate::ingress::queue::Queue;
 use crate::ingress::queued::{Counts, Queued};
 use std::alloc::Global;

@@ -3,7 +3,7 @@ ghost use Rattle.std.specs.Prelude.{ℕ, List};
 ghost use Rattle.commonware_broadcast.specs.Mailbox.{MailboxState, empty_mailbox};
 ghost use Rattle.commonware_broadcast.specs.Tickets.{Step, Runs, IsLawful};
 
-use crate::ingress::closable::Closable;
+use broadcast_core::requests::Closable;
 
 /// Every ticket ends once: over any list of calls of a mailbox that begins empty, the tickets that
 /// are handed out rise, and each of them is taken, skipped, waiting or given up, exactly one of

@@ -2,7 +2,7 @@
 ghost use Rattle.std.specs.Prelude.{◌≡◌, IfOk};
 
 use crate::broadcaster::{Broadcaster, Feedback, MailboxError};
-use crate::ingress::closable::Closable;
+use broadcast_core::requests::Closable;
 use crate::ingress::get::Get;
 use crate::ingress::inbox::Inbox;
 use crate::ingress::message::Message;

@@ -1,5 +1,5 @@
 //! What a node may be asked.
-use crate::ingress::closable::Closable;
+use broadcast_core::requests::Closable;
 use crate::ingress::overflow::Policy;
 use crate::ingress::pending::Pending;
 use crate::ingress::reply::Reply;

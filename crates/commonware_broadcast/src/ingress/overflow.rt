@@ -2,7 +2,7 @@
 ghost use Rattle.std.specs.Prelude.{◌≡◌, ◌↔◌, IsTrue, List, []};
 ghost use Rattle.commonware_broadcast.specs.Overflow.{Handles, Drains};
 
-use crate::ingress::closable::Closable;
+use broadcast_core::requests::Closable;
 use std::alloc::AllocError;
 
 /// What takes messages that find no room.

@@ -3,7 +3,7 @@ ghost use Rattle.std.specs.Prelude.{◌≡◌, ◌+◌, ◌^◌, ◌<◌, ◌≤
 ghost use Rattle.std.specs.VecDeque.{deque_capacity, deque_len};
 ghost use Rattle.commonware_broadcast.specs.Overflow.{Handles, Drains, PutsWithin};
 
-use crate::ingress::closable::Closable;
+use broadcast_core::requests::Closable;
 use crate::ingress::overflow::Overflow;
 use crate::ingress::refill::refill_front;
 use std::alloc::{AllocError, Global};

@@ -5,7 +5,7 @@ ghost use Rattle.commonware_broadcast.specs.declared.ingress.request.Request.{Re
 ghost use Rattle.commonware_broadcast.specs.Queue.{Pushes, Pops, Draws, HasRoom, IsSound, last_ticket, empty_queue, shut_down, waiting};
 
 use crate::broadcaster::MailboxError;
-use crate::ingress::closable::Closable;
+use broadcast_core::requests::Closable;
 use crate::ingress::overflow::{Overflow, Policy};
 use crate::ingress::pending::Pending;
 use crate::ingress::queued::Queued;

@@ -3,7 +3,7 @@ ghost use Rattle.std.specs.Prelude.{◌≡◌, ◌≤◌, List, length};
 ghost use Rattle.std.specs.VecDeque.{deque_capacity};
 ghost use Rattle.commonware_broadcast.specs.Overflow.{Drains, PutsWithin};
 
-use crate::ingress::closable::Closable;
+use broadcast_core::requests::Closable;
 use std::collections::VecDeque;
 
 /// Moves messages to the end of the ready list while it has fewer than `size`, the oldest first,

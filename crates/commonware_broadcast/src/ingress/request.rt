@@ -1,7 +1,7 @@
 //! A message that has drawn its ticket.
 ghost use Rattle.std.specs.Prelude.{◌≡◌};
 
-use crate::ingress::closable::Closable;
+use broadcast_core::requests::Closable;
 use crate::ingress::overflow::Policy;
 use crate::ingress::pending::Pending;
 use std::alloc::AllocError;

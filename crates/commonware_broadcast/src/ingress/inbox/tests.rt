@@ -3,7 +3,7 @@ ghost use Rattle.std.specs.Prelude.{◌≡◌};
 
 use super::Inbox;
 use crate::broadcaster::MailboxError;
-use crate::ingress::closable::Closable;
+use broadcast_core::requests::Closable;
 use crate::ingress::queued::{Counts, Queued};
 use std::test::Fail;
 
