@@ -11,6 +11,7 @@ pub mod Keeping
 pub mod WaitersLemmas
 pub mod Taking
 pub mod Listing
+pub mod Concerning
 pub mod Following
 pub mod Waits
 pub mod WaitsAfter

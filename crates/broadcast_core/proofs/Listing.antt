@@ -80,7 +80,7 @@ module _ {P M D : Type 0} (s : Setting P M D) where
   pub payload-none : (p : P) (b : List ℕ) (why : CodecError) → s.reading b ≡ Err why → taken s (Payload p b) ≡ None
   payload-none p b why h = rw h refl
 
-  since-empty : (p : P) (past : List (Event P M D)) → is_primary s p past ≡ false → since s p past ≡ []
+  pub since-empty : (p : P) (past : List (Event P M D)) → is_primary s p past ≡ false → since s p past ≡ []
   since-empty p [] h = refl
   since-empty p (e ∷ past) h = rw h refl
 

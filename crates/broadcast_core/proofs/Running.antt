@@ -2,16 +2,19 @@
 use Rattle.std.proofs.Common.{◌≡◌, ℕ, suc, ◌≤◌, Bool, true, false, if◌then◌else◌, List, [], ◌∷◌, ◌++◌, length, reverse, refl, sym, ap, subst, ◌∙◌, arith, append_assoc, length-append}
 use Rattle.std.specs.List.{zip}
 use Rattle.std.proofs.lemmas.List.{reverse-append, append-nil, length-reverse}
-use Rattle.broadcast_core.specs.Content.{Content}
+use Rattle.broadcast_core.specs.Content.{Content, list_at}
 use Rattle.broadcast_core.specs.History.{Setting}
+use Rattle.broadcast_core.specs.Lists.{list}
+use Rattle.broadcast_core.specs.Concerns.{concerns}
 use Rattle.broadcast_core.specs.Answers.{IsAnswered, history, log_of, is_refused}
 use Rattle.broadcast_core.specs.Sent.{sent, sent_at}
-use Rattle.broadcast_core.specs.Follows.{HasContent, Applies, Follows}
+use Rattle.broadcast_core.specs.Follows.{HasContent, Applies, Follows, HasRun}
 use Rattle.broadcast_core.specs.declared.event.Event.{Event}
 use Rattle.broadcast_core.specs.declared.event.Answer.{Answer}
 use Rattle.broadcast_core.specs.declared.event.Sent.{Sent}
 use Rattle.broadcast_core.proofs.Distinct.{by_test}
 use Rattle.broadcast_core.proofs.Following.{HasContent-empty}
+use Rattle.broadcast_core.proofs.Concerning.{list-alone}
 
 zip-push : {A B : Type 0} (xs : List A) (ys : List B) (x : A) (y : B) → length ys ≡ length xs → zip (xs ++ x ∷ []) (ys ++ y ∷ []) ≡ zip xs ys ++ (x, y) ∷ []
 zip-push [] [] x y h = refl
@@ -49,21 +52,16 @@ module _ {P M D : Type 0} where
     pub length-history_of : (es : List (Event P M D)) (rs : List (Answer M D)) → length (history s (log_of es rs)) ≤ length es
     length-history_of es rs = omega (arith, length-history (log_of es rs), length-reverse (zip es rs), length-zip_of es rs)
 
-    -- the events were run, with these answers and sends
-    pub record HasRun (events : List (Event P M D)) (answers : List (Answer M D)) (sends : List (Sent P)) (core : Content P M D ℕ) : Type 0 where
-      pub one_each : length answers ≡ length events
-      pub answered : IsAnswered s (log_of events answers)
-      pub content : HasContent s (history s (log_of events answers)) core
-      pub sent : sends ≡ sent s (history s (log_of events answers))
+    -- what is the history's list is that of any history that agrees in what concerns the key
+    content-alone : (past : List (Event P M D)) (core : Content P M D ℕ) → HasContent s past core
+        → (p : P) (other : List (Event P M D)) → concerns s p other ≡ concerns s p past → list_at s.same core p ≡ list s p other
+    content-alone past core content p other h = content.lists p ∙ sym (list-alone s p past other h)
 
     -- none as yet
-    pub HasRun-none : (core : Content P M D ℕ) → core ≡ record { own = s.own; deque_size = s.deque_size; primary = []; lists = []; cached = []; waiters = [] } → HasRun [] [] [] core
-    HasRun-none core new = record {
-      one_each = refl;
-      answered = tt;
-      content = HasContent-empty s core (ap (λ c. c.own) new) (ap (λ c. c.deque_size) new) (ap (λ c. c.primary) new) (ap (λ c. c.lists) new) (ap (λ c. c.cached) new) (ap (λ c. c.waiters) new);
-      sent = refl;
-    }
+    pub HasRun-none : (core : Content P M D ℕ) → core ≡ record { own = s.own; deque_size = s.deque_size; primary = []; lists = []; cached = []; waiters = [] } → HasRun s [] [] [] core
+    HasRun-none core new =
+        let content = HasContent-empty s core (ap (λ c. c.own) new) (ap (λ c. c.deque_size) new) (ap (λ c. c.primary) new) (ap (λ c. c.lists) new) (ap (λ c. c.cached) new) (ap (λ c. c.waiters) new) in
+        record { one_each = refl; answered = tt; content = content; alone = content-alone [] core content; sent = refl }
 
     -- what is sent, after one more event
     sent-next : (refused : Bool) (e : Event P M D) (past : List (Event P M D)) (sends : List (Sent P)) → sends ≡ sent s past
@@ -73,13 +71,15 @@ module _ {P M D : Type 0} where
 
     -- one more
     pub HasRun-next : (es : List (Event P M D)) (rs : List (Answer M D)) (sends : List (Sent P)) (old new : Content P M D ℕ) (e : Event P M D) (a : Answer M D) (sending : List (Sent P))
-        → HasRun es rs sends old → Applies s (history s (log_of es rs)) e new a sending → HasRun (es ++ e ∷ []) (rs ++ a ∷ []) (sends ++ sending) new
+        → HasRun s es rs sends old → Applies s (history s (log_of es rs)) e new a sending → HasRun s (es ++ e ∷ []) (rs ++ a ∷ []) (sends ++ sending) new
     HasRun-next es rs sends old new e a sending before step =
         let log : log_of (es ++ e ∷ []) (rs ++ a ∷ []) ≡ (e, a) ∷ log_of es rs = log_of-push es rs e a before.one_each in
+        let content = subst (λ l. HasContent s (history s l) new) (sym log) step.content in
         record {
           one_each = omega (arith, length-append rs (a ∷ []), length-append es (e ∷ []), before.one_each);
           answered = subst (λ l. IsAnswered s l) (sym log) (step.answered, before.answered);
-          content = subst (λ l. HasContent s (history s l) new) (sym log) step.content;
+          content = content;
+          alone = content-alone (history s (log_of (es ++ e ∷ []) (rs ++ a ∷ []))) new content;
           sent = subst (λ l. sends ++ sending ≡ sent s (history s l)) (sym log)
               (ap (λ xs. sends ++ xs) step.sent ∙ sent-next (is_refused s a) e (history s (log_of es rs)) sends before.sent);
         }
@@ -92,8 +92,8 @@ module _ {P M D : Type 0} where
         (subst (λ o. Follows (record s { own = o; deque_size = old.deque_size }) most e old new a sending) own h)
 
     pub HasRun-follows : (most : ℕ) (es : List (Event P M D)) (rs : List (Answer M D)) (sends : List (Sent P)) (old new : Content P M D ℕ) (e : Event P M D) (a : Answer M D) (sending : List (Sent P))
-        → length es ≤ most → HasRun es rs sends old → Follows (record s { own = old.own; deque_size = old.deque_size }) most e old new a sending
-        → HasRun (es ++ e ∷ []) (rs ++ a ∷ []) (sends ++ sending) new
+        → length es ≤ most → HasRun s es rs sends old → Follows (record s { own = old.own; deque_size = old.deque_size }) most e old new a sending
+        → HasRun s (es ++ e ∷ []) (rs ++ a ∷ []) (sends ++ sending) new
     HasRun-follows most es rs sends old new e a sending few before step =
         HasRun-next es rs sends old new e a sending before
         (follows-setting most e old new a sending before.content.own before.content.deque_size step (history s (log_of es rs))
@@ -101,7 +101,7 @@ module _ {P M D : Type 0} where
 
     -- the same lists, under other names
     pub HasRun-same : (es fs : List (Event P M D)) (rs qs : List (Answer M D)) (sends others : List (Sent P)) (core : Content P M D ℕ)
-        → HasRun es rs sends core → es ≡ fs → qs ≡ rs → others ≡ sends → HasRun fs qs others core
+        → HasRun s es rs sends core → es ≡ fs → qs ≡ rs → others ≡ sends → HasRun s fs qs others core
     HasRun-same es fs rs qs sends others core run events answers sent =
-        subst (λ l. HasRun l qs others core) events
-        (subst (λ l. HasRun es l others core) (sym answers) (subst (λ l. HasRun es rs l core) (sym sent) run))
+        subst (λ l. HasRun s l qs others core) events
+        (subst (λ l. HasRun s es l others core) (sym answers) (subst (λ l. HasRun s es rs l core) (sym sent) run))

@@ -7,6 +7,7 @@ pub mod Stored
 pub mod History
 pub mod Peers
 pub mod Lists
+pub mod Concerns
 pub mod Cache
 pub mod Waiting
 pub mod Sent

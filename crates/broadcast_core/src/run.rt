@@ -1,11 +1,9 @@
 //! A whole list of events, one after the other.
-ghost use Rattle.std.specs.Prelude.{◌≡◌, length, IfOk};
-ghost use Rattle.broadcast_core.specs.Answers.{IsAnswered, history, log_of};
+ghost use Rattle.std.specs.Prelude.{IfOk};
 ghost use Rattle.broadcast_core.specs.Codec.{whole};
 ghost use Rattle.broadcast_core.specs.Content.{same_by};
-ghost use Rattle.broadcast_core.specs.Follows.{HasContent};
+ghost use Rattle.broadcast_core.specs.Follows.{HasRun};
 ghost use Rattle.broadcast_core.specs.History.{Setting};
-ghost use Rattle.broadcast_core.specs.Sent.{sent};
 
 mod apply;
 
@@ -30,8 +28,7 @@ pub fn run<P: PublicKey, M: Digestible + Codec>(
     cfg: &M::Cfg,
     events: Vec<Event<P, M>>,
 ) -> Result<Run<P, M>, AllocError>
-    ensures one_each { IfOk result (λ run. length run.answers ≡ length events.items) }
-    ensures answers { let s : Setting P M M.Digest = record {
+    ensures { let s : Setting P M M.Digest = record {
       own = own;
       deque_size = deque_size;
       priority = priority;
@@ -40,27 +37,7 @@ pub fn run<P: PublicKey, M: Digestible + Codec>(
       encoding = M.encoding;
       reading = whole (M.reading cfg.now);
     } in
-        IfOk result (λ run. IsAnswered s (log_of events.items run.answers)) }
-    ensures content { let s : Setting P M M.Digest = record {
-      own = own;
-      deque_size = deque_size;
-      priority = priority;
-      same = same_by P.cmp M.Digest.cmp;
-      digest_of = M.digest_of;
-      encoding = M.encoding;
-      reading = whole (M.reading cfg.now);
-    } in
-        IfOk result (λ run. HasContent s (history s (log_of events.items run.answers)) run.core) }
-    ensures sent { let s : Setting P M M.Digest = record {
-      own = own;
-      deque_size = deque_size;
-      priority = priority;
-      same = same_by P.cmp M.Digest.cmp;
-      digest_of = M.digest_of;
-      encoding = M.encoding;
-      reading = whole (M.reading cfg.now);
-    } in
-        IfOk result (λ run. run.sent ≡ sent s (history s (log_of events.items run.answers))) }
+        IfOk result (λ run. HasRun s events.items run.answers run.sent run.core) }
 {
     let mut answers = Vec::with_capacity(alloc, events.len())?;
     let mut sent = Vec::with_capacity(alloc, events.len())?;

@@ -58,7 +58,8 @@ pub fn add<P: PublicKey, M: Digestible>(
         }
         return Err(refused);
     }
-    let _peers = by_peer.len();
+    // The deques fit into a `usize`, and so do the references: one for each deque.
+    let _deques = by_peer.len();
     items::refer(by_digest, &digest);
     Ok(())
 }

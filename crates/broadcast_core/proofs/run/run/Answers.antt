@@ -42,5 +42,4 @@ returns g c =
     let at = c.loop-event in
     let all : at.yielded ≡ c.args.events.items =
     none_left at.yielded (into_iter_items at.event-iterator) _ (sym at.invariant.left ∙ c.in-None.ensures.steps.0) at.invariant.rest ∙ c.into_iter-event-iterator.ensures.into_iter_gives.0 in
-    let run = HasRun-same _ _ _ _ _ _ _ _ at.invariant.has_run all c.from_vec.ensures c.from_vec-2.ensures in
-    record { one_each = run.one_each; answers = run.answered; content = run.content; sent = run.sent }
+    HasRun-same _ _ _ _ _ _ _ _ at.invariant.has_run all c.from_vec.ensures c.from_vec-2.ensures

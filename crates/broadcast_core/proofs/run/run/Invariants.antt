@@ -3,7 +3,7 @@ use Rattle.std.specs.Vec.Iter.{into_iter_items, into_iter_len}
 use Rattle.broadcast_core.specs.Codec.{whole}
 use Rattle.broadcast_core.specs.Content.{same_by}
 use Rattle.broadcast_core.specs.History.{Setting}
-use Rattle.broadcast_core.proofs.Running.{HasRun}
+use Rattle.broadcast_core.specs.Follows.{HasRun}
 use Rattle.broadcast_core.proofs.run.run.Given as goal
 
 abbrev pub invariant-loop-event : goal.invariant-loop-event
