@@ -10,6 +10,7 @@ pub mod Storing
 pub mod Keeping
 pub mod WaitersLemmas
 pub mod Taking
+pub mod CachedCount
 pub mod Listing
 pub mod Concerning
 pub mod Following

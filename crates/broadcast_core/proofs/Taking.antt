@@ -1,5 +1,5 @@
 -- What the changes of a cache make of a core's content.
-use Rattle.std.proofs.Common.{◌≡◌, ℕ, ◌≤◌, Bool, true, false, ◌||◌, cond, List, [], ◌∷◌, length, take, Option, Some, None, refl, sym, ap, ◌∙◌, subst, arith}
+use Rattle.std.proofs.Common.{◌≡◌, ℕ, Bool, true, false, ◌||◌, cond, List, [], ◌∷◌, take, Option, Some, None, refl, sym, ap, ◌∙◌, arith}
 use Rattle.std.specs.Prelude.{is_some, MatchBool}
 use Rattle.std.specs.List.{list_any, IsDistinct}
 use Rattle.std.specs.Map.{lookup, keys_of}
@@ -9,12 +9,13 @@ use Rattle.std.proofs.lemmas.List.{length-take}
 use Rattle.std.proofs.lemmas.Map.{lookup-none}
 use Rattle.std.proofs.lemmas.Map.Keys.{IsDistinct-tail}
 use Rattle.broadcast_core.specs.Carried.{Carried}
-use Rattle.broadcast_core.specs.Content.{Content, Same, among, without, items_at, is_on_list, list_at, list_with, has_primary, message_at, waiting_at}
+use Rattle.broadcast_core.specs.Content.{Content, Same, among, without, items_at}
 use Rattle.broadcast_core.specs.Changes.{Takes, TakesPeers}
 use Rattle.broadcast_core.specs.Stored.{Stored, Stores, Keeps, IsCore, is_stored}
-use Rattle.broadcast_core.proofs.Distinct.{by_test, or_right, among-equal}
+use Rattle.broadcast_core.proofs.Distinct.{by_test, or_right, among-equal, among-without_other}
 use Rattle.broadcast_core.proofs.References.{lookup-equal}
 use Rattle.broadcast_core.proofs.Counting.{stored-at}
+use Rattle.broadcast_core.proofs.Listing.{none-taken}
 
 -- two truths are one, where each gives the other
 pub same_truth : (a b : Bool) → (a ≡ true → b ≡ true) → (b ≡ true → a ≡ true) → a ≡ b
@@ -60,7 +61,7 @@ module _ {P D : Type 0} (same : Same P D) (laws : IsEquivalence same.key) where
       (λ t. from-primary d lists qs (sym (ap (λ b. b || list_any (λ r. among same.digest d (items_at same.key r lists)) qs) t) ∙ h))
 
   -- a digest is on some deque exactly where it is on the list of a primary key
-  pub stored-listed : {M : Type 0} (size : ℕ) (primary : List P) (stored : Stored P M D) → IsCore same size primary stored → (d : D)
+  pub stored-listed : {M W : Type 0} {waiters : List (D × List W)} (size : ℕ) (primary : List P) (stored : Stored P M D) → IsCore same size primary stored waiters → (d : D)
       → is_stored same d stored.lists ≡ list_any (λ q. among same.digest d (items_at same.key q stored.lists)) primary
   stored-listed size primary stored core d = same_truth _ _
       (λ h. let r = holder d stored.lists core.distinct h in on-primary r.key d stored.lists primary r.listed (core.primary_only r.key r.there))
@@ -73,10 +74,27 @@ none_from_no_some (Some x) h = absurd cc
 abbrev pub content : {P M D W : Type 0} → P → ℕ → List P → Stored P M D → List (D × List W) → Content P M D W
 content own size primary stored waiters = record { own = own; deque_size = size; primary = primary; lists = stored.lists; cached = stored.messages; waiters = waiters }
 
-module _ {P M D : Type 0} (same : Same P D) (key_laws : IsEquivalence same.key) (size : ℕ) where
-  module _ (p : P) (x : Carried M D) (primary : List P) (old new : Stored P M D) (core : IsCore same size primary old) where
+module _ {P M D W : Type 0} (same : Same P D) (key_laws : IsEquivalence same.key) (size : ℕ) where
+  module _ (laws : IsEquivalence same.digest) (p : P) (x : Carried M D) (primary : List P) (old new : Stored P M D) (w0 w1 : List (D × List W))
+      (core : IsCore same size primary old w0) (waits : (d : D) → items_at same.digest d w1 ≡ cond (same.digest x.digest d) [] (items_at same.digest d w0)) where
     module _ (eligible : list_any (same.key p) primary ≡ true) (stores : Stores same p x size old new) where
-      pub IsCore-stored : IsCore same size primary new
+      -- what is not on the key's deque, and is not taken, is not on the new one
+      not-put : (d : D) → same.digest x.digest d ≡ false → among same.digest d (items_at same.key p old.lists) ≡ false
+          → among same.digest d (take size (x.digest ∷ without same.digest x.digest (items_at same.key p old.lists))) ≡ false
+      not-put d other absent = none-taken (same.digest d) size (x.digest ∷ without same.digest x.digest (items_at same.key p old.lists))
+          (rw (laws.symm d x.digest ∙ other) (among-without_other laws x.digest d (items_at same.key p old.lists) other ∙ absent))
+
+      -- what is stored was stored, or is taken
+      stored-before : (d : D) → same.digest x.digest d ≡ false → is_stored same d new.lists ≡ true → is_stored same d old.lists ≡ true
+      stored-before d other h =
+          let r = holder same key_laws d new.lists stores.put.distinct h in
+          by_test (same.key p r.key)
+          (λ t. stored-at same p d old.lists (by_test (among same.digest d (items_at same.key p old.lists))
+          (λ k. k)
+          (λ k. absurd (let none : false ≡ true = sym (not-put d other k) ∙ sym (ap (among same.digest d) (stores.put.lists r.key ∙ rw t refl)) ∙ r.listed in cc))))
+          (λ t. stored-at same r.key d old.lists (sym (ap (among same.digest d) (stores.put.lists r.key ∙ rw t refl)) ∙ r.listed))
+
+      pub IsCore-stored : IsCore same size primary new w1
       IsCore-stored = record {
         bounded = λ q. by_test (same.key p q)
             (λ h. rw (stores.put.lists q, h, length-take size (x.digest ∷ without same.digest x.digest (items_at same.key p old.lists))) (omega arith))
@@ -90,11 +108,13 @@ module _ {P M D : Type 0} (same : Same P D) (key_laws : IsEquivalence same.key) 
             (λ k. rw (stores.messages d, h, k) (core.messages d ∙ k))
             (λ k. rw (stores.messages d, h, k) refl))
             (λ h. rw (stores.messages d, h) refl);
+        unawaited = λ d h. by_test (same.digest x.digest d)
+            (λ t. waits d ∙ rw t refl)
+            (λ t. waits d ∙ rw t (core.unawaited d (stored-before d t h)));
       }
 
-      pub Takes-stored : {W : Type 0} (own : P) (w0 w1 : List (D × List W)) → ((d : D) → items_at same.digest d w1 ≡ cond (same.digest x.digest d) [] (items_at same.digest d w0))
-          → Takes same p x (content own size primary old w0) (content own size primary new w1)
-      Takes-stored own w0 w1 waits = record {
+      pub Takes-stored : (own : P) → Takes same p x (content own size primary old w0) (content own size primary new w1)
+      Takes-stored own = record {
         own = refl;
         deque_size = refl;
         primary = refl;
@@ -103,22 +123,42 @@ module _ {P M D : Type 0} (same : Same P D) (key_laws : IsEquivalence same.key) 
         waiters = waits;
       }
 
-    pub Takes-ineligible : {W : Type 0} (own : P) → list_any (same.key p) primary ≡ false → new ≡ old → (w0 w1 : List (D × List W))
-        → ((d : D) → items_at same.digest d w1 ≡ cond (same.digest x.digest d) [] (items_at same.digest d w0)) → Takes same p x (content own size primary old w0) (content own size primary new w1)
-    Takes-ineligible own ineligible stays w0 w1 waits = rw stays (record {
-      own = refl;
-      deque_size = refl;
-      primary = refl;
-      lists = λ q. by_test (same.key p q)
-          (λ h. rw (h, ineligible, lookup-equal key_laws p q old.lists h) refl)
-          (λ h. rw h refl);
-      cached = λ d. rw (← stored-listed same key_laws size primary old core d) (by_test (is_stored same d old.lists)
-          (λ h. rw h refl)
-          (λ h. rw h (none_from_no_some (lookup (same.digest d) old.messages) (core.messages d ∙ h))));
-      waiters = waits;
-    })
+    module _ (ineligible : list_any (same.key p) primary ≡ false) (stays : new ≡ old) where
+      pub IsCore-ineligible : IsCore same size primary new w1
+      IsCore-ineligible = rw stays (record {
+        bounded = core.bounded;
+        primary_only = core.primary_only;
+        distinct = core.distinct;
+        messages = core.messages;
+        unawaited = λ d h. by_test (same.digest x.digest d)
+            (λ t. waits d ∙ rw t refl)
+            (λ t. waits d ∙ rw t (core.unawaited d h));
+      })
 
-  module _ (peers primary : List P) (old new : Stored P M D) (core : IsCore same size primary old) (keeps : Keeps same peers old new) where
+      pub Takes-ineligible : (own : P) → Takes same p x (content own size primary old w0) (content own size primary new w1)
+      Takes-ineligible own = rw stays (record {
+        own = refl;
+        deque_size = refl;
+        primary = refl;
+        lists = λ q. by_test (same.key p q)
+            (λ h. rw (h, ineligible, lookup-equal key_laws p q old.lists h) refl)
+            (λ h. rw h refl);
+        cached = λ d. rw (← stored-listed same key_laws size primary old core d) (by_test (is_stored same d old.lists)
+            (λ h. rw h refl)
+            (λ h. rw h (none_from_no_some (lookup (same.digest d) old.messages) (core.messages d ∙ h))));
+        waiters = waits;
+      })
+
+    pub IsCore-taken : (b : Bool) → b ≡ list_any (same.key p) primary → MatchBool b (Stores same p x size old new) (new ≡ old) → IsCore same size primary new w1
+    IsCore-taken true is h = IsCore-stored (sym is) h
+    IsCore-taken false is h = IsCore-ineligible (sym is) h
+
+    pub Takes-taken : (own : P) (b : Bool) → b ≡ list_any (same.key p) primary → MatchBool b (Stores same p x size old new) (new ≡ old)
+        → Takes same p x (content own size primary old w0) (content own size primary new w1)
+    Takes-taken own true is h = Takes-stored (sym is) h own
+    Takes-taken own false is h = Takes-ineligible (sym is) h own
+
+  module _ (peers primary : List P) (old new : Stored P M D) (waiters : List (D × List W)) (core : IsCore same size primary old waiters) (keeps : Keeps same peers old new) where
     was_stored : (d : D) → is_stored same d new.lists ≡ true → is_stored same d old.lists ≡ true
     was_stored d h =
         let r = holder same key_laws d new.lists keeps.distinct h in
@@ -126,7 +166,7 @@ module _ {P M D : Type 0} (same : Same P D) (key_laws : IsEquivalence same.key) 
         (λ t. let is : items_at same.key r.key new.lists ≡ items_at same.key r.key old.lists = keeps.lists r.key ∙ rw t refl in sym (ap (among same.digest d) is) ∙ r.listed)
         (λ t. let is : items_at same.key r.key new.lists ≡ [] = keeps.lists r.key ∙ rw t refl in absurd (let none : false ≡ true = sym (ap (among same.digest d) is) ∙ r.listed in cc)))
 
-    pub IsCore-kept : IsCore same size peers new
+    pub IsCore-kept : IsCore same size peers new waiters
     IsCore-kept = record {
       bounded = λ q. by_test (list_any (same.key q) peers)
           (λ h. rw (keeps.lists q, h) (core.bounded q))
@@ -136,10 +176,11 @@ module _ {P M D : Type 0} (same : Same P D) (key_laws : IsEquivalence same.key) 
       messages = λ d. by_test (is_stored same d new.lists)
           (λ h. rw (keeps.messages d, h) (core.messages d ∙ was_stored d h))
           (λ h. rw (keeps.messages d, h) refl);
+      unawaited = λ d h. core.unawaited d (was_stored d h);
     }
 
-    pub TakesPeers-kept : {W : Type 0} (own : P) (waiters : List (D × List W)) → TakesPeers same peers (content own size primary old waiters) (content own size peers new waiters)
-    TakesPeers-kept own waiters = record {
+    pub TakesPeers-kept : (own : P) → TakesPeers same peers (content own size primary old waiters) (content own size peers new waiters)
+    TakesPeers-kept own = record {
       own = refl;
       deque_size = refl;
       primary = refl;
@@ -147,14 +188,3 @@ module _ {P M D : Type 0} (same : Same P D) (key_laws : IsEquivalence same.key) 
       cached = λ d. rw (← stored-listed same key_laws size peers new IsCore-kept d) (keeps.messages d);
       waiters = λ d. refl;
     }
-
-module _ {P M D : Type 0} (same : Same P D) (key_laws : IsEquivalence same.key) (size : ℕ) (p : P) (x : Carried M D) (primary : List P)
-    (old new : Stored P M D) (core : IsCore same size primary old) where
-  pub IsCore-taken : (b : Bool) → b ≡ list_any (same.key p) primary → MatchBool b (Stores same p x size old new) (new ≡ old) → IsCore same size primary new
-  IsCore-taken true is h = IsCore-stored same key_laws size p x primary old new core (sym is) h
-  IsCore-taken false is h = rw h core
-
-  pub Takes-taken : {W : Type 0} (own : P) (b : Bool) → b ≡ list_any (same.key p) primary → MatchBool b (Stores same p x size old new) (new ≡ old) → (w0 w1 : List (D × List W))
-      → ((d : D) → items_at same.digest d w1 ≡ cond (same.digest x.digest d) [] (items_at same.digest d w0)) → Takes same p x (content own size primary old w0) (content own size primary new w1)
-  Takes-taken own true is h w0 w1 waits = Takes-stored same key_laws size p x primary old new core (sym is) h own w0 w1 waits
-  Takes-taken own false is h w0 w1 waits = Takes-ineligible same key_laws size p x primary old new core own (sym is) h w0 w1 waits

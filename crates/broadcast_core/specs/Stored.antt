@@ -1,5 +1,5 @@
 -- What a cache contains, and what a taking and a peer set make of it.
-use Rattle.std.specs.Prelude.{◌≡◌, ℕ, ◌+◌, ◌-◌, ◌<◌, ◌==◌, nat_lt, Bool, false, true, ◌||◌, cond, if◌then◌else◌, List, [], ◌∷◌, ◌++◌, take, length, ◌≤◌, Option, Some, None, is_some, unwrap_or}
+use Rattle.std.specs.Prelude.{◌≡◌, ℕ, ◌+◌, ◌<◌, nat_lt, Bool, false, true, ◌||◌, if◌then◌else◌, List, [], ◌∷◌, ◌++◌, take, length, ◌≤◌, Option, Some, None, is_some, unwrap_or}
 use Rattle.std.specs.List.{list_any, count_by, sum_by, IsDistinct}
 use Rattle.std.specs.Option.{option_map}
 use Rattle.std.specs.Map.{lookup, keys_of, values_of}
@@ -112,9 +112,10 @@ module _ {P D : Type 0} (same : Same P D) where
       pub distinct : IsDistinct same.key (keys_of new.lists)
       pub messages : (d : D) → lookup (same.digest d) new.messages ≡ (if is_stored d new.lists then lookup (same.digest d) old.messages else None)
 
-    -- what holds of every core: deques fit, only primary keys have one, and a message is there exactly where a deque has its digest
-    pub record IsCore (size : ℕ) (primary : List P) (stored : Stored P M D) : Type 0 where
+    -- what holds of every core: deques fit, only primary keys have one, a message is there exactly where a deque has its digest, and nobody waits for a digest that a deque has
+    pub record IsCore {W : Type 0} (size : ℕ) (primary : List P) (stored : Stored P M D) (waiters : List (D × List W)) : Type 0 where
       pub bounded : (p : P) → length (items_at same.key p stored.lists) ≤ size
       pub primary_only : (p : P) → is_some (lookup (same.key p) stored.lists) ≡ true → list_any (same.key p) primary ≡ true
       pub distinct : IsDistinct same.key (keys_of stored.lists)
       pub messages : (d : D) → is_some (lookup (same.digest d) stored.messages) ≡ is_stored d stored.lists
+      pub unawaited : (d : D) → is_stored d stored.lists ≡ true → items_at same.digest d waiters ≡ []

@@ -1,5 +1,5 @@
 //! What a node keeps of its peers, and who waits.
-ghost use Rattle.std.specs.Prelude.{◌≡◌, ◌≤◌, true, false, [], length, is_some, if◌then◌else◌, IfOk, IfSome, OnOk, OnErr, IfErr, IsOk, MatchBool};
+ghost use Rattle.std.specs.Prelude.{◌≡◌, ◌≤◌, true, false, [], length, is_some, IsSome, if◌then◌else◌, IfOk, IfSome, OnOk, OnErr, IfErr, IsOk, MatchBool};
 ghost use Rattle.std.specs.List.{list_any, IsDistinct};
 ghost use Rattle.std.specs.Map.{lookup, keys_of};
 ghost use Rattle.std.specs.Option.{option_copied};
@@ -51,11 +51,11 @@ impl<P: PublicKey, M: Digestible, W> Model for Core<P, M, W> {
       waiters = it.waiters;
     } };
 
-    ghost invariant = { λ it. IsCore (same_by P.cmp M.Digest.cmp) it.deque_size it.primary it.cache };
+    ghost invariant = { λ it. IsCore (same_by P.cmp M.Digest.cmp) it.deque_size it.primary it.cache it.waiters };
 }
 
 impl<P: PublicKey, M: Digestible, W: Drop> Core<P, M, W> {
-    ghost use Rattle.std.specs.Prelude.{ℕ, ◌+◌};
+    ghost use Rattle.std.specs.Prelude.{ℕ, ◌+◌, ◌*◌};
     ghost use Rattle.broadcast_core.specs.Content.{has_primary, is_on_list, list_at, message_at, outcome_at, waiting_at};
     ghost use Rattle.broadcast_core.specs.Changes.{Takes, TakesPeers, Cleans, KeepsStore, IsSubscribed};
     ghost use Rattle.broadcast_core.specs.Waiters.{NoneEmpty, waiting_in, is_gone, gone_from, DropsClosed, counted};
@@ -88,9 +88,10 @@ impl<P: PublicKey, M: Digestible, W: Drop> Core<P, M, W> {
         &self.primary
     }
 
-    /// How many messages are cached.
+    /// How many messages are cached: at most one for each place of the primary keys' lists.
     pub fn cached_len(&self) -> usize
-        ensures { result ≡ length self.now.cached }
+        ensures len { result ≡ length self.now.cached }
+        ensures bounded { result ≤ length self.now.primary * self.now.deque_size }
     {
         self.cache.len()
     }
@@ -104,9 +105,10 @@ impl<P: PublicKey, M: Digestible, W: Drop> Core<P, M, W> {
         self.waiters.len()
     }
 
-    /// How many wait for the digest.
+    /// How many wait for the digest. Nobody waits for a cached one.
     pub fn waiting(&self, digest: &M::Digest) -> usize
-        ensures { result ≡ length (waiting_at (same_by P.cmp M.Digest.cmp) self.now digest.now) }
+        ensures len { result ≡ length (waiting_at (same_by P.cmp M.Digest.cmp) self.now digest.now) }
+        ensures cached { IsSome (message_at (same_by P.cmp M.Digest.cmp) self.now digest.now) → result ≡ 0 }
     {
         self.waiters.waiting(digest)
     }

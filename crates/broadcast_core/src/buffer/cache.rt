@@ -3,7 +3,7 @@ ghost use Rattle.std.specs.Prelude.{◌≡◌, ◌≤◌, false, true, not, leng
 ghost use Rattle.std.specs.Option.{option_copied};
 ghost use Rattle.std.specs.List.{IsDistinct};
 ghost use Rattle.std.specs.List.Sorted.{IsStrictlySortedBy};
-ghost use Rattle.std.specs.Map.{lookup};
+ghost use Rattle.std.specs.Map.{lookup, keys_of};
 ghost use Rattle.std.specs.Ordering.{eq_by_cmp};
 ghost use Rattle.broadcast_core.specs.Content.{same_by, among, items_at};
 
@@ -63,7 +63,8 @@ impl<P: PublicKey, M: Digestible> Cache<P, M> {
 
     /// How many messages there are.
     pub fn len(&self) -> usize
-        ensures { result ≡ length self.now.messages }
+        ensures len { result ≡ length self.now.messages }
+        ensures distinct { IsDistinct (eq_by_cmp M.Digest.cmp) (keys_of self.now.messages) }
     {
         self.items.len()
     }
