@@ -1,6 +1,6 @@
 -- What each event's call makes of the history.
-use Rattle.std.proofs.Common.{◌≡◌, ℕ, ◌≤◌, Bool, true, false, List, [], ◌∷◌, length, Option, Some, None, Result, Ok, Err, refl, sym, ap, ◌∙◌, subst, arith, inl, inr}
-use Rattle.std.specs.Prelude.{◌==◌, ◌^◌, ◌-◌, is_some, is_ok}
+use Rattle.std.proofs.Common.{◌≡◌, ℕ, ◌≤◌, true, false, List, [], ◌∷◌, length, Option, Some, None, Result, Ok, Err, refl, sym, ap, ◌∙◌, subst, arith, inl, inr}
+use Rattle.std.specs.Prelude.{◌==◌, ◌^◌, ◌-◌, is_some}
 use Rattle.std.specs.List.{list_any, IsDistinct}
 use Rattle.std.specs.Map.{keys_of}
 use Rattle.std.specs.Cmp.{IsEquivalence}
@@ -8,13 +8,12 @@ use Rattle.broadcast_core.specs.Carried.{Carried}
 use Rattle.broadcast_core.specs.Content.{Content, message_at, outcome_at, waiting_at}
 use Rattle.broadcast_core.specs.Changes.{Takes, TakesPeers, KeepsStore, Awaits, Cleans}
 use Rattle.broadcast_core.specs.Waiters.{gone_from, counted}
-use Rattle.broadcast_core.specs.History.{Setting, Taking, taken, payload_taken, own_digested}
+use Rattle.broadcast_core.specs.History.{Setting, Taking, taken}
 use Rattle.broadcast_core.specs.Cache.{is_listed, message}
 use Rattle.broadcast_core.specs.Sent.{sent_at}
-use Rattle.broadcast_core.specs.Answers.{answer_to, answer_to_taking, takes_memory, removed}
+use Rattle.broadcast_core.specs.Answers.{answer_to, answer_to_taking, takes_memory}
 use Rattle.broadcast_core.specs.Follows.{HasContent, Applies}
 use Rattle.broadcast_core.specs.declared.codec.CodecError.{CodecError}
-use Rattle.broadcast_core.specs.declared.codec.CodecError.TheVariants as CodecError
 use Rattle.broadcast_core.specs.Codec.{IsRefusal, all_taken}
 use Rattle.broadcast_core.specs.declared.ordered.Recipients.{Recipients}
 use Rattle.broadcast_core.specs.declared.outcome.Outcome.{Outcome}

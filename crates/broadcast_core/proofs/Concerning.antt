@@ -1,8 +1,8 @@
 -- A key's list depends on what concerns the key alone.
-use Rattle.std.proofs.Common.{◌≡◌, Bool, true, false, if◌then◌else◌, List, [], ◌∷◌, ◌++◌, take, map, Option, Some, None, refl, sym, ap, ◌∙◌}
+use Rattle.std.proofs.Common.{◌≡◌, Bool, true, false, if◌then◌else◌, List, [], ◌∷◌, ◌++◌, take, map, refl, sym, ap, ◌∙◌}
 use Rattle.std.specs.List.{list_any}
 use Rattle.broadcast_core.specs.Content.{first_places}
-use Rattle.broadcast_core.specs.History.{Setting, Taking, taken}
+use Rattle.broadcast_core.specs.History.{Setting, taken}
 use Rattle.broadcast_core.specs.Peers.{primary, is_primary, since}
 use Rattle.broadcast_core.specs.Lists.{digest_under, digests_under, list}
 use Rattle.broadcast_core.specs.Concerns.{Concern, peer_set, digest, concerns}

@@ -1,19 +1,19 @@
 -- Deques and references: each digest has one reference for each deque that has it.
 use Rattle.std.proofs.Common.{◌≡◌, ℕ, ◌+◌, ◌<◌, ◌≤◌, Bool, true, false, ◌&&◌, ◌||◌, cond, List, [], ◌∷◌, ◌++◌, Option, Some, None, refl, sym, ap, ◌∙◌, subst, map, append_assoc, arith, ◌⊎◌, inl, inr}
-use Rattle.std.specs.Prelude.{nat_lt, unwrap_or, is_none, length, IsSome}
+use Rattle.std.specs.Prelude.{nat_lt, unwrap_or, is_none, IsSome}
 use Rattle.std.specs.Option.{option_map}
-use Rattle.std.specs.List.{list_any, count_by, sum_by, IsDistinct}
+use Rattle.std.specs.List.{list_any, sum_by, IsDistinct}
 use Rattle.std.specs.Map.{lookup, values_of}
 use Rattle.std.specs.Cmp.{IsEquivalence}
-use Rattle.std.proofs.lemmas.Bool.{lt-ltb, le-ltb, ltb-true}
+use Rattle.std.proofs.lemmas.Bool.{lt-ltb, ltb-true}
 use Rattle.std.proofs.lemmas.List.Sums.{sum_by-cons, sum_by-append, sum_by_push, sum_by-le-sum_by}
 use Rattle.std.proofs.lemmas.List.{map_push}
 use Rattle.broadcast_core.specs.Carried.{Carried}
 use Rattle.broadcast_core.specs.Content.{Same, among, without, items_at}
-use Rattle.broadcast_core.specs.Stored.{one_if, one_more, references_of, message_of, IsHeld, Releases, IsCounted, PutsDeque, DropsOldest, Adds, Cuts, Renews, is_stored, deques_with, deques_without}
+use Rattle.broadcast_core.specs.Stored.{one_if, one_more, references_of, Releases, IsCounted, PutsDeque, DropsOldest, Adds, Cuts, Renews, is_stored, deques_with, deques_without}
 use Rattle.broadcast_core.specs.declared.buffer.cached.Cached.{Cached}
 use Rattle.broadcast_core.proofs.Distinct.{by_test, among-equal, among-moved, among-before, list_any-append, or_none, or_right}
-use Rattle.broadcast_core.proofs.References.{Held, references, message, message-held, none-held, lookup-equal, Releases-none, Releases-then}
+use Rattle.broadcast_core.proofs.References.{Held, references, message, message-held, lookup-equal, Releases-none, Releases-then}
 
 module _ {P D : Type 0} (same : Same P D) where
   -- a digest is stored exactly where a deque has it

@@ -1,6 +1,6 @@
 -- What the changes of one deque make of all of them.
-use Rattle.std.proofs.Common.{◌≡◌, ℕ, ◌≤◌, ◌<◌, Bool, true, false, cond, List, [], ◌∷◌, ◌++◌, length, Option, Some, None, Result, Ok, Err, refl, sym, ap, ◌∙◌, subst, append-nil, arith}
-use Rattle.std.specs.Prelude.{MatchBool, MatchOption, OnOk, OnErr, IfSome, IsSome, unwrap_or}
+use Rattle.std.proofs.Common.{◌≡◌, ℕ, ◌≤◌, ◌<◌, Bool, true, false, cond, List, [], ◌∷◌, ◌++◌, length, Option, Some, None, Result, Ok, Err, refl, sym, ap, ◌∙◌, subst, arith}
+use Rattle.std.specs.Prelude.{MatchBool, MatchOption, OnOk, OnErr, IfSome, IsSome}
 use Rattle.std.specs.Option.{option_to_list}
 use Rattle.std.specs.List.Sorted.{IsStrictlySortedBy}
 use Rattle.std.specs.Map.{lookup, set_value, keys_of}
@@ -9,7 +9,7 @@ use Rattle.std.specs.BTreeMap.{insert_entry}
 use Rattle.std.specs.Ordering.{eq_by_cmp}
 use Rattle.std.specs.declared.cmp.Ordering.{Ordering}
 use Rattle.std.proofs.lemmas.Map.Keys.{IsDistinct-from_sorted}
-use Rattle.broadcast_core.specs.Content.{Same, same_by, among, without, items_at}
+use Rattle.broadcast_core.specs.Content.{same_by, among, without, items_at}
 use Rattle.broadcast_core.specs.Stored.{PutsDeque, DropsOldest}
 use Rattle.broadcast_core.proofs.Entries.{PutsDeque-written, PutsDeque-inserted, PutsDeque-kept, set_value-same, lookup-same}
 

@@ -1,14 +1,14 @@
 -- What a set of keys makes of the deques, when only these keep theirs.
-use Rattle.std.proofs.Common.{◌≡◌, ℕ, ◌+◌, Bool, true, false, cond, List, [], ◌∷◌, Option, Some, None, refl, sym, ap, ◌∙◌, subst, arith}
-use Rattle.std.specs.Prelude.{is_some, nat_lt, unwrap_or}
-use Rattle.std.specs.List.{list_any, filter, sum_by, IsDistinct}
-use Rattle.std.specs.Map.{lookup, keys_of, values_of}
+use Rattle.std.proofs.Common.{◌≡◌, ℕ, ◌+◌, Bool, true, false, cond, List, [], ◌∷◌, None, refl, sym, arith}
+use Rattle.std.specs.Prelude.{is_some}
+use Rattle.std.specs.List.{list_any, filter}
+use Rattle.std.specs.Map.{lookup, values_of}
 use Rattle.std.specs.Cmp.{IsEquivalence}
 use Rattle.std.proofs.lemmas.List.Sums.{sum_by-cons}
 use Rattle.std.proofs.lemmas.Map.Entries.{lookup-filter-keys}
 use Rattle.std.proofs.lemmas.Map.Made.{IsDistinct-keys_filter}
 use Rattle.broadcast_core.specs.Content.{Same, among, items_at}
-use Rattle.broadcast_core.specs.Stored.{Stored, Releases, Keeps, IsCache, IsCounted, one_if, message_of, references_of, is_stored, deques_with, deques_without}
+use Rattle.broadcast_core.specs.Stored.{Releases, Keeps, IsCache, one_if, references_of, deques_with, deques_without}
 use Rattle.broadcast_core.specs.declared.buffer.cached.Cached.{Cached}
 use Rattle.broadcast_core.proofs.Distinct.{by_test, among-equal}
 use Rattle.broadcast_core.proofs.Counting.{is_stored-counted}

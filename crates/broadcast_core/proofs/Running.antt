@@ -12,7 +12,6 @@ use Rattle.broadcast_core.specs.Follows.{HasContent, Applies, Follows, HasRun}
 use Rattle.broadcast_core.specs.declared.event.Event.{Event}
 use Rattle.broadcast_core.specs.declared.event.Answer.{Answer}
 use Rattle.broadcast_core.specs.declared.event.Sent.{Sent}
-use Rattle.broadcast_core.proofs.Distinct.{by_test}
 use Rattle.broadcast_core.proofs.Following.{HasContent-empty}
 use Rattle.broadcast_core.proofs.Concerning.{list-alone}
 

@@ -1,16 +1,15 @@
 -- What a taking makes of a cache.
-use Rattle.std.proofs.Common.{◌≡◌, ℕ, ◌+◌, ◌<◌, ◌≤◌, Bool, true, false, ◌||◌, cond, List, [], ◌∷◌, ◌++◌, length, take, map, Option, Some, None, refl, sym, ap, ◌∙◌, subst, arith}
+use Rattle.std.proofs.Common.{◌≡◌, ℕ, ◌≤◌, Bool, true, false, ◌||◌, cond, List, ◌∷◌, length, take, map, Some, None, refl, sym, ap, ◌∙◌, subst, arith}
 use Rattle.std.specs.Prelude.{is_some, nat_lt}
 use Rattle.std.specs.List.{IsDistinct}
 use Rattle.std.proofs.lemmas.Bool.{ltb-false}
 use Rattle.std.proofs.lemmas.List.{take_all, nil_from_length}
-use Rattle.std.specs.Option.{option_map}
 use Rattle.std.specs.Map.{lookup, keys_of}
 use Rattle.std.specs.Cmp.{IsEquivalence}
 use Rattle.std.proofs.lemmas.Map.Made.{lookup-map_values}
 use Rattle.broadcast_core.specs.Carried.{Carried}
 use Rattle.broadcast_core.specs.Content.{Same, among, without, items_at}
-use Rattle.broadcast_core.specs.Stored.{Stored, message_of, PutsDeque, Adds, Cuts, Renews, Stores, IsCounted, is_stored, deques_with}
+use Rattle.broadcast_core.specs.Stored.{message_of, PutsDeque, Adds, Cuts, Renews, Stores, IsCounted, is_stored, deques_with}
 use Rattle.broadcast_core.specs.declared.buffer.cached.Cached.{Cached}
 use Rattle.broadcast_core.proofs.Distinct.{by_test, without-absent, length-moved}
 use Rattle.broadcast_core.proofs.Entries.{PutsDeque-kept}

@@ -1,5 +1,5 @@
 -- What is cached.
-use Rattle.std.specs.Prelude.{Bool, if◌then◌else◌, List, [], ◌∷◌, Option, None, Some}
+use Rattle.std.specs.Prelude.{Bool, if◌then◌else◌, List, [], ◌∷◌, Option, None}
 use Rattle.std.specs.List.{list_any}
 use Rattle.broadcast_core.specs.Carried.{Carried}
 use Rattle.broadcast_core.specs.Content.{among}

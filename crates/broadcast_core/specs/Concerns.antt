@@ -3,7 +3,7 @@ use Rattle.std.specs.Prelude.{List, [], ◌∷◌, ◌++◌, map}
 use Rattle.broadcast_core.specs.History.{Setting, taken}
 use Rattle.broadcast_core.specs.Lists.{digest_under}
 use Rattle.broadcast_core.specs.declared.event.Event.{Event}
-use Rattle.broadcast_core.specs.declared.event.Event.TheVariants.{Peers, Broadcast, Payload, Subscribe, Get, Cleanup}
+use Rattle.broadcast_core.specs.declared.event.Event.TheVariants.{Peers}
 
 -- what concerns a key: a peer set, or a digest taken under the key
 pub data Concern (P D : Type 0) : Type 0 where

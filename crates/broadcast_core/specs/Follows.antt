@@ -1,6 +1,5 @@
 -- What a core contains after a history, and what a run of events gives.
-use Rattle.std.specs.Prelude.{◌≡◌, ℕ, ◌≤◌, List, [], ◌∷◌, length, Option, if◌then◌else◌}
-use Rattle.std.specs.Option.{option_to_list}
+use Rattle.std.specs.Prelude.{◌≡◌, ℕ, ◌≤◌, List, [], ◌∷◌, length, if◌then◌else◌}
 use Rattle.broadcast_core.specs.Content.{Content, list_at, message_at, waiting_at}
 use Rattle.broadcast_core.specs.History.{Setting}
 use Rattle.broadcast_core.specs.Peers.{primary}

@@ -1,10 +1,10 @@
 -- What happened to a core: a history is a list of events, the newest first.
-use Rattle.std.specs.Prelude.{ℕ, Bool, true, false, List, [], ◌∷◌, Option, None, Some, Result, Ok, Err}
+use Rattle.std.specs.Prelude.{ℕ, Bool, false, List, Option, None, Some, Result, Ok, Err}
 use Rattle.broadcast_core.specs.Carried.{Carried}
 use Rattle.broadcast_core.specs.Content.{Same}
 use Rattle.broadcast_core.specs.declared.codec.CodecError.{CodecError}
 use Rattle.broadcast_core.specs.declared.event.Event.{Event}
-use Rattle.broadcast_core.specs.declared.event.Event.TheVariants.{Peers, Broadcast, Payload, Subscribe, Get, Cleanup}
+use Rattle.broadcast_core.specs.declared.event.Event.TheVariants.{Broadcast, Payload}
 
 -- what a history is read by
 pub record Setting (P M D : Type 0) : Type 0 where

@@ -3,7 +3,7 @@ use Rattle.std.specs.Prelude.{Bool, if◌then◌else◌, List, [], ◌∷◌}
 use Rattle.std.specs.List.{list_any}
 use Rattle.broadcast_core.specs.History.{Setting}
 use Rattle.broadcast_core.specs.declared.event.Event.{Event}
-use Rattle.broadcast_core.specs.declared.event.Event.TheVariants.{Peers, Broadcast, Payload, Subscribe, Get, Cleanup}
+use Rattle.broadcast_core.specs.declared.event.Event.TheVariants.{Peers}
 
 module _ {P M D : Type 0} (s : Setting P M D) where
   -- the primary set: that of the last peer set, or empty

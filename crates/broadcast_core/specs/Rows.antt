@@ -1,7 +1,6 @@
 -- Worked rows, computed from the definitions: messages are pairs of numbers, of which the second is the digest.
-use Rattle.std.specs.Prelude.{◌≡◌, ℕ, ◌==◌, Bool, false, List, [], ◌∷◌, Option, None, Some, Result, Ok, Err}
+use Rattle.std.specs.Prelude.{◌≡◌, ℕ, ◌==◌, false, List, [], ◌∷◌, None, Some, Result, Ok, Err}
 use Rattle.broadcast_core.specs.Carried.{Carried}
-use Rattle.broadcast_core.specs.Content.{Same}
 use Rattle.broadcast_core.specs.History.{Setting}
 use Rattle.broadcast_core.specs.Lists.{list}
 use Rattle.broadcast_core.specs.Waiting.{waiting}
@@ -14,8 +13,7 @@ use Rattle.broadcast_core.specs.declared.event.Event.TheVariants.{Peers, Broadca
 use Rattle.broadcast_core.specs.declared.event.Answer.{Answer}
 use Rattle.broadcast_core.specs.declared.event.Answer.TheVariants as answer
 use Rattle.broadcast_core.specs.declared.event.Sent.{Sent}
-use Rattle.broadcast_core.specs.declared.ordered.Recipients.{Recipients}
-use Rattle.broadcast_core.specs.declared.ordered.Recipients.TheVariants.{All, One}
+use Rattle.broadcast_core.specs.declared.ordered.Recipients.TheVariants.{All}
 use Rattle.broadcast_core.specs.declared.outcome.Outcome.{Outcome}
 use Rattle.broadcast_core.specs.declared.outcome.Outcome.TheVariants.{Inserted, Duplicate, Ineligible}
 

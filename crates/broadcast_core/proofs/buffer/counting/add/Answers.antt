@@ -1,7 +1,6 @@
-use Rattle.std.proofs.Common.{◌≡◌, ◌&&◌, true, false, Bool, cond, refl, sym, ap, ◌∙◌, List, Option, Some, None}
+use Rattle.std.proofs.Common.{◌≡◌, true, Bool, cond, refl, sym, ap, ◌∙◌, List, Option, Some, None}
 use Rattle.std.specs.Prelude.{is_none}
 use Rattle.std.specs.Map.{lookup, remove_entry}
-use Rattle.std.specs.Ordering.{eq_by_cmp}
 use Rattle.std.specs.BTreeMap.{insert_entry, is_at}
 use Rattle.std.specs.Cmp.{IsTotalOrder, eq_by_cmp_equiv}
 use Rattle.std.specs.declared.cmp.Ordering.{Ordering}

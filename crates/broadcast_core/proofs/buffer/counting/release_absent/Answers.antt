@@ -1,8 +1,7 @@
-use Rattle.std.proofs.Common.{◌≡◌, sym, ap, subst, ◌∙◌, map, ◌++◌, ◌∷◌, [], append_assoc}
+use Rattle.std.proofs.Common.{sym, ap, ◌∙◌, map, ◌++◌, ◌∷◌, [], append_assoc}
 use Rattle.std.specs.Map.Iter.{deref_pair}
 use Rattle.std.proofs.lemmas.List.{map_push}
 use Rattle.broadcast_core.specs.Content.{same_by}
-use Rattle.broadcast_core.specs.Stored.{Releases, deques_without}
 use Rattle.broadcast_core.proofs.References.{Releases-none}
 use Rattle.broadcast_core.proofs.Counting.{enough-next, absent-next, present-next}
 use Rattle.broadcast_core.proofs.buffer.counting.release_absent.Goals as goal

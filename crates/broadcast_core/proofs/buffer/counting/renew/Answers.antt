@@ -1,5 +1,5 @@
-use Rattle.std.proofs.Common.{refl, ◌≡◌, Bool, true, false, Option, None, Some, sym, ap, ◌∙◌}
-use Rattle.std.specs.Prelude.{MatchBool, is_some, IsSome}
+use Rattle.std.proofs.Common.{refl, ◌≡◌, Bool, true, false, sym, ◌∙◌}
+use Rattle.std.specs.Prelude.{MatchBool}
 use Rattle.std.specs.Cmp.{eq_by_cmp_equiv}
 use Rattle.std.proofs.lemmas.Bool.{false≢true}
 use Rattle.broadcast_core.specs.Content.{same_by, among, items_at}

@@ -1,8 +1,5 @@
-use Rattle.std.proofs.Common.{sym, ap, subst, ◌∷◌, [], ◌∙◌}
-use Rattle.std.specs.Ordering.{eq_by_cmp}
+use Rattle.std.proofs.Common.{sym, ap, ◌∷◌, ◌∙◌}
 use Rattle.std.specs.Option.{option_copied_mut}
-use Rattle.broadcast_core.specs.Stored.{PutsDeque}
-use Rattle.broadcast_core.proofs.Entries.{PutsDeque-inserted}
 use Rattle.broadcast_core.proofs.Deques.{Written, pushed-written, refused-written, pushed-inserted, none_from_not_some}
 use Rattle.broadcast_core.proofs.buffer.deques.push_front.Goals as goal
 use Rattle.broadcast_core.proofs.buffer.deques.push_front.Goals.{After-deques-in-Some-1}

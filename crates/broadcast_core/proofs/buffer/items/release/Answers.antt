@@ -1,8 +1,7 @@
-use Rattle.std.proofs.Common.{◌≡◌, ◌-◌, ◌+◌, ◌<◌, Bool, true, false, cond, Option, Some, None, sym, ap, ◌∙◌, refl, arith}
+use Rattle.std.proofs.Common.{◌≡◌, ◌-◌, Bool, true, false, cond, Option, Some, None, sym, ◌∙◌, refl, arith}
 use Rattle.std.specs.Ordering.{eq_by_cmp}
 use Rattle.std.specs.Map.{lookup}
 use Rattle.std.specs.Cmp.{eq_by_cmp_equiv}
-use Rattle.broadcast_core.specs.declared.buffer.cached.Cached.{Cached}
 use Rattle.broadcast_core.proofs.References.{Releases-left}
 use Rattle.broadcast_core.proofs.buffer.items.release.Goals as goal
 

@@ -1,14 +1,7 @@
-use Rattle.std.proofs.Common.{◌≡◌, ◌++◌, inl, inr, Some, None, Ok, Err, refl, sym, ap, ◌∙◌, subst}
-use Rattle.std.specs.Prelude.{length, is_ok, true}
+use Rattle.std.proofs.Common.{◌≡◌, Some, None, sym, subst}
 use Rattle.std.specs.Cmp.{IsEquivalence, eq_by_cmp_equiv}
-use Rattle.broadcast_core.specs.Content.{same_by, message_at, outcome_at, waiting_at}
-use Rattle.broadcast_core.specs.Changes.{Takes, IsSubscribed, Awaits}
-use Rattle.broadcast_core.specs.Carried.{Carried}
-use Rattle.broadcast_core.specs.History.{own_digested, payload_taken}
-use Rattle.broadcast_core.specs.Follows.{Applies}
-use Rattle.broadcast_core.specs.declared.codec.CodecError.TheVariants as CodecError
-use Rattle.broadcast_core.specs.declared.event.Event.TheVariants.{Broadcast, Payload}
-use Rattle.broadcast_core.specs.declared.event.Answer.TheVariants.{Taken}
+use Rattle.broadcast_core.specs.Content.{message_at}
+use Rattle.broadcast_core.specs.Changes.{Awaits}
 use Rattle.broadcast_core.proofs.Applying.{Applies-answered, Applies-waiting}
 use Rattle.broadcast_core.proofs.run.apply.subscribe.Goals as goal
 

@@ -1,8 +1,6 @@
-use Rattle.std.proofs.Common.{subst, ap, sym}
 use Rattle.std.specs.Cmp.{eq_by_cmp_equiv}
 use Rattle.broadcast_core.specs.Content.{same_by}
-use Rattle.broadcast_core.specs.Stored.{Stored, Stores}
-use Rattle.broadcast_core.proofs.Storing.{Stores-added, messages_of}
+use Rattle.broadcast_core.proofs.Storing.{Stores-added}
 use Rattle.broadcast_core.proofs.buffer.cache.Cache.insert.Goals as goal
 
 pub returns-clause-ok : goal.returns-clause-ok

@@ -1,6 +1,3 @@
-use Rattle.std.proofs.Common.{◌≡◌, sym, ap, ◌∙◌, List, [], Option, Some, None, Result, Ok, Err, subst}
-use Rattle.std.specs.Prelude.{IfOk, unwrap_or}
-use Rattle.std.specs.Ordering.{eq_by_cmp}
 use Rattle.std.specs.List.{IsDistinct}
 use Rattle.broadcast_core.proofs.buffer.cache.Cache.list.Goals as goal
 

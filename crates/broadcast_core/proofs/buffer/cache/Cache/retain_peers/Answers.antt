@@ -1,9 +1,8 @@
 use Rattle.std.proofs.Common.{sym, subst}
 use Rattle.std.specs.Cmp.{eq_by_cmp_equiv}
 use Rattle.broadcast_core.specs.Content.{same_by}
-use Rattle.broadcast_core.specs.Stored.{IsCache, Keeps}
+use Rattle.broadcast_core.specs.Stored.{IsCache}
 use Rattle.broadcast_core.proofs.Keeping.{IsCache-kept, Keeps-kept}
-use Rattle.broadcast_core.proofs.Storing.{messages_of}
 use Rattle.broadcast_core.proofs.buffer.cache.Cache.retain_peers.Goals as goal
 
 pub invariant_of-self : goal.invariant_of-self

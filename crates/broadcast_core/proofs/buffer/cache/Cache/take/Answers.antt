@@ -1,4 +1,4 @@
-use Rattle.std.proofs.Common.{sym, ◌∙◌}
+use Rattle.std.proofs.Common.{sym}
 use Rattle.std.specs.Cmp.{eq_by_cmp_equiv}
 use Rattle.broadcast_core.specs.Content.{same_by}
 use Rattle.broadcast_core.proofs.Storing.{Stores-renewed, Stores-nowhere}

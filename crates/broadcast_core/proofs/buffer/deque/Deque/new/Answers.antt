@@ -1,5 +1,4 @@
 use Rattle.std.specs.List.{IsDistinct}
-use Rattle.std.specs.Ordering.{eq_by_cmp}
 use Rattle.broadcast_core.proofs.buffer.deque.Deque.new.Goals as goal
 
 pub invariant_of-result : goal.invariant_of-result

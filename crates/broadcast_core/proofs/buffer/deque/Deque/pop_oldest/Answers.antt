@@ -1,4 +1,4 @@
-use Rattle.std.proofs.Common.{◌≡◌, ◌++◌, ◌∷◌, [], List, Option, Some, None, sym, ◌∙◌, subst, Bool, false, append-nil}
+use Rattle.std.proofs.Common.{◌≡◌, ◌++◌, List, Option, Some, None, ◌∙◌, subst, Bool, false, append-nil}
 use Rattle.std.specs.Prelude.{IfSome}
 use Rattle.std.specs.Option.{option_to_list}
 use Rattle.std.specs.List.{IsDistinct}
