@@ -9,9 +9,9 @@ ghost use Rattle.commonware_broadcast.specs.Mailbox.{Enqueues, Takes, RequestsSt
 mod tests;
 
 use crate::broadcaster::MailboxError;
-use broadcast_core::requests::Closable;
 use crate::ingress::queue::Queue;
 use crate::ingress::queued::{Counts, Queued};
+use broadcast_core::requests::Closable;
 use std::alloc::Global;
 use std::marker::Model;
 use std::num::NonZeroUsize;

@@ -2,7 +2,6 @@
 ghost use Rattle.std.specs.Prelude.{◌≡◌, IfOk};
 
 use crate::broadcaster::{Broadcaster, Feedback, MailboxError};
-use broadcast_core::requests::Closable;
 use crate::ingress::get::Get;
 use crate::ingress::inbox::Inbox;
 use crate::ingress::message::Message;
@@ -12,6 +11,7 @@ use crate::ingress::subscription::Subscription;
 use broadcast_core::codec::{EncodeSize, Write};
 use broadcast_core::digested::{Digested, Digestible};
 use broadcast_core::ordered::{PublicKey, Recipients};
+use broadcast_core::requests::Closable;
 use futures::channel::oneshot;
 use std::alloc::{AllocError, Global};
 use std::sync::{Arc, Mutex, Wait};

@@ -1,11 +1,11 @@
 //! What a node may be asked.
-use broadcast_core::requests::Closable;
 use crate::ingress::overflow::Policy;
 use crate::ingress::pending::Pending;
 use crate::ingress::reply::Reply;
 use crate::ingress::responder::Responder;
 use broadcast_core::digested::{Digested, Digestible};
 use broadcast_core::ordered::{PublicKey, Recipients};
+use broadcast_core::requests::Closable;
 use std::alloc::AllocError;
 
 /// What a node may be asked, generic over where the replies go.

@@ -3,9 +3,9 @@ ghost use Rattle.std.specs.Prelude.{◌≡◌, ◌+◌, ◌^◌, ◌<◌, ◌≤
 ghost use Rattle.std.specs.VecDeque.{deque_capacity, deque_len};
 ghost use Rattle.commonware_broadcast.specs.Overflow.{Handles, Drains, PutsWithin};
 
-use broadcast_core::requests::Closable;
 use crate::ingress::overflow::Overflow;
 use crate::ingress::refill::refill_front;
+use broadcast_core::requests::Closable;
 use std::alloc::{AllocError, Global};
 use std::collections::VecDeque;
 use std::marker::Model;

@@ -5,11 +5,11 @@ ghost use Rattle.commonware_broadcast.specs.declared.ingress.request.Request.{Re
 ghost use Rattle.commonware_broadcast.specs.Queue.{Pushes, Pops, Draws, HasRoom, IsSound, last_ticket, empty_queue, shut_down, waiting};
 
 use crate::broadcaster::MailboxError;
-use broadcast_core::requests::Closable;
 use crate::ingress::overflow::{Overflow, Policy};
 use crate::ingress::pending::Pending;
 use crate::ingress::queued::Queued;
 use crate::ingress::request::Request;
+use broadcast_core::requests::Closable;
 use std::alloc::Global;
 use std::collections::VecDeque;
 use std::marker::Model;

@@ -1,9 +1,9 @@
 //! A message that has drawn its ticket.
 ghost use Rattle.std.specs.Prelude.{◌≡◌};
 
-use broadcast_core::requests::Closable;
 use crate::ingress::overflow::Policy;
 use crate::ingress::pending::Pending;
+use broadcast_core::requests::Closable;
 use std::alloc::AllocError;
 
 /// A message that has drawn its ticket.

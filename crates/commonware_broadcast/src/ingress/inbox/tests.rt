@@ -3,8 +3,8 @@ ghost use Rattle.std.specs.Prelude.{◌≡◌};
 
 use super::Inbox;
 use crate::broadcaster::MailboxError;
-use broadcast_core::requests::Closable;
 use crate::ingress::queued::{Counts, Queued};
+use broadcast_core::requests::Closable;
 use std::test::Fail;
 
 #[derive(Drop)]
