@@ -2,8 +2,9 @@
 mod table;
 
 use commonware_broadcast::replay::play;
-use std::alloc::{AllocError, Global};
+use std::alloc::AllocError;
 use std::io::{self, ErrorKind, Read, Write};
+use std::sync::Wait;
 use std::test::Fail;
 use table::{ROWS, Row};
 
@@ -92,13 +93,14 @@ struct Played {
     status: u8,
 }
 
-fn play_row(
-    alloc: Global,
+fn play_row<H: Wait + AllocGlobal>(
+    rt: &H,
     row: &Row,
     reading: Manner,
     writing: Manner,
     telling: Manner,
 ) -> Result<Played, AllocError> {
+    let alloc = rt.alloc();
     let mut words = Vec::new(alloc);
     for word in row.words {
         words
@@ -119,7 +121,7 @@ fn play_row(
         held: &mut fault,
         manner: telling,
     };
-    let status = play(alloc, &words, source, out, err);
+    let status = play(rt, &words, source, out, err);
     Ok(Played {
         output,
         fault,
@@ -134,7 +136,7 @@ fn rows_are_answered(rt: HostRuntime) -> Result<(), Fail> {
         let manner = Manner::steady(step);
         for row in &ROWS {
             let name = row.name;
-            let played = play_row(rt.alloc(), row, manner, manner, manner)?;
+            let played = play_row(&rt, row, manner, manner, manner)?;
             assert_eq!(rt; played.output.as_slice(), row.output, "output of {name}");
             assert_eq!(rt; played.fault.as_slice(), row.fault, "fault of {name}");
             assert_eq!(rt; played.status, row.status, "status of {name}");
@@ -160,7 +162,7 @@ fn a_failed_read_goes_before_a_faulty_line(rt: HostRuntime) -> Result<(), Fail> 
     let reads = FAULTY.input.len().div_ceil(5) + 1;
     for calls in 0..reads + 2 {
         let reading = Manner::failing(5, calls);
-        let played = play_row(rt.alloc(), &FAULTY, reading, steady, steady)?;
+        let played = play_row(&rt, &FAULTY, reading, steady, steady)?;
         let (fault, status) = if calls < reads {
             (b"read failed\n".as_slice(), 3)
         } else {
@@ -182,7 +184,7 @@ fn an_interrupted_read_is_tried_again(rt: HostRuntime) -> Result<(), Fail> {
             calls,
             failure: ErrorKind::Interrupted,
         };
-        let played = play_row(rt.alloc(), &FAULTY, reading, steady, steady)?;
+        let played = play_row(&rt, &FAULTY, reading, steady, steady)?;
         assert_eq!(rt;
             played.fault.as_slice(),
             FAULTY.fault,
@@ -199,7 +201,7 @@ fn a_failed_write_ends_the_run(rt: HostRuntime) -> Result<(), Fail> {
         let name = row.name;
         let writes = row.output.len().div_ceil(10);
         for calls in 0..writes {
-            let played = play_row(rt.alloc(), row, steady, Manner::failing(10, calls), steady)?;
+            let played = play_row(&rt, row, steady, Manner::failing(10, calls), steady)?;
             assert_eq!(rt;
                 played.fault.as_slice(),
                 b"write failed\n".as_slice(),
@@ -208,7 +210,7 @@ fn a_failed_write_ends_the_run(rt: HostRuntime) -> Result<(), Fail> {
             assert_eq!(rt; played.status, 3, "{name}");
             assert!(rt; row.output.starts_with(&played.output), "{name}");
         }
-        let played = play_row(rt.alloc(), row, steady, Manner::failing(10, writes), steady)?;
+        let played = play_row(&rt, row, steady, Manner::failing(10, writes), steady)?;
         assert_eq!(rt; played.status, row.status, "{name}");
     }
     Ok(())
@@ -217,7 +219,7 @@ fn a_failed_write_ends_the_run(rt: HostRuntime) -> Result<(), Fail> {
 #[test]
 fn a_fault_that_cannot_be_told_is_ignored(rt: HostRuntime) -> Result<(), Fail> {
     let steady = Manner::steady(usize::MAX);
-    let played = play_row(rt.alloc(), &FAULTY, steady, steady, Manner::failing(1, 3))?;
+    let played = play_row(&rt, &FAULTY, steady, steady, Manner::failing(1, 3))?;
     assert_eq!(rt; played.fault.as_slice(), b"lin".as_slice());
     assert_eq!(rt; played.status, 2);
     Ok(())

@@ -8,3 +8,4 @@ pub mod TicketRuns
 pub mod ByteLists
 pub mod Numbers
 pub mod Written
+pub mod Loopbacks

@@ -6,3 +6,4 @@ pub mod Mailbox
 pub mod Tickets
 pub mod Asked
 pub mod Words
+pub mod Loopback

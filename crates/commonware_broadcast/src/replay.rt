@@ -5,44 +5,68 @@ mod events;
 mod fault;
 mod line;
 mod lines;
+mod loopback;
 mod report;
+#[cfg(test)]
+mod tests;
 mod words;
 
+use crate::ingress::inbox::Inbox;
 use arguments::Settings;
 pub use arguments::read_arguments;
 use broadcast_core::run::run;
 use events::read_events;
 pub use fault::Fault;
+use loopback::{Request, loop_back};
 use report::{lists_of, write_report};
-use std::alloc::Global;
 use std::io::{BufWriter, Read, Write};
+use std::num::NonZeroUsize;
+use std::sync::{Mutex, Wait};
 
 /// How many bytes are read or written at once.
 const BUFFER_LEN: usize = 64 * 1024;
 
 /// Runs the events of the reader, and writes the answers to `out`, or the fault to `err`. Answers
 /// the exit status. The words are the arguments, without the program's name.
-pub fn play<R: Read + Drop, W: Write + Drop, E: Write + Drop>(
-    alloc: Global,
+///
+/// Before the first event runs, each broadcast is queued in an inbox of one place and taken again.
+pub fn play<H: Wait + AllocGlobal, R: Read + Drop, W: Write + Drop, E: Write + Drop>(
+    rt: &H,
     words: &[String],
     reader: R,
     out: W,
     err: E,
 ) -> u8 {
-    match replay(alloc, words, reader, out) {
+    let inbox = Mutex::new(Inbox::new(rt.alloc(), NonZeroUsize::MIN));
+    play_through(rt, &inbox, words, reader, out, err)
+}
+
+/// Plays, and passes the broadcasts through this inbox.
+fn play_through<H: Wait + AllocGlobal, R: Read + Drop, W: Write + Drop, E: Write + Drop>(
+    rt: &H,
+    inbox: &Mutex<Inbox<Request>>,
+    words: &[String],
+    reader: R,
+    out: W,
+    err: E,
+) -> u8 {
+    match replay(rt, inbox, words, reader, out) {
         Ok(()) => 0,
         Err(fault) => fault.report(err),
     }
 }
 
-fn replay<R: Read + Drop, W: Write + Drop>(
-    alloc: Global,
+fn replay<H: Wait + AllocGlobal, R: Read + Drop, W: Write + Drop>(
+    rt: &H,
+    inbox: &Mutex<Inbox<Request>>,
     words: &[String],
     reader: R,
     out: W,
 ) -> Result<(), Fault> {
+    let alloc = rt.alloc();
     let settings = Settings::parse(words).ok_or(Fault::Usage)?;
-    let events = read_events(alloc, reader)?;
+    let mut events = read_events(alloc, reader)?;
+    loop_back(rt, inbox, alloc, &mut events)?;
     let Settings {
         own,
         deque_size,

@@ -6,7 +6,7 @@ use std::process::ExitCode;
 
 fn main(rt: HostRuntime) -> ExitCode {
     let status = match read_arguments(&rt) {
-        Ok(words) => play(rt.alloc(), &words, rt.stdin(), rt.stdout(), rt.stderr()),
+        Ok(words) => play(&rt, &words, rt.stdin(), rt.stdout(), rt.stderr()),
         Err(fault) => fault.report(rt.stderr()),
     };
     ExitCode::from(status)

@@ -1,4 +1,9 @@
 //! What ends a run of the program.
+ghost use Rattle.std.specs.Prelude.{◌≡◌};
+ghost use Rattle.commonware_broadcast.specs.declared.broadcaster.MailboxError.TheVariants as mailbox;
+ghost use Rattle.commonware_broadcast.specs.declared.replay.fault.Fault.TheVariants.{Memory};
+
+use crate::broadcaster::MailboxError;
 use std::alloc::AllocError;
 use std::io::Write;
 use thiserror::Error;
@@ -15,6 +20,9 @@ pub enum Fault {
     /// Standard input failed.
     #[error("read failed")]
     Read,
+    /// The inbox refused a broadcast for another cause than memory, or gave none back.
+    #[error("mailbox failed")]
+    Mailbox,
     /// Standard output failed.
     #[error("write failed")]
     Write,
@@ -29,12 +37,23 @@ impl From<AllocError> for Fault {
     }
 }
 
+impl From<MailboxError> for Fault {
+    ghost from_gives = { λ error fault. error ≡ mailbox.Memory → fault ≡ Memory };
+
+    fn from(error: MailboxError) -> Fault {
+        match error {
+            MailboxError::Memory => Fault::Memory,
+            MailboxError::Exhausted => Fault::Mailbox,
+        }
+    }
+}
+
 impl Fault {
     /// The exit status: 2 for what the caller wrote, 3 for what the system refused.
     pub fn status(&self) -> u8 {
         match self {
             Fault::Usage | Fault::Syntax(_) => 2,
-            Fault::Read | Fault::Write | Fault::Memory => 3,
+            Fault::Read | Fault::Mailbox | Fault::Write | Fault::Memory => 3,
         }
     }
 
