@@ -10,6 +10,7 @@ use commonware_broadcast::ingress::queued::{Counts, Queued};
 use commonware_broadcast::ingress::reply::Reply;
 use commonware_broadcast::ingress::request::Request;
 use commonware_broadcast::ingress::responder::Responder;
+use futures::executor::block_on;
 use std::alloc::{AllocError, Global};
 use std::collections::VecDeque;
 use std::num::NonZeroUsize;
@@ -41,6 +42,59 @@ fn skips_a_request_that_closed_in_the_overflow(rt: HostRuntime) -> Result<(), Fa
         given_up: 0,
     };
     assert_eq!(rt; inbox.counts(), counts);
+    Ok(())
+}
+
+#[test]
+fn skips_at_once_what_is_closed_already(rt: HostRuntime) -> Result<(), Fail> {
+    let alloc = rt.alloc();
+    let mut inbox = Inbox::new(alloc, NonZeroUsize::MIN);
+    assert_eq!(rt; inbox.enqueue(get(1, false)), Ok(Queued::Ready(0)));
+    assert_eq!(rt; inbox.enqueue(subscribe(2, true)), Ok(Queued::Skipped(1)));
+    assert_eq!(rt;
+        inbox.enqueue(broadcast(alloc, 3)?),
+        Ok(Queued::Overflow(2))
+    );
+    assert_eq!(rt; taken(&mut inbox), Some((0, Kind::Get(1))));
+    assert_eq!(rt; taken(&mut inbox), Some((2, Kind::Broadcast(3))));
+    assert_eq!(rt; taken(&mut inbox), None);
+    assert_eq!(rt; inbox.close(), 0);
+    assert_eq!(rt; inbox.enqueue(broadcast(alloc, 4)?), Ok(Queued::Closed));
+    let counts = Counts {
+        accepted: 3,
+        taken: 2,
+        skipped: 1,
+        waiting: 0,
+        given_up: 0,
+    };
+    assert_eq!(rt; inbox.counts(), counts);
+    Ok(())
+}
+
+#[test]
+fn drops_the_responders_of_what_it_gives_up(rt: HostRuntime) -> Result<(), Fail> {
+    let alloc = rt.alloc();
+    let mut inbox = Inbox::new(alloc, NonZeroUsize::MIN);
+    let (first, _held) = held_get(alloc, 1)?;
+    let (second, subscribed) = held_subscribe(alloc, 2)?;
+    let (third, got) = held_get(alloc, 3)?;
+    assert_eq!(rt; inbox.enqueue(first), Ok(Queued::Ready(0)));
+    assert_eq!(rt; inbox.enqueue(second), Ok(Queued::Overflow(1)));
+    assert_eq!(rt; inbox.enqueue(third), Ok(Queued::Overflow(2)));
+    assert_eq!(rt; taken(&mut inbox), Some((0, Kind::Get(1))));
+    assert_eq!(rt; inbox.close(), 2);
+    assert_eq!(rt; inbox.close(), 0);
+    assert_eq!(rt; taken(&mut inbox), None);
+    let counts = Counts {
+        accepted: 3,
+        taken: 1,
+        skipped: 0,
+        waiting: 0,
+        given_up: 2,
+    };
+    assert_eq!(rt; inbox.counts(), counts);
+    assert!(rt; block_on(&rt, subscribed)?.is_err());
+    assert!(rt; block_on(&rt, got)?.is_err());
     Ok(())
 }
 

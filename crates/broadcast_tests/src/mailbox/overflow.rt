@@ -115,6 +115,36 @@ fn keeps_one_whose_receiver_went_and_was_handed_back(rt: HostRuntime) -> Result<
 
 #[test]
 fn stops_at_one_that_is_handed_back(rt: HostRuntime) -> Result<(), Fail> {
+    let mut pending = Pending::default(rt.alloc());
+    for request in [
+        subscribe(9, true),
+        get(1, false),
+        get(2, false),
+        get(3, false),
+    ] {
+        Policy::handle(&mut pending, request)?;
+    }
+    let mut taken = Vec::new(rt.alloc());
+    pending.drain(|request: Plain| {
+        if taken.len() == 2 {
+            return Some(request);
+        }
+        let _ = taken.push(kind_of(&request));
+        None
+    });
+    assert_eq!(rt; taken.as_slice(), [Kind::Get(1), Kind::Get(2)].as_slice());
+    let mut rest = Vec::new(rt.alloc());
+    pending.drain(|request: Plain| {
+        let _ = rest.push(kind_of(&request));
+        None
+    });
+    assert_eq!(rt; rest.as_slice(), [Kind::Get(3)].as_slice());
+    assert!(rt; pending.is_empty());
+    Ok(())
+}
+
+#[test]
+fn stops_there_behind_one_whose_receiver_went(rt: HostRuntime) -> Result<(), Fail> {
     let alloc = rt.alloc();
     let mut pending = Pending::default(alloc);
     let (gone, held) = held_subscribe(alloc, 9)?;
