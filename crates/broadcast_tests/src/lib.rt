@@ -5,6 +5,8 @@
 mod codec_calls;
 #[cfg(test)]
 mod codec_tables;
+#[cfg(test)]
+mod core_calls;
 pub mod even;
 #[cfg(test)]
 mod key;
@@ -15,9 +17,13 @@ mod mailbox;
 #[cfg(test)]
 mod ordered_calls;
 #[cfg(test)]
+mod owned_waiters;
+#[cfg(test)]
 mod plain;
 #[cfg(test)]
 mod reference;
+#[cfg(test)]
+mod refused_growths;
 #[cfg(test)]
 mod replay_rows;
 #[cfg(test)]
