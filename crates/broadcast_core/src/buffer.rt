@@ -1,10 +1,9 @@
 //! What a node keeps of its peers, and who waits.
 ghost use Rattle.std.specs.Prelude.{◌≡◌, ◌≤◌, true, false, [], length, is_some, IsSome, if◌then◌else◌, IfOk, IfSome, OnOk, OnErr, IfErr, IsOk, MatchBool};
 ghost use Rattle.std.specs.List.{list_any, IsDistinct};
-ghost use Rattle.std.specs.Map.{lookup, keys_of};
+ghost use Rattle.std.specs.Map.{keys_of};
 ghost use Rattle.std.specs.Option.{option_copied};
 ghost use Rattle.std.specs.Ordering.{eq_by_cmp};
-ghost use Rattle.std.specs.List.Sorted.{IsStrictlySortedBy};
 ghost use Rattle.broadcast_core.specs.Content.{same_by, among, items_at};
 ghost use Rattle.broadcast_core.specs.Stored.{Stores};
 ghost use Rattle.broadcast_core.specs.declared.outcome.Outcome.TheVariants.{Inserted, Duplicate, Ineligible};

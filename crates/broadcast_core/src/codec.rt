@@ -1,5 +1,5 @@
 //! Messages as bytes.
-ghost use Rattle.std.specs.Prelude.{◌≡◌, ℕ, ◌≤◌, ◌++◌, ◌↔◌, ◌⊎◌, List, length, IsTrue, Option, Some, None, Result, Ok, Err, OnErr, IfOk, IfErr, IsOk};
+ghost use Rattle.std.specs.Prelude.{◌≡◌, ℕ, ◌≤◌, ◌++◌, ◌↔◌, List, length, IsTrue, Option, Some, None, Result, Ok, Err};
 ghost use Rattle.std.specs.Option.{option_map};
 ghost use Rattle.broadcast_core.specs.declared.codec.CodecError.{CodecError};
 ghost use Rattle.broadcast_core.specs.Codec.{Appends, IsRefusal, layout_of, whole, GivesOrLacks};

@@ -1,5 +1,5 @@
 //! A message of one byte, and requests over it.
-ghost use Rattle.std.specs.Prelude.{◌≡◌, ◌∷◌, [], Some};
+ghost use Rattle.std.specs.Prelude.{◌∷◌, [], Some};
 
 use broadcast_core::codec::{CodecError, EncodeSize, Write};
 use broadcast_core::digested::{Digested, Digestible};

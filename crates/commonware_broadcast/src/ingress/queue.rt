@@ -1,5 +1,5 @@
 //! The requests that wait in a mailbox: a ready list of so many places, and an overflow behind it.
-ghost use Rattle.std.specs.Prelude.{◌≡◌, ◌≤◌, ◌↔◌, IsTrue, List, [], length};
+ghost use Rattle.std.specs.Prelude.{◌≡◌, ◌≤◌, ◌↔◌, IsTrue, List, length};
 ghost use Rattle.std.specs.NonZero.{non_zero_usize_get};
 ghost use Rattle.commonware_broadcast.specs.declared.ingress.request.Request.{Request};
 ghost use Rattle.commonware_broadcast.specs.Queue.{Pushes, Pops, Draws, HasRoom, IsSound, last_ticket, empty_queue, shut_down, waiting};

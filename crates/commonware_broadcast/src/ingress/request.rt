@@ -1,5 +1,4 @@
 //! A message that has drawn its ticket.
-ghost use Rattle.std.specs.Prelude.{◌≡◌};
 
 use crate::ingress::overflow::Policy;
 use crate::ingress::pending::Pending;
