@@ -3,5 +3,6 @@ mod broadcasts;
 mod inbox;
 mod note;
 mod overflow;
+mod refusals;
 mod replies;
 mod threads;
