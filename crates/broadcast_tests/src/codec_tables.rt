@@ -3,6 +3,7 @@ use broadcast_core::codec::CodecError::{EndOfBuffer, ExtraData, InvalidLength};
 use broadcast_core::codec::{CodecError, EncodeSize, RangeCfg, Read, Write, decode_cfg};
 use broadcast_core::digested::Digestible;
 use broadcast_core::mocks::TestMessage;
+use hex::FromHexError;
 use std::alloc::Global;
 use std::test::Fail;
 
@@ -182,6 +183,38 @@ fn decode_table(rt: HostRuntime) -> Result<(), Fail> {
         };
         assert_eq!(rt; got, want, "{payload} from {min} to {max}");
     }
+    Ok(())
+}
+
+/// The bytes of the longest payload of the table.
+const LONGEST: usize = 30;
+
+/// Decodes a payload that stands nowhere but in the frame of this call.
+fn decode_in_frame(
+    alloc: Global,
+    payload: &str,
+    range: &RangeCfg,
+) -> Result<Result<TestMessage, CodecError>, FromHexError> {
+    let mut frame = [0; LONGEST];
+    let Some(bytes) = frame.get_mut(..payload.len() / 2) else {
+        return Err(FromHexError::InvalidStringLength);
+    };
+    hex::decode_to_slice(payload, bytes)?;
+    Ok(decode_cfg(alloc, bytes, range))
+}
+
+/// Where the toolchain refuses the first growth of the process, the growth in the last line is that
+/// one: no refused payload asks for memory.
+#[test]
+fn refused_payloads_ask_for_no_memory(rt: HostRuntime) -> Result<(), Fail> {
+    for (payload, min, max, answer) in DECODE {
+        if let Err(refusal) = answer {
+            let got = decode_in_frame(rt.alloc(), payload, &RangeCfg::new(min, max))?;
+            assert_eq!(rt; got, Err(refusal), "{payload} from {min} to {max}");
+        }
+    }
+    let grown = Vec::from_slice(rt.alloc(), b"a");
+    assert!(rt; grown.is_ok(), "the first growth was refused");
     Ok(())
 }
 
