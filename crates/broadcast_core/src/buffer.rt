@@ -1,6 +1,6 @@
 //! What a node keeps of its peers, and who waits.
 ghost use Rattle.std.specs.Prelude.{◌≡◌, ◌≤◌, true, false, [], length, is_some, IsSome, if◌then◌else◌, IfOk, IfSome, OnOk, OnErr, IfErr, IsOk, MatchBool};
-ghost use Rattle.std.specs.List.{list_any, IsDistinct};
+ghost use Rattle.std.specs.List.{All, list_any, IsDistinct};
 ghost use Rattle.std.specs.Map.{keys_of};
 ghost use Rattle.std.specs.Option.{option_copied};
 ghost use Rattle.std.specs.Ordering.{eq_by_cmp};
@@ -112,13 +112,15 @@ impl<P: PublicKey, M: Digestible, W: Drop> Core<P, M, W> {
         self.waiters.waiting(digest)
     }
 
-    /// The digests of the key's list, the newest first.
+    /// The digests of the key's list, the newest first. Each of them is cached.
     pub fn list(&self, alloc: Global, peer: &P) -> Result<Vec<M::Digest>, AllocError>
         ensures digests { IfOk result (λ digests. digests.items ≡ list_at (same_by P.cmp M.Digest.cmp) self.now peer.now) }
         ensures distinct { IsDistinct (eq_by_cmp M.Digest.cmp) (list_at (same_by P.cmp M.Digest.cmp) self.now peer.now) }
         ensures bounded { length (list_at (same_by P.cmp M.Digest.cmp) self.now peer.now) ≤ self.now.deque_size }
         ensures primary_only { let same = same_by P.cmp M.Digest.cmp in
             has_primary same self.now peer.now ≡ false → list_at same self.now peer.now ≡ [] }
+        ensures cached { let same = same_by P.cmp M.Digest.cmp in
+            All (λ d. is_some (message_at same self.now d) ≡ true) (list_at same self.now peer.now) }
     {
         self.cache.list(alloc, peer)
     }

@@ -9,28 +9,28 @@ use broadcast_core::outcome::Outcome;
 use std::alloc::{AllocError, Global};
 use std::io::{self, Write};
 
-/// The digests of a peer, the newest first.
+/// The messages of a peer's list, the newest first.
 #[derive(Drop)]
-pub struct PeerList {
+pub struct PeerList<'a> {
     peer: u64,
-    digests: Vec<[u8; 32]>,
+    messages: Vec<&'a TestMessage>,
 }
 
 /// The lists that are not empty, in rising order of their keys.
-pub fn lists_of(
+pub fn lists_of<'a>(
     alloc: Global,
-    core: &Core<u64, TestMessage, u64>,
-) -> Result<Vec<PeerList>, AllocError> {
+    core: &'a Core<u64, TestMessage, u64>,
+) -> Result<Vec<PeerList<'a>>, AllocError> {
     let mut lists = Vec::new(alloc);
     // Only primary peers have lists.
     let primary = core.primary();
     for i in 0..primary.len() {
         if let Some(peer) = primary.get(i) {
-            let digests = core.list(alloc, peer)?;
-            if !digests.is_empty() {
+            let messages = messages_of(alloc, core, peer)?;
+            if !messages.is_empty() {
                 lists.push(PeerList {
                     peer: *peer,
-                    digests,
+                    messages,
                 })?;
             }
         }
@@ -38,17 +38,32 @@ pub fn lists_of(
     Ok(lists)
 }
 
+/// The messages of the peer's list, the newest first.
+fn messages_of<'a>(
+    alloc: Global,
+    core: &'a Core<u64, TestMessage, u64>,
+    peer: &u64,
+) -> Result<Vec<&'a TestMessage>, AllocError> {
+    let digests = core.list(alloc, peer)?;
+    let mut messages = Vec::with_capacity(alloc, digests.len())?;
+    for digest in &digests {
+        // Each listed digest is cached.
+        messages.push(core.get(digest).unwrap().inner())?;
+    }
+    Ok(messages)
+}
+
 /// Writes the answers and the closing report.
 pub fn write_report<W: Write>(
     out: &mut W,
     run: &Run<u64, TestMessage>,
-    lists: &[PeerList],
+    lists: &[PeerList<'_>],
 ) -> io::Result<()> {
     for answer in run.answers.as_slice() {
         write_answer(out, answer)?;
     }
     for list in lists {
-        write_list(out, &run.core, list)?;
+        write_list(out, list)?;
     }
     writeln!(out, "cached {}", run.core.cached_len())?;
     writeln!(out, "awaited {}", run.core.awaited())?;
@@ -107,19 +122,12 @@ fn write_message<W: Write>(out: &mut W, what: &str, message: &TestMessage) -> io
     writeln!(out)
 }
 
-fn write_list<W: Write>(
-    out: &mut W,
-    core: &Core<u64, TestMessage, u64>,
-    list: &PeerList,
-) -> io::Result<()> {
+fn write_list<W: Write>(out: &mut W, list: &PeerList<'_>) -> io::Result<()> {
     let peer = list.peer;
     write!(out, "list {peer}")?;
-    for digest in &list.digests {
-        // Each listed digest is cached.
-        if let Some(message) = core.get(digest) {
-            write!(out, " ")?;
-            write_byte_list(out, &message.inner().content)?;
-        }
+    for message in &list.messages {
+        write!(out, " ")?;
+        write_byte_list(out, &message.content)?;
     }
     writeln!(out)
 }
