@@ -9,8 +9,8 @@ example:
 	cd crates/replay && rt run -- 1 10 < ../../$(EVENTS) > /dev/null
 	$(REPLAY) 1 10 < $(EVENTS)
 
-# The test grows once, after every payload that is refused. Had one of them asked for memory, then that
-# first growth were refused, and not the test's own.
+# The test grows once, after every payload that is refused. If one of them asked for memory, the growth
+# refused would be that one, and not the test's own.
 refused:
 	@cd crates/broadcast_tests; \
 		said=$$(rt try --test --fail-alloc 1 -- refused_payloads_ask_for_no_memory 2>&1); \

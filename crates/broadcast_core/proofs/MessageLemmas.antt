@@ -1,16 +1,16 @@
 -- What is read is spelled so, and what is spelled so is read.
-use Rattle.std.proofs.Common.{◌≡◌, ℕ, ◌+◌, ◌-◌, ◌^◌, ◌<◌, ◌≤◌, true, cond, ltb, List, ◌++◌, length, get_or, take, drop, Some, Result, Ok, Err, refl, sym, ap, subst, ◌∙◌, append_assoc, arith, inl, inr}
-use Rattle.std.specs.Prelude.{IfOk}
-use Rattle.std.proofs.lemmas.Bool.{cases_lt, ltb-false, lt-ltb, and_from}
-use Rattle.std.proofs.lemmas.List.{take_at, take-append-drop, length-append, length-take, get_or-drop, get_or-take, get_or_past}
+use Rattle.std.proofs.Common.{◌≡◌, ℕ, ◌+◌, ◌-◌, ◌^◌, ◌<◌, ◌≤◌, true, cond, ltb, List, ◌++◌, length, get_or, take, drop, Some, Result, Ok, Err, refl, sym, ap, subst, ◌∙◌, append_assoc, arith, Bool, false, ◌⊎◌, inl, inr, ⊎_elim}
+use Rattle.std.specs.Prelude.{IfOk, IfErr}
+use Rattle.std.proofs.lemmas.Bool.{cases_lt, ltb-true, ltb-false, lt-ltb, and_from}
+use Rattle.std.proofs.lemmas.List.{take_at, take-append-drop, length-append, length-take, length-drop, get_or-drop, get_or-take, get_or_past}
 use Rattle.std.proofs.lemmas.Nat.{be_bytes_4}
 use Rattle.byteorder.specs.Endian.{big_bytes, big_number}
 use Rattle.byteorder.specs.Numbers.{big_from-lt}
 use Rattle.broadcast_core.specs.declared.codec.CodecError.{CodecError}
 use Rattle.broadcast_core.specs.declared.codec.CodecError.TheVariants.{EndOfBuffer, InvalidLength}
 use Rattle.broadcast_core.specs.declared.codec.RangeCfg.{RangeCfg}
-use Rattle.broadcast_core.specs.Codec.{◌>>=◌, GivesOrLacks, layout_of, contains, spelled, length_at, bytes_at, list_at}
-use Rattle.broadcast_core.specs.TestMessage.{Parts, Begins, encoding_of, message_at}
+use Rattle.broadcast_core.specs.Codec.{◌>>=◌, GivesOrLacks, layout_of, contains, has_spelling, spelled, Stands, NoneStands, length_at, bytes_at, list_at}
+use Rattle.broadcast_core.specs.TestMessage.{Parts, Begins, IsRefused, encoding_of, message_at}
 use Rattle.broadcast_core.specs.CodecLaws.{bind_ok, ok_is, guard_ok, chosen_ok, encoded_parts, message_again}
 
 abbrev pub IsBytes : List ℕ → Type 0
@@ -34,10 +34,8 @@ big_bytes-big_number bytes fits long =
 
 -- what a reader took from the front
 record Takes (range : RangeCfg) (bytes list rest : List ℕ) : Type 0 where
-  parts : bytes ≡ spelled list ++ rest
+  stands : Stands range bytes list rest
   rest_fits : IsBytes rest
-  short : length list < 2 ^ 32
-  ranged : contains range (length list) ≡ true
 
 list_takes : (range : RangeCfg) (bytes list rest : List ℕ) → IsBytes bytes → list_at range bytes ≡ Ok (list, rest) → Takes range bytes list rest
 unfolding list_at
@@ -56,15 +54,17 @@ list_takes range bytes list rest fits e =
     let head : big_bytes 4 (length list) ≡ take 4 bytes = ap (big_bytes 4) (len ∙ sym n-is) ∙ big_bytes-big_number bytes fits long in
     let tail : list ++ rest ≡ drop 4 bytes = (λ i. sym list-is i ++ sym rest-is i) ∙ take-append-drop a.0.0 a.0.1 ∙ sym after-is in
     record {
-      parts = sym (append_assoc (big_bytes 4 (length list)) list rest ∙ (λ i. head i ++ tail i) ∙ take-append-drop 4 bytes);
+      stands = record {
+        parts = sym (append_assoc (big_bytes 4 (length list)) list rest ∙ (λ i. head i ++ tail i) ∙ take-append-drop 4 bytes);
+        short = lt-ltb _ _ (omega (arith, len, n-is, big_from-lt 0 4 bytes fits));
+        ranged = ap (contains range) len ∙ inside.0;
+      };
       rest_fits = subst IsBytes (ap (drop a.0.0) after-is ∙ rest-is) (IsBytes-drop a.0.0 (drop 4 bytes) (IsBytes-drop 4 bytes fits));
-      short = omega (arith, len, n-is, big_from-lt 0 4 bytes fits);
-      ranged = ap (contains range) len ∙ inside.0;
     }
 
 -- what has spellings has an encoding
-encoding_is : (m : Parts) → length m.commitment < 2 ^ 32 → length m.content < 2 ^ 32 → encoding_of m ≡ Some (spelled m.commitment ++ spelled m.content)
-encoding_is m short0 short1 = rw (and_from _ _ (lt-ltb _ _ short0) (lt-ltb _ _ short1)) refl
+encoding_is : (m : Parts) → has_spelling m.commitment ≡ true → has_spelling m.content ≡ true → encoding_of m ≡ Some (spelled m.commitment ++ spelled m.content)
+encoding_is m short0 short1 = rw (and_from _ _ short0 short1) refl
 
 -- what is read is spelled so, each byte of it
 message_found : (range : RangeCfg) (bytes : List ℕ) (m : Parts) (n : ℕ) → IsBytes bytes → message_at range bytes ≡ Ok (m, n) → Begins range bytes m n
@@ -78,16 +78,16 @@ message_found range bytes m n fits e =
     let first = list_takes range bytes a.0.0 a.0.1 fits a.1 in
     let second = list_takes range a.0.1 b.0.0 b.0.1 first.rest_fits b.1 in
     let whole = spelled a.0.0 ++ spelled b.0.0 in
-    let parts : bytes ≡ whole ++ b.0.1 = first.parts ∙ ap (λ (r : List ℕ). spelled a.0.0 ++ r) second.parts ∙ sym (append_assoc (spelled a.0.0) (spelled b.0.0) b.0.1) in
+    let parts : bytes ≡ whole ++ b.0.1 = first.stands.parts ∙ ap (λ (r : List ℕ). spelled a.0.0 ++ r) second.stands.parts ∙ sym (append_assoc (spelled a.0.0) (spelled b.0.0) b.0.1) in
     let total : length bytes ≡ length whole + length b.0.1 = ap length parts ∙ length-append whole b.0.1 in
     let used : length bytes - length b.0.1 ≡ length whole = omega (arith, total) in
     let taken : take (length bytes - length b.0.1) bytes ≡ whole = (λ i. take (used i) (parts i)) ∙ take_at whole b.0.1 (length whole) refl in
     subst (λ (r : Parts × ℕ). Begins range bytes r.0 r.1) which
     (record {
       within = omega arith;
-      encoded = encoding_is made first.short second.short ∙ ap Some (sym taken);
-      commitment_in = first.ranged;
-      content_in = second.ranged;
+      encoded = encoding_is made first.stands.short second.stands.short ∙ ap Some (sym taken);
+      commitment_in = first.stands.ranged;
+      content_in = second.stands.ranged;
     })
 
 -- what is spelled so is read
@@ -98,6 +98,57 @@ message_only range bytes m n begins =
     let split : bytes ≡ whole ++ drop n bytes = sym (take-append-drop n bytes) ∙ ap (λ (r : List ℕ). r ++ drop n bytes) (sym parts.2) in
     let used : length whole ≡ n = ap length parts.2 ∙ omega (arith, length-take n bytes, begins.within) in
     ap (message_at range) split ∙ message_again range m (drop n bytes) parts.0 parts.1 begins.commitment_in begins.content_in ∙ ap (λ (k : ℕ). Ok (m, k)) used
+
+-- ---- what is refused is so for what stands there
+
+-- which refusal a test gives
+guard_err : {A : Type 0} (b : Bool) (d e : CodecError) (x : A) → cond b (Err d) (Ok x) ≡ Err e → (b ≡ true) × (d ≡ e)
+guard_err true d e x h = (refl, cc)
+guard_err false d e x h = absurd cc
+
+-- a refusal is that of what follows the test, or the test's own
+chosen_err : {A : Type 0} (b : Bool) (d e : CodecError) (x : Result A CodecError) → cond b x (Err d) ≡ Err e → ((b ≡ true) × (x ≡ Err e)) ⊎ ((b ≡ false) × (d ≡ e))
+chosen_err true d e x h = inl (refl, h)
+chosen_err false d e x h = inr (refl, cc)
+
+-- a refusal is that of the first step, or of what follows its value
+bind_refused : {A B : Type 0} (r : Result A CodecError) (f : A → Result B CodecError) (e : CodecError) → (r >>= f) ≡ Err e → (r ≡ Err e) ⊎ ((x : A) × (r ≡ Ok x) × (f x ≡ Err e))
+bind_refused (Ok x) f e h = inr (x, refl, h)
+bind_refused (Err d) f e h = inl cc
+
+-- why a byte list is not read
+list_refused : (range : RangeCfg) (bytes : List ℕ) (e : CodecError) → list_at range bytes ≡ Err e → NoneStands range bytes e
+unfolding list_at
+list_refused range bytes e h =
+    let f : ℕ × List ℕ → Result (List ℕ × List ℕ) CodecError = λ n. cond (contains range n.0) (bytes_at n.0 n.1) (Err (InvalidLength n.0)) in
+    ⊎_elim
+    (λ first. let short = guard_err (ltb (length bytes) 4) EndOfBuffer e (big_number 4 bytes, drop 4 bytes) first in
+    subst (NoneStands range bytes) short.1 (inl (ltb-true _ _ short.0)))
+    (λ (s : (n : ℕ × List ℕ) × (length_at bytes ≡ Ok n) × (f n ≡ Err e)).
+    let front = guard_ok (ltb (length bytes) 4) EndOfBuffer (big_number 4 bytes, drop 4 bytes) s.0 s.1 in
+    let long : 4 ≤ length bytes = ltb-false _ _ front.0 in
+    let n-is : big_number 4 bytes ≡ s.0.0 = ap (λ (p : ℕ × List ℕ). p.0) front.1 in
+    let after-is : drop 4 bytes ≡ s.0.1 = ap (λ (p : ℕ × List ℕ). p.1) front.1 in
+    ⊎_elim
+    (λ inside. let few = guard_err (ltb (length s.0.1) s.0.0) EndOfBuffer e (take s.0.0 s.0.1, drop s.0.0 s.0.1) inside.1 in
+    subst (NoneStands range bytes) few.1 (inr (ap (contains range) n-is ∙ inside.0, omega (arith, long, n-is, ltb-true _ _ few.0, ap length after-is, length-drop 4 bytes))))
+    (λ outside. subst (NoneStands range bytes) outside.1 (long, sym n-is, outside.0))
+    (chosen_err (contains range s.0.0) (InvalidLength s.0.0) e (bytes_at s.0.0 s.0.1) s.2))
+    (bind_refused (length_at bytes) f e h)
+
+-- why a message is not read
+message_refused : (range : RangeCfg) (bytes : List ℕ) (e : CodecError) → IsBytes bytes → message_at range bytes ≡ Err e → IsRefused range bytes e
+unfolding message_at
+message_refused range bytes e fits h =
+    let g : List ℕ → List ℕ × List ℕ → Result (Parts × ℕ) CodecError = λ c d. Ok (record { commitment = c; content = d.0 }, length bytes - length d.1) in
+    let f : List ℕ × List ℕ → Result (Parts × ℕ) CodecError = λ c. list_at range c.1 >>= g c.0 in
+    ⊎_elim
+    (λ first. record { remains = bytes; behind = inl refl; why = list_refused range bytes e first })
+    (λ (s : (c : List ℕ × List ℕ) × (list_at range bytes ≡ Ok c) × (f c ≡ Err e)). ⊎_elim
+    (λ second. record { remains = s.0.1; behind = inr (s.0.0, (list_takes range bytes s.0.0 s.0.1 fits s.1).stands); why = list_refused range s.0.1 e second })
+    (λ (t : (d : List ℕ × List ℕ) × (list_at range s.0.1 ≡ Ok d) × (g s.0.0 d ≡ Err e)). absurd (let no = t.2 in cc))
+    (bind_refused (list_at range s.0.1) (g s.0.0) e s.2))
+    (bind_refused (list_at range bytes) f e h)
 
 -- ---- the same of what the methods answer
 
@@ -110,6 +161,11 @@ layout_found range bytes (Err d) read fits e h = tt
 pub layout_only : (range : RangeCfg) (bytes : List ℕ) (r : Result ℕ CodecError) → r ≡ layout_of (message_at range bytes) → (m : Parts) (n : ℕ) → Begins range bytes m n → r ≡ Ok n
 layout_only range bytes r h m n begins = h ∙ ap layout_of (message_only range bytes m n begins)
 
+pub layout_refused : (range : RangeCfg) (bytes : List ℕ) (r : Result ℕ CodecError) (read : Result (Parts × ℕ) CodecError) → IsBytes bytes → message_at range bytes ≡ read → r ≡ layout_of read → IfErr r (λ e. IsRefused range bytes e)
+layout_refused range bytes (Ok n) read fits e h = tt
+layout_refused range bytes (Err d) (Ok x) fits e h = absurd cc
+layout_refused range bytes (Err d) (Err why) fits e h = let same : d ≡ why = cc in message_refused range bytes d fits (e ∙ ap (λ x. Err x) (sym same))
+
 pub read_found : (range : RangeCfg) (bytes : List ℕ) (r : Result (Parts × ℕ) CodecError) → IsBytes bytes → GivesOrLacks r (message_at range bytes) → IfOk r (λ x. Begins range bytes x.0 x.1)
 read_found range bytes (Ok x) fits (inl e) = message_found range bytes x.0 x.1 fits (sym e)
 read_found range bytes (Ok x) fits (inr lacks) = absurd (let no = lacks.0 in cc)
@@ -117,3 +173,8 @@ read_found range bytes (Err d) fits given = tt
 
 pub read_only : (range : RangeCfg) (bytes : List ℕ) (r : Result (Parts × ℕ) CodecError) → GivesOrLacks r (message_at range bytes) → (m : Parts) (n : ℕ) → Begins range bytes m n → GivesOrLacks r (Ok (m, n))
 read_only range bytes r given m n begins = subst (GivesOrLacks r) (message_only range bytes m n begins) given
+
+pub read_refused : (range : RangeCfg) (bytes : List ℕ) (r : Result (Parts × ℕ) CodecError) → IsBytes bytes → GivesOrLacks r (message_at range bytes) → IfErr r (λ e. (e ≡ CodecError.Memory) ⊎ IsRefused range bytes e)
+read_refused range bytes (Ok x) fits given = tt
+read_refused range bytes (Err d) fits (inl e) = inr (message_refused range bytes d fits (sym e))
+read_refused range bytes (Err d) fits (inr lacks) = inl (let what = lacks.0 in cc)

@@ -1,5 +1,5 @@
 -- Spelling and reading.
-use Rattle.std.specs.Prelude.{◌≡◌, ℕ, ◌-◌, ◌^◌, ◌==◌, ◌&&◌, ◌⊎◌, Bool, if◌then◌else◌, List, ◌++◌, length, take, drop, Option, Some, Result, Ok, Err, IsOk, nat_lt, nat_le}
+use Rattle.std.specs.Prelude.{◌≡◌, ℕ, ◌+◌, ◌-◌, ◌^◌, ◌<◌, ◌≤◌, ◌==◌, false, IsTrue, ◌&&◌, ◌⊎◌, Bool, if◌then◌else◌, List, ◌++◌, length, take, drop, Option, Some, Result, Ok, Err, IsOk, nat_lt, nat_le}
 use Rattle.byteorder.specs.Endian.{big_bytes, big_number}
 use Rattle.broadcast_core.specs.declared.codec.CodecError.{CodecError}
 use Rattle.broadcast_core.specs.declared.codec.RangeCfg.{RangeCfg}
@@ -56,6 +56,19 @@ has_spelling xs = nat_lt (length xs) (2 ^ 32)
 -- a byte list is its length as four bytes, the highest first, then its bytes
 abbrev pub spelled : List ℕ → List ℕ
 spelled xs = big_bytes 4 (length xs) ++ xs
+
+-- a byte list whose length is in the range stands in front of the rest
+pub record Stands (range : RangeCfg) (bytes list rest : List ℕ) : Type 0 where
+  pub parts : bytes ≡ spelled list ++ rest
+  pub short : IsTrue (has_spelling list)
+  pub ranged : IsTrue (contains range (length list))
+
+-- why none stands in front: the bytes are fewer than four, or the number of the first four is in the range and fewer than so many follow, or it is out of the range
+abbrev pub NoneStands : RangeCfg → List ℕ → CodecError → Type 0
+NoneStands range bytes EndOfBuffer =
+    (length bytes < 4) ⊎ (IsTrue (contains range (big_number 4 bytes)) × (length bytes < 4 + big_number 4 bytes))
+NoneStands range bytes (InvalidLength n) = (4 ≤ length bytes) × (n ≡ big_number 4 bytes) × (contains range n ≡ false)
+NoneStands range bytes _ = ⊥
 
 -- the length in front, with the bytes after it
 abbrev pub length_at : List ℕ → Result (ℕ × List ℕ) CodecError

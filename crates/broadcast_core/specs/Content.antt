@@ -1,4 +1,4 @@
--- What a core contains, and what a taking, a peer set and the requests make of it.
+-- What a core contains, and how it is read.
 use Rattle.std.specs.Prelude.{ℕ, Bool, not, if◌then◌else◌, List, [], ◌∷◌, take, Option, unwrap_or}
 use Rattle.std.specs.List.{filter, list_any}
 use Rattle.std.specs.Map.{lookup}

@@ -1,6 +1,6 @@
 -- What a test message is, and how it is spelled and read.
-use Rattle.std.specs.Prelude.{◌≡◌, ℕ, ◌-◌, ◌≤◌, ◌&&◌, if◌then◌else◌, IsTrue, List, ◌++◌, length, take, Option, None, Some, Result, Ok}
-use Rattle.broadcast_core.specs.Codec.{◌>>=◌, contains, has_spelling, spelled, list_at}
+use Rattle.std.specs.Prelude.{◌≡◌, ℕ, ◌-◌, ◌≤◌, ◌&&◌, ◌⊎◌, if◌then◌else◌, IsTrue, List, ◌++◌, length, take, Option, None, Some, Result, Ok}
+use Rattle.broadcast_core.specs.Codec.{◌>>=◌, contains, has_spelling, spelled, Stands, NoneStands, list_at}
 use Rattle.broadcast_core.specs.declared.codec.CodecError.{CodecError}
 use Rattle.broadcast_core.specs.declared.codec.RangeCfg.{RangeCfg}
 
@@ -27,3 +27,9 @@ pub record Begins (range : RangeCfg) (bytes : List ℕ) (m : Parts) (n : ℕ) : 
   pub encoded : encoding_of m ≡ Some (take n bytes)
   pub commitment_in : IsTrue (contains range (length m.commitment))
   pub content_in : IsTrue (contains range (length m.content))
+
+-- why no message stands in front: none of the lists does in front of what remains, once the first is taken off where it stands there
+pub record IsRefused (range : RangeCfg) (bytes : List ℕ) (e : CodecError) : Type 0 where
+  pub remains : List ℕ
+  pub behind : (remains ≡ bytes) ⊎ ((first : List ℕ) × Stands range bytes first remains)
+  pub why : NoneStands range remains e

@@ -214,7 +214,8 @@ impl<P: PublicKey, M: Digestible, W: Drop> Core<P, M, W> {
         Ok(Subscribed::Waiting)
     }
 
-    /// Drops those who wait under these tickets, and says how many they were. Takes no memory.
+    /// Drops those who wait under these tickets, and says how many they were, or the greatest number
+    /// where they were more. Takes no memory.
     pub fn cleanup(&mut self, gone: &[u64]) -> u64
     where
         W: Ticketed,
@@ -225,7 +226,8 @@ impl<P: PublicKey, M: Digestible, W: Drop> Core<P, M, W> {
         self.waiters.cleanup(gone)
     }
 
-    /// Drops those who wait and answer closed, and says how many they were. Takes no memory.
+    /// Drops those who wait and answer closed, and says how many they were, or the greatest number
+    /// where they were more. Each is asked once. Takes no memory.
     pub fn cleanup_by(&mut self) -> u64
     where
         W: Closable,

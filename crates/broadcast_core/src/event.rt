@@ -32,7 +32,7 @@ pub enum Cause {
     Unencodable,
 }
 
-/// What an event is answered.
+/// The answer to an event.
 #[derive(Drop)]
 pub enum Answer<M: Digestible> {
     /// The peer set was taken.
@@ -67,7 +67,7 @@ pub struct Sent<P> {
     pub recipients: Recipients<P>,
     /// The encoding of the message.
     pub bytes: Items<u8>,
-    /// Whether it goes before others.
+    /// The flag that the run was given.
     pub priority: bool,
 }
 

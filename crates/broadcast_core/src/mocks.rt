@@ -1,12 +1,12 @@
 //! A message for tests.
-ghost use Rattle.std.specs.Prelude.{◌≡◌, ℕ, Option, Some, None, Result, Ok, IfOk};
+ghost use Rattle.std.specs.Prelude.{◌≡◌, ◌⊎◌, ℕ, Option, Some, None, Result, Ok, IfOk, IfErr};
 ghost use Rattle.std.specs.Str.{bytes_eq};
 ghost use Rattle.std.specs.Ordering.{on, eq_of_both};
 ghost use Rattle.std.specs.Cmp.Rules.{comparing};
 ghost use Rattle.std.proofs.Common.{rules};
 ghost use Rattle.sha2.specs.Sha256.{sha256};
 ghost use Rattle.broadcast_core.specs.Codec.{layout_of, Gives, GivesOrLacks};
-ghost use Rattle.broadcast_core.specs.TestMessage.{Parts, encoding_of, message_at, Begins};
+ghost use Rattle.broadcast_core.specs.TestMessage.{Parts, encoding_of, message_at, Begins, IsRefused};
 ghost use Rattle.broadcast_core.specs.CodecLaws.{message_within, message_refusals, message_reads_back};
 
 use crate::codec::{
@@ -124,7 +124,9 @@ impl Read for TestMessage {
         ensures found { IfOk result (λ n. (m : Parts) × Begins cfg.now buf.now m n) }
         // What begins with a message has its layout.
         ensures only { (m : Parts) (n : ℕ) → Begins cfg.now buf.now m n → result ≡ Ok n }
-        // Which refusal it is.
+        // What is refused is so for this.
+        ensures refused { IfErr result (λ e. IsRefused cfg.now buf.now e) }
+        // Which answer it is.
         ensures exact { result ≡ layout_of (message_at cfg.now buf.now) }
     {
         parts_at(buf, cfg).map(|(_, _, used)| used)
@@ -136,7 +138,9 @@ impl Read for TestMessage {
         ensures found { IfOk result (λ r. Begins cfg.now buf.now r.0 r.1) }
         // What is spelled so is read.
         ensures only { (m : Parts) (n : ℕ) → Begins cfg.now buf.now m n → GivesOrLacks result (Ok (m, n)) }
-        // Which refusal it is.
+        // What is refused is so for this, or for want of memory.
+        ensures refused { IfErr result (λ e. (e ≡ CodecError.Memory) ⊎ IsRefused cfg.now buf.now e) }
+        // Which answer it is.
         ensures exact { GivesOrLacks result (message_at cfg.now buf.now) }
     {
         copied_at(alloc, buf, cfg)

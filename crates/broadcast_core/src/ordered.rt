@@ -109,7 +109,7 @@ impl<P: PublicKey> Set<P> {
     }
 }
 
-// Sorts the keys, and drops repeats.
+/// Sorts the keys, and drops repeats.
 fn sort_dedup<K: Ord + Drop>(keys: &mut Vec<K>) -> Result<(), AllocError>
     ensures members { OnOk result ((q : K) → list_any (eq_by_cmp K.cmp q) keys.new.items ≡ list_any (eq_by_cmp K.cmp q) keys.old.items) }
     ensures rises { OnOk result (IsStrictlySortedBy K.cmp keys.new.items) }
@@ -119,7 +119,7 @@ fn sort_dedup<K: Ord + Drop>(keys: &mut Vec<K>) -> Result<(), AllocError>
     Ok(())
 }
 
-// The place of the key in keys that rise.
+/// The place of the key in keys that rise.
 pub(crate) fn place_of<K: Ord>(keys: &[K], key: &K) -> Option<usize>
     requires { IsStrictlySortedBy K.cmp keys.now }
     ensures place { IfSome result (λ i. IsSomeAnd (slice_get keys.now i) (λ q. eq_by_cmp K.cmp key.now q ≡ true)) }

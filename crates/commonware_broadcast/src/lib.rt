@@ -5,3 +5,8 @@
 pub mod broadcaster;
 pub mod ingress;
 pub mod replay;
+
+// The cache and its kin, for callers of this crate alone.
+pub use broadcast_core::{
+    buffer, codec, digested, event, items, mocks, ordered, outcome, requests, run,
+};

@@ -29,7 +29,8 @@ const BUFFER_LEN: usize = 64 * 1024;
 /// Runs the events of the reader, and writes the answers to `out`, or the fault to `err`. Answers
 /// the exit status. The words are the arguments, without the program's name.
 ///
-/// Before the first event runs, each broadcast is queued in an inbox of one place and taken again.
+/// Before the first event runs, each broadcast is queued in an inbox of one place and taken again, so
+/// that a run uses the mailbox as well.
 pub fn play<H: Wait + AllocGlobal, R: Read + Drop, W: Write + Drop, E: Write + Drop>(
     rt: &H,
     words: &[String],

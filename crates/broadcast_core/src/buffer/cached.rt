@@ -3,10 +3,12 @@ ghost use Rattle.std.specs.Prelude.{◌≡◌};
 
 use crate::digested::{Digested, Digestible};
 
-/// A cached message, and how many deques have its digest.
+/// A cached message, with its references.
 #[derive(Drop)]
 pub struct Cached<M: Digestible> {
+    /// The message.
     pub message: Digested<M>,
+    /// How many deques have its digest.
     pub references: usize,
 }
 

@@ -114,7 +114,7 @@ fn payload<P: PublicKey, M: Digestible + Codec>(
     }
 }
 
-/// What a payload is answered that was not read.
+/// The answer to a payload that was not read.
 fn refused<M: Digestible>(refusal: CodecError) -> Answer<M>
     ensures memory { refusal ≡ CodecError.Memory → result ≡ answer.Refused Cause.Memory }
     ensures invalid { (refusal ≡ CodecError.Memory → ⊥) → result ≡ answer.Invalid refusal }

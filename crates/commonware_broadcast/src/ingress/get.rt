@@ -29,7 +29,7 @@ impl<M: Digestible> Model for Get<M> {
 }
 
 impl<M: Digestible> Get<M> {
-    // What waits at the receiver for the message of the digest.
+    /// What waits at the receiver for the message of the digest.
     pub(super) fn new(asked: M::Digest, receiver: oneshot::Receiver<Option<Reply<M>>>) -> Self
         ensures { result ≡ record { digest = asked; source = completed_source receiver } }
     {

@@ -60,9 +60,7 @@ impl<T> Queue<T> {
             next: 0,
         }
     }
-}
 
-impl<T> Queue<T> {
     /// How many wait.
     pub(super) fn len(&self) -> usize
         ensures { result ≡ length (waiting self.now) }

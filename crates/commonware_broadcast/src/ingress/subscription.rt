@@ -30,7 +30,7 @@ impl<M: Digestible> Model for Subscription<M> {
 }
 
 impl<M: Digestible> Subscription<M> {
-    // What waits at the receiver for the message of the digest.
+    /// What waits at the receiver for the message of the digest.
     pub(super) fn new(asked: M::Digest, receiver: oneshot::Receiver<Reply<M>>) -> Self
         ensures { result ≡ record { digest = asked; source = completed_source receiver } }
     {

@@ -42,6 +42,7 @@ impl<R: Read + Drop> Lines<R> {
         if self.has_ended {
             return Ok(None);
         }
+        // A loop must be shown to end. No line is so long that the bound is met.
         for _ in 0..u64::MAX {
             match append_buffered(&mut self.reader, &mut self.line)? {
                 Progress::LineEnd => return Ok(Some(&self.line)),
@@ -63,6 +64,7 @@ impl<R: Read + Drop> Lines<R> {
         if self.has_ended {
             return Ok(());
         }
+        // No input is so long that the bound is met.
         for _ in 0..u64::MAX {
             if skip_buffered(&mut self.reader)? {
                 break;

@@ -23,16 +23,13 @@ pub fn lists_of<'a>(
 ) -> Result<Vec<PeerList<'a>>, AllocError> {
     let mut lists = Vec::new(alloc);
     // Only primary peers have lists.
-    let primary = core.primary();
-    for i in 0..primary.len() {
-        if let Some(peer) = primary.get(i) {
-            let messages = messages_of(alloc, core, peer)?;
-            if !messages.is_empty() {
-                lists.push(PeerList {
-                    peer: *peer,
-                    messages,
-                })?;
-            }
+    for peer in core.primary().as_slice() {
+        let messages = messages_of(alloc, core, peer)?;
+        if !messages.is_empty() {
+            lists.push(PeerList {
+                peer: *peer,
+                messages,
+            })?;
         }
     }
     Ok(lists)
@@ -62,15 +59,10 @@ pub fn write_report<W: Write>(
     for answer in run.answers.as_slice() {
         write_answer(out, answer)?;
     }
-    for list in lists {
-        write_list(out, list)?;
-    }
+    write_lists(out, lists)?;
     writeln!(out, "cached {}", run.core.cached_len())?;
     writeln!(out, "awaited {}", run.core.awaited())?;
-    for sent in run.sent.as_slice() {
-        write_sent(out, sent)?;
-    }
-    Ok(())
+    write_sends(out, run.sent.as_slice())
 }
 
 fn write_answer<W: Write>(out: &mut W, answer: &Answer<TestMessage>) -> io::Result<()> {
@@ -122,6 +114,13 @@ fn write_message<W: Write>(out: &mut W, what: &str, message: &TestMessage) -> io
     writeln!(out)
 }
 
+fn write_lists<W: Write>(out: &mut W, lists: &[PeerList<'_>]) -> io::Result<()> {
+    for list in lists {
+        write_list(out, list)?;
+    }
+    Ok(())
+}
+
 fn write_list<W: Write>(out: &mut W, list: &PeerList<'_>) -> io::Result<()> {
     let peer = list.peer;
     write!(out, "list {peer}")?;
@@ -130,6 +129,13 @@ fn write_list<W: Write>(out: &mut W, list: &PeerList<'_>) -> io::Result<()> {
         write_byte_list(out, &message.content)?;
     }
     writeln!(out)
+}
+
+fn write_sends<W: Write>(out: &mut W, sends: &[Sent<u64>]) -> io::Result<()> {
+    for sent in sends {
+        write_sent(out, sent)?;
+    }
+    Ok(())
 }
 
 fn write_sent<W: Write>(out: &mut W, sent: &Sent<u64>) -> io::Result<()> {

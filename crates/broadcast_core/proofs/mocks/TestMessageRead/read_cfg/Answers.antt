@@ -1,5 +1,5 @@
 use Rattle.std.proofs.Common.{arith}
-use Rattle.broadcast_core.proofs.MessageLemmas.{read_found, read_only}
+use Rattle.broadcast_core.proofs.MessageLemmas.{read_found, read_only, read_refused}
 use Rattle.broadcast_core.proofs.mocks.TestMessageRead.read_cfg.Goals as goal
 
 pub returns-clause-found : goal.returns-clause-found
@@ -7,3 +7,6 @@ returns-clause-found c = read_found c.args.cfg.now c.args.buf.now _ (λ i. omega
 
 pub returns-clause-only : goal.returns-clause-only
 returns-clause-only c = read_only c.args.cfg.now c.args.buf.now _ c.copied_at.ensures
+
+pub returns-clause-refused : goal.returns-clause-refused
+returns-clause-refused c = read_refused c.args.cfg.now c.args.buf.now _ (λ i. omega (arith, c.type_inv.buf i)) c.copied_at.ensures
