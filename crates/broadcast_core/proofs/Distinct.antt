@@ -19,6 +19,12 @@ pub by_test : {P : Type 0} (b : Bool) → (b ≡ true → P) → (b ≡ false �
 by_test true at_true at_false = at_true refl
 by_test false at_true at_false = at_false refl
 
+-- two truths are one, where each gives the other
+pub same_truth : (a b : Bool) → (a ≡ true → b ≡ true) → (b ≡ true → a ≡ true) → a ≡ b
+same_truth true b f g = sym (f refl)
+same_truth false true f g = g refl
+same_truth false false f g = refl
+
 pub or_right : (a : Bool) → (a || true) ≡ true
 or_right true = refl
 or_right false = refl

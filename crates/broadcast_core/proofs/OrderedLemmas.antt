@@ -14,11 +14,7 @@ use Rattle.std.proofs.lemmas.List.Folds.{Any-from_list_any, list_any-from_Any, l
 use Rattle.std.proofs.lemmas.List.Kept.{Any-dedup, Contains-from_dedup}
 use Rattle.std.proofs.lemmas.List.Sorted.{searchable_from_sorted}
 use Rattle.std.proofs.lemmas.Map.Keys.{Less-from_sorted}
-
-same_tests : (a b : Bool) → (a ≡ true → b ≡ true) → (b ≡ true → a ≡ true) → a ≡ b
-same_tests true b f g = sym (f refl)
-same_tests false true f g = g refl
-same_tests false false f g = refl
+use Rattle.broadcast_core.proofs.Distinct.{same_truth}
 
 -- what is left of the keys has a key equal to each of them, and no other
 pub list_any-dedup : {K : Type 0} {R : K → K → Ordering} (o : IsTotalOrder R) {E : K → K → Bool} (e : IsEquivalence E) → ((x y : K) → E x y ≡ eq_by_cmp R x y) → (xs : List K) (q : K) → list_any (eq_by_cmp R q) (dedup E xs) ≡ list_any (eq_by_cmp R q) xs
@@ -33,7 +29,7 @@ list_any-dedup {K} {R} o {E} e ties xs q =
     let b = Any-dedup e xs a.1 (a.0, a.2, a.3) in
     let tied : eq_by_cmp R a.1 b.1 ≡ true = sym (ties a.1 b.1) ∙ b.4 in
     list_any-from_Any equal (dedup E xs) (b.0, b.1, b.2, b.3, (eq_by_cmp_equiv o).congr q a.1 b.1 a.4 ∙ tied) in
-    same_tests _ _ was stays
+    same_truth _ _ was stays
 
 -- a key at a place
 key_at : {K : Type 0} (P : K → Type 0) (xs : List K) (i : ℕ) → i < length xs → HoldsAt P xs i → IsSomeAnd (slice_get xs i) P

@@ -12,16 +12,10 @@ use Rattle.broadcast_core.specs.Carried.{Carried}
 use Rattle.broadcast_core.specs.Content.{Content, Same, among, without, items_at}
 use Rattle.broadcast_core.specs.Changes.{Takes, TakesPeers}
 use Rattle.broadcast_core.specs.Stored.{Stored, Stores, Keeps, IsCore, is_stored}
-use Rattle.broadcast_core.proofs.Distinct.{by_test, or_right, among-equal, among-without_other}
+use Rattle.broadcast_core.proofs.Distinct.{by_test, same_truth, or_right, among-equal, among-without_other}
 use Rattle.broadcast_core.proofs.References.{lookup-equal}
 use Rattle.broadcast_core.proofs.Counting.{stored-at}
 use Rattle.broadcast_core.proofs.Listing.{none-taken}
-
--- two truths are one, where each gives the other
-pub same_truth : (a b : Bool) → (a ≡ true → b ≡ true) → (b ≡ true → a ≡ true) → a ≡ b
-same_truth true b f g = sym (f refl)
-same_truth false true f g = g refl
-same_truth false false f g = refl
 
 module _ {P D : Type 0} (same : Same P D) (laws : IsEquivalence same.key) where
   -- some key whose deque has the digest
