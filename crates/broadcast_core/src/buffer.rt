@@ -90,6 +90,7 @@ impl<P: PublicKey, M: Digestible, W: Drop> Core<P, M, W> {
     /// How many messages are cached: at most one for each place of the primary keys' lists.
     pub fn cached_len(&self) -> usize
         ensures len { result ≡ length self.now.cached }
+        ensures distinct { IsDistinct (eq_by_cmp M.Digest.cmp) (keys_of self.now.cached) }
         ensures bounded { result ≤ length self.now.primary * self.now.deque_size }
     {
         self.cache.len()
