@@ -18,7 +18,8 @@ use std::alloc::{AllocError, Global};
 
 /// Runs the events in order, from an empty core of this own key.
 ///
-/// `Err` is want of memory for the answers or for what is sent: nothing comes of the run then.
+/// `Err` is want of memory for the answers or for what is sent. Their places are reserved before
+/// the first event, and nothing comes of the run then.
 /// An event that is answered `Refused` changes nothing and is sent to nobody.
 pub fn run<P: PublicKey, M: Digestible + Codec>(
     alloc: Global,
@@ -45,9 +46,9 @@ pub fn run<P: PublicKey, M: Digestible + Codec>(
     for event in events {
         let (answer, sending) = apply(alloc, &mut core, priority, cfg, event);
         if let Some(sending) = sending {
-            sent.push(sending)?;
+            sent.push_reserved(sending);
         }
-        answers.push(answer)?;
+        answers.push_reserved(answer);
     }
     Ok(Run {
         core,

@@ -1,9 +1,10 @@
 use Rattle.std.proofs.Common.{◌≡◌, [], ◌++◌, length, arith, refl, sym, ap, ◌∙◌, append-nil, length-append}
+use Rattle.std.specs.Prelude.{◌+◌, ◌≤◌, vec_len, vec_capacity}
 use Rattle.std.specs.Option.{option_to_list}
 use Rattle.std.specs.Vec.Iter.{into_iter_items}
 use Rattle.broadcast_core.proofs.Running.{HasRun-none, HasRun-same, HasRun-follows, one_come, none_left}
 use Rattle.broadcast_core.proofs.run.run.Goals as goal
-use Rattle.broadcast_core.proofs.run.run.Goals.{in-Some-sending+in_ok-push, in_default}
+use Rattle.broadcast_core.proofs.run.run.Goals.{in-Some-sending, in_default}
 
 pub loop-event-init : goal.loop-event-init
 loop-event-init g c =
@@ -11,6 +12,8 @@ loop-event-init g c =
     record {
       rest = refl;
       left = omega (arith, ap length gives.0, gives.1, c.args.events.ok);
+      answers_fit = omega (arith, ap length gives.0, c.args.events.ok, c.len.ensures, c.in_ok-answers.ensures.len, c.in_ok-answers.ensures.capacity);
+      sent_fit = omega (arith, ap length gives.0, c.args.events.ok, c.len-2.ensures, c.in_ok-sent.ensures.len, c.in_ok-sent.ensures.capacity);
       has_run = HasRun-same _ [] [] [] c.in_ok-answers.answers.items [] c.in_ok-sent.sent.items _ (HasRun-none _ c.new-core.result c.new-core.ensures)
           refl c.in_ok-answers.ensures.items c.in_ok-sent.ensures.items;
     }
@@ -24,17 +27,25 @@ loop-event-preserved g c =
     let applied = c.apply-answer.result in
     let sent_is : c.match-sending.sent.items ≡ at.sent.items ++ option_to_list applied.1 =
     elim c.match-sending.branch [
-      | in-Some-sending+in_ok-push w ↦ ap (λ v. v.items) w.sent-is ∙ w.in_ok-push.ensures.items ∙ ap (λ o. at.sent.items ++ option_to_list o) (sym w.in-Some-sending.is)
+      | in-Some-sending w ↦ ap (λ v. v.items) w.sent-is ∙ w.push_reserved.ensures.items ∙ ap (λ o. at.sent.items ++ option_to_list o) (sym w.in-Some-sending.is)
       | in_default w ↦ ap (λ v. v.items) w.sent-is ∙ sym (append-nil at.sent.items) ∙ ap (λ o. at.sent.items ++ option_to_list o) (sym w.in_default.is)
+    ] in
+    let answers_push = c.push_reserved-in-loop-event.ensures in
+    let sent_fit : vec_len c.match-sending.sent + length (into_iter_items c.next.new.self) ≤ vec_capacity c.match-sending.sent =
+    elim c.match-sending.branch [
+      | in-Some-sending w ↦ omega (arith, ap (λ v. vec_len v) w.sent-is, ap (λ v. vec_capacity v) w.sent-is, w.push_reserved.ensures.len, w.push_reserved.ensures.capacity, ap length steps.0, at.invariant.sent_fit)
+      | in_default w ↦ omega (arith, ap (λ v. vec_len v) w.sent-is, ap (λ v. vec_capacity v) w.sent-is, ap length steps.0, at.invariant.sent_fit)
     ] in
     record {
       rest = one_come at.yielded e (into_iter_items at.event-iterator) (into_iter_items c.next.new.self) _ steps.0 at.invariant.rest;
       left = omega (arith, ap length steps.0, steps.1, at.invariant.left);
+      answers_fit = omega (arith, answers_push.len, answers_push.capacity, ap length steps.0, at.invariant.answers_fit);
+      sent_fit = sent_fit;
       has_run = HasRun-same _ _ _ _ _ _ _ _
           (HasRun-follows _ _ at.yielded at.answers.items at.sent.items at.core c.apply-answer.new.core e applied.0 (option_to_list applied.1)
           (omega (arith, ap length at.invariant.rest, length-append at.yielded (into_iter_items at.event-iterator), ap length gives.0, gives.1, gives.2, c.args.events.ok))
           at.invariant.has_run c.apply-answer.ensures)
-          refl c.in_ok-push-2.ensures.items sent_is;
+          refl answers_push.items sent_is;
     }
 
 pub returns : goal.returns

@@ -1,4 +1,5 @@
 use Rattle.std.proofs.Common.{◌≡◌, ◌++◌, length}
+use Rattle.std.specs.Prelude.{◌+◌, ◌≤◌, vec_len, vec_capacity}
 use Rattle.std.specs.Vec.Iter.{into_iter_items, into_iter_len}
 use Rattle.broadcast_core.specs.Codec.{whole}
 use Rattle.broadcast_core.specs.Content.{same_by}
@@ -19,5 +20,7 @@ invariant-loop-event g l =
     } in record {
       rest : l.yielded ++ into_iter_items l.event-iterator ≡ into_iter_items l.initial.event-iterator;
       left : into_iter_len l.event-iterator ≡ length (into_iter_items l.event-iterator);
+      answers_fit : vec_len l.answers + length (into_iter_items l.event-iterator) ≤ vec_capacity l.answers;
+      sent_fit : vec_len l.sent + length (into_iter_items l.event-iterator) ≤ vec_capacity l.sent;
       has_run : HasRun s l.yielded l.answers.items l.sent.items l.core;
     }
