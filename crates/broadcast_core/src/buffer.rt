@@ -62,7 +62,8 @@ impl<P: PublicKey, M: Digestible, W: Drop> Core<P, M, W> {
     /// A core of this own key, whose lists have at most so many digests. No key is primary as yet.
     /// Takes no memory.
     pub fn new(alloc: Global, own: P, deque_size: usize) -> Self
-        ensures { result ≡ record { own = own; deque_size = deque_size; primary = []; lists = []; cached = []; waiters = [] } }
+        ensures { result
+            ≡ record { own = own; deque_size = deque_size; primary = []; lists = []; cached = []; waiters = [] } }
     {
         Core {
             own,
@@ -108,16 +109,20 @@ impl<P: PublicKey, M: Digestible, W: Drop> Core<P, M, W> {
     /// How many wait for the digest. Nobody waits for a cached one.
     pub fn waiting(&self, digest: &M::Digest) -> usize
         ensures len { result ≡ length (waiting_at (same_by P.cmp M.Digest.cmp) self.now digest.now) }
-        ensures cached { IsSome (message_at (same_by P.cmp M.Digest.cmp) self.now digest.now) → result ≡ 0 }
+        ensures cached { IsSome (message_at (same_by P.cmp M.Digest.cmp) self.now digest.now)
+            → result ≡ 0 }
     {
         self.waiters.waiting(digest)
     }
 
     /// The digests of the key's list, the newest first. Each of them is cached.
     pub fn list(&self, alloc: Global, peer: &P) -> Result<Vec<M::Digest>, AllocError>
-        ensures digests { IfOk result (λ digests. digests.items ≡ list_at (same_by P.cmp M.Digest.cmp) self.now peer.now) }
-        ensures distinct { IsDistinct (eq_by_cmp M.Digest.cmp) (list_at (same_by P.cmp M.Digest.cmp) self.now peer.now) }
-        ensures bounded { length (list_at (same_by P.cmp M.Digest.cmp) self.now peer.now) ≤ self.now.deque_size }
+        ensures digests { IfOk result (λ digests. digests.items
+            ≡ list_at (same_by P.cmp M.Digest.cmp) self.now peer.now) }
+        ensures distinct { IsDistinct (eq_by_cmp M.Digest.cmp)
+            (list_at (same_by P.cmp M.Digest.cmp) self.now peer.now) }
+        ensures bounded { length (list_at (same_by P.cmp M.Digest.cmp) self.now peer.now)
+            ≤ self.now.deque_size }
         ensures primary_only { let same = same_by P.cmp M.Digest.cmp in
             has_primary same self.now peer.now ≡ false → list_at same self.now peer.now ≡ [] }
         ensures cached { let same = same_by P.cmp M.Digest.cmp in
@@ -128,8 +133,10 @@ impl<P: PublicKey, M: Digestible, W: Drop> Core<P, M, W> {
 
     /// The cached message of the digest. Takes no memory.
     pub fn get(&self, digest: &M::Digest) -> Option<&Digested<M>>
-        ensures message { option_copied result ≡ message_at (same_by P.cmp M.Digest.cmp) self.now digest.now }
-        ensures named { IfSome result (λ message. eq_by_cmp M.Digest.cmp digest.now message.now.digest ≡ true) }
+        ensures message { option_copied result
+            ≡ message_at (same_by P.cmp M.Digest.cmp) self.now digest.now }
+        ensures named { IfSome result (λ message.
+            eq_by_cmp M.Digest.cmp digest.now message.now.digest ≡ true) }
         ensures listed { let same = same_by P.cmp M.Digest.cmp in
             is_some (message_at same self.now digest.now) ≡ is_on_list same self.now digest.now }
     {
@@ -147,15 +154,20 @@ impl<P: PublicKey, M: Digestible, W: Drop> Core<P, M, W> {
     /// Takes a message under the key. It serves all who wait for its digest, also where the key is
     /// not primary. Without memory nothing changes, and nobody is served.
     pub fn take(&mut self, peer: &P, message: &Digested<M>) -> Result<Taken<W>, AllocError>
-        ensures outcome { IfOk result (λ taken. taken.outcome ≡ outcome_at (same_by P.cmp M.Digest.cmp) self.old peer.now message.now.digest) }
-        ensures served { IfOk result (λ taken. taken.served ≡ waiting_at (same_by P.cmp M.Digest.cmp) self.old message.now.digest) }
-        ensures ok { OnOk result (Takes (same_by P.cmp M.Digest.cmp) peer.now message.now self.old self.new) }
+        ensures outcome { IfOk result (λ taken. taken.outcome
+            ≡ outcome_at (same_by P.cmp M.Digest.cmp) self.old peer.now message.now.digest) }
+        ensures served { IfOk result (λ taken. taken.served
+            ≡ waiting_at (same_by P.cmp M.Digest.cmp) self.old message.now.digest) }
+        ensures ok { OnOk result
+            (Takes (same_by P.cmp M.Digest.cmp) peer.now message.now self.old self.new) }
         ensures err { OnErr result (self.new ≡ self.old) }
 
-        // These take no memory: a digest that is on the list, a key that is not primary, lists without places.
+        // These take no memory: a digest that is on the list, a key that is not primary, lists
+        // without places.
         ensures free { among (eq_by_cmp M.Digest.cmp) message.now.digest
             (list_at (same_by P.cmp M.Digest.cmp) self.old peer.now) ≡ true → IsOk result }
-        ensures ineligible { has_primary (same_by P.cmp M.Digest.cmp) self.old peer.now ≡ false → IsOk result }
+        ensures ineligible { has_primary (same_by P.cmp M.Digest.cmp) self.old peer.now ≡ false
+            → IsOk result }
         ensures no_places { self.old.deque_size ≡ 0 → IsOk result }
     {
         let Core {
@@ -172,15 +184,20 @@ impl<P: PublicKey, M: Digestible, W: Drop> Core<P, M, W> {
 
     /// Takes a message under the own key, as `take` does.
     pub fn take_own(&mut self, message: &Digested<M>) -> Result<Taken<W>, AllocError>
-        ensures outcome { IfOk result (λ taken. taken.outcome ≡ outcome_at (same_by P.cmp M.Digest.cmp) self.old self.old.own message.now.digest) }
-        ensures served { IfOk result (λ taken. taken.served ≡ waiting_at (same_by P.cmp M.Digest.cmp) self.old message.now.digest) }
-        ensures ok { OnOk result (Takes (same_by P.cmp M.Digest.cmp) self.old.own message.now self.old self.new) }
+        ensures outcome { IfOk result (λ taken. taken.outcome
+            ≡ outcome_at (same_by P.cmp M.Digest.cmp) self.old self.old.own message.now.digest) }
+        ensures served { IfOk result (λ taken. taken.served
+            ≡ waiting_at (same_by P.cmp M.Digest.cmp) self.old message.now.digest) }
+        ensures ok { OnOk result
+            (Takes (same_by P.cmp M.Digest.cmp) self.old.own message.now self.old self.new) }
         ensures err { OnErr result (self.new ≡ self.old) }
 
-        // These take no memory: a digest that is on the list, a key that is not primary, lists without places.
+        // These take no memory: a digest that is on the list, a key that is not primary, lists
+        // without places.
         ensures free { among (eq_by_cmp M.Digest.cmp) message.now.digest
             (list_at (same_by P.cmp M.Digest.cmp) self.old self.old.own) ≡ true → IsOk result }
-        ensures ineligible { has_primary (same_by P.cmp M.Digest.cmp) self.old self.old.own ≡ false → IsOk result }
+        ensures ineligible { has_primary (same_by P.cmp M.Digest.cmp) self.old self.old.own ≡ false
+            → IsOk result }
         ensures no_places { self.old.deque_size ≡ 0 → IsOk result }
     {
         let Core {
@@ -202,7 +219,8 @@ impl<P: PublicKey, M: Digestible, W: Drop> Core<P, M, W> {
         digest: M::Digest,
         waiter: W,
     ) -> Result<Subscribed<W, M>, (W, AllocError)>
-        ensures ok { IfOk result (IsSubscribed (same_by P.cmp M.Digest.cmp) digest waiter self.old self.new) }
+        ensures ok { IfOk result
+            (IsSubscribed (same_by P.cmp M.Digest.cmp) digest waiter self.old self.new) }
         ensures err { IfErr result (λ refused. (refused.0 ≡ waiter) × (self.new ≡ self.old)) }
     {
         if let Some(message) = self.cache.get(&digest) {
@@ -220,7 +238,8 @@ impl<P: PublicKey, M: Digestible, W: Drop> Core<P, M, W> {
     pub fn cleanup(&mut self, gone: &[u64]) -> u64
     where
         W: Ticketed,
-        ensures gone { Cleans (same_by P.cmp M.Digest.cmp) (is_gone W.ticket_of gone.now) self.old self.new }
+        ensures gone { Cleans (same_by P.cmp M.Digest.cmp) (is_gone W.ticket_of gone.now)
+            self.old self.new }
         ensures removed { result ≡ counted (gone_from W.ticket_of gone.now self.old.waiters) }
         ensures distinct { IsDistinct (eq_by_cmp M.Digest.cmp) (keys_of self.old.waiters) }
     {
@@ -235,7 +254,8 @@ impl<P: PublicKey, M: Digestible, W: Drop> Core<P, M, W> {
         ensures store { KeepsStore (same_by P.cmp M.Digest.cmp) self.old self.new }
         ensures closed { let same = same_by P.cmp M.Digest.cmp in
             (d : _) → DropsClosed W.may_answer (waiting_at same self.old d) (waiting_at same self.new d) }
-        ensures removed { (n : ℕ) × (waiting_in self.old.waiters ≡ waiting_in self.new.waiters + n) × (result ≡ counted n) }
+        ensures removed { (n : ℕ) × (waiting_in self.old.waiters ≡ waiting_in self.new.waiters + n)
+            × (result ≡ counted n) }
     {
         self.waiters.cleanup_by()
     }

@@ -110,17 +110,21 @@ pub trait Read {
         ensures { GivesOrLacks result (reading cfg.now buf.now) };
 
     /// A value takes no more bytes than there are.
-    ghost within: { (cfg : Self.Cfg) (bytes : List ℕ) (v : Self) (n : ℕ) → reading cfg bytes ≡ Ok (v, n) → n ≤ length bytes };
+    ghost within: { (cfg : Self.Cfg) (bytes : List ℕ) (v : Self) (n : ℕ)
+        → reading cfg bytes ≡ Ok (v, n) → n ≤ length bytes };
 
     /// Bytes are refused as too few, or for a length out of the range.
-    ghost refusals: { (cfg : Self.Cfg) (bytes : List ℕ) (e : CodecError) → reading cfg bytes ≡ Err e → IsRefusal e };
+    ghost refusals: { (cfg : Self.Cfg) (bytes : List ℕ) (e : CodecError)
+        → reading cfg bytes ≡ Err e → IsRefusal e };
 }
 
 /// What reads as what it was written from.
 pub trait Codec: Write + EncodeSize + Read {
     /// Where a value's encoding, followed by any bytes, is read, the value and the length of its
     /// encoding are read.
-    ghost reads_back: { (cfg : Self.Cfg) (v w : Self) (encoded rest : List ℕ) (n : ℕ) → Self.encoding v ≡ Some encoded → Self.reading cfg (encoded ++ rest) ≡ Ok (w, n) → (w ≡ v) × (n ≡ length encoded) };
+    ghost reads_back: { (cfg : Self.Cfg) (v w : Self) (encoded rest : List ℕ) (n : ℕ)
+        → Self.encoding v ≡ Some encoded → Self.reading cfg (encoded ++ rest) ≡ Ok (w, n)
+        → (w ≡ v) × (n ≡ length encoded) };
 }
 
 /// The value that all of the bytes are. The layout and the bytes left over are judged before

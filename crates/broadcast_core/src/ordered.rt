@@ -61,7 +61,8 @@ impl<P: PublicKey> Set<P> {
 
     /// The keys, sorted, each of them once.
     pub fn from_iter_dedup(mut keys: Vec<P>) -> Result<Self, AllocError>
-        ensures members { IfOk result (λ set. (q : P) → list_any (eq_by_cmp P.cmp q) set ≡ list_any (eq_by_cmp P.cmp q) keys.items) }
+        ensures members { IfOk result (λ set. (q : P)
+            → list_any (eq_by_cmp P.cmp q) set ≡ list_any (eq_by_cmp P.cmp q) keys.items) }
         ensures rises { IfOk result (IsStrictlySortedBy P.cmp) }
     {
         sort_dedup(&mut keys)?;
@@ -72,7 +73,8 @@ impl<P: PublicKey> Set<P> {
 
     /// The place of the key that equals this one, or `None` where there is none. Takes no memory.
     pub fn position(&self, key: &P) -> Option<usize>
-        ensures place { IfSome result (λ i. IsSomeAnd (slice_get self.now i) (λ q. eq_by_cmp P.cmp key.now q ≡ true)) }
+        ensures place { IfSome result (λ i. IsSomeAnd (slice_get self.now i)
+            (λ q. eq_by_cmp P.cmp key.now q ≡ true)) }
         ensures some { is_some result ≡ list_any (eq_by_cmp P.cmp key.now) self.now }
     {
         place_of(self.keys.as_slice(), key)
@@ -111,7 +113,8 @@ impl<P: PublicKey> Set<P> {
 
 /// Sorts the keys, and drops repeats.
 fn sort_dedup<K: Ord + Drop>(keys: &mut Vec<K>) -> Result<(), AllocError>
-    ensures members { OnOk result ((q : K) → list_any (eq_by_cmp K.cmp q) keys.new.items ≡ list_any (eq_by_cmp K.cmp q) keys.old.items) }
+    ensures members { OnOk result ((q : K)
+        → list_any (eq_by_cmp K.cmp q) keys.new.items ≡ list_any (eq_by_cmp K.cmp q) keys.old.items) }
     ensures rises { OnOk result (IsStrictlySortedBy K.cmp keys.new.items) }
 {
     keys.sort()?;

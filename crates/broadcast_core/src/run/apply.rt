@@ -59,7 +59,8 @@ fn broadcast<P: PublicKey, M: Digestible + Codec>(
     recipients: Recipients<P>,
     message: Digested<M>,
 ) -> (Answer<M>, Option<Sent<P>>)
-    ensures { (s : Setting P M M.Digest) → s.same ≡ same_by P.cmp M.Digest.cmp → s.priority ≡ priority → s.encoding ≡ M.encoding
+    ensures { (s : Setting P M M.Digest)
+        → s.same ≡ same_by P.cmp M.Digest.cmp → s.priority ≡ priority → s.encoding ≡ M.encoding
         → Follows s usize.MAX (event.Broadcast recipients message) core.old core.new result.0 (option_to_list result.1) }
 {
     let mut bytes = Vec::new(alloc);
@@ -94,7 +95,8 @@ fn payload<P: PublicKey, M: Digestible + Codec>(
     peer: &P,
     bytes: &[u8],
 ) -> Answer<M>
-    ensures { (s : Setting P M M.Digest) → s.same ≡ same_by P.cmp M.Digest.cmp → s.digest_of ≡ M.digest_of → s.reading ≡ whole (M.reading cfg.now)
+    ensures { (s : Setting P M M.Digest)
+        → s.same ≡ same_by P.cmp M.Digest.cmp → s.digest_of ≡ M.digest_of → s.reading ≡ whole (M.reading cfg.now)
         → Follows s usize.MAX (event.Payload peer.now bytes.now) core.old core.new result [] }
 {
     let message: M = match decode_cfg(alloc, bytes, cfg) {
