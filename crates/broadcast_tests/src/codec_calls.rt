@@ -1,6 +1,6 @@
 //! The calls of the codec.
 use crate::even::Even;
-use broadcast_core::codec::{CodecError, EncodeSize, RangeCfg, Read, Write, decode_cfg};
+use broadcast_core::codec::{CodecError, EncodeSize, Read, Write, decode_cfg};
 use broadcast_core::digested::{Digested, Digestible};
 use broadcast_core::mocks::TestMessage;
 use std::alloc::Global;
@@ -45,26 +45,6 @@ fn even_is_read(rt: HostRuntime) {
         read_whole::<Even>(rt.alloc(), &[], &()),
         Err(CodecError::EndOfBuffer)
     );
-}
-
-#[test]
-fn ranges(rt: HostRuntime) {
-    for (min, max, n, inside) in [
-        (0, 3, 0, true),
-        (0, 3, 3, true),
-        (0, 3, 4, false),
-        (2, 3, 1, false),
-        (3, 2, 2, false),
-        (3, 2, 3, false),
-    ] {
-        assert_eq!(rt;
-            RangeCfg::new(min, max).contains(n),
-            inside,
-            "{n} from {min} to {max}"
-        );
-    }
-    assert_eq!(rt; RangeCfg::any().contains(0), true);
-    assert_eq!(rt; RangeCfg::any().contains(usize::MAX), true);
 }
 
 #[test]

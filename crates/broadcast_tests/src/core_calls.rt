@@ -1,13 +1,10 @@
 //! The calls of a core and of what it stands on, with ample memory.
 use crate::even::Even;
 use broadcast_core::buffer::Core;
-use broadcast_core::codec::CodecError;
 use broadcast_core::digested::{Digested, Digestible};
 use broadcast_core::items::Items;
-use broadcast_core::mocks::TestMessage;
-use broadcast_core::ordered::{PublicKey, Set};
+use broadcast_core::ordered::Set;
 use broadcast_core::outcome::{Outcome, Subscribed};
-use broadcast_core::requests::Ticketed;
 use std::alloc::{AllocError, Global};
 use std::sync::Arc;
 use std::test::Fail;
@@ -49,10 +46,6 @@ fn waiting(core: &Numbers) -> (usize, usize, usize) {
 
 fn cleaned(core: &mut Numbers, gone: &[u64]) -> u64 {
     core.cleanup(gone)
-}
-
-fn ticket_of<W: Ticketed>(waiter: &W) -> u64 {
-    waiter.ticket()
 }
 
 fn digest_of<M: Digestible>(message: &M) -> M::Digest {
@@ -123,19 +116,5 @@ fn items_are_a_list(rt: HostRuntime) -> Result<(), Fail> {
     assert_eq!(rt; items.into_vec(), [1, 3, 5].to_vec(alloc)?);
     let items = Items::from_vec([7, 8].to_vec(alloc)?);
     assert_eq!(rt; items.as_slice(), [7, 8].as_slice());
-    Ok(())
-}
-
-fn copied<P: PublicKey>(key: &P) -> Result<bool, AllocError> {
-    Ok(key.clone()? == *key)
-}
-
-#[test]
-fn small_items_answer(rt: HostRuntime) -> Result<(), Fail> {
-    assert_eq!(rt; ticket_of(&7u64), 7);
-    assert!(rt; copied(&7u64)?);
-    assert_eq!(rt; CodecError::from(AllocError), CodecError::Memory);
-    let message = TestMessage::new(Vec::new(rt.alloc()), Vec::new(rt.alloc()));
-    assert_eq!(rt; message.digest(), digest_of(&message));
     Ok(())
 }

@@ -18,12 +18,3 @@ fn sets_rise_and_hold_each_key_once(rt: HostRuntime) -> Result<(), Fail> {
     }
     Ok(())
 }
-
-#[test]
-fn the_default_set_is_empty(rt: HostRuntime) {
-    let set: Set<u64> = Set::default(rt.alloc());
-    assert_eq!(rt; set.len(), 0);
-    assert_eq!(rt; set.is_empty(), true);
-    assert_eq!(rt; set.get(0).copied(), None);
-    assert_eq!(rt; set.position(&7), None);
-}

@@ -175,7 +175,7 @@ fn refused_take_changes_nothing(rt: HostRuntime) -> Result<(), Fail> {
 }
 
 /// A core whose own key has no memory for a copy. Key 0 is primary, and one waits for 4.
-fn core_without_copies(alloc: Global) -> Result<Core<Key, Even, u64>, AllocError> {
+fn core_without_copies(alloc: Global) -> Result<Numbers, AllocError> {
     let own = Key {
         number: 0,
         copies: false,
@@ -189,21 +189,13 @@ fn core_without_copies(alloc: Global) -> Result<Core<Key, Even, u64>, AllocError
 }
 
 /// Who is served where the number is taken under the own key.
-fn own_taken(
-    alloc: Global,
-    core: &mut Core<Key, Even, u64>,
-    number: u8,
-) -> Result<Vec<u64>, AllocError> {
+fn own_taken(alloc: Global, core: &mut Numbers, number: u8) -> Result<Vec<u64>, AllocError> {
     let taken = core.take_own(&Digested::compute(alloc, Even(number))?)?;
     Ok(taken.served.into_vec())
 }
 
 /// Who is served where the number is taken under a key that equals the own one and is copied.
-fn equally_taken(
-    alloc: Global,
-    core: &mut Core<Key, Even, u64>,
-    number: u8,
-) -> Result<Vec<u64>, AllocError> {
+fn equally_taken(alloc: Global, core: &mut Numbers, number: u8) -> Result<Vec<u64>, AllocError> {
     let taken = core.take(&Key::new(0), &Digested::compute(alloc, Even(number))?)?;
     Ok(taken.served.into_vec())
 }
@@ -327,4 +319,11 @@ fn any_growth_of_a_call_may_be_refused(rt: HostRuntime) {
 fn any_growth_of_a_run_may_be_refused(rt: HostRuntime) {
     // Want of memory outside the events ends the test.
     let _ended = any_event(&rt, rt.alloc());
+}
+
+#[test]
+fn ample_memory_suffices(rt: HostRuntime) -> Result<(), Fail> {
+    any_calls(&rt, rt.alloc())?;
+    any_event(&rt, rt.alloc())?;
+    Ok(())
 }

@@ -57,17 +57,6 @@ fn skips_at_once_what_is_closed_already(rt: HostRuntime) -> Result<(), Fail> {
     );
     assert_eq!(rt; taken(&mut inbox), Some((0, Kind::Get(1))));
     assert_eq!(rt; taken(&mut inbox), Some((2, Kind::Broadcast(3))));
-    assert_eq!(rt; taken(&mut inbox), None);
-    assert_eq!(rt; inbox.close(), 0);
-    assert_eq!(rt; inbox.enqueue(broadcast(alloc, 4)?), Ok(Queued::Closed));
-    let counts = Counts {
-        accepted: 3,
-        taken: 2,
-        skipped: 1,
-        waiting: 0,
-        given_up: 0,
-    };
-    assert_eq!(rt; inbox.counts(), counts);
     Ok(())
 }
 
@@ -83,16 +72,6 @@ fn drops_the_responders_of_what_it_gives_up(rt: HostRuntime) -> Result<(), Fail>
     assert_eq!(rt; inbox.enqueue(third), Ok(Queued::Overflow(2)));
     assert_eq!(rt; taken(&mut inbox), Some((0, Kind::Get(1))));
     assert_eq!(rt; inbox.close(), 2);
-    assert_eq!(rt; inbox.close(), 0);
-    assert_eq!(rt; taken(&mut inbox), None);
-    let counts = Counts {
-        accepted: 3,
-        taken: 1,
-        skipped: 0,
-        waiting: 0,
-        given_up: 2,
-    };
-    assert_eq!(rt; inbox.counts(), counts);
     assert!(rt; block_on(&rt, subscribed)?.is_err());
     assert!(rt; block_on(&rt, got)?.is_err());
     Ok(())
@@ -172,18 +151,6 @@ fn takes_a_closed_request_that_found_room(rt: HostRuntime) -> Result<(), Fail> {
     assert_eq!(rt; inbox.enqueue(gone), Ok(Queued::Ready(0)));
     assert_eq!(rt; taken(&mut inbox), Some((0, Kind::Get(1))));
     assert_eq!(rt; inbox.counts(), counts);
-    Ok(())
-}
-
-#[test]
-fn keeps_its_stop_mark(rt: HostRuntime) -> Result<(), Fail> {
-    let mut inbox: Inbox<Plain> = Inbox::new(rt.alloc(), NonZeroUsize::MIN);
-    assert!(rt; !inbox.stop_requested());
-    inbox.request_stop();
-    assert!(rt; inbox.stop_requested());
-    assert_eq!(rt; inbox.enqueue(subscribe(1, false)), Ok(Queued::Ready(0)));
-    assert_eq!(rt; inbox.close(), 1);
-    assert!(rt; inbox.stop_requested());
     Ok(())
 }
 

@@ -4,12 +4,15 @@ ghost use Rattle.std.specs.Prelude.{◌∷◌, [], Some};
 use broadcast_core::codec::{CodecError, EncodeSize, Write};
 use broadcast_core::digested::{Digested, Digestible};
 use broadcast_core::ordered::Recipients;
-use commonware_broadcast::ingress::mailbox;
+use commonware_broadcast::ingress::inbox::Inbox;
+use commonware_broadcast::ingress::mailbox::{self, SharedInbox};
 use commonware_broadcast::ingress::message::Message;
 use commonware_broadcast::ingress::reply::Reply;
 use commonware_broadcast::ingress::responder::Fixed;
 use futures::channel::oneshot;
 use std::alloc::{AllocError, Global};
+use std::num::NonZeroUsize;
+use std::sync::{Arc, Mutex};
 
 /// A message of one byte, which is its own digest.
 #[derive(Debug, PartialEq, Eq, Drop)]
@@ -108,4 +111,12 @@ pub fn held_get(alloc: Global, digest: u64) -> Result<(Ask, Held), AllocError> {
 pub fn held_subscribe(alloc: Global, digest: u64) -> Result<(Ask, HeldSubscribe), AllocError> {
     let (responder, receiver) = oneshot::channel(alloc)?;
     Ok((Message::Subscribe { digest, responder }, receiver))
+}
+
+/// An open inbox of so many places, for mailboxes to share.
+pub fn shared_inbox(
+    alloc: Global,
+    size: NonZeroUsize,
+) -> Result<SharedInbox<u64, Note>, AllocError> {
+    Ok(Arc::new(alloc, Mutex::new(Inbox::new(alloc, size)))?)
 }

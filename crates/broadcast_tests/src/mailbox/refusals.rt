@@ -1,20 +1,22 @@
 //! A mailbox, where any growth may be refused.
-use super::note::{Kind, Note, Plain, broadcast, get, kind_of};
+use super::note::{Kind, Note, Plain, broadcast, get, kind_of, shared_inbox};
 use broadcast_core::digested::Digested;
 use broadcast_core::ordered::Recipients;
 use commonware_broadcast::broadcaster::{Broadcaster, MailboxError};
 use commonware_broadcast::ingress::inbox::Inbox;
-use commonware_broadcast::ingress::mailbox::{Mailbox, SharedInbox};
+use commonware_broadcast::ingress::mailbox::Mailbox;
 use commonware_broadcast::ingress::overflow::{Overflow, Policy};
 use commonware_broadcast::ingress::pending::Pending;
 use commonware_broadcast::ingress::queued::Queued;
 use std::alloc::{AllocError, Global};
 use std::num::NonZeroUsize;
 use std::process::Abort;
-use std::sync::{Arc, Mutex, Wait};
+use std::sync::{Arc, Wait};
+use std::test::Fail;
 
 /// Requests are queued or refused. What was queued is taken in order, under tickets with no gap.
-fn any_request(rt: &impl Abort, alloc: Global) -> Result<(), AllocError> {
+/// Says how many were queued.
+fn any_request(rt: &impl Abort, alloc: Global) -> Result<usize, AllocError> {
     let mut inbox: Inbox<Plain> = Inbox::new(alloc, NonZeroUsize::MIN);
     let mut queued = Vec::with_capacity(alloc, 8)?;
     for note in 0..8u8 {
@@ -40,11 +42,12 @@ fn any_request(rt: &impl Abort, alloc: Global) -> Result<(), AllocError> {
     assert!(rt; inbox.take().is_none());
     inbox.close();
     assert_eq!(rt; inbox.enqueue(get(0, false)), Ok(Queued::Closed));
-    Ok(())
+    Ok(queued.len())
 }
 
-/// Requests wait, or are refused and leave the others. One that is closed takes no memory.
-fn any_waiting(rt: &impl Abort, alloc: Global) -> Result<(), AllocError> {
+/// Requests wait, or are refused and leave the others. One that is closed takes no memory. Says how
+/// many waited.
+fn any_waiting(rt: &impl Abort, alloc: Global) -> Result<usize, AllocError> {
     let mut pending: Pending<Plain> = Pending::default(alloc);
     let mut kept = Vec::with_capacity(alloc, 8)?;
     for digest in 0..8u64 {
@@ -60,18 +63,15 @@ fn any_waiting(rt: &impl Abort, alloc: Global) -> Result<(), AllocError> {
         None
     });
     assert_eq!(rt; offered, kept);
-    Ok(())
+    Ok(kept.len())
 }
 
-/// A call that finds no memory queues nothing.
+/// A call that finds no memory queues nothing. Says how many calls queued.
 fn any_caller<R: Abort + Wait + Clone + Send + Drop + 'static>(
     rt: &R,
     alloc: Global,
-) -> Result<(), AllocError> {
-    let inbox: SharedInbox<u64, Note> = Arc::new(
-        alloc,
-        Mutex::new(Inbox::new(alloc, NonZeroUsize::MIN)),
-    )?;
+) -> Result<u64, AllocError> {
+    let inbox = shared_inbox(alloc, NonZeroUsize::MIN)?;
     let mailbox = Mailbox::new(rt.clone()?, alloc, Arc::try_clone(&inbox)?);
     for digest in 0..4u64 {
         let message = Digested::precomputed(alloc, Note(1), digest)?;
@@ -85,7 +85,7 @@ fn any_caller<R: Abort + Wait + Clone + Send + Drop + 'static>(
         let refused = mailbox.broadcast(Recipients::All, message).is_err();
         assert_eq!(rt; inbox.lock(rt).counts() == before, refused);
     }
-    Ok(())
+    Ok(inbox.lock(rt).counts().accepted)
 }
 
 #[test]
@@ -104,4 +104,12 @@ fn any_growth_of_an_overflow_may_be_refused(rt: HostRuntime) {
 fn any_growth_of_a_mailbox_may_be_refused(rt: HostRuntime) {
     // Want of memory outside the calls ends the test.
     let _ended = any_caller(&rt, rt.alloc());
+}
+
+#[test]
+fn ample_memory_refuses_nothing(rt: HostRuntime) -> Result<(), Fail> {
+    assert_eq!(rt; any_request(&rt, rt.alloc())?, 8);
+    assert_eq!(rt; any_waiting(&rt, rt.alloc())?, 8);
+    assert_eq!(rt; any_caller(&rt, rt.alloc())?, 12);
+    Ok(())
 }

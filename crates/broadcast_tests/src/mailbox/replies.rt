@@ -1,9 +1,8 @@
 //! What callers of a mailbox get.
-use super::note::{Ask, Kind, Note, kind_of};
+use super::note::{Ask, Kind, Note, kind_of, shared_inbox};
 use broadcast_core::digested::Digested;
 use broadcast_core::requests::Closable;
-use commonware_broadcast::ingress::inbox::Inbox;
-use commonware_broadcast::ingress::mailbox::{Mailbox, SharedInbox};
+use commonware_broadcast::ingress::mailbox::Mailbox;
 use commonware_broadcast::ingress::message::Message;
 use commonware_broadcast::ingress::reply::Reply;
 use commonware_broadcast::ingress::responder::Responder;
@@ -11,13 +10,8 @@ use futures::channel::oneshot::Canceled;
 use futures::executor::block_on;
 use std::alloc::{AllocError, Global};
 use std::num::NonZeroUsize;
-use std::sync::{Arc, Mutex};
+use std::sync::Arc;
 use std::test::Fail;
-
-// An open inbox of one place.
-fn inbox(alloc: Global) -> Result<SharedInbox<u64, Note>, AllocError> {
-    Ok(Arc::new(alloc, Mutex::new(Inbox::new(alloc, NonZeroUsize::MIN)))?)
-}
 
 // Replies to the request with the note. A broadcast takes no reply.
 fn reply(alloc: Global, request: Ask, note: u8) -> Result<bool, AllocError> {
@@ -50,7 +44,7 @@ fn send(request: Ask, reply: Reply<Note>) -> bool {
 #[test]
 fn replies_reach_the_callers(rt: HostRuntime) -> Result<(), Fail> {
     let alloc = rt.alloc();
-    let inbox = inbox(alloc)?;
+    let inbox = shared_inbox(alloc, NonZeroUsize::MIN)?;
     let mailbox = Mailbox::new(rt.clone()?, alloc, Arc::try_clone(&inbox)?);
     let subscription = mailbox.subscribe(7)?;
     let get = mailbox.get(8)?;
@@ -70,7 +64,7 @@ fn replies_reach_the_callers(rt: HostRuntime) -> Result<(), Fail> {
 #[test]
 fn a_reply_for_another_digest_is_no_reply(rt: HostRuntime) -> Result<(), Fail> {
     let alloc = rt.alloc();
-    let inbox = inbox(alloc)?;
+    let inbox = shared_inbox(alloc, NonZeroUsize::MIN)?;
     let mailbox = Mailbox::new(rt.clone()?, alloc, Arc::try_clone(&inbox)?);
     let subscription = mailbox.subscribe(7)?;
     let get = mailbox.get(8)?;
@@ -87,7 +81,7 @@ fn a_reply_for_another_digest_is_no_reply(rt: HostRuntime) -> Result<(), Fail> {
 #[test]
 fn dropping_what_waits_cancels_its_request(rt: HostRuntime) -> Result<(), Fail> {
     let alloc = rt.alloc();
-    let inbox = inbox(alloc)?;
+    let inbox = shared_inbox(alloc, NonZeroUsize::MIN)?;
     let mailbox = Mailbox::new(rt.clone()?, alloc, Arc::try_clone(&inbox)?);
     drop(mailbox.subscribe(7)?);
     drop(mailbox.get(8)?);
@@ -99,9 +93,9 @@ fn dropping_what_waits_cancels_its_request(rt: HostRuntime) -> Result<(), Fail> 
 }
 
 #[test]
-fn a_closed_mailbox_says_so(rt: HostRuntime) -> Result<(), Fail> {
+fn after_a_close_nothing_is_given(rt: HostRuntime) -> Result<(), Fail> {
     let alloc = rt.alloc();
-    let inbox = inbox(alloc)?;
+    let inbox = shared_inbox(alloc, NonZeroUsize::MIN)?;
     let mailbox = Mailbox::new(rt.clone()?, alloc, Arc::try_clone(&inbox)?);
     let waiting = mailbox.subscribe(6)?;
     assert_eq!(rt; inbox.lock(&rt).close(), 1);

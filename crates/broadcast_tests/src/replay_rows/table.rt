@@ -3,14 +3,21 @@
 /// One run: the arguments, the standard input, and all that must come.
 #[derive(Clone, Copy)]
 pub struct Row {
+    /// What the run is called.
     pub name: &'static str,
+    /// The arguments.
     pub words: &'static [&'static str],
+    /// The standard input.
     pub input: &'static [u8],
+    /// What must come on the standard output.
     pub output: &'static [u8],
+    /// What must come on the standard error.
     pub fault: &'static [u8],
+    /// The exit status.
     pub status: u8,
 }
 
+/// The runs.
 pub static ROWS: [Row; 37] = [
     Row {
         name: "broadcast-before-first-peer-set",
