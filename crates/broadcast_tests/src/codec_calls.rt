@@ -3,11 +3,13 @@ use crate::even::Even;
 use broadcast_core::codec::{CodecError, EncodeSize, Read, Write, decode_cfg};
 use broadcast_core::digested::{Digested, Digestible};
 use broadcast_core::mocks::TestMessage;
-use std::alloc::Global;
+use std::alloc::{AllocError, Global};
+use std::fmt::Debug;
+use std::process::Abort;
 use std::test::Fail;
 
-fn written<M: Write>(alloc: Global, message: &M) -> (Vec<u8>, Result<(), CodecError>) {
-    let mut out = Vec::new(alloc);
+/// What stands in the end where the message is written behind these bytes.
+fn written<M: Write>(mut out: Vec<u8>, message: &M) -> (Vec<u8>, Result<(), CodecError>) {
     let result = message.write(&mut out);
     (out, result)
 }
@@ -22,13 +24,13 @@ fn read_whole<M: Read + Drop>(alloc: Global, bytes: &[u8], cfg: &M::Cfg) -> Resu
 
 #[test]
 fn odd_has_no_encoding(rt: HostRuntime) -> Result<(), Fail> {
-    let (out, result) = written(rt.alloc(), &Even(6));
+    let (out, result) = written(Vec::new(rt.alloc()), &Even(6));
     assert_eq!(rt; result, Ok(()));
     assert_eq!(rt; out.as_slice(), [6].as_slice());
     assert_eq!(rt; size_of(&Even(6)), Some(1));
 
-    let mut out = [1, 2].to_vec(rt.alloc())?;
-    assert_eq!(rt; Even(7).write(&mut out), Err(CodecError::Unencodable));
+    let (out, result) = written([1, 2].to_vec(rt.alloc())?, &Even(7));
+    assert_eq!(rt; result, Err(CodecError::Unencodable));
     assert_eq!(rt; out.as_slice(), [1, 2].as_slice());
     assert_eq!(rt; size_of(&Even(7)), None);
     Ok(())
@@ -75,18 +77,28 @@ fn messages(rt: HostRuntime) -> Result<(), Fail> {
     Ok(())
 }
 
-#[test]
-fn digested_is_written_as_its_message(rt: HostRuntime) -> Result<(), Fail> {
-    let message = TestMessage::new(Vec::new(rt.alloc()), Vec::from_slice(rt.alloc(), b"abc")?);
+/// With its digest, the message is written as by itself.
+fn compare_written<M>(rt: &impl Abort, alloc: Global, message: M) -> Result<(), AllocError>
+where
+    M: Digestible + Write + EncodeSize + Drop,
+    M::Digest: Debug,
+{
     let digest = message.digest();
-    let (plain, _) = written(rt.alloc(), &message);
+    let (plain, _) = written(Vec::new(alloc), &message);
     let size = size_of(&message);
-    let digested = Digested::compute(rt.alloc(), message)?;
-    let (out, result) = written(rt.alloc(), &digested);
+    let digested = Digested::compute(alloc, message)?;
+    let (out, result) = written(Vec::new(alloc), &digested);
     assert_eq!(rt; result, Ok(()));
     assert_eq!(rt; out, plain);
     assert_eq!(rt; size_of(&digested), size);
     assert_eq!(rt; digested.digest(), digest);
+    Ok(())
+}
+
+#[test]
+fn digested_is_written_as_its_message(rt: HostRuntime) -> Result<(), Fail> {
+    let message = TestMessage::new(Vec::new(rt.alloc()), Vec::from_slice(rt.alloc(), b"abc")?);
+    compare_written(&rt, rt.alloc(), message)?;
     Ok(())
 }
 

@@ -9,6 +9,7 @@ use broadcast_core::ordered::Set;
 use broadcast_core::outcome::Subscribed;
 use broadcast_core::requests::{Closable, Ticketed};
 use std::alloc::{AllocError, Global};
+use std::process::Abort;
 use std::rc::Rc;
 use std::test::Fail;
 
@@ -158,12 +159,18 @@ fn served_waiters_are_handed_out_in_order(rt: HostRuntime) -> Result<(), Fail> {
     Ok(())
 }
 
-#[test]
-fn a_cached_digest_hands_the_waiter_back(rt: HostRuntime) -> Result<(), Fail> {
-    let alloc = rt.alloc();
+/// A room in which 2 is cached, and whose only caller, of ticket 3, is served.
+fn room_with_cached(rt: &impl Abort, alloc: Global) -> Result<Room, AllocError> {
     let mut room = room_with(alloc, &[(2, 3, false)])?;
     let (served, _) = room.served(alloc, 1, 2)?;
     assert_eq!(rt; served.as_slice(), [3].as_slice());
+    Ok(room)
+}
+
+#[test]
+fn a_cached_digest_hands_the_waiter_back(rt: HostRuntime) -> Result<(), Fail> {
+    let alloc = rt.alloc();
+    let mut room = room_with_cached(&rt, alloc)?;
     assert_eq!(rt; room.subscribe(alloc, 2, 4, false)?, Some((4, 2)));
     assert!(rt; room.alive(alloc)?.is_empty());
     assert_eq!(rt; room.waiting(), (0, 0, 0));

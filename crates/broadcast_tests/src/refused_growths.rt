@@ -160,9 +160,14 @@ fn row_by_calls(
     Ok((state_of(alloc, &core)?, refused))
 }
 
+/// What a core of plain vectors shows after the row.
+fn row_by_plain(alloc: Global) -> Result<State, AllocError> {
+    Ok(left_by_plain(alloc, 2, &ROW)?.state)
+}
+
 #[test]
 fn refused_take_changes_nothing(rt: HostRuntime) -> Result<(), Fail> {
-    let want = left_by_plain(rt.alloc(), 2, &ROW)?.state;
+    let want = row_by_plain(rt.alloc())?;
     let mut refused = 0u64;
     for place in 0..ROW.len() {
         let (got, number) = row_by_calls(&rt, rt.alloc(), Some(place))?;
@@ -200,6 +205,11 @@ fn equally_taken(alloc: Global, core: &mut Numbers, number: u8) -> Result<Vec<u6
     Ok(taken.served.into_vec())
 }
 
+/// The list of the own key.
+fn own_list(alloc: Global, core: &Numbers) -> Result<Vec<u8>, AllocError> {
+    core.list(alloc, &Key::new(0))
+}
+
 #[test]
 fn refused_take_own_changes_nothing(rt: HostRuntime) -> Result<(), Fail> {
     let mut core = core_without_copies(rt.alloc())?;
@@ -216,8 +226,7 @@ fn an_equal_key_begins_the_list(rt: HostRuntime) -> Result<(), Fail> {
     assert_eq!(rt; served.as_slice(), [1].as_slice());
     // Nothing is copied any more.
     assert!(rt; own_taken(rt.alloc(), &mut core, 5)?.is_empty());
-    let listed = core.list(rt.alloc(), &Key::new(0))?;
-    assert_eq!(rt; listed.as_slice(), [5, 4].as_slice());
+    assert_eq!(rt; own_list(rt.alloc(), &core)?.as_slice(), [5, 4].as_slice());
     Ok(())
 }
 
@@ -290,15 +299,19 @@ fn any_call(
     call(rt, alloc, core, step, true)
 }
 
-/// The calls of the row, where any growth may be refused.
-fn any_calls(rt: &impl Abort, alloc: Global) -> Result<(), AllocError> {
+/// What the core shows after the calls of the row, where any growth may be refused.
+fn row_by_any_calls(rt: &impl Abort, alloc: Global) -> Result<State, AllocError> {
     let mut core = new_core(alloc, Key::new(0));
     for step in &ROW {
         any_call(rt, alloc, &mut core, *step)?;
     }
-    let got = state_of(alloc, &core)?;
-    let want = left_by_plain(alloc, 2, &ROW)?;
-    assert_eq!(rt; got, want.state);
+    state_of(alloc, &core)
+}
+
+/// The calls of the row, where any growth may be refused.
+fn any_calls(rt: &impl Abort, alloc: Global) -> Result<(), AllocError> {
+    let got = row_by_any_calls(rt, alloc)?;
+    assert_eq!(rt; got, row_by_plain(alloc)?);
     Ok(())
 }
 

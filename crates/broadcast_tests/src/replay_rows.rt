@@ -4,6 +4,7 @@ mod table;
 use commonware_broadcast::replay::play;
 use std::alloc::AllocError;
 use std::io::{self, ErrorKind, Read, Write};
+use std::process::Abort;
 use std::sync::Wait;
 use std::test::Fail;
 use table::{ROWS, Row};
@@ -129,17 +130,27 @@ fn play_row<H: Wait + AllocGlobal>(
     })
 }
 
+/// The row is answered where so many bytes go in one call.
+fn answers<H: Abort + Wait + AllocGlobal>(
+    rt: &H,
+    row: &Row,
+    step: usize,
+) -> Result<(), AllocError> {
+    let name = row.name;
+    let manner = Manner::steady(step);
+    let played = play_row(rt, row, manner, manner, manner)?;
+    assert_eq!(rt; played.output.as_slice(), row.output, "output of {name}");
+    assert_eq!(rt; played.fault.as_slice(), row.fault, "fault of {name}");
+    assert_eq!(rt; played.status, row.status, "status of {name}");
+    Ok(())
+}
+
 #[test]
 fn rows_are_answered(rt: HostRuntime) -> Result<(), Fail> {
-    // A byte at a time, in odd pieces, and all at once.
-    for step in [1, 7, usize::MAX] {
-        let manner = Manner::steady(step);
-        for row in &ROWS {
-            let name = row.name;
-            let played = play_row(&rt, row, manner, manner, manner)?;
-            assert_eq!(rt; played.output.as_slice(), row.output, "output of {name}");
-            assert_eq!(rt; played.fault.as_slice(), row.fault, "fault of {name}");
-            assert_eq!(rt; played.status, row.status, "status of {name}");
+    for row in &ROWS {
+        // A byte at a time, in odd pieces, and all at once.
+        for step in [1, 7, usize::MAX] {
+            answers(&rt, row, step)?;
         }
     }
     Ok(())
@@ -194,24 +205,43 @@ fn an_interrupted_read_is_tried_again(rt: HostRuntime) -> Result<(), Fail> {
     Ok(())
 }
 
+/// What the row gives where the output fails after so many writes of ten bytes.
+fn play_writes<H: Wait + AllocGlobal>(
+    rt: &H,
+    row: &Row,
+    calls: usize,
+) -> Result<Played, AllocError> {
+    let steady = Manner::steady(usize::MAX);
+    play_row(rt, row, steady, Manner::failing(10, calls), steady)
+}
+
+/// The row ends with the write that fails after so many others.
+fn fails_after<H: Abort + Wait + AllocGlobal>(
+    rt: &H,
+    row: &Row,
+    calls: usize,
+) -> Result<(), AllocError> {
+    let name = row.name;
+    let played = play_writes(rt, row, calls)?;
+    assert_eq!(rt;
+        played.fault.as_slice(),
+        b"write failed\n".as_slice(),
+        "{name}"
+    );
+    assert_eq!(rt; played.status, 3, "{name}");
+    assert!(rt; row.output.starts_with(&played.output), "{name}");
+    Ok(())
+}
+
 #[test]
 fn a_failed_write_ends_the_run(rt: HostRuntime) -> Result<(), Fail> {
-    let steady = Manner::steady(usize::MAX);
     for row in &ROWS {
-        let name = row.name;
         let writes = row.output.len().div_ceil(10);
         for calls in 0..writes {
-            let played = play_row(&rt, row, steady, Manner::failing(10, calls), steady)?;
-            assert_eq!(rt;
-                played.fault.as_slice(),
-                b"write failed\n".as_slice(),
-                "{name}"
-            );
-            assert_eq!(rt; played.status, 3, "{name}");
-            assert!(rt; row.output.starts_with(&played.output), "{name}");
+            fails_after(&rt, row, calls)?;
         }
-        let played = play_row(&rt, row, steady, Manner::failing(10, writes), steady)?;
-        assert_eq!(rt; played.status, row.status, "{name}");
+        let name = row.name;
+        assert_eq!(rt; play_writes(&rt, row, writes)?.status, row.status, "{name}");
     }
     Ok(())
 }

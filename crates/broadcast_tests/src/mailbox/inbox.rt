@@ -14,6 +14,7 @@ use futures::executor::block_on;
 use std::alloc::{AllocError, Global};
 use std::collections::VecDeque;
 use std::num::NonZeroUsize;
+use std::process::Abort;
 use std::test::Fail;
 
 #[test]
@@ -140,18 +141,24 @@ fn takes_a_closed_request_that_found_room(rt: HostRuntime) -> Result<(), Fail> {
         waiting: 0,
         given_up: 0,
     };
-    let mut inbox = Inbox::new(alloc, NonZeroUsize::MIN);
-    assert_eq!(rt; inbox.enqueue(get(1, true)), Ok(Queued::Ready(0)));
-    assert_eq!(rt; taken(&mut inbox), Some((0, Kind::Get(1))));
-    assert_eq!(rt; inbox.counts(), counts);
+    assert_eq!(rt; counts_of_one(&rt, alloc, get(1, true)), counts);
 
-    let mut inbox = Inbox::new(alloc, NonZeroUsize::MIN);
     let (gone, held) = held_get(alloc, 1)?;
     drop(held);
-    assert_eq!(rt; inbox.enqueue(gone), Ok(Queued::Ready(0)));
-    assert_eq!(rt; taken(&mut inbox), Some((0, Kind::Get(1))));
-    assert_eq!(rt; inbox.counts(), counts);
+    assert_eq!(rt; counts_of_one(&rt, alloc, gone), counts);
     Ok(())
+}
+
+// The counts of an inbox through which one get of 1 went.
+fn counts_of_one<S, G>(rt: &impl Abort, alloc: Global, get: Message<u64, Note, S, G>) -> Counts
+where
+    S: Responder<Reply<Note>> + Drop,
+    G: Responder<Option<Reply<Note>>> + Drop,
+{
+    let mut inbox = Inbox::new(alloc, NonZeroUsize::MIN);
+    assert_eq!(rt; inbox.enqueue(get), Ok(Queued::Ready(0)));
+    assert_eq!(rt; taken(&mut inbox), Some((0, Kind::Get(1))));
+    inbox.counts()
 }
 
 // `take` fills the ready list as draining with a push that puts a request there would.
@@ -184,7 +191,7 @@ fn tickets_of_inbox(alloc: Global, size: u64, number: u64, mask: u64) -> Result<
     gone.clear();
     let mut tickets = Vec::new(alloc);
     for _ in 0..number {
-        let Some((ticket, _)) = inbox.take() else {
+        let Some((ticket, _)) = taken(&mut inbox) else {
             break;
         };
         tickets.push(ticket)?;

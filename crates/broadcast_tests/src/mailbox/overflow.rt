@@ -1,9 +1,13 @@
 //! What an overflow keeps and offers.
-use super::note::{Ask, Held, Kind, Plain, get, held_get, held_subscribe, kind_of, subscribe};
+use super::note::{
+    Ask, Held, Kind, Note, Plain, get, held_get, held_subscribe, kind_of, subscribe,
+};
 use commonware_broadcast::ingress::message::Message;
 use commonware_broadcast::ingress::overflow::{Overflow, Policy};
 use commonware_broadcast::ingress::pending::Pending;
-use commonware_broadcast::ingress::responder::Fixed;
+use commonware_broadcast::ingress::reply::Reply;
+use commonware_broadcast::ingress::responder::Responder;
+use std::alloc::Global;
 use std::test::Fail;
 
 #[test]
@@ -18,11 +22,7 @@ fn offers_the_open_requests_in_order(rt: HostRuntime) -> Result<(), Fail> {
         Policy::handle(&mut pending, request)?;
     }
     assert_eq!(rt; pending.len(), 2);
-    let mut offered = Vec::new(rt.alloc());
-    pending.drain(|request: Plain| {
-        let _ = offered.push(kind_of(&request));
-        None
-    });
+    let offered = offered(rt.alloc(), &mut pending);
     assert_eq!(rt;
         offered.as_slice(),
         [Kind::Subscribe(2), Kind::Get(4)].as_slice()
@@ -53,11 +53,7 @@ fn skips_requests_whose_receivers_are_gone(rt: HostRuntime) -> Result<(), Fail> 
     assert_eq!(rt; pending.len(), 4);
     drop(held);
     drop(held_too);
-    let mut offered = Vec::new(alloc);
-    pending.drain(|request: Ask| {
-        let _ = offered.push(kind_of(&request));
-        None
-    });
+    let offered = offered(alloc, &mut pending);
     assert_eq!(rt;
         offered.as_slice(),
         [Kind::Subscribe(2), Kind::Get(4)].as_slice()
@@ -78,11 +74,7 @@ fn keeps_one_that_is_closed_and_handed_back_in_front(rt: HostRuntime) -> Result<
     });
     assert_eq!(rt; attempts.as_slice(), [Kind::Get(1)].as_slice());
     assert_eq!(rt; pending.len(), 2);
-    let mut offered = Vec::new(rt.alloc());
-    pending.drain(|request: Plain| {
-        let _ = offered.push(kind_of(&request));
-        None
-    });
+    let offered = offered(rt.alloc(), &mut pending);
     assert_eq!(rt; offered.as_slice(), [Kind::Get(2)].as_slice());
     Ok(())
 }
@@ -104,11 +96,7 @@ fn keeps_one_whose_receiver_went_and_was_handed_back(rt: HostRuntime) -> Result<
     });
     assert_eq!(rt; attempts.as_slice(), [Kind::Get(1)].as_slice());
     assert_eq!(rt; pending.len(), 2);
-    let mut offered = Vec::new(alloc);
-    pending.drain(|request: Ask| {
-        let _ = offered.push(kind_of(&request));
-        None
-    });
+    let offered = offered(alloc, &mut pending);
     assert_eq!(rt; offered.as_slice(), [Kind::Get(2)].as_slice());
     Ok(())
 }
@@ -133,11 +121,7 @@ fn stops_at_one_that_is_handed_back(rt: HostRuntime) -> Result<(), Fail> {
         None
     });
     assert_eq!(rt; taken.as_slice(), [Kind::Get(1), Kind::Get(2)].as_slice());
-    let mut rest = Vec::new(rt.alloc());
-    pending.drain(|request: Plain| {
-        let _ = rest.push(kind_of(&request));
-        None
-    });
+    let rest = offered(rt.alloc(), &mut pending);
     assert_eq!(rt; rest.as_slice(), [Kind::Get(3)].as_slice());
     assert!(rt; pending.is_empty());
     Ok(())
@@ -164,14 +148,24 @@ fn stops_there_behind_one_whose_receiver_went(rt: HostRuntime) -> Result<(), Fai
         None
     });
     assert_eq!(rt; taken.as_slice(), [Kind::Get(1), Kind::Get(2)].as_slice());
-    let mut rest = Vec::new(alloc);
-    pending.drain(|request: Ask| {
-        let _ = rest.push(kind_of(&request));
-        None
-    });
+    let rest = offered(alloc, &mut pending);
     assert_eq!(rt; rest.as_slice(), [Kind::Get(3)].as_slice());
     assert!(rt; pending.is_empty());
     Ok(())
+}
+
+// What the overflow offers to one who takes it all.
+fn offered<S, G>(alloc: Global, pending: &mut Pending<Message<u64, Note, S, G>>) -> Vec<Kind>
+where
+    S: Responder<Reply<Note>> + Drop,
+    G: Responder<Option<Reply<Note>>> + Drop,
+{
+    let mut offered = Vec::new(alloc);
+    pending.drain(|request: Message<u64, Note, S, G>| {
+        let _ = offered.push(kind_of(&request));
+        None
+    });
+    offered
 }
 
 // The request with its responder closed.

@@ -2,7 +2,7 @@
 use super::note::{Ask, Kind, Note, kind_of, shared_inbox};
 use broadcast_core::digested::Digested;
 use broadcast_core::requests::Closable;
-use commonware_broadcast::ingress::mailbox::Mailbox;
+use commonware_broadcast::ingress::mailbox::{Mailbox, SharedInbox};
 use commonware_broadcast::ingress::message::Message;
 use commonware_broadcast::ingress::reply::Reply;
 use commonware_broadcast::ingress::responder::Responder;
@@ -10,8 +10,13 @@ use futures::channel::oneshot::Canceled;
 use futures::executor::block_on;
 use std::alloc::{AllocError, Global};
 use std::num::NonZeroUsize;
-use std::sync::Arc;
+use std::sync::{Arc, Wait};
 use std::test::Fail;
+
+// The next request, with its ticket.
+fn next(rt: &impl Wait, inbox: &SharedInbox<u64, Note>) -> Result<(u64, Ask), Fail> {
+    Ok(inbox.lock(rt).take().ok_or("nothing waits")?)
+}
 
 // Replies to the request with the note. A broadcast takes no reply.
 fn reply(alloc: Global, request: Ask, note: u8) -> Result<bool, AllocError> {
@@ -48,10 +53,10 @@ fn replies_reach_the_callers(rt: HostRuntime) -> Result<(), Fail> {
     let mailbox = Mailbox::new(rt.clone()?, alloc, Arc::try_clone(&inbox)?);
     let subscription = mailbox.subscribe(7)?;
     let get = mailbox.get(8)?;
-    let (first, request) = inbox.lock(&rt).take().ok_or("nothing waits")?;
+    let (first, request) = next(&rt, &inbox)?;
     assert_eq!(rt; (first, kind_of(&request)), (0, Kind::Subscribe(7)));
     assert!(rt; reply(alloc, request, 7)?);
-    let (second, request) = inbox.lock(&rt).take().ok_or("nothing waits")?;
+    let (second, request) = next(&rt, &inbox)?;
     assert_eq!(rt; (second, kind_of(&request)), (1, Kind::Get(8)));
     assert!(rt; reply(alloc, request, 8)?);
     let got = block_on(&rt, subscription)?;
@@ -68,9 +73,9 @@ fn a_reply_for_another_digest_is_no_reply(rt: HostRuntime) -> Result<(), Fail> {
     let mailbox = Mailbox::new(rt.clone()?, alloc, Arc::try_clone(&inbox)?);
     let subscription = mailbox.subscribe(7)?;
     let get = mailbox.get(8)?;
-    let (_, request) = inbox.lock(&rt).take().ok_or("nothing waits")?;
+    let (_, request) = next(&rt, &inbox)?;
     assert!(rt; reply(alloc, request, 1)?);
-    let (_, request) = inbox.lock(&rt).take().ok_or("nothing waits")?;
+    let (_, request) = next(&rt, &inbox)?;
     assert!(rt; reply(alloc, request, 1)?);
     let got = block_on(&rt, subscription)?;
     assert_eq!(rt; got.map(|message| message.digest()), Err(Canceled));
@@ -85,7 +90,7 @@ fn dropping_what_waits_cancels_its_request(rt: HostRuntime) -> Result<(), Fail> 
     let mailbox = Mailbox::new(rt.clone()?, alloc, Arc::try_clone(&inbox)?);
     drop(mailbox.subscribe(7)?);
     drop(mailbox.get(8)?);
-    let (_, request) = inbox.lock(&rt).take().ok_or("nothing waits")?;
+    let (_, request) = next(&rt, &inbox)?;
     assert!(rt; request.is_closed());
     assert!(rt; !reply(alloc, request, 7)?);
     assert_eq!(rt; inbox.lock(&rt).counts().skipped, 1);
