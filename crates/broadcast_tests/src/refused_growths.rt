@@ -210,12 +210,23 @@ fn own_list(alloc: Global, core: &Numbers) -> Result<Vec<u8>, AllocError> {
     core.list(alloc, &Key::new(0))
 }
 
+/// The number is refused under the own key, and nothing changes.
+fn refuses_own(
+    rt: &impl Abort,
+    alloc: Global,
+    core: &mut Numbers,
+    number: u8,
+) -> Result<(), AllocError> {
+    let before = state_of(alloc, core)?;
+    assert!(rt; own_taken(alloc, core, number).is_err());
+    assert_eq!(rt; state_of(alloc, core)?, before);
+    Ok(())
+}
+
 #[test]
 fn refused_take_own_changes_nothing(rt: HostRuntime) -> Result<(), Fail> {
     let mut core = core_without_copies(rt.alloc())?;
-    let before = state_of(rt.alloc(), &core)?;
-    assert!(rt; own_taken(rt.alloc(), &mut core, 4).is_err());
-    assert_eq!(rt; state_of(rt.alloc(), &core)?, before);
+    refuses_own(&rt, rt.alloc(), &mut core, 4)?;
     Ok(())
 }
 

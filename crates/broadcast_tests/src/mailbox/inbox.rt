@@ -149,7 +149,7 @@ fn takes_a_closed_request_that_found_room(rt: HostRuntime) -> Result<(), Fail> {
     Ok(())
 }
 
-// The counts of an inbox through which one get of 1 went.
+/// The counts of an inbox through which one get of 1 went.
 fn counts_of_one<S, G>(rt: &impl Abort, alloc: Global, get: Message<u64, Note, S, G>) -> Counts
 where
     S: Responder<Reply<Note>> + Drop,
@@ -161,7 +161,7 @@ where
     inbox.counts()
 }
 
-// `take` fills the ready list as draining with a push that puts a request there would.
+/// `take` fills the ready list as draining with a push that puts a request there would.
 #[test]
 fn takes_as_draining_does(rt: HostRuntime) -> Result<(), Fail> {
     let mut state = 7u64;
@@ -176,8 +176,8 @@ fn takes_as_draining_does(rt: HostRuntime) -> Result<(), Fail> {
     Ok(())
 }
 
-// The tickets that an inbox gives of so many gets, of which those with a bit in the mask close
-// before the first is taken.
+/// The tickets that an inbox gives of so many gets, of which those with a bit in the mask close
+/// before the first is taken.
 fn tickets_of_inbox(alloc: Global, size: u64, number: u64, mask: u64) -> Result<Vec<u64>, Fail> {
     let size = NonZeroUsize::new(size as usize).ok_or("a size of 0")?;
     let mut inbox = Inbox::new(alloc, size);
@@ -199,7 +199,7 @@ fn tickets_of_inbox(alloc: Global, size: u64, number: u64, mask: u64) -> Result<
     Ok(tickets)
 }
 
-// The same by a ready list of our own, which `drain` fills.
+/// The same by a ready list of our own, which `drain` fills.
 fn tickets_of_drain(alloc: Global, size: u64, number: u64, mask: u64) -> Result<Vec<u64>, Fail> {
     let size = size as usize;
     let mut ready: VecDeque<Request<Ask>> = VecDeque::new(alloc);
@@ -228,7 +228,7 @@ fn tickets_of_drain(alloc: Global, size: u64, number: u64, mask: u64) -> Result<
     Ok(tickets)
 }
 
-// Puts the request into the ready list where there is room, and else hands it back.
+/// Puts the request into the ready list where there is room, and else hands it back.
 fn put(
     ready: &mut VecDeque<Request<Ask>>,
     size: usize,
@@ -240,7 +240,7 @@ fn put(
     ready.push_back(request).err().map(|refused| refused.value)
 }
 
-// Keeps what holds a get open, or puts it where it is dropped from.
+/// Keeps what holds a get open, or puts it where it is dropped from.
 fn keep(
     open: &mut Vec<Held>,
     gone: &mut Vec<Held>,
@@ -256,7 +256,7 @@ fn keep(
     Ok(())
 }
 
-// The ticket and the kind of the next request.
+/// The ticket and the kind of the next request.
 fn taken<S, G>(inbox: &mut Inbox<Message<u64, Note, S, G>>) -> Option<(u64, Kind)>
 where
     S: Responder<Reply<Note>> + Drop,

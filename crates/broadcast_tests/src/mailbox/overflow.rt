@@ -154,7 +154,7 @@ fn stops_there_behind_one_whose_receiver_went(rt: HostRuntime) -> Result<(), Fai
     Ok(())
 }
 
-// What the overflow offers to one who takes it all.
+/// What the overflow offers to one who takes it all.
 fn offered<S, G>(alloc: Global, pending: &mut Pending<Message<u64, Note, S, G>>) -> Vec<Kind>
 where
     S: Responder<Reply<Note>> + Drop,
@@ -168,7 +168,7 @@ where
     offered
 }
 
-// The request with its responder closed.
+/// The request with its responder closed.
 fn closed(request: Plain) -> Plain {
     match request {
         Message::Subscribe { digest, .. } => subscribe(digest, true),

@@ -13,12 +13,12 @@ use std::num::NonZeroUsize;
 use std::sync::{Arc, Wait};
 use std::test::Fail;
 
-// The next request, with its ticket.
-fn next(rt: &impl Wait, inbox: &SharedInbox<u64, Note>) -> Result<(u64, Ask), Fail> {
-    Ok(inbox.lock(rt).take().ok_or("nothing waits")?)
+/// The next request, with its ticket.
+fn next(rt: &impl Wait, inbox: &SharedInbox<u64, Note>) -> Option<(u64, Ask)> {
+    inbox.lock(rt).take()
 }
 
-// Replies to the request with the note. A broadcast takes no reply.
+/// Replies to the request with the note. A broadcast takes no reply.
 fn reply(alloc: Global, request: Ask, note: u8) -> Result<bool, AllocError> {
     let reply = Reply::new(Digested::compute(alloc, Note(note))?);
     Ok(send(request, reply))
@@ -53,10 +53,10 @@ fn replies_reach_the_callers(rt: HostRuntime) -> Result<(), Fail> {
     let mailbox = Mailbox::new(rt.clone()?, alloc, Arc::try_clone(&inbox)?);
     let subscription = mailbox.subscribe(7)?;
     let get = mailbox.get(8)?;
-    let (first, request) = next(&rt, &inbox)?;
+    let (first, request) = next(&rt, &inbox).ok_or("nothing waits")?;
     assert_eq!(rt; (first, kind_of(&request)), (0, Kind::Subscribe(7)));
     assert!(rt; reply(alloc, request, 7)?);
-    let (second, request) = next(&rt, &inbox)?;
+    let (second, request) = next(&rt, &inbox).ok_or("nothing waits")?;
     assert_eq!(rt; (second, kind_of(&request)), (1, Kind::Get(8)));
     assert!(rt; reply(alloc, request, 8)?);
     let got = block_on(&rt, subscription)?;
@@ -73,9 +73,9 @@ fn a_reply_for_another_digest_is_no_reply(rt: HostRuntime) -> Result<(), Fail> {
     let mailbox = Mailbox::new(rt.clone()?, alloc, Arc::try_clone(&inbox)?);
     let subscription = mailbox.subscribe(7)?;
     let get = mailbox.get(8)?;
-    let (_, request) = next(&rt, &inbox)?;
+    let (_, request) = next(&rt, &inbox).ok_or("nothing waits")?;
     assert!(rt; reply(alloc, request, 1)?);
-    let (_, request) = next(&rt, &inbox)?;
+    let (_, request) = next(&rt, &inbox).ok_or("nothing waits")?;
     assert!(rt; reply(alloc, request, 1)?);
     let got = block_on(&rt, subscription)?;
     assert_eq!(rt; got.map(|message| message.digest()), Err(Canceled));
@@ -90,7 +90,7 @@ fn dropping_what_waits_cancels_its_request(rt: HostRuntime) -> Result<(), Fail> 
     let mailbox = Mailbox::new(rt.clone()?, alloc, Arc::try_clone(&inbox)?);
     drop(mailbox.subscribe(7)?);
     drop(mailbox.get(8)?);
-    let (_, request) = next(&rt, &inbox)?;
+    let (_, request) = next(&rt, &inbox).ok_or("nothing waits")?;
     assert!(rt; request.is_closed());
     assert!(rt; !reply(alloc, request, 7)?);
     assert_eq!(rt; inbox.lock(&rt).counts().skipped, 1);

@@ -10,7 +10,7 @@ use std::sync::{Arc, Wait};
 use std::test::Fail;
 use std::thread::{self, JoinHandle, Threads};
 
-// Makes so many calls of each kind, and answers how many were accepted. What waits is dropped.
+/// Makes so many calls of each kind, and answers how many were accepted. What waits is dropped.
 fn call<R: Wait>(mailbox: &Mailbox<u64, Note, R>, rounds: u64) -> u64 {
     let mut accepted = 0u64;
     for round in 0..rounds {
@@ -24,7 +24,7 @@ fn call<R: Wait>(mailbox: &Mailbox<u64, Note, R>, rounds: u64) -> u64 {
     accepted
 }
 
-// Broadcasts so many messages by any broadcaster, and answers how many were accepted.
+/// Broadcasts so many messages by any broadcaster, and answers how many were accepted.
 fn spread<B>(broadcaster: &B, alloc: Global, rounds: u64) -> u64
 where
     B: Broadcaster<Recipients = Recipients<u64>, Message = Digested<Note>>,
@@ -42,7 +42,7 @@ where
     accepted
 }
 
-// Takes so many times, and answers how often something waited.
+/// Takes so many times, and answers how often something waited.
 fn take_often(rt: &impl Wait, inbox: &SharedInbox<u64, Note>, rounds: u64) -> u64 {
     let mut taken = 0u64;
     for _ in 0..rounds {
@@ -53,7 +53,7 @@ fn take_often(rt: &impl Wait, inbox: &SharedInbox<u64, Note>, rounds: u64) -> u6
     taken
 }
 
-// Waits for the callers, and sums up what they answer.
+/// Waits for the callers, and sums up what they answer.
 fn join_all(rt: &impl Threads, callers: Vec<JoinHandle<u64>>) -> u64 {
     let mut accepted = 0u64;
     for caller in callers {
