@@ -1,17 +1,17 @@
 -- What is read is spelled so, and what is spelled so is read.
-use Rattle.std.proofs.Common.{◌≡◌, ℕ, ◌+◌, ◌-◌, ◌<◌, ◌≤◌, true, cond, ltb, List, ◌++◌, length, get_or, take, drop, Some, Result, Ok, Err, refl, sym, ap, subst, ◌∙◌, append_assoc, arith, Bool, false, ◌⊎◌, inl, inr, ⊎_elim}
+use Rattle.std.proofs.Common.{◌≡◌, ℕ, ◌+◌, ◌-◌, ◌<◌, ◌≤◌, true, cond, ltb, List, ◌++◌, length, get_or, take, drop, Some, Result, Ok, Err, refl, sym, ap, subst, ◌∙◌, append_assoc, arith, ◌⊎◌, inl, inr, ⊎_elim}
 use Rattle.std.specs.Prelude.{IfOk, IfErr}
-use Rattle.std.proofs.lemmas.Bool.{cases_lt, ltb-true, ltb-false, lt-ltb, and_from}
-use Rattle.std.proofs.lemmas.List.{take_at, take-append-drop, length-append, length-take, length-drop, get_or-drop, get_or-take, get_or_past}
+use Rattle.std.proofs.lemmas.Bool.{cases_lt, ltb-false, lt-ltb, and_from}
+use Rattle.std.proofs.lemmas.List.{take_at, take-append-drop, length-append, length-take, get_or-drop, get_or-take, get_or_past}
 use Rattle.std.proofs.lemmas.Nat.{be_bytes_4}
 use Rattle.byteorder.specs.Endian.{big_bytes, big_number}
 use Rattle.byteorder.specs.Numbers.{big_from-lt}
 use Rattle.broadcast_core.specs.declared.codec.CodecError.{CodecError}
 use Rattle.broadcast_core.specs.declared.codec.CodecError.TheVariants.{EndOfBuffer, InvalidLength}
 use Rattle.broadcast_core.specs.declared.codec.RangeCfg.{RangeCfg}
-use Rattle.broadcast_core.specs.Codec.{◌>>=◌, GivesOrLacks, layout_of, contains, has_spelling, spelled, Stands, NoneStands, length_at, bytes_at, list_at}
+use Rattle.broadcast_core.specs.Codec.{◌>>=◌, GivesOrLacks, layout_of, contains, has_spelling, spelled, Stands, length_at, bytes_at, list_at}
 use Rattle.broadcast_core.specs.TestMessage.{Parts, Begins, IsRefused, encoding_of, message_at}
-use Rattle.broadcast_core.specs.CodecLaws.{bind_ok, ok_is, guard_ok, chosen_ok, encoded_parts, message_again}
+use Rattle.broadcast_core.specs.CodecLaws.{bind_ok, bind_err, ok_is, guard_ok, chosen_ok, list_refused, encoded_parts, message_again}
 
 abbrev pub IsBytes : List ℕ → Type 0
 IsBytes bytes = (i : ℕ) → get_or bytes i 0 < 256
@@ -101,41 +101,6 @@ message_only range bytes m n begins =
 
 -- ---- what is refused is so for what stands there
 
--- which refusal a test gives
-guard_err : {A : Type 0} (b : Bool) (d e : CodecError) (x : A) → cond b (Err d) (Ok x) ≡ Err e → (b ≡ true) × (d ≡ e)
-guard_err true d e x h = (refl, cc)
-guard_err false d e x h = absurd cc
-
--- a refusal is that of what follows the test, or the test's own
-chosen_err : {A : Type 0} (b : Bool) (d e : CodecError) (x : Result A CodecError) → cond b x (Err d) ≡ Err e → ((b ≡ true) × (x ≡ Err e)) ⊎ ((b ≡ false) × (d ≡ e))
-chosen_err true d e x h = inl (refl, h)
-chosen_err false d e x h = inr (refl, cc)
-
--- a refusal is that of the first step, or of what follows its value
-bind_refused : {A B : Type 0} (r : Result A CodecError) (f : A → Result B CodecError) (e : CodecError) → (r >>= f) ≡ Err e → (r ≡ Err e) ⊎ ((x : A) × (r ≡ Ok x) × (f x ≡ Err e))
-bind_refused (Ok x) f e h = inr (x, refl, h)
-bind_refused (Err d) f e h = inl cc
-
--- why a byte list is not read
-list_refused : (range : RangeCfg) (bytes : List ℕ) (e : CodecError) → list_at range bytes ≡ Err e → NoneStands range bytes e
-unfolding list_at
-list_refused range bytes e h =
-    let f : ℕ × List ℕ → Result (List ℕ × List ℕ) CodecError = λ n. cond (contains range n.0) (bytes_at n.0 n.1) (Err (InvalidLength n.0)) in
-    ⊎_elim
-    (λ first. let short = guard_err (ltb (length bytes) 4) EndOfBuffer e (big_number 4 bytes, drop 4 bytes) first in
-    subst (NoneStands range bytes) short.1 (inl (ltb-true _ _ short.0)))
-    (λ (s : (n : ℕ × List ℕ) × (length_at bytes ≡ Ok n) × (f n ≡ Err e)).
-    let front = guard_ok (ltb (length bytes) 4) EndOfBuffer (big_number 4 bytes, drop 4 bytes) s.0 s.1 in
-    let long : 4 ≤ length bytes = ltb-false _ _ front.0 in
-    let n-is : big_number 4 bytes ≡ s.0.0 = ap (λ (p : ℕ × List ℕ). p.0) front.1 in
-    let after-is : drop 4 bytes ≡ s.0.1 = ap (λ (p : ℕ × List ℕ). p.1) front.1 in
-    ⊎_elim
-    (λ inside. let few = guard_err (ltb (length s.0.1) s.0.0) EndOfBuffer e (take s.0.0 s.0.1, drop s.0.0 s.0.1) inside.1 in
-    subst (NoneStands range bytes) few.1 (inr (ap (contains range) n-is ∙ inside.0, omega (arith, long, n-is, ltb-true _ _ few.0, ap length after-is, length-drop 4 bytes))))
-    (λ outside. subst (NoneStands range bytes) outside.1 (long, sym n-is, outside.0))
-    (chosen_err (contains range s.0.0) (InvalidLength s.0.0) e (bytes_at s.0.0 s.0.1) s.2))
-    (bind_refused (length_at bytes) f e h)
-
 -- why a message is not read
 message_refused : (range : RangeCfg) (bytes : List ℕ) (e : CodecError) → IsBytes bytes → message_at range bytes ≡ Err e → IsRefused range bytes e
 unfolding message_at
@@ -147,8 +112,8 @@ message_refused range bytes e fits h =
     (λ (s : (c : List ℕ × List ℕ) × (list_at range bytes ≡ Ok c) × (f c ≡ Err e)). ⊎_elim
     (λ second. record { remains = s.0.1; behind = inr (s.0.0, (list_takes range bytes s.0.0 s.0.1 fits s.1).stands); why = list_refused range s.0.1 e second })
     (λ (t : (d : List ℕ × List ℕ) × (list_at range s.0.1 ≡ Ok d) × (g s.0.0 d ≡ Err e)). absurd (let no = t.2 in cc))
-    (bind_refused (list_at range s.0.1) (g s.0.0) e s.2))
-    (bind_refused (list_at range bytes) f e h)
+    (bind_err (list_at range s.0.1) (g s.0.0) e s.2))
+    (bind_err (list_at range bytes) f e h)
 
 -- ---- the same of what the methods answer
 

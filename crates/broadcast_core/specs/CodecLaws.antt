@@ -1,13 +1,13 @@
 -- What the laws of reading a test message rest on.
-use Rattle.std.proofs.Common.{◌≡◌, ℕ, ◌-◌, ◌^◌, ◌<◌, ◌≤◌, Bool, true, false, cond, ltb, ◌&&◌, List, ◌++◌, length, drop, Some, None, Result, Ok, Err, refl, sym, ap, subst, ◌∙◌, append_assoc, arith, ◌⊎◌, inl, inr, ⊎_elim}
-use Rattle.std.proofs.lemmas.Bool.{ltb-true, le-ltb, and_parts}
-use Rattle.std.proofs.lemmas.List.{take_at, drop_at, length-append}
+use Rattle.std.proofs.Common.{◌≡◌, ℕ, ◌-◌, ◌^◌, ◌<◌, ◌≤◌, Bool, true, false, cond, ltb, ◌&&◌, List, ◌++◌, length, take, drop, Some, None, Result, Ok, Err, refl, sym, ap, subst, ◌∙◌, append_assoc, arith, ◌⊎◌, inl, inr, ⊎_elim}
+use Rattle.std.proofs.lemmas.Bool.{ltb-true, ltb-false, le-ltb, and_parts}
+use Rattle.std.proofs.lemmas.List.{take_at, drop_at, length-append, length-drop}
 use Rattle.byteorder.specs.Endian.{big_bytes, big_number}
 use Rattle.byteorder.specs.Numbers.{big_number-reads_back, length-bytes_high_first}
 use Rattle.broadcast_core.specs.declared.codec.CodecError.{CodecError}
-use Rattle.broadcast_core.specs.declared.codec.CodecError.TheVariants.{EndOfBuffer, InvalidLength}
+use Rattle.broadcast_core.specs.declared.codec.CodecError.TheVariants.{EndOfBuffer, InvalidLength, ExtraData, Unencodable, Memory}
 use Rattle.broadcast_core.specs.declared.codec.RangeCfg.{RangeCfg}
-use Rattle.broadcast_core.specs.Codec.{IsRefusal, ◌>>=◌, contains, has_spelling, spelled, length_at, bytes_at, list_at}
+use Rattle.broadcast_core.specs.Codec.{IsRefusal, ◌>>=◌, contains, has_spelling, spelled, NoneStands, length_at, bytes_at, list_at}
 use Rattle.broadcast_core.specs.TestMessage.{Parts, encoding_of, message_at}
 
 -- ---- steps
@@ -17,9 +17,9 @@ pub bind_ok : {A B : Type 0} (r : Result A CodecError) (f : A → Result B Codec
 bind_ok (Ok x) f y e = (x, refl, e)
 bind_ok (Err d) f y e = absurd cc
 
--- a refusal is that of the first step, or of what follows it
-pub bind_err : {A B : Type 0} (r : Result A CodecError) (f : A → Result B CodecError) (e : CodecError) → (r >>= f) ≡ Err e → (r ≡ Err e) ⊎ ((x : A) × (f x ≡ Err e))
-bind_err (Ok x) f e h = inr (x, h)
+-- a refusal is that of the first step, or of what follows its value
+pub bind_err : {A B : Type 0} (r : Result A CodecError) (f : A → Result B CodecError) (e : CodecError) → (r >>= f) ≡ Err e → (r ≡ Err e) ⊎ ((x : A) × (r ≡ Ok x) × (f x ≡ Err e))
+bind_err (Ok x) f e h = inr (x, refl, h)
 bind_err (Err d) f e h = inl cc
 
 abbrev done : {A : Type 0} → A → Result A CodecError
@@ -39,31 +39,56 @@ pub chosen_ok : {A : Type 0} (b : Bool) (d : CodecError) (x : Result A CodecErro
 chosen_ok true d x y e = (refl, e)
 chosen_ok false d x y e = absurd cc
 
--- ---- bytes are refused by these kinds alone
+-- which refusal a test gives
+guard_err : {A : Type 0} (b : Bool) (d e : CodecError) (x : A) → cond b (Err d) (Ok x) ≡ Err e → (b ≡ true) × (d ≡ e)
+guard_err true d e x h = (refl, cc)
+guard_err false d e x h = absurd cc
 
-guard_refuses : {A : Type 0} (b : Bool) (d e : CodecError) (x : A) → IsRefusal d → cond b (Err d) (Ok x) ≡ Err e → IsRefusal e
-guard_refuses true d e x is h = let same : d ≡ e = cc in subst IsRefusal same is
-guard_refuses false d e x is h = absurd cc
+-- a refusal is that of what follows the test, or the test's own
+chosen_err : {A : Type 0} (b : Bool) (d e : CodecError) (x : Result A CodecError) → cond b x (Err d) ≡ Err e → ((b ≡ true) × (x ≡ Err e)) ⊎ ((b ≡ false) × (d ≡ e))
+chosen_err true d e x h = inl (refl, h)
+chosen_err false d e x h = inr (refl, cc)
 
-chosen_refuses : {A : Type 0} (b : Bool) (d e : CodecError) (x : Result A CodecError) → IsRefusal d → (x ≡ Err e → IsRefusal e) → cond b x (Err d) ≡ Err e → IsRefusal e
-chosen_refuses true d e x is first h = first h
-chosen_refuses false d e x is first h = let same : d ≡ e = cc in subst IsRefusal same is
+-- ---- why bytes are refused
 
-list_refusals : (range : RangeCfg) (bytes : List ℕ) (e : CodecError) → list_at range bytes ≡ Err e → IsRefusal e
+pub list_refused : (range : RangeCfg) (bytes : List ℕ) (e : CodecError) → list_at range bytes ≡ Err e → NoneStands range bytes e
 unfolding list_at
-list_refusals range bytes e h =
+list_refused range bytes e h =
     let f : ℕ × List ℕ → Result (List ℕ × List ℕ) CodecError = λ n. cond (contains range n.0) (bytes_at n.0 n.1) (Err (InvalidLength n.0)) in
-    ⊎_elim (guard_refuses _ EndOfBuffer e _ tt)
-    (λ (s : (n : ℕ × List ℕ) × (f n ≡ Err e)). chosen_refuses (contains range s.0.0) (InvalidLength s.0.0) e (bytes_at s.0.0 s.0.1) tt (guard_refuses _ EndOfBuffer e _ tt) s.1)
+    ⊎_elim
+    (λ first. let short = guard_err (ltb (length bytes) 4) EndOfBuffer e (big_number 4 bytes, drop 4 bytes) first in
+    subst (NoneStands range bytes) short.1 (inl (ltb-true _ _ short.0)))
+    (λ (s : (n : ℕ × List ℕ) × (length_at bytes ≡ Ok n) × (f n ≡ Err e)).
+    let front = guard_ok (ltb (length bytes) 4) EndOfBuffer (big_number 4 bytes, drop 4 bytes) s.0 s.1 in
+    let long : 4 ≤ length bytes = ltb-false _ _ front.0 in
+    let n-is : big_number 4 bytes ≡ s.0.0 = ap (λ (p : ℕ × List ℕ). p.0) front.1 in
+    let after-is : drop 4 bytes ≡ s.0.1 = ap (λ (p : ℕ × List ℕ). p.1) front.1 in
+    ⊎_elim
+    (λ inside. let few = guard_err (ltb (length s.0.1) s.0.0) EndOfBuffer e (take s.0.0 s.0.1, drop s.0.0 s.0.1) inside.1 in
+    subst (NoneStands range bytes) few.1 (inr (ap (contains range) n-is ∙ inside.0, omega (arith, long, n-is, ltb-true _ _ few.0, ap length after-is, length-drop 4 bytes))))
+    (λ outside. subst (NoneStands range bytes) outside.1 (long, sym n-is, outside.0))
+    (chosen_err (contains range s.0.0) (InvalidLength s.0.0) e (bytes_at s.0.0 s.0.1) s.2))
     (bind_err (length_at bytes) f e h)
 
+none_refuses : (range : RangeCfg) (bytes : List ℕ) (e : CodecError) → NoneStands range bytes e → IsRefusal e
+none_refuses range bytes EndOfBuffer why = tt
+none_refuses range bytes (InvalidLength n) why = tt
+none_refuses range bytes (ExtraData n) why = absurd why
+none_refuses range bytes Unencodable why = absurd why
+none_refuses range bytes Memory why = absurd why
+
+-- bytes are refused by these kinds alone
 pub message_refusals : (range : RangeCfg) (bytes : List ℕ) (e : CodecError) → message_at range bytes ≡ Err e → IsRefusal e
 unfolding message_at
 message_refusals range bytes e h =
     let g : List ℕ → List ℕ × List ℕ → Result (Parts × ℕ) CodecError = λ c d. Ok (record { commitment = c; content = d.0 }, length bytes - length d.1) in
     let f : List ℕ × List ℕ → Result (Parts × ℕ) CodecError = λ c. list_at range c.1 >>= g c.0 in
-    ⊎_elim (list_refusals range bytes e)
-    (λ (s : (c : List ℕ × List ℕ) × (f c ≡ Err e)). ⊎_elim (list_refusals range s.0.1 e) (λ (t : (d : List ℕ × List ℕ) × (g s.0.0 d ≡ Err e)). absurd cc) (bind_err (list_at range s.0.1) (g s.0.0) e s.1))
+    ⊎_elim
+    (λ first. none_refuses range bytes e (list_refused range bytes e first))
+    (λ (s : (c : List ℕ × List ℕ) × (list_at range bytes ≡ Ok c) × (f c ≡ Err e)). ⊎_elim
+    (λ second. none_refuses range s.0.1 e (list_refused range s.0.1 e second))
+    (λ (t : (d : List ℕ × List ℕ) × (list_at range s.0.1 ≡ Ok d) × (g s.0.0 d ≡ Err e)). absurd (let no = t.2 in cc))
+    (bind_err (list_at range s.0.1) (g s.0.0) e s.2))
     (bind_err (list_at range bytes) f e h)
 
 -- ---- a message takes no more bytes than there are
