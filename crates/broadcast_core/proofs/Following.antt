@@ -1,34 +1,33 @@
--- What is listed and cached after one more event, and how a core's store follows the history.
-use Rattle.std.proofs.Common.{◌≡◌, ℕ, true, false, if◌then◌else◌, List, [], ◌∷◌, take, Option, Some, None, Ok, is_some, refl, sym, ap, ◌∙◌}
+-- What is listed and cached after one happening more, and how a core's store follows the history.
+use Rattle.std.proofs.Common.{◌≡◌, true, false, if◌then◌else◌, List, [], ◌∷◌, take, Option, Some, None, is_some, refl, sym, ap, ◌∙◌}
 use Rattle.std.specs.List.{list_any}
 use Rattle.std.specs.Cmp.{IsEquivalence}
 use Rattle.broadcast_core.specs.Carried.{Carried}
 use Rattle.broadcast_core.specs.Content.{Content, among, without, items_at, has_primary, list_at, is_on_list, message_at, waiting_at, outcome_at, list_with}
 use Rattle.broadcast_core.specs.Changes.{Takes, TakesPeers, KeepsStore}
-use Rattle.broadcast_core.specs.History.{Setting, Taking, taken, own_digested, carried_by}
+use Rattle.broadcast_core.specs.History.{Setting, Taking, carried_by}
+use Rattle.broadcast_core.specs.declared.ordered.Recipients.{Recipients}
+use Rattle.broadcast_core.specs.Answers.{outcome}
+use Rattle.broadcast_core.proofs.Distinct.{by_test, list_any-same, among-equal}
+use Rattle.broadcast_core.specs.Happening.{Happening, peers, broadcast, arrival, taken}
 use Rattle.broadcast_core.specs.Peers.{primary, is_primary}
 use Rattle.broadcast_core.specs.Lists.{list}
 use Rattle.broadcast_core.specs.Cache.{is_listed, message}
 use Rattle.broadcast_core.specs.Waiting.{waiting_for}
 use Rattle.broadcast_core.specs.Follows.{HasContent}
-use Rattle.broadcast_core.specs.Answers.{outcome}
-use Rattle.broadcast_core.specs.declared.ordered.Recipients.{Recipients}
-use Rattle.broadcast_core.specs.declared.event.Event.{Event}
-use Rattle.broadcast_core.specs.declared.event.Event.TheVariants.{Peers, Broadcast, Payload}
-use Rattle.broadcast_core.proofs.Distinct.{by_test, list_any-same, among-equal}
-use Rattle.broadcast_core.proofs.Listing.{take-none, any-weaker, from-any, primary-taken, payload-taken, is_primary-equal, list-empty, list-none, list-peers, list-other, list-equal, list-taken}
+use Rattle.broadcast_core.proofs.Listing.{take-none, any-weaker, from-any, primary-taken, is_primary-equal, list-empty, list-none, list-peers, list-other, list-equal, list-taken}
 
-module _ {P M D : Type 0} (s : Setting P M D) where
+module _ {P M D W V : Type 0} (s : Setting P M D) where
   module _ (key_laws : IsEquivalence s.same.key) where
     -- what stands on the list of any key is listed
-    pub listed : (d : D) (p : P) (past : List (Event P M D)) → among s.same.digest d (list s p past) ≡ true → is_listed s d past ≡ true
+    pub listed : (d : D) (p : P) (past : List (Happening P M D W V)) → among s.same.digest d (list s p past) ≡ true → is_listed s d past ≡ true
     listed d p past h = by_test (is_primary s p past)
         (λ here. any-weaker (s.same.key p) (λ q. among s.same.digest d (list s q past)) (primary s past)
         (λ q k. ap (among s.same.digest d) (sym (list-equal s key_laws p q past k)) ∙ h) here)
         (λ gone. absurd (let none : among s.same.digest d (list s p past) ≡ false = ap (among s.same.digest d) (list-empty s p past gone) in cc))
 
     -- an event that takes nothing makes no digest listed
-    pub listed-before : (d : D) (e : Event P M D) (past : List (Event P M D)) → taken s e ≡ None → is_listed s d (e ∷ past) ≡ true → is_listed s d past ≡ true
+    pub listed-before : (d : D) (e : Happening P M D W V) (past : List (Happening P M D W V)) → taken s e ≡ None → is_listed s d (e ∷ past) ≡ true → is_listed s d past ≡ true
     listed-before d e past none h = from-any (λ q. among s.same.digest d (list s q (e ∷ past))) (primary s (e ∷ past)) h
         (λ q there. by_test (is_primary s q (e ∷ past))
         (λ k. let same_list : list s q (e ∷ past) ≡ list s q past = list-none s q e past none ∙ rw k refl in
@@ -36,19 +35,19 @@ module _ {P M D : Type 0} (s : Setting P M D) where
         (λ k. absurd (let gone : among s.same.digest d (list s q (e ∷ past)) ≡ false = ap (among s.same.digest d) (list-empty s q (e ∷ past) k) in cc)))
 
   -- only listed digests have messages
-  pub message-none : (d : D) (past : List (Event P M D)) → is_listed s d past ≡ false → message s d past ≡ None
+  pub message-none : (d : D) (past : List (Happening P M D W V)) → is_listed s d past ≡ false → message s d past ≡ None
   message-none d [] h = refl
   message-none d (e ∷ past) h = rw h refl
 
   module _ (key_laws : IsEquivalence s.same.key) where
     -- an event that makes a digest listed has a message
-    carries : (d : D) (e : Event P M D) (past : List (Event P M D)) (o : Option (Taking P M D)) → taken s e ≡ o
+    carries : (d : D) (e : Happening P M D W V) (past : List (Happening P M D W V)) (o : Option (Taking P M D)) → taken s e ≡ o
         → is_listed s d (e ∷ past) ≡ true → is_listed s d past ≡ false → is_some (carried_by s o) ≡ true
     carries d e past None is h new = absurd (let old = listed-before key_laws d e past is h in cc)
     carries d e past (Some t) is h new = refl
 
     -- and listed digests have them
-    pub message-some : (d : D) (past : List (Event P M D)) → is_listed s d past ≡ true → is_some (message s d past) ≡ true
+    pub message-some : (d : D) (past : List (Happening P M D W V)) → is_listed s d past ≡ true → is_some (message s d past) ≡ true
     message-some d [] h = absurd cc
     message-some d (e ∷ past) h = by_test (is_listed s d past)
         (λ old. rw (h, old) (message-some d past old))
@@ -56,23 +55,23 @@ module _ {P M D : Type 0} (s : Setting P M D) where
 
   module _ (laws : IsEquivalence s.same.digest) where
     -- equal digests are listed alike, and have one message
-    pub is_listed-equal : (d e : D) (past : List (Event P M D)) → s.same.digest d e ≡ true → is_listed s d past ≡ is_listed s e past
+    pub is_listed-equal : (d e : D) (past : List (Happening P M D W V)) → s.same.digest d e ≡ true → is_listed s d past ≡ is_listed s e past
     is_listed-equal d e past h = list_any-same (λ p. among s.same.digest d (list s p past)) (λ p. among s.same.digest e (list s p past)) (primary s past)
         (λ p. among-equal laws d e (list s p past) h)
 
-    pub message-equal : (d e : D) (past : List (Event P M D)) → s.same.digest d e ≡ true → message s d past ≡ message s e past
+    pub message-equal : (d e : D) (past : List (Happening P M D W V)) → s.same.digest d e ≡ true → message s d past ≡ message s e past
     message-equal d e [] h = refl
     message-equal d e (x ∷ past) h = rw (is_listed-equal d e (x ∷ past) h, is_listed-equal d e past h, message-equal d e past h) refl
 
   -- an event that takes nothing and names no peers changes nothing of the store
-  pub is_listed-other : (d : D) (e : Event P M D) (past : List (Event P M D)) → taken s e ≡ None → primary s (e ∷ past) ≡ primary s past
+  pub is_listed-other : (d : D) (e : Happening P M D W V) (past : List (Happening P M D W V)) → taken s e ≡ None → primary s (e ∷ past) ≡ primary s past
       → is_listed s d (e ∷ past) ≡ is_listed s d past
   is_listed-other d e past none stays =
       ap (λ ps. list_any (λ p. among s.same.digest d (list s p (e ∷ past))) ps) stays
       ∙ list_any-same (λ p. among s.same.digest d (list s p (e ∷ past))) (λ p. among s.same.digest d (list s p past)) (primary s past)
       (λ p. ap (among s.same.digest d) (list-other s p e past none stays))
 
-  pub message-other : (d : D) (e : Event P M D) (past : List (Event P M D)) → taken s e ≡ None → primary s (e ∷ past) ≡ primary s past
+  pub message-other : (d : D) (e : Happening P M D W V) (past : List (Happening P M D W V)) → taken s e ≡ None → primary s (e ∷ past) ≡ primary s past
       → message s d (e ∷ past) ≡ message s d past
   message-other d e past none stays =
       let still = is_listed-other d e past none stays in
@@ -81,23 +80,23 @@ module _ {P M D : Type 0} (s : Setting P M D) where
       (λ h. message-none d (e ∷ past) (still ∙ h) ∙ sym (message-none d past h))
 
   -- the core has what the history gives, but perhaps for those that wait
-  pub record HasStore (past : List (Event P M D)) (core : Content P M D ℕ) : Type 0 where
+  pub record HasStore (past : List (Happening P M D W V)) (core : Content P M D W) : Type 0 where
     pub own : core.own ≡ s.own
     pub deque_size : core.deque_size ≡ s.deque_size
     pub primary : core.primary ≡ primary s past
     pub lists : (p : P) → list_at s.same core p ≡ list s p past
     pub cached : (d : D) → message_at s.same core d ≡ message s d past
 
-  pub HasStore-content : (past : List (Event P M D)) (core : Content P M D ℕ) → HasContent s past core → HasStore past core
+  pub HasStore-content : (past : List (Happening P M D W V)) (core : Content P M D W) → HasContent s past core → HasStore past core
   HasStore-content past core has = record { own = has.own; deque_size = has.deque_size; primary = has.primary; lists = has.lists; cached = has.cached }
 
-  pub HasContent-store : (past : List (Event P M D)) (core : Content P M D ℕ) → HasStore past core
+  pub HasContent-store : (past : List (Happening P M D W V)) (core : Content P M D W) → HasStore past core
       → ((d : D) → waiting_at s.same core d ≡ waiting_for s d past) → HasContent s past core
   HasContent-store past core has waiters =
       record { own = has.own; deque_size = has.deque_size; primary = has.primary; lists = has.lists; cached = has.cached; waiters = waiters }
 
   -- what is asked of a core is what is asked of its history
-  module _ (past : List (Event P M D)) (core : Content P M D ℕ) where
+  module _ (past : List (Happening P M D W V)) (core : Content P M D W) where
     on_list-followed : core.primary ≡ primary s past → ((p : P) → list_at s.same core p ≡ list s p past) → (d : D) → is_on_list s.same core d ≡ is_listed s d past
     on_list-followed keys lists d =
         ap (λ ps. list_any (λ p. among s.same.digest d (list_at s.same core p)) ps) keys
@@ -119,7 +118,7 @@ module _ {P M D : Type 0} (s : Setting P M D) where
       list_with-followed p d = rw (has_primary-followed p, has.lists p, has.deque_size) refl
 
   -- nothing has happened yet
-  pub HasStore-empty : (core : Content P M D ℕ) → core.own ≡ s.own → core.deque_size ≡ s.deque_size → core.primary ≡ [] → core.lists ≡ [] → core.cached ≡ [] → HasStore [] core
+  pub HasStore-empty : (core : Content P M D W) → core.own ≡ s.own → core.deque_size ≡ s.deque_size → core.primary ≡ [] → core.lists ≡ [] → core.cached ≡ [] → HasStore [] core
   HasStore-empty core own size keys lists cached = record {
     own = own;
     deque_size = size;
@@ -129,13 +128,13 @@ module _ {P M D : Type 0} (s : Setting P M D) where
   }
 
   -- and nobody waits
-  pub HasContent-empty : (core : Content P M D ℕ) → core.own ≡ s.own → core.deque_size ≡ s.deque_size → core.primary ≡ [] → core.lists ≡ [] → core.cached ≡ [] → core.waiters ≡ []
-      → HasContent s [] core
+  pub HasContent-empty : (core : Content P M D W) → core.own ≡ s.own → core.deque_size ≡ s.deque_size → core.primary ≡ [] → core.lists ≡ [] → core.cached ≡ [] → core.waiters ≡ []
+      → HasContent {V = V} s [] core
   HasContent-empty core own size keys lists cached waiters =
       HasContent-store [] core (HasStore-empty core own size keys lists cached) (λ d. ap (λ es. items_at s.same.digest d es) waiters)
 
   -- an event that takes nothing and names no peers
-  pub HasStore-other : (e : Event P M D) (past : List (Event P M D)) (old new : Content P M D ℕ) → HasStore past old → KeepsStore s.same old new
+  pub HasStore-other : (e : Happening P M D W V) (past : List (Happening P M D W V)) (old new : Content P M D W) → HasStore past old → KeepsStore s.same old new
       → taken s e ≡ None → primary s (e ∷ past) ≡ primary s past → HasStore (e ∷ past) new
   HasStore-other e past old new has keeps none stays = record {
     own = keeps.own ∙ has.own;
@@ -147,22 +146,22 @@ module _ {P M D : Type 0} (s : Setting P M D) where
 
   module _ (key_laws : IsEquivalence s.same.key) where
     -- a peer set
-    pub HasStore-peers : (ps : List P) (past : List (Event P M D)) (old new : Content P M D ℕ) → HasStore past old → TakesPeers s.same ps old new → HasStore (Peers ps ∷ past) new
+    pub HasStore-peers : (ps : List P) (past : List (Happening P M D W V)) (old new : Content P M D W) → HasStore past old → TakesPeers s.same ps old new → HasStore (peers ps ∷ past) new
     HasStore-peers ps past old new has takes =
-        let lists : (q : P) → list_at s.same new q ≡ list s q (Peers ps ∷ past) = λ q. takes.lists q ∙ rw (has.lists q) (sym (list-peers s q ps past)) in
+        let lists : (q : P) → list_at s.same new q ≡ list s q (peers ps ∷ past) = λ q. takes.lists q ∙ rw (has.lists q) (sym (list-peers s q ps past)) in
         record {
           own = takes.own ∙ has.own;
           deque_size = takes.deque_size ∙ has.deque_size;
           primary = takes.primary;
           lists = lists;
-          cached = λ d. by_test (is_listed s d (Peers ps ∷ past))
-              (λ h. rw (takes.cached d, on_list-followed (Peers ps ∷ past) new takes.primary lists d, h, listed-before key_laws d (Peers ps) past refl h) (has.cached d))
-              (λ h. rw (takes.cached d, on_list-followed (Peers ps ∷ past) new takes.primary lists d, h) refl);
+          cached = λ d. by_test (is_listed s d (peers ps ∷ past))
+              (λ h. rw (takes.cached d, on_list-followed (peers ps ∷ past) new takes.primary lists d, h, listed-before key_laws d (peers ps) past refl h) (has.cached d))
+              (λ h. rw (takes.cached d, on_list-followed (peers ps ∷ past) new takes.primary lists d, h) refl);
         }
 
     module _ (laws : IsEquivalence s.same.digest) where
       -- a taking as it changes a core's lists
-      list-stored : (e : Event P M D) (t : Taking P M D) (past : List (Event P M D)) (q : P) → taken s e ≡ Some t
+      list-stored : (e : Happening P M D W V) (t : Taking P M D) (past : List (Happening P M D W V)) (q : P) → taken s e ≡ Some t
           → list s q (e ∷ past) ≡ (if s.same.key t.key q
           then (if is_primary s t.key past then take s.deque_size (t.carried.digest ∷ without s.same.digest t.carried.digest (list s t.key past)) else list s t.key past)
           else list s q past)
@@ -172,7 +171,7 @@ module _ {P M D : Type 0} (s : Setting P M D) where
           (λ h. rw h (list-taken s laws q e t past some ∙ rw (key_laws.symm q t.key ∙ h) refl))
 
       -- an event that takes a message
-      pub HasStore-taken : (e : Event P M D) (t : Taking P M D) (past : List (Event P M D)) (old new : Content P M D ℕ) → HasStore past old
+      pub HasStore-taken : (e : Happening P M D W V) (t : Taking P M D) (past : List (Happening P M D W V)) (old new : Content P M D W) → HasStore past old
           → Takes s.same t.key t.carried old new → taken s e ≡ Some t → HasStore (e ∷ past) new
       HasStore-taken e t past old new has takes some =
           let keys : new.primary ≡ primary s (e ∷ past) = takes.primary ∙ has.primary ∙ sym (primary-taken s e t past some) in
@@ -187,12 +186,11 @@ module _ {P M D : Type 0} (s : Setting P M D) where
                 ∙ rw (on_list-followed (e ∷ past) new keys lists d, is_on_list-followed past old has d, has.cached d, some) refl;
           }
 
-      -- a broadcast, and a payload that reads whole
-      pub HasStore-broadcast : (r : Recipients P) (c : Carried M D) (past : List (Event P M D)) (old new : Content P M D ℕ) → HasStore past old
-          → Takes s.same s.own c old new → HasStore (Broadcast r c ∷ past) new
-      HasStore-broadcast r c past old new has takes = HasStore-taken (Broadcast r c) (record { key = s.own; carried = c }) past old new has takes refl
+      -- a broadcast, and an arrival
+      pub HasStore-broadcast : (r : Recipients P) (c : Carried M D) (past : List (Happening P M D W V)) (old new : Content P M D W) → HasStore past old
+          → Takes s.same s.own c old new → HasStore (broadcast r c ∷ past) new
+      HasStore-broadcast r c past old new has takes = HasStore-taken (broadcast r c) (record { key = s.own; carried = c }) past old new has takes refl
 
-      pub HasStore-payload : (p : P) (b : List ℕ) (m : M) (past : List (Event P M D)) (old new : Content P M D ℕ) → HasStore past old
-          → s.reading b ≡ Ok m → Takes s.same p (own_digested s m) old new → HasStore (Payload p b ∷ past) new
-      HasStore-payload p b m past old new has reads takes =
-          HasStore-taken (Payload p b) (record { key = p; carried = own_digested s m }) past old new has takes (payload-taken s p b m reads)
+      pub HasStore-arrival : (p : P) (c : Carried M D) (past : List (Happening P M D W V)) (old new : Content P M D W) → HasStore past old
+          → Takes s.same p c old new → HasStore (arrival p c ∷ past) new
+      HasStore-arrival p c past old new has takes = HasStore-taken (arrival p c) (record { key = p; carried = c }) past old new has takes refl

@@ -15,7 +15,10 @@ pub mod Listing
 pub mod Concerning
 pub mod Following
 pub mod Waits
+pub mod Choice
 pub mod WaitsAfter
 pub mod WaitsCount
+pub mod AwaitedCount
+pub mod Stepping
 pub mod Applying
 pub mod Running

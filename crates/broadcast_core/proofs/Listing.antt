@@ -1,14 +1,12 @@
 -- The list of a key, event by event.
-use Rattle.std.proofs.Common.{◌≡◌, ℕ, zero, suc, Bool, true, false, ◌||◌, ◌&&◌, if◌then◌else◌, List, [], ◌∷◌, take, Option, Some, None, Ok, Err, refl, sym, ap, ◌∙◌}
+use Rattle.std.proofs.Common.{◌≡◌, ℕ, zero, suc, Bool, true, false, ◌||◌, ◌&&◌, if◌then◌else◌, List, [], ◌∷◌, take, Option, Some, None, refl, sym, ap, ◌∙◌}
 use Rattle.std.specs.List.{list_any, IsDistinct}
 use Rattle.std.specs.Cmp.{IsEquivalence}
 use Rattle.broadcast_core.specs.Content.{among, without, first_places}
-use Rattle.broadcast_core.specs.History.{Setting, Taking, taken, own_digested}
+use Rattle.broadcast_core.specs.History.{Setting, Taking}
+use Rattle.broadcast_core.specs.Happening.{Happening, peers, broadcast, arrival, subscribe, get, cleanup, taken}
 use Rattle.broadcast_core.specs.Peers.{primary, is_primary, since}
 use Rattle.broadcast_core.specs.Lists.{digest_under, digests_under, list}
-use Rattle.broadcast_core.specs.declared.codec.CodecError.{CodecError}
-use Rattle.broadcast_core.specs.declared.event.Event.{Event}
-use Rattle.broadcast_core.specs.declared.event.Event.TheVariants.{Peers, Broadcast, Payload, Subscribe, Get, Cleanup}
 use Rattle.broadcast_core.proofs.Distinct.{by_test, or_false, or_right, among-equal, among-head, without-absent, IsDistinct-rest, IsDistinct-moved}
 
 pub take-none : {X : Type 0} (n : ℕ) → take {A = X} n [] ≡ []
@@ -63,45 +61,43 @@ module _ {D : Type 0} {same : D → D → Bool} (laws : IsEquivalence same) wher
   IsDistinct-first_places [] = tt
   IsDistinct-first_places (d ∷ ds) = IsDistinct-moved laws d (first_places same ds) (IsDistinct-first_places ds)
 
-module _ {P M D : Type 0} (s : Setting P M D) where
+module _ {P M D : Type 0} (s : Setting P M D) (key_laws : IsEquivalence s.same.key) where
+  digest_under-equal : (p q : P) (o : Option (Taking P M D)) → s.same.key p q ≡ true → digest_under s p o ≡ digest_under s q o
+  digest_under-equal p q None h = refl
+  digest_under-equal p q (Some t) h = rw (key_laws.congr p q t.key h) refl
+
+module _ {P M D W V : Type 0} (s : Setting P M D) where
   -- a taking leaves the peers
-  pub primary-taken : (e : Event P M D) (t : Taking P M D) (past : List (Event P M D)) → taken s e ≡ Some t → primary s (e ∷ past) ≡ primary s past
-  primary-taken (Peers ps) t past h = absurd cc
-  primary-taken (Broadcast r c) t past h = refl
-  primary-taken (Payload p b) t past h = refl
-  primary-taken (Subscribe k d) t past h = refl
-  primary-taken (Get k d) t past h = refl
-  primary-taken (Cleanup gone) t past h = refl
+  pub primary-taken : (e : Happening P M D W V) (t : Taking P M D) (past : List (Happening P M D W V)) → taken s e ≡ Some t → primary s (e ∷ past) ≡ primary s past
+  primary-taken (peers ps) t past h = absurd cc
+  primary-taken (broadcast r c) t past h = refl
+  primary-taken (arrival p c) t past h = refl
+  primary-taken (subscribe w d) t past h = refl
+  primary-taken (get v d) t past h = refl
+  primary-taken (cleanup test) t past h = refl
 
-  -- a payload is a taking where it reads whole, and none where it does not
-  pub payload-taken : (p : P) (b : List ℕ) (m : M) → s.reading b ≡ Ok m → taken s (Payload p b) ≡ Some (record { key = p; carried = own_digested s m })
-  payload-taken p b m h = rw h refl
-
-  pub payload-none : (p : P) (b : List ℕ) (why : CodecError) → s.reading b ≡ Err why → taken s (Payload p b) ≡ None
-  payload-none p b why h = rw h refl
-
-  pub since-empty : (p : P) (past : List (Event P M D)) → is_primary s p past ≡ false → since s p past ≡ []
+  pub since-empty : (p : P) (past : List (Happening P M D W V)) → is_primary s p past ≡ false → since s p past ≡ []
   since-empty p [] h = refl
   since-empty p (e ∷ past) h = rw h refl
 
   -- a key that is not primary has an empty list
-  pub list-empty : (p : P) (past : List (Event P M D)) → is_primary s p past ≡ false → list s p past ≡ []
+  pub list-empty : (p : P) (past : List (Happening P M D W V)) → is_primary s p past ≡ false → list s p past ≡ []
   list-empty p past h = rw (since-empty p past h) (take-none s.deque_size)
 
   -- an event that takes nothing leaves the lists of those that are primary after it, the others have none
-  pub list-none : (q : P) (e : Event P M D) (past : List (Event P M D)) → taken s e ≡ None
+  pub list-none : (q : P) (e : Happening P M D W V) (past : List (Happening P M D W V)) → taken s e ≡ None
       → list s q (e ∷ past) ≡ (if is_primary s q (e ∷ past) then list s q past else [])
   list-none q e past none = by_test (is_primary s q (e ∷ past))
       (λ h. rw h (rw none refl))
       (λ h. rw (list-empty q (e ∷ past) h, h) refl)
 
   -- a peer set
-  pub list-peers : (q : P) (ps : List P) (past : List (Event P M D))
-      → list s q (Peers ps ∷ past) ≡ (if list_any (s.same.key q) ps then list s q past else [])
-  list-peers q ps past = list-none q (Peers ps) past refl
+  pub list-peers : (q : P) (ps : List P) (past : List (Happening P M D W V))
+      → list s q (peers ps ∷ past) ≡ (if list_any (s.same.key q) ps then list s q past else [])
+  list-peers q ps past = list-none q (peers ps) past refl
 
   -- an event that takes nothing and leaves the peers leaves all lists
-  pub list-other : (q : P) (e : Event P M D) (past : List (Event P M D)) → taken s e ≡ None → primary s (e ∷ past) ≡ primary s past
+  pub list-other : (q : P) (e : Happening P M D W V) (past : List (Happening P M D W V)) → taken s e ≡ None → primary s (e ∷ past) ≡ primary s past
       → list s q (e ∷ past) ≡ list s q past
   list-other q e past none stays =
       let still : is_primary s q (e ∷ past) ≡ is_primary s q past = ap (λ ps. list_any (s.same.key q) ps) stays in
@@ -111,28 +107,24 @@ module _ {P M D : Type 0} (s : Setting P M D) where
 
   module _ (key_laws : IsEquivalence s.same.key) where
     -- equal keys are primary alike, and since the same event
-    pub is_primary-equal : (p q : P) (past : List (Event P M D)) → s.same.key p q ≡ true → is_primary s p past ≡ is_primary s q past
+    pub is_primary-equal : (p q : P) (past : List (Happening P M D W V)) → s.same.key p q ≡ true → is_primary s p past ≡ is_primary s q past
     is_primary-equal p q past h = among-equal key_laws p q (primary s past) h
 
-    pub since-equal : (p q : P) (past : List (Event P M D)) → s.same.key p q ≡ true → since s p past ≡ since s q past
+    pub since-equal : (p q : P) (past : List (Happening P M D W V)) → s.same.key p q ≡ true → since s p past ≡ since s q past
     since-equal p q [] h = refl
     since-equal p q (e ∷ past) h = rw (is_primary-equal p q (e ∷ past) h, since-equal p q past h) refl
 
-    digest_under-equal : (p q : P) (o : Option (Taking P M D)) → s.same.key p q ≡ true → digest_under s p o ≡ digest_under s q o
-    digest_under-equal p q None h = refl
-    digest_under-equal p q (Some t) h = rw (key_laws.congr p q t.key h) refl
-
-    digests_under-equal : (p q : P) (past : List (Event P M D)) → s.same.key p q ≡ true → digests_under s p past ≡ digests_under s q past
+    digests_under-equal : (p q : P) (past : List (Happening P M D W V)) → s.same.key p q ≡ true → digests_under s p past ≡ digests_under s q past
     digests_under-equal p q [] h = refl
-    digests_under-equal p q (e ∷ past) h = rw (digest_under-equal p q (taken s e) h, digests_under-equal p q past h) refl
+    digests_under-equal p q (e ∷ past) h = rw (digest_under-equal s key_laws p q (taken s e) h, digests_under-equal p q past h) refl
 
     -- equal keys have one list
-    pub list-equal : (p q : P) (past : List (Event P M D)) → s.same.key p q ≡ true → list s p past ≡ list s q past
+    pub list-equal : (p q : P) (past : List (Happening P M D W V)) → s.same.key p q ≡ true → list s p past ≡ list s q past
     list-equal p q past h = rw (since-equal p q past h, digests_under-equal p q (since s q past) h) refl
 
   module _ (laws : IsEquivalence s.same.digest) where
     -- a taking comes to the front of the list of its key, where that is primary
-    pub list-taken : (q : P) (e : Event P M D) (t : Taking P M D) (past : List (Event P M D)) → taken s e ≡ Some t
+    pub list-taken : (q : P) (e : Happening P M D W V) (t : Taking P M D) (past : List (Happening P M D W V)) → taken s e ≡ Some t
         → list s q (e ∷ past) ≡ (if s.same.key q t.key && is_primary s q past
         then take s.deque_size (t.carried.digest ∷ without s.same.digest t.carried.digest (list s q past)) else list s q past)
     list-taken q e t past some =

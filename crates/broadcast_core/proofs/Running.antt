@@ -1,13 +1,16 @@
 -- A list of events, run one after the other.
-use Rattle.std.proofs.Common.{◌≡◌, ℕ, suc, ◌≤◌, Bool, true, false, if◌then◌else◌, List, [], ◌∷◌, ◌++◌, length, reverse, refl, sym, ap, subst, ◌∙◌, arith, append_assoc, length-append}
+use Rattle.std.proofs.Common.{◌≡◌, ℕ, suc, ◌≤◌, true, false, if◌then◌else◌, List, [], ◌∷◌, ◌++◌, length, reverse, Result, Ok, Err, refl, sym, ap, subst, ◌∙◌, arith, append_assoc, length-append}
 use Rattle.std.specs.List.{zip}
 use Rattle.std.proofs.lemmas.List.{reverse-append, append-nil, length-reverse}
 use Rattle.broadcast_core.specs.Content.{Content, list_at}
 use Rattle.broadcast_core.specs.History.{Setting}
+use Rattle.broadcast_core.specs.Happening.{Happening, arrived, after}
+use Rattle.broadcast_core.specs.declared.codec.CodecError.{CodecError}
+use Rattle.broadcast_core.specs.declared.event.Event.TheVariants.{Peers, Broadcast, Payload, Subscribe, Get, Cleanup}
 use Rattle.broadcast_core.specs.Lists.{list}
 use Rattle.broadcast_core.specs.Concerns.{concerns}
 use Rattle.broadcast_core.specs.Answers.{IsAnswered, history, log_of, is_refused}
-use Rattle.broadcast_core.specs.Sent.{sent, sent_at}
+use Rattle.broadcast_core.specs.Sent.{sent}
 use Rattle.broadcast_core.specs.Follows.{HasContent, Applies, Follows, HasRun}
 use Rattle.broadcast_core.specs.declared.event.Event.{Event}
 use Rattle.broadcast_core.specs.declared.event.Answer.{Answer}
@@ -42,18 +45,31 @@ module _ {P M D : Type 0} where
   log_of-push es rs e a h = ap (λ zs. reverse zs) (zip-push es rs e a h) ∙ reverse-append (zip es rs) ((e, a) ∷ [])
 
   module _ (s : Setting P M D) where
+    length-arrived : (p : P) (r : Result M CodecError) (past : List (Happening P M D ℕ ℕ)) → length (arrived s p r past) ≤ suc (length past)
+    length-arrived p (Ok m) past = omega arith
+    length-arrived p (Err e) past = omega arith
+
+    -- an event is one happening at most
+    length-after : (e : Event P M D) (past : List (Happening P M D ℕ ℕ)) → length (after s e past) ≤ suc (length past)
+    length-after (Peers ps) past = omega arith
+    length-after (Broadcast r c) past = omega arith
+    length-after (Payload p b) past = length-arrived p (s.reading b) past
+    length-after (Subscribe k d) past = omega arith
+    length-after (Get k d) past = omega arith
+    length-after (Cleanup gone) past = omega arith
+
     length-history : (log : List (Event P M D × Answer M D)) → length (history s log) ≤ length log
     length-history [] = omega arith
-    length-history (x ∷ log) = elim (is_refused s x.1) as (λ b. length (if b then history s log else x.0 ∷ history s log) ≤ suc (length log))
-        [ true ↦ omega (arith, length-history log) | false ↦ omega (arith, length-history log) ]
+    length-history (x ∷ log) = elim (is_refused s x.1) as (λ b. length (if b then history s log else after s x.0 (history s log)) ≤ suc (length log))
+        [ true ↦ omega (arith, length-history log) | false ↦ omega (arith, length-history log, length-after x.0 (history s log)) ]
 
     -- a history has at most as many events as were run
     pub length-history_of : (es : List (Event P M D)) (rs : List (Answer M D)) → length (history s (log_of es rs)) ≤ length es
     length-history_of es rs = omega (arith, length-history (log_of es rs), length-reverse (zip es rs), length-zip_of es rs)
 
     -- what is the history's list is that of any history that agrees in what concerns the key
-    content-alone : (past : List (Event P M D)) (core : Content P M D ℕ) → HasContent s past core
-        → (p : P) (other : List (Event P M D)) → concerns s p other ≡ concerns s p past → list_at s.same core p ≡ list s p other
+    content-alone : (past : List (Happening P M D ℕ ℕ)) (core : Content P M D ℕ) → HasContent s past core
+        → (p : P) (other : List (Happening P M D ℕ ℕ)) → concerns s p other ≡ concerns s p past → list_at s.same core p ≡ list s p other
     content-alone past core content p other h = content.lists p ∙ sym (list-alone s p past other h)
 
     -- none as yet
@@ -61,12 +77,6 @@ module _ {P M D : Type 0} where
     HasRun-none core new =
         let content = HasContent-empty s core (ap (λ c. c.own) new) (ap (λ c. c.deque_size) new) (ap (λ c. c.primary) new) (ap (λ c. c.lists) new) (ap (λ c. c.cached) new) (ap (λ c. c.waiters) new) in
         record { one_each = refl; answered = tt; content = content; alone = content-alone [] core content; sent = refl }
-
-    -- what is sent, after one more event
-    sent-next : (refused : Bool) (e : Event P M D) (past : List (Event P M D)) (sends : List (Sent P)) → sends ≡ sent s past
-        → sends ++ (if refused then [] else sent_at s e) ≡ sent s (if refused then past else e ∷ past)
-    sent-next true e past sends h = append-nil sends ∙ h
-    sent-next false e past sends h = ap (λ xs. xs ++ sent_at s e) h
 
     -- one more
     pub HasRun-next : (es : List (Event P M D)) (rs : List (Answer M D)) (sends : List (Sent P)) (old new : Content P M D ℕ) (e : Event P M D) (a : Answer M D) (sending : List (Sent P))
@@ -80,7 +90,7 @@ module _ {P M D : Type 0} where
           content = content;
           alone = content-alone (history s (log_of (es ++ e ∷ []) (rs ++ a ∷ []))) new content;
           sent = subst (λ l. sends ++ sending ≡ sent s (history s l)) (sym log)
-              (ap (λ xs. sends ++ xs) step.sent ∙ sent-next (is_refused s a) e (history s (log_of es rs)) sends before.sent);
+              (ap (λ xs. xs ++ sending) before.sent ∙ sym step.sent);
         }
 
     -- the core has the setting's own key and size

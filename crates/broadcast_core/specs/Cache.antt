@@ -3,18 +3,18 @@ use Rattle.std.specs.Prelude.{Bool, if◌then◌else◌, List, [], ◌∷◌, Op
 use Rattle.std.specs.List.{list_any}
 use Rattle.broadcast_core.specs.Carried.{Carried}
 use Rattle.broadcast_core.specs.Content.{among}
-use Rattle.broadcast_core.specs.History.{Setting, taken, carried_by}
+use Rattle.broadcast_core.specs.History.{Setting, carried_by}
+use Rattle.broadcast_core.specs.Happening.{Happening, taken}
 use Rattle.broadcast_core.specs.Peers.{primary}
 use Rattle.broadcast_core.specs.Lists.{list}
-use Rattle.broadcast_core.specs.declared.event.Event.{Event}
 
-module _ {P M D : Type 0} (s : Setting P M D) where
+module _ {P M D W V : Type 0} (s : Setting P M D) where
   -- whether some key has the digest on its list; the list of a key that is not primary is empty
-  abbrev pub is_listed : D → List (Event P M D) → Bool
+  abbrev pub is_listed : D → List (Happening P M D W V) → Bool
   is_listed d past = list_any (λ p. among s.same.digest d (list s p past)) (primary s past)
 
-  -- the message of a listed digest: that of the event since which the digest has been listed
-  abbrev pub message : D → List (Event P M D) → Option (Carried M D)
+  -- the message of a listed digest: that of the happening since which the digest has been listed
+  abbrev pub message : D → List (Happening P M D W V) → Option (Carried M D)
   message d [] = None
   message d (e ∷ older) =
       if is_listed d (e ∷ older) then (if is_listed d older then message d older else carried_by s (taken s e)) else None

@@ -1,10 +1,8 @@
--- What happened to a core: a history is a list of events, the newest first.
-use Rattle.std.specs.Prelude.{ℕ, Bool, false, List, Option, None, Some, Result, Ok, Err}
+-- What a history is read by, and what is taken.
+use Rattle.std.specs.Prelude.{ℕ, Bool, false, List, Option, None, Some, Result}
 use Rattle.broadcast_core.specs.Carried.{Carried}
 use Rattle.broadcast_core.specs.Content.{Same}
 use Rattle.broadcast_core.specs.declared.codec.CodecError.{CodecError}
-use Rattle.broadcast_core.specs.declared.event.Event.{Event}
-use Rattle.broadcast_core.specs.declared.event.Event.TheVariants.{Broadcast, Payload}
 
 -- what a history is read by
 pub record Setting (P M D : Type 0) : Type 0 where
@@ -33,17 +31,6 @@ module _ {P M D : Type 0} (s : Setting P M D) where
   abbrev pub own_digested : M → Carried M D
   own_digested m = record { message = m; digest = s.digest_of m }
 
-  -- the taking of a payload under its sender's key, where it reads whole
-  abbrev pub payload_taken : P → Result M CodecError → Option (Taking P M D)
-  payload_taken p (Ok m) = Some (record { key = p; carried = own_digested m })
-  payload_taken p (Err e) = None
-
-  -- what an event takes: a broadcast under the own key with the digest handed in, a payload with its own
-  abbrev pub taken : Event P M D → Option (Taking P M D)
-  taken (Broadcast r c) = Some (record { key = s.own; carried = c })
-  taken (Payload p b) = payload_taken p (s.reading b)
-  taken _ = None
-
   -- whether a taking has the digest
   abbrev pub of_digest : D → Option (Taking P M D) → Bool
   of_digest d None = false
@@ -53,7 +40,3 @@ module _ {P M D : Type 0} (s : Setting P M D) where
   abbrev pub carried_by : Option (Taking P M D) → Option (Carried M D)
   carried_by None = None
   carried_by (Some t) = Some t.carried
-
-  -- whether the event takes the digest
-  abbrev pub takes : D → Event P M D → Bool
-  takes d e = of_digest d (taken e)

@@ -5,6 +5,7 @@ pub mod TestMessage
 pub mod Content
 pub mod Stored
 pub mod History
+pub mod Happening
 pub mod Peers
 pub mod Lists
 pub mod Concerns

@@ -1,9 +1,9 @@
 -- The list of a key.
 use Rattle.std.specs.Prelude.{if◌then◌else◌, List, [], ◌∷◌, ◌++◌, take, Option, None, Some}
 use Rattle.broadcast_core.specs.Content.{first_places}
-use Rattle.broadcast_core.specs.History.{Setting, Taking, taken}
+use Rattle.broadcast_core.specs.History.{Setting, Taking}
+use Rattle.broadcast_core.specs.Happening.{Happening, taken}
 use Rattle.broadcast_core.specs.Peers.{since}
-use Rattle.broadcast_core.specs.declared.event.Event.{Event}
 
 module _ {P M D : Type 0} (s : Setting P M D) where
   -- the digest of a taking, where it is under the key
@@ -11,11 +11,12 @@ module _ {P M D : Type 0} (s : Setting P M D) where
   digest_under p None = []
   digest_under p (Some t) = if s.same.key p t.key then t.carried.digest ∷ [] else []
 
+module _ {P M D W V : Type 0} (s : Setting P M D) where
   -- the digests taken under the key
-  abbrev pub digests_under : P → List (Event P M D) → List D
+  abbrev pub digests_under : P → List (Happening P M D W V) → List D
   digests_under p [] = []
-  digests_under p (e ∷ older) = digest_under p (taken s e) ++ digests_under p older
+  digests_under p (e ∷ older) = digest_under s p (taken s e) ++ digests_under p older
 
   -- the last distinct digests taken under the key since it was last not primary, as many as fit, the newest first
-  abbrev pub list : P → List (Event P M D) → List D
+  abbrev pub list : P → List (Happening P M D W V) → List D
   list p past = take s.deque_size (first_places s.same.digest (digests_under p (since s p past)))

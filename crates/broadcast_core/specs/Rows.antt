@@ -1,7 +1,8 @@
 -- Worked rows, computed from the definitions: messages are pairs of numbers, of which the second is the digest.
-use Rattle.std.specs.Prelude.{◌≡◌, ℕ, ◌==◌, false, List, [], ◌∷◌, None, Some, Result, Ok, Err}
+use Rattle.std.specs.Prelude.{◌≡◌, ℕ, ◌==◌, false, List, [], ◌∷◌, map, None, Some, Result, Ok, Err}
 use Rattle.broadcast_core.specs.Carried.{Carried}
 use Rattle.broadcast_core.specs.History.{Setting}
+use Rattle.broadcast_core.specs.Happening.{Happening, after}
 use Rattle.broadcast_core.specs.Lists.{list}
 use Rattle.broadcast_core.specs.Waiting.{waiting}
 use Rattle.broadcast_core.specs.Sent.{sent}
@@ -39,26 +40,29 @@ setting size = record {
 abbrev Events : Type 0
 Events = List (Event ℕ Message ℕ)
 
+abbrev Happenings : Type 0
+Happenings = List (Happening ℕ Message ℕ ℕ ℕ)
+
 -- the answers after a history, where memory is ample
-abbrev answers_after : ℕ → Events → Events → List (Answer Message ℕ)
+abbrev answers_after : ℕ → Happenings → Events → List (Answer Message ℕ)
 answers_after size past [] = []
-answers_after size past (e ∷ es) = answer_to (setting size) e past ∷ answers_after size (e ∷ past) es
+answers_after size past (e ∷ es) = answer_to (setting size) e past ∷ answers_after size (after (setting size) e past) es
 
 abbrev pub answers : ℕ → Events → List (Answer Message ℕ)
 answers size es = answers_after size [] es
 
-abbrev history_from : Events → Events → Events
-history_from past [] = past
-history_from past (e ∷ es) = history_from (e ∷ past) es
+abbrev history_from : ℕ → Happenings → Events → Happenings
+history_from size past [] = past
+history_from size past (e ∷ es) = history_from size (after (setting size) e past) es
 
 abbrev pub list_of : ℕ → Events → ℕ → List ℕ
-list_of size es p = list (setting size) p (history_from [] es)
+list_of size es p = list (setting size) p (history_from size [] es)
 
 abbrev pub waiters : ℕ → Events → List (ℕ × ℕ)
-waiters size es = waiting (setting size) (history_from [] es)
+waiters size es = map (λ w. (w.waiter, w.digest)) (waiting (setting size) (history_from size [] es))
 
 abbrev pub sends : ℕ → Events → List (Sent ℕ)
-sends size es = sent (setting size) (history_from [] es)
+sends size es = sent (setting size) (history_from size [] es)
 
 abbrev pub message : ℕ → ℕ → Carried Message ℕ
 message c x = record { message = (c, x); digest = x }

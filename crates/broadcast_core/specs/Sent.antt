@@ -1,8 +1,7 @@
 -- What the network is handed.
 use Rattle.std.specs.Prelude.{ℕ, List, [], ◌∷◌, ◌++◌, Option, None, Some}
 use Rattle.broadcast_core.specs.History.{Setting}
-use Rattle.broadcast_core.specs.declared.event.Event.{Event}
-use Rattle.broadcast_core.specs.declared.event.Event.TheVariants.{Broadcast}
+use Rattle.broadcast_core.specs.Happening.{Happening, broadcast}
 use Rattle.broadcast_core.specs.declared.event.Sent.{Sent}
 use Rattle.broadcast_core.specs.declared.ordered.Recipients.{Recipients}
 
@@ -12,12 +11,13 @@ module _ {P M D : Type 0} (s : Setting P M D) where
   sending r None = []
   sending r (Some bytes) = record { recipients = r; bytes = bytes; priority = s.priority } ∷ []
 
-  -- what the network is handed at an event: the encoding of a broadcast
-  abbrev pub sent_at : Event P M D → List (Sent P)
-  sent_at (Broadcast r c) = sending r (s.encoding c.message)
+module _ {P M D W V : Type 0} (s : Setting P M D) where
+  -- what the network is handed at a happening: the encoding of a broadcast
+  abbrev pub sent_at : Happening P M D W V → List (Sent P)
+  sent_at (broadcast r c) = sending s r (s.encoding c.message)
   sent_at _ = []
 
   -- the broadcasts of a history, in order
-  abbrev pub sent : List (Event P M D) → List (Sent P)
+  abbrev pub sent : List (Happening P M D W V) → List (Sent P)
   sent [] = []
   sent (e ∷ older) = sent older ++ sent_at e

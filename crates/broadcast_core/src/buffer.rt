@@ -256,6 +256,8 @@ impl<P: PublicKey, M: Digestible, W: Drop> Core<P, M, W> {
             (d : _) → DropsClosed W.may_answer (waiting_at same self.old d) (waiting_at same self.new d) }
         ensures removed { (n : ℕ) × (waiting_in self.old.waiters ≡ waiting_in self.new.waiters + n)
             × (result ≡ counted n) }
+        ensures distinct { IsDistinct (eq_by_cmp M.Digest.cmp) (keys_of self.old.waiters) }
+        ensures distinct_left { IsDistinct (eq_by_cmp M.Digest.cmp) (keys_of self.new.waiters) }
     {
         self.waiters.cleanup_by()
     }

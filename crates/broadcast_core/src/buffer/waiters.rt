@@ -124,6 +124,7 @@ impl<D: Ord + Copy, W: Drop> Waiters<D, W> {
             (e : D) → DropsClosed W.may_answer (items_at same e self.old) (items_at same e self.new) }
         ensures removed { (n : ℕ) × (waiting_in self.old ≡ waiting_in self.new + n) × (result ≡ counted n) }
         ensures distinct { IsDistinct (eq_by_cmp D.cmp) (keys_of self.old) }
+        ensures distinct_left { IsDistinct (eq_by_cmp D.cmp) (keys_of self.new) }
     {
         let before = total(&self.by_digest);
         self.by_digest.retain(|_, waiters| drop_closed(waiters));

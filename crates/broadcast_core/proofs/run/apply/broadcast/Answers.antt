@@ -3,6 +3,7 @@ use Rattle.std.specs.Cmp.{IsEquivalence, eq_by_cmp_equiv}
 use Rattle.broadcast_core.specs.Content.{same_by, outcome_at, waiting_at}
 use Rattle.broadcast_core.specs.Changes.{Takes}
 use Rattle.broadcast_core.specs.Follows.{Applies}
+use Rattle.broadcast_core.specs.Happening.{broadcast}
 use Rattle.broadcast_core.specs.declared.event.Event.TheVariants.{Broadcast}
 use Rattle.broadcast_core.specs.declared.event.Answer.TheVariants.{Taken}
 use Rattle.broadcast_core.proofs.Applying.{Applies-taken}
@@ -20,6 +21,6 @@ returns-in-Ok-take_own g c = λ s e pr enc past short has.
     let takes = subst (λ m'. Takes m' s.own m c.args.core.now c.take_own.new.self) (sym e) (subst (λ o. Takes (same_by g.P.Ord.cmp g.M.Digest.Ord.cmp) o m c.args.core.now c.take_own.new.self) has.own r.ok) in
     let outcome = subst (λ m'. c.in-Ok-take_own.taken.outcome ≡ outcome_at m' c.args.core.now s.own m.digest) (sym e) (subst (λ o. c.in-Ok-take_own.taken.outcome ≡ outcome_at (same_by g.P.Ord.cmp g.M.Digest.Ord.cmp) c.args.core.now o m.digest) has.own r.outcome) in
     let served = subst (λ m'. c.in-Ok-take_own.taken.served ≡ waiting_at m' c.args.core.now m.digest) (sym e) r.served in
-    let applies = Applies-taken s key_laws laws past c.args.core.now has event (record { key = s.own; carried = m }) c.take_own.new.self c.in-Ok-take_own.taken.outcome c.in-Ok-take_own.taken.served
-    refl (rw spelled refl) takes outcome served in
+    let applies = Applies-taken s key_laws laws past c.args.core.now has event (broadcast c.args.recipients m) (record { key = s.own; carried = m }) c.take_own.new.self c.in-Ok-take_own.taken.outcome c.in-Ok-take_own.taken.served
+    refl refl (rw spelled refl) takes outcome served in
     rw (← pr, c.from_vec.ensures) (subst (λ xs. Applies s past event c.take_own.new.self (Taken c.in-Ok-take_own.taken.outcome c.in-Ok-take_own.taken.served m) xs) (rw spelled refl) applies)

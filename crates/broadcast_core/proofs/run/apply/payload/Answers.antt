@@ -3,7 +3,8 @@ use Rattle.std.specs.Prelude.{length, is_ok, true}
 use Rattle.std.specs.Cmp.{IsEquivalence, eq_by_cmp_equiv}
 use Rattle.broadcast_core.specs.Content.{outcome_at, waiting_at}
 use Rattle.broadcast_core.specs.Changes.{Takes}
-use Rattle.broadcast_core.specs.History.{own_digested, payload_taken}
+use Rattle.broadcast_core.specs.History.{own_digested}
+use Rattle.broadcast_core.specs.Happening.{arrival}
 use Rattle.broadcast_core.specs.declared.codec.CodecError.TheVariants as CodecError
 use Rattle.broadcast_core.specs.declared.event.Event.TheVariants.{Payload}
 use Rattle.broadcast_core.proofs.Applying.{Applies-taken, Applies-refused, Applies-invalid, not_memory}
@@ -37,5 +38,5 @@ returns-in-Ok-take g c = λ s e dg rd past short has.
     let takes = subst (λ m'. Takes m' c.args.peer.now c.in-Ok-compute.message c.args.core.now c.take.new.self) (sym e) r.ok in
     let outcome = subst (λ m'. c.in-Ok-take.taken.outcome ≡ outcome_at m' c.args.core.now c.args.peer.now c.in-Ok-compute.message.digest) (sym e) r.outcome in
     let served = subst (λ m'. c.in-Ok-take.taken.served ≡ waiting_at m' c.args.core.now c.in-Ok-compute.message.digest) (sym e) r.served in
-    Applies-taken s key_laws laws past c.args.core.now has event (record { key = c.args.peer.now; carried = c.in-Ok-compute.message }) c.take.new.self c.in-Ok-take.taken.outcome c.in-Ok-take.taken.served
-    (rw carried (ap (payload_taken s c.args.peer.now) read)) (rw (read, carried) refl) takes outcome served
+    Applies-taken s key_laws laws past c.args.core.now has event (arrival c.args.peer.now c.in-Ok-compute.message) (record { key = c.args.peer.now; carried = c.in-Ok-compute.message }) c.take.new.self c.in-Ok-take.taken.outcome c.in-Ok-take.taken.served
+    (rw (read, carried) refl) refl (rw (read, carried) refl) takes outcome served
