@@ -1,7 +1,7 @@
 -- What the network is handed.
 use Rattle.std.specs.Prelude.{ℕ, List, [], ◌∷◌, ◌++◌, Option, None, Some}
-use Rattle.broadcast_core.specs.History.{Setting}
-use Rattle.broadcast_core.specs.Happening.{Happening, broadcast}
+use Rattle.broadcast_core.specs.Setting.{Setting}
+use Rattle.broadcast_core.specs.Happening.{Happening, History, broadcast}
 use Rattle.broadcast_core.specs.declared.event.Sent.{Sent}
 use Rattle.broadcast_core.specs.declared.ordered.Recipients.{Recipients}
 
@@ -18,6 +18,6 @@ module _ {P M D W V : Type 0} (s : Setting P M D) where
   sent_at _ = []
 
   -- the broadcasts of a history, in order
-  abbrev pub sent : List (Happening P M D W V) → List (Sent P)
+  abbrev pub sent : History P M D W V → List (Sent P)
   sent [] = []
   sent (e ∷ older) = sent older ++ sent_at e

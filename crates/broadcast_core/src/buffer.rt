@@ -261,6 +261,14 @@ impl<P: PublicKey, M: Digestible, W: Drop> Core<P, M, W> {
     {
         self.waiters.cleanup_by()
     }
+
+    /// Drops all waiters and keeps everything else. Does not allocate.
+    pub fn clear_waiters(&mut self)
+        ensures store { KeepsStore (same_by P.cmp M.Digest.cmp) self.old self.new }
+        ensures none_waits { self.new.waiters ≡ [] }
+    {
+        self.waiters.clear();
+    }
 }
 
 /// Puts the digest in front of the list of a primary key.

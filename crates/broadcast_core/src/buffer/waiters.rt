@@ -130,6 +130,13 @@ impl<D: Ord + Copy, W: Drop> Waiters<D, W> {
         self.by_digest.retain(|_, waiters| drop_closed(waiters));
         clamped(before - total(&self.by_digest))
     }
+
+    /// Drops all waiters. Does not allocate.
+    pub fn clear(&mut self)
+        ensures { self.new ≡ [] }
+    {
+        self.by_digest.clear();
+    }
 }
 
 /// The waiter of a list of one.

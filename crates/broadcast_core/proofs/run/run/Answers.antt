@@ -14,7 +14,7 @@ loop-event-init g c =
       left = omega (arith, ap length gives.0, gives.1, c.args.events.ok);
       answers_fit = omega (arith, ap length gives.0, c.args.events.ok, c.len.ensures, c.in_ok-answers.ensures.len, c.in_ok-answers.ensures.capacity);
       sent_fit = omega (arith, ap length gives.0, c.args.events.ok, c.len-2.ensures, c.in_ok-sent.ensures.len, c.in_ok-sent.ensures.capacity);
-      has_run = HasRun-same _ [] [] [] c.in_ok-answers.answers.items [] c.in_ok-sent.sent.items _ (HasRun-none _ c.new-core.result c.new-core.ensures)
+      has_run = HasRun-same _ [] [] [] c.in_ok-answers.answers.items [] c.in_ok-sent.sent.items _ (HasRun-none _ c.new-core.ensures)
           refl c.in_ok-answers.ensures.items c.in_ok-sent.ensures.items;
     }
 
@@ -42,7 +42,7 @@ loop-event-preserved g c =
       answers_fit = omega (arith, answers_push.len, answers_push.capacity, ap length steps.0, at.invariant.answers_fit);
       sent_fit = sent_fit;
       has_run = HasRun-same _ _ _ _ _ _ _ _
-          (HasRun-follows _ _ at.yielded at.answers.items at.sent.items at.core c.apply-answer.new.core e applied.0 (option_to_list applied.1)
+          (HasRun-follows _ at.yielded at.answers.items at.sent.items at.core c.apply-answer.new.core e applied.0 (option_to_list applied.1)
           (omega (arith, ap length at.invariant.rest, length-append at.yielded (into_iter_items at.event-iterator), ap length gives.0, gives.1, gives.2, c.args.events.ok))
           at.invariant.has_run c.apply-answer.ensures)
           refl answers_push.items sent_is;

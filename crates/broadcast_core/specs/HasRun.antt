@@ -1,0 +1,47 @@
+-- What one event makes of a core, and what a run of events leaves.
+use Rattle.std.specs.Prelude.{◌≡◌, ℕ, List, ◌++◌, length, if◌then◌else◌, ◌⊎◌}
+use Rattle.broadcast_core.specs.Content.{Content, list_at}
+use Rattle.broadcast_core.specs.Setting.{Setting}
+use Rattle.broadcast_core.specs.Happening.{History}
+use Rattle.broadcast_core.specs.Lists.{list}
+use Rattle.broadcast_core.specs.Concerns.{concerns}
+use Rattle.broadcast_core.specs.Sent.{sent}
+use Rattle.broadcast_core.specs.HasContent.{HasContent}
+use Rattle.broadcast_core.specs.Log.{is_refused, log_of, after, history}
+use Rattle.broadcast_core.specs.Answers.{answer_to, IsAllocFailure, IsAnswered}
+use Rattle.broadcast_core.specs.Waiters.{counted}
+use Rattle.broadcast_core.specs.declared.event.Event.{Event}
+use Rattle.broadcast_core.specs.declared.event.Answer.{Answer}
+use Rattle.broadcast_core.specs.declared.event.Answer.TheVariants.{Removed}
+use Rattle.broadcast_core.specs.declared.event.Sent.{Sent}
+
+-- the answer with its count as 64 bits count it
+abbrev pub counted_in : {M D : Type 0} → Answer M D → Answer M D
+counted_in (Removed n) = Removed (counted n)
+counted_in a = a
+
+module _ {P M D : Type 0} (s : Setting P M D) where
+  -- the event is given an answer that it may have, with its count as 64 bits count it; a refused
+  -- event changes nothing, and nothing is sent
+  pub record Applies (past : History P M D ℕ ℕ) (e : Event P M D) (new : Content P M D ℕ) (answer : Answer M D) (sending : List (Sent P)) : Type 0 where
+    pub answered : (answer ≡ counted_in (answer_to s e past)) ⊎ IsAllocFailure s e past answer
+    pub content : HasContent s (if is_refused answer then past else after s e past) new
+    pub sent : sent s (if is_refused answer then past else after s e past) ≡ sent s past ++ sending
+
+  -- the event is applied after any history that gives the core its content
+  abbrev pub Follows : Event P M D → Content P M D ℕ → Content P M D ℕ → Answer M D → List (Sent P) → Type 0
+  Follows e old new given sending = (past : History P M D ℕ ℕ) → HasContent s past old → Applies past e new given sending
+
+  -- the events were run in order, with these answers and sends, and left this core
+  pub record HasRun (events : List (Event P M D)) (answers : List (Answer M D)) (sends : List (Sent P)) (core : Content P M D ℕ) : Type 0 where
+    -- each event has its answer
+    pub one_each : length answers ≡ length events
+    -- which it may be given after the events before it
+    pub answered : IsAnswered s (log_of events answers)
+    -- the core has what the history gives
+    pub content : HasContent s (history s (log_of events answers)) core
+    -- a key's list is the one that any other history gives it that agrees in what concerns the key
+    pub alone : (p : P) (other : History P M D ℕ ℕ) → concerns s p other ≡ concerns s p (history s (log_of events answers))
+        → list_at s.same core p ≡ list s p other
+    -- the network was handed the broadcasts of the history
+    pub sent : sends ≡ sent s (history s (log_of events answers))
