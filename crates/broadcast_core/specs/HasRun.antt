@@ -4,10 +4,10 @@ use Rattle.broadcast_core.specs.Content.{Content, list_at}
 use Rattle.broadcast_core.specs.Setting.{Setting}
 use Rattle.broadcast_core.specs.Happening.{History}
 use Rattle.broadcast_core.specs.Lists.{list}
-use Rattle.broadcast_core.specs.Concerns.{concerns}
+use Rattle.broadcast_core.specs.Concerns.{concerns, AreAlike, AreEqual}
 use Rattle.broadcast_core.specs.Sent.{sent}
 use Rattle.broadcast_core.specs.HasContent.{HasContent}
-use Rattle.broadcast_core.specs.Log.{is_refused, log_of, after, history}
+use Rattle.broadcast_core.specs.Log.{is_refused, log_of, after, history_of}
 use Rattle.broadcast_core.specs.Answers.{answer_to, IsAllocFailure, IsAnswered}
 use Rattle.broadcast_core.specs.Waiters.{counted}
 use Rattle.broadcast_core.specs.declared.event.Event.{Event}
@@ -39,9 +39,13 @@ module _ {P M D : Type 0} (s : Setting P M D) where
     -- which it may be given after the events before it
     pub answered : IsAnswered s (log_of events answers)
     -- the core has what the history gives
-    pub content : HasContent s (history s (log_of events answers)) core
-    -- a key's list is the one that any other history gives it that agrees in what concerns the key
-    pub alone : (p : P) (other : History P M D ℕ ℕ) → concerns s p other ≡ concerns s p (history s (log_of events answers))
-        → list_at s.same core p ≡ list s p other
+    pub content : HasContent s (history_of s events answers) core
+    -- a list is that of any key in any history that has the same concerns
+    pub same_concerns_same_list : (p q : P) (other : History P M D ℕ ℕ)
+        → concerns s q other ≡ concerns s p (history_of s events answers) → list s q other ≡ list_at s.same core p
+    -- a list equals that of any key in any history that has alike concerns
+    pub alike_concerns_equal_list : (p q : P) (other : History P M D ℕ ℕ)
+        → AreAlike s.same.digest (concerns s q other) (concerns s p (history_of s events answers))
+        → AreEqual s.same.digest (list s q other) (list_at s.same core p)
     -- the network was handed the broadcasts of the history
-    pub sent : sends ≡ sent s (history s (log_of events answers))
+    pub sent : sends ≡ sent s (history_of s events answers)

@@ -39,3 +39,7 @@ module _ {P M D : Type 0} (s : Setting P M D) where
   abbrev pub history : Log P M D → History P M D ℕ ℕ
   history [] = []
   history (x ∷ log) = if is_refused x.1 then history log else after x.0 (history log)
+
+  -- the history after events with these answers
+  abbrev pub history_of : List (Event P M D) → List (Answer M D) → History P M D ℕ ℕ
+  history_of events answers = history (log_of events answers)
