@@ -28,6 +28,6 @@ pub returns-in-Cleanup : goal.returns-in-Cleanup
 returns-in-Cleanup g c = λ past has.
     let lawful = same_by-lawful (g.met.P.Ord g.world.𝓛 g.world.𝓜 g.world.𝓡 (λ s x. x, λ x. x, λ x. x, λ x. x)).total (g.met.M.Digest.Ord g.world.𝓛 g.world.𝓜 g.world.𝓡 (λ s x. x, λ x. x, λ x. x, λ x. x)).total in
     let same = same_by g.P.Ord.cmp g.M.Digest.Ord.cmp in
-    let cleans = subst (λ gone. Cleans same (λ k. list_any (λ x. k == x) gone) c.args.core.now c.cleanup.new.self) c.as_slice-in-Cleanup.ensures c.cleanup.ensures.gone in
+    let cleans = subst (λ gone. Cleans same (λ k. list_any (λ x. k == x) gone) c.args.core.now c.cleanup.new.self) c.as_slice-in-Cleanup.ensures c.cleanup.ensures.dropped in
     rw c.in-Cleanup.is (Applies-cleanup refl lawful has c.in-Cleanup.gone c.cleanup.result cleans c.cleanup.ensures.distinct
     (rw c.as_slice-in-Cleanup.ensures at c.cleanup.ensures.removed))
