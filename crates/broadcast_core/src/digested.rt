@@ -1,6 +1,9 @@
 //! Messages with their digests.
 ghost use Rattle.std.specs.Prelude.{◌≡◌, IfOk};
 ghost use Rattle.std.specs.Arc.{arc_value};
+ghost use Rattle.std.specs.Ordering.{on, eq_of_both};
+ghost use Rattle.std.specs.Cmp.Rules.{comparing};
+ghost use Rattle.std.proofs.Common.{rules};
 
 use crate::codec::{CodecError, EncodeSize, Write};
 use std::alloc::{AllocError, Global};
@@ -25,6 +28,7 @@ pub trait Digestible: Drop {
 ///
 /// A digest that is handed in is taken as it is, whether or not it is the message's own.
 #[derive(Drop)]
+#[derive_where(Debug; M, M::Digest)]
 pub struct Digested<M: Digestible> {
     message: Arc<M>,
     digest: M::Digest,
@@ -97,6 +101,21 @@ impl<M: Digestible> Clone for Digested<M> {
             digest: self.digest,
         })
     }
+}
+
+impl<M: Digestible + PartialEq> PartialEq for Digested<M> {
+    ghost eq = { eq_of_both (on (λ it. it.digest) M.Digest.eq) (on (λ it. it.message) M.eq) };
+
+    ghost laws = { Prim.search (comparing, rules) };
+
+    /// Returns whether both the digests and the messages are equal.
+    fn eq(&self, other: &Self) -> bool {
+        self.digest == other.digest && self.message == other.message
+    }
+}
+
+impl<M: Digestible + Eq> Eq for Digested<M> {
+    ghost laws = { Prim.search (comparing, rules) };
 }
 
 impl<M: Digestible + Write> Write for Digested<M> {

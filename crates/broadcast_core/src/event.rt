@@ -8,6 +8,9 @@ use crate::outcome::Outcome;
 
 /// What happens to a core.
 #[derive(Drop)]
+#[derive_where(Clone)]
+#[derive_where(Debug; P, M, M::Digest)]
+#[derive_where(PartialEq, Eq; M)]
 pub enum Event<P: PublicKey, M: Digestible> {
     /// These peers are the primary ones from now on.
     Peers(Set<P>),
@@ -34,6 +37,9 @@ pub enum Cause {
 
 /// The answer to an event.
 #[derive(Drop)]
+#[derive_where(Clone)]
+#[derive_where(Debug; M, M::Digest)]
+#[derive_where(PartialEq, Eq; M)]
 pub enum Answer<M: Digestible> {
     /// The peer set was taken.
     Peers,
@@ -61,7 +67,7 @@ pub enum Answer<M: Digestible> {
 }
 
 /// What the network is handed.
-#[derive(Drop)]
+#[derive(Clone, Debug, PartialEq, Eq, Drop)]
 pub struct Sent<P> {
     /// Whom it is for.
     pub recipients: Recipients<P>,

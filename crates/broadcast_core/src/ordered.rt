@@ -1,6 +1,7 @@
 //! Keys of peers, sets of them, and whom a message is for.
 ghost use Rattle.std.specs.Prelude.{◌≡◌, ◌==◌, true, List, [], length, is_some, IfSome, IfOk, OnOk, IsSomeAnd};
-ghost use Rattle.std.specs.List.{list_any, slice_get};
+ghost use Rattle.std.specs.Cmp.Lexicographic.{pointwise, lists_per, lists_equiv};
+ghost use Rattle.std.specs.List.{AllZip, list_any, slice_get};
 ghost use Rattle.std.specs.List.Sorted.{IsStrictlySortedBy};
 ghost use Rattle.std.specs.Option.{option_copied};
 ghost use Rattle.std.specs.Ordering.{eq_by_cmp};
@@ -22,7 +23,7 @@ impl PublicKey for u64 {
 }
 
 /// Whom a message is for.
-#[derive(Debug, Drop)]
+#[derive(Clone, Debug, PartialEq, Eq, Drop)]
 pub enum Recipients<P> {
     /// Every peer.
     All,
@@ -34,6 +35,7 @@ pub enum Recipients<P> {
 
 /// A set of keys, in rising order. No two of them are equal.
 #[derive(Drop)]
+#[derive_where(Debug; P)]
 pub struct Set<P: PublicKey> {
     keys: Items<P>,
 }
@@ -109,6 +111,32 @@ impl<P: PublicKey> Set<P> {
     {
         self.keys.as_slice().get(i)
     }
+}
+
+impl<P: PublicKey> Clone for Set<P> {
+    ghost is_clone = { λ set copy. AllZip P.is_clone set copy };
+
+    /// Returns the set of clones of the keys.
+    fn clone(&self) -> Result<Self, AllocError> {
+        Ok(Set {
+            keys: self.keys.clone()?,
+        })
+    }
+}
+
+impl<P: PublicKey> PartialEq for Set<P> {
+    ghost eq = { pointwise P.eq };
+
+    ghost laws = { lists_per P.PartialEq.laws };
+
+    /// Returns whether both sets have the same keys.
+    fn eq(&self, other: &Self) -> bool {
+        self.keys == other.keys
+    }
+}
+
+impl<P: PublicKey> Eq for Set<P> {
+    ghost laws = { lists_equiv P.Eq.laws };
 }
 
 /// Sorts the keys, and drops repeats.

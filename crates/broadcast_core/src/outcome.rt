@@ -14,7 +14,7 @@ pub enum Outcome {
 }
 
 /// What a taking answers.
-#[derive(Debug, Drop)]
+#[derive(Clone, Debug, PartialEq, Eq, Drop)]
 pub struct Taken<W> {
     /// What it came to.
     pub outcome: Outcome,
@@ -24,6 +24,9 @@ pub struct Taken<W> {
 
 /// What a subscribe answers.
 #[derive(Drop)]
+#[derive_where(Clone; W)]
+#[derive_where(Debug; W, M, M::Digest)]
+#[derive_where(PartialEq, Eq; W, M)]
 pub enum Subscribed<W, M: Digestible> {
     /// The waiter comes back with the cached message.
     Answered(W, Digested<M>),
