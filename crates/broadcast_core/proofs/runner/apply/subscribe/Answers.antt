@@ -3,7 +3,7 @@ use Rattle.std.specs.Cmp.{IsEquivalence, eq_by_cmp_equiv}
 use Rattle.broadcast_core.specs.Content.{message_at}
 use Rattle.broadcast_core.specs.Changes.{Awaits}
 use Rattle.broadcast_core.proofs.Applying.{Applies-answered, Applies-waiting}
-use Rattle.broadcast_core.proofs.run.apply.subscribe.Goals as goal
+use Rattle.broadcast_core.proofs.runner.apply.subscribe.Goals as goal
 
 pub returns-in-Ok-Answered : goal.returns-in-Ok-Answered
 returns-in-Ok-Answered g c = λ s e past short has.

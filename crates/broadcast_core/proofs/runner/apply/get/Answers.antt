@@ -2,7 +2,7 @@ use Rattle.std.proofs.Common.{◌≡◌, Some, None, refl, sym, ap, ◌∙◌, s
 use Rattle.std.specs.Cmp.{IsEquivalence, eq_by_cmp_equiv}
 use Rattle.broadcast_core.specs.Content.{message_at}
 use Rattle.broadcast_core.proofs.Applying.{Applies-got, Applies-no_get}
-use Rattle.broadcast_core.proofs.run.apply.get.Goals as goal
+use Rattle.broadcast_core.proofs.runner.apply.get.Goals as goal
 
 pub returns-in-None : goal.returns-in-None
 returns-in-None g c = λ s e k past short has.
