@@ -30,6 +30,6 @@ returns-in-Cleanup g c = λ past short has.
     let key_laws = eq_by_cmp_equiv (g.met.P.Ord g.world.𝓛 g.world.𝓜 g.world.𝓡 (λ s x. x, λ x. x, λ x. x, λ x. x)).total in
     let laws = eq_by_cmp_equiv (g.met.M.Digest.Ord g.world.𝓛 g.world.𝓜 g.world.𝓡 (λ s x. x, λ x. x, λ x. x, λ x. x)).total in
     let same = same_by g.P.Ord.cmp g.M.Digest.Ord.cmp in
-    let cleans = subst (λ gone. Cleans same (λ k. list_any (λ x. k == x) gone) c.args.core.now c.cleanup.new.self) c.as_slice-in-Cleanup.ensures c.cleanup.ensures.gone in
+    let cleans = subst (λ gone. Cleans same (λ k. list_any (λ x. k == x) gone) c.args.core.now c.cleanup.new.self) c.as_slice-in-Cleanup.ensures c.cleanup.ensures.dropped in
     rw c.in-Cleanup.is (Applies-cleanup _ key_laws laws past c.args.core.now has c.in-Cleanup.gone c.cleanup.result c.cleanup.new.self short cleans c.cleanup.ensures.distinct
     (rw c.as_slice-in-Cleanup.ensures at c.cleanup.ensures.removed))
