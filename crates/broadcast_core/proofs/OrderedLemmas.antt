@@ -1,15 +1,15 @@
 -- Keys in rising order, each of them once.
 use Rattle.std.proofs.Common.{◌≡◌, ℕ, zero, suc, ◌+◌, ◌<◌, Bool, true, false, List, [], ◌∷◌, length, get_or, Result, Ok, Err, is_some, refl, sym, ap, ◌∙◌, arith, inl, inr}
 use Rattle.std.specs.Prelude.{IfSome, IfOk, IsSomeAnd}
-use Rattle.std.specs.Cmp.{IsTotalOrder, IsEquivalence}
-use Rattle.std.specs.List.{All, HoldsAt, list_any, slice_get, dedup}
+use Rattle.std.specs.Cmp.{IsTotalOrder, IsEquivalence, Equal-is}
+use Rattle.std.specs.List.{All, AllByRecursion, AllZip, HoldsAt, list_any, slice_get, dedup}
 use Rattle.std.specs.List.Sorted.{IsSorted, IsStrictlySortedBy, IsBinarySearchResult, IsSearchInRange}
 use Rattle.std.specs.Ordering.{eq_by_cmp, is_eq, is_lt, ordering_reverse}
 use Rattle.std.specs.Result.{result_ok}
 use Rattle.std.specs.declared.cmp.Ordering.{Ordering}
-use Rattle.std.specs.declared.cmp.Ordering.TheVariants.{Equal}
+use Rattle.std.specs.declared.cmp.Ordering.TheVariants.{Less, Equal}
 use Rattle.std.proofs.lemmas.Bool.{cases_lt}
-use Rattle.std.proofs.lemmas.Cmp.{eq_by_cmp_equiv, tied_back}
+use Rattle.std.proofs.lemmas.Cmp.{eq_by_cmp_equiv, tied_back, alike_right}
 use Rattle.std.proofs.lemmas.List.Folds.{Any-from_list_any, list_any-from_Any, list_any_at, list_any_none}
 use Rattle.std.proofs.lemmas.List.Kept.{Any-dedup, Contains-from_dedup}
 use Rattle.std.proofs.lemmas.List.Sorted.{searchable_from_sorted}
@@ -64,3 +64,25 @@ place_decides {K} {R} o xs x (Err i) rises lt h =
       | inr after ↦ ap is_eq (o.antisymm x (get_or xs k d) ∙ ap ordering_reverse (parts.1 k d after within))
     ] in
     sym (list_any_none (eq_by_cmp R x) xs apart)
+
+-- ---- copies
+
+module _ {K : Type 0} {R : K → K → Ordering} (o : IsTotalOrder R) (Copies : K → K → Type 0) (equal : (x y : K) → Copies x y → eq_by_cmp R x y ≡ true) where
+  -- what is below keys has a copy below their copies
+  below_copies : (x y : K) (xs ys : List K) → Copies x y → AllZip Copies xs ys → AllByRecursion (λ z. R x z ≡ Less) xs → AllByRecursion (λ z. R y z ≡ Less) ys
+  below_copies x y [] [] c all below = tt
+  below_copies x y [] (b ∷ ys) c all below = absurd all
+  below_copies x y (a ∷ xs) [] c all below = absurd all
+  below_copies x y (a ∷ xs) (b ∷ ys) c all below =
+      let first = o.congr x y b ((Equal-is (R x y)).0 (equal x y c)) in
+      let second = alike_right o a b x ((Equal-is (R a b)).0 (equal a b all.0)) in
+      (sym first ∙ sym second ∙ below.0, below_copies x y xs ys c all.1 below.1)
+
+  -- copies of keys that rise do so
+  pub rises_from_copies : (xs ys : List K) → AllZip Copies xs ys → IsStrictlySortedBy R xs → IsStrictlySortedBy R ys
+  unfolding IsStrictlySortedBy
+  rises_from_copies [] [] all rises = tt
+  rises_from_copies [] (y ∷ ys) all rises = absurd all
+  rises_from_copies (x ∷ xs) [] all rises = absurd all
+  rises_from_copies (x ∷ xs) (y ∷ ys) all rises =
+      (below_copies x y xs ys all.0 all.1 rises.0, rises_from_copies xs ys all.1 rises.1)

@@ -4,13 +4,31 @@ use Rattle.std.specs.List.{list_any, count_by, sum_by, IsDistinct}
 use Rattle.std.specs.Option.{option_map}
 use Rattle.std.specs.Map.{lookup, keys_of, values_of}
 use Rattle.broadcast_core.specs.Carried.{Carried}
-use Rattle.broadcast_core.specs.Content.{Same, among, without, items_at}
+use Rattle.broadcast_core.specs.Content.{Content, Same, among, without, items_at}
 use Rattle.broadcast_core.specs.declared.buffer.cached.Cached.{Cached}
 
 -- the deques by peer, and the messages by digest
 pub record Stored (P M D : Type 0) : Type 0 where
   pub lists : List (P × List D)
   pub messages : List (D × Carried M D)
+
+-- what a core keeps beside its own key
+pub record Kept (P M D W : Type 0) : Type 0 where
+  pub deque_size : ℕ
+  pub primary : List P
+  pub stored : Stored P M D
+  pub waiters : List (D × List W)
+
+-- the content of a core with this own key
+abbrev pub with_own : {P M D W : Type 0} → P → Kept P M D W → Content P M D W
+with_own own kept = record {
+  own = own;
+  deque_size = kept.deque_size;
+  primary = kept.primary;
+  lists = kept.stored.lists;
+  cached = kept.stored.messages;
+  waiters = kept.waiters;
+}
 
 -- the deque of the key is another, and the others stay
 pub record PutsDeque {P D : Type 0} (same : P → P → Bool) (p : P) (ds : List D) (old new : List (P × List D)) : Type 0 where

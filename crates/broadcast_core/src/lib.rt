@@ -1,14 +1,28 @@
-//! The cache of a node that spreads messages: what it keeps of each peer, and whom it answers.
+//! The cache of a node that broadcasts messages: it lists the newest digests of each peer, caches
+//! their messages and replies to those who ask for one.
+//!
+//! Everything a caller needs stands at the top of this crate.
 #![tactic(auto)]
 
 pub mod buffer;
 pub mod codec;
 pub mod digested;
-pub mod event;
-pub mod items;
+mod event;
+mod items;
 pub mod mocks;
 pub mod ordered;
-pub mod outcome;
+mod outcome;
 pub mod requests;
-pub mod rows;
-pub mod run;
+mod rows;
+mod runner;
+
+pub use buffer::Core;
+pub use codec::{Codec, CodecError, EncodeSize, RangeCfg, Read, Write, decode_cfg};
+pub use digested::{Digested, Digestible};
+pub use event::{Answer, Cause, Event, Run, Sent};
+pub use items::Items;
+pub use mocks::TestMessage;
+pub use ordered::{PublicKey, Recipients, Set};
+pub use outcome::{Outcome, Subscribed, Taken};
+pub use requests::{Closable, Ticketed};
+pub use runner::run;

@@ -1,6 +1,7 @@
-//! Keys of peers, sets of them, and whom a message is for.
+//! Keys of peers, sets of keys, and recipients.
 ghost use Rattle.std.specs.Prelude.{◌≡◌, ◌==◌, true, List, [], length, is_some, IfSome, IfOk, OnOk, IsSomeAnd};
-ghost use Rattle.std.specs.List.{list_any, slice_get};
+ghost use Rattle.std.specs.Cmp.Lexicographic.{pointwise, lists_per, lists_equiv};
+ghost use Rattle.std.specs.List.{AllZip, list_any, slice_get};
 ghost use Rattle.std.specs.List.Sorted.{IsStrictlySortedBy};
 ghost use Rattle.std.specs.Option.{option_copied};
 ghost use Rattle.std.specs.Ordering.{eq_by_cmp};
@@ -11,7 +12,7 @@ use std::alloc::{AllocError, Global};
 use std::hash::Hash;
 use std::marker::Model;
 
-/// The key of a peer. Keys that compare equal are one key.
+/// The key of a peer. Keys that compare equal are the same key.
 pub trait PublicKey: Clone + Ord + Eq + Hash + Send + Drop + 'static {
     /// A copy of a key equals it.
     ghost copies: { (key copy : Self) → Self.is_clone key copy → eq_by_cmp Self.cmp key copy ≡ true };
@@ -21,8 +22,8 @@ impl PublicKey for u64 {
     ghost copies = { Prim.search rules };
 }
 
-/// Whom a message is for.
-#[derive(Debug, Drop)]
+/// The peers that a message is for.
+#[derive(Clone, Debug, PartialEq, Eq, Drop)]
 pub enum Recipients<P> {
     /// Every peer.
     All,
@@ -32,8 +33,9 @@ pub enum Recipients<P> {
     One(P),
 }
 
-/// A set of keys, in rising order. No two of them are equal.
+/// A sorted set of keys.
 #[derive(Drop)]
+#[derive_where(Debug; P)]
 pub struct Set<P: PublicKey> {
     keys: Items<P>,
 }
@@ -50,7 +52,7 @@ impl<P: PublicKey> Model for Set<P> {
 }
 
 impl<P: PublicKey> Set<P> {
-    /// No keys. Takes no memory.
+    /// Creates an empty set. Does not allocate.
     pub fn default(alloc: Global) -> Self
         ensures { result ≡ [] }
     {
@@ -63,7 +65,7 @@ impl<P: PublicKey> Set<P> {
     pub fn from_iter_dedup(mut keys: Vec<P>) -> Result<Self, AllocError>
         ensures members { IfOk result (λ set. (q : P)
             → list_any (eq_by_cmp P.cmp q) set ≡ list_any (eq_by_cmp P.cmp q) keys.items) }
-        ensures rises { IfOk result (IsStrictlySortedBy P.cmp) }
+        ensures sorted { IfOk result (IsStrictlySortedBy P.cmp) }
     {
         sort_dedup(&mut keys)?;
         Ok(Set {
@@ -71,7 +73,7 @@ impl<P: PublicKey> Set<P> {
         })
     }
 
-    /// The place of the key that equals this one, or `None` where there is none. Takes no memory.
+    /// Returns the position of the key that equals `key`. Does not allocate.
     pub fn position(&self, key: &P) -> Option<usize>
         ensures place { IfSome result (λ i. IsSomeAnd (slice_get self.now i)
             (λ q. eq_by_cmp P.cmp key.now q ≡ true)) }
@@ -80,30 +82,30 @@ impl<P: PublicKey> Set<P> {
         place_of(self.keys.as_slice(), key)
     }
 
-    /// The keys, in rising order.
+    /// Returns the keys, sorted.
     pub fn as_slice(&self) -> &[P]
         ensures keys { result.now ≡ self.now }
-        ensures rises { IsStrictlySortedBy P.cmp self.now }
+        ensures sorted { IsStrictlySortedBy P.cmp self.now }
     {
         self.keys.as_slice()
     }
 
-    /// How many keys there are.
+    /// Returns the number of keys.
     pub fn len(&self) -> usize
         ensures len { result ≡ length self.now }
-        ensures rises { IsStrictlySortedBy P.cmp self.now }
+        ensures sorted { IsStrictlySortedBy P.cmp self.now }
     {
         self.keys.len()
     }
 
-    /// Whether there are none.
+    /// Returns whether the set has no keys.
     pub fn is_empty(&self) -> bool
         ensures { result ≡ (length self.now == 0) }
     {
         self.len() == 0
     }
 
-    /// The key at the place, or `None` past the end.
+    /// Returns the key at position `i`, or `None` past the end.
     pub fn get(&self, i: usize) -> Option<&P>
         ensures { option_copied result ≡ slice_get self.now i }
     {
@@ -111,21 +113,48 @@ impl<P: PublicKey> Set<P> {
     }
 }
 
-/// Sorts the keys, and drops repeats.
+impl<P: PublicKey> Clone for Set<P> {
+    ghost is_clone = { λ set copy. AllZip P.is_clone set copy };
+
+    /// Returns the set of clones of the keys.
+    fn clone(&self) -> Result<Self, AllocError> {
+        Ok(Set {
+            keys: self.keys.clone()?,
+        })
+    }
+}
+
+impl<P: PublicKey> PartialEq for Set<P> {
+    ghost eq = { pointwise P.eq };
+
+    ghost laws = { lists_per P.PartialEq.laws };
+
+    /// Returns whether both sets have the same keys.
+    fn eq(&self, other: &Self) -> bool {
+        self.keys == other.keys
+    }
+}
+
+impl<P: PublicKey> Eq for Set<P> {
+    ghost laws = { lists_equiv P.Eq.laws };
+}
+
+/// Sorts the keys and drops repeats.
 fn sort_dedup<K: Ord + Drop>(keys: &mut Vec<K>) -> Result<(), AllocError>
-    ensures members { OnOk result ((q : K)
-        → list_any (eq_by_cmp K.cmp q) keys.new.items ≡ list_any (eq_by_cmp K.cmp q) keys.old.items) }
-    ensures rises { OnOk result (IsStrictlySortedBy K.cmp keys.new.items) }
+    ensures members { OnOk result ((q : K) → list_any (eq_by_cmp K.cmp q) keys.new.items
+        ≡ list_any (eq_by_cmp K.cmp q) keys.old.items) }
+    ensures sorted { OnOk result (IsStrictlySortedBy K.cmp keys.new.items) }
 {
     keys.sort()?;
     keys.dedup();
     Ok(())
 }
 
-/// The place of the key in keys that rise.
+/// Returns the position of the key in sorted keys.
 pub(crate) fn place_of<K: Ord>(keys: &[K], key: &K) -> Option<usize>
     requires { IsStrictlySortedBy K.cmp keys.now }
-    ensures place { IfSome result (λ i. IsSomeAnd (slice_get keys.now i) (λ q. eq_by_cmp K.cmp key.now q ≡ true)) }
+    ensures place { IfSome result (λ i. IsSomeAnd (slice_get keys.now i)
+        (λ q. eq_by_cmp K.cmp key.now q ≡ true)) }
     ensures some { is_some result ≡ list_any (eq_by_cmp K.cmp key.now) keys.now }
 {
     keys.binary_search(key).ok()

@@ -101,10 +101,10 @@ impl<P: PublicKey, M: Digestible> Cache<P, M> {
         ensures ok { OnOk result (Stores (same_by P.cmp M.Digest.cmp) peer.now message.now deque_size self.old self.new) }
         ensures err { OnErr result (self.new ≡ self.old) }
 
-        // A digest that is there already takes no memory, nor does a deque without places.
-        ensures free { among (eq_by_cmp M.Digest.cmp) message.now.digest
+        // These do not allocate.
+        ensures succeeds_on_duplicate { among (eq_by_cmp M.Digest.cmp) message.now.digest
             (items_at (eq_by_cmp P.cmp) peer.now self.old.lists) ≡ true → IsOk result }
-        ensures no_places { deque_size ≡ 0 → IsOk result }
+        ensures succeeds_at_size_zero { deque_size ≡ 0 → IsOk result }
     {
         let digest = message.digest();
         if counting::renew(&mut self.deques, &self.items, peer, digest) {
@@ -119,7 +119,10 @@ impl<P: PublicKey, M: Digestible> Cache<P, M> {
 
     /// The digests of the peer's deque, the newest first.
     pub fn list(&self, alloc: Global, peer: &P) -> Result<Vec<M::Digest>, AllocError>
-        ensures items { IfOk result (λ digests. digests.items ≡ items_at (eq_by_cmp P.cmp) peer.now self.now.lists) }
+        ensures digests { IfOk result (λ digests. digests.items
+            ≡ items_at (eq_by_cmp P.cmp) peer.now self.now.lists) }
+        ensures succeeds_on_empty { items_at (eq_by_cmp P.cmp) peer.now self.now.lists ≡ []
+            → IsOk result }
         ensures distinct { IsDistinct (eq_by_cmp M.Digest.cmp) (items_at (eq_by_cmp P.cmp) peer.now self.now.lists) }
     {
         match self.deques.get(peer) {

@@ -1,5 +1,5 @@
 //! The digests of one peer.
-ghost use Rattle.std.specs.Prelude.{◌≡◌, ◌<◌, ◌+◌, ◌++◌, ◌↔◌, [], ◌∷◌, false, true, length, if◌then◌else◌, IsSome, IfSome, IfOk, OnOk, OnErr, position};
+ghost use Rattle.std.specs.Prelude.{◌≡◌, ◌<◌, ◌+◌, ◌++◌, ◌↔◌, [], ◌∷◌, false, true, length, if◌then◌else◌, IsSome, IfSome, IfOk, IsOk, OnOk, OnErr, position};
 ghost use Rattle.std.specs.Option.{option_to_list};
 ghost use Rattle.std.specs.Ordering.{eq_by_cmp};
 ghost use Rattle.std.specs.List.{IsDistinct};
@@ -73,9 +73,13 @@ impl<D: Ord + Copy> Deque<D> {
 
     /// A copy of the digests.
     pub fn to_vec(&self, alloc: Global) -> Result<Vec<D>, AllocError>
-        ensures items { IfOk result (λ digests. digests.items ≡ self.now) }
+        ensures digests { IfOk result (λ digests. digests.items ≡ self.now) }
+        ensures succeeds_on_empty { self.now ≡ [] → IsOk result }
         ensures distinct { IsDistinct (eq_by_cmp D.cmp) self.now }
     {
+        if self.digests.is_empty() {
+            return Ok(Vec::new(alloc));
+        }
         self.digests.iter().copied().collect(alloc)
     }
 

@@ -12,6 +12,6 @@ returns-clause-members g c q =
     let left = dedup_is _ _ _ c.dedup.ensures.filtered in
     ap (list_any (eq_by_cmp g.K.Ord.cmp q)) left ∙ list_any-dedup g.met.K.Ord.total g.met.K.Eq.laws g.met.K.Ord.matches_eq _ q ∙ sym (list_any-IsPermutation _ _ _ c.in_ok-sort.ensures.permutation)
 
-pub returns-clause-rises : goal.returns-clause-rises
-returns-clause-rises g c =
+pub returns-clause-sorted : goal.returns-clause-sorted
+returns-clause-sorted g c =
     rw (dedup_is _ _ _ c.dedup.ensures.filtered) (IsStrictlySortedBy-dedup g.met.K.Ord.total g.met.K.Ord.matches_eq _ c.in_ok-sort.ensures.sorted)

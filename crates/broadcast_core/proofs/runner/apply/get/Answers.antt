@@ -1,7 +1,7 @@
 use Rattle.std.proofs.Common.{Some, None, sym, ap, ◌∙◌}
 use Rattle.broadcast_core.proofs.Lawful.{same_by-lawful}
 use Rattle.broadcast_core.proofs.Applying.{Applies-got, Applies-not_got}
-use Rattle.broadcast_core.proofs.run.apply.get.Goals as goal
+use Rattle.broadcast_core.proofs.runner.apply.get.Goals as goal
 
 pub returns-in-None : goal.returns-in-None
 returns-in-None g c = λ s is k past has.

@@ -4,8 +4,8 @@ use Rattle.std.specs.Option.{option_to_list}
 use Rattle.std.specs.Vec.Iter.{into_iter_items}
 use Rattle.broadcast_core.proofs.Lawful.{same_by-lawful}
 use Rattle.broadcast_core.proofs.Running.{HasRun-none, HasRun-same, HasRun-follows, one_come, none_left}
-use Rattle.broadcast_core.proofs.run.run.Goals as goal
-use Rattle.broadcast_core.proofs.run.run.Goals.{in-Some-sending, in_default}
+use Rattle.broadcast_core.proofs.runner.run.Goals as goal
+use Rattle.broadcast_core.proofs.runner.run.Goals.{in-Some-sending, in_default}
 
 pub loop-event-init : goal.loop-event-init
 loop-event-init g c =

@@ -5,7 +5,7 @@ use Rattle.broadcast_core.specs.Codec.{whole}
 use Rattle.broadcast_core.specs.Content.{same_by}
 use Rattle.broadcast_core.specs.Setting.{setting}
 use Rattle.broadcast_core.specs.HasRun.{HasRun}
-use Rattle.broadcast_core.proofs.run.run.Given as goal
+use Rattle.broadcast_core.proofs.runner.run.Given as goal
 
 abbrev pub invariant-loop-event : goal.invariant-loop-event
 invariant-loop-event g l =

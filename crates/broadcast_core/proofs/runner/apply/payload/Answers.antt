@@ -6,7 +6,7 @@ use Rattle.broadcast_core.specs.declared.codec.CodecError.TheVariants as CodecEr
 use Rattle.broadcast_core.specs.declared.event.Event.TheVariants.{Payload}
 use Rattle.broadcast_core.proofs.Lawful.{same_by-lawful}
 use Rattle.broadcast_core.proofs.Applying.{Applies-taken, Applies-refused, Applies-invalid, not_memory}
-use Rattle.broadcast_core.proofs.run.apply.payload.Goals as goal
+use Rattle.broadcast_core.proofs.runner.apply.payload.Goals as goal
 
 pub returns-in-Err : goal.returns-in-Err
 returns-in-Err g c = λ s is dg rd past has.

@@ -1,6 +1,6 @@
 use Rattle.broadcast_core.proofs.Lawful.{same_by-lawful}
 use Rattle.broadcast_core.proofs.Applying.{Applies-answered, Applies-waiting}
-use Rattle.broadcast_core.proofs.run.apply.subscribe.Goals as goal
+use Rattle.broadcast_core.proofs.runner.apply.subscribe.Goals as goal
 
 pub returns-in-Ok-Answered : goal.returns-in-Ok-Answered
 returns-in-Ok-Answered g c = λ s is past has.

@@ -5,7 +5,7 @@ use Rattle.broadcast_core.specs.Content.{same_by}
 use Rattle.broadcast_core.specs.Changes.{Cleans}
 use Rattle.broadcast_core.proofs.Lawful.{same_by-lawful}
 use Rattle.broadcast_core.proofs.Applying.{Applies-peers, Applies-cleanup}
-use Rattle.broadcast_core.proofs.run.apply.apply.Goals as goal
+use Rattle.broadcast_core.proofs.runner.apply.apply.Goals as goal
 
 pub returns-in-Peers : goal.returns-in-Peers
 returns-in-Peers g c = λ past has.

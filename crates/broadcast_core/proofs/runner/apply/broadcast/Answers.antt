@@ -7,7 +7,7 @@ use Rattle.broadcast_core.specs.declared.event.Event.TheVariants.{Broadcast}
 use Rattle.broadcast_core.specs.declared.event.Answer.TheVariants.{Taken}
 use Rattle.broadcast_core.proofs.Lawful.{same_by-lawful}
 use Rattle.broadcast_core.proofs.Applying.{Applies-taken}
-use Rattle.broadcast_core.proofs.run.apply.broadcast.Goals as goal
+use Rattle.broadcast_core.proofs.runner.apply.broadcast.Goals as goal
 
 pub returns-in-Ok-take_own : goal.returns-in-Ok-take_own
 returns-in-Ok-take_own g c = λ s is pr enc past has.
