@@ -1,0 +1,3 @@
+pub mod ByteLists
+pub mod Numbers
+pub mod Written
