@@ -25,6 +25,7 @@ mod reference;
 #[cfg(test)]
 mod refused_growths;
 #[cfg(test)]
+mod replay_inbox;
 mod replay_rows;
 #[cfg(test)]
 mod sends;
