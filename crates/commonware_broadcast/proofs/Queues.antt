@@ -2,7 +2,7 @@
 use Rattle.std.proofs.Common.{◌≡◌, ◌+◌, ◌≤◌, Bool, false, List, [], ◌∷◌, ◌++◌, length, Result, is_ok, is_err, cond, refl, sym, append-nil, ap, ◌∙◌, subst, inl, inr, append_assoc, arith, length-append}
 use Rattle.std.proofs.lemmas.List.{length_push}
 use Rattle.std.proofs.lemmas.Bool.{false≢true, cases_lt}
-use Rattle.commonware_broadcast.specs.declared.ingress.request.Request.{Request}
+use Rattle.commonware_broadcast.specs.declared.buffered.ingress.request.Request.{Request}
 use Rattle.commonware_broadcast.specs.Overflow.{Handles, Drains, PutsWithin}
 use Rattle.commonware_broadcast.proofs.Rising.{IsRising-higher, IsRising-lower, IsRising-tickets-push, length-IsRising, length-tickets_of}
 use Rattle.commonware_broadcast.proofs.Refilling.{Refills-fits, Refills-rising}

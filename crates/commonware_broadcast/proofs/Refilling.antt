@@ -1,7 +1,7 @@
 -- What refilling a ready list keeps.
 use Rattle.std.proofs.Common.{◌≡◌, ℕ, ◌+◌, ◌≤◌, ◌⊎◌, Bool, List, [], ◌∷◌, ◌++◌, length, sym, ap, ◌∙◌, subst, inl, inr, Option, None, Some, append_assoc, arith, length-append}
 use Rattle.std.proofs.lemmas.List.{length_push}
-use Rattle.commonware_broadcast.specs.declared.ingress.request.Request.{Request}
+use Rattle.commonware_broadcast.specs.declared.buffered.ingress.request.Request.{Request}
 use Rattle.commonware_broadcast.specs.Overflow.{Drains, PutsWithin}
 use Rattle.commonware_broadcast.specs.Queue.{QueueState, IsRising, Pops, tickets_of, waiting}
 use Rattle.commonware_broadcast.specs.Mailbox.{taken_by}

@@ -1,8 +1,8 @@
 -- What the steps of a mailbox do with its tickets.
 use Rattle.std.proofs.Common.{◌≡◌, ℕ, ◌+◌, Bool, List, [], ◌∷◌, ◌++◌, length, Option, None, Some, Ok, Err, ap, inl, inr, arith, length-append}
 use Rattle.std.specs.List.{flat_map}
-use Rattle.commonware_broadcast.specs.declared.ingress.request.Request.{Request}
-use Rattle.commonware_broadcast.specs.declared.ingress.queued.Queued.TheVariants as queued
+use Rattle.commonware_broadcast.specs.declared.buffered.ingress.request.Request.{Request}
+use Rattle.commonware_broadcast.specs.declared.buffered.ingress.queued.Queued.TheVariants as queued
 use Rattle.commonware_broadcast.specs.declared.broadcaster.MailboxError.TheVariants.{Memory, Exhausted}
 use Rattle.commonware_broadcast.specs.Overflow.{Drains, PutsWithin}
 use Rattle.commonware_broadcast.specs.Queue.{QueueState, IsRising, Pops, tickets_of, waiting, with_ready, with_overflow}

@@ -1,9 +1,9 @@
 -- The mailbox machine: its state, and what each call may answer and leave.
 use Rattle.std.specs.Prelude.{◌≡◌, ℕ, ◌+◌, Bool, true, false, List, length, Option, None, Some, Result, Ok}
-use Rattle.commonware_broadcast.specs.declared.ingress.request.Request.{Request}
-use Rattle.commonware_broadcast.specs.declared.ingress.queued.Queued.{Queued}
-use Rattle.commonware_broadcast.specs.declared.ingress.queued.Counts.{Counts}
-use Rattle.commonware_broadcast.specs.declared.ingress.queued.Queued.TheVariants as queued
+use Rattle.commonware_broadcast.specs.declared.buffered.ingress.request.Request.{Request}
+use Rattle.commonware_broadcast.specs.declared.buffered.ingress.queued.Queued.{Queued}
+use Rattle.commonware_broadcast.specs.declared.buffered.ingress.queued.Counts.{Counts}
+use Rattle.commonware_broadcast.specs.declared.buffered.ingress.queued.Queued.TheVariants as queued
 use Rattle.commonware_broadcast.specs.declared.broadcaster.MailboxError.{MailboxError}
 use Rattle.commonware_broadcast.specs.Queue.{QueueState, Pushes, Pops, empty_queue, shut_down, waiting}
 

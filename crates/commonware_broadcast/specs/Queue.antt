@@ -1,8 +1,8 @@
 -- The requests that wait in a mailbox.
 use Rattle.std.specs.Prelude.{◌≡◌, ℕ, ◌+◌, ◌-◌, ◌^◌, ◌<◌, ◌≤◌, ◌⊎◌, Bool, true, false, List, [], ◌∷◌, ◌++◌, length, map, Option, None, Some, Result, Ok, Err}
-use Rattle.commonware_broadcast.specs.declared.ingress.request.Request.{Request}
-use Rattle.commonware_broadcast.specs.declared.ingress.queued.Queued.{Queued}
-use Rattle.commonware_broadcast.specs.declared.ingress.queued.Queued.TheVariants as queued
+use Rattle.commonware_broadcast.specs.declared.buffered.ingress.request.Request.{Request}
+use Rattle.commonware_broadcast.specs.declared.buffered.ingress.queued.Queued.{Queued}
+use Rattle.commonware_broadcast.specs.declared.buffered.ingress.queued.Queued.TheVariants as queued
 use Rattle.commonware_broadcast.specs.declared.broadcaster.MailboxError.{MailboxError}
 use Rattle.commonware_broadcast.specs.declared.broadcaster.MailboxError.TheVariants.{Memory, Exhausted}
 use Rattle.commonware_broadcast.specs.Overflow.{Drains, PutsWithin}

@@ -1,9 +1,9 @@
 -- What becomes of each ticket, over any list of calls.
 use Rattle.std.specs.Prelude.{◌≡◌, ℕ, ◌+◌, ◌==◌, if◌then◌else◌, Bool, List, [], ◌∷◌, length, Option, Some, Result, Ok, Contains}
 use Rattle.std.specs.List.{flat_map}
-use Rattle.commonware_broadcast.specs.declared.ingress.request.Request.{Request}
-use Rattle.commonware_broadcast.specs.declared.ingress.queued.Queued.{Queued}
-use Rattle.commonware_broadcast.specs.declared.ingress.queued.Queued.TheVariants as queued
+use Rattle.commonware_broadcast.specs.declared.buffered.ingress.request.Request.{Request}
+use Rattle.commonware_broadcast.specs.declared.buffered.ingress.queued.Queued.{Queued}
+use Rattle.commonware_broadcast.specs.declared.buffered.ingress.queued.Queued.TheVariants as queued
 use Rattle.commonware_broadcast.specs.declared.broadcaster.MailboxError.{MailboxError}
 use Rattle.commonware_broadcast.specs.Queue.{IsRising, tickets_of, waiting}
 use Rattle.commonware_broadcast.specs.Mailbox.{MailboxState, Enqueues, Takes, RequestsStop, Closes}
