@@ -12,5 +12,6 @@ mod refill;
 pub mod reply;
 pub mod request;
 pub mod responder;
+mod returns;
 pub mod source;
 pub mod subscription;

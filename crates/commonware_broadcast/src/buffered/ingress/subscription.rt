@@ -1,23 +1,23 @@
-//! What a caller of `subscribe` holds.
+//! The future of a subscribe.
 ghost use Rattle.std.specs.Prelude.{◌≡◌, IfOk};
 ghost use Rattle.futures.specs.Channel.{completed_source};
-ghost use Rattle.commonware_broadcast.specs.Asked.{GoesBy};
+ghost use Rattle.commonware_broadcast.specs.Asked.{GoesBy, subscription_returns};
 
 use crate::buffered::ingress::reply::Reply;
+use crate::buffered::ingress::returns::Returns;
 use broadcast_core::digested::{Digested, Digestible};
 use futures::Future;
-use futures::channel::oneshot;
-use futures::channel::oneshot::Canceled;
+use futures::channel::oneshot::{Canceled, Receiver};
 use futures::task::{Context, Poll};
 use std::marker::Model;
 
 /// A future for the message of a digest. Dropping it cancels the request.
 ///
-/// It ends as cancelled where the request was dropped, and where the reply goes by another digest.
+/// It ends as canceled if the request was dropped, and if the reply goes by another digest.
 #[derive(Drop)]
 pub struct Subscription<M: Digestible> {
-    asked: M::Digest,
-    receiver: oneshot::Receiver<Reply<M>>,
+    digest: M::Digest,
+    receiver: Receiver<Reply<M>>,
 }
 
 impl<M: Digestible> Model for Subscription<M> {
@@ -26,15 +26,15 @@ impl<M: Digestible> Model for Subscription<M> {
 
     ghost Value = { Asked M.Digest };
 
-    ghost view = { λ s. record { digest = s.asked; source = completed_source s.receiver } };
+    ghost view = { λ s. record { digest = s.digest; source = completed_source s.receiver } };
 }
 
 impl<M: Digestible> Subscription<M> {
-    /// What waits at the receiver for the message of the digest.
-    pub(super) fn new(asked: M::Digest, receiver: oneshot::Receiver<Reply<M>>) -> Self
-        ensures { result ≡ record { digest = asked; source = completed_source receiver } }
+    // Creates the future of a subscribe to `digest` whose reply comes through the channel.
+    pub(super) fn new(digest: M::Digest, receiver: Receiver<Reply<M>>) -> Self
+        ensures { result ≡ record { digest = digest; source = completed_source receiver } }
     {
-        Subscription { asked, receiver }
+        Subscription { digest, receiver }
     }
 }
 
@@ -46,17 +46,35 @@ impl<M: Digestible> Future for Subscription<M> {
     ghost gives = { λ s outcome. IfOk outcome (λ message. GoesBy M.Digest.cmp s.digest message) };
 
     fn poll(&mut self, cx: &mut Context<'_>) -> Poll<Result<Digested<M>, Canceled>> {
-        match self.receiver.poll(cx) {
+        let polled = self.receiver.poll(cx);
+        self.returned(polled)
+    }
+}
+
+impl<M: Digestible> Returns for Subscription<M> {
+    type Reply = Reply<M>;
+
+    type Output = Result<Digested<M>, Canceled>;
+
+    ghost returns = { λ future polled. subscription_returns M.Digest.cmp future.digest polled };
+
+    fn returned(
+        &self,
+        polled: Poll<Result<Reply<M>, Canceled>>,
+    ) -> Poll<Result<Digested<M>, Canceled>>
+        ensures { result ≡ subscription_returns M.Digest.cmp self.now.digest polled }
+    {
+        match polled {
             Poll::Pending => Poll::Pending,
-            Poll::Ready(Err(canceled)) => Poll::Ready(Err(canceled)),
             Poll::Ready(Ok(reply)) => {
                 let Reply { digest, message } = reply;
-                if self.asked.cmp(&digest).is_eq() {
+                if self.digest.cmp(&digest).is_eq() {
                     Poll::Ready(Ok(message))
                 } else {
                     Poll::Ready(Err(Canceled))
                 }
             }
+            Poll::Ready(Err(canceled)) => Poll::Ready(Err(canceled)),
         }
     }
 }
