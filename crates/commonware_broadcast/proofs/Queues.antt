@@ -30,7 +30,7 @@ module _ {T : Type 0} where
         some_places = sound.some_places;
         within = omega (arith, ap length is, length_push queue.ready request, room.1);
         full = inl room.0;
-        rising = subst (λ (xs : List (Request T)). IsRising 0 (tickets_of xs) (queue.next + 1)) (sym more) (IsRising-tickets-push (waiting queue) request queue.next refl sound.rising);
+        rising = subst (λ (xs : List (Request T)). IsRising 0 (tickets_of xs) (queue.next + 1)) (sym more) (IsRising-tickets-push 0 (waiting queue) request queue.next refl sound.rising);
         shut = λ closed. absurd (false≢true (sym draws.is_open ∙ closed));
         drawn = omega (arith, draws.left);
       }
@@ -52,7 +52,7 @@ module _ {T : Type 0} where
         some_places = sound.some_places;
         within = sound.within;
         full = inr (full-without_room queue sound no_room);
-        rising = subst (λ (xs : List (Request T)). IsRising 0 (tickets_of xs) (queue.next + 1)) (sym more) (IsRising-tickets-push (waiting queue) request queue.next refl sound.rising);
+        rising = subst (λ (xs : List (Request T)). IsRising 0 (tickets_of xs) (queue.next + 1)) (sym more) (IsRising-tickets-push 0 (waiting queue) request queue.next refl sound.rising);
         shut = λ closed. absurd (false≢true (sym draws.is_open ∙ closed));
         drawn = omega (arith, draws.left);
       }

@@ -1,12 +1,10 @@
-//! The state of a mailbox, as a machine whose steps are its calls.
+//! The queue of a mailbox with its counts.
 ghost use Rattle.std.specs.Prelude.{◌≡◌, ◌⊎◌, ◌↔◌, List, true, false, Ok, Err, OnErr};
 ghost use Rattle.std.specs.NonZero.{non_zero_usize_get};
 ghost use Rattle.commonware_broadcast.specs.declared.buffered.ingress.request.Request.{Request};
 ghost use Rattle.commonware_broadcast.specs.Queue.{IsSound, HasRoom, last_ticket};
-ghost use Rattle.commonware_broadcast.specs.Mailbox.{Enqueues, Takes, RequestsStop, Closes, IsCounted, counts_of, empty_mailbox};
-
-#[cfg(test)]
-mod tests;
+ghost use Rattle.commonware_broadcast.specs.Mailbox.{Enqueues, Takes, RequestsStop, Closes, IsCounted};
+ghost use Rattle.commonware_broadcast.specs.Mailbox.{counts_of, empty_mailbox, mailbox_after};
 
 use crate::MailboxError;
 use crate::buffered::ingress::queue::Queue;
@@ -16,10 +14,10 @@ use std::alloc::Global;
 use std::marker::Model;
 use std::num::NonZeroUsize;
 
-/// The state of a mailbox: requests that wait in the order of their tickets, marks that it is
-/// closed or asked to stop, and counts of where its requests went.
+/// The state of a mailbox: the requests that wait, in the order of their tickets, whether it is
+/// closed or asked to stop, and how many requests were taken, skipped and given up.
 ///
-/// It rests on `is_closed` of its messages alone, which may answer as it likes.
+/// The contracts hold whatever `is_closed` of a message returns. No call but `enqueue` allocates.
 #[derive(Drop)]
 pub struct Inbox<T> {
     queue: Queue<T>,
@@ -50,37 +48,45 @@ impl<T> Model for Inbox<T> {
 }
 
 impl<T> Inbox<T> {
-    /// An open mailbox whose ready list has so many places. Takes no memory.
+    /// Creates an open, empty inbox whose ready list has `mailbox_size` places.
     pub fn new(alloc: Global, mailbox_size: NonZeroUsize) -> Self
         ensures { result ≡ empty_mailbox (non_zero_usize_get mailbox_size) }
     {
+        Inbox::resumed_after(alloc, mailbox_size, 0)
+    }
+
+    /// Creates an open, empty inbox after `drawn` requests that were taken, for tests of the last
+    /// ticket.
+    pub fn resumed_after(alloc: Global, mailbox_size: NonZeroUsize, drawn: u64) -> Self
+        ensures { result ≡ mailbox_after (non_zero_usize_get mailbox_size) drawn }
+    {
         Inbox {
-            queue: Queue::new(alloc, mailbox_size),
+            queue: Queue::resumed_after(alloc, mailbox_size, drawn),
             stop: false,
-            taken: 0,
+            taken: drawn,
             skipped: 0,
             given_up: 0,
         }
     }
 
-    /// Asks whoever takes the requests to stop. Takes no memory.
+    /// Asks whoever takes the requests to stop.
     pub fn request_stop(&mut self)
         ensures { RequestsStop self.old self.new }
     {
         self.stop = true;
     }
 
-    /// Whether a stop was asked for. Takes no memory.
+    /// Returns whether a stop was asked for.
     pub fn stop_requested(&self) -> bool
         ensures { result ≡ self.now.stop }
     {
         self.stop
     }
 
-    /// How many requests came to which end. Takes no memory.
+    /// Returns how many requests were accepted, and what became of them.
     pub fn counts(&self) -> Counts
         ensures value { result ≡ counts_of self.now }
-        ensures counted { IsCounted self.now }
+        ensures add_up { IsCounted self.now }
         ensures sound { IsSound self.now.queue }
     {
         Counts {
@@ -94,18 +100,19 @@ impl<T> Inbox<T> {
 }
 
 impl<T: Closable + Drop> Inbox<T> {
-    /// Draws a ticket for the message, and queues it. A full mailbox drops one that is closed.
-    /// Refused, the mailbox is as it was.
+    /// Draws a ticket for the message and queues it. If the ready list is full, a closed message is
+    /// dropped. After an error the inbox is unchanged.
     pub fn enqueue(&mut self, message: T) -> Result<Queued, MailboxError>
         ensures step { Enqueues T.may_answer self.old message result self.new }
-        ensures err { OnErr result (self.new ≡ self.old) }
+        ensures unchanged_on_error { OnErr result (self.new ≡ self.old) }
 
-        // Whether the mailbox is closed, or its tickets are drawn, is told without memory. A
-        // request that is skipped takes none.
-        ensures closed { (result ≡ Ok Queued.Closed) ↔ (self.old.queue.closed ≡ true) }
-        ensures exhausted { (result ≡ Err MailboxError.Exhausted)
+        // A closed inbox, or one whose tickets are all drawn, does not allocate. Nor does a message
+        // that is skipped.
+        ensures closed_exactly_after_close { (result ≡ Ok Queued.Closed)
+            ↔ (self.old.queue.closed ≡ true) }
+        ensures exhausted_exactly_at_last_ticket { (result ≡ Err MailboxError.Exhausted)
             ↔ ((self.old.queue.closed ≡ false) × (self.old.queue.next ≡ last_ticket)) }
-        ensures memory { result ≡ Err MailboxError.Memory
+        ensures allocates_only_for_open_or_ready { result ≡ Err MailboxError.Memory
             → HasRoom self.old.queue ⊎ T.may_answer message false }
     {
         let queued = self.queue.push(message);
@@ -115,8 +122,8 @@ impl<T: Closable + Drop> Inbox<T> {
         queued
     }
 
-    /// The oldest request with its ticket, or `None` where nobody waits. Requests of the overflow
-    /// take the place that it leaves, and those that are closed are skipped. Takes no memory.
+    /// Removes the oldest request and returns it with its ticket, or `None` if none waits. The
+    /// ready list is then filled from the overflow, whose closed requests are skipped.
     pub fn take(&mut self) -> Option<(u64, T)>
         ensures { (skipped : List (Request T))
             × Takes T.may_answer self.old result skipped self.new }
@@ -128,27 +135,12 @@ impl<T: Closable + Drop> Inbox<T> {
         Some(request)
     }
 
-    /// Closes the mailbox, gives up all requests that wait, and answers how many that were. Takes
-    /// no memory.
+    /// Closes the inbox and drops the requests that wait. Returns how many they were.
     pub fn close(&mut self) -> u64
         ensures { Closes self.old result self.new }
     {
         let waiting = self.queue.close() as u64;
         self.given_up += waiting;
         waiting
-    }
-}
-
-#[cfg(test)]
-impl<T> Inbox<T> {
-    // A mailbox of one place that has handed out so many tickets, all of them taken.
-    fn after(alloc: Global, drawn: u64) -> Self {
-        Inbox {
-            queue: Queue::after(alloc, drawn),
-            stop: false,
-            taken: drawn,
-            skipped: 0,
-            given_up: 0,
-        }
     }
 }

@@ -1,36 +1,37 @@
-//! What takes messages that find no room, and gives them back in order.
+//! Where messages go that find no room, and how they come back in order.
 ghost use Rattle.std.specs.Prelude.{◌≡◌, ◌↔◌, IsTrue, List, []};
 ghost use Rattle.commonware_broadcast.specs.Overflow.{Handles, Drains};
 
 use broadcast_core::requests::Closable;
 use std::alloc::AllocError;
 
-/// What takes messages that find no room.
+/// Keeps messages that find no room.
 pub trait Overflow<T: Closable> {
-    /// The messages, the oldest first.
-    ghost items: { Self → List T };
+    /// The messages, oldest first.
+    ghost kept: { Self → List T };
 
-    /// Whether no message is kept.
+    /// Returns whether no message is kept.
     fn is_empty(&self) -> bool
-        ensures { IsTrue result ↔ (items self.now ≡ []) };
+        ensures { IsTrue result ↔ (kept self.now ≡ []) };
 
-    /// Offers each message that is open to `push`, the oldest first, and drops each that is closed.
-    /// A message that `push` hands back stands first again, and the call ends. Takes no memory.
+    /// Removes the messages, oldest first: drops a closed one, and offers an open one to `push`.
+    /// If `push` hands a message back, that message stays first, and the call returns. Does not
+    /// allocate.
     fn drain<F: FnMut(T) -> Option<T>>(&mut self, push: F)
         requires { (state : F) (message : T) → F.pre state message }
         ensures { (skipped : List T) × (last : F)
-            × Drains T.may_answer (λ f x r g. F.step f x r g) push (items self.old)
-            skipped (items self.new) last };
+            × Drains T.may_answer (λ f x r g. F.step f x r g) push (kept self.old)
+            skipped (kept self.new) last };
 }
 
-/// What a message does where it finds no room.
+/// What becomes of a message that finds no room.
 pub trait Policy: Closable + Drop {
-    /// Where it goes.
+    /// Where such messages are kept.
     type Overflow: Overflow<Self>;
 
-    /// Puts the message behind the others, or drops it where it is closed, which takes no memory.
-    /// Refused, the overflow is as it was.
+    /// Appends the message to the overflow, or drops it if it is closed. Only an open message
+    /// allocates. After an error the overflow is unchanged.
     fn handle(overflow: &mut Self::Overflow, message: Self) -> Result<(), AllocError>
-        ensures { Handles Self.may_answer (Self.Overflow.items overflow.old) message
-            result (Self.Overflow.items overflow.new) };
+        ensures { Handles Self.may_answer (Self.Overflow.kept overflow.old) message
+            result (Self.Overflow.kept overflow.new) };
 }

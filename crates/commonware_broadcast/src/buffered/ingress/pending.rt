@@ -1,4 +1,4 @@
-//! The overflow of a mailbox: messages that wait in order, without a bound.
+//! The overflow of a mailbox, which has no bound.
 ghost use Rattle.std.specs.Prelude.{◌≡◌, ◌+◌, ◌^◌, ◌<◌, ◌≤◌, List, [], ◌∷◌, length};
 ghost use Rattle.std.specs.VecDeque.{deque_capacity, deque_len};
 ghost use Rattle.commonware_broadcast.specs.Overflow.{Handles, Drains, PutsWithin};
@@ -10,7 +10,7 @@ use std::alloc::{AllocError, Global};
 use std::collections::VecDeque;
 use std::marker::Model;
 
-/// Messages that wait in order, seen by contracts as their list.
+/// Messages that wait in order. Contracts see the list of them, oldest first.
 #[derive(Drop)]
 pub struct Pending<T> {
     messages: VecDeque<T>,
@@ -23,7 +23,7 @@ impl<T> Model for Pending<T> {
 }
 
 impl<T> Pending<T> {
-    /// No messages. Takes no memory.
+    /// Creates an empty overflow. Does not allocate.
     pub fn default(alloc: Global) -> Self
         ensures { result ≡ [] }
     {
@@ -32,7 +32,7 @@ impl<T> Pending<T> {
         }
     }
 
-    /// How many messages wait.
+    /// Returns how many messages wait.
     pub fn len(&self) -> usize
         ensures value { result ≡ length self.now }
         ensures small { result < 2 ^ 63 }
@@ -42,7 +42,7 @@ impl<T> Pending<T> {
 }
 
 impl<T: Drop> Pending<T> {
-    /// Drops all messages. Takes no memory.
+    /// Drops all messages.
     pub(super) fn clear(&mut self)
         ensures { self.new ≡ [] }
     {
@@ -51,8 +51,8 @@ impl<T: Drop> Pending<T> {
 }
 
 impl<T: Closable + Drop> Pending<T> {
-    /// Puts the message behind the others, or drops it where it is closed, which takes no memory.
-    /// Refused, the messages are as they were.
+    /// Appends the message, or drops it if it is closed. Only an open message allocates. After an
+    /// error the messages are unchanged.
     pub(super) fn append(&mut self, message: T) -> Result<(), AllocError>
         ensures { Handles T.may_answer self.old message result self.new }
     {
@@ -63,8 +63,8 @@ impl<T: Closable + Drop> Pending<T> {
         Ok(())
     }
 
-    /// Moves the messages to the end of the ready list while it has fewer than `size`, the oldest
-    /// first, and drops each that is closed. Answers how many were dropped. Takes no memory.
+    /// Moves messages, oldest first, to the end of the ready list while it has fewer than `size`,
+    /// and drops closed ones. Returns how many were dropped. Does not allocate.
     pub(super) fn refill(&mut self, ready: &mut VecDeque<T>, size: usize) -> usize
         requires { size ≤ deque_capacity ready.old }
         ensures { (skipped : List T)
@@ -77,7 +77,7 @@ impl<T: Closable + Drop> Pending<T> {
 }
 
 impl<T: Closable + Drop> Overflow<T> for Pending<T> {
-    ghost items = { λ pending. pending };
+    ghost kept = { λ pending. pending };
 
     fn is_empty(&self) -> bool {
         self.messages.is_empty()
@@ -88,7 +88,7 @@ impl<T: Closable + Drop> Overflow<T> for Pending<T> {
     }
 }
 
-// Drains the messages, as `Overflow::drain` says.
+// Drains the messages, as `Overflow::drain` does.
 fn drain_front<T, F>(messages: &mut VecDeque<T>, mut push: F)
 where
     T: Closable + Drop,
@@ -109,7 +109,7 @@ where
     }
 }
 
-// Puts a message in front of the others.
+// Puts the message in front of the others, into the place that its removal left.
 fn hand_back<T: Closable + Drop>(messages: &mut VecDeque<T>, back: T)
     requires { deque_len messages.old < deque_capacity messages.old }
     ensures { messages.new.items ≡ back ∷ messages.old.items }

@@ -1,8 +1,9 @@
-//! The requests that wait in a mailbox: a ready list of so many places, and an overflow behind it.
+//! The requests that wait in a mailbox: a bounded ready list, and an overflow behind it.
 ghost use Rattle.std.specs.Prelude.{◌≡◌, ◌≤◌, ◌↔◌, IsTrue, List, length};
 ghost use Rattle.std.specs.NonZero.{non_zero_usize_get};
 ghost use Rattle.commonware_broadcast.specs.declared.buffered.ingress.request.Request.{Request};
-ghost use Rattle.commonware_broadcast.specs.Queue.{Pushes, Pops, Draws, HasRoom, IsSound, last_ticket, empty_queue, shut_down, waiting};
+ghost use Rattle.commonware_broadcast.specs.Queue.{Pushes, Pops, Draws, HasRoom, IsSound};
+ghost use Rattle.commonware_broadcast.specs.Queue.{last_ticket, queue_after, shut_down, waiting};
 
 use crate::MailboxError;
 use crate::buffered::ingress::overflow::{Overflow, Policy};
@@ -15,7 +16,7 @@ use std::collections::VecDeque;
 use std::marker::Model;
 use std::num::NonZeroUsize;
 
-/// The requests that wait, whether the queue is closed, and the next ticket.
+/// The requests that wait, whether the queue is closed, and the next ticket. Only a push allocates.
 #[derive(Drop)]
 pub(super) struct Queue<T> {
     size: usize,
@@ -48,27 +49,27 @@ impl<T> Model for Queue<T> {
 }
 
 impl<T> Queue<T> {
-    /// An open queue in which nobody waits. Takes no memory.
-    pub(super) fn new(alloc: Global, size: NonZeroUsize) -> Self
-        ensures { result ≡ empty_queue (non_zero_usize_get size) }
+    /// Creates an open, empty queue whose ready list has `size` places, with `drawn` tickets drawn.
+    pub(super) fn resumed_after(alloc: Global, size: NonZeroUsize, drawn: u64) -> Self
+        ensures { result ≡ queue_after (non_zero_usize_get size) drawn }
     {
         Queue {
             size: size.get(),
             ready: VecDeque::new(alloc),
             overflow: Pending::default(alloc),
             closed: false,
-            next: 0,
+            next: drawn,
         }
     }
 
-    /// How many wait.
+    /// Returns how many requests wait.
     pub(super) fn len(&self) -> usize
         ensures { result ≡ length (waiting self.now) }
     {
         self.ready.len() + self.overflow.len()
     }
 
-    /// How many tickets were drawn.
+    /// Returns how many tickets were drawn.
     pub(super) fn drawn(&self) -> u64
         ensures drawn { result ≡ self.now.next }
         ensures sound { IsSound self.now }
@@ -78,7 +79,7 @@ impl<T> Queue<T> {
 }
 
 impl<T: Closable + Drop> Queue<T> {
-    /// Draws a ticket for the message and queues it. Refused, the queue is as it was.
+    /// Draws a ticket for the message and queues it. After an error the queue is unchanged.
     pub(super) fn push(&mut self, message: T) -> Result<Queued, MailboxError>
         ensures step { Pushes T.may_answer self.old message result self.new }
         ensures drawn { self.new.next ≤ last_ticket }
@@ -94,14 +95,14 @@ impl<T: Closable + Drop> Queue<T> {
         }
     }
 
-    // Whether a message may go to the ready list.
+    // Returns whether a message goes to the ready list.
     fn has_room(&self) -> bool
         ensures { IsTrue result ↔ HasRoom self.now }
     {
         self.overflow.is_empty() && self.ready.len() < self.size
     }
 
-    // Puts a message into the ready list.
+    // Puts the message into the ready list.
     fn push_ready(&mut self, message: T) -> Result<Queued, MailboxError>
         requires draws { Draws self.old self.old.next }
         requires room { HasRoom self.old }
@@ -117,7 +118,7 @@ impl<T: Closable + Drop> Queue<T> {
         Ok(Queued::Ready(ticket))
     }
 
-    // Hands a message that finds no room to the overflow.
+    // Hands the message, which finds no room, to the overflow.
     fn push_overflow(&mut self, message: T) -> Result<Queued, MailboxError>
         requires draws { Draws self.old self.old.next }
         requires no_room { ¬ HasRoom self.old }
@@ -138,8 +139,8 @@ impl<T: Closable + Drop> Queue<T> {
         }
     }
 
-    /// The oldest request, with how many closed ones of the overflow were dropped while the ready
-    /// list was filled again. `None` where nobody waits. Takes no memory.
+    /// Removes and returns the oldest request, if there is one, and fills the ready list from the
+    /// overflow. Returns also how many closed requests were dropped on the way.
     pub(super) fn pop(&mut self) -> (Option<(u64, T)>, usize)
         ensures step { (skipped : List (Request T))
             × Pops T.may_answer self.old result.0 skipped self.new
@@ -157,7 +158,7 @@ impl<T: Closable + Drop> Queue<T> {
         (Some((ticket, message)), skipped)
     }
 
-    /// Closes the queue, drops whoever waits, and answers how many that were. Takes no memory.
+    /// Closes the queue and drops the requests that wait. Returns how many they were.
     pub(super) fn close(&mut self) -> usize
         ensures all { result ≡ length (waiting self.old) }
         ensures after { self.new ≡ shut_down self.old }
@@ -168,21 +169,5 @@ impl<T: Closable + Drop> Queue<T> {
         self.overflow.clear();
         self.closed = true;
         waiting
-    }
-}
-
-#[cfg(test)]
-impl<T> Queue<T> {
-    // An open queue of one place in which nobody waits, with so many tickets drawn.
-    pub(super) fn after(alloc: Global, drawn: u64) -> Self
-        ensures { result ≡ record (empty_queue {T = T} 1) { next = drawn } }
-    {
-        Queue {
-            size: 1,
-            ready: VecDeque::new(alloc),
-            overflow: Pending::default(alloc),
-            closed: false,
-            next: drawn,
-        }
     }
 }

@@ -1,4 +1,4 @@
-//! How a ready list is filled from the messages behind it.
+//! Filling a ready list from the messages behind it.
 ghost use Rattle.std.specs.Prelude.{◌≡◌, ◌≤◌, List, length};
 ghost use Rattle.std.specs.VecDeque.{deque_capacity};
 ghost use Rattle.commonware_broadcast.specs.Overflow.{Drains, PutsWithin};
@@ -6,8 +6,8 @@ ghost use Rattle.commonware_broadcast.specs.Overflow.{Drains, PutsWithin};
 use broadcast_core::requests::Closable;
 use std::collections::VecDeque;
 
-/// Moves messages to the end of the ready list while it has fewer than `size`, the oldest first,
-/// and drops each that is closed. Answers how many were dropped. Takes no memory.
+/// Moves messages, oldest first, to the end of the ready list while it has fewer than `size`, and
+/// drops closed ones. Returns how many were dropped. Does not allocate.
 pub(super) fn refill_front<T: Closable + Drop>(
     messages: &mut VecDeque<T>,
     ready: &mut VecDeque<T>,

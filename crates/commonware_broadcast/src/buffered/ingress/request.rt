@@ -1,20 +1,20 @@
-//! A message that has drawn its ticket.
+//! A message with its ticket.
 
 use crate::buffered::ingress::overflow::Policy;
 use crate::buffered::ingress::pending::Pending;
 use broadcast_core::requests::Closable;
 use std::alloc::AllocError;
 
-/// A message that has drawn its ticket.
-#[derive(Drop)]
+/// A message with the ticket that it drew.
+#[derive(Debug, PartialEq, Eq, Drop)]
 pub struct Request<T> {
-    /// The ticket.
+    /// The ticket that the message drew.
     pub ticket: u64,
     /// The message.
     pub message: T,
 }
 
-/// A request is closed where its message is.
+/// A request is closed if its message is.
 impl<T: Closable> Closable for Request<T> {
     ghost may_answer = { λ request answer. T.may_answer request.message answer };
 

@@ -1,29 +1,29 @@
-//! Where a reply goes.
+//! Where replies go.
 ghost use Rattle.std.specs.Prelude.{◌≡◌, Bool, not, ⊤};
 
 use futures::channel::oneshot;
 
-/// Where one reply goes.
+/// Takes the reply to one request.
 pub trait Responder<T> {
-    /// Which answers `is_closed` may give.
+    /// The results that `is_closed` may return.
     ghost may_answer: { Self → Bool → Type 0 };
 
-    /// Which answers `send` may give.
+    /// The results that `send` may return.
     ghost may_deliver: { Self → Bool → Type 0 };
 
-    /// Whether nobody waits for the reply any more.
+    /// Returns whether the caller no longer waits for the reply.
     fn is_closed(&self) -> bool
         ensures { may_answer self.now result };
 
-    /// Hands the reply over, and answers whether it was taken. One that was not is dropped.
+    /// Sends the reply and returns whether it was accepted. A reply that was not is dropped.
     fn send(self, value: T) -> bool
         ensures { may_deliver self result };
 }
 
-/// A responder whose field says whether anybody waits.
+/// A responder whose field decides whether it is closed.
 #[derive(Clone, Copy, Debug, PartialEq, Eq)]
 pub struct Fixed {
-    /// Whether nobody waits.
+    /// Whether the responder is closed.
     pub closed: bool,
 }
 
@@ -42,7 +42,7 @@ impl<T: Drop> Responder<T> for Fixed {
     }
 }
 
-/// The receiver may go away at any time, so nothing is said of the answers.
+/// Another thread may drop the receiver at any time, so either call may return either result.
 impl<T: Drop> Responder<T> for oneshot::Sender<T> {
     ghost may_answer = { λ _ _. ⊤ };
 
