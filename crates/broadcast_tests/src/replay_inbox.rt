@@ -1,8 +1,5 @@
 //! Runs over an inbox that the caller hands in.
-use commonware_broadcast::ingress::inbox::Inbox;
-use commonware_broadcast::ingress::message::Message;
-use commonware_broadcast::ingress::queued::{Counts, Queued};
-use commonware_broadcast::ingress::responder::Fixed;
+use commonware_broadcast::buffered::{Counts, Fixed, Inbox, Message, Queued};
 use replay_lib::{Request, play_through};
 use std::alloc::{AllocError, Global};
 use std::io::Cursor;

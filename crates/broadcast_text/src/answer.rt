@@ -1,9 +1,6 @@
 //! Answers as lines.
 use crate::byte_list::write_byte_list;
-use broadcast_core::codec::CodecError;
-use broadcast_core::event::{Answer, Cause};
-use broadcast_core::mocks::TestMessage;
-use broadcast_core::outcome::Outcome;
+use broadcast_core::{Answer, Cause, CodecError, Outcome, TestMessage};
 use std::io::{self, Write};
 
 /// Writes the line of an answer.

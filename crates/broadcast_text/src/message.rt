@@ -10,8 +10,7 @@ ghost use Rattle.broadcast_text.specs.declared.line_error.LineError.TheVariants.
 use crate::byte_list::parse_byte_list;
 use crate::line_error::LineError;
 use crate::words::{Words, expect_number, strip_mark};
-use broadcast_core::digested::Digested;
-use broadcast_core::mocks::TestMessage;
+use broadcast_core::{Digested, TestMessage};
 use sha2::{Digest, Sha256};
 use std::alloc::Global;
 

@@ -6,8 +6,7 @@ ghost use Rattle.broadcast_text.specs.declared.line_error.LineError.TheVariants.
 
 use crate::line_error::LineError;
 use crate::words::{Words, parse_numbers, strip_mark};
-use broadcast_core::items::Items;
-use broadcast_core::ordered::Recipients;
+use broadcast_core::{Items, Recipients};
 use std::alloc::Global;
 
 /// Returns the recipients that the word spells: `all`, or one or more keys after `to:`, separated

@@ -1,7 +1,6 @@
 //! The events of a reader.
 use crate::line::parse_line;
-use broadcast_core::event::Event;
-use broadcast_core::mocks::TestMessage;
+use broadcast_core::{Event, TestMessage};
 use broadcast_text::fault::Fault;
 use broadcast_text::line_error::LineError;
 use broadcast_text::lines::Lines;

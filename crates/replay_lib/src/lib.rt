@@ -7,9 +7,9 @@ mod loopback;
 mod report;
 mod settings;
 
-use broadcast_core::run::run;
+use broadcast_core::run;
 use broadcast_text::fault::Fault;
-use commonware_broadcast::ingress::inbox::Inbox;
+use commonware_broadcast::buffered::Inbox;
 use events::read_events;
 pub use loopback::Request;
 use loopback::loop_back;

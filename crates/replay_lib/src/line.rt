@@ -6,10 +6,7 @@ ghost use Rattle.broadcast_text.specs.Message.{Spelled};
 ghost use Rattle.broadcast_text.specs.declared.line_error.LineError.TheVariants.{Syntax, Memory};
 ghost use Rattle.replay_lib.specs.Line.{Line, peers, broadcast, payload, subscribe, get, cleanup, kind_word, kind_of, HasWords, HasRest, IsEventOf, Fits};
 
-use broadcast_core::event::Event;
-use broadcast_core::items::Items;
-use broadcast_core::mocks::TestMessage;
-use broadcast_core::ordered::Set;
+use broadcast_core::{Event, Items, Set, TestMessage};
 use broadcast_text::byte_list::parse_byte_list;
 use broadcast_text::line_error::LineError;
 use broadcast_text::message::{parse_message, parse_request};

@@ -4,16 +4,10 @@ ghost use Rattle.replay_lib.specs.Loopback.{IsIdle, passed, broadcasts_by, broad
 ghost use Rattle.commonware_broadcast.specs.declared.broadcaster.MailboxError.TheVariants as mailbox;
 ghost use Rattle.broadcast_text.specs.declared.fault.Fault.TheVariants.{Memory};
 
-use broadcast_core::event::Event;
-use broadcast_core::items::Items;
-use broadcast_core::mocks::TestMessage;
-use broadcast_core::requests::Closable;
+use broadcast_core::{Closable, Event, Items, TestMessage};
 use broadcast_text::fault::Fault;
-use commonware_broadcast::broadcaster::MailboxError;
-use commonware_broadcast::ingress::inbox::Inbox;
-use commonware_broadcast::ingress::message::Message;
-use commonware_broadcast::ingress::queued::Queued;
-use commonware_broadcast::ingress::responder::Fixed;
+use commonware_broadcast::MailboxError;
+use commonware_broadcast::buffered::{Fixed, Inbox, Message, Queued};
 use std::alloc::Global;
 use std::mem;
 use std::sync::{Mutex, Wait};

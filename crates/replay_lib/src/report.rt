@@ -1,8 +1,5 @@
 //! What the program prints.
-use broadcast_core::buffer::Core;
-use broadcast_core::event::{Run, Sent};
-use broadcast_core::mocks::TestMessage;
-use broadcast_core::ordered::Recipients;
+use broadcast_core::{Core, Recipients, Run, Sent, TestMessage};
 use broadcast_text::answer::write_answer;
 use broadcast_text::byte_list::write_byte_list;
 use std::alloc::{AllocError, Global};

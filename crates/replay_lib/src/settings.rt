@@ -1,5 +1,5 @@
 //! The arguments of the program.
-use broadcast_core::codec::RangeCfg;
+use broadcast_core::RangeCfg;
 use broadcast_text::fault::Fault;
 use broadcast_text::words::parse_number;
 use std::env;
