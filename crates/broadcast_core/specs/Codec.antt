@@ -19,7 +19,8 @@ contains range n = nat_le range.min n && nat_le n range.max
 
 -- what follows a step that succeeded
 infixl 10 ◌>>=◌
-abbrev pub ◌>>=◌ : {A B : Type 0} → Result A CodecError → (A → Result B CodecError) → Result B CodecError
+abbrev pub ◌>>=◌ : {A B : Type 0} → Result A CodecError → (A → Result B CodecError)
+    → Result B CodecError
 (Ok x) >>= f = f x
 (Err e) >>= f = Err e
 
@@ -65,7 +66,8 @@ all_taken n (Ok r) = if r.1 == n then Ok r.0 else Err (ExtraData (n - r.1))
 all_taken n (Err e) = Err e
 
 -- what the bytes read as, all of them
-abbrev pub whole : {M : Type 0} → (List ℕ → Result (M × ℕ) CodecError) → List ℕ → Result M CodecError
+abbrev pub whole : {M : Type 0} → (List ℕ → Result (M × ℕ) CodecError) → List ℕ
+    → Result M CodecError
 whole reading bytes = all_taken (length bytes) (reading bytes)
 
 -- the result, seen by view, is what was read
@@ -85,5 +87,6 @@ IsRefusal _ = ⊥
 
 -- writing appends the encoding, or fails and changes nothing
 abbrev pub Appends : Option (List ℕ) → List ℕ → List ℕ → Result Unit CodecError → Type 0
-Appends encoding old new (Ok done) = (bytes : List ℕ) × (encoding ≡ Some bytes) × (new ≡ old ++ bytes)
+Appends encoding old new (Ok done) =
+    (bytes : List ℕ) × (encoding ≡ Some bytes) × (new ≡ old ++ bytes)
 Appends encoding old new (Err e) = ((e ≡ Unencodable) ⊎ (e ≡ Memory)) × (new ≡ old)

@@ -1,4 +1,4 @@
--- The reply to a subscribe, and who waits.
+-- The reply to a subscribe, and the subscribes that wait.
 use Rattle.std.specs.Prelude.{ℕ, ◌+◌, Bool, false, not, ◌&&◌, ◌==◌, if◌then◌else◌, List, [], ◌∷◌, ◌++◌, length, map, Option, None, Some, is_none}
 use Rattle.std.specs.Option.{option_map}
 use Rattle.std.specs.List.{filter, list_any}
@@ -51,7 +51,8 @@ module _ {P M D W V : Type 0} (s : Setting P M D) where
   -- the reply to a subscribe, by the history up to it and the happenings after it, the oldest first
   abbrev pub reply : Awaiting W D → History P M D W V → History P M D W V → Option (Reply s)
   reply w past es =
-      if is_listed s w.digest past then option_map (λ c. (0, c)) (message s w.digest past) else reply_from w es
+      if is_listed s w.digest past
+      then option_map (λ c. (0, c)) (message s w.digest past) else reply_from w es
 
   -- whether it waits after those happenings: it has no reply, and no cleanup names it
   abbrev pub waits : Awaiting W D → History P M D W V → History P M D W V → Bool
@@ -59,20 +60,23 @@ module _ {P M D W V : Type 0} (s : Setting P M D) where
 
   -- the subscribes of a history, the oldest first, that pass a test of the subscribe, the history
   -- up to it and the happenings after it
-  abbrev pub subscribes : (Awaiting W D → History P M D W V → History P M D W V → Bool) → History P M D W V → History P M D W V → List (Awaiting W D)
+  abbrev pub subscribes : (Awaiting W D → History P M D W V → History P M D W V → Bool)
+      → History P M D W V → History P M D W V → List (Awaiting W D)
   subscribes test es [] = []
   subscribes test es (subscribe w d ∷ older) = subscribes test (subscribe w d ∷ es) older
-      ++ filter (λ a. test a (subscribe w d ∷ older) es) (record { place = length older; waiter = w; digest = d } ∷ [])
+      ++ filter (λ a. test a (subscribe w d ∷ older) es)
+      (record { place = length older; waiter = w; digest = d } ∷ [])
   subscribes test es (e ∷ older) = subscribes test (e ∷ es) older
 
   -- the subscribes that wait after a history
   abbrev pub waiting : History P M D W V → List (Awaiting W D)
   waiting past = subscribes waits [] past
 
-  -- who waits for the digest
+  -- the waiters of the digest
   abbrev pub waiting_for : D → History P M D W V → List W
   waiting_for d past = with_digest s.same.digest d (waiting past)
 
   -- the earlier subscribes to which the happening brings the reply
   abbrev pub replied_at : Happening P M D W V → History P M D W V → List (Awaiting W D)
-  replied_at e past = subscribes (λ w before es. comes_after s (length es) (reply w before es)) (e ∷ []) past
+  replied_at e past =
+      subscribes (λ w before es. comes_after s (length es) (reply w before es)) (e ∷ []) past
