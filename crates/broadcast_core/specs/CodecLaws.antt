@@ -8,7 +8,8 @@ use Rattle.byteorder.specs.Numbers.{big_number-reads_back, length-bytes_high_fir
 use Rattle.broadcast_core.specs.declared.codec.CodecError.{CodecError}
 use Rattle.broadcast_core.specs.declared.codec.CodecError.TheVariants.{EndOfBuffer, InvalidLength, ExtraData, Unencodable, Memory}
 use Rattle.broadcast_core.specs.declared.codec.RangeCfg.{RangeCfg}
-use Rattle.broadcast_core.specs.Codec.{IsRefusal, ◌>>=◌, contains, has_spelling, spelled, NoneStands, read_length, read_bytes, read_list}
+use Rattle.broadcast_core.specs.ByteList.{◌>>=◌, contains, has_spelling, spelled, NoneStands, read_length, read_bytes, read_list}
+use Rattle.broadcast_core.specs.Codec.{IsRefusal}
 use Rattle.broadcast_core.specs.TestMessage.{Parts, encoding_of, read_message}
 
 -- ---- steps

@@ -10,7 +10,7 @@ ghost use Rattle.broadcast_core.specs.TestMessage.{Parts, encoding_of, read_mess
 ghost use Rattle.broadcast_core.specs.CodecLaws.{message_within, message_refusals, message_reads_back};
 
 use crate::codec::{
-    Codec, CodecError, EncodeSize, RangeCfg, Read, Write, read_list, list_size, put_list,
+    Codec, CodecError, EncodeSize, RangeCfg, Read, Write, list_size, put_list, read_list,
 };
 use crate::digested::Digestible;
 use sha2::{Digest, Sha256};
