@@ -17,7 +17,6 @@ pub mod HasContent
 pub mod Log
 pub mod Answers
 pub mod HasRun
-pub mod Rows
 pub mod Changes
 pub mod Stored
 pub mod Waiters
