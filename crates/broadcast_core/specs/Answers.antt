@@ -1,15 +1,14 @@
 -- What each event is answered.
-use Rattle.std.specs.Prelude.{◌≡◌, ℕ, Bool, false, true, ◌==◌, if◌then◌else◌, IsTrue, List, [], ◌∷◌, Option, None, Some, is_some, Result, Ok, Err, is_ok, ◌⊎◌}
+use Rattle.std.specs.Prelude.{◌≡◌, ℕ, Bool, false, true, ◌==◌, IsTrue, List, ◌∷◌, Option, None, Some, is_some, Result, Ok, Err, is_ok, ◌⊎◌}
 use Rattle.std.specs.List.{list_any, count_by}
 use Rattle.broadcast_core.specs.Carried.{Carried}
-use Rattle.broadcast_core.specs.Content.{among}
+use Rattle.broadcast_core.specs.Content.{among, outcome_of}
 use Rattle.broadcast_core.specs.Setting.{Setting, own_digested}
 use Rattle.broadcast_core.specs.Happening.{Happening, History, broadcast, arrival, subscribe, get}
 use Rattle.broadcast_core.specs.Peers.{is_primary}
 use Rattle.broadcast_core.specs.Lists.{list}
 use Rattle.broadcast_core.specs.Cache.{is_listed, message}
 use Rattle.broadcast_core.specs.Waiting.{waiting, replied_at, waiters_of}
-use Rattle.broadcast_core.specs.Log.{Log, history}
 use Rattle.broadcast_core.specs.declared.codec.CodecError.{CodecError}
 use Rattle.broadcast_core.specs.declared.ordered.Recipients.{Recipients}
 use Rattle.broadcast_core.specs.declared.event.Event.{Event}
@@ -18,27 +17,30 @@ use Rattle.broadcast_core.specs.declared.event.Cause.TheVariants.{Memory, Unenco
 use Rattle.broadcast_core.specs.declared.event.Answer.{Answer}
 use Rattle.broadcast_core.specs.declared.event.Answer.TheVariants as answer
 use Rattle.broadcast_core.specs.declared.outcome.Outcome.{Outcome}
-use Rattle.broadcast_core.specs.declared.outcome.Outcome.TheVariants.{Inserted, Duplicate, Ineligible}
 
 module _ {P M D W V : Type 0} (s : Setting P M D) where
   -- the outcome of taking the digest under the key after a history
   abbrev pub outcome : P → D → History P M D W V → Outcome
   outcome p d past =
-      if is_primary s p past then (if among s.same.digest d (list s p past) then Duplicate else Inserted) else Ineligible
+      outcome_of (is_primary s p past) (among s.same.digest d (list s p past))
 
 module _ {P M D : Type 0} (s : Setting P M D) where
-  -- a taking is answered by its outcome and the tickets of the subscribes that it is the reply to
-  abbrev pub answer_to_taking : P → Carried M D → Happening P M D ℕ ℕ → History P M D ℕ ℕ → Answer M D
-  answer_to_taking p c e past = answer.Taken (outcome s p c.digest past) (waiters_of (replied_at s e past)) c
+  -- a taking is answered by its outcome, and by the tickets of the subscribes that it replies to
+  abbrev pub answer_to_taking : P → Carried M D → Happening P M D ℕ ℕ → History P M D ℕ ℕ
+      → Answer M D
+  answer_to_taking p c e past =
+      answer.Taken (outcome s p c.digest past) (waiters_of (replied_at s e past)) c
 
   -- a broadcast without an encoding is refused
-  abbrev pub answer_to_broadcast : Recipients P → Carried M D → Option (List ℕ) → History P M D ℕ ℕ → Answer M D
+  abbrev pub answer_to_broadcast : Recipients P → Carried M D → Option (List ℕ)
+      → History P M D ℕ ℕ → Answer M D
   answer_to_broadcast r c None past = answer.Refused Unencodable
   answer_to_broadcast r c (Some bytes) past = answer_to_taking s.own c (broadcast r c) past
 
-  -- a payload that does not read whole is invalid
+  -- a payload that is not read as a message is invalid
   abbrev pub answer_to_payload : P → Result M CodecError → History P M D ℕ ℕ → Answer M D
-  answer_to_payload p (Ok m) past = answer_to_taking p (own_digested s m) (arrival p (own_digested s m)) past
+  answer_to_payload p (Ok m) past =
+      answer_to_taking p (own_digested s m) (arrival p (own_digested s m)) past
   answer_to_payload p (Err why) past = answer.Invalid why
 
   -- a subscribe is answered from the cache, or waits
@@ -46,7 +48,7 @@ module _ {P M D : Type 0} (s : Setting P M D) where
   answer_to_subscribe None = answer.Waiting
   answer_to_subscribe (Some c) = answer.Answered c
 
-  -- how many waiting subscribes have one of the tickets
+  -- the number of waiting subscribes with one of the tickets
   abbrev pub removed : List ℕ → History P M D ℕ ℕ → ℕ
   removed gone past = count_by (λ w. list_any (λ x. w.waiter == x) gone) (waiting s past)
 
@@ -74,8 +76,3 @@ module _ {P M D : Type 0} (s : Setting P M D) where
   -- the event may be given the answer
   abbrev pub MayAnswer : Event P M D → History P M D ℕ ℕ → Answer M D → Type 0
   MayAnswer e past a = (a ≡ answer_to e past) ⊎ IsAllocFailure e past a
-
-  -- each answer of the log is one that its event may be given after the history before it
-  abbrev pub IsAnswered : Log P M D → Type 0
-  IsAnswered [] = Unit {0}
-  IsAnswered (x ∷ log) = MayAnswer x.0 (history s log) x.1 × IsAnswered log

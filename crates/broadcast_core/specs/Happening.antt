@@ -4,13 +4,13 @@ use Rattle.broadcast_core.specs.Carried.{Carried}
 use Rattle.broadcast_core.specs.Setting.{Setting}
 use Rattle.broadcast_core.specs.declared.ordered.Recipients.{Recipients}
 
--- those who subscribe are of type W, those who ask for a cached message of type V
+-- waiters are of type W, those who ask for a cached message of type V
 pub data Happening (P M D W V : Type 0) : Type 0 where
   -- these keys are the primary ones from now on
   peers : List P → Happening P M D W V
-  -- a message is taken under the own key, with the digest handed in
+  -- a message is taken under the own key, by the digest that was given with it
   broadcast : Recipients P → Carried M D → Happening P M D W V
-  -- a message is taken under the key, with the digest that it carries
+  -- a message is taken under the key, by the digest that it carries
   arrival : P → Carried M D → Happening P M D W V
   -- a waiter asks for the digest's message, now or later
   subscribe : W → D → Happening P M D W V
@@ -23,6 +23,10 @@ pub data Happening (P M D W V : Type 0) : Type 0 where
 -- happenings, the newest first
 abbrev pub History : (P M D W V : Type 0) → Type 0
 History P M D W V = List (Happening P M D W V)
+
+-- happenings, the oldest first
+abbrev pub Future : (P M D W V : Type 0) → Type 0
+Future P M D W V = List (Happening P M D W V)
 
 -- a message that is taken under a key
 pub record Taking (P M D : Type 0) : Type 0 where

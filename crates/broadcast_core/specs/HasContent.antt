@@ -21,17 +21,19 @@ module _ {P M D W V : Type 0} (s : Setting P M D) where
     pub waiters : (d : D) → waiting_at s.same core d ≡ waiting_for s d past
 
 -- each waiter may have answered as the test says: closed if it names the subscribe, else open
-abbrev pub AnswersAs : {W D : Type 0} → (W → Bool → Type 0) → (ℕ → W → Bool) → List (Awaiting W D) → Type 0
+abbrev pub AnswersAs : {W D : Type 0} → (W → Bool → Type 0) → (ℕ → W → Bool)
+    → List (Awaiting W D) → Type 0
 AnswersAs may_answer test ws = AllByRecursion (λ w. may_answer w.waiter (test w.place w.waiter)) ws
 
--- how many of the subscribes the test names
+-- the number of subscribes that the test names
 abbrev pub named_by : {W D : Type 0} → (ℕ → W → Bool) → List (Awaiting W D) → ℕ
 named_by test ws = count_by (λ w. test w.place w.waiter) ws
 
 module _ {P M D W V : Type 0} (s : Setting P M D) where
-  -- a cleanup of the waiters that answered closed leaves the content, and counts as many
-  pub record HasCleaned (may_answer : W → Bool → Type 0) (past : History P M D W V) (new : Content P M D W) (many : ℕ) : Type 0 where
+  -- a cleanup of the waiters that answered closed leaves the content, and returns how many they are
+  pub record HasCleaned (may_answer : W → Bool → Type 0) (past : History P M D W V)
+      (new : Content P M D W) (returned : ℕ) : Type 0 where
     pub test : ℕ → W → Bool
     pub content : HasContent s (cleanup test ∷ past) new
     pub answered : AnswersAs may_answer test (waiting s past)
-    pub removed : many ≡ counted (named_by test (waiting s past))
+    pub removed : returned ≡ counted (named_by test (waiting s past))

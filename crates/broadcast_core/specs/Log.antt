@@ -21,7 +21,7 @@ abbrev pub log_of : {P M D : Type 0} → List (Event P M D) → List (Answer M D
 log_of events answers = reverse (zip events answers)
 
 module _ {P M D : Type 0} (s : Setting P M D) where
-  -- a payload that reads whole as a message is its arrival under its own digest; any other is none
+  -- a payload that reads as a message is the arrival of it by its own digest; any other is nothing
   abbrev pub arrived : P → Result M CodecError → History P M D ℕ ℕ → History P M D ℕ ℕ
   arrived p (Ok m) past = arrival p (own_digested s m) ∷ past
   arrived p (Err e) past = past

@@ -7,9 +7,9 @@ use Rattle.broadcast_core.specs.declared.codec.CodecError.{CodecError}
 pub record Setting (P M D : Type 0) : Type 0 where
   -- the key under which broadcasts are taken
   pub own : P
-  -- how many digests a list has at most
+  -- the greatest length of a list
   pub deque_size : ℕ
-  -- the flag that each send is given
+  -- the flag that each send carries
   pub priority : Bool
   -- when two keys, and when two digests, are equal
   pub same : Same P D
@@ -17,10 +17,12 @@ pub record Setting (P M D : Type 0) : Type 0 where
   pub digest_of : M → D
   -- a message's encoding, if it has one
   pub encoding : M → Option (List ℕ)
-  -- the message that all of the bytes are, or why they are none
+  -- the message that the bytes are, all of them, or why they are none
   pub reading : List ℕ → Result M CodecError
 
-abbrev pub setting : {P M D : Type 0} → P → ℕ → Bool → Same P D → (M → D) → (M → Option (List ℕ)) → (List ℕ → Result M CodecError) → Setting P M D
+-- the setting of these
+abbrev pub setting : {P M D : Type 0} → P → ℕ → Bool → Same P D
+    → (M → D) → (M → Option (List ℕ)) → (List ℕ → Result M CodecError) → Setting P M D
 setting own deque_size priority same digest_of encoding reading = record {
   own = own;
   deque_size = deque_size;

@@ -1,10 +1,10 @@
--- The reply to a subscribe, and who waits.
+-- The reply to a subscribe, and the subscribes that wait.
 use Rattle.std.specs.Prelude.{ℕ, ◌+◌, Bool, false, not, ◌&&◌, ◌==◌, if◌then◌else◌, List, [], ◌∷◌, ◌++◌, length, map, Option, None, Some, is_none}
 use Rattle.std.specs.Option.{option_map}
 use Rattle.std.specs.List.{filter, list_any}
 use Rattle.broadcast_core.specs.Carried.{Carried}
 use Rattle.broadcast_core.specs.Setting.{Setting}
-use Rattle.broadcast_core.specs.Happening.{Happening, History, subscribe, cleanup, carried_by, taken, takes}
+use Rattle.broadcast_core.specs.Happening.{Happening, History, Future, subscribe, cleanup, carried_by, taken, takes}
 use Rattle.broadcast_core.specs.Cache.{is_listed, message}
 
 -- a subscribe: its place, which is how many happenings are older, its waiter and its digest
@@ -40,39 +40,42 @@ module _ {P M D W V : Type 0} (s : Setting P M D) where
   cleans w (cleanup test) = test w.place w.waiter
   cleans w _ = false
 
-  -- the reply from later happenings, the oldest first: the message of the first that takes the
+  -- the reply from the happenings after the subscribe: the message of the first that takes the
   -- digest, unless a cleanup before it names the subscribe
-  abbrev pub reply_from : Awaiting W D → History P M D W V → Option (Reply s)
+  abbrev pub reply_from : Awaiting W D → Future P M D W V → Option (Reply s)
   reply_from w [] = None
   reply_from w (e ∷ es) =
       if takes s w.digest e then option_map (λ c. (1, c)) (carried_by s (taken s e))
       else (if cleans w e then None else option_map (later s) (reply_from w es))
 
-  -- the reply to a subscribe, by the history up to it and the happenings after it, the oldest first
-  abbrev pub reply : Awaiting W D → History P M D W V → History P M D W V → Option (Reply s)
-  reply w past es =
-      if is_listed s w.digest past then option_map (λ c. (0, c)) (message s w.digest past) else reply_from w es
+  -- the reply to a subscribe, by the history up to it and the happenings after it
+  abbrev pub reply : Awaiting W D → History P M D W V → Future P M D W V → Option (Reply s)
+  reply w past es = if is_listed s w.digest past
+      then option_map (λ c. (0, c)) (message s w.digest past) else reply_from w es
 
   -- whether it waits after those happenings: it has no reply, and no cleanup names it
-  abbrev pub waits : Awaiting W D → History P M D W V → History P M D W V → Bool
+  abbrev pub waits : Awaiting W D → History P M D W V → Future P M D W V → Bool
   waits w past es = is_none (reply w past es) && not (list_any (cleans w) es)
 
   -- the subscribes of a history, the oldest first, that pass a test of the subscribe, the history
-  -- up to it and the happenings after it
-  abbrev pub subscribes : (Awaiting W D → History P M D W V → History P M D W V → Bool) → History P M D W V → History P M D W V → List (Awaiting W D)
+  -- up to it and the happenings after it, which end with the given ones
+  abbrev pub subscribes : (Awaiting W D → History P M D W V → Future P M D W V → Bool)
+      → Future P M D W V → History P M D W V → List (Awaiting W D)
   subscribes test es [] = []
   subscribes test es (subscribe w d ∷ older) = subscribes test (subscribe w d ∷ es) older
-      ++ filter (λ a. test a (subscribe w d ∷ older) es) (record { place = length older; waiter = w; digest = d } ∷ [])
+      ++ filter (λ a. test a (subscribe w d ∷ older) es)
+      (record { place = length older; waiter = w; digest = d } ∷ [])
   subscribes test es (e ∷ older) = subscribes test (e ∷ es) older
 
   -- the subscribes that wait after a history
   abbrev pub waiting : History P M D W V → List (Awaiting W D)
   waiting past = subscribes waits [] past
 
-  -- who waits for the digest
+  -- the waiters of the digest
   abbrev pub waiting_for : D → History P M D W V → List W
   waiting_for d past = with_digest s.same.digest d (waiting past)
 
   -- the earlier subscribes to which the happening brings the reply
   abbrev pub replied_at : Happening P M D W V → History P M D W V → List (Awaiting W D)
-  replied_at e past = subscribes (λ w before es. comes_after s (length es) (reply w before es)) (e ∷ []) past
+  replied_at e past =
+      subscribes (λ w before es. comes_after s (length es) (reply w before es)) (e ∷ []) past
