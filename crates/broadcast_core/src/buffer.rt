@@ -205,6 +205,7 @@ impl<P: PublicKey, M: Digestible, W: Drop> Core<P, M, W> {
             Cleans same (is_gone W.ticket_of gone.now) self.old self.new }
         ensures removed { result ≡ counted (gone_from W.ticket_of gone.now self.old.waiters) }
         ensures distinct { IsDistinct (eq_by_cmp M.Digest.cmp) (keys_of self.old.waiters) }
+        ensures distinct_left { IsDistinct (eq_by_cmp M.Digest.cmp) (keys_of self.new.waiters) }
     {
         self.state.waiters.cleanup(gone)
     }
@@ -223,5 +224,13 @@ impl<P: PublicKey, M: Digestible, W: Drop> Core<P, M, W> {
         ensures distinct_left { IsDistinct (eq_by_cmp M.Digest.cmp) (keys_of self.new.waiters) }
     {
         self.state.waiters.cleanup_by()
+    }
+
+    /// Drops all waiters. Everything else stays.
+    pub fn clear_waiters(&mut self)
+        ensures store { KeepsStore (same_by P.cmp M.Digest.cmp) self.old self.new }
+        ensures none_waits { self.new.waiters ≡ [] }
+    {
+        self.state.waiters.clear();
     }
 }

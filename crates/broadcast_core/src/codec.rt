@@ -9,7 +9,7 @@ use thiserror::Error;
 
 mod byte_list;
 
-pub(crate) use byte_list::{list_at, list_size, put_list};
+pub(crate) use byte_list::{read_list, list_size, put_list};
 
 /// The reason why bytes do not decode, or a message does not encode.
 #[derive(Clone, Copy, Debug, PartialEq, Eq, Error)]
