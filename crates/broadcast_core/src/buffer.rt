@@ -226,7 +226,7 @@ impl<P: PublicKey, M: Digestible, W: Drop> Core<P, M, W> {
         self.state.waiters.cleanup_by()
     }
 
-    /// Drops all waiters and keeps everything else.
+    /// Drops all waiters. Everything else stays.
     pub fn clear_waiters(&mut self)
         ensures store { KeepsStore (same_by P.cmp M.Digest.cmp) self.old self.new }
         ensures none_waits { self.new.waiters ≡ [] }

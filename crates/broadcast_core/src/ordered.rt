@@ -1,7 +1,7 @@
 //! Keys of peers, sets of keys, and recipients.
 ghost use Rattle.std.specs.Prelude.{◌≡◌, ◌==◌, true, List, [], length, is_some, IfSome, IfOk, OnOk, IsSomeAnd};
 ghost use Rattle.std.specs.Cmp.Lexicographic.{pointwise, lists_per, lists_equiv};
-ghost use Rattle.std.specs.List.{AllZip, list_any, slice_get};
+ghost use Rattle.std.specs.List.{AllZip, find, list_any, slice_get};
 ghost use Rattle.std.specs.List.Sorted.{IsStrictlySortedBy};
 ghost use Rattle.std.specs.Option.{option_copied};
 ghost use Rattle.std.specs.Ordering.{eq_by_cmp};
@@ -15,7 +15,8 @@ use std::marker::Model;
 /// The key of a peer. Keys that compare equal are the same key.
 pub trait PublicKey: Clone + Ord + Eq + Hash + Send + Drop + 'static {
     /// A copy of a key equals it.
-    ghost copies: { (key copy : Self) → Self.is_clone key copy → eq_by_cmp Self.cmp key copy ≡ true };
+    ghost copies: { (key copy : Self) → Self.is_clone key copy
+        → eq_by_cmp Self.cmp key copy ≡ true };
 }
 
 impl PublicKey for u64 {
@@ -61,10 +62,14 @@ impl<P: PublicKey> Set<P> {
         }
     }
 
-    /// The keys, sorted, each of them once.
+    /// Creates the set of `keys`. Of several equal keys it keeps the first.
+    ///
+    /// An `Err` is an allocation failure of the sort.
     pub fn from_iter_dedup(mut keys: Vec<P>) -> Result<Self, AllocError>
         ensures members { IfOk result (λ set. (q : P)
             → list_any (eq_by_cmp P.cmp q) set ≡ list_any (eq_by_cmp P.cmp q) keys.items) }
+        ensures first_of_equals { IfOk result (λ set. (q : P)
+            → find (eq_by_cmp P.cmp q) set ≡ find (eq_by_cmp P.cmp q) keys.items) }
         ensures sorted { IfOk result (IsStrictlySortedBy P.cmp) }
     {
         sort_dedup(&mut keys)?;
@@ -143,6 +148,8 @@ impl<P: PublicKey> Eq for Set<P> {
 fn sort_dedup<K: Ord + Drop>(keys: &mut Vec<K>) -> Result<(), AllocError>
     ensures members { OnOk result ((q : K) → list_any (eq_by_cmp K.cmp q) keys.new.items
         ≡ list_any (eq_by_cmp K.cmp q) keys.old.items) }
+    ensures first_of_equals { OnOk result ((q : K) → find (eq_by_cmp K.cmp q) keys.new.items
+        ≡ find (eq_by_cmp K.cmp q) keys.old.items) }
     ensures sorted { OnOk result (IsStrictlySortedBy K.cmp keys.new.items) }
 {
     keys.sort()?;

@@ -15,7 +15,7 @@ use crate::ordered::PublicKey;
 use std::alloc::{AllocError, Global};
 use std::collections::BTreeMap;
 
-/// Moves a digest to the front of the peer's deque, if it is there, and says whether it is.
+/// Moves `digest` to the front of the deque of `peer` if it is there. Returns whether it is.
 pub fn renew<P: PublicKey, M: Digestible>(
     by_peer: &mut BTreeMap<P, Deque<M::Digest>>,
     by_digest: &BTreeMap<M::Digest, Cached<M>>,
@@ -28,14 +28,14 @@ pub fn renew<P: PublicKey, M: Digestible>(
         (Renews (same_by P.cmp M.Digest.cmp) peer.now digest by_peer.old.entries by_peer.new.entries by_digest.now.entries)
         (IsUnchanged by_peer.old by_peer.new) }
 {
-    // What is not cached is on no deque, which need not be searched then.
+    // A digest that is not cached is on no deque, so none is searched.
     if !by_digest.contains_key(&digest) {
         return false;
     }
     deques::move_to_front(by_peer, peer, digest)
 }
 
-/// Puts a digest that the peer has not in front of its deque, with its message.
+/// Puts a digest that is not on the deque of `peer` in front of it, and caches its message.
 pub fn add<P: PublicKey, M: Digestible>(
     alloc: Global,
     by_peer: &mut BTreeMap<P, Deque<M::Digest>>,
@@ -58,14 +58,14 @@ pub fn add<P: PublicKey, M: Digestible>(
         }
         return Err(refused);
     }
-    // The deques fit into a `usize`, and so do the references: one for each deque.
+    // There is at most one reference for each deque, so their number fits into a `usize`.
     let _deques = by_peer.len();
     items::refer(by_digest, &digest);
     Ok(())
 }
 
-/// Drops the peer's oldest digest, where there is one too many, and its message with the last
-/// deque that has it.
+/// Drops the oldest digest of `peer` if there is one too many, and its message if no other deque
+/// has it.
 pub fn cut<P: PublicKey, M: Digestible>(
     by_peer: &mut BTreeMap<P, Deque<M::Digest>>,
     by_digest: &mut BTreeMap<M::Digest, Cached<M>>,
@@ -83,7 +83,7 @@ pub fn cut<P: PublicKey, M: Digestible>(
     }
 }
 
-/// Takes back the references of all deques but those of these peers.
+/// Releases the references of all deques but those of `peers`.
 pub fn release_absent<P: PublicKey, M: Digestible>(
     by_peer: &BTreeMap<P, Deque<M::Digest>>,
     by_digest: &mut BTreeMap<M::Digest, Cached<M>>,
@@ -101,7 +101,7 @@ pub fn release_absent<P: PublicKey, M: Digestible>(
     }
 }
 
-/// Takes back the references of a deque.
+/// Releases the references of a deque.
 fn release_all<M: Digestible>(
     by_digest: &mut BTreeMap<M::Digest, Cached<M>>,
     deque: &Deque<M::Digest>,

@@ -1,4 +1,4 @@
-//! The deques by peer.
+//! The deques, by peer.
 ghost use Rattle.std.specs.Prelude.{◌≡◌, ◌<◌, ◌≤◌, ◌∷◌, false, length, OnOk, OnErr, MatchOption, MatchBool};
 ghost use Rattle.std.specs.Ordering.{eq_by_cmp};
 ghost use Rattle.std.specs.List.{list_any, filter};
@@ -12,7 +12,7 @@ use crate::ordered::{PublicKey, place_of};
 use std::alloc::{AllocError, Global};
 use std::collections::BTreeMap;
 
-/// Puts a digest in front of the peer's deque, which is made where there is none.
+/// Puts a digest in front of the deque of `peer`, which is created if there is none.
 pub fn push_front<P: PublicKey, D: Ord + Copy>(
     alloc: Global,
     deques: &mut BTreeMap<P, Deque<D>>,
@@ -33,7 +33,7 @@ pub fn push_front<P: PublicKey, D: Ord + Copy>(
     Ok(())
 }
 
-/// Moves the digest to the front of the peer's deque, if it is there, and says whether it is.
+/// Moves the digest to the front of the deque of `peer` if it is there. Returns whether it is.
 pub fn move_to_front<P: PublicKey, D: Ord + Copy>(
     deques: &mut BTreeMap<P, Deque<D>>,
     peer: &P,
@@ -52,7 +52,7 @@ pub fn move_to_front<P: PublicKey, D: Ord + Copy>(
     }
 }
 
-/// Takes out the oldest digest of the peer, where there are more than so many.
+/// Removes the oldest digest of `peer` if there are more than `deque_size`, and returns it.
 pub fn pop_beyond<P: PublicKey, D: Ord + Copy>(
     deques: &mut BTreeMap<P, Deque<D>>,
     peer: &P,
@@ -73,7 +73,7 @@ pub fn pop_beyond<P: PublicKey, D: Ord + Copy>(
     deque.pop_oldest()
 }
 
-/// Keeps the entries of these keys alone, which rise.
+/// Keeps only the entries of `keys`, which are sorted.
 pub fn retain_keys<K: Ord + Drop, V: Drop>(entries: &mut BTreeMap<K, V>, keys: &[K])
     requires { IsStrictlySortedBy K.cmp keys.now }
     ensures { entries.new.entries ≡ filter (λ e. list_any (eq_by_cmp K.cmp e.0) keys.now) entries.old.entries }
@@ -81,7 +81,7 @@ pub fn retain_keys<K: Ord + Drop, V: Drop>(entries: &mut BTreeMap<K, V>, keys: &
     entries.retain(|key, _| is_among(keys, key));
 }
 
-/// Whether a key is one of these, which rise.
+/// Returns whether `key` is one of `keys`, which are sorted.
 pub fn is_among<K: Ord>(keys: &[K], key: &K) -> bool
     requires { IsStrictlySortedBy K.cmp keys.now }
     ensures { result ≡ list_any (eq_by_cmp K.cmp key.now) keys.now }

@@ -1,4 +1,4 @@
-//! The cached messages by digest, each with the number of deques that have it.
+//! The cached messages, by digest.
 ghost use Rattle.std.specs.Prelude.{◌≡◌, ◌+◌, ◌<◌, ◌^◌, ◌&&◌, IfOk, OnErr, Some, is_none, if◌then◌else◌, IsSome};
 ghost use Rattle.std.specs.Option.{option_map};
 ghost use Rattle.std.specs.Ordering.{eq_by_cmp};
@@ -10,7 +10,7 @@ use crate::digested::{Digested, Digestible};
 use std::alloc::AllocError;
 use std::collections::BTreeMap;
 
-/// Makes place for a message that is not cached, as yet without a reference, and says whether it did.
+/// Caches a message that is not cached yet, without a reference. Returns whether it did.
 pub fn hold<M: Digestible>(
     items: &mut BTreeMap<M::Digest, Cached<M>>,
     message: &Digested<M>,
@@ -41,7 +41,7 @@ pub fn hold<M: Digestible>(
     Ok(true)
 }
 
-/// Counts one more reference to the digest's message.
+/// Adds a reference to the message of `digest`.
 pub fn refer<M: Digestible>(items: &mut BTreeMap<M::Digest, Cached<M>>, digest: &M::Digest)
     requires { references_of (eq_by_cmp M.Digest.cmp) digest.now items.old.entries + 1 < 2 ^ 64 }
     ensures { (d : _) → get M.Digest.cmp items.new d
@@ -54,7 +54,7 @@ pub fn refer<M: Digestible>(items: &mut BTreeMap<M::Digest, Cached<M>>, digest: 
     }
 }
 
-/// Counts one reference less to the digest's message, which leaves with its last one.
+/// Drops a reference to the message of `digest`, and the message with its last one.
 pub fn release<M: Digestible>(items: &mut BTreeMap<M::Digest, Cached<M>>, digest: &M::Digest)
     requires held { IsHeld (eq_by_cmp M.Digest.cmp) items.old.entries }
     requires there { IsSome (get M.Digest.cmp items.old digest.now) }
