@@ -1,5 +1,6 @@
 -- What the future of a request gives, for the digest that was asked for.
-use Rattle.std.specs.Prelude.{◌≡◌, ℕ, true, if◌then◌else◌, Option, None, Some, Result, Ok, Err, ok_or}
+use Rattle.std.specs.Prelude.{◌≡◌, ℕ, true, if◌then◌else◌}
+use Rattle.std.specs.Prelude.{Option, None, Some, Result, Ok, Err, ok_or}
 use Rattle.std.specs.Ordering.{eq_by_cmp}
 use Rattle.std.specs.declared.cmp.Ordering.{Ordering}
 use Rattle.futures.specs.declared.task.Poll.{Poll}
@@ -25,7 +26,8 @@ module _ {M D : Type 0} (cmp : D → D → Ordering) where
   abbrev pub subscription_returns :
       D → Poll (Result (Carried M D) Canceled) → Poll (Result (Carried M D) Canceled)
   subscription_returns digest Pending = Pending
-  subscription_returns digest (Ready (Ok reply)) = Ready (ok_or (message_for digest reply) (record {}))
+  subscription_returns digest (Ready (Ok reply)) =
+      Ready (ok_or (message_for digest reply) (record {}))
   subscription_returns digest (Ready (Err canceled)) = Ready (Err canceled)
 
   -- what a poll of a get returns, by what the channel returned

@@ -6,7 +6,8 @@ use Rattle.commonware_broadcast.specs.declared.buffered.ingress.queued.Queued.{Q
 use Rattle.commonware_broadcast.specs.declared.buffered.ingress.queued.Counts.{Counts}
 use Rattle.commonware_broadcast.specs.declared.buffered.ingress.queued.Queued.TheVariants as queued
 use Rattle.commonware_broadcast.specs.declared.broadcaster.MailboxError.{MailboxError}
-use Rattle.commonware_broadcast.specs.Queue.{QueueState, Pushes, Pops, queue_after, shut_down, waiting}
+use Rattle.commonware_broadcast.specs.Queue.{QueueState, Pushes, Pops}
+use Rattle.commonware_broadcast.specs.Queue.{queue_after, shut_down, waiting}
 
 -- the queue, whether a stop is asked for, and how many requests were taken, skipped and given up
 pub record MailboxState (T : Type 0) : Type 0 where
@@ -27,7 +28,7 @@ count_taken None = 0
 count_taken (Some taken) = 1
 
 module _ {T : Type 0} where
-  -- an open, empty mailbox whose ready list has `size` places, after `drawn` requests that were taken
+  -- an open, empty mailbox whose ready list has `size` places, after `drawn` requests were taken
   abbrev pub mailbox_after : ℕ → ℕ → MailboxState T
   mailbox_after size drawn = record {
     queue = queue_after size drawn;

@@ -19,7 +19,8 @@ module _ {T : Type 0} (answers : T → Bool → Type 0) where
   Drains {F} push first (x ∷ xs) skipped new last =
       (answers x true
       × ((others : List T) × (skipped ≡ x ∷ others) × Drains push first xs others new last))
-      ⊎ ((answers x false × ((mid : F) × push first x None mid × Drains push mid xs skipped new last))
+      ⊎ ((answers x false
+      × ((mid : F) × push first x None mid × Drains push mid xs skipped new last))
       ⊎ (answers x false × (skipped ≡ [])
       × ((back : T) × push first x (Some back) last × (new ≡ back ∷ xs))))
 

@@ -5,7 +5,8 @@ use Rattle.commonware_broadcast.specs.declared.buffered.ingress.request.Request.
 use Rattle.commonware_broadcast.specs.declared.buffered.ingress.queued.Queued.{Queued}
 use Rattle.commonware_broadcast.specs.declared.buffered.ingress.queued.Queued.TheVariants as queued
 use Rattle.commonware_broadcast.specs.declared.broadcaster.MailboxError.{MailboxError}
-use Rattle.commonware_broadcast.specs.declared.broadcaster.MailboxError.TheVariants.{Memory, Exhausted}
+use Rattle.commonware_broadcast.specs.declared.broadcaster.MailboxError.TheVariants.{Memory}
+use Rattle.commonware_broadcast.specs.declared.broadcaster.MailboxError.TheVariants.{Exhausted}
 use Rattle.commonware_broadcast.specs.Overflow.{Drains, PutsWithin}
 
 -- a ready list of `size` places and an overflow without bound, whether the queue is closed, and the
@@ -85,15 +86,16 @@ module _ {T : Type 0} where
     Pushes old message (Ok (queued.Ready ticket)) new =
         Draws old ticket × HasRoom old × (new ≡ with_ready old message)
     Pushes old message (Ok (queued.Overflow ticket)) new =
-        Draws old ticket × (¬ HasRoom old) × answers message false × (new ≡ with_overflow old message)
+        Draws old ticket × (¬ HasRoom old) × answers message false
+        × (new ≡ with_overflow old message)
     Pushes old message (Ok (queued.Skipped ticket)) new =
         Draws old ticket × (¬ HasRoom old) × answers message true × (new ≡ with_drawn old)
     -- only a message that finds room, or that answered open, is allocated for
     Pushes old message (Err Memory) new =
         Draws old old.next × (HasRoom old ⊎ answers message false) × (new ≡ old)
 
-    -- what a pop may return, what it skips, and the queue that it leaves: the front of the ready list
-    -- is removed, and then the ready list is filled from the overflow
+    -- what a pop may return, what it skips, and the queue that it leaves: the front of the ready
+    -- list is removed, and then the ready list is filled from the overflow
     abbrev pub Pops : QueueState T → Option (ℕ × T) → List (Request T) → QueueState T → Type 0
     Pops old None skipped new = (waiting old ≡ []) × (skipped ≡ []) × (new ≡ old)
     Pops old (Some taken) skipped new =

@@ -70,7 +70,7 @@ module _ {T : Type 0} where
   pub record IsLawful (steps : List (Step T)) (last : MailboxState T) : Type 0 where
     -- the tickets rise in the order in which they are drawn
     pub drawn_rise : IsRising 0 (flat_map drawn_by steps) last.queue.next
-    -- they rise in the order in which their requests are taken, and those that still wait are higher
+    -- they rise in the order in which they are taken, and those that still wait are higher
     pub taken_rise :
         IsRising 0 (flat_map taken_by steps ++ tickets_of (waiting last.queue)) last.queue.next
     -- a drawn ticket has one end: its request is taken, is skipped, waits or is given up

@@ -3,8 +3,9 @@ ghost use Rattle.std.specs.Prelude.{◌≡◌, ◌⊎◌, ◌↔◌, List, true,
 ghost use Rattle.std.specs.NonZero.{non_zero_usize_get};
 ghost use Rattle.commonware_broadcast.specs.declared.buffered.ingress.request.Request.{Request};
 ghost use Rattle.commonware_broadcast.specs.Queue.{IsSound, HasRoom, last_ticket};
-ghost use Rattle.commonware_broadcast.specs.Mailbox.{Enqueues, Takes, RequestsStop, Closes, IsCounted};
-ghost use Rattle.commonware_broadcast.specs.Mailbox.{counts_of, empty_mailbox, mailbox_after};
+ghost use Rattle.commonware_broadcast.specs.Mailbox.{Enqueues, Takes, RequestsStop, Closes};
+ghost use Rattle.commonware_broadcast.specs.Mailbox.{IsCounted, counts_of};
+ghost use Rattle.commonware_broadcast.specs.Mailbox.{empty_mailbox, mailbox_after};
 
 use crate::MailboxError;
 use crate::buffered::ingress::queue::Queue;

@@ -45,7 +45,7 @@ where
 
 /// The mailbox of a node. Copies of it may be used on any thread.
 ///
-/// A call takes the lock of the inbox once, and calls nothing else while it holds it.
+/// A call takes the lock of the inbox once, and makes one call of the inbox under it.
 #[derive(Drop)]
 pub struct Mailbox<P: PublicKey, M: Digestible, R> {
     inbox: SharedInbox<P, M>,

@@ -1,6 +1,5 @@
 //! The messages of a mailbox's callers.
 ghost use Rattle.std.specs.Prelude.{◌≡◌};
-ghost use Rattle.commonware_broadcast.specs.declared.buffered.ingress.message.Message.TheVariants.{Broadcast, Subscribe, Get};
 
 use crate::buffered::ingress::overflow::Policy;
 use crate::buffered::ingress::pending::Pending;
@@ -40,7 +39,7 @@ pub enum Message<P, M: Digestible, S, G> {
 impl<P, M: Digestible, S, G> Message<P, M, S, G> {
     /// Creates a request to broadcast `message` to `recipients`.
     pub fn broadcast(recipients: Recipients<P>, message: Digested<M>) -> Self
-        ensures { result ≡ Broadcast recipients message }
+        ensures { result ≡ Message.Broadcast recipients message }
     {
         Message::Broadcast {
             recipients,
@@ -50,14 +49,14 @@ impl<P, M: Digestible, S, G> Message<P, M, S, G> {
 
     /// Creates a request for the message of `digest`, at once or when it arrives.
     pub fn subscribe(digest: M::Digest, responder: S) -> Self
-        ensures { result ≡ Subscribe digest responder }
+        ensures { result ≡ Message.Subscribe digest responder }
     {
         Message::Subscribe { digest, responder }
     }
 
     /// Creates a request for the message of `digest` if it is cached.
     pub fn get(digest: M::Digest, responder: G) -> Self
-        ensures { result ≡ Get digest responder }
+        ensures { result ≡ Message.Get digest responder }
     {
         Message::Get { digest, responder }
     }

@@ -8,7 +8,7 @@ use std::sync::Wait;
 
 /// The end of a mailbox from which its requests are taken.
 ///
-/// A call takes the lock of the inbox once, and calls nothing else while it holds it. None of the
+/// A call takes the lock of the inbox once, and makes one call of the inbox under it. None of the
 /// calls allocates.
 #[derive(Drop)]
 pub struct Ingress<P: PublicKey, M: Digestible, R> {
