@@ -1,3 +1,4 @@
 pub mod Words
 pub mod Recipients
 pub mod Message
+pub mod FaultText

@@ -1,34 +1,28 @@
-//! What ends a run of the program.
+//! What ends a run of a program.
 ghost use Rattle.std.specs.Prelude.{◌≡◌};
+ghost use Rattle.broadcast_text.specs.FaultText.{fault_status};
 ghost use Rattle.broadcast_text.specs.declared.fault.Fault.TheVariants.{Memory};
 
 use std::alloc::AllocError;
+use std::fmt::{self, Display, Formatter};
 use std::io::Write;
-use thiserror::Error;
 
-/// What ends a run of the program. Its text is that of standard error.
-#[derive(Clone, Copy, Debug, PartialEq, Eq, Error)]
+/// What ends a run of a program. Its text is that of standard error.
+#[derive(Clone, Copy, Debug, PartialEq, Eq)]
 pub enum Fault {
     /// The arguments are wrong. The text is the program's usage line.
-    #[error("{0}")]
     Usage(&'static str),
-    /// A key names two members of a world.
-    #[error("shared key")]
+    /// A key stands for two members of a world.
     SharedKey,
-    /// The line of this number, from 1 on, is no event.
-    #[error("line {0}: syntax")]
+    /// The line of this number, from 1 on, cannot be read.
     Syntax(u64),
     /// Standard input failed.
-    #[error("read failed")]
     Read,
-    /// The inbox refused a broadcast for another cause than memory, or gave none back.
-    #[error("mailbox failed")]
+    /// The inbox refused a broadcast although memory sufficed, or gave none back.
     Mailbox,
     /// Standard output failed.
-    #[error("write failed")]
     Write,
-    /// There was no memory.
-    #[error("memory")]
+    /// An allocation failed.
     Memory,
 }
 
@@ -40,18 +34,42 @@ impl From<AllocError> for Fault {
     }
 }
 
+impl Display for Fault {
+    ghost use Rattle.std.specs.Prelude.{Some};
+    ghost use Rattle.broadcast_text.specs.FaultText.{fault_text};
+
+    ghost output = { λ fault. Some (fault_text fault) };
+
+    fn fmt<W: fmt::Write>(&self, f: &mut Formatter<W>) -> fmt::Result {
+        match self {
+            Fault::Usage(line) => f.write_str(line),
+            Fault::SharedKey => f.write_str("shared key"),
+            Fault::Syntax(number) => write!(f, "line {number}: syntax"),
+            Fault::Read => f.write_str("read failed"),
+            Fault::Mailbox => f.write_str("mailbox failed"),
+            Fault::Write => f.write_str("write failed"),
+            Fault::Memory => f.write_str("memory"),
+        }
+    }
+}
+
+impl std::error::Error for Fault {}
+
 impl Fault {
-    /// The exit status: 2 for what the caller wrote, 3 for what the system refused.
-    pub fn status(&self) -> u8 {
+    /// Returns the exit status: 2 for what the caller wrote, 3 for what the system refused.
+    pub fn status(&self) -> u8
+        ensures { result ≡ fault_status self.now }
+    {
         match self {
             Fault::Usage(_) | Fault::SharedKey | Fault::Syntax(_) => 2,
             Fault::Read | Fault::Mailbox | Fault::Write | Fault::Memory => 3,
         }
     }
 
-    /// Writes the text in one line, and answers the exit status.
-    pub fn report<E: Write + Drop>(&self, mut err: E) -> u8 {
-        // A fault of standard error has nowhere to be told.
+    /// Writes the text in one line, and returns the exit status. A failure to write is ignored.
+    pub fn report<E: Write + Drop>(&self, mut err: E) -> u8
+        ensures { result ≡ fault_status self.now }
+    {
         let _ = writeln!(err, "{self}");
         self.status()
     }

@@ -2,12 +2,12 @@
 ghost use Rattle.std.specs.Prelude.{◌≡◌, IfOk, OnOk, IfErr};
 ghost use Rattle.replay_lib.specs.Loopback.{IsIdle, passed, broadcasts_by, broadcasts_in};
 ghost use Rattle.commonware_broadcast.specs.declared.broadcaster.MailboxError.TheVariants as mailbox;
-ghost use Rattle.broadcast_text.specs.declared.fault.Fault.TheVariants.{Memory};
+ghost use Rattle.broadcast_text.specs.declared.fault.Fault.TheVariants.{Memory, Mailbox as MailboxFailed};
 
 use broadcast_core::{Closable, Event, Items, TestMessage};
-use broadcast_text::fault::Fault;
 use commonware_broadcast::MailboxError;
 use commonware_broadcast::buffered::{Fixed, Inbox, Message, Queued};
+use broadcast_text::fault::Fault;
 use std::alloc::Global;
 use std::mem;
 use std::sync::{Mutex, Wait};
@@ -97,7 +97,8 @@ fn pass<T: Closable + Drop>(inbox: &mut Inbox<T>, message: T) -> Result<T, Fault
 
 /// Returns the fault of a refused request.
 fn mailbox_fault(error: MailboxError) -> Fault
-    ensures { error ≡ mailbox.Memory → result ≡ Memory }
+    ensures allocation_failed { error ≡ mailbox.Memory → result ≡ Memory }
+    ensures tickets_used_up { error ≡ mailbox.Exhausted → result ≡ MailboxFailed }
 {
     match error {
         MailboxError::Memory => Fault::Memory,
