@@ -55,7 +55,7 @@ fn broadcast<P: PublicKey, M: Digestible + Codec>(
     ensures { (s : Setting P M M.Digest)
         → s.same ≡ same_by P.cmp M.Digest.cmp → s.priority ≡ priority → s.encoding ≡ M.encoding
         → Follows s (event.Broadcast recipients message) core.old core.new
-            result.0 (option_to_list result.1) }
+        result.0 (option_to_list result.1) }
 {
     let mut bytes = Vec::new(alloc);
     match message.inner().write(&mut bytes) {
