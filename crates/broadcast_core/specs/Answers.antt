@@ -1,5 +1,5 @@
 -- What each event is answered.
-use Rattle.std.specs.Prelude.{◌≡◌, ℕ, Bool, false, true, ◌==◌, if◌then◌else◌, IsTrue, List, [], ◌∷◌, Option, None, Some, is_some, Result, Ok, Err, is_ok, ◌⊎◌}
+use Rattle.std.specs.Prelude.{◌≡◌, ℕ, Bool, false, true, ◌==◌, IsTrue, List, [], ◌∷◌, Option, None, Some, is_some, Result, Ok, Err, is_ok, ◌⊎◌}
 use Rattle.std.specs.List.{list_any, count_by}
 use Rattle.broadcast_core.specs.Carried.{Carried}
 use Rattle.broadcast_core.specs.Content.{among, outcome_of}
