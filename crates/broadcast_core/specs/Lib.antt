@@ -1,7 +1,7 @@
 pub mod Carried
 pub mod Codec
 pub mod CodecLaws
-pub mod ByteLists
+pub mod ByteListLaws
 pub mod TestMessage
 pub mod Content
 pub mod Setting

@@ -3,7 +3,7 @@
 //! A message type writes and reads its lists one after the other. Its `encode_size` adds up
 //! [`encode_size`], its `write` reserves that many bytes and then calls [`write_reserved`] for each
 //! list, and its `layout` and `read_cfg` call [`read_cfg`] on the bytes that are left. The laws of
-//! its `Codec` follow from the lemmas of `specs/ByteLists`. No call of this module allocates.
+//! its `Codec` follow from the lemmas of `specs/ByteListLaws`. No call of this module allocates.
 ghost use Rattle.std.specs.Prelude.{◌≡◌, ◌+◌, ◌≤◌, ◌++◌, IsTrue, if◌then◌else◌, length, Option, Some, None, IfOk, vec_len, vec_capacity};
 ghost use Rattle.broadcast_core.specs.Codec.{Gives, has_spelling, spelled, read_list};
 
