@@ -15,29 +15,38 @@ module _ {P M D W : Type 0} (same : Same P D) where
     pub own : new.own ≡ old.own
     pub deque_size : new.deque_size ≡ old.deque_size
     pub primary : new.primary ≡ old.primary
-    pub lists : (q : P) → list_at same new q ≡ (if same.key p q then list_with same old p x.digest else list_at same old q)
+    pub lists : (q : P) → list_at same new q
+        ≡ (if same.key p q then list_with same old p x.digest else list_at same old q)
     pub cached : (d : D) → message_at same new d
-        ≡ (if is_on_list same new d then (if is_on_list same old d then message_at same old d else Some x) else None)
-    pub waiters : (d : D) → waiting_at same new d ≡ (if same.digest x.digest d then [] else waiting_at same old d)
+        ≡ (if is_on_list same new d
+        then (if is_on_list same old d then message_at same old d else Some x)
+        else None)
+    pub waiters : (d : D) → waiting_at same new d
+        ≡ (if same.digest x.digest d then [] else waiting_at same old d)
 
   -- the outcome of taking a message under the key, the waiters that it serves, and the new content
-  pub record IsTaken (p : P) (x : Carried M D) (old new : Content P M D W) (result : Result (Taken W) AllocError) : Type 0 where
+  pub record IsTaken (p : P) (x : Carried M D) (old new : Content P M D W)
+      (result : Result (Taken W) AllocError) : Type 0 where
     pub outcome : IfOk result (λ taken. taken.outcome ≡ outcome_at same old p x.digest)
     pub served : IfOk result (λ taken. taken.served ≡ waiting_at same old x.digest)
     pub ok : OnOk result (Takes p x old new)
     pub err : OnErr result (new ≡ old)
     -- these do not allocate
-    pub succeeds_on_duplicate : among same.digest x.digest (list_at same old p) ≡ true → IsOk result
+    pub succeeds_on_duplicate :
+        among same.digest x.digest (list_at same old p) ≡ true → IsOk result
     pub succeeds_on_ineligible : has_primary same old p ≡ false → IsOk result
     pub succeeds_at_size_zero : old.deque_size ≡ 0 → IsOk result
 
-  -- these keys are the primary ones: the others lose their lists, and what is on no list is not cached
+  -- these keys are the primary ones: the lists of the others are empty, and only the messages of
+  -- digests on a list are cached
   pub record TakesPeers (peers : List P) (old new : Content P M D W) : Type 0 where
     pub own : new.own ≡ old.own
     pub deque_size : new.deque_size ≡ old.deque_size
     pub primary : new.primary ≡ peers
-    pub lists : (q : P) → list_at same new q ≡ (if list_any (same.key q) peers then list_at same old q else [])
-    pub cached : (d : D) → message_at same new d ≡ (if is_on_list same new d then message_at same old d else None)
+    pub lists : (q : P) → list_at same new q
+        ≡ (if list_any (same.key q) peers then list_at same old q else [])
+    pub cached : (d : D) → message_at same new d
+        ≡ (if is_on_list same new d then message_at same old d else None)
     pub waiters : (d : D) → waiting_at same new d ≡ waiting_at same old d
 
   -- only the waiters may change
@@ -48,17 +57,20 @@ module _ {P M D W : Type 0} (same : Same P D) where
     pub lists : new.lists ≡ old.lists
     pub cached : new.cached ≡ old.cached
 
-  -- the waiter waits behind the others of its digest
+  -- the waiter is put behind the others of its digest
   pub record Awaits (d : D) (w : W) (old new : Content P M D W) : Type 0 where
     pub store : KeepsStore old new
-    pub waiters : (e : D) → waiting_at same new e ≡ (if same.digest d e then waiting_at same old e ++ w ∷ [] else waiting_at same old e)
+    pub waiters : (e : D) → waiting_at same new e
+        ≡ (if same.digest d e then waiting_at same old e ++ w ∷ [] else waiting_at same old e)
 
   -- the waiters that are gone are dropped, and the others stay in their order
   pub record Cleans (is_gone : W → Bool) (old new : Content P M D W) : Type 0 where
     pub store : KeepsStore old new
-    pub waiters : (e : D) → waiting_at same new e ≡ filter (λ w. not (is_gone w)) (waiting_at same old e)
+    pub waiters : (e : D) → waiting_at same new e
+        ≡ filter (λ w. not (is_gone w)) (waiting_at same old e)
 
-  -- a waiter is answered by the cached message of the digest, or waits where there is none
+  -- a waiter is answered by the cached message of the digest, or waits if none is cached
   abbrev pub IsSubscribed : D → W → Content P M D W → Content P M D W → Subscribed W M D → Type 0
-  IsSubscribed d w old new (subscribed.Answered v x) = (v ≡ w) × (message_at same old d ≡ Some x) × (new ≡ old)
+  IsSubscribed d w old new (subscribed.Answered v x) =
+      (v ≡ w) × (message_at same old d ≡ Some x) × (new ≡ old)
   IsSubscribed d w old new subscribed.Waiting = (message_at same old d ≡ None) × Awaits d w old new

@@ -2,6 +2,7 @@ pub mod Carried
 pub mod ByteList
 pub mod Codec
 pub mod CodecLaws
+pub mod ByteListLaws
 pub mod TestMessage
 pub mod Content
 pub mod Setting

@@ -54,8 +54,14 @@ impl<P: PublicKey, M: Digestible, W: Drop> Core<P, M, W> {
     /// Creates an empty core for the node `own` that keeps at most `deque_size` digests a peer. No
     /// peer is primary yet.
     pub fn new(alloc: Global, own: P, deque_size: usize) -> Self
-        ensures { result
-            ≡ record { own = own; deque_size = deque_size; primary = []; lists = []; cached = []; waiters = [] } }
+        ensures { result ≡ record {
+          own = own;
+          deque_size = deque_size;
+          primary = [];
+          lists = [];
+          cached = [];
+          waiters = [];
+        } }
     {
         Core {
             own,
@@ -127,7 +133,8 @@ impl<P: PublicKey, M: Digestible, W: Drop> Core<P, M, W> {
         ensures primary_only { let same = same_by P.cmp M.Digest.cmp in
             has_primary same self.now peer.now ≡ false → list_at same self.now peer.now ≡ [] }
         ensures cached { let same = same_by P.cmp M.Digest.cmp in
-            All (λ d. is_some (message_at same self.now d) ≡ true) (list_at same self.now peer.now) }
+            All (λ d. is_some (message_at same self.now d) ≡ true)
+            (list_at same self.now peer.now) }
     {
         self.state.cache.list(alloc, peer)
     }
@@ -217,7 +224,8 @@ impl<P: PublicKey, M: Digestible, W: Drop> Core<P, M, W> {
         W: Closable,
         ensures store { KeepsStore (same_by P.cmp M.Digest.cmp) self.old self.new }
         ensures dropped { let same = same_by P.cmp M.Digest.cmp in
-            (d : _) → DropsClosed W.may_answer (waiting_at same self.old d) (waiting_at same self.new d) }
+            (d : _) → DropsClosed W.may_answer
+            (waiting_at same self.old d) (waiting_at same self.new d) }
         ensures removed { (n : ℕ) × (waiting_in self.old.waiters ≡ waiting_in self.new.waiters + n)
             × (result ≡ counted n) }
         ensures distinct { IsDistinct (eq_by_cmp M.Digest.cmp) (keys_of self.old.waiters) }

@@ -7,9 +7,7 @@ ghost use Rattle.broadcast_core.specs.Codec.{Appends, IsRefusal, layout_of, whol
 use std::alloc::{AllocError, Global};
 use thiserror::Error;
 
-mod byte_list;
-
-pub(crate) use byte_list::{list_size, put_list, read_list};
+pub mod byte_list;
 
 /// The reason why bytes do not decode, or a message does not encode.
 #[derive(Clone, Copy, Debug, PartialEq, Eq, Error)]
@@ -95,8 +93,8 @@ pub trait Read {
     /// The limits on the values that are read.
     type Cfg;
 
-    /// The value at the front of the bytes and the number of bytes that it takes, or the first error
-    /// in reading order.
+    /// The value at the front of the bytes and the number of bytes that it takes, or the first
+    /// error in reading order.
     ghost reading: { Self.Cfg → List ℕ → Result (Self × ℕ) CodecError };
 
     /// Returns the number of bytes that the value at the front takes. Does not allocate.
@@ -121,8 +119,8 @@ pub trait Read {
 
 /// A type whose encoding decodes to the value that was encoded.
 pub trait Codec: Write + EncodeSize + Read {
-    /// What is read from the encoding of a value, followed by any bytes, is the value and the length
-    /// of its encoding.
+    /// What is read from the encoding of a value, followed by any bytes, is the value and the
+    /// length of its encoding.
     ghost reads_back: { (cfg : Self.Cfg) (v w : Self) (encoded rest : List ℕ) (n : ℕ)
         → Self.encoding v ≡ Some encoded → Self.reading cfg (encoded ++ rest) ≡ Ok (w, n)
         → (w ≡ v) × (n ≡ length encoded) };

@@ -63,7 +63,8 @@ impl<M: Digestible> Digested<M> {
 
     /// Creates a message with its own digest.
     pub fn compute(alloc: Global, message: M) -> Result<Self, AllocError>
-        ensures { IfOk result (λ it. it ≡ record { message = message; digest = M.digest_of message }) }
+        ensures { IfOk result (λ it.
+            it ≡ record { message = message; digest = M.digest_of message }) }
     {
         let digest = message.digest();
         Digested::precomputed(alloc, message, digest)

@@ -9,9 +9,7 @@ ghost use Rattle.broadcast_core.specs.Codec.{layout_of, Gives, GivesOrLacks};
 ghost use Rattle.broadcast_core.specs.TestMessage.{Parts, encoding_of, read_message, Begins, IsRefused};
 ghost use Rattle.broadcast_core.specs.CodecLaws.{message_within, message_refusals, message_reads_back};
 
-use crate::codec::{
-    Codec, CodecError, EncodeSize, RangeCfg, Read, Write, list_size, put_list, read_list,
-};
+use crate::codec::{Codec, CodecError, EncodeSize, RangeCfg, Read, Write, byte_list};
 use crate::digested::Digestible;
 use sha2::{Digest, Sha256};
 use std::alloc::{AllocError, Global};
@@ -47,7 +45,8 @@ impl TestMessage {
 
     /// Creates a message whose commitment is its content.
     pub fn shared(alloc: Global, message: Vec<u8>) -> Result<Self, AllocError>
-        ensures { IfOk result (λ m. m ≡ record { commitment = message.items; content = message.items }) }
+        ensures { IfOk result (λ m.
+            m ≡ record { commitment = message.items; content = message.items }) }
     {
         let commitment = Vec::from_slice(alloc, &message)?;
         Ok(TestMessage::new(commitment, message))
@@ -98,8 +97,8 @@ impl Write for TestMessage {
         let size = self.encode_size().ok_or(CodecError::Unencodable)?;
         // Nothing is written before there is room for all of it.
         out.reserve(size)?;
-        put_list(out, &self.commitment);
-        put_list(out, &self.content);
+        byte_list::write_reserved(&self.commitment, out);
+        byte_list::write_reserved(&self.content, out);
         Ok(())
     }
 }
@@ -107,8 +106,8 @@ impl Write for TestMessage {
 impl EncodeSize for TestMessage {
     /// Returns the length of the encoding, or `None` if a list has more than 4,294,967,295 bytes.
     fn encode_size(&self) -> Option<usize> {
-        let commitment = list_size(&self.commitment)?;
-        let content = list_size(&self.content)?;
+        let commitment = byte_list::encode_size(&self.commitment)?;
+        let content = byte_list::encode_size(&self.content)?;
         Some(commitment + content)
     }
 }
@@ -137,9 +136,11 @@ impl Read for TestMessage {
         // The bytes begin with the encoding of what is read.
         ensures found { IfOk result (λ r. Begins cfg.now buf.now r.0 r.1) }
         // The message that the bytes begin with is read.
-        ensures only { (m : Parts) (n : ℕ) → Begins cfg.now buf.now m n → GivesOrLacks result (Ok (m, n)) }
+        ensures only { (m : Parts) (n : ℕ) → Begins cfg.now buf.now m n
+            → GivesOrLacks result (Ok (m, n)) }
         // An error has this reason, or is an allocation failure.
-        ensures refused { IfErr result (λ e. (e ≡ CodecError.Memory) ⊎ IsRefused cfg.now buf.now e) }
+        ensures refused { IfErr result (λ e.
+            (e ≡ CodecError.Memory) ⊎ IsRefused cfg.now buf.now e) }
         // The exact result.
         ensures exact { GivesOrLacks result (read_message cfg.now buf.now) }
     {
@@ -158,10 +159,11 @@ impl Codec for TestMessage {
 /// Returns the two byte lists at the front, and the number of bytes that they take.
 #[tactic(auto, unfolding(crate::specs::TestMessage::read_message))]
 fn parts_at<'a>(buf: &'a [u8], range: &RangeCfg) -> Result<(&'a [u8], &'a [u8], usize), CodecError>
-    ensures { Gives (λ x. (record { commitment = x.0.now; content = x.1.now }, x.2)) result (read_message range.now buf.now) }
+    ensures { Gives (λ x. (record { commitment = x.0.now; content = x.1.now }, x.2)) result
+        (read_message range.now buf.now) }
 {
-    let (commitment, rest) = read_list(buf, range)?;
-    let (content, rest) = read_list(rest, range)?;
+    let (commitment, rest) = byte_list::read_cfg(buf, range)?;
+    let (content, rest) = byte_list::read_cfg(rest, range)?;
     Ok((commitment, content, buf.len() - rest.len()))
 }
 

@@ -31,9 +31,13 @@ impl<P: PublicKey, M: Digestible> Model for Cache<P, M> {
 
     ghost Value = { Stored P M M.Digest };
 
-    ghost view = { λ it. record { lists = it.deques.entries; messages = map (λ e. (e.0, e.1.message)) it.items.entries } };
+    ghost view = { λ it. record {
+      lists = it.deques.entries;
+      messages = map (λ e. (e.0, e.1.message)) it.items.entries;
+    } };
 
-    ghost invariant = { λ it. IsCache (same_by P.cmp M.Digest.cmp) it.deques.entries it.items.entries };
+    ghost invariant = { λ it.
+        IsCache (same_by P.cmp M.Digest.cmp) it.deques.entries it.items.entries };
 }
 
 impl<P: PublicKey, M: Digestible> Cache<P, M> {
@@ -82,8 +86,8 @@ impl<P: PublicKey, M: Digestible> Cache<P, M> {
         requires absent { among (eq_by_cmp M.Digest.cmp) message.now.digest
             (items_at (eq_by_cmp P.cmp) peer.now self.old.lists) ≡ false }
         requires fits { length (items_at (eq_by_cmp P.cmp) peer.now self.old.lists) ≤ deque_size }
-        ensures ok { OnOk result
-            (Stores (same_by P.cmp M.Digest.cmp) peer.now message.now deque_size self.old self.new) }
+        ensures ok { let same = same_by P.cmp M.Digest.cmp in
+            OnOk result (Stores same peer.now message.now deque_size self.old self.new) }
         ensures err { OnErr result (self.new ≡ self.old) }
     {
         counting::add(self.alloc, &mut self.deques, &mut self.items, peer, message)?;
@@ -99,10 +103,11 @@ impl<P: PublicKey, M: Digestible> Cache<P, M> {
         deque_size: usize,
     ) -> Result<bool, AllocError>
         requires { length (items_at (eq_by_cmp P.cmp) peer.now self.old.lists) ≤ deque_size }
-        ensures new { IfOk result (λ new. new ≡ not (among (eq_by_cmp M.Digest.cmp) message.now.digest
-            (items_at (eq_by_cmp P.cmp) peer.now self.old.lists))) }
-        ensures ok { OnOk result
-            (Stores (same_by P.cmp M.Digest.cmp) peer.now message.now deque_size self.old self.new) }
+        ensures new { let same = same_by P.cmp M.Digest.cmp in
+            let ds = items_at same.key peer.now self.old.lists in
+            IfOk result (λ new. new ≡ not (among same.digest message.now.digest ds)) }
+        ensures ok { let same = same_by P.cmp M.Digest.cmp in
+            OnOk result (Stores same peer.now message.now deque_size self.old self.new) }
         ensures err { OnErr result (self.new ≡ self.old) }
 
         // These do not allocate.

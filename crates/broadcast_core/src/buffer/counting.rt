@@ -23,9 +23,11 @@ pub fn renew<P: PublicKey, M: Digestible>(
     digest: M::Digest,
 ) -> bool
     requires { IsCounted (same_by P.cmp M.Digest.cmp) by_peer.old.entries by_digest.now.entries }
-    ensures found { result ≡ among (eq_by_cmp M.Digest.cmp) digest (items_at (eq_by_cmp P.cmp) peer.now by_peer.old.entries) }
+    ensures found { result ≡ among (eq_by_cmp M.Digest.cmp) digest
+        (items_at (eq_by_cmp P.cmp) peer.now by_peer.old.entries) }
     ensures moved { MatchBool result
-        (Renews (same_by P.cmp M.Digest.cmp) peer.now digest by_peer.old.entries by_peer.new.entries by_digest.now.entries)
+        (Renews (same_by P.cmp M.Digest.cmp) peer.now digest
+        by_peer.old.entries by_peer.new.entries by_digest.now.entries)
         (IsUnchanged by_peer.old by_peer.new) }
 {
     // A digest that is not cached is on no deque, so none is searched.
@@ -43,12 +45,14 @@ pub fn add<P: PublicKey, M: Digestible>(
     peer: &P,
     message: &Digested<M>,
 ) -> Result<(), AllocError>
-    requires counted { IsCounted (same_by P.cmp M.Digest.cmp) by_peer.old.entries by_digest.old.entries }
+    requires counted { IsCounted (same_by P.cmp M.Digest.cmp)
+        by_peer.old.entries by_digest.old.entries }
     requires absent { among (eq_by_cmp M.Digest.cmp) message.now.digest
         (items_at (eq_by_cmp P.cmp) peer.now by_peer.old.entries) ≡ false }
     ensures ok { OnOk result (Adds (same_by P.cmp M.Digest.cmp) peer.now message.now
         by_peer.old.entries by_peer.new.entries by_digest.old.entries by_digest.new.entries) }
-    ensures err { OnErr result (IsUnchanged by_peer.old by_peer.new × IsUnchanged by_digest.old by_digest.new) }
+    ensures err { OnErr result
+        (IsUnchanged by_peer.old by_peer.new × IsUnchanged by_digest.old by_digest.new) }
 {
     let digest = message.digest();
     let fresh = items::hold(by_digest, message)?;
@@ -72,8 +76,10 @@ pub fn cut<P: PublicKey, M: Digestible>(
     peer: &P,
     deque_size: usize,
 )
-    requires counted { IsCounted (same_by P.cmp M.Digest.cmp) by_peer.old.entries by_digest.old.entries }
-    requires one_more { length (items_at (eq_by_cmp P.cmp) peer.now by_peer.old.entries) ≤ deque_size + 1 }
+    requires counted { IsCounted (same_by P.cmp M.Digest.cmp)
+        by_peer.old.entries by_digest.old.entries }
+    requires one_more { length (items_at (eq_by_cmp P.cmp) peer.now by_peer.old.entries)
+        ≤ deque_size + 1 }
     ensures { let same = same_by P.cmp M.Digest.cmp in
         Cuts same peer.now (take deque_size (items_at same.key peer.now by_peer.old.entries))
         by_peer.old.entries by_peer.new.entries by_digest.old.entries by_digest.new.entries }
@@ -89,10 +95,12 @@ pub fn release_absent<P: PublicKey, M: Digestible>(
     by_digest: &mut BTreeMap<M::Digest, Cached<M>>,
     peers: &[P],
 )
-    requires counted { IsCounted (same_by P.cmp M.Digest.cmp) by_peer.now.entries by_digest.old.entries }
+    requires counted { IsCounted (same_by P.cmp M.Digest.cmp)
+        by_peer.now.entries by_digest.old.entries }
     requires rises { IsStrictlySortedBy P.cmp peers.now }
     ensures { let same = same_by P.cmp M.Digest.cmp in
-        Releases same.digest (λ d. deques_without same peers.now d by_peer.now.entries) by_digest.old.entries by_digest.new.entries }
+        Releases same.digest (λ d. deques_without same peers.now d by_peer.now.entries)
+        by_digest.old.entries by_digest.new.entries }
 {
     for (peer, deque) in by_peer {
         if !deques::is_among(peers, peer) {
@@ -107,9 +115,11 @@ fn release_all<M: Digestible>(
     deque: &Deque<M::Digest>,
 )
     requires held { IsHeld (eq_by_cmp M.Digest.cmp) by_digest.old.entries }
-    requires counted { (e : _) → one_if (among (eq_by_cmp M.Digest.cmp) e deque.now) ≤ references_of (eq_by_cmp M.Digest.cmp) e by_digest.old.entries }
+    requires counted { let same = eq_by_cmp M.Digest.cmp in
+        (e : _) → one_if (among same e deque.now) ≤ references_of same e by_digest.old.entries }
     ensures { let same = eq_by_cmp M.Digest.cmp in
-        Releases same (λ e. one_if (among same e deque.now)) by_digest.old.entries by_digest.new.entries }
+        Releases same (λ e. one_if (among same e deque.now))
+        by_digest.old.entries by_digest.new.entries }
 {
     for digest in deque.iter() {
         items::release(by_digest, digest);

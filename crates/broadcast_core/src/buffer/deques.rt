@@ -19,9 +19,12 @@ pub fn push_front<P: PublicKey, D: Ord + Copy>(
     peer: &P,
     digest: D,
 ) -> Result<(), AllocError>
-    requires { among (eq_by_cmp D.cmp) digest (items_at (eq_by_cmp P.cmp) peer.now deques.old.entries) ≡ false }
+    requires { among (eq_by_cmp D.cmp) digest
+        (items_at (eq_by_cmp P.cmp) peer.now deques.old.entries) ≡ false }
     ensures ok { let same = eq_by_cmp P.cmp in
-        OnOk result (PutsDeque same peer.now (digest ∷ items_at same peer.now deques.old.entries) deques.old.entries deques.new.entries) }
+        let ds = items_at same peer.now deques.old.entries in
+        OnOk result
+        (PutsDeque same peer.now (digest ∷ ds) deques.old.entries deques.new.entries) }
     ensures err { OnErr result (IsUnchanged deques.old deques.new) }
 {
     if let Some(deque) = deques.get_mut(peer) {
@@ -39,11 +42,13 @@ pub fn move_to_front<P: PublicKey, D: Ord + Copy>(
     peer: &P,
     digest: D,
 ) -> bool
-    ensures found { result ≡ among (eq_by_cmp D.cmp) digest (items_at (eq_by_cmp P.cmp) peer.now deques.old.entries) }
+    ensures found { result ≡ among (eq_by_cmp D.cmp) digest
+        (items_at (eq_by_cmp P.cmp) peer.now deques.old.entries) }
     ensures moved { let same = same_by P.cmp D.cmp in
         let ds = items_at same.key peer.now deques.old.entries in
         MatchBool result
-        (PutsDeque same.key peer.now (digest ∷ without same.digest digest ds) deques.old.entries deques.new.entries)
+        (PutsDeque same.key peer.now (digest ∷ without same.digest digest ds)
+        deques.old.entries deques.new.entries)
         (IsUnchanged deques.old deques.new) }
 {
     match deques.get_mut(peer) {
@@ -61,8 +66,10 @@ pub fn pop_beyond<P: PublicKey, D: Ord + Copy>(
     ensures { let same = same_by P.cmp D.cmp in
         let ds = items_at same.key peer.now deques.old.entries in
         MatchOption result
-        (PutsDeque same.key peer.now ds deques.old.entries deques.new.entries × IsUnchanged deques.old deques.new × (length ds ≤ deque_size))
-        (λ stale. DropsOldest same peer.now stale deques.old.entries deques.new.entries × (deque_size < length ds)) }
+        (PutsDeque same.key peer.now ds deques.old.entries deques.new.entries
+        × IsUnchanged deques.old deques.new × (length ds ≤ deque_size))
+        (λ stale. DropsOldest same peer.now stale deques.old.entries deques.new.entries
+        × (deque_size < length ds)) }
 {
     let Some(deque) = deques.get_mut(peer) else {
         return None;
@@ -76,7 +83,8 @@ pub fn pop_beyond<P: PublicKey, D: Ord + Copy>(
 /// Keeps only the entries of `keys`, which are sorted.
 pub fn retain_keys<K: Ord + Drop, V: Drop>(entries: &mut BTreeMap<K, V>, keys: &[K])
     requires { IsStrictlySortedBy K.cmp keys.now }
-    ensures { entries.new.entries ≡ filter (λ e. list_any (eq_by_cmp K.cmp e.0) keys.now) entries.old.entries }
+    ensures { entries.new.entries
+        ≡ filter (λ e. list_any (eq_by_cmp K.cmp e.0) keys.now) entries.old.entries }
 {
     entries.retain(|key, _| is_among(keys, key));
 }

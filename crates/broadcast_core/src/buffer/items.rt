@@ -15,14 +15,16 @@ pub fn hold<M: Digestible>(
     items: &mut BTreeMap<M::Digest, Cached<M>>,
     message: &Digested<M>,
 ) -> Result<bool, AllocError>
-    ensures fresh { IfOk result (λ fresh. fresh ≡ is_none (get M.Digest.cmp items.old message.now.digest)) }
+    ensures fresh { IfOk result (λ fresh.
+        fresh ≡ is_none (get M.Digest.cmp items.old message.now.digest)) }
     ensures looked_up { IfOk result (λ fresh. (d : _) → get M.Digest.cmp items.new d
         ≡ (if fresh && eq_by_cmp M.Digest.cmp message.now.digest d
         then Some (record { message = message.now; references = 0 })
         else get M.Digest.cmp items.old d)) }
     ensures held { IfOk result (λ fresh. items.new.entries
         ≡ (if fresh
-        then insert_entry M.Digest.cmp items.old.entries message.now.digest (record { message = message.now; references = 0 })
+        then insert_entry M.Digest.cmp items.old.entries message.now.digest
+        (record { message = message.now; references = 0 })
         else items.old.entries)) }
     ensures err { OnErr result (IsUnchanged items.old items.new) }
 {
@@ -58,7 +60,8 @@ pub fn refer<M: Digestible>(items: &mut BTreeMap<M::Digest, Cached<M>>, digest: 
 pub fn release<M: Digestible>(items: &mut BTreeMap<M::Digest, Cached<M>>, digest: &M::Digest)
     requires held { IsHeld (eq_by_cmp M.Digest.cmp) items.old.entries }
     requires there { IsSome (get M.Digest.cmp items.old digest.now) }
-    ensures { Releases (eq_by_cmp M.Digest.cmp) (λ e. one_if (eq_by_cmp M.Digest.cmp digest.now e)) items.old.entries items.new.entries }
+    ensures { let same = eq_by_cmp M.Digest.cmp in
+        Releases same (λ e. one_if (same digest.now e)) items.old.entries items.new.entries }
 {
     let Some(item) = items.get_mut(digest) else {
         return;

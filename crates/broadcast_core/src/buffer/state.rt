@@ -41,7 +41,8 @@ impl<P: PublicKey, M: Digestible, W> Model for State<P, M, W> {
       waiters = it.waiters;
     } };
 
-    ghost invariant = { λ it. IsCore (same_by P.cmp M.Digest.cmp) it.deque_size it.primary it.cache it.waiters };
+    ghost invariant = { λ it. IsCore (same_by P.cmp M.Digest.cmp)
+        it.deque_size it.primary it.cache it.waiters };
 }
 
 impl<P: PublicKey, M: Digestible, W: Drop> State<P, M, W> {
@@ -50,7 +51,13 @@ impl<P: PublicKey, M: Digestible, W: Drop> State<P, M, W> {
         ensures { (own : P) → IsTaken (same_by P.cmp M.Digest.cmp) peer.now message.now
             (with_own own self.old) (with_own own self.new) result }
     {
-        let outcome = store(&self.primary, &mut self.cache, self.deque_size, peer, message)?;
+        let outcome = store(
+            &self.primary,
+            &mut self.cache,
+            self.deque_size,
+            peer,
+            message,
+        )?;
         let served = self.waiters.take(&message.digest());
         Ok(Taken { outcome, served })
     }

@@ -65,7 +65,9 @@ impl<D: Ord + Copy, W: Drop> Waiters<D, W> {
     pub fn push(&mut self, digest: D, waiter: W) -> Result<(), (W, AllocError)>
         ensures ok { let same = eq_by_cmp D.cmp in
             OnOk result ((e : D) → items_at same e self.new
-            ≡ (if same digest e then items_at same e self.old ++ waiter ∷ [] else items_at same e self.old)) }
+            ≡ (if same digest e
+            then items_at same e self.old ++ waiter ∷ []
+            else items_at same e self.old)) }
         ensures err { IfErr result (λ refused. (refused.0 ≡ waiter) × (self.new ≡ self.old)) }
     {
         if let Some(waiters) = self.by_digest.get_mut(&digest) {
@@ -91,7 +93,8 @@ impl<D: Ord + Copy, W: Drop> Waiters<D, W> {
     pub fn take(&mut self, digest: &D) -> Items<W>
         ensures served { result ≡ items_at (eq_by_cmp D.cmp) digest.now self.old }
         ensures left { let same = eq_by_cmp D.cmp in
-            (e : D) → items_at same e self.new ≡ (if same digest.now e then [] else items_at same e self.old) }
+            (e : D) → items_at same e self.new
+            ≡ (if same digest.now e then [] else items_at same e self.old) }
     {
         match self.by_digest.remove(digest) {
             Some(waiters) => waiters,
@@ -122,8 +125,10 @@ impl<D: Ord + Copy, W: Drop> Waiters<D, W> {
     where
         W: Closable,
         ensures kept { let same = eq_by_cmp D.cmp in
-            (e : D) → DropsClosed W.may_answer (items_at same e self.old) (items_at same e self.new) }
-        ensures removed { (n : ℕ) × (waiting_in self.old ≡ waiting_in self.new + n) × (result ≡ counted n) }
+            (e : D) → DropsClosed W.may_answer
+            (items_at same e self.old) (items_at same e self.new) }
+        ensures removed { (n : ℕ) × (waiting_in self.old ≡ waiting_in self.new + n)
+            × (result ≡ counted n) }
         ensures distinct { IsDistinct (eq_by_cmp D.cmp) (keys_of self.old) }
         ensures distinct_left { IsDistinct (eq_by_cmp D.cmp) (keys_of self.new) }
     {
