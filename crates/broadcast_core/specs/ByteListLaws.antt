@@ -1,4 +1,4 @@
--- Lemmas on byte lists, for the laws of a message type that reads its lists one after the other.
+-- Lemmas, not definitions: for the laws of a message type that reads its lists one after the other.
 use Rattle.std.proofs.Common.{◌≡◌, ℕ, true, List, ◌++◌, length, Ok, Err, sym, ap, ◌∙◌}
 use Rattle.std.proofs.lemmas.Bool.{ltb-true}
 use Rattle.broadcast_core.specs.declared.codec.CodecError.{CodecError}
