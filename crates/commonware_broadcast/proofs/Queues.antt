@@ -1,10 +1,10 @@
 -- Queues stay sound.
-use Rattle.std.proofs.Common.{◌≡◌, ◌+◌, ◌≤◌, Bool, false, List, [], ◌∷◌, ◌++◌, length, Result, is_ok, is_err, cond, refl, sym, append-nil, ap, ◌∙◌, subst, inl, inr, append_assoc, arith, length-append}
+use Rattle.std.proofs.Common.{◌≡◌, ◌+◌, Bool, false, List, [], ◌∷◌, ◌++◌, length, Result, is_ok, is_err, cond, refl, sym, append-nil, ap, ◌∙◌, subst, inl, inr, append_assoc, arith}
 use Rattle.std.proofs.lemmas.List.{length_push}
 use Rattle.std.proofs.lemmas.Bool.{false≢true, cases_lt}
 use Rattle.commonware_broadcast.specs.declared.buffered.ingress.request.Request.{Request}
 use Rattle.commonware_broadcast.specs.Overflow.{Handles, Drains, PutsWithin}
-use Rattle.commonware_broadcast.proofs.Rising.{IsRising-higher, IsRising-lower, IsRising-tickets-push, length-IsRising, length-tickets_of}
+use Rattle.commonware_broadcast.proofs.Rising.{IsRising-higher, IsRising-lower, IsRising-tickets-push}
 use Rattle.commonware_broadcast.proofs.Refilling.{Refills-fits, Refills-rising}
 use Rattle.commonware_broadcast.proofs.Results.{chosen-ok, handled-ok}
 use Rattle.commonware_broadcast.specs.Queue.{QueueState, IsRising, IsSound, HasRoom, Draws, tickets_of, waiting}
@@ -98,14 +98,3 @@ module _ {T : Type 0} where
         shut = λ closed. absurd (filled_not_nil queue request rest is (sound.shut closed));
         drawn = sound.drawn;
       }
-
-  -- without its front, whose ticket is the lowest
-  pub IsSound-rest : (queue : QueueState T) (request : Request T) (rest ready : List (Request T)) → IsSound queue → queue.overflow ≡ [] → queue.ready ≡ request ∷ rest → ready ≡ rest → IsSound (record queue { ready = ready })
-  IsSound-rest queue request rest ready sound none is same =
-      let refilled : Drains (λ (r : Request T) (answer : Bool). ⊥) (PutsWithin queue.size) rest queue.overflow [] [] ready = subst (λ (xs : List (Request T)). Drains (λ (r : Request T) (answer : Bool). ⊥) (PutsWithin queue.size) rest xs [] [] ready) (sym none) (refl, refl, same) in
-      subst (λ (xs : List (Request T)). IsSound (record queue { ready = ready; overflow = xs })) (sym none) (IsSound-refilled (λ (r : Request T) (answer : Bool). ⊥) queue request rest [] [] ready sound is refilled)
-
-  -- no more wait than there are tickets
-  pub length-waiting : (queue : QueueState T) → IsSound queue → length queue.ready + length queue.overflow ≤ queue.next
-  length-waiting queue sound =
-      omega (arith, length-IsRising 0 (tickets_of (waiting queue)) queue.next sound.rising, length-tickets_of (waiting queue), length-append queue.ready queue.overflow)
