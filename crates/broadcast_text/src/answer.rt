@@ -5,7 +5,7 @@ ghost use Rattle.std.specs.Fmt.{decimal};
 ghost use Rattle.broadcast_text.specs.Words.{byte_list_word};
 ghost use Rattle.broadcast_text.specs.Printed.{line_of, spaced, outcome_word, refusal_words, parts_words, answer_line};
 
-use crate::byte_list::write_byte_list;
+use crate::byte_list::write_spaced;
 use broadcast_core::codec::CodecError;
 use broadcast_core::event::{Answer, Cause};
 use broadcast_core::mocks::TestMessage;
@@ -90,13 +90,4 @@ fn write_message<W: Write>(out: &mut W, word: &[u8], message: &TestMessage) -> i
     write_spaced(out, &message.commitment)?;
     write_spaced(out, &message.content)?;
     out.write_all(b"\n")
-}
-
-/// Writes a space and the word of a byte list.
-fn write_spaced<W: Write>(out: &mut W, bytes: &[u8]) -> io::Result<()>
-    ensures { OnOk result (Appends (W.contents out.old) (W.contents out.new)
-        (32 ∷ byte_list_word bytes.now)) }
-{
-    out.write_all(b" ")?;
-    write_byte_list(out, bytes)
 }
