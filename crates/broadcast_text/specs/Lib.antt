@@ -2,3 +2,4 @@ pub mod Words
 pub mod Recipients
 pub mod Message
 pub mod FaultText
+pub mod Printed

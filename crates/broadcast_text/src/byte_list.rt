@@ -1,5 +1,5 @@
 //! Byte lists as words: the bytes in lower-case hexadecimal, or a dash where there are none.
-ghost use Rattle.std.specs.Prelude.{◌≡◌, ◌*◌, ◌≤◌, ◌<◌, ℕ, List, true, length, slice_index, IfOk, IfErr, OnOk};
+ghost use Rattle.std.specs.Prelude.{◌≡◌, ◌∷◌, ◌*◌, ◌≤◌, ◌<◌, ℕ, List, true, length, slice_index, IfOk, IfErr, OnOk};
 ghost use Rattle.std.specs.Io.KnownBytes.{Appends};
 ghost use Rattle.hex.specs.Hex.{IsBytes, encode_lower, lower_digits};
 ghost use Rattle.broadcast_text.specs.Words.{byte_list_word};
@@ -83,6 +83,15 @@ pub fn write_byte_list<W: Write>(out: &mut W, bytes: &[u8]) -> io::Result<()>
         rest = after;
     }
     Ok(())
+}
+
+/// Writes a space and the word of a byte list.
+pub fn write_spaced<W: Write>(out: &mut W, bytes: &[u8]) -> io::Result<()>
+    ensures { OnOk result (Appends (W.contents out.old) (W.contents out.new)
+        (32 ∷ byte_list_word bytes.now)) }
+{
+    out.write_all(b" ")?;
+    write_byte_list(out, bytes)
 }
 
 /// Writes the digits of a few bytes.
