@@ -1,0 +1,211 @@
+//! Calls of a core.
+ghost use Rattle.std.specs.Prelude.{◌≡◌};
+
+use crate::material::{digest_of, message, set_of};
+use crate::show::{write_content, write_core, write_outcome};
+use broadcast_core::buffer::Core;
+use broadcast_core::digested::Digested;
+use broadcast_core::mocks::TestMessage;
+use broadcast_core::ordered::Set;
+use broadcast_core::outcome::{Subscribed, Taken};
+use broadcast_core::requests::{Closable, Ticketed};
+use std::alloc::{AllocError, Global};
+use std::io::{self, Write};
+
+/// A waiter that says whether it is closed.
+#[derive(Clone, Copy, Debug)]
+struct Waiter {
+    ticket: u64,
+    closed: bool,
+}
+
+impl Ticketed for Waiter {
+    ghost ticket_of = { λ waiter. waiter.ticket };
+
+    fn ticket(&self) -> u64 {
+        self.ticket
+    }
+}
+
+impl Closable for Waiter {
+    ghost may_answer = { λ waiter answer. answer ≡ waiter.closed };
+
+    fn is_closed(&self) -> bool {
+        self.closed
+    }
+}
+
+/// A core over these waiters.
+type TestCore = Core<u64, TestMessage, Waiter>;
+
+/// A call. A message has a content, and goes by the digest of a content.
+#[derive(Clone, Copy)]
+enum Call {
+    Peers(&'static [u64]),
+    Take(u64, u8, u8),
+    TakeOwn(u8, u8),
+    Subscribe(u64, u8),
+    SubscribeClosed(u64, u8),
+    Cleanup(&'static [u64]),
+    CleanupBy,
+}
+
+/// A call with what it is given.
+#[derive(Drop)]
+enum Ready {
+    Peers(Set<u64>),
+    Take(u64, Digested<TestMessage>),
+    TakeOwn(Digested<TestMessage>),
+    Subscribe(Waiter, u8),
+    Cleanup(&'static [u64]),
+    CleanupBy,
+}
+
+/// The calls of a core with lists of two digests: lists begin, grow, move, lose their oldest and are
+/// dropped, and waiters wait, are served and go.
+static CALLS: [Call; 30] = [
+    Call::Take(2, 5, 5),
+    Call::Subscribe(1, 5),
+    Call::Peers(&[2, 1, 2]),
+    Call::Subscribe(2, 5),
+    Call::SubscribeClosed(3, 6),
+    Call::Take(2, 5, 5),
+    Call::Take(2, 5, 5),
+    Call::Take(3, 5, 5),
+    Call::TakeOwn(5, 5),
+    Call::TakeOwn(4, 6),
+    Call::Subscribe(4, 5),
+    Call::Subscribe(5, 9),
+    Call::SubscribeClosed(6, 9),
+    Call::Subscribe(7, 8),
+    Call::CleanupBy,
+    Call::Cleanup(&[5, 99, 5]),
+    Call::Cleanup(&[5]),
+    Call::Take(2, 7, 7),
+    Call::Take(2, 8, 8),
+    Call::Take(2, 7, 7),
+    Call::Subscribe(8, 4),
+    Call::Peers(&[1, 3]),
+    Call::Take(2, 4, 4),
+    Call::Take(3, 6, 6),
+    Call::TakeOwn(3, 3),
+    Call::TakeOwn(2, 2),
+    Call::Peers(&[]),
+    Call::Take(3, 6, 6),
+    Call::Peers(&[0]),
+    Call::Take(0, 6, 6),
+];
+
+/// The calls of a core without places.
+static CALLS_WITHOUT_PLACES: [Call; 4] = [
+    Call::Peers(&[1, 2]),
+    Call::Subscribe(1, 5),
+    Call::Take(2, 5, 5),
+    Call::TakeOwn(5, 5),
+];
+
+fn calls() -> &'static [Call] {
+    &CALLS
+}
+
+fn calls_without_places() -> &'static [Call] {
+    &CALLS_WITHOUT_PLACES
+}
+
+/// Makes the calls, and writes what they return and leave.
+pub fn show<W: Write>(alloc: Global, out: &mut W) -> io::Result<()> {
+    writeln!(out, "core")?;
+    show_calls(alloc, out, 2, calls())?;
+    writeln!(out, "core without places")?;
+    show_calls(alloc, out, 0, calls_without_places())
+}
+
+fn show_calls<W: Write>(
+    alloc: Global,
+    out: &mut W,
+    deque_size: usize,
+    calls: &'static [Call],
+) -> io::Result<()> {
+    let Ok(ready) = prepared(alloc, calls) else {
+        return writeln!(out, "unprepared");
+    };
+    let mut core: TestCore = Core::new(alloc, 1, deque_size);
+    for call in ready {
+        make(out, &mut core, call)?;
+        write_core(alloc, out, &core)?;
+    }
+    Ok(())
+}
+
+fn prepared(alloc: Global, calls: &'static [Call]) -> Result<Vec<Ready>, AllocError> {
+    let mut ready = Vec::with_capacity(alloc, calls.len())?;
+    for call in calls {
+        ready.push(ready_of(alloc, *call)?)?;
+    }
+    Ok(ready)
+}
+
+fn ready_of(alloc: Global, call: Call) -> Result<Ready, AllocError> {
+    Ok(match call {
+        Call::Peers(keys) => Ready::Peers(set_of(alloc, keys)?),
+        Call::Take(key, content, digest) => Ready::Take(key, message(alloc, content, digest)?),
+        Call::TakeOwn(content, digest) => Ready::TakeOwn(message(alloc, content, digest)?),
+        Call::Subscribe(ticket, digest) => Ready::Subscribe(waiter_of(ticket, false), digest),
+        Call::SubscribeClosed(ticket, digest) => Ready::Subscribe(waiter_of(ticket, true), digest),
+        Call::Cleanup(gone) => Ready::Cleanup(gone),
+        Call::CleanupBy => Ready::CleanupBy,
+    })
+}
+
+fn waiter_of(ticket: u64, closed: bool) -> Waiter {
+    Waiter { ticket, closed }
+}
+
+/// Makes the call, and writes what it returns.
+fn make<W: Write>(out: &mut W, core: &mut TestCore, call: Ready) -> io::Result<()> {
+    match call {
+        Ready::Peers(set) => {
+            core.update_primary_peers(set);
+            writeln!(out, "peers")
+        }
+        Ready::Take(key, message) => write_taken(out, "take", core.take(&key, &message)),
+        Ready::TakeOwn(message) => write_taken(out, "take_own", core.take_own(&message)),
+        Ready::Subscribe(waiter, digest) => subscribe(out, core, waiter, digest),
+        Ready::Cleanup(gone) => writeln!(out, "cleanup removed {}", core.cleanup(gone)),
+        Ready::CleanupBy => writeln!(out, "cleanup_by removed {}", core.cleanup_by()),
+    }
+}
+
+fn write_taken<W: Write>(
+    out: &mut W,
+    call: &str,
+    taken: Result<Taken<Waiter>, AllocError>,
+) -> io::Result<()> {
+    write!(out, "{call} ")?;
+    let Ok(taken) = taken else {
+        return writeln!(out, "memory");
+    };
+    write_outcome(out, taken.outcome)?;
+    for waiter in taken.served.as_slice() {
+        write!(out, " {}", waiter.ticket)?;
+    }
+    writeln!(out)
+}
+
+/// Subscribes, and writes the answer, with the waiter that comes back.
+fn subscribe<W: Write>(
+    out: &mut W,
+    core: &mut TestCore,
+    waiter: Waiter,
+    digest: u8,
+) -> io::Result<()> {
+    match core.subscribe(digest_of(digest), waiter) {
+        Ok(Subscribed::Waiting) => writeln!(out, "subscribe waiting"),
+        Ok(Subscribed::Answered(back, message)) => {
+            write!(out, "subscribe answered {}", back.ticket)?;
+            write_content(out, &message)?;
+            writeln!(out)
+        }
+        Err((back, _)) => writeln!(out, "subscribe memory {}", back.ticket),
+    }
+}
