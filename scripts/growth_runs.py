@@ -1,6 +1,7 @@
 """Runs of a built program of which some growths of the heap are refused."""
 
 import os
+import signal
 import subprocess
 import tempfile
 from dataclasses import dataclass
@@ -9,6 +10,8 @@ from pathlib import Path
 HERE = Path(__file__).resolve().parent
 # Growths that are refused together, where a run refuses more than one and not all.
 WINDOW = 4
+# Seconds after which a run is killed.
+LIMIT = 60
 
 
 @dataclass(frozen=True)
@@ -43,6 +46,20 @@ class Ran:
     stderr: bytes
     status: int
     growths: int
+
+
+def wait(child):
+    """Waits for the child, and kills it at the limit. Returns how it ended."""
+
+    def kill(*_):
+        os.kill(child, signal.SIGKILL)
+
+    signal.signal(signal.SIGALRM, kill)
+    signal.alarm(LIMIT)
+    try:
+        return os.waitpid(child, 0)[1]
+    finally:
+        signal.alarm(0)
 
 
 class Harness:
@@ -83,8 +100,7 @@ class Harness:
             os.lseek(stream, 0, os.SEEK_SET)
             actions.append((os.POSIX_SPAWN_DUP2, stream, file))
         words = [os.fspath(executable), *args]
-        child = os.posix_spawn(executable, words, variables, file_actions=actions)
-        _, ended = os.waitpid(child, 0)
+        ended = wait(os.posix_spawn(executable, words, variables, file_actions=actions))
         stdout, stderr = (os.pread(it, os.fstat(it).st_size, 0) for it in self.streams)
         growths = int.from_bytes(self.count.read_bytes(), "little")
         return Ran(stdout, stderr, os.waitstatus_to_exitcode(ended), growths)

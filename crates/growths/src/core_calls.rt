@@ -1,8 +1,8 @@
 //! Calls of a core.
 ghost use Rattle.std.specs.Prelude.{◌≡◌};
 
-use crate::material::{digest_of, message, set_of};
-use crate::show::{write_content, write_core, write_outcome};
+use crate::material::{digest_of, message, prepare, set_of};
+use crate::show::{content_of, word_of, write_core};
 use broadcast_core::buffer::Core;
 use broadcast_core::digested::Digested;
 use broadcast_core::mocks::TestMessage;
@@ -44,8 +44,7 @@ enum Call {
     Peers(&'static [u64]),
     Take(u64, u8, u8),
     TakeOwn(u8, u8),
-    Subscribe(u64, u8),
-    SubscribeClosed(u64, u8),
+    Subscribe(u64, u8, bool),
     Cleanup(&'static [u64]),
     CleanupBy,
 }
@@ -65,26 +64,26 @@ enum Ready {
 /// dropped, and waiters wait, are served and go.
 static CALLS: [Call; 30] = [
     Call::Take(2, 5, 5),
-    Call::Subscribe(1, 5),
+    Call::Subscribe(1, 5, false),
     Call::Peers(&[2, 1, 2]),
-    Call::Subscribe(2, 5),
-    Call::SubscribeClosed(3, 6),
+    Call::Subscribe(2, 5, false),
+    Call::Subscribe(3, 6, true),
     Call::Take(2, 5, 5),
     Call::Take(2, 5, 5),
     Call::Take(3, 5, 5),
     Call::TakeOwn(5, 5),
     Call::TakeOwn(4, 6),
-    Call::Subscribe(4, 5),
-    Call::Subscribe(5, 9),
-    Call::SubscribeClosed(6, 9),
-    Call::Subscribe(7, 8),
+    Call::Subscribe(4, 5, false),
+    Call::Subscribe(5, 9, false),
+    Call::Subscribe(6, 9, true),
+    Call::Subscribe(7, 8, false),
     Call::CleanupBy,
     Call::Cleanup(&[5, 99, 5]),
     Call::Cleanup(&[5]),
     Call::Take(2, 7, 7),
     Call::Take(2, 8, 8),
     Call::Take(2, 7, 7),
-    Call::Subscribe(8, 4),
+    Call::Subscribe(8, 4, false),
     Call::Peers(&[1, 3]),
     Call::Take(2, 4, 4),
     Call::Take(3, 6, 6),
@@ -99,7 +98,7 @@ static CALLS: [Call; 30] = [
 /// The calls of a core without places.
 static CALLS_WITHOUT_PLACES: [Call; 4] = [
     Call::Peers(&[1, 2]),
-    Call::Subscribe(1, 5),
+    Call::Subscribe(1, 5, false),
     Call::Take(2, 5, 5),
     Call::TakeOwn(5, 5),
 ];
@@ -126,10 +125,18 @@ fn show_calls<W: Write>(
     deque_size: usize,
     calls: &'static [Call],
 ) -> io::Result<()> {
-    let Ok(ready) = prepared(alloc, calls) else {
-        return writeln!(out, "unprepared");
-    };
-    let mut core: TestCore = Core::new(alloc, 1, deque_size);
+    match prepare(alloc, calls, |call: Call| ready_of(alloc, call)) {
+        Ok(ready) => make_calls(alloc, out, Core::new(alloc, 1, deque_size), ready),
+        Err(_) => writeln!(out, "unprepared"),
+    }
+}
+
+fn make_calls<W: Write>(
+    alloc: Global,
+    out: &mut W,
+    mut core: TestCore,
+    ready: Vec<Ready>,
+) -> io::Result<()> {
     for call in ready {
         make(out, &mut core, call)?;
         write_core(alloc, out, &core)?;
@@ -137,28 +144,21 @@ fn show_calls<W: Write>(
     Ok(())
 }
 
-fn prepared(alloc: Global, calls: &'static [Call]) -> Result<Vec<Ready>, AllocError> {
-    let mut ready = Vec::with_capacity(alloc, calls.len())?;
-    for call in calls {
-        ready.push(ready_of(alloc, *call)?)?;
-    }
-    Ok(ready)
-}
-
 fn ready_of(alloc: Global, call: Call) -> Result<Ready, AllocError> {
-    Ok(match call {
-        Call::Peers(keys) => Ready::Peers(set_of(alloc, keys)?),
-        Call::Take(key, content, digest) => Ready::Take(key, message(alloc, content, digest)?),
-        Call::TakeOwn(content, digest) => Ready::TakeOwn(message(alloc, content, digest)?),
-        Call::Subscribe(ticket, digest) => Ready::Subscribe(waiter_of(ticket, false), digest),
-        Call::SubscribeClosed(ticket, digest) => Ready::Subscribe(waiter_of(ticket, true), digest),
-        Call::Cleanup(gone) => Ready::Cleanup(gone),
-        Call::CleanupBy => Ready::CleanupBy,
-    })
+    match call {
+        Call::Peers(keys) => Ok(Ready::Peers(set_of(alloc, keys)?)),
+        Call::Take(key, content, digest) => take_of(alloc, key, content, digest),
+        Call::TakeOwn(content, digest) => Ok(Ready::TakeOwn(message(alloc, content, digest)?)),
+        Call::Subscribe(ticket, digest, closed) => {
+            Ok(Ready::Subscribe(Waiter { ticket, closed }, digest))
+        }
+        Call::Cleanup(gone) => Ok(Ready::Cleanup(gone)),
+        Call::CleanupBy => Ok(Ready::CleanupBy),
+    }
 }
 
-fn waiter_of(ticket: u64, closed: bool) -> Waiter {
-    Waiter { ticket, closed }
+fn take_of(alloc: Global, key: u64, content: u8, digest: u8) -> Result<Ready, AllocError> {
+    Ok(Ready::Take(key, message(alloc, content, digest)?))
 }
 
 /// Makes the call, and writes what it returns.
@@ -181,12 +181,17 @@ fn write_taken<W: Write>(
     call: &str,
     taken: Result<Taken<Waiter>, AllocError>,
 ) -> io::Result<()> {
-    write!(out, "{call} ")?;
-    let Ok(taken) = taken else {
-        return writeln!(out, "memory");
-    };
-    write_outcome(out, taken.outcome)?;
-    for waiter in taken.served.as_slice() {
+    match taken {
+        Ok(taken) => {
+            write!(out, "{call} {}", word_of(taken.outcome))?;
+            write_served(out, taken.served.as_slice())
+        }
+        Err(_) => writeln!(out, "{call} memory"),
+    }
+}
+
+fn write_served<W: Write>(out: &mut W, served: &[Waiter]) -> io::Result<()> {
+    for waiter in served {
         write!(out, " {}", waiter.ticket)?;
     }
     writeln!(out)
@@ -202,9 +207,12 @@ fn subscribe<W: Write>(
     match core.subscribe(digest_of(digest), waiter) {
         Ok(Subscribed::Waiting) => writeln!(out, "subscribe waiting"),
         Ok(Subscribed::Answered(back, message)) => {
-            write!(out, "subscribe answered {}", back.ticket)?;
-            write_content(out, &message)?;
-            writeln!(out)
+            writeln!(
+                out,
+                "subscribe answered {} {}",
+                back.ticket,
+                content_of(&message)
+            )
         }
         Err((back, _)) => writeln!(out, "subscribe memory {}", back.ticket),
     }

@@ -1,8 +1,8 @@
 //! Calls of an inbox.
-use crate::requests::{Ask, Plain, request_of, write_counts, write_request};
-use commonware_broadcast::broadcaster::MailboxError;
-use commonware_broadcast::ingress::inbox::Inbox;
-use commonware_broadcast::ingress::queued::Queued;
+use crate::material::prepare;
+use crate::requests::{Ask, Plain, request_of, write_counts, write_request, write_taken};
+use commonware_broadcast::MailboxError;
+use commonware_broadcast::buffered::{Inbox, Queued};
 use std::alloc::{AllocError, Global};
 use std::io::{self, Write};
 use std::num::NonZeroUsize;
@@ -28,17 +28,17 @@ enum Ready {
 /// The calls of an inbox whose ready list has one place.
 static CALLS: [Call; 26] = [
     Call::Take,
-    Call::Enqueue(Ask::SubscribeClosed(1)),
-    Call::Enqueue(Ask::GetClosed(2)),
-    Call::Enqueue(Ask::Get(3)),
+    Call::Enqueue(Ask::Subscribe(1, true)),
+    Call::Enqueue(Ask::Get(2, true)),
+    Call::Enqueue(Ask::Get(3, false)),
     Call::Enqueue(Ask::Broadcast(4)),
     Call::Take,
-    Call::Enqueue(Ask::Subscribe(5)),
-    Call::Enqueue(Ask::Get(6)),
-    Call::Enqueue(Ask::SubscribeClosed(7)),
+    Call::Enqueue(Ask::Subscribe(5, false)),
+    Call::Enqueue(Ask::Get(6, false)),
+    Call::Enqueue(Ask::Subscribe(7, true)),
     Call::RequestStop,
     Call::Enqueue(Ask::Broadcast(8)),
-    Call::Enqueue(Ask::Get(9)),
+    Call::Enqueue(Ask::Get(9, false)),
     Call::Take,
     Call::Take,
     Call::Enqueue(Ask::Broadcast(1)),
@@ -48,10 +48,10 @@ static CALLS: [Call; 26] = [
     Call::Take,
     Call::Take,
     Call::Enqueue(Ask::Broadcast(2)),
-    Call::Enqueue(Ask::Get(3)),
+    Call::Enqueue(Ask::Get(3, false)),
     Call::Close,
     Call::Enqueue(Ask::Broadcast(4)),
-    Call::Enqueue(Ask::GetClosed(5)),
+    Call::Enqueue(Ask::Get(5, true)),
     Call::Take,
 ];
 
@@ -62,10 +62,13 @@ fn calls() -> &'static [Call] {
 /// Makes the calls, and writes what they return, and where the requests went.
 pub fn show<W: Write>(alloc: Global, out: &mut W) -> io::Result<()> {
     writeln!(out, "inbox")?;
-    let Ok(ready) = prepared(alloc, calls()) else {
-        return writeln!(out, "unprepared");
-    };
-    let mut inbox: Inbox<Plain> = Inbox::new(alloc, NonZeroUsize::MIN);
+    match prepare(alloc, calls(), |call: Call| ready_of(alloc, call)) {
+        Ok(ready) => make_calls(out, Inbox::new(alloc, NonZeroUsize::MIN), ready),
+        Err(_) => writeln!(out, "unprepared"),
+    }
+}
+
+fn make_calls<W: Write>(out: &mut W, mut inbox: Inbox<Plain>, ready: Vec<Ready>) -> io::Result<()> {
     for call in ready {
         make(out, &mut inbox, call)?;
         write_counts(out, inbox.counts())?;
@@ -73,28 +76,20 @@ pub fn show<W: Write>(alloc: Global, out: &mut W) -> io::Result<()> {
     Ok(())
 }
 
-fn prepared(alloc: Global, calls: &'static [Call]) -> Result<Vec<Ready>, AllocError> {
-    let mut ready = Vec::with_capacity(alloc, calls.len())?;
-    for call in calls {
-        ready.push(ready_of(alloc, *call)?)?;
-    }
-    Ok(ready)
-}
-
 fn ready_of(alloc: Global, call: Call) -> Result<Ready, AllocError> {
-    Ok(match call {
-        Call::Enqueue(ask) => Ready::Enqueue(request_of(alloc, ask)?),
-        Call::Take => Ready::Take,
-        Call::RequestStop => Ready::RequestStop,
-        Call::Close => Ready::Close,
-    })
+    match call {
+        Call::Enqueue(ask) => Ok(Ready::Enqueue(request_of(alloc, ask)?)),
+        Call::Take => Ok(Ready::Take),
+        Call::RequestStop => Ok(Ready::RequestStop),
+        Call::Close => Ok(Ready::Close),
+    }
 }
 
 /// Makes the call, and writes what it returns.
 fn make<W: Write>(out: &mut W, inbox: &mut Inbox<Plain>, call: Ready) -> io::Result<()> {
     match call {
         Ready::Enqueue(request) => enqueue(out, inbox, request),
-        Ready::Take => take(out, inbox),
+        Ready::Take => write_taken(out, inbox.take()),
         Ready::RequestStop => {
             inbox.request_stop();
             writeln!(out, "request_stop {}", inbox.stop_requested())
@@ -114,13 +109,4 @@ fn enqueue<W: Write>(out: &mut W, inbox: &mut Inbox<Plain>, request: Plain) -> i
         Err(MailboxError::Memory) => writeln!(out, " memory"),
         Err(MailboxError::Exhausted) => writeln!(out, " exhausted"),
     }
-}
-
-fn take<W: Write>(out: &mut W, inbox: &mut Inbox<Plain>) -> io::Result<()> {
-    let Some((ticket, request)) = inbox.take() else {
-        return writeln!(out, "take none");
-    };
-    write!(out, "take {ticket}")?;
-    write_request(out, &request)?;
-    writeln!(out)
 }

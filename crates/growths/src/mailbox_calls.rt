@@ -1,18 +1,15 @@
 //! Calls of a mailbox.
-use crate::material::{digest_of, message};
-use crate::requests::{write_counts, write_request};
+use crate::material::{digest_of, message, prepare};
+use crate::requests::{write_counts, write_taken};
 use broadcast_core::digested::Digested;
 use broadcast_core::mocks::TestMessage;
 use broadcast_core::ordered::Recipients;
-use commonware_broadcast::broadcaster::{Broadcaster, Feedback, MailboxError};
-use commonware_broadcast::ingress::get::Get;
-use commonware_broadcast::ingress::inbox::Inbox;
-use commonware_broadcast::ingress::mailbox::{Mailbox, SharedInbox};
-use commonware_broadcast::ingress::subscription::Subscription;
+use commonware_broadcast::buffered::{Get, Ingress, Mailbox, Subscription, channel};
+use commonware_broadcast::{Broadcaster, Feedback, MailboxError};
 use std::alloc::{AllocError, Global};
 use std::io::{self, Write};
 use std::num::NonZeroUsize;
-use std::sync::{Arc, Mutex, Wait};
+use std::sync::Wait;
 
 /// A call. A content is a byte.
 #[derive(Clone, Copy)]
@@ -25,7 +22,18 @@ enum Call {
     Close,
 }
 
-/// The calls of a mailbox whose inbox has one place.
+/// A call with what it is given.
+#[derive(Drop)]
+enum Ready {
+    Broadcast(Digested<TestMessage>),
+    Subscribe(u8),
+    Get(u8),
+    Clone,
+    Take,
+    Close,
+}
+
+/// The calls of a mailbox whose ready list has one place.
 static CALLS: [Call; 18] = [
     Call::Subscribe(1),
     Call::Get(2),
@@ -54,12 +62,12 @@ fn calls() -> &'static [Call] {
 /// A mailbox of test messages.
 type TestMailbox<R> = Mailbox<u64, TestMessage, R>;
 
-/// A mailbox, its inbox, the messages that it broadcasts, the last first, and room for the futures.
+/// The end of a mailbox from which its requests are taken.
+type TestIngress<R> = Ingress<u64, TestMessage, R>;
+
+/// The futures of a mailbox, which keep their requests open, with places for all of them.
 #[derive(Drop)]
-struct Setting<R> {
-    mailbox: TestMailbox<R>,
-    inbox: SharedInbox<u64, TestMessage>,
-    messages: Vec<Digested<TestMessage>>,
+struct Held {
     subscriptions: Vec<Subscription<TestMessage>>,
     gets: Vec<Get<TestMessage>>,
 }
@@ -71,110 +79,123 @@ pub fn show<R: Wait + Clone + Send + Drop + 'static, W: Write>(
     out: &mut W,
 ) -> io::Result<()> {
     writeln!(out, "mailbox")?;
-    let Ok(mut setting) = prepared(rt, alloc) else {
+    let Ok(ready) = prepare(alloc, calls(), |call: Call| ready_of(alloc, call)) else {
         return writeln!(out, "unprepared");
     };
-    for call in calls() {
-        make(rt, out, &mut setting, *call)?;
-        write_counts(out, setting.inbox.lock(rt).counts())?;
+    let Ok(mut held) = places(alloc) else {
+        return writeln!(out, "unprepared");
+    };
+    match ends(rt, alloc) {
+        Ok((mailbox, ingress)) => make_calls(out, &mailbox, &ingress, &mut held, ready),
+        Err(_) => writeln!(out, "unprepared"),
+    }
+}
+
+fn ready_of(alloc: Global, call: Call) -> Result<Ready, AllocError> {
+    match call {
+        Call::Broadcast(content) => Ok(Ready::Broadcast(message(alloc, content, content)?)),
+        Call::Subscribe(content) => Ok(Ready::Subscribe(content)),
+        Call::Get(content) => Ok(Ready::Get(content)),
+        Call::Clone => Ok(Ready::Clone),
+        Call::Take => Ok(Ready::Take),
+        Call::Close => Ok(Ready::Close),
+    }
+}
+
+fn ends<R: Wait + Clone + Drop>(
+    rt: &R,
+    alloc: Global,
+) -> Result<(TestMailbox<R>, TestIngress<R>), AllocError> {
+    channel(rt.clone()?, alloc, NonZeroUsize::MIN)
+}
+
+fn places(alloc: Global) -> Result<Held, AllocError> {
+    let subscriptions = Vec::with_capacity(alloc, calls().len())?;
+    let gets = Vec::with_capacity(alloc, calls().len())?;
+    Ok(Held {
+        subscriptions,
+        gets,
+    })
+}
+
+fn make_calls<R: Wait + Clone + Send + Drop + 'static, W: Write>(
+    out: &mut W,
+    mailbox: &TestMailbox<R>,
+    ingress: &TestIngress<R>,
+    held: &mut Held,
+    ready: Vec<Ready>,
+) -> io::Result<()> {
+    for call in ready {
+        make(out, mailbox, ingress, held, call)?;
+        write_counts(out, ingress.counts())?;
     }
     Ok(())
 }
 
-fn prepared<R: Wait + Clone>(rt: &R, alloc: Global) -> Result<Setting<R>, AllocError> {
-    let inbox = Arc::new(alloc, Mutex::new(Inbox::new(alloc, NonZeroUsize::MIN)))?;
-    let mailbox = Mailbox::new(rt.clone()?, alloc, Arc::try_clone(&inbox)?);
-    let mut messages = Vec::with_capacity(alloc, calls().len())?;
-    for call in calls().iter().rev() {
-        if let Call::Broadcast(content) = *call {
-            messages.push(message(alloc, content, content)?)?;
-        }
-    }
-    Ok(Setting {
-        mailbox,
-        inbox,
-        messages,
-        subscriptions: Vec::with_capacity(alloc, calls().len())?,
-        gets: Vec::with_capacity(alloc, calls().len())?,
-    })
-}
-
 /// Makes the call, and writes what it returns.
 fn make<R: Wait + Clone + Send + Drop + 'static, W: Write>(
-    rt: &R,
     out: &mut W,
-    setting: &mut Setting<R>,
-    call: Call,
+    mailbox: &TestMailbox<R>,
+    ingress: &TestIngress<R>,
+    held: &mut Held,
+    call: Ready,
 ) -> io::Result<()> {
     match call {
-        Call::Broadcast(_) => broadcast(out, setting),
-        Call::Subscribe(content) => subscribe(out, setting, content),
-        Call::Get(content) => get(out, setting, content),
-        Call::Clone => match setting.mailbox.clone() {
-            Ok(_) => writeln!(out, "clone"),
-            Err(_) => writeln!(out, "clone memory"),
-        },
-        Call::Take => take(rt, out, &setting.inbox),
-        Call::Close => writeln!(out, "close {}", setting.inbox.lock(rt).close()),
+        Ready::Broadcast(message) => {
+            let feedback = mailbox.broadcast(Recipients::All, message);
+            writeln!(out, "broadcast {}", word_of(feedback))
+        }
+        Ready::Subscribe(content) => {
+            let queued = subscribe(mailbox, held, content);
+            writeln!(out, "subscribe {}", word_of(queued))
+        }
+        Ready::Get(content) => {
+            let queued = get(mailbox, held, content);
+            writeln!(out, "get {}", word_of(queued))
+        }
+        Ready::Clone => write_clone(out, mailbox.clone()),
+        Ready::Take => write_taken(out, ingress.take()),
+        Ready::Close => writeln!(out, "close {}", ingress.close()),
     }
 }
 
-fn broadcast<R: Wait + Clone + Send + Drop + 'static, W: Write>(
-    out: &mut W,
-    setting: &mut Setting<R>,
-) -> io::Result<()> {
-    let Some(message) = setting.messages.pop() else {
-        return Ok(());
-    };
-    match setting.mailbox.broadcast(Recipients::All, message) {
-        Ok(Feedback::Ok) => writeln!(out, "broadcast ok"),
-        Ok(Feedback::Backoff) => writeln!(out, "broadcast backoff"),
-        Ok(Feedback::Closed) => writeln!(out, "broadcast closed"),
-        Err(error) => write_error(out, "broadcast", error),
-    }
-}
-
-fn subscribe<R: Wait, W: Write>(
-    out: &mut W,
-    setting: &mut Setting<R>,
+fn subscribe<R: Wait>(
+    mailbox: &TestMailbox<R>,
+    held: &mut Held,
     content: u8,
-) -> io::Result<()> {
-    match setting.mailbox.subscribe(digest_of(content)) {
-        Ok(subscription) => {
-            let _pushed = setting.subscriptions.push(subscription);
-            writeln!(out, "subscribe ok")
-        }
-        Err(error) => write_error(out, "subscribe", error),
+) -> Result<Feedback, MailboxError> {
+    let subscription = mailbox.subscribe(digest_of(content))?;
+    let _pushed = held.subscriptions.push(subscription);
+    Ok(Feedback::Ok)
+}
+
+fn get<R: Wait>(
+    mailbox: &TestMailbox<R>,
+    held: &mut Held,
+    content: u8,
+) -> Result<Feedback, MailboxError> {
+    let get = mailbox.get(digest_of(content))?;
+    let _pushed = held.gets.push(get);
+    Ok(Feedback::Ok)
+}
+
+/// Returns the word for what a call returned.
+fn word_of(returned: Result<Feedback, MailboxError>) -> &'static str {
+    match returned {
+        Ok(Feedback::Ok) => "ok",
+        Ok(Feedback::Backoff) => "backoff",
+        Ok(Feedback::Closed) => "closed",
+        Err(MailboxError::Memory) => "memory",
+        Err(MailboxError::Exhausted) => "exhausted",
     }
 }
 
-fn get<R: Wait, W: Write>(out: &mut W, setting: &mut Setting<R>, content: u8) -> io::Result<()> {
-    match setting.mailbox.get(digest_of(content)) {
-        Ok(get) => {
-            let _pushed = setting.gets.push(get);
-            writeln!(out, "get ok")
-        }
-        Err(error) => write_error(out, "get", error),
-    }
-}
-
-fn write_error<W: Write>(out: &mut W, call: &str, error: MailboxError) -> io::Result<()> {
-    match error {
-        MailboxError::Memory => writeln!(out, "{call} memory"),
-        MailboxError::Exhausted => writeln!(out, "{call} exhausted"),
-    }
-}
-
-/// Takes a request, and writes what it asks.
-fn take<R: Wait, W: Write>(
-    rt: &R,
+fn write_clone<R: Drop, W: Write>(
     out: &mut W,
-    inbox: &SharedInbox<u64, TestMessage>,
+    copy: Result<TestMailbox<R>, AllocError>,
 ) -> io::Result<()> {
-    let Some((ticket, request)) = inbox.lock(rt).take() else {
-        return writeln!(out, "take none");
-    };
-    write!(out, "take {ticket}")?;
-    write_request(out, &request)?;
-    writeln!(out)
+    match copy {
+        Ok(_) => writeln!(out, "clone"),
+        Err(_) => writeln!(out, "clone memory"),
+    }
 }

@@ -1,4 +1,6 @@
 //! What the calls are given.
+ghost use Rattle.std.specs.Prelude.{◌≡◌};
+
 use broadcast_core::digested::Digested;
 use broadcast_core::mocks::TestMessage;
 use broadcast_core::ordered::Set;
@@ -11,7 +13,11 @@ pub fn digest_of(content: u8) -> [u8; 32] {
 }
 
 /// Creates a message with this byte as its content, under the digest of another byte.
-pub fn message(alloc: Global, content: u8, digest: u8) -> Result<Digested<TestMessage>, AllocError> {
+pub fn message(
+    alloc: Global,
+    content: u8,
+    digest: u8,
+) -> Result<Digested<TestMessage>, AllocError> {
     let content = Vec::from_slice(alloc, &[content])?;
     let message = TestMessage::new(Vec::new(alloc), content);
     Digested::precomputed(alloc, message, digest_of(digest))
@@ -20,4 +26,19 @@ pub fn message(alloc: Global, content: u8, digest: u8) -> Result<Digested<TestMe
 /// Creates a set of the keys.
 pub fn set_of(alloc: Global, keys: &[u64]) -> Result<Set<u64>, AllocError> {
     Set::from_iter_dedup(Vec::from_slice(alloc, keys)?)
+}
+
+/// Makes what each call of a list is given.
+pub fn prepare<C: Copy, T: Drop, F: FnMut(C) -> Result<T, AllocError>>(
+    alloc: Global,
+    calls: &[C],
+    mut make: F,
+) -> Result<Vec<T>, AllocError>
+    requires { F.IsAlwaysCallable make }
+{
+    let mut made = Vec::with_capacity(alloc, calls.len())?;
+    for call in calls {
+        made.push(make(*call)?)?;
+    }
+    Ok(made)
 }

@@ -1,24 +1,24 @@
 //! Calls of an overflow.
+use crate::material::prepare;
 use crate::requests::{Ask, Plain, request_of, write_request};
-use commonware_broadcast::ingress::overflow::{Overflow, Policy};
-use commonware_broadcast::ingress::pending::Pending;
-use std::alloc::{AllocError, Global};
+use commonware_broadcast::buffered::{Overflow, Pending, Policy};
+use std::alloc::Global;
 use std::io::{self, Write};
 
 /// The requests that find no room, in order.
 static ASKS: [Ask; 12] = [
-    Ask::SubscribeClosed(1),
-    Ask::Get(2),
-    Ask::GetClosed(3),
+    Ask::Subscribe(1, true),
+    Ask::Get(2, false),
+    Ask::Get(3, true),
     Ask::Broadcast(4),
-    Ask::Subscribe(5),
-    Ask::GetClosed(6),
-    Ask::Get(7),
+    Ask::Subscribe(5, false),
+    Ask::Get(6, true),
+    Ask::Get(7, false),
     Ask::Broadcast(8),
-    Ask::Subscribe(9),
-    Ask::SubscribeClosed(1),
-    Ask::Get(2),
-    Ask::Subscribe(3),
+    Ask::Subscribe(9, false),
+    Ask::Subscribe(1, true),
+    Ask::Get(2, false),
+    Ask::Subscribe(3, false),
 ];
 
 fn asks() -> &'static [Ask] {
@@ -29,29 +29,35 @@ fn asks() -> &'static [Ask] {
 /// what comes.
 pub fn show<W: Write>(alloc: Global, out: &mut W) -> io::Result<()> {
     writeln!(out, "overflow")?;
-    let (Ok(requests), Ok(mut offered)) = (
-        prepared(alloc, asks()),
-        Vec::with_capacity(alloc, asks().len()),
-    ) else {
+    let Ok(mut drained) = Vec::with_capacity(alloc, asks().len()) else {
         return writeln!(out, "unprepared");
     };
+    match prepare(alloc, asks(), |ask: Ask| request_of(alloc, ask)) {
+        Ok(requests) => fill_and_drain(alloc, out, requests, &mut drained),
+        Err(_) => writeln!(out, "unprepared"),
+    }
+}
+
+fn fill_and_drain<W: Write>(
+    alloc: Global,
+    out: &mut W,
+    requests: Vec<Plain>,
+    drained: &mut Vec<Plain>,
+) -> io::Result<()> {
     let mut pending: Pending<Plain> = Pending::default(alloc);
     for request in requests {
         handle(out, &mut pending, request)?;
     }
-    pending.drain(|request: Plain| {
-        let _pushed = offered.push(request);
-        None
-    });
-    write_drained(out, &offered, pending.is_empty())
+    drain(&mut pending, drained);
+    write_drained(out, drained, pending.is_empty())
 }
 
-fn prepared(alloc: Global, asks: &'static [Ask]) -> Result<Vec<Plain>, AllocError> {
-    let mut requests = Vec::with_capacity(alloc, asks.len())?;
-    for ask in asks {
-        requests.push(request_of(alloc, *ask)?)?;
-    }
-    Ok(requests)
+/// Moves the requests out of the overflow.
+fn drain(pending: &mut Pending<Plain>, drained: &mut Vec<Plain>) {
+    pending.drain(|request: Plain| {
+        let _pushed = drained.push(request);
+        None
+    });
 }
 
 /// Puts the request into the overflow, and writes what that returns.

@@ -2,9 +2,7 @@
 use crate::material::{digest_of, message};
 use broadcast_core::mocks::TestMessage;
 use broadcast_core::ordered::Recipients;
-use commonware_broadcast::ingress::message::Message;
-use commonware_broadcast::ingress::queued::Counts;
-use commonware_broadcast::ingress::responder::Fixed;
+use commonware_broadcast::buffered::{Counts, Fixed, Message};
 use std::alloc::{AllocError, Global};
 use std::io::{self, Write};
 
@@ -14,41 +12,45 @@ const CONTENTS: u8 = 10;
 /// A request whose responder says whether it is closed.
 pub type Plain = Message<u64, TestMessage, Fixed, Fixed>;
 
-/// What a request asks. A content is a byte.
+/// What a request asks. A content is a byte, and a responder may be closed.
 #[derive(Clone, Copy)]
 pub enum Ask {
     Broadcast(u8),
-    Subscribe(u8),
-    SubscribeClosed(u8),
-    Get(u8),
-    GetClosed(u8),
+    Subscribe(u8, bool),
+    Get(u8, bool),
 }
 
 /// Creates the request.
 pub fn request_of(alloc: Global, ask: Ask) -> Result<Plain, AllocError> {
-    Ok(match ask {
-        Ask::Broadcast(content) => Message::Broadcast {
-            recipients: Recipients::All,
-            message: message(alloc, content, content)?,
-        },
-        Ask::Subscribe(content) => subscribe(content, false),
-        Ask::SubscribeClosed(content) => subscribe(content, true),
-        Ask::Get(content) => get(content, false),
-        Ask::GetClosed(content) => get(content, true),
-    })
-}
-
-fn subscribe(content: u8, closed: bool) -> Plain {
-    Message::Subscribe {
-        digest: digest_of(content),
-        responder: Fixed { closed },
+    match ask {
+        Ask::Broadcast(content) => broadcast(alloc, content),
+        Ask::Subscribe(content, closed) => {
+            Ok(Message::subscribe(digest_of(content), Fixed { closed }))
+        }
+        Ask::Get(content, closed) => Ok(Message::get(digest_of(content), Fixed { closed })),
     }
 }
 
-fn get(content: u8, closed: bool) -> Plain {
-    Message::Get {
-        digest: digest_of(content),
-        responder: Fixed { closed },
+fn broadcast(alloc: Global, content: u8) -> Result<Plain, AllocError> {
+    let message = message(alloc, content, content)?;
+    Ok(Message::Broadcast {
+        recipients: Recipients::All,
+        message,
+    })
+}
+
+/// Writes a request that was taken with its ticket.
+pub fn write_taken<W: Write, S: Drop, G: Drop>(
+    out: &mut W,
+    taken: Option<(u64, Message<u64, TestMessage, S, G>)>,
+) -> io::Result<()> {
+    match taken {
+        Some((ticket, request)) => {
+            write!(out, "take {ticket}")?;
+            write_request(out, &request)?;
+            writeln!(out)
+        }
+        None => writeln!(out, "take none"),
     }
 }
 
@@ -57,30 +59,22 @@ pub fn write_request<W: Write, S, G>(
     out: &mut W,
     request: &Message<u64, TestMessage, S, G>,
 ) -> io::Result<()> {
-    match request {
-        Message::Broadcast { message, .. } => {
-            write!(out, " broadcast")?;
-            write_digest(out, &message.digest())
-        }
-        Message::Subscribe { digest, .. } => {
-            write!(out, " subscribe")?;
-            write_digest(out, digest)
-        }
-        Message::Get { digest, .. } => {
-            write!(out, " get")?;
-            write_digest(out, digest)
-        }
-    }
+    let (word, digest) = match request {
+        Message::Broadcast { message, .. } => ("broadcast", message.digest()),
+        Message::Subscribe { digest, .. } => ("subscribe", *digest),
+        Message::Get { digest, .. } => ("get", *digest),
+    };
+    write!(out, " {word} {}", content_with(&digest))
 }
 
-/// Writes the content whose digest this is.
-fn write_digest<W: Write>(out: &mut W, digest: &[u8; 32]) -> io::Result<()> {
+/// Returns the content whose digest this is.
+fn content_with(digest: &[u8; 32]) -> u8 {
     for content in 0..CONTENTS {
         if digest_of(content) == *digest {
-            write!(out, " {content}")?;
+            return content;
         }
     }
-    Ok(())
+    CONTENTS
 }
 
 /// Writes where the requests of an inbox went.
@@ -92,6 +86,9 @@ pub fn write_counts<W: Write>(out: &mut W, counts: Counts) -> io::Result<()> {
         waiting,
         given_up,
     } = counts;
-    write!(out, "  accepted {accepted} taken {taken} skipped {skipped} ")?;
+    write!(
+        out,
+        "  accepted {accepted} taken {taken} skipped {skipped} "
+    )?;
     writeln!(out, "waiting {waiting} given_up {given_up}")
 }

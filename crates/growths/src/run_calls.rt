@@ -1,8 +1,8 @@
 //! Runs of lists of events.
-use crate::material::{digest_of, message, set_of};
-use crate::show::{write_content, write_core, write_outcome};
+use crate::material::{digest_of, message, prepare, set_of};
+use crate::show::{content_of, word_of, write_core};
 use broadcast_core::codec::{CodecError, RangeCfg};
-use broadcast_core::event::{Answer, Cause, Event};
+use broadcast_core::event::{Answer, Cause, Event, Run, Sent};
 use broadcast_core::items::Items;
 use broadcast_core::mocks::TestMessage;
 use broadcast_core::ordered::Recipients;
@@ -61,48 +61,68 @@ fn steps() -> &'static [Step] {
 /// Runs the events, and writes what the run returns and leaves.
 pub fn show<W: Write>(alloc: Global, out: &mut W) -> io::Result<()> {
     writeln!(out, "run")?;
-    let Ok(events) = prepared(alloc, steps()) else {
-        return writeln!(out, "unprepared");
-    };
-    let range = RangeCfg::new(0, 3);
-    let Ok(run) = run(alloc, 1, 2, false, &range, events) else {
-        return writeln!(out, "run memory");
-    };
-    for answer in run.answers.as_slice() {
-        write_answer(out, answer)?;
+    match prepare(alloc, steps(), |step: Step| event_of(alloc, step)) {
+        Ok(events) => run_events(alloc, out, events),
+        Err(_) => writeln!(out, "unprepared"),
     }
-    write_core(alloc, out, &run.core)?;
-    for sent in run.sent.as_slice() {
-        write!(out, "sent")?;
-        write_bytes(out, sent.bytes.as_slice())?;
-    }
-    Ok(())
 }
 
-fn prepared(
+fn run_events<W: Write>(
     alloc: Global,
-    steps: &'static [Step],
-) -> Result<Vec<Event<u64, TestMessage>>, AllocError> {
-    let mut events = Vec::with_capacity(alloc, steps.len())?;
-    for step in steps {
-        events.push(event_of(alloc, *step)?)?;
+    out: &mut W,
+    events: Vec<Event<u64, TestMessage>>,
+) -> io::Result<()> {
+    match run(alloc, 1, 2, false, &RangeCfg::new(0, 3), events) {
+        Ok(run) => write_run(alloc, out, &run),
+        Err(_) => writeln!(out, "run memory"),
     }
-    Ok(events)
+}
+
+fn write_run<W: Write>(alloc: Global, out: &mut W, run: &Run<u64, TestMessage>) -> io::Result<()> {
+    write_answers(out, run.answers.as_slice())?;
+    write_core(alloc, out, &run.core)?;
+    write_sends(out, run.sent.as_slice())
 }
 
 fn event_of(alloc: Global, step: Step) -> Result<Event<u64, TestMessage>, AllocError> {
-    Ok(match step {
-        Step::Peers(keys) => Event::Peers(set_of(alloc, keys)?),
-        Step::Broadcast(content, digest) => {
-            Event::Broadcast(Recipients::All, message(alloc, content, digest)?)
-        }
-        Step::Payload(key, bytes) => {
-            Event::Payload(key, Items::from_vec(Vec::from_slice(alloc, bytes)?))
-        }
-        Step::Subscribe(ticket, digest) => Event::Subscribe(ticket, digest_of(digest)),
-        Step::Get(digest) => Event::Get(0, digest_of(digest)),
-        Step::Cleanup(gone) => Event::Cleanup(Items::from_vec(Vec::from_slice(alloc, gone)?)),
-    })
+    match step {
+        Step::Peers(keys) => Ok(Event::Peers(set_of(alloc, keys)?)),
+        Step::Broadcast(content, digest) => broadcast_of(alloc, content, digest),
+        Step::Payload(key, bytes) => payload_of(alloc, key, bytes),
+        Step::Subscribe(ticket, digest) => Ok(Event::Subscribe(ticket, digest_of(digest))),
+        Step::Get(digest) => Ok(Event::Get(0, digest_of(digest))),
+        Step::Cleanup(gone) => cleanup_of(alloc, gone),
+    }
+}
+
+fn broadcast_of(
+    alloc: Global,
+    content: u8,
+    digest: u8,
+) -> Result<Event<u64, TestMessage>, AllocError> {
+    let message = message(alloc, content, digest)?;
+    Ok(Event::Broadcast(Recipients::All, message))
+}
+
+fn payload_of(
+    alloc: Global,
+    key: u64,
+    bytes: &[u8],
+) -> Result<Event<u64, TestMessage>, AllocError> {
+    let bytes = Vec::from_slice(alloc, bytes)?;
+    Ok(Event::Payload(key, Items::from_vec(bytes)))
+}
+
+fn cleanup_of(alloc: Global, gone: &[u64]) -> Result<Event<u64, TestMessage>, AllocError> {
+    let gone = Vec::from_slice(alloc, gone)?;
+    Ok(Event::Cleanup(Items::from_vec(gone)))
+}
+
+fn write_answers<W: Write>(out: &mut W, answers: &[Answer<TestMessage>]) -> io::Result<()> {
+    for answer in answers {
+        write_answer(out, answer)?;
+    }
+    Ok(())
 }
 
 fn write_answer<W: Write>(out: &mut W, answer: &Answer<TestMessage>) -> io::Result<()> {
@@ -113,16 +133,13 @@ fn write_answer<W: Write>(out: &mut W, answer: &Answer<TestMessage>) -> io::Resu
             served,
             message,
         } => {
-            write_outcome(out, *outcome)?;
-            write_content(out, message)?;
+            write!(out, "{} {}", word_of(*outcome), content_of(message))?;
             write_tickets(out, served.as_slice())
         }
         Answer::Invalid(refusal) => write_refusal(out, *refusal),
         Answer::Waiting => writeln!(out, "waiting"),
         Answer::Answered(message) | Answer::Got(Some(message)) => {
-            write!(out, "found")?;
-            write_content(out, message)?;
-            writeln!(out)
+            writeln!(out, "found {}", content_of(message))
         }
         Answer::Got(None) => writeln!(out, "none"),
         Answer::Removed(count) => writeln!(out, "removed {count}"),
@@ -146,6 +163,14 @@ fn write_refusal<W: Write>(out: &mut W, refusal: CodecError) -> io::Result<()> {
         CodecError::Unencodable => writeln!(out, "invalid Unencodable"),
         CodecError::Memory => writeln!(out, "invalid Memory"),
     }
+}
+
+fn write_sends<W: Write>(out: &mut W, sends: &[Sent<u64>]) -> io::Result<()> {
+    for sent in sends {
+        write!(out, "sent")?;
+        write_bytes(out, sent.bytes.as_slice())?;
+    }
+    Ok(())
 }
 
 fn write_bytes<W: Write>(out: &mut W, bytes: &[u8]) -> io::Result<()> {

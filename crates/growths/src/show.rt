@@ -55,7 +55,7 @@ fn write_contents<W: Write, T: Drop>(
 ) -> io::Result<()> {
     for digest in digests {
         if let Some(message) = core.get(digest) {
-            write_content(out, message)?;
+            write!(out, " {}", content_of(message))?;
         }
     }
     Ok(())
@@ -64,8 +64,7 @@ fn write_contents<W: Write, T: Drop>(
 fn write_cached<W: Write, T: Drop>(out: &mut W, core: &TestCore<T>) -> io::Result<()> {
     for content in 0..CONTENTS {
         if let Some(message) = core.get(&digest_of(content)) {
-            write!(out, " {content}=")?;
-            write_content(out, message)?;
+            write!(out, " {content}={}", content_of(message))?;
         }
     }
     Ok(())
@@ -81,19 +80,16 @@ fn write_waiting<W: Write, T: Drop>(out: &mut W, core: &TestCore<T>) -> io::Resu
     Ok(())
 }
 
-/// Writes a space and the content of the message.
-pub fn write_content<W: Write>(out: &mut W, message: &Digested<TestMessage>) -> io::Result<()> {
-    match message.inner().content.first() {
-        Some(content) => write!(out, " {content}"),
-        None => write!(out, " -"),
-    }
+/// Returns the byte that is the content of the message.
+pub fn content_of(message: &Digested<TestMessage>) -> u8 {
+    message.inner().content.first().copied().unwrap_or(u8::MAX)
 }
 
-/// Writes what a taking returned: the outcome.
-pub fn write_outcome<W: Write>(out: &mut W, outcome: Outcome) -> io::Result<()> {
+/// Returns the word for the outcome.
+pub fn word_of(outcome: Outcome) -> &'static str {
     match outcome {
-        Outcome::Inserted => write!(out, "inserted"),
-        Outcome::Duplicate => write!(out, "duplicate"),
-        Outcome::Ineligible => write!(out, "ineligible"),
+        Outcome::Inserted => "inserted",
+        Outcome::Duplicate => "duplicate",
+        Outcome::Ineligible => "ineligible",
     }
 }
