@@ -1,5 +1,7 @@
 #!/usr/bin/env python3
-"""Generates event files for `replay` from a seed. A workload is a shape, and the scale multiplies its events.
+"""Generates event files for `replay` from a seed.
+
+A workload is a shape, and the scale multiplies its events.
 
     workloads.py                          lists the workloads
     workloads.py NAME [--scale S] [--seed N] [--out FILE]     writes an event file
@@ -101,7 +103,7 @@ def add_gossip():
                     f"gossip-p{peer_count}-s{size}-{label}",
                     ["1", str(size)],
                     base,
-                    f"{peer_count} peers relay payloads of {payload_len} bytes, each to about 4 lists",
+                    f"{peer_count} peers relay {payload_len} bytes, each to about 4 lists",
                 )(make)
 
 
@@ -128,13 +130,23 @@ def deep_10k(chance, count):
     return deep(chance, count, 2, 0.5)
 
 
-@workload("deep-s100k", ["1", "100000"], 40_000, "1 peer, a list of up to 100,000, half of it repeats")
+@workload(
+    "deep-s100k",
+    ["1", "100000"],
+    40_000,
+    "1 peer, a list of up to 100,000, half of it repeats",
+)
 def deep_100k(chance, count):
     return deep(chance, count, 1, 0.5)
 
 
 # Subscribes: the awaited set grows with the file; payloads serve a part of it.
-@workload("subscribes", ["1", "64"], 60_000, "many waiters, about 3 a digest, some served; few cleanups")
+@workload(
+    "subscribes",
+    ["1", "64"],
+    60_000,
+    "many waiters, about 3 a digest, some served; few cleanups",
+)
 def subscribes(chance, count):
     yield peers(range(1, 17))
     awaited = []
@@ -160,7 +172,12 @@ def subscribes(chance, count):
 
 
 # Cleanups: about 3,000 awaited digests at each moment, and a cleanup each 50 events.
-@workload("cleanups", ["1", "64"], 30_000, "a steady 3,000 awaited digests, a cleanup each 50 events")
+@workload(
+    "cleanups",
+    ["1", "64"],
+    30_000,
+    "a steady 3,000 awaited digests, a cleanup each 50 events",
+)
 def cleanups(chance, count):
     yield peers(range(1, 17))
     awaited, tickets = [], []
@@ -210,18 +227,33 @@ def churn(chance, count, all_peers, in_set, between, masses):
         yield f"payload {peer} {encoded(b'', content).hex()}"
 
 
-@workload("churn", ["1", "32"], 80_000, "100 of 160 peers, each 50 events one leaves, at times a third")
+@workload(
+    "churn",
+    ["1", "32"],
+    80_000,
+    "100 of 160 peers, each 50 events one leaves, at times a third",
+)
 def churn_100(chance, count):
     return churn(chance, count, 160, 100, 50, True)
 
 
-@workload("churn-wide", ["1", "4"], 10_000, "sets of 1,000 keys, one leaves and one comes each 10 events")
+@workload(
+    "churn-wide",
+    ["1", "4"],
+    10_000,
+    "sets of 1,000 keys, one leaves and one comes each 10 events",
+)
 def churn_1000(chance, count):
     return churn(chance, count, 1_200, 1_000, 10, False)
 
 
 # Broadcasts: the own key sends, to all or to named keys, with some digests handed in.
-@workload("broadcasts", ["1", "256"], 40_000, "own sends of 32 + 200 bytes, a third to named keys, some as another")
+@workload(
+    "broadcasts",
+    ["1", "256"],
+    40_000,
+    "own sends of 32 + 200 bytes, a third to named keys, some as another",
+)
 def broadcasts(chance, count):
     yield peers(range(1, 33))
     sent = []
@@ -235,7 +267,8 @@ def broadcasts(chance, count):
         if chance.random() < 0.67:
             to = "all"
         else:
-            to = "to:" + ",".join(str(chance.randrange(1, 33)) for _ in range(chance.randrange(1, 9)))
+            count_to = chance.randrange(1, 9)
+            to = "to:" + ",".join(str(chance.randrange(1, 33)) for _ in range(count_to))
         line = f"broadcast {to} {chance.randbytes(32).hex()} {content.hex()}"
         if chance.random() < 0.1:
             line += f" as:{chance.randbytes(16).hex()}"
@@ -243,7 +276,12 @@ def broadcasts(chance, count):
 
 
 # Hostile payloads: cut, too long, left over, random, and whole ones from keys outside the set.
-@workload("hostile", ["1", "10", "1024"], 80_000, "malformed payloads of each kind, and senders outside the set")
+@workload(
+    "hostile",
+    ["1", "10", "1024"],
+    80_000,
+    "malformed payloads of each kind, and senders outside the set",
+)
 def hostile(chance, count):
     yield peers(range(1, 9))
     for at in range(count):
@@ -266,7 +304,12 @@ def hostile(chance, count):
 
 
 # Requests answered from a full cache: what is copied and printed.
-@workload("reads", ["1", "256"], 60_000, "gets and subscribes that are answered, of messages of 200 bytes")
+@workload(
+    "reads",
+    ["1", "256"],
+    60_000,
+    "gets and subscribes that are answered, of messages of 200 bytes",
+)
 def reads(chance, count):
     yield peers(range(1, 9))
     kept = []
@@ -281,7 +324,9 @@ def reads(chance, count):
 
 
 def main():
-    words = argparse.ArgumentParser(description=__doc__, formatter_class=argparse.RawTextHelpFormatter)
+    words = argparse.ArgumentParser(
+        description=__doc__, formatter_class=argparse.RawTextHelpFormatter
+    )
     words.add_argument("name", nargs="?", choices=sorted(ALL))
     words.add_argument("--scale", type=float, default=1)
     words.add_argument("--seed", type=int, default=1)

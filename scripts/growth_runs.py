@@ -40,7 +40,7 @@ def each(count):
 
 @dataclass(frozen=True)
 class Ran:
-    """What a run left: standard output, standard error, the exit status, and how many growths it asked for."""
+    """What a run left, and how many growths it asked for."""
 
     stdout: bytes
     stderr: bytes

@@ -2,8 +2,10 @@
 //
 // Stands before the C library, as LD_PRELOAD=.../refuse_growths.so PROGRAM, with the variables:
 //
-//   REFUSED_GROWTHS  N refuses the Nth growth, from 1 on; N-M the Nth to the Mth; N- all from the Nth on
-//   GROWTHS_FILE     an existing file of 8 bytes, which gets the number of growths, also of one that aborts
+//   REFUSED_GROWTHS  N refuses the Nth growth, from 1 on; N-M the Nth to the Mth; N- all from the
+//                    Nth on
+//   GROWTHS_FILE     an existing file of 8 bytes, which gets the number of growths, also of a
+//                    program that aborts
 //
 // A growth is a request for a new block, or for more bytes than a block was requested with. A block
 // keeps its size and its distance from the C library's block in the 16 bytes before it.

@@ -53,7 +53,7 @@ OF_REPLAY = [
     ("an abort", b"", b"", -6),
 ]
 
-# What is wrong, and with it lines of the right output of `growths` with those that come in their place.
+# What is wrong, and with it lines of the right output of `growths` and those in their place.
 OF_GROWTHS = [
     (
         "a refused taking serves its waiters",
@@ -86,7 +86,11 @@ OF_GROWTHS = [
         "enqueue get 3 overflow 2\n  accepted 3 taken 0 skipped 1 waiting 2 given_up 0\n",
         "enqueue get 3 memory\n  accepted 3 taken 0 skipped 1 waiting 1 given_up 0\n",
     ),
-    ("a closed inbox asks for memory", "enqueue broadcast 4 closed\n", "enqueue broadcast 4 memory\n"),
+    (
+        "a closed inbox asks for memory",
+        "enqueue broadcast 4 closed\n",
+        "enqueue broadcast 4 memory\n",
+    ),
     (
         "a refused get of a mailbox is queued",
         "get ok\n  accepted 2 taken 0 skipped 0 waiting 2 given_up 0\n",

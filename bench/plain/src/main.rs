@@ -39,7 +39,7 @@ fn main() -> ExitCode {
     ExitCode::SUCCESS
 }
 
-/// Standard output without the line buffer of `std::io::stdout`, since it is written in large pieces.
+/// Standard output without the line buffer of `std::io::stdout`: it is written in large pieces.
 struct UnbufferedStdout;
 
 impl io::Write for UnbufferedStdout {

@@ -1,15 +1,15 @@
-//! `measure IN OUT PROGRAM WORD..` runs a program once, and prints its status, its wall time in
-//! nanoseconds and its peak of resident memory in KiB on one line.
+//! `measure IN OUT PROGRAM WORD..` runs a program once, and prints on one line its status, its
+//! processor time in microseconds and its peak of resident memory in KiB.
 //!
-//! It is a small program so that the peak is the child's: a child begins with the peak of the process
-//! that started it, and that of a script's interpreter hides the peak of a small program.
+//! It is a small program so that the peak is the child's: a child begins with the peak of the
+//! process that started it, and that of a script's interpreter hides the peak of a small program.
 
 use std::fs::File;
 use std::process::{Command, ExitCode};
-use std::time::Instant;
 
 #[repr(C)]
 struct Usage {
+    /// Seconds and microseconds, of the program and of the system for it.
     times: [i64; 4],
     peak_kib: i64,
     others: [i64; 13],
@@ -32,9 +32,7 @@ fn main() -> ExitCode {
     command.args(words);
     command.stdin(File::open(input).expect("the input opens"));
     command.stdout(File::create(output).expect("the output opens"));
-    let begin = Instant::now();
     let status = command.status().expect("the program starts");
-    let wall = begin.elapsed().as_nanos();
     let mut usage = Usage {
         times: [0; 4],
         peak_kib: 0,
@@ -42,7 +40,9 @@ fn main() -> ExitCode {
     };
     // SAFETY: `usage` has the layout that the call fills.
     unsafe { getrusage(CHILDREN, &mut usage) };
-    let _ = (usage.times, usage.others);
-    println!("{} {} {}", status.code().unwrap_or(-1), wall, usage.peak_kib);
+    let _ = usage.others;
+    let [user, user_micros, system, system_micros] = usage.times;
+    let micros = (user + system) * 1_000_000 + user_micros + system_micros;
+    println!("{} {} {}", status.code().unwrap_or(-1), micros, usage.peak_kib);
     ExitCode::SUCCESS
 }
