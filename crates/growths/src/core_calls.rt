@@ -60,8 +60,8 @@ enum Ready {
     CleanupBy,
 }
 
-/// The calls of a core with lists of two digests: lists begin, grow, move, lose their oldest and are
-/// dropped, and waiters wait, are served and go.
+/// The calls of a core with lists of two digests: lists begin, grow, move, lose their oldest and
+/// are dropped, and waiters wait, are served and go.
 static CALLS: [Call; 30] = [
     Call::Take(2, 5, 5),
     Call::Subscribe(1, 5, false),

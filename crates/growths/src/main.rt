@@ -1,7 +1,7 @@
-//! Makes the calls of the libraries over fixed lists, and prints after each what it returned and what
-//! is left. The gate runs it with growths of its heap refused, and judges what it prints.
+//! Makes the calls of the libraries over fixed lists, and prints after each what it returned and
+//! what is left. The gate runs it with growths of its heap refused, and judges what it prints.
 //!
-//! All that the calls are given is made before the first call of a list, and printing does not allocate.
+//! What the calls of a list are given is made before the first of them. Printing does not allocate.
 #![tactic(auto)]
 
 mod core_calls;

@@ -25,8 +25,8 @@ fn asks() -> &'static [Ask] {
     &ASKS
 }
 
-/// Puts the requests into an overflow, and writes how many are there. Drains it in the end, and writes
-/// what comes.
+/// Puts the requests into an overflow, and writes how many wait. Drains it in the end, and writes
+/// what it offers.
 pub fn show<W: Write>(alloc: Global, out: &mut W) -> io::Result<()> {
     writeln!(out, "overflow")?;
     let Ok(mut drained) = Vec::with_capacity(alloc, asks().len()) else {

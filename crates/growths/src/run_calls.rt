@@ -21,8 +21,8 @@ enum Step {
     Cleanup(&'static [u64]),
 }
 
-/// The events of a run with lists of two digests and lengths of at most three. Payloads of each kind
-/// are refused by the codec, between events that may allocate.
+/// The events of a run with lists of two digests and lengths of at most three. The codec refuses
+/// payloads of each kind.
 static STEPS: [Step; 28] = [
     Step::Get(5),
     Step::Cleanup(&[1]),
