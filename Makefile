@@ -1,20 +1,27 @@
 # `make example` runs the program on an example; `make test` is the merge gate.
+# `make rows`, `make growths` and `make bench` want the programs built, as `make test` leaves them.
 EVENTS ?= examples/two-peers.events
 REPLAY := crates/replay/out/replay
 
-.PHONY: example refused test
+.PHONY: example test rows growths bench
 
 # `rt run` proves and builds the program, and prints how; the example is then run by itself.
 example:
+	@echo "example: proving and building replay, and running it on $(EVENTS)"
 	cd crates/replay && rt run -- 1 10 < ../../$(EVENTS) > /dev/null
 	$(REPLAY) 1 10 < $(EVENTS)
 
-# The test grows once, after every payload that is refused. If one of them asked for memory, the growth
-# refused would be that one, and not the test's own.
-refused:
-	@cd crates/broadcast_tests; \
-		said=$$(rt try --test --fail-alloc 1 -- refused_payloads_ask_for_no_memory 2>&1); \
-		echo "$$said" | grep 'the first growth was refused' || { echo "$$said"; exit 1; }
+test:
+	@scripts/gate
 
-test: refused
-	rt ci
+rows:
+	@echo "rows: running each program over its rows, as both compilers built it"
+	@scripts/rows
+
+growths:
+	@echo "growths: refusing each growth of a program's heap in turn"
+	@scripts/growths
+
+bench:
+	@echo "bench: timing replay beside a plain Rust program"
+	@bench/compare

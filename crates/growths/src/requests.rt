@@ -1,0 +1,93 @@
+//! Requests, and what shows them.
+use crate::material::{digest_of, message};
+use broadcast_core::{Recipients, TestMessage};
+use commonware_broadcast::buffered::{Counts, Fixed, Message};
+use std::alloc::{AllocError, Global};
+use std::io::{self, Write};
+
+/// The contents whose digests are shown.
+const CONTENTS: u8 = 10;
+
+/// A request whose responder says whether it is closed.
+pub type Plain = Message<u64, TestMessage, Fixed, Fixed>;
+
+/// What a request asks. A content is a byte, and a responder may be closed.
+#[derive(Clone, Copy)]
+pub enum Ask {
+    Broadcast(u8),
+    Subscribe(u8, bool),
+    Get(u8, bool),
+}
+
+/// Creates the request.
+pub fn request_of(alloc: Global, ask: Ask) -> Result<Plain, AllocError> {
+    match ask {
+        Ask::Broadcast(content) => broadcast(alloc, content),
+        Ask::Subscribe(content, closed) => {
+            Ok(Message::subscribe(digest_of(content), Fixed { closed }))
+        }
+        Ask::Get(content, closed) => Ok(Message::get(digest_of(content), Fixed { closed })),
+    }
+}
+
+fn broadcast(alloc: Global, content: u8) -> Result<Plain, AllocError> {
+    let message = message(alloc, content, content)?;
+    Ok(Message::Broadcast {
+        recipients: Recipients::All,
+        message,
+    })
+}
+
+/// Writes a request that was taken with its ticket.
+pub fn write_taken<W: Write, S: Drop, G: Drop>(
+    out: &mut W,
+    taken: Option<(u64, Message<u64, TestMessage, S, G>)>,
+) -> io::Result<()> {
+    match taken {
+        Some((ticket, request)) => {
+            write!(out, "take {ticket}")?;
+            write_request(out, &request)?;
+            writeln!(out)
+        }
+        None => writeln!(out, "take none"),
+    }
+}
+
+/// Writes what the request asks.
+pub fn write_request<W: Write, S, G>(
+    out: &mut W,
+    request: &Message<u64, TestMessage, S, G>,
+) -> io::Result<()> {
+    let (word, digest) = match request {
+        Message::Broadcast { message, .. } => ("broadcast", message.digest()),
+        Message::Subscribe { digest, .. } => ("subscribe", *digest),
+        Message::Get { digest, .. } => ("get", *digest),
+    };
+    write!(out, " {word} {}", content_with(&digest))
+}
+
+/// Returns the content whose digest this is.
+fn content_with(digest: &[u8; 32]) -> u8 {
+    for content in 0..CONTENTS {
+        if digest_of(content) == *digest {
+            return content;
+        }
+    }
+    CONTENTS
+}
+
+/// Writes where the requests of an inbox went.
+pub fn write_counts<W: Write>(out: &mut W, counts: Counts) -> io::Result<()> {
+    let Counts {
+        accepted,
+        taken,
+        skipped,
+        waiting,
+        given_up,
+    } = counts;
+    write!(
+        out,
+        "  accepted {accepted} taken {taken} skipped {skipped} "
+    )?;
+    writeln!(out, "waiting {waiting} given_up {given_up}")
+}

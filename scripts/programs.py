@@ -1,0 +1,83 @@
+"""The built programs of the repository and their rows."""
+
+import os
+import subprocess
+from dataclasses import dataclass
+from pathlib import Path
+
+TOP = Path(__file__).resolve().parent.parent
+ROWS = TOP / "rows"
+# A program as LLVM builds it, and as Rattle's own compiler does.
+SUFFIXES = ("", ".by-rattle")
+STREAMS = ("stdin", "stdout", "stderr")
+# Seconds after which a run is given up.
+LIMIT = 60
+
+
+@dataclass(frozen=True)
+class Row:
+    """One run of a program, and what it must give."""
+
+    name: str
+    args: list
+    stdin: bytes
+    stdout: bytes
+    stderr: bytes
+    status: int
+    # Files that stand for some of the streams.
+    devices: dict
+
+    @staticmethod
+    def read(folder):
+        devices = {}
+        if (folder / "devices").exists():
+            for line in (folder / "devices").read_text().splitlines():
+                stream, path = line.split(" ")
+                assert stream in STREAMS, f"{folder}: {stream} is no stream"
+                devices[stream] = path
+        return Row(
+            folder.name,
+            (folder / "args").read_bytes().split(b"\n")[:-1],
+            (folder / "stdin").read_bytes(),
+            (folder / "stdout").read_bytes(),
+            (folder / "stderr").read_bytes(),
+            int((folder / "status").read_text()),
+            devices,
+        )
+
+
+def rows_of(program):
+    return [Row.read(folder) for folder in sorted((ROWS / program).iterdir())]
+
+
+def builds_of(program):
+    return [TOP / "crates" / program / "out" / f"{program}{suffix}" for suffix in SUFFIXES]
+
+
+def is_built(executable):
+    return executable.is_file() and os.access(executable, os.X_OK)
+
+
+def run_row(executable, row):
+    """Standard output, standard error and the status of one run."""
+    opened = {}
+    try:
+        for stream, path in row.devices.items():
+            opened[stream] = os.open(path, os.O_RDONLY if stream == "stdin" else os.O_WRONLY)
+        child = subprocess.Popen(
+            [executable, *row.args],
+            stdin=opened.get("stdin", subprocess.PIPE),
+            stdout=opened.get("stdout", subprocess.PIPE),
+            stderr=opened.get("stderr", subprocess.PIPE),
+        )
+        try:
+            given = None if "stdin" in opened else row.stdin
+            stdout, stderr = child.communicate(given, timeout=LIMIT)
+        except subprocess.TimeoutExpired:
+            child.kill()
+            child.communicate()
+            raise
+    finally:
+        for file in opened.values():
+            os.close(file)
+    return stdout or b"", stderr or b"", child.returncode

@@ -1,0 +1,124 @@
+"""Wrong outputs, which the judges of refused growths must find."""
+
+import judge_growths
+import judge_replay
+from growth_runs import Ran, Refused
+
+# A growth in the middle, alone.
+REFUSED = Refused(20, 20)
+GROWTHS = 40
+
+ARGS = [b"1", b"2"]
+EVENTS = b"peers 5\nsubscribe 7 61\npayload 5 000000000000000161\nget 1 62\ncleanup 9\n"
+# What is wrong, and with it standard output, standard error and the status.
+OF_REPLAY = [
+    (
+        "a refused payload serves its waiter",
+        b"ok\nwaiting\nrefused memory\nnone\nremoved 0\ncached 0\nawaited 0\n",
+        b"",
+        0,
+    ),
+    (
+        "a refused payload leaves its digest on a list",
+        b"ok\nwaiting\nrefused memory\nnone\nremoved 0\nlist 5 61\ncached 0\nawaited 1\n",
+        b"",
+        0,
+    ),
+    (
+        "a refused subscribe waits",
+        b"ok\nrefused memory\ninserted 7\nnone\nremoved 0\nlist 5 61\ncached 1\nawaited 0\n",
+        b"",
+        0,
+    ),
+    (
+        "a get of a digest that is not listed is refused",
+        b"ok\nwaiting\ninserted 7\nrefused memory\nremoved 0\nlist 5 61\ncached 1\nawaited 0\n",
+        b"",
+        0,
+    ),
+    (
+        "a cleanup is refused",
+        b"ok\nwaiting\ninserted 7\nnone\nrefused memory\nlist 5 61\ncached 1\nawaited 0\n",
+        b"",
+        0,
+    ),
+    (
+        "one growth refuses two events",
+        b"ok\nrefused memory\nrefused memory\nnone\nremoved 0\ncached 0\nawaited 0\n",
+        b"",
+        0,
+    ),
+    ("a fault cuts a line", b"ok\nwait", b"memory\n", 3),
+    ("a fault comes with another status", b"", b"memory\n", 0),
+    ("an abort", b"", b"", -6),
+]
+
+# What is wrong, and with it lines of the right output of `growths` and those in their place.
+OF_GROWTHS = [
+    (
+        "a refused taking serves its waiters",
+        "take inserted 1 2\n  lists 0[ ] 1[ ] 2[ 5 ] 3[ ] cached 1: 5=5 awaited 1: 6x1\n",
+        "take memory\n  lists 0[ ] 1[ ] 2[ ] 3[ ] cached 0: awaited 1: 6x1\n",
+    ),
+    (
+        "a refused taking leaves its digest on a list",
+        "take inserted 1 2\n  lists 0[ ] 1[ ] 2[ 5 ] 3[ ] cached 1: 5=5 awaited 1: 6x1\n",
+        "take memory\n  lists 0[ ] 1[ ] 2[ 5 ] 3[ ] cached 1: 5=5 awaited 2: 5x2 6x1\n",
+    ),
+    (
+        "a refused subscribe loses its waiter",
+        "subscribe waiting\n",
+        "subscribe memory 0\n",
+    ),
+    (
+        "a refused subscribe waits",
+        "subscribe waiting\n",
+        "subscribe memory 1\n",
+    ),
+    ("a taking of a listed digest is refused", "take duplicate\n", "take memory\n"),
+    ("a taking under a key that is not primary is refused", "take ineligible\n", "take memory\n"),
+    ("a peer set is refused", "peers\n", "memory\n"),
+    ("a refused payload asks for memory", "invalid EndOfBuffer\n", "memory\n"),
+    ("a refused request stays in the overflow", "handle get 2 ok 1\n", "handle get 2 memory 1\n"),
+    ("a closed request asks for memory", "handle get 3 ok 1\n", "handle get 3 memory 1\n"),
+    (
+        "a refused enqueue draws a ticket",
+        "enqueue get 3 overflow 2\n  accepted 3 taken 0 skipped 1 waiting 2 given_up 0\n",
+        "enqueue get 3 memory\n  accepted 3 taken 0 skipped 1 waiting 1 given_up 0\n",
+    ),
+    (
+        "a closed inbox asks for memory",
+        "enqueue broadcast 4 closed\n",
+        "enqueue broadcast 4 memory\n",
+    ),
+    (
+        "a refused get of a mailbox is queued",
+        "get ok\n  accepted 2 taken 0 skipped 0 waiting 2 given_up 0\n",
+        "get memory\n  accepted 2 taken 0 skipped 0 waiting 2 given_up 0\n",
+    ),
+]
+
+
+def unseen_of_replay():
+    """The wrong outputs that the judge of `replay` does not find."""
+    judge = judge_replay.Judge(ARGS, EVENTS)
+    for name, stdout, stderr, status in OF_REPLAY:
+        if judge.fault(Ran(stdout, stderr, status, GROWTHS), REFUSED) is None:
+            yield f"replay: {name}"
+
+
+def unseen_of_growths(ample):
+    """The wrong outputs, made of this right one, that the judge of `growths` does not find."""
+    judge = judge_growths.Judge()
+    for name, lines, wrong in OF_GROWTHS:
+        before, found, after = ample.stdout.decode().partition(lines)
+        changed = Ran((before + wrong + after).encode(), b"", 0, ample.growths)
+        fault = judge.fault(changed, REFUSED)
+        first, last = before.count("\n") + 1, (before + wrong).count("\n") + 1
+        if not found or not fault or not is_about(fault, first, last):
+            yield f"growths: {name}"
+
+
+def is_about(fault, first, last):
+    """Whether the fault names one of these lines."""
+    return any(fault.startswith(f"line {line} ") for line in range(first, last + 1))
