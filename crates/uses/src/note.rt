@@ -1,0 +1,89 @@
+//! A message type of one's own.
+ghost use Rattle.std.specs.Prelude.{◌≡◌, IfOk};
+ghost use Rattle.sha2.specs.Sha256.{sha256};
+ghost use Rattle.uses.specs.Note.{encoding_of, read_note, note_within, note_refusals, note_reads_back};
+
+use broadcast_core::{
+    Codec, CodecError, Digestible, EncodeSize, RangeCfg, Read, Write, byte_list, decode_cfg,
+};
+use sha2::{Digest, Sha256};
+use std::alloc::Global;
+use std::marker::Model;
+
+/// A note, written as one list of bytes. Its digest is the SHA-256 of its text.
+#[derive(Debug, Drop)]
+pub struct Note {
+    /// The text of the note.
+    pub text: Vec<u8>,
+}
+
+/// Contracts see a note as its text.
+impl Model for Note {
+    ghost use Rattle.std.specs.Prelude.{ℕ, List};
+
+    ghost Value = { List ℕ };
+
+    ghost view = { λ note. note.text.items };
+}
+
+impl Digestible for Note {
+    type Digest = [u8; 32];
+
+    ghost digest_of = { λ note. sha256 note };
+
+    fn digest(&self) -> [u8; 32] {
+        Sha256::digest(&self.text)
+    }
+}
+
+impl Write for Note {
+    ghost encoding = { encoding_of };
+
+    fn write(&self, out: &mut Vec<u8>) -> Result<(), CodecError> {
+        let size = self.encode_size().ok_or(CodecError::Unencodable)?;
+        out.reserve(size)?;
+        byte_list::write_reserved(&self.text, out);
+        Ok(())
+    }
+}
+
+impl EncodeSize for Note {
+    fn encode_size(&self) -> Option<usize> {
+        byte_list::encode_size(&self.text)
+    }
+}
+
+impl Read for Note {
+    /// The lengths that a text may have.
+    type Cfg = RangeCfg;
+
+    ghost reading = { read_note };
+
+    fn layout(buf: &[u8], cfg: &RangeCfg) -> Result<usize, CodecError> {
+        let (_, rest) = byte_list::read_cfg(buf, cfg)?;
+        Ok(buf.len() - rest.len())
+    }
+
+    fn read_cfg(alloc: Global, buf: &[u8], cfg: &RangeCfg) -> Result<(Self, usize), CodecError> {
+        let (text, rest) = byte_list::read_cfg(buf, cfg)?;
+        let text = Vec::from_slice(alloc, text)?;
+        Ok((Note { text }, buf.len() - rest.len()))
+    }
+
+    ghost within = { note_within };
+
+    ghost refusals = { note_refusals };
+}
+
+impl Codec for Note {
+    ghost reads_back = { note_reads_back };
+}
+
+/// Writes a note with this text, and reads it again.
+pub fn write_and_read(alloc: Global, text: Vec<u8>) -> Result<Note, CodecError>
+    ensures { IfOk result (λ note. note ≡ text.items) }
+{
+    let mut bytes = Vec::new(alloc);
+    Note { text }.write(&mut bytes)?;
+    decode_cfg(alloc, &bytes, &RangeCfg::any())
+}
