@@ -75,7 +75,7 @@ waiting_in-counted {W} {D} (e ∷ es) =
 
 module _ {P M D W V : Type 0} (s : Setting P M D) (laws : IsEquivalence s.same.digest) where
   -- as many wait in a core as after its history
-  pub waiting-counted : (past : List (Happening P M D W V)) (core : Content P M D W) → HasContent s past core → IsDistinct s.same.digest (keys_of core.waiters)
+  waiting-counted : (past : List (Happening P M D W V)) (core : Content P M D W) → HasContent s past core → IsDistinct s.same.digest (keys_of core.waiters)
       → waiting_in core.waiters ≡ length (waiting s past)
   waiting-counted past core has distinct =
       sym (waiting_in-counted core.waiters) ∙ counted_by-entries s.same.digest laws (λ w. true) core.waiters (waiting s past) distinct has.waiters ∙ all_counted (waiting s past)

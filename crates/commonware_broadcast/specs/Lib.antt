@@ -8,6 +8,7 @@ pub mod Asked
 pub mod Words
 pub mod Loopback
 pub use Rattle.broadcast_core.specs.Carried
+pub use Rattle.broadcast_core.specs.ByteList
 pub use Rattle.broadcast_core.specs.Codec
 pub use Rattle.broadcast_core.specs.TestMessage
 pub use Rattle.broadcast_core.specs.Content
