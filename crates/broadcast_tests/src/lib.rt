@@ -26,6 +26,7 @@ mod reference;
 mod refused_growths;
 #[cfg(test)]
 mod replay_inbox;
+#[cfg(test)]
 mod replay_rows;
 #[cfg(test)]
 mod sends;

@@ -1,5 +1,5 @@
-//! Runs over an inbox that the caller hands in.
-use commonware_broadcast::buffered::{Counts, Fixed, Inbox, Message, Queued};
+//! Runs of `replay` over an inbox that the caller hands in.
+use commonware_broadcast::buffered::{Fixed, Inbox, Message};
 use replay_lib::{Request, play_through};
 use std::alloc::{AllocError, Global};
 use std::io::Cursor;
@@ -7,111 +7,126 @@ use std::num::NonZeroUsize;
 use std::sync::{Mutex, Wait};
 use std::test::Fail;
 
-/// Two broadcasts among other events.
-const EVENTS: &[u8] = b"peers 1\nbroadcast all - 61\nget 1 61\nbroadcast to:2 - 62\n";
+/// The state of the inbox before a run.
+#[derive(Clone, Copy)]
+enum Before {
+    /// It is open, and no request waits.
+    Idle,
+    /// It is closed.
+    Closed,
+    /// A request of others waits.
+    Waiting,
+}
 
-/// What a run gave.
-#[derive(Drop)]
-struct Played {
-    output: Vec<u8>,
-    fault: Vec<u8>,
+/// A run and what it must give.
+struct Row {
+    before: Before,
+    input: &'static [u8],
+    /// The number of bytes that the output has room for.
+    room: usize,
+    output: &'static [u8],
+    fault: &'static [u8],
     status: u8,
+    /// The number of requests that were taken, and of those that wait.
+    counts: (u64, usize),
 }
 
-fn play<H: Wait + AllocGlobal>(
-    rt: &H,
-    inbox: &Mutex<Inbox<Request>>,
-    input: &[u8],
-) -> Result<Played, AllocError> {
-    let alloc = rt.alloc();
-    let words = [String::from_str(alloc, "1")?, String::from_str(alloc, "2")?];
-    let mut output = Vec::new(alloc);
-    let mut fault = Vec::new(alloc);
-    let out = Cursor::new(&mut output);
-    let err = Cursor::new(&mut fault);
-    let status = play_through(rt, inbox, &words, input, out, err);
-    Ok(Played {
-        output,
-        fault,
-        status,
-    })
+static ROWS: [Row; 5] = [
+    Row {
+        before: Before::Idle,
+        // Two broadcasts among other events.
+        input: b"peers 1\nbroadcast all - 61\nget 1 61\nbroadcast to:2 - 62\n",
+        room: 256,
+        output: b"ok\ninserted\nfound - 61\ninserted\nlist 1 62 61\ncached 2\nawaited 0\n\
+            sent all 000000000000000161\nsent 2 000000000000000162\n",
+        fault: b"",
+        status: 0,
+        counts: (2, 0),
+    },
+    // A line that is no event goes before a closed inbox.
+    Row {
+        before: Before::Closed,
+        input: b"broadcast all - 61\npeer 1\n",
+        room: 256,
+        output: b"",
+        fault: b"line 2: syntax\n",
+        status: 2,
+        counts: (0, 0),
+    },
+    // Without a broadcast nothing is refused.
+    Row {
+        before: Before::Closed,
+        input: b"peers 1\n",
+        room: 256,
+        output: b"ok\ncached 0\nawaited 0\n",
+        fault: b"",
+        status: 0,
+        counts: (0, 0),
+    },
+    // A closed inbox goes before a failed write.
+    Row {
+        before: Before::Closed,
+        input: b"broadcast all - 61\n",
+        room: 0,
+        output: b"",
+        fault: b"mailbox failed\n",
+        status: 3,
+        counts: (0, 0),
+    },
+    Row {
+        before: Before::Waiting,
+        input: b"broadcast all - 61\n",
+        room: 256,
+        output: b"",
+        fault: b"mailbox failed\n",
+        status: 3,
+        counts: (0, 1),
+    },
+];
+
+fn rows() -> &'static [Row] {
+    &ROWS
 }
 
-fn open_inbox(alloc: Global) -> Inbox<Request> {
-    Inbox::new(alloc, NonZeroUsize::MIN)
-}
-
-#[test]
-fn each_broadcast_passes_the_inbox(rt: HostRuntime) -> Result<(), Fail> {
-    let inbox = Mutex::new(open_inbox(rt.alloc()));
-    let played = play(&rt, &inbox, EVENTS)?;
-    assert_eq!(rt;
-        played.output.as_slice(),
-        b"ok\ninserted\nfound - 61\ninserted\nlist 1 62 61\ncached 2\nawaited 0\n\
-            sent all 000000000000000161\nsent 2 000000000000000162\n"
-            .as_slice()
-    );
-    assert!(rt; played.fault.is_empty());
-    assert_eq!(rt; played.status, 0);
-    let counts = Counts {
-        accepted: 2,
-        taken: 2,
-        skipped: 0,
-        waiting: 0,
-        given_up: 0,
-    };
-    assert_eq!(rt; inbox.lock(&rt).counts(), counts);
-    Ok(())
-}
-
-#[test]
-fn a_closed_inbox_fails(rt: HostRuntime) -> Result<(), Fail> {
-    let mut closed = open_inbox(rt.alloc());
-    assert_eq!(rt; closed.close(), 0);
-    let inbox = Mutex::new(closed);
-    // A line that is no event goes before, and without a broadcast nothing is refused.
-    let runs = [
-        (EVENTS, b"".as_slice(), b"mailbox failed\n".as_slice(), 3),
-        (b"broadcast all - 61\npeer 1\n", b"", b"line 2: syntax\n", 2),
-        (b"peers 1\n", b"ok\ncached 0\nawaited 0\n", b"", 0),
-    ];
-    for (input, output, fault, status) in runs {
-        let played = play(&rt, &inbox, input)?;
-        assert_eq!(rt; played.output.as_slice(), output);
-        assert_eq!(rt; played.fault.as_slice(), fault);
-        assert_eq!(rt; played.status, status);
+/// Returns an inbox in this state.
+fn inbox(alloc: Global, before: Before) -> Inbox<Request> {
+    let mut inbox = Inbox::new(alloc, NonZeroUsize::MIN);
+    match before {
+        Before::Idle => {}
+        Before::Closed => {
+            let _given_up = inbox.close();
+        }
+        Before::Waiting => {
+            let _queued = inbox.enqueue(Message::Get {
+                digest: [0; 32],
+                responder: Fixed { closed: false },
+            });
+        }
     }
-    Ok(())
+    inbox
 }
 
-#[test]
-fn a_failed_inbox_goes_before_a_failed_write(rt: HostRuntime) -> Result<(), Fail> {
+/// Returns whether the run gives what it must.
+fn is_given<H: Wait + AllocGlobal>(rt: &H, row: &Row) -> Result<bool, AllocError> {
     let alloc = rt.alloc();
-    let mut closed = open_inbox(alloc);
-    assert_eq!(rt; closed.close(), 0);
     let words = [String::from_str(alloc, "1")?, String::from_str(alloc, "2")?];
+    let inbox = Mutex::new(inbox(alloc, row.before));
+    let mut output = [0; 256];
     let mut fault = Vec::new(alloc);
-    // It has no room for an output.
-    let full: &mut [u8] = &mut [];
-    let err = Cursor::new(&mut fault);
-    let status = play_through(&rt, &Mutex::new(closed), &words, EVENTS, full, err);
-    assert_eq!(rt; fault.as_slice(), b"mailbox failed\n".as_slice());
-    assert_eq!(rt; status, 3);
-    Ok(())
+    let room = row.room.min(output.len());
+    let out = &mut output[..room];
+    let status = play_through(rt, &inbox, &words, row.input, out, Cursor::new(&mut fault));
+    let counts = inbox.lock(rt).counts();
+    Ok(output.starts_with(row.output)
+        && fault.as_slice() == row.fault
+        && status == row.status
+        && (counts.taken, counts.waiting) == row.counts)
 }
 
 #[test]
-fn a_request_of_others_fails(rt: HostRuntime) -> Result<(), Fail> {
-    let mut shared = open_inbox(rt.alloc());
-    let request = Message::Get {
-        digest: [0; 32],
-        responder: Fixed { closed: false },
-    };
-    assert_eq!(rt; shared.enqueue(request), Ok(Queued::Ready(0)));
-    let inbox = Mutex::new(shared);
-    let played = play(&rt, &inbox, EVENTS)?;
-    assert_eq!(rt; played.fault.as_slice(), b"mailbox failed\n".as_slice());
-    assert_eq!(rt; played.status, 3);
-    assert_eq!(rt; inbox.lock(&rt).counts().waiting, 1);
+fn broadcasts_pass_the_inbox(rt: HostRuntime) -> Result<(), Fail> {
+    for row in rows() {
+        assert!(rt; is_given(&rt, row)?);
+    }
     Ok(())
 }

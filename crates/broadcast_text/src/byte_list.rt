@@ -1,4 +1,4 @@
-//! Byte lists as words: the bytes in lower-case hexadecimal, or a dash where there are none.
+//! Byte lists as words: the bytes in lower-case hexadecimal, or a dash if there are none.
 ghost use Rattle.std.specs.Prelude.{◌≡◌, ◌∷◌, ◌*◌, ◌≤◌, ◌<◌, ℕ, List, true, length, slice_index, IfOk, IfErr, OnOk};
 ghost use Rattle.std.specs.Io.KnownBytes.{Appends};
 ghost use Rattle.hex.specs.Hex.{IsBytes, encode_lower, lower_digits};
@@ -11,18 +11,21 @@ use std::io::{self, Write};
 /// The word of no bytes.
 const NO_BYTES: &[u8] = b"-";
 
-/// What stands for the value of a byte that is no digit.
+/// Stands for the value of a byte that is no digit.
 const NO_DIGIT: u8 = u8::MAX;
 
-/// How many bytes are written at once.
+/// The number of bytes that are written at once.
 const CHUNK_LEN: usize = 64;
 
-/// The bytes that the word spells.
+/// Returns the bytes that the word spells.
+///
+/// # Errors
+///
+/// Fails with [`LineError::Syntax`] if it spells none, and with [`LineError::Memory`] if an
+/// allocation fails.
 pub fn parse_byte_list(alloc: Global, word: &[u8]) -> Result<Vec<u8>, LineError>
-    // What is read is spelled so.
-    ensures found { IfOk result (λ bytes. word.now ≡ byte_list_word bytes.items) }
-    // What is spelled so is read, but for want of memory.
-    ensures only { (bytes : List ℕ) → IsBytes bytes → word.now ≡ byte_list_word bytes
+    ensures spelled_so { IfOk result (λ bytes. word.now ≡ byte_list_word bytes.items) }
+    ensures reads_all_bytes { (bytes : List ℕ) → IsBytes bytes → word.now ≡ byte_list_word bytes
         → IfErr result (λ e. e ≡ LineError.Memory) }
 {
     if word == NO_BYTES {
@@ -38,14 +41,14 @@ pub fn parse_byte_list(alloc: Global, word: &[u8]) -> Result<Vec<u8>, LineError>
     Ok(bytes)
 }
 
-/// Reads two digits for each byte, and says whether all are digits.
+/// Writes the byte of each two digits to `bytes`. Returns whether all of them are digits.
 ///
-/// It goes on behind one that is none: a loop without a branch takes a tenth of the time on random
-/// digits.
+/// It goes on after one that is no digit: a loop without a branch takes a tenth of the time on
+/// random digits.
 fn decode(digits: &[u8], bytes: &mut [u8]) -> bool
     requires { length digits.now ≡ 2 * length bytes.old }
-    ensures found { result ≡ true → digits.now ≡ encode_lower bytes.new }
-    ensures only { (bs : List ℕ) → IsBytes bs → digits.now ≡ encode_lower bs → result ≡ true }
+    ensures spelled_so { result ≡ true → digits.now ≡ encode_lower bytes.new }
+    ensures reads_all_bytes { (bs : List ℕ) → IsBytes bs → digits.now ≡ encode_lower bs → result ≡ true }
 {
     let mut greatest = 0u8;
     for i in 0..bytes.len() {
@@ -57,10 +60,10 @@ fn decode(digits: &[u8], bytes: &mut [u8]) -> bool
     greatest < 16
 }
 
-/// The value of a lower-case hexadecimal digit, or `NO_DIGIT`.
+/// Returns the value of a lower-case hexadecimal digit, or `NO_DIGIT`.
 fn digit_value(digit: u8) -> u8
-    ensures found { result < 16 → slice_index lower_digits result ≡ digit }
-    ensures only { (v : ℕ) → v < 16 → digit ≡ slice_index lower_digits v → result ≡ v }
+    ensures spelled_so { result < 16 → slice_index lower_digits result ≡ digit }
+    ensures reads_each_digit { (v : ℕ) → v < 16 → digit ≡ slice_index lower_digits v → result ≡ v }
 {
     match digit {
         b'0'..=b'9' => digit - b'0',
@@ -71,7 +74,8 @@ fn digit_value(digit: u8) -> u8
 
 /// Writes the word that spells the bytes.
 pub fn write_byte_list<W: Write>(out: &mut W, bytes: &[u8]) -> io::Result<()>
-    ensures { OnOk result (Appends (W.contents out.old) (W.contents out.new) (byte_list_word bytes.now)) }
+    ensures { OnOk result
+        (Appends (W.contents out.old) (W.contents out.new) (byte_list_word bytes.now)) }
 {
     if bytes.is_empty() {
         return out.write_all(NO_BYTES);
@@ -97,7 +101,8 @@ pub fn write_spaced<W: Write>(out: &mut W, bytes: &[u8]) -> io::Result<()>
 /// Writes the digits of a few bytes.
 fn write_chunk<W: Write>(out: &mut W, chunk: &[u8]) -> io::Result<()>
     requires { length chunk.now ≤ CHUNK_LEN }
-    ensures { OnOk result (Appends (W.contents out.old) (W.contents out.new) (encode_lower chunk.now)) }
+    ensures { OnOk result
+        (Appends (W.contents out.old) (W.contents out.new) (encode_lower chunk.now)) }
 {
     let mut digits = [0; 2 * CHUNK_LEN];
     let digits = &mut digits[..2 * chunk.len()];

@@ -1,23 +1,16 @@
 //! The lines of a reader.
-use crate::fault::Fault;
-use memchr::memchr;
-use std::alloc::Global;
-use std::io::{BufRead, BufReader, ErrorKind, Read};
+ghost use Rattle.std.specs.Prelude.{◌≡◌, ◌≢◌};
+ghost use Rattle.std.specs.IoError.{error_kind};
+ghost use Rattle.broadcast_text.specs.declared.fault.Fault.TheVariants.{Memory, Read as ReadFailed};
 
-/// How many bytes are read at once.
+use crate::fault::Fault;
+use std::alloc::Global;
+use std::io::{self, BufRead, BufReader, ErrorKind, Read};
+
+/// The number of bytes that are read at once.
 const BUFFER_LEN: usize = 64 * 1024;
 
-/// How far the reading of a line has come.
-enum Progress {
-    /// To the end of the line.
-    LineEnd,
-    /// To the end of the input.
-    InputEnd,
-    /// To the end of what was buffered.
-    More,
-}
-
-/// The lines of a reader, one at a time.
+/// The lines of a reader, as bytes. A line ends with a line feed; the last line may lack it.
 #[derive(Drop)]
 pub struct Lines<R: Read + Drop> {
     reader: BufReader<R>,
@@ -26,7 +19,11 @@ pub struct Lines<R: Read + Drop> {
 }
 
 impl<R: Read + Drop> Lines<R> {
-    /// The lines of the reader.
+    /// Creates the lines of a reader.
+    ///
+    /// # Errors
+    ///
+    /// Fails with [`Fault::Memory`] if an allocation fails.
     pub fn new(alloc: Global, reader: R) -> Result<Self, Fault> {
         let Ok(reader) = BufReader::with_capacity(alloc, BUFFER_LEN, reader) else {
             return Err(Fault::Memory);
@@ -38,37 +35,42 @@ impl<R: Read + Drop> Lines<R> {
         })
     }
 
-    /// The next line, without its end. The last line may lack it.
+    /// Returns the next line without its end, or `None` if no line is left.
+    ///
+    /// # Errors
+    ///
+    /// Fails with [`Fault::Read`] if the reader fails, and with [`Fault::Memory`] if an allocation
+    /// fails.
     pub fn next_line(&mut self) -> Result<Option<&[u8]>, Fault> {
         self.line.clear();
         if self.has_ended {
             return Ok(None);
         }
-        // A loop must be shown to end. No line is so long that the bound is met.
-        for _ in 0..u64::MAX {
-            match append_buffered(&mut self.reader, &mut self.line)? {
-                Progress::LineEnd => return Ok(Some(&self.line)),
-                Progress::InputEnd => {
-                    self.has_ended = true;
-                    break;
-                }
-                Progress::More => {}
-            }
+        let read = self.reader.read_until(b'\n', &mut self.line);
+        let count = read.map_err(reading_fault)?;
+        if self.line.last() == Some(&b'\n') {
+            self.line.pop();
+        } else {
+            self.has_ended = true;
         }
-        if self.line.is_empty() {
+        if count == 0 {
             return Ok(None);
         }
         Ok(Some(&self.line))
     }
 
-    /// Reads what is left, and drops it. Takes no memory.
+    /// Reads the lines that are left, and drops them. Does not allocate.
+    ///
+    /// # Errors
+    ///
+    /// Fails with [`Fault::Read`] if the reader fails.
     pub fn skip_rest(&mut self) -> Result<(), Fault> {
         if self.has_ended {
             return Ok(());
         }
-        // No input is so long that the bound is met.
+        // No input has so many lines that the bound is met.
         for _ in 0..u64::MAX {
-            if skip_buffered(&mut self.reader)? {
+            if self.reader.skip_until(b'\n').map_err(reading_fault)? == 0 {
                 break;
             }
         }
@@ -77,38 +79,13 @@ impl<R: Read + Drop> Lines<R> {
     }
 }
 
-/// Appends what is buffered to the line, up to the line's end, which is dropped.
-fn append_buffered<R: BufRead>(reader: &mut R, line: &mut Vec<u8>) -> Result<Progress, Fault> {
-    let buffered = match reader.fill_buf() {
-        Ok(buffered) => buffered,
-        Err(error) if error.kind() == ErrorKind::Interrupted => return Ok(Progress::More),
-        Err(_) => return Err(Fault::Read),
-    };
-    if buffered.is_empty() {
-        return Ok(Progress::InputEnd);
+/// Returns the fault of a failed read. An error of kind `OutOfMemory` is an allocation failure.
+fn reading_fault(error: io::Error) -> Fault
+    ensures allocation_failed { error_kind error ≡ ErrorKind.OutOfMemory → result ≡ Memory }
+    ensures reader_failed { error_kind error ≢ ErrorKind.OutOfMemory → result ≡ ReadFailed }
+{
+    match error.kind() {
+        ErrorKind::OutOfMemory => Fault::Memory,
+        _ => Fault::Read,
     }
-    match memchr(b'\n', buffered) {
-        Some(end) => {
-            line.extend_from_slice(&buffered[..end])?;
-            reader.consume(end + 1);
-            Ok(Progress::LineEnd)
-        }
-        None => {
-            line.extend_from_slice(buffered)?;
-            let used = buffered.len();
-            reader.consume(used);
-            Ok(Progress::More)
-        }
-    }
-}
-
-/// Drops what is buffered, and says whether the input has ended.
-fn skip_buffered<R: BufRead>(reader: &mut R) -> Result<bool, Fault> {
-    let used = match reader.fill_buf() {
-        Ok(buffered) => buffered.len(),
-        Err(error) if error.kind() == ErrorKind::Interrupted => return Ok(false),
-        Err(_) => return Err(Fault::Read),
-    };
-    reader.consume(used);
-    Ok(used == 0)
 }

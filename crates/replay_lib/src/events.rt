@@ -7,7 +7,13 @@ use broadcast_text::lines::Lines;
 use std::alloc::{AllocError, Global};
 use std::io::Read;
 
-/// The events of the whole input, one a line. Of the lines that are none the first is the fault.
+/// Returns the events of the whole input, one for each line.
+///
+/// # Errors
+///
+/// Fails with [`Fault::Read`] if the reader fails, also after a line that is no event; else with
+/// [`Fault::Syntax`] and the number of the first line that is none. Fails with [`Fault::Memory`] if
+/// an allocation fails.
 pub fn read_events<R: Read + Drop>(
     alloc: Global,
     reader: R,
@@ -22,12 +28,12 @@ pub fn read_events<R: Read + Drop>(
             Ok(event) => events.push(event).map_err(AllocError::from)?,
             Err(LineError::Memory) => return Err(Fault::Memory),
             Err(LineError::Syntax) => {
-                // That the reading fails goes before, even if it fails behind this line.
+                // A failed read goes before, even if it comes after this line.
                 lines.skip_rest()?;
                 return Err(Fault::Syntax(number));
             }
         }
     }
-    // So many events have no place.
+    // No vector has room for that many events.
     Err(Fault::Memory)
 }

@@ -12,11 +12,16 @@ use std::alloc::Global;
 use std::mem;
 use std::sync::{Mutex, Wait};
 
-/// A request of the program. None but broadcasts are made.
+/// A request of the program. It makes broadcasts alone.
 pub type Request = Message<u64, TestMessage, Fixed, Fixed>;
 
-/// Queues each broadcast in the inbox and takes it again, in order. The events stay as they were.
-/// After a fault some of them may be lost.
+/// Queues each broadcast in the inbox and takes it again, in order. The events stay the same.
+///
+/// # Errors
+///
+/// Fails with [`Fault::Memory`] if an allocation fails, and with [`Fault::Mailbox`] if the inbox
+/// refuses a broadcast for another cause, or if a request of others waits in it. Some events may be
+/// lost then.
 pub fn loop_back(
     rt: &impl Wait,
     inbox: &Mutex<Inbox<Request>>,
@@ -35,10 +40,11 @@ fn pass_all(
     alloc: Global,
     events: &mut [Event<u64, TestMessage>],
 ) -> Result<(), Fault>
-    ensures same { OnOk result (events.new ≡ events.old) }
-    ensures passed { OnOk result (inbox.new ≡ passed inbox.old (broadcasts_in events.old)) }
-    // An idle inbox refuses a broadcast for want of memory alone.
-    ensures memory { IsIdle inbox.old (broadcasts_in events.old) → IfErr result (λ fault. fault ≡ Memory) }
+    ensures events_stay { OnOk result (events.new ≡ events.old) }
+    ensures counts_each { OnOk result (inbox.new ≡ passed inbox.old (broadcasts_in events.old)) }
+    // An idle inbox refuses a broadcast only if an allocation fails.
+    ensures idle_lacks_memory_alone { IsIdle inbox.old (broadcasts_in events.old)
+        → IfErr result (λ fault. fault ≡ Memory) }
 {
     for i in 0..events.len() {
         let event = mem::replace(&mut events[i], Event::Cleanup(Items::new(alloc)));
@@ -47,14 +53,15 @@ fn pass_all(
     Ok(())
 }
 
-/// Passes the event through the inbox where it is a broadcast.
+/// Passes the event through the inbox if it is a broadcast.
 fn pass_event(
     inbox: &mut Inbox<Request>,
     event: Event<u64, TestMessage>,
 ) -> Result<Event<u64, TestMessage>, Fault>
-    ensures same { IfOk result (λ back. back ≡ event) }
-    ensures passed { OnOk result (inbox.new ≡ passed inbox.old (broadcasts_by event)) }
-    ensures memory { IsIdle inbox.old (broadcasts_by event) → IfErr result (λ fault. fault ≡ Memory) }
+    ensures event_stays { IfOk result (λ back. back ≡ event) }
+    ensures counts_each { OnOk result (inbox.new ≡ passed inbox.old (broadcasts_by event)) }
+    ensures idle_lacks_memory_alone { IsIdle inbox.old (broadcasts_by event)
+        → IfErr result (λ fault. fault ≡ Memory) }
 {
     match event {
         Event::Broadcast(recipients, message) => {
@@ -77,12 +84,12 @@ fn pass_event(
 
 /// Queues the message in the inbox, and takes it again.
 fn pass<T: Closable + Drop>(inbox: &mut Inbox<T>, message: T) -> Result<T, Fault>
-    // What comes back is what went in.
-    ensures same { IfOk result (λ back. back ≡ message) }
-    ensures passed { OnOk result (inbox.new ≡ passed inbox.old 1) }
-    ensures memory { IsIdle inbox.old 1 → IfErr result (λ fault. fault ≡ Memory) }
+    ensures message_stays { IfOk result (λ back. back ≡ message) }
+    ensures counts_each { OnOk result (inbox.new ≡ passed inbox.old 1) }
+    ensures idle_lacks_memory_alone { IsIdle inbox.old 1
+        → IfErr result (λ fault. fault ≡ Memory) }
 {
-    // A request that waits already would be taken in its place.
+    // A request that waits already would be taken in place of this one.
     if inbox.counts().waiting != 0 {
         return Err(Fault::Mailbox);
     }
