@@ -7,7 +7,7 @@ use broadcast_core::{Closable, Core, Digested, Set, Subscribed, Taken, TestMessa
 use std::alloc::{AllocError, Global};
 use std::io::{self, Write};
 
-/// A waiter that says whether it is closed.
+/// A waiter whose field is what `is_closed` returns.
 #[derive(Clone, Copy, Debug)]
 struct Waiter {
     ticket: u64,

@@ -8,14 +8,17 @@ use std::io::{self, Write};
 /// The contents whose digests are shown.
 const CONTENTS: u8 = 10;
 
-/// A request whose responder says whether it is closed.
+/// A request over responders whose field is what `is_closed` returns.
 pub type Plain = Message<u64, TestMessage, Fixed, Fixed>;
 
 /// What a request asks. A content is a byte, and a responder may be closed.
 #[derive(Clone, Copy)]
 pub enum Ask {
+    /// Broadcasts a message of this content to all.
     Broadcast(u8),
+    /// Requests the message of this content, now or when it arrives.
     Subscribe(u8, bool),
+    /// Requests the cached message of this content.
     Get(u8, bool),
 }
 
