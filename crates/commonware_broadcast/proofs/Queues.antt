@@ -2,7 +2,7 @@
 use Rattle.std.proofs.Common.{◌≡◌, ◌+◌, ◌≤◌, Bool, false, List, [], ◌∷◌, ◌++◌, length, Result, is_ok, is_err, cond, refl, sym, append-nil, ap, ◌∙◌, subst, inl, inr, append_assoc, arith, length-append}
 use Rattle.std.proofs.lemmas.List.{length_push}
 use Rattle.std.proofs.lemmas.Bool.{false≢true, cases_lt}
-use Rattle.commonware_broadcast.specs.declared.ingress.request.Request.{Request}
+use Rattle.commonware_broadcast.specs.declared.buffered.ingress.request.Request.{Request}
 use Rattle.commonware_broadcast.specs.Overflow.{Handles, Drains, PutsWithin}
 use Rattle.commonware_broadcast.proofs.Rising.{IsRising-higher, IsRising-lower, IsRising-tickets-push, length-IsRising, length-tickets_of}
 use Rattle.commonware_broadcast.proofs.Refilling.{Refills-fits, Refills-rising}
@@ -30,7 +30,7 @@ module _ {T : Type 0} where
         some_places = sound.some_places;
         within = omega (arith, ap length is, length_push queue.ready request, room.1);
         full = inl room.0;
-        rising = subst (λ (xs : List (Request T)). IsRising 0 (tickets_of xs) (queue.next + 1)) (sym more) (IsRising-tickets-push (waiting queue) request queue.next refl sound.rising);
+        rising = subst (λ (xs : List (Request T)). IsRising 0 (tickets_of xs) (queue.next + 1)) (sym more) (IsRising-tickets-push 0 (waiting queue) request queue.next refl sound.rising);
         shut = λ closed. absurd (false≢true (sym draws.is_open ∙ closed));
         drawn = omega (arith, draws.left);
       }
@@ -52,7 +52,7 @@ module _ {T : Type 0} where
         some_places = sound.some_places;
         within = sound.within;
         full = inr (full-without_room queue sound no_room);
-        rising = subst (λ (xs : List (Request T)). IsRising 0 (tickets_of xs) (queue.next + 1)) (sym more) (IsRising-tickets-push (waiting queue) request queue.next refl sound.rising);
+        rising = subst (λ (xs : List (Request T)). IsRising 0 (tickets_of xs) (queue.next + 1)) (sym more) (IsRising-tickets-push 0 (waiting queue) request queue.next refl sound.rising);
         shut = λ closed. absurd (false≢true (sym draws.is_open ∙ closed));
         drawn = omega (arith, draws.left);
       }

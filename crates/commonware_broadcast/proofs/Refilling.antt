@@ -1,10 +1,10 @@
 -- What refilling a ready list keeps.
 use Rattle.std.proofs.Common.{◌≡◌, ℕ, ◌+◌, ◌≤◌, ◌⊎◌, Bool, List, [], ◌∷◌, ◌++◌, length, sym, ap, ◌∙◌, subst, inl, inr, Option, None, Some, append_assoc, arith, length-append}
 use Rattle.std.proofs.lemmas.List.{length_push}
-use Rattle.commonware_broadcast.specs.declared.ingress.request.Request.{Request}
+use Rattle.commonware_broadcast.specs.declared.buffered.ingress.request.Request.{Request}
 use Rattle.commonware_broadcast.specs.Overflow.{Drains, PutsWithin}
 use Rattle.commonware_broadcast.specs.Queue.{QueueState, IsRising, Pops, tickets_of, waiting}
-use Rattle.commonware_broadcast.specs.Mailbox.{taken_by}
+use Rattle.commonware_broadcast.specs.Mailbox.{count_taken}
 use Rattle.commonware_broadcast.proofs.Rising.{IsRising-tickets-without}
 
 module _ {T : Type 0} (answers : T → Bool → Type 0) (size : ℕ) where
@@ -45,7 +45,7 @@ module _ {T : Type 0} (answers : Request T → Bool → Type 0) (size : ℕ) whe
 module _ {T : Type 0} (answers : T → Bool → Type 0) where
   -- each request that waited was taken, was skipped or waits
   pub Pops-length : (old : QueueState T) (result : Option (ℕ × T)) (skipped : List (Request T)) (new : QueueState T) → Pops answers old result skipped new
-      → length (waiting old) ≡ taken_by result + length skipped + length (waiting new)
+      → length (waiting old) ≡ count_taken result + length skipped + length (waiting new)
   Pops-length old None skipped new (nobody, none, same) = omega (arith, ap length none, ap (λ (q : QueueState T). length (waiting q)) same)
   Pops-length old (Some taken) skipped new (rest, front, refills, same) =
       let moved = Refills-length (λ (request : Request T) (answer : Bool). answers request.message answer) old.size rest old.overflow skipped new.overflow new.ready refills in

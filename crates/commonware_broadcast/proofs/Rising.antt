@@ -1,8 +1,8 @@
 -- Tickets that rise.
-use Rattle.std.proofs.Common.{◌≡◌, ℕ, suc, ◌+◌, ◌≤◌, List, [], ◌∷◌, ◌++◌, length, refl, sym, ap, ◌∙◌, subst, arith}
+use Rattle.std.proofs.Common.{◌≡◌, ℕ, suc, ◌+◌, ◌≤◌, List, [], ◌∷◌, ◌++◌, length, refl, sym, ap, ◌∙◌, subst, arith, append-nil, append_assoc}
 use Rattle.std.proofs.lemmas.List.{map-append}
-use Rattle.commonware_broadcast.specs.declared.ingress.request.Request.{Request}
-use Rattle.commonware_broadcast.specs.Queue.{IsRising, tickets_of}
+use Rattle.commonware_broadcast.specs.declared.buffered.ingress.request.Request.{Request}
+use Rattle.commonware_broadcast.specs.Queue.{QueueState, IsRising, request_of, tickets_of, waiting, with_ready, with_overflow}
 
 -- tickets that stay below a number stay below a higher one
 pub IsRising-higher : (low : ℕ) (tickets : List ℕ) (high above : ℕ) → high ≤ above → IsRising low tickets high → IsRising low tickets above
@@ -24,6 +24,11 @@ pub IsRising-append : (low : ℕ) (xs : List ℕ) (mid : ℕ) (ys : List ℕ) (h
 IsRising-append low [] mid ys high first second = IsRising-lower low mid ys high first second
 IsRising-append low (x ∷ xs) mid ys high first second = (first.0, IsRising-append (x + 1) xs mid ys high first.1 second)
 
+-- others behind the same tickets
+pub IsRising-onward : (low : ℕ) (xs ys : List ℕ) (mid : ℕ) (zs : List ℕ) (high : ℕ) → IsRising low (xs ++ ys) mid → ((from : ℕ) → IsRising from ys mid → IsRising from zs high) → IsRising low (xs ++ zs) high
+IsRising-onward low [] ys mid zs high rises on = on low rises
+IsRising-onward low (x ∷ xs) ys mid zs high rises on = (rises.0, IsRising-onward (x + 1) xs ys mid zs high rises.1 on)
+
 -- there are no more of them than numbers
 pub length-IsRising : (low : ℕ) (tickets : List ℕ) (high : ℕ) → IsRising low tickets high → low + length tickets ≤ high
 length-IsRising low [] high rises = omega arith
@@ -35,9 +40,22 @@ module _ {T : Type 0} where
   tickets_of-push requests request = map-append (λ (r : Request T). r.ticket) requests (request ∷ [])
 
   -- a request that draws the next ticket keeps them rising
-  pub IsRising-tickets-push : (requests : List (Request T)) (request : Request T) (high : ℕ) → request.ticket ≡ high → IsRising 0 (tickets_of requests) high → IsRising 0 (tickets_of (requests ++ request ∷ [])) (high + 1)
-  IsRising-tickets-push requests request high is rises =
-      subst (λ (ts : List ℕ). IsRising 0 ts (high + 1)) (sym (tickets_of-push requests request ∙ ap (λ (t : ℕ). tickets_of requests ++ t ∷ []) is)) (IsRising-push 0 (tickets_of requests) high rises)
+  pub IsRising-tickets-push : (low : ℕ) (requests : List (Request T)) (request : Request T) (high : ℕ) → request.ticket ≡ high → IsRising low (tickets_of requests) high → IsRising low (tickets_of (requests ++ request ∷ [])) (high + 1)
+  IsRising-tickets-push low requests request high is rises =
+      subst (λ (ts : List ℕ). IsRising low ts (high + 1)) (sym (tickets_of-push requests request ∙ ap (λ (t : ℕ). tickets_of requests ++ t ∷ []) is)) (IsRising-push low (tickets_of requests) high rises)
+
+  -- a queue with one more request, in its ready list or in its overflow
+  pub rising-ready : (low : ℕ) (queue : QueueState T) (message : T) → queue.overflow ≡ [] → IsRising low (tickets_of (waiting queue)) queue.next → IsRising low (tickets_of (waiting (with_ready queue message))) (queue.next + 1)
+  rising-ready low queue message none rises =
+      let request : Request T = request_of queue message in
+      let before : waiting queue ≡ queue.ready = ap (λ (xs : List (Request T)). queue.ready ++ xs) none ∙ append-nil queue.ready in
+      let after : (queue.ready ++ request ∷ []) ++ queue.overflow ≡ queue.ready ++ request ∷ [] = ap (λ (xs : List (Request T)). (queue.ready ++ request ∷ []) ++ xs) none ∙ append-nil (queue.ready ++ request ∷ []) in
+      subst (λ (xs : List (Request T)). IsRising low (tickets_of xs) (queue.next + 1)) (sym after) (IsRising-tickets-push low queue.ready request queue.next refl (subst (λ (xs : List (Request T)). IsRising low (tickets_of xs) queue.next) before rises))
+
+  pub rising-overflow : (low : ℕ) (queue : QueueState T) (message : T) → IsRising low (tickets_of (waiting queue)) queue.next → IsRising low (tickets_of (waiting (with_overflow queue message))) (queue.next + 1)
+  rising-overflow low queue message rises =
+      let request : Request T = request_of queue message in
+      subst (λ (xs : List (Request T)). IsRising low (tickets_of xs) (queue.next + 1)) (append_assoc queue.ready queue.overflow (request ∷ [])) (IsRising-tickets-push low (waiting queue) request queue.next refl rises)
 
   -- without a request they still rise
   pub IsRising-tickets-without : (low : ℕ) (before : List (Request T)) (request : Request T) (after : List (Request T)) (high : ℕ) → IsRising low (tickets_of (before ++ request ∷ after)) high → IsRising low (tickets_of (before ++ after)) high

@@ -1,15 +1,15 @@
 -- What the steps of a mailbox do with its tickets.
-use Rattle.std.proofs.Common.{◌≡◌, ℕ, ◌+◌, Bool, List, [], ◌∷◌, ◌++◌, length, Option, None, Some, Ok, Err, ap, inl, inr, arith, length-append}
+use Rattle.std.proofs.Common.{◌≡◌, ℕ, ◌+◌, ◌≤◌, Bool, List, [], ◌∷◌, ◌++◌, length, Option, None, Some, Ok, Err, sym, subst, append_assoc, ap, inl, inr, arith, length-append}
 use Rattle.std.specs.List.{flat_map}
-use Rattle.commonware_broadcast.specs.declared.ingress.request.Request.{Request}
-use Rattle.commonware_broadcast.specs.declared.ingress.queued.Queued.TheVariants as queued
+use Rattle.commonware_broadcast.specs.declared.buffered.ingress.request.Request.{Request}
+use Rattle.commonware_broadcast.specs.declared.buffered.ingress.queued.Queued.TheVariants as queued
 use Rattle.commonware_broadcast.specs.declared.broadcaster.MailboxError.TheVariants.{Memory, Exhausted}
 use Rattle.commonware_broadcast.specs.Overflow.{Drains, PutsWithin}
 use Rattle.commonware_broadcast.specs.Queue.{QueueState, IsRising, Pops, tickets_of, waiting, with_ready, with_overflow}
 use Rattle.commonware_broadcast.specs.Mailbox.{MailboxState, empty_mailbox}
-use Rattle.commonware_broadcast.specs.Tickets.{Step, Enqueued, Took, StopRequested, GaveUp, times, handed_out_by, taken_by, skipped_by, given_up_by, ends, Moves, Runs, IsLawful}
-use Rattle.commonware_broadcast.proofs.Rising.{IsRising-append, length-tickets_of}
-use Rattle.commonware_broadcast.proofs.Refilling.{Pops-next}
+use Rattle.commonware_broadcast.specs.Tickets.{Step, Enqueued, Took, StopRequested, GaveUp, times, drawn_by, taken_by, skipped_by, given_up_by, ends, Moves, Runs, IsLawful}
+use Rattle.commonware_broadcast.proofs.Rising.{IsRising-append, IsRising-higher, IsRising-onward, length-IsRising, length-tickets_of, rising-ready, rising-overflow}
+use Rattle.commonware_broadcast.proofs.Refilling.{Pops-next, Refills-rising}
 use Rattle.commonware_broadcast.proofs.TicketCounts.{times-append, times-Contains, times-none}
 
 module _ {T : Type 0} (ticket : ℕ) where
@@ -45,7 +45,7 @@ module _ {T : Type 0} (ticket : ℕ) where
 module _ {T : Type 0} (answers : T → Bool → Type 0) where
   -- one step keeps each ticket
   times-Moves : (ticket : ℕ) (old : MailboxState T) (step : Step T) (new : MailboxState T) → Moves answers old step new
-      → held ticket (waiting old.queue) + times ticket (handed_out_by step) ≡ times ticket (taken_by step) + times ticket (skipped_by step) + held ticket (waiting new.queue) + times ticket (given_up_by step)
+      → held ticket (waiting old.queue) + times ticket (drawn_by step) ≡ times ticket (taken_by step) + times ticket (skipped_by step) + held ticket (waiting new.queue) + times ticket (given_up_by step)
   times-Moves ticket old (Enqueued message (Ok (queued.Ready k))) new ((draws, room, same), state) =
       omega (arith, ap (λ (q : QueueState T). held ticket (waiting q)) same, held-ready ticket old.queue message, ap (λ (n : ℕ). times ticket (n ∷ [])) draws.next)
   times-Moves ticket old (Enqueued message (Ok (queued.Overflow k))) new ((draws, no_room, opened, same), state) =
@@ -67,12 +67,12 @@ module _ {T : Type 0} (answers : T → Bool → Type 0) where
   times-Moves ticket old (GaveUp requests) new (all, (len, same)) =
       omega (arith, ap (λ (s : MailboxState T). held ticket (waiting s.queue)) same, ap (held ticket) all)
 
-  rising-Took : (old : QueueState T) (result : Option (ℕ × T)) (skipped : List (Request T)) (new : QueueState T) → Pops answers old result skipped new → IsRising old.next (handed_out_by (Took result skipped)) new.next
+  rising-Took : (old : QueueState T) (result : Option (ℕ × T)) (skipped : List (Request T)) (new : QueueState T) → Pops answers old result skipped new → IsRising old.next (drawn_by (Took result skipped)) new.next
   rising-Took old None skipped new pops = omega (arith, Pops-next answers old None skipped new pops)
   rising-Took old (Some taken) skipped new pops = omega (arith, Pops-next answers old (Some taken) skipped new pops)
 
   -- one step hands out the next tickets
-  rising-Moves : (old : MailboxState T) (step : Step T) (new : MailboxState T) → Moves answers old step new → IsRising old.queue.next (handed_out_by step) new.queue.next
+  rising-Moves : (old : MailboxState T) (step : Step T) (new : MailboxState T) → Moves answers old step new → IsRising old.queue.next (drawn_by step) new.queue.next
   rising-Moves old (Enqueued message (Ok (queued.Ready k))) new ((draws, room, same), state) =
       (omega (arith, draws.next), omega (arith, draws.next, ap (λ (q : QueueState T). q.next) same))
   rising-Moves old (Enqueued message (Ok (queued.Overflow k))) new ((draws, no_room, opened, same), state) =
@@ -110,17 +110,55 @@ module _ {T : Type 0} (answers : T → Bool → Type 0) where
   counted-Moves old (GaveUp requests) new (all, (len, same)) =
       (omega (arith, ap (λ (s : MailboxState T). s.taken) same, length-tickets_of requests), omega (arith, ap (λ (s : MailboxState T). s.skipped) same, length-tickets_of requests), omega (arith, ap (λ (s : MailboxState T). s.given_up) same, length-tickets_of requests))
 
+  -- a step leaves the tickets that wait rising, behind those that it takes
+  waiting-Moves : (low : ℕ) (old : MailboxState T) (step : Step T) (new : MailboxState T) → IsRising low (tickets_of (waiting old.queue)) old.queue.next → Moves answers old step new → IsRising low (taken_by step ++ tickets_of (waiting new.queue)) new.queue.next
+  waiting-Moves low old (Enqueued message (Ok (queued.Ready k))) new rises ((draws, room, same), state) =
+      subst (λ (q : QueueState T). IsRising low (tickets_of (waiting q)) q.next) (sym same) (rising-ready low old.queue message room.0 rises)
+  waiting-Moves low old (Enqueued message (Ok (queued.Overflow k))) new rises ((draws, no_room, opened, same), state) =
+      subst (λ (q : QueueState T). IsRising low (tickets_of (waiting q)) q.next) (sym same) (rising-overflow low old.queue message rises)
+  waiting-Moves low old (Enqueued message (Ok (queued.Skipped k))) new rises ((draws, no_room, closed, same), state) =
+      subst (λ (q : QueueState T). IsRising low (tickets_of (waiting q)) q.next) (sym same) (IsRising-higher low (tickets_of (waiting old.queue)) old.queue.next (old.queue.next + 1) (omega arith) rises)
+  waiting-Moves low old (Enqueued message (Ok queued.Closed)) new rises ((closed, same), state) =
+      subst (λ (q : QueueState T). IsRising low (tickets_of (waiting q)) q.next) (sym same) rises
+  waiting-Moves low old (Enqueued message (Err Memory)) new rises ((draws, lacks, same), state) =
+      subst (λ (q : QueueState T). IsRising low (tickets_of (waiting q)) q.next) (sym same) rises
+  waiting-Moves low old (Enqueued message (Err Exhausted)) new rises ((opened, last, same), state) =
+      subst (λ (q : QueueState T). IsRising low (tickets_of (waiting q)) q.next) (sym same) rises
+  waiting-Moves low old (Took None skipped) new rises ((nobody, none, same), state) =
+      subst (λ (q : QueueState T). IsRising low (tickets_of (waiting q)) q.next) (sym same) rises
+  waiting-Moves low old (Took (Some taken) skipped) new rises ((rest, front, refills, same), state) =
+      let split = subst (λ (xs : List (Request T)). IsRising low (tickets_of (xs ++ old.queue.overflow)) old.queue.next) front rises in
+      let filled = Refills-rising (λ (request : Request T) (answer : Bool). answers request.message answer) old.queue.size (taken.0 + 1) old.queue.next rest old.queue.overflow skipped new.queue.overflow new.queue.ready split.1 refills in
+      (split.0, subst (λ (n : ℕ). IsRising (taken.0 + 1) (tickets_of (waiting new.queue)) n) (sym (ap (λ (q : QueueState T). q.next) same)) filled)
+  waiting-Moves low old StopRequested new rises same =
+      subst (λ (s : MailboxState T). IsRising low (tickets_of (waiting s.queue)) s.queue.next) (sym same) rises
+  waiting-Moves low old (GaveUp requests) new rises (all, (len, same)) =
+      let within : low ≤ old.queue.next = omega (arith, length-IsRising low (tickets_of (waiting old.queue)) old.queue.next rises) in
+      subst (λ (s : MailboxState T). IsRising low (tickets_of (waiting s.queue)) s.queue.next) (sym same) within
+
+  -- a step draws the next tickets
+  drawn-Moves : (old : MailboxState T) (step : Step T) (new : MailboxState T) → Moves answers old step new → new.queue.next ≡ old.queue.next + length (drawn_by step)
+  drawn-Moves old (Enqueued message (Ok (queued.Ready k))) new ((draws, room, same), state) = omega (arith, ap (λ (q : QueueState T). q.next) same)
+  drawn-Moves old (Enqueued message (Ok (queued.Overflow k))) new ((draws, no_room, opened, same), state) = omega (arith, ap (λ (q : QueueState T). q.next) same)
+  drawn-Moves old (Enqueued message (Ok (queued.Skipped k))) new ((draws, no_room, closed, same), state) = omega (arith, ap (λ (q : QueueState T). q.next) same)
+  drawn-Moves old (Enqueued message (Ok queued.Closed)) new ((closed, same), state) = omega (arith, ap (λ (q : QueueState T). q.next) same)
+  drawn-Moves old (Enqueued message (Err Memory)) new ((draws, lacks, same), state) = omega (arith, ap (λ (q : QueueState T). q.next) same)
+  drawn-Moves old (Enqueued message (Err Exhausted)) new ((opened, last, same), state) = omega (arith, ap (λ (q : QueueState T). q.next) same)
+  drawn-Moves old (Took result skipped) new (pops, state) = omega (arith, Pops-next answers old.queue result skipped new.queue pops)
+  drawn-Moves old StopRequested new same = omega (arith, ap (λ (s : MailboxState T). s.queue.next) same)
+  drawn-Moves old (GaveUp requests) new (all, (len, same)) = omega (arith, ap (λ (s : MailboxState T). s.queue.next) same)
+
   -- a run keeps each ticket
-  times-Runs : (ticket : ℕ) (old : MailboxState T) (steps : List (Step T)) (new : MailboxState T) → Runs answers old steps new → held ticket (waiting old.queue) + times ticket (flat_map handed_out_by steps) ≡ ends ticket steps new
+  times-Runs : (ticket : ℕ) (old : MailboxState T) (steps : List (Step T)) (new : MailboxState T) → Runs answers old steps new → held ticket (waiting old.queue) + times ticket (flat_map drawn_by steps) ≡ ends ticket steps new
   times-Runs ticket old [] new same = omega (arith, ap (λ (s : MailboxState T). held ticket (waiting s.queue)) same)
   times-Runs ticket old (step ∷ steps) new (mid, moves, runs) =
-      omega (arith, times-Moves ticket old step mid moves, times-Runs ticket mid steps new runs, times-append ticket (handed_out_by step) (flat_map handed_out_by steps), times-append ticket (taken_by step) (flat_map taken_by steps), times-append ticket (skipped_by step) (flat_map skipped_by steps), times-append ticket (given_up_by step) (flat_map given_up_by steps))
+      omega (arith, times-Moves ticket old step mid moves, times-Runs ticket mid steps new runs, times-append ticket (drawn_by step) (flat_map drawn_by steps), times-append ticket (taken_by step) (flat_map taken_by steps), times-append ticket (skipped_by step) (flat_map skipped_by steps), times-append ticket (given_up_by step) (flat_map given_up_by steps))
 
   -- a run hands out the next tickets
-  rising-Runs : (old : MailboxState T) (steps : List (Step T)) (new : MailboxState T) → Runs answers old steps new → IsRising old.queue.next (flat_map handed_out_by steps) new.queue.next
+  rising-Runs : (old : MailboxState T) (steps : List (Step T)) (new : MailboxState T) → Runs answers old steps new → IsRising old.queue.next (flat_map drawn_by steps) new.queue.next
   rising-Runs old [] new same = omega (arith, ap (λ (s : MailboxState T). s.queue.next) same)
   rising-Runs old (step ∷ steps) new (mid, moves, runs) =
-      IsRising-append old.queue.next (handed_out_by step) mid.queue.next (flat_map handed_out_by steps) new.queue.next (rising-Moves old step mid moves) (rising-Runs mid steps new runs)
+      IsRising-append old.queue.next (drawn_by step) mid.queue.next (flat_map drawn_by steps) new.queue.next (rising-Moves old step mid moves) (rising-Runs mid steps new runs)
 
   -- a run counts what it takes, skips and gives up
   counted-Runs : (old : MailboxState T) (steps : List (Step T)) (new : MailboxState T) → Runs answers old steps new
@@ -135,15 +173,31 @@ module _ {T : Type 0} (answers : T → Bool → Type 0) where
         omega (arith, one.2, others.2, length-append (given_up_by step) (flat_map given_up_by steps)),
       )
 
-  -- what holds of every list of steps
+  -- a run leaves the tickets that wait rising, behind those that it takes
+  waiting-Runs : (low : ℕ) (old : MailboxState T) (steps : List (Step T)) (new : MailboxState T) → IsRising low (tickets_of (waiting old.queue)) old.queue.next → Runs answers old steps new → IsRising low (flat_map taken_by steps ++ tickets_of (waiting new.queue)) new.queue.next
+  waiting-Runs low old [] new rises same =
+      subst (λ (s : MailboxState T). IsRising low (tickets_of (waiting s.queue)) s.queue.next) (sym same) rises
+  waiting-Runs low old (step ∷ steps) new rises (mid, moves, runs) =
+      let all = IsRising-onward low (taken_by step) (tickets_of (waiting mid.queue)) mid.queue.next (flat_map taken_by steps ++ tickets_of (waiting new.queue)) new.queue.next (waiting-Moves low old step mid rises moves) (λ from on. waiting-Runs from mid steps new on runs) in
+      subst (λ (xs : List ℕ). IsRising low xs new.queue.next) (sym (append_assoc (taken_by step) (flat_map taken_by steps) (tickets_of (waiting new.queue)))) all
+
+  -- a run draws the next tickets
+  drawn-Runs : (old : MailboxState T) (steps : List (Step T)) (new : MailboxState T) → Runs answers old steps new → new.queue.next ≡ old.queue.next + length (flat_map drawn_by steps)
+  drawn-Runs old [] new same = omega (arith, ap (λ (s : MailboxState T). s.queue.next) same)
+  drawn-Runs old (step ∷ steps) new (mid, moves, runs) =
+      omega (arith, drawn-Moves old step mid moves, drawn-Runs mid steps new runs, length-append (drawn_by step) (flat_map drawn_by steps))
+
+  -- every list of steps is lawful
   pub IsLawful-Runs : (size : ℕ) (steps : List (Step T)) (last : MailboxState T) → Runs answers (empty_mailbox size) steps last → IsLawful steps last
   IsLawful-Runs size steps last runs =
       let rises = rising-Runs (empty_mailbox size) steps last runs in
       let counted = counted-Runs (empty_mailbox size) steps last runs in
       record {
-        rising = rises;
-        once = λ ticket given. omega (arith, times-Runs ticket (empty_mailbox size) steps last runs, times-Contains ticket 0 (flat_map handed_out_by steps) last.queue.next rises given);
-        others = λ ticket none. omega (arith, times-Runs ticket (empty_mailbox size) steps last runs, times-none ticket (flat_map handed_out_by steps) none);
+        drawn_rise = rises;
+        taken_rise = waiting-Runs 0 (empty_mailbox size) steps last (omega arith) runs;
+        drawn_end_once = λ ticket given. omega (arith, times-Runs ticket (empty_mailbox size) steps last runs, times-Contains ticket 0 (flat_map drawn_by steps) last.queue.next rises given);
+        others_never_end = λ ticket none. omega (arith, times-Runs ticket (empty_mailbox size) steps last runs, times-none ticket (flat_map drawn_by steps) none);
+        accepted = omega (arith, drawn-Runs (empty_mailbox size) steps last runs);
         taken = omega (arith, counted.0);
         skipped = omega (arith, counted.1);
         given_up = omega (arith, counted.2);

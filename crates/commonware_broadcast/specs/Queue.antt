@@ -1,13 +1,15 @@
 -- The requests that wait in a mailbox.
-use Rattle.std.specs.Prelude.{◌≡◌, ℕ, ◌+◌, ◌-◌, ◌^◌, ◌<◌, ◌≤◌, ◌⊎◌, Bool, true, false, List, [], ◌∷◌, ◌++◌, length, map, Option, None, Some, Result, Ok, Err}
-use Rattle.commonware_broadcast.specs.declared.ingress.request.Request.{Request}
-use Rattle.commonware_broadcast.specs.declared.ingress.queued.Queued.{Queued}
-use Rattle.commonware_broadcast.specs.declared.ingress.queued.Queued.TheVariants as queued
+use Rattle.std.specs.Prelude.{◌≡◌, ℕ, ◌+◌, ◌-◌, ◌^◌, ◌<◌, ◌≤◌, ◌⊎◌, Bool, true, false}
+use Rattle.std.specs.Prelude.{List, [], ◌∷◌, ◌++◌, length, map, Option, None, Some, Result, Ok, Err}
+use Rattle.commonware_broadcast.specs.declared.buffered.ingress.request.Request.{Request}
+use Rattle.commonware_broadcast.specs.declared.buffered.ingress.queued.Queued.{Queued}
+use Rattle.commonware_broadcast.specs.declared.buffered.ingress.queued.Queued.TheVariants as queued
 use Rattle.commonware_broadcast.specs.declared.broadcaster.MailboxError.{MailboxError}
 use Rattle.commonware_broadcast.specs.declared.broadcaster.MailboxError.TheVariants.{Memory, Exhausted}
 use Rattle.commonware_broadcast.specs.Overflow.{Drains, PutsWithin}
 
--- a ready list of so many places, an overflow without bound, whether it is closed, and the next ticket
+-- a ready list of `size` places and an overflow without bound, whether the queue is closed, and the
+-- next ticket
 pub record QueueState (T : Type 0) : Type 0 where
   pub size : ℕ
   pub ready : List (Request T)
@@ -15,7 +17,7 @@ pub record QueueState (T : Type 0) : Type 0 where
   pub closed : Bool
   pub next : ℕ
 
--- the tickets rise, from the first number on, and stay below the last
+-- the tickets rise, all of them from `low` on and below `high`
 abbrev pub IsRising : ℕ → List ℕ → ℕ → Type 0
 IsRising low [] high = low ≤ high
 IsRising low (ticket ∷ tickets) high = (low ≤ ticket) × IsRising (ticket + 1) tickets high
@@ -28,15 +30,15 @@ module _ {T : Type 0} where
   abbrev pub tickets_of : List (Request T) → List ℕ
   tickets_of requests = map (λ (request : Request T). request.ticket) requests
 
-  -- who waits, the oldest first
+  -- the requests that wait, oldest first
   abbrev pub waiting : QueueState T → List (Request T)
   waiting queue = queue.ready ++ queue.overflow
 
-  -- what holds of every queue
+  -- the laws of every queue
   pub record IsSound (queue : QueueState T) : Type 0 where
     pub some_places : 0 < queue.size
     pub within : length queue.ready ≤ queue.size
-    -- an overflow that is not empty means a full ready list
+    -- the overflow is used only behind a full ready list
     pub full : (queue.overflow ≡ []) ⊎ (length queue.ready ≡ queue.size)
     pub rising : IsRising 0 (tickets_of (waiting queue)) queue.next
     pub shut : queue.closed ≡ true → waiting queue ≡ []
@@ -46,45 +48,70 @@ module _ {T : Type 0} where
   abbrev pub HasRoom : QueueState T → Type 0
   HasRoom queue = (queue.overflow ≡ []) × (length queue.ready < queue.size)
 
-  -- the queue is open, and this is the ticket that the next request draws
+  -- the queue is open, and `ticket` is the one that the next request draws
   pub record Draws (queue : QueueState T) (ticket : ℕ) : Type 0 where
     pub is_open : queue.closed ≡ false
     pub next : ticket ≡ queue.next
     pub left : queue.next < last_ticket
 
-  -- a queue with one more request in its ready list, one more in its overflow, or one more ticket drawn
+  -- the request that the message becomes once it has drawn the next ticket
+  abbrev pub request_of : QueueState T → T → Request T
+  request_of queue message = record { ticket = queue.next; message = message }
+
+  -- the queue with one more request in its ready list
   abbrev pub with_ready : QueueState T → T → QueueState T
-  with_ready queue message = record queue { ready = queue.ready ++ record { ticket = queue.next; message = message } ∷ []; next = queue.next + 1 }
+  with_ready queue message = record queue {
+    ready = queue.ready ++ request_of queue message ∷ [];
+    next = queue.next + 1;
+  }
 
+  -- the queue with one more request in its overflow
   abbrev pub with_overflow : QueueState T → T → QueueState T
-  with_overflow queue message = record queue { overflow = queue.overflow ++ record { ticket = queue.next; message = message } ∷ []; next = queue.next + 1 }
+  with_overflow queue message = record queue {
+    overflow = queue.overflow ++ request_of queue message ∷ [];
+    next = queue.next + 1;
+  }
 
+  -- the queue with one more ticket drawn
   abbrev pub with_drawn : QueueState T → QueueState T
   with_drawn queue = record queue { next = queue.next + 1 }
 
   module _ (answers : T → Bool → Type 0) where
-    -- what a push may answer, and leave
+    -- what a push may return, and the queue that it leaves
     abbrev pub Pushes : QueueState T → T → Result Queued MailboxError → QueueState T → Type 0
     Pushes old message (Ok queued.Closed) new = (old.closed ≡ true) × (new ≡ old)
-    Pushes old message (Err Exhausted) new = (old.closed ≡ false) × (old.next ≡ last_ticket) × (new ≡ old)
-    Pushes old message (Ok (queued.Ready ticket)) new = Draws old ticket × HasRoom old × (new ≡ with_ready old message)
-    Pushes old message (Ok (queued.Overflow ticket)) new = Draws old ticket × (¬ HasRoom old) × answers message false × (new ≡ with_overflow old message)
-    Pushes old message (Ok (queued.Skipped ticket)) new = Draws old ticket × (¬ HasRoom old) × answers message true × (new ≡ with_drawn old)
-    -- memory may lack only for a request that finds room, or that answered open
-    Pushes old message (Err Memory) new = Draws old old.next × (HasRoom old ⊎ answers message false) × (new ≡ old)
+    Pushes old message (Err Exhausted) new =
+        (old.closed ≡ false) × (old.next ≡ last_ticket) × (new ≡ old)
+    Pushes old message (Ok (queued.Ready ticket)) new =
+        Draws old ticket × HasRoom old × (new ≡ with_ready old message)
+    Pushes old message (Ok (queued.Overflow ticket)) new =
+        Draws old ticket × (¬ HasRoom old) × answers message false × (new ≡ with_overflow old message)
+    Pushes old message (Ok (queued.Skipped ticket)) new =
+        Draws old ticket × (¬ HasRoom old) × answers message true × (new ≡ with_drawn old)
+    -- only a message that finds room, or that answered open, is allocated for
+    Pushes old message (Err Memory) new =
+        Draws old old.next × (HasRoom old ⊎ answers message false) × (new ≡ old)
 
-    -- what a pop may answer, skip and leave: the ready list's front, and then the ready list is filled from the overflow
+    -- what a pop may return, what it skips, and the queue that it leaves: the front of the ready list
+    -- is removed, and then the ready list is filled from the overflow
     abbrev pub Pops : QueueState T → Option (ℕ × T) → List (Request T) → QueueState T → Type 0
     Pops old None skipped new = (waiting old ≡ []) × (skipped ≡ []) × (new ≡ old)
     Pops old (Some taken) skipped new =
-        (rest : List (Request T)) × (old.ready ≡ record { ticket = taken.0; message = taken.1 } ∷ rest)
-        × Drains (λ (request : Request T) answer. answers request.message answer) (PutsWithin old.size) rest old.overflow skipped new.overflow new.ready
+        (rest : List (Request T))
+        × (old.ready ≡ record { ticket = taken.0; message = taken.1 } ∷ rest)
+        × Drains (λ (request : Request T) answer. answers request.message answer)
+        (PutsWithin old.size) rest old.overflow skipped new.overflow new.ready
         × (new ≡ record old { ready = new.ready; overflow = new.overflow })
 
-  -- an open queue of so many places, in which nobody waits
-  abbrev pub empty_queue : ℕ → QueueState T
-  empty_queue size = record { size = size; ready = []; overflow = []; closed = false; next = 0 }
+  -- an open, empty queue whose ready list has `size` places, with `drawn` tickets drawn
+  abbrev pub queue_after : ℕ → ℕ → QueueState T
+  queue_after size drawn =
+      record { size = size; ready = []; overflow = []; closed = false; next = drawn }
 
-  -- a queue that is closed, in which nobody waits
+  -- an open, empty queue with no ticket drawn
+  abbrev pub empty_queue : ℕ → QueueState T
+  empty_queue size = queue_after size 0
+
+  -- the queue closed, with no request left
   abbrev pub shut_down : QueueState T → QueueState T
   shut_down queue = record queue { ready = []; overflow = []; closed = true }

@@ -1,14 +1,16 @@
 -- What becomes of each ticket, over any list of calls.
-use Rattle.std.specs.Prelude.{◌≡◌, ℕ, ◌+◌, ◌==◌, if◌then◌else◌, Bool, List, [], ◌∷◌, length, Option, Some, Result, Ok, Contains}
+use Rattle.std.specs.Prelude.{◌≡◌, ℕ, ◌+◌, ◌==◌, if◌then◌else◌, Bool, List, [], ◌∷◌, ◌++◌, length}
+use Rattle.std.specs.Prelude.{Option, Some, Result, Ok, Contains}
 use Rattle.std.specs.List.{flat_map}
-use Rattle.commonware_broadcast.specs.declared.ingress.request.Request.{Request}
-use Rattle.commonware_broadcast.specs.declared.ingress.queued.Queued.{Queued}
-use Rattle.commonware_broadcast.specs.declared.ingress.queued.Queued.TheVariants as queued
+use Rattle.commonware_broadcast.specs.declared.buffered.ingress.request.Request.{Request}
+use Rattle.commonware_broadcast.specs.declared.buffered.ingress.queued.Queued.{Queued}
+use Rattle.commonware_broadcast.specs.declared.buffered.ingress.queued.Queued.TheVariants as queued
 use Rattle.commonware_broadcast.specs.declared.broadcaster.MailboxError.{MailboxError}
 use Rattle.commonware_broadcast.specs.Queue.{IsRising, tickets_of, waiting}
 use Rattle.commonware_broadcast.specs.Mailbox.{MailboxState, Enqueues, Takes, RequestsStop, Closes}
+use Rattle.commonware_broadcast.specs.Mailbox.{counts_of}
 
--- a call of a mailbox with what it answered, and with the requests that it skipped or gave up
+-- a call of a mailbox with its result, and with the requests that it skipped or gave up
 pub data Step (T : Type 0) : Type 0 where
   Enqueued : T → Result Queued MailboxError → Step T
   Took : Option (ℕ × T) → List (Request T) → Step T
@@ -21,22 +23,25 @@ times ticket [] = 0
 times ticket (first ∷ tickets) = (if first == ticket then 1 else 0) + times ticket tickets
 
 module _ {T : Type 0} where
-  -- the tickets that a call hands out, takes, skips and gives up
-  abbrev pub handed_out_by : Step T → List ℕ
-  handed_out_by (Enqueued message (Ok (queued.Ready ticket))) = ticket ∷ []
-  handed_out_by (Enqueued message (Ok (queued.Overflow ticket))) = ticket ∷ []
-  handed_out_by (Enqueued message (Ok (queued.Skipped ticket))) = ticket ∷ []
-  handed_out_by _ = []
+  -- the tickets that a call hands out
+  abbrev pub drawn_by : Step T → List ℕ
+  drawn_by (Enqueued message (Ok (queued.Ready ticket))) = ticket ∷ []
+  drawn_by (Enqueued message (Ok (queued.Overflow ticket))) = ticket ∷ []
+  drawn_by (Enqueued message (Ok (queued.Skipped ticket))) = ticket ∷ []
+  drawn_by _ = []
 
+  -- the tickets of the requests that a call takes
   abbrev pub taken_by : Step T → List ℕ
   taken_by (Took (Some taken) skipped) = taken.0 ∷ []
   taken_by _ = []
 
+  -- the tickets of the requests that a call skips
   abbrev pub skipped_by : Step T → List ℕ
   skipped_by (Enqueued message (Ok (queued.Skipped ticket))) = ticket ∷ []
   skipped_by (Took result skipped) = tickets_of skipped
   skipped_by _ = []
 
+  -- the tickets of the requests that a call gives up
   abbrev pub given_up_by : Step T → List ℕ
   given_up_by (GaveUp requests) = tickets_of requests
   given_up_by _ = []
@@ -53,22 +58,29 @@ module _ {T : Type 0} where
     Moves old (Enqueued message result) new = Enqueues answers old message result new
     Moves old (Took result skipped) new = Takes answers old result skipped new
     Moves old StopRequested new = RequestsStop old new
-    Moves old (GaveUp requests) new = (requests ≡ waiting old.queue) × Closes old (length requests) new
+    Moves old (GaveUp requests) new =
+        (requests ≡ waiting old.queue) × Closes old (length requests) new
 
     -- the mailbox may do these steps, one after another
     abbrev pub Runs : MailboxState T → List (Step T) → MailboxState T → Type 0
     Runs old [] new = new ≡ old
     Runs old (step ∷ steps) new = (mid : MailboxState T) × Moves old step mid × Runs mid steps new
 
-  -- what holds of every list of steps
+  -- the law of the tickets, over every list of steps
   pub record IsLawful (steps : List (Step T)) (last : MailboxState T) : Type 0 where
-    -- the tickets rise in the order in which they are handed out
-    pub rising : IsRising 0 (flat_map handed_out_by steps) last.queue.next
-    -- a ticket that was handed out is taken, is skipped, waits or is given up: exactly one of these
-    pub once : (ticket : ℕ) → Contains (flat_map handed_out_by steps) ticket → ends ticket steps last ≡ 1
-    -- no other ticket is
-    pub others : (ticket : ℕ) → (¬ Contains (flat_map handed_out_by steps) ticket) → ends ticket steps last ≡ 0
-    -- the counts are those of the steps
-    pub taken : last.taken ≡ length (flat_map taken_by steps)
-    pub skipped : last.skipped ≡ length (flat_map skipped_by steps)
-    pub given_up : last.given_up ≡ length (flat_map given_up_by steps)
+    -- the tickets rise in the order in which they are drawn
+    pub drawn_rise : IsRising 0 (flat_map drawn_by steps) last.queue.next
+    -- they rise in the order in which their requests are taken, and those that still wait are higher
+    pub taken_rise :
+        IsRising 0 (flat_map taken_by steps ++ tickets_of (waiting last.queue)) last.queue.next
+    -- a drawn ticket has one end: its request is taken, is skipped, waits or is given up
+    pub drawn_end_once :
+        (ticket : ℕ) → Contains (flat_map drawn_by steps) ticket → ends ticket steps last ≡ 1
+    -- a ticket that was not drawn has no end
+    pub others_never_end :
+        (ticket : ℕ) → (¬ Contains (flat_map drawn_by steps) ticket) → ends ticket steps last ≡ 0
+    -- each count is the number of those tickets
+    pub accepted : (counts_of last).accepted ≡ length (flat_map drawn_by steps)
+    pub taken : (counts_of last).taken ≡ length (flat_map taken_by steps)
+    pub skipped : (counts_of last).skipped ≡ length (flat_map skipped_by steps)
+    pub given_up : (counts_of last).given_up ≡ length (flat_map given_up_by steps)

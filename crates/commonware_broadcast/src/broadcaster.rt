@@ -1,11 +1,13 @@
-//! What hands messages over to be spread.
-ghost use Rattle.std.specs.Prelude.{IsTrue, ◌↔◌, ◌≢◌};
+//! Types that broadcast messages.
+ghost use Rattle.std.specs.Prelude.{IsTrue, ◌≡◌, ◌↔◌, ◌≢◌};
 ghost use Rattle.commonware_broadcast.specs.declared.broadcaster.Feedback.TheVariants.{Closed};
+ghost use Rattle.commonware_broadcast.specs.declared.broadcaster.MailboxError.TheVariants.{Memory};
 
 use broadcast_core::codec::{EncodeSize, Write};
+use std::alloc::AllocError;
 use thiserror::Error;
 
-/// What became of a message in the local queue. It tells nothing of a recipient.
+/// Whether a message was accepted by the local queue. It tells nothing of a recipient.
 #[derive(Clone, Copy, Debug, PartialEq, Eq)]
 pub enum Feedback {
     /// The message is queued.
@@ -17,7 +19,7 @@ pub enum Feedback {
 }
 
 impl Feedback {
-    /// Whether the message was accepted.
+    /// Returns whether the message was accepted.
     pub fn accepted(self) -> bool
         ensures { IsTrue result ↔ (self ≢ Closed) }
     {
@@ -28,26 +30,34 @@ impl Feedback {
     }
 }
 
-/// Why a request was not queued, where the queue is open.
+/// Why an open queue did not accept a message.
 #[derive(Clone, Copy, Debug, PartialEq, Eq, Error)]
 pub enum MailboxError {
-    /// There was no memory.
+    /// An allocation failed.
     #[error("out of memory")]
     Memory,
-    /// Every ticket was handed out.
+    /// Every ticket was drawn.
     #[error("no ticket is left")]
     Exhausted,
 }
 
-/// What hands messages over to be spread.
+impl From<AllocError> for MailboxError {
+    ghost from_gives = { λ _ error. error ≡ Memory };
+
+    fn from(_error: AllocError) -> MailboxError {
+        MailboxError::Memory
+    }
+}
+
+/// Broadcasts messages to recipients.
 pub trait Broadcaster: Clone + Send + 'static {
-    /// Whom a message is for.
+    /// The recipients of a message.
     type Recipients;
 
-    /// What is spread.
+    /// The messages that are broadcast.
     type Message: Write + EncodeSize + Clone + Send + 'static;
 
-    /// Queues the message for the recipients. After an error nothing is queued.
+    /// Queues `message` for `recipients`. After an error nothing is queued.
     fn broadcast(
         &self,
         recipients: Self::Recipients,

@@ -1,12 +1,13 @@
-//! Spreading of messages to peers: the mailbox through which callers reach a node, and the program
-//! `replay`.
+//! Broadcasts messages to peers: the mailbox through which callers on any thread reach a node.
 #![tactic(auto)]
 
-pub mod broadcaster;
-pub mod ingress;
+mod broadcaster;
+pub mod buffered;
 pub mod replay;
 
-// The cache and its kin, for callers of this crate alone.
+pub use broadcaster::{Broadcaster, Feedback, MailboxError};
+
+// The cache and what it rests on, so that a caller depends on this crate alone.
 pub use broadcast_core::{
     buffer, codec, digested, event, items, mocks, ordered, outcome, requests, run,
 };

@@ -11,7 +11,7 @@ mod report;
 mod tests;
 mod words;
 
-use crate::ingress::inbox::Inbox;
+use crate::buffered::Inbox;
 use arguments::Settings;
 pub use arguments::read_arguments;
 use broadcast_core::run::run;

@@ -3,7 +3,7 @@ ghost use Rattle.std.specs.Prelude.{◌≡◌};
 ghost use Rattle.commonware_broadcast.specs.declared.broadcaster.MailboxError.TheVariants as mailbox;
 ghost use Rattle.commonware_broadcast.specs.declared.replay.fault.Fault.TheVariants.{Memory};
 
-use crate::broadcaster::MailboxError;
+use crate::MailboxError;
 use std::alloc::AllocError;
 use std::io::Write;
 use thiserror::Error;

@@ -4,10 +4,7 @@ ghost use Rattle.commonware_broadcast.specs.Loopback.{IsIdle, passed, broadcasts
 ghost use Rattle.commonware_broadcast.specs.declared.replay.fault.Fault.TheVariants.{Memory};
 
 use super::fault::Fault;
-use crate::ingress::inbox::Inbox;
-use crate::ingress::message::Message;
-use crate::ingress::queued::Queued;
-use crate::ingress::responder::Fixed;
+use crate::buffered::{Fixed, Inbox, Message, Queued};
 use broadcast_core::event::Event;
 use broadcast_core::items::Items;
 use broadcast_core::mocks::TestMessage;

@@ -1,10 +1,7 @@
 //! Runs over an inbox that the caller hands in.
 use super::loopback::Request;
 use super::play_through;
-use crate::ingress::inbox::Inbox;
-use crate::ingress::message::Message;
-use crate::ingress::queued::{Counts, Queued};
-use crate::ingress::responder::Fixed;
+use crate::buffered::{Counts, Fixed, Inbox, Message, Queued};
 use std::alloc::{AllocError, Global};
 use std::io::Cursor;
 use std::num::NonZeroUsize;

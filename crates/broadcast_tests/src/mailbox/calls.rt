@@ -1,0 +1,190 @@
+//! What each call of a mailbox queues.
+use super::note::Note;
+use commonware_broadcast::buffered::{Counts, Incoming, Ingress, Mailbox, Message, channel};
+use commonware_broadcast::digested::Digested;
+use commonware_broadcast::items::Items;
+use commonware_broadcast::ordered::Recipients;
+use commonware_broadcast::{Broadcaster, Feedback};
+use std::alloc::{AllocError, Global};
+use std::num::NonZeroUsize;
+use std::sync::Wait;
+use std::test::Fail;
+
+/// The digest that each call names. It is not the message's own.
+const DIGEST: u64 = 7;
+
+/// A call of a mailbox.
+#[derive(Clone, Copy, Debug, PartialEq, Eq)]
+enum Call {
+    ToAll,
+    ToSome,
+    ToOne,
+    Subscribe,
+    Get,
+}
+
+/// A call, how many broadcasts wait before it, and whether a stop is requested before it.
+#[derive(Clone, Copy, Debug)]
+struct Row(Call, u64, bool);
+
+static ROWS: [Row; 20] = [
+    Row(Call::ToAll, 0, false),
+    Row(Call::ToAll, 0, true),
+    Row(Call::ToAll, 1, false),
+    Row(Call::ToAll, 1001, true),
+    Row(Call::ToSome, 0, false),
+    Row(Call::ToSome, 0, true),
+    Row(Call::ToSome, 1, false),
+    Row(Call::ToSome, 1001, true),
+    Row(Call::ToOne, 0, false),
+    Row(Call::ToOne, 0, true),
+    Row(Call::ToOne, 1, false),
+    Row(Call::ToOne, 1001, true),
+    Row(Call::Subscribe, 0, false),
+    Row(Call::Subscribe, 0, true),
+    Row(Call::Subscribe, 1, false),
+    Row(Call::Subscribe, 1001, true),
+    Row(Call::Get, 0, false),
+    Row(Call::Get, 0, true),
+    Row(Call::Get, 1, false),
+    Row(Call::Get, 1001, true),
+];
+
+fn rows() -> &'static [Row] {
+    &ROWS
+}
+
+#[test]
+fn each_call_queues_one_request(rt: HostRuntime) -> Result<(), Fail> {
+    for row in rows() {
+        let (mailbox, ingress) = channel(rt.clone()?, rt.alloc(), NonZeroUsize::MIN)?;
+        let queued = queues_one(&mailbox, &ingress, rt.alloc(), *row)?;
+        assert!(rt; queued, "{row:?}");
+    }
+    Ok(())
+}
+
+/// Returns whether the call of the row behaves as it should.
+fn queues_one<R: Wait + Clone + Send + 'static>(
+    mailbox: &Mailbox<u64, Note, R>,
+    ingress: &Ingress<u64, Note, R>,
+    alloc: Global,
+    row: Row,
+) -> Result<bool, Fail> {
+    let Row(_, waiting, stopped) = row;
+    fill(mailbox, alloc, waiting)?;
+    if stopped {
+        ingress.request_stop();
+    }
+    queues_the_call(mailbox, ingress, alloc, row)
+}
+
+/// Queues `waiting` broadcasts.
+fn fill<B>(mailbox: &B, alloc: Global, waiting: u64) -> Result<(), Fail>
+where
+    B: Broadcaster<Recipients = Recipients<u64>, Message = Digested<Note>>,
+{
+    for digest in 0..waiting {
+        let message = Digested::precomputed(alloc, Note(1), digest)?;
+        let _feedback = mailbox.broadcast(Recipients::All, message)?;
+    }
+    Ok(())
+}
+
+/// Makes the call and returns whether it queued its own request, and nothing else.
+fn queues_the_call<R: Wait + Clone + Send + 'static>(
+    mailbox: &Mailbox<u64, Note, R>,
+    ingress: &Ingress<u64, Note, R>,
+    alloc: Global,
+    row: Row,
+) -> Result<bool, Fail> {
+    let Row(call, ..) = row;
+    match call {
+        Call::Subscribe => {
+            let _subscription = mailbox.subscribe(DIGEST)?;
+            Ok(is_last(ingress, row))
+        }
+        Call::Get => {
+            let _get = mailbox.get(DIGEST)?;
+            Ok(is_last(ingress, row))
+        }
+        Call::ToAll | Call::ToSome | Call::ToOne => {
+            let is_fed_back = is_fed_back(mailbox, alloc, row)?;
+            Ok(is_fed_back && is_last(ingress, row))
+        }
+    }
+}
+
+/// Broadcasts and returns whether the feedback tells of the ready list or of the overflow.
+fn is_fed_back<B>(mailbox: &B, alloc: Global, row: Row) -> Result<bool, Fail>
+where
+    B: Broadcaster<Recipients = Recipients<u64>, Message = Digested<Note>>,
+{
+    let Row(call, waiting, _) = row;
+    let recipients = recipients_of(alloc, call)?;
+    let message = Digested::precomputed(alloc, Note(3), DIGEST)?;
+    let feedback = mailbox.broadcast(recipients, message)?;
+    let wanted = if waiting == 0 {
+        Feedback::Ok
+    } else {
+        Feedback::Backoff
+    };
+    Ok(feedback == wanted)
+}
+
+/// The recipients that the call names.
+fn recipients_of(alloc: Global, call: Call) -> Result<Recipients<u64>, AllocError> {
+    match call {
+        Call::ToSome => Ok(Recipients::Some(Items::from_vec(Vec::from_slice(alloc, &[6, 4])?))),
+        Call::ToOne => Ok(Recipients::One(5)),
+        Call::ToAll | Call::Subscribe | Call::Get => Ok(Recipients::All),
+    }
+}
+
+/// Returns whether the request of the call waits behind the others, alone and with the next ticket.
+fn is_last<R: Wait>(ingress: &Ingress<u64, Note, R>, row: Row) -> bool {
+    let Row(call, waiting, stopped) = row;
+    let accepted = waiting.wrapping_add(1);
+    let counts = Counts {
+        accepted,
+        taken: 0,
+        skipped: 0,
+        waiting: accepted,
+        given_up: 0,
+    };
+    if ingress.counts() != counts || ingress.stop_requested() != stopped {
+        return false;
+    }
+    for _ in 0..waiting {
+        drop(ingress.take());
+    }
+    let Some((ticket, request)) = ingress.take() else {
+        return false;
+    };
+    ticket == waiting && is_request_of(&request, call) && ingress.take().is_none()
+}
+
+/// Returns whether the request is that of the call.
+fn is_request_of(request: &Incoming<u64, Note>, call: Call) -> bool {
+    match request {
+        Message::Broadcast {
+            recipients,
+            message,
+        } => {
+            message.digest() == DIGEST
+                && message.inner().0 == 3
+                && are_recipients_of(recipients, call)
+        }
+        Message::Subscribe { digest, .. } => *digest == DIGEST && call == Call::Subscribe,
+        Message::Get { digest, .. } => *digest == DIGEST && call == Call::Get,
+    }
+}
+
+/// Returns whether the recipients are those that the call names.
+fn are_recipients_of(recipients: &Recipients<u64>, call: Call) -> bool {
+    match recipients {
+        Recipients::All => call == Call::ToAll,
+        Recipients::Some(keys) => call == Call::ToSome && keys.as_slice() == [6, 4].as_slice(),
+        Recipients::One(key) => call == Call::ToOne && *key == 5,
+    }
+}

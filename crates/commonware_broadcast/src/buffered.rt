@@ -1,0 +1,16 @@
+//! The mailbox of a node that keeps the latest messages of each peer.
+mod ingress;
+
+pub use ingress::get::Get;
+pub use ingress::inbox::Inbox;
+pub use ingress::laws::ticket_law;
+pub use ingress::mailbox::{Incoming, Mailbox, channel};
+pub use ingress::message::Message;
+pub use ingress::overflow::{Overflow, Policy};
+pub use ingress::pending::Pending;
+pub use ingress::queued::{Counts, Queued};
+pub use ingress::reply::Reply;
+pub use ingress::request::Request;
+pub use ingress::responder::{Fixed, Responder};
+pub use ingress::source::Ingress;
+pub use ingress::subscription::Subscription;

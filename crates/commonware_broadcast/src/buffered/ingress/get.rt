@@ -1,0 +1,82 @@
+//! The future of a get.
+ghost use Rattle.std.specs.Prelude.{◌≡◌, IfSome};
+ghost use Rattle.futures.specs.Channel.{completed_source};
+ghost use Rattle.commonware_broadcast.specs.Asked.{GoesBy, get_returns};
+
+use crate::buffered::ingress::reply::Reply;
+use crate::buffered::ingress::returns::Returns;
+use broadcast_core::digested::{Digested, Digestible};
+use futures::Future;
+use futures::channel::oneshot::{Canceled, Receiver};
+use futures::task::{Context, Poll};
+use std::marker::Model;
+
+/// A future for the cached message of a digest. Dropping it cancels the request.
+///
+/// It gives `None` if the message is not cached, if the request was dropped, and if the reply goes
+/// by another digest.
+#[derive(Drop)]
+pub struct Get<M: Digestible> {
+    digest: M::Digest,
+    receiver: Receiver<Option<Reply<M>>>,
+}
+
+impl<M: Digestible> Model for Get<M> {
+    ghost use Rattle.futures.specs.Channel.{completed_source};
+    ghost use Rattle.commonware_broadcast.specs.Asked.{Asked};
+
+    ghost Value = { Asked M.Digest };
+
+    ghost view = { λ g. record { digest = g.digest; source = completed_source g.receiver } };
+}
+
+impl<M: Digestible> Get<M> {
+    // Creates the future of a get of `digest` whose reply comes through the channel.
+    pub(super) fn new(digest: M::Digest, receiver: Receiver<Option<Reply<M>>>) -> Self
+        ensures { result ≡ record { digest = digest; source = completed_source receiver } }
+    {
+        Get { digest, receiver }
+    }
+}
+
+impl<M: Digestible> Future for Get<M> {
+    type Output = Option<Digested<M>>;
+
+    ghost needs = { λ g source. source ≡ g.source };
+
+    ghost gives = { λ g outcome.
+        IfSome outcome (λ message. GoesBy M.Digest.cmp g.digest message) };
+
+    fn poll(&mut self, cx: &mut Context<'_>) -> Poll<Option<Digested<M>>> {
+        let polled = self.receiver.poll(cx);
+        self.returned(polled)
+    }
+}
+
+impl<M: Digestible> Returns for Get<M> {
+    type Reply = Option<Reply<M>>;
+
+    type Output = Option<Digested<M>>;
+
+    ghost returns = { λ future polled. get_returns M.Digest.cmp future.digest polled };
+
+    fn returned(
+        &self,
+        polled: Poll<Result<Option<Reply<M>>, Canceled>>,
+    ) -> Poll<Option<Digested<M>>>
+        ensures { result ≡ get_returns M.Digest.cmp self.now.digest polled }
+    {
+        match polled {
+            Poll::Pending => Poll::Pending,
+            Poll::Ready(Ok(Some(reply))) => {
+                let Reply { digest, message } = reply;
+                if self.digest.cmp(&digest).is_eq() {
+                    Poll::Ready(Some(message))
+                } else {
+                    Poll::Ready(None)
+                }
+            }
+            Poll::Ready(Ok(None)) | Poll::Ready(Err(_)) => Poll::Ready(None),
+        }
+    }
+}

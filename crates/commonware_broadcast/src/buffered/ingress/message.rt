@@ -1,0 +1,101 @@
+//! The messages of a mailbox's callers.
+ghost use Rattle.std.specs.Prelude.{◌≡◌};
+ghost use Rattle.commonware_broadcast.specs.declared.buffered.ingress.message.Message.TheVariants.{Broadcast, Subscribe, Get};
+
+use crate::buffered::ingress::overflow::Policy;
+use crate::buffered::ingress::pending::Pending;
+use crate::buffered::ingress::reply::Reply;
+use crate::buffered::ingress::responder::Responder;
+use broadcast_core::digested::{Digested, Digestible};
+use broadcast_core::ordered::{PublicKey, Recipients};
+use broadcast_core::requests::Closable;
+use std::alloc::AllocError;
+
+/// A message of a mailbox's caller, generic over where the replies go.
+#[derive(Drop)]
+#[derive_where(Debug; Recipients<P>, Digested<M>, M::Digest, S, G)]
+#[derive_where(PartialEq, Eq; Recipients<P>, Digested<M>, S, G)]
+pub enum Message<P, M: Digestible, S, G> {
+    /// Broadcast a message.
+    Broadcast {
+        /// Whom the message is for.
+        recipients: Recipients<P>,
+        /// The message.
+        message: Digested<M>,
+    },
+    /// Reply with the message of a digest, at once or when it arrives.
+    Subscribe {
+        /// The digest.
+        digest: M::Digest,
+        /// Where the reply goes.
+        responder: S,
+    },
+    /// Reply with the message of a digest, or with `None` if it is not cached.
+    Get {
+        /// The digest.
+        digest: M::Digest,
+        /// Where the reply goes.
+        responder: G,
+    },
+}
+
+impl<P, M: Digestible, S, G> Message<P, M, S, G> {
+    /// Creates a request to broadcast `message` to `recipients`.
+    pub fn broadcast(recipients: Recipients<P>, message: Digested<M>) -> Self
+        ensures { result ≡ Broadcast recipients message }
+    {
+        Message::Broadcast {
+            recipients,
+            message,
+        }
+    }
+
+    /// Creates a request for the message of `digest`, at once or when it arrives.
+    pub fn subscribe(digest: M::Digest, responder: S) -> Self
+        ensures { result ≡ Subscribe digest responder }
+    {
+        Message::Subscribe { digest, responder }
+    }
+
+    /// Creates a request for the message of `digest` if it is cached.
+    pub fn get(digest: M::Digest, responder: G) -> Self
+        ensures { result ≡ Get digest responder }
+    {
+        Message::Get { digest, responder }
+    }
+}
+
+/// A message is closed if its responder is. A broadcast is never closed.
+impl<P, M, S, G> Closable for Message<P, M, S, G>
+where
+    P: PublicKey,
+    M: Digestible,
+    S: Responder<Reply<M>>,
+    G: Responder<Option<Reply<M>>>,
+{
+    ghost use Rattle.commonware_broadcast.specs.Message.{message_may_answer};
+
+    ghost may_answer = { message_may_answer S.may_answer G.may_answer };
+
+    fn is_closed(&self) -> bool {
+        match self {
+            Message::Broadcast { .. } => false,
+            Message::Subscribe { responder, .. } => responder.is_closed(),
+            Message::Get { responder, .. } => responder.is_closed(),
+        }
+    }
+}
+
+impl<P, M, S, G> Policy for Message<P, M, S, G>
+where
+    P: PublicKey,
+    M: Digestible,
+    S: Responder<Reply<M>> + Drop,
+    G: Responder<Option<Reply<M>>> + Drop,
+{
+    type Overflow = Pending<Self>;
+
+    fn handle(overflow: &mut Pending<Self>, message: Self) -> Result<(), AllocError> {
+        overflow.append(message)
+    }
+}

@@ -1,0 +1,62 @@
+//! The reply to a request.
+ghost use Rattle.std.specs.Prelude.{◌≡◌};
+
+use broadcast_core::digested::{Digested, Digestible};
+use std::alloc::AllocError;
+use std::marker::Model;
+
+/// A message with the digest that it replies to, which is the one that the message goes by.
+#[derive(Drop)]
+#[derive_where(Debug; Digested<M>, M::Digest)]
+pub struct Reply<M: Digestible> {
+    pub(super) digest: M::Digest,
+    pub(super) message: Digested<M>,
+}
+
+impl<M: Digestible> Model for Reply<M> {
+    ghost use Rattle.std.specs.Prelude.{◌≡◌};
+    ghost use Rattle.broadcast_core.specs.Carried.{Carried};
+
+    ghost Value = { Carried M M.Digest };
+
+    ghost view = { λ reply. reply.message };
+
+    ghost invariant = { λ reply. reply.digest ≡ reply.message.digest };
+}
+
+impl<M: Digestible> Reply<M> {
+    /// Creates a reply to the digest that `message` goes by.
+    pub fn new(message: Digested<M>) -> Self
+        ensures { result ≡ message }
+    {
+        let digest = message.digest();
+        Reply { digest, message }
+    }
+
+    /// Returns the digest that the message goes by.
+    pub fn digest(&self) -> M::Digest
+        ensures { result ≡ self.now.digest }
+    {
+        self.digest
+    }
+
+    /// Returns the message.
+    pub fn into_message(self) -> Digested<M>
+        ensures { result ≡ self }
+    {
+        let Reply { digest: _, message } = self;
+        message
+    }
+}
+
+impl<M: Digestible> Clone for Reply<M> {
+    ghost is_clone = { λ reply copy. copy ≡ reply };
+
+    /// Returns a reply that shares the message, or an allocation failure.
+    fn clone(&self) -> Result<Self, AllocError> {
+        Ok(Reply {
+            digest: self.digest,
+            message: self.message.clone()?,
+        })
+    }
+}
