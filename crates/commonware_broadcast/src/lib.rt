@@ -3,11 +3,8 @@
 
 mod broadcaster;
 pub mod buffered;
-pub mod replay;
 
 pub use broadcaster::{Broadcaster, Feedback, MailboxError};
 
 // The cache and what it rests on, so that a caller depends on this crate alone.
-pub use broadcast_core::{
-    buffer, codec, digested, event, items, mocks, ordered, outcome, requests, run,
-};
+pub use broadcast_core::{buffer, codec, digested, mocks, ordered, requests};

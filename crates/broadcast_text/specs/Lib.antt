@@ -1,0 +1,3 @@
+pub mod Words
+pub mod Recipients
+pub mod Message
