@@ -1,11 +1,10 @@
-//! The mailbox: what becomes of requests, what callers get, and callers on threads.
-mod broadcasts;
+//! The mailbox: its overflow, its inbox, its calls, what callers are given, and callers on threads.
 mod calls;
 mod futures;
 mod inbox;
 mod note;
 mod overflow;
-mod refusals;
+mod refill;
 mod replies;
 mod threads;
 mod tickets;

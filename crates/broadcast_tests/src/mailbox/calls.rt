@@ -1,11 +1,9 @@
 //! What each call of a mailbox queues.
 use super::note::Note;
+use broadcast_core::{Digested, Items, Recipients};
 use commonware_broadcast::buffered::{Counts, Incoming, Ingress, Mailbox, Message, channel};
-use commonware_broadcast::digested::Digested;
-use commonware_broadcast::items::Items;
-use commonware_broadcast::ordered::Recipients;
 use commonware_broadcast::{Broadcaster, Feedback};
-use std::alloc::{AllocError, Global};
+use std::alloc::{AllocError, AllocGlobal, Global};
 use std::num::NonZeroUsize;
 use std::sync::Wait;
 use std::test::Fail;
@@ -57,26 +55,24 @@ fn rows() -> &'static [Row] {
 #[test]
 fn each_call_queues_one_request(rt: HostRuntime) -> Result<(), Fail> {
     for row in rows() {
-        let (mailbox, ingress) = channel(rt.clone()?, rt.alloc(), NonZeroUsize::MIN)?;
-        let queued = queues_one(&mailbox, &ingress, rt.alloc(), *row)?;
+        let queued = queues_one(&rt, *row)?;
         assert!(rt; queued, "{row:?}");
     }
     Ok(())
 }
 
 /// Returns whether the call of the row behaves as it should.
-fn queues_one<R: Wait + Clone + Send + 'static>(
-    mailbox: &Mailbox<u64, Note, R>,
-    ingress: &Ingress<u64, Note, R>,
-    alloc: Global,
-    row: Row,
-) -> Result<bool, Fail> {
+fn queues_one<R>(rt: &R, row: Row) -> Result<bool, Fail>
+where
+    R: Wait + AllocGlobal + Clone + Send + Drop + 'static,
+{
     let Row(_, waiting, stopped) = row;
-    fill(mailbox, alloc, waiting)?;
+    let (mailbox, ingress) = channel(rt.clone()?, rt.alloc(), NonZeroUsize::MIN)?;
+    fill(&mailbox, rt.alloc(), waiting)?;
     if stopped {
         ingress.request_stop();
     }
-    queues_the_call(mailbox, ingress, alloc, row)
+    queues_the_call(&mailbox, &ingress, rt.alloc(), row)
 }
 
 /// Queues `waiting` broadcasts.

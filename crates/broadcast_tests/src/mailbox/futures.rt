@@ -1,9 +1,9 @@
 //! What the futures of a mailbox give, before their reply and after.
 use super::note::Note;
+use broadcast_core::Digested;
 use commonware_broadcast::buffered::{
-    Get, Incoming, Ingress, Mailbox, Message, Reply, Responder, Subscription, channel,
+    Get, Incoming, Ingress, Message, Reply, Responder, Subscription, channel,
 };
-use commonware_broadcast::digested::Digested;
 use futures::executor::block_on;
 use futures::future::poll_immediate;
 use std::alloc::{AllocGlobal, Global};
@@ -58,8 +58,7 @@ fn rows() -> &'static [Row] {
 #[test]
 fn futures_give_their_reply_once_it_is_there(rt: HostRuntime) -> Result<(), Fail> {
     for row in rows() {
-        let (mailbox, ingress) = channel(rt.clone()?, rt.alloc(), NonZeroUsize::MIN)?;
-        let given = gives(&rt, rt.alloc(), &mailbox, &ingress, *row)?;
+        let given = gives(&rt, *row)?;
         assert!(rt; given, "{row:?}");
     }
     Ok(())
@@ -67,17 +66,15 @@ fn futures_give_their_reply_once_it_is_there(rt: HostRuntime) -> Result<(), Fail
 
 /// Returns whether the future of the call is pending until its request ends, and then gives what
 /// the row says.
-fn gives<R: Wait + RandomSource + AllocGlobal>(
+fn gives<R: Wait + RandomSource + AllocGlobal + Clone + Drop>(
     rt: &R,
-    alloc: Global,
-    mailbox: &Mailbox<u64, Note, R>,
-    ingress: &Ingress<u64, Note, R>,
     row: Row,
 ) -> Result<bool, Fail> {
     let Row(call, end, wanted) = row;
+    let (mailbox, ingress) = channel(rt.clone()?, rt.alloc(), NonZeroUsize::MIN)?;
     let given = match call {
-        Call::Subscribe => given_to_subscribe(rt, alloc, mailbox.subscribe(DIGEST)?, ingress, end)?,
-        Call::Get => given_to_get(rt, alloc, mailbox.get(DIGEST)?, ingress, end)?,
+        Call::Subscribe => given_to_subscribe(rt, mailbox.subscribe(DIGEST)?, &ingress, end)?,
+        Call::Get => given_to_get(rt, mailbox.get(DIGEST)?, &ingress, end)?,
     };
     Ok(given == Some(wanted))
 }
@@ -86,13 +83,12 @@ fn gives<R: Wait + RandomSource + AllocGlobal>(
 /// still is.
 fn given_to_subscribe<R: Wait + RandomSource + AllocGlobal>(
     rt: &R,
-    alloc: Global,
     mut subscription: Subscription<Note>,
     ingress: &Ingress<u64, Note, R>,
     end: End,
 ) -> Result<Option<Option<u64>>, Fail> {
     let before = block_on(rt, poll_immediate(&mut subscription))?;
-    end_request(ingress, alloc, end)?;
+    end_request(ingress, rt.alloc(), end)?;
     let after = block_on(rt, poll_immediate(&mut subscription))?;
     if before.is_some() {
         return Ok(None);
@@ -103,13 +99,12 @@ fn given_to_subscribe<R: Wait + RandomSource + AllocGlobal>(
 /// What the get gives once its request ended, or `None` if it was not pending before, or still is.
 fn given_to_get<R: Wait + RandomSource + AllocGlobal>(
     rt: &R,
-    alloc: Global,
     mut get: Get<Note>,
     ingress: &Ingress<u64, Note, R>,
     end: End,
 ) -> Result<Option<Option<u64>>, Fail> {
     let before = block_on(rt, poll_immediate(&mut get))?;
-    end_request(ingress, alloc, end)?;
+    end_request(ingress, rt.alloc(), end)?;
     let after = block_on(rt, poll_immediate(&mut get))?;
     if before.is_some() {
         return Ok(None);

@@ -1,267 +1,204 @@
-//! What becomes of requests in an inbox.
-use super::note::{
-    Ask, Held, Kind, Note, Plain, broadcast, get, held_get, held_subscribe, kind_of, subscribe,
-};
-use commonware_broadcast::ingress::inbox::Inbox;
-use commonware_broadcast::ingress::message::Message;
-use commonware_broadcast::ingress::overflow::{Overflow, Policy};
-use commonware_broadcast::ingress::pending::Pending;
-use commonware_broadcast::ingress::queued::{Counts, Queued};
-use commonware_broadcast::ingress::reply::Reply;
-use commonware_broadcast::ingress::request::Request;
-use commonware_broadcast::ingress::responder::Responder;
-use futures::executor::block_on;
+//! Requests in an inbox.
+use super::note::{ClosedDigests, Kind, Plain, kind_of, request};
+use commonware_broadcast::MailboxError;
+use commonware_broadcast::buffered::{Counts, Inbox, Queued};
 use std::alloc::{AllocError, Global};
-use std::collections::VecDeque;
+use std::cell::Cell;
 use std::num::NonZeroUsize;
-use std::process::Abort;
+use std::rc::Rc;
 use std::test::Fail;
 
-#[test]
-fn skips_a_request_that_closed_in_the_overflow(rt: HostRuntime) -> Result<(), Fail> {
-    let alloc = rt.alloc();
-    let mut inbox = Inbox::new(alloc, NonZeroUsize::MIN);
-    let (first, _kept) = held_get(alloc, 1)?;
-    let (second, held) = held_subscribe(alloc, 2)?;
-    assert_eq!(rt; inbox.enqueue(first), Ok(Queued::Ready(0)));
-    assert_eq!(rt; inbox.enqueue(second), Ok(Queued::Overflow(1)));
-    assert_eq!(rt;
-        inbox.enqueue(broadcast(alloc, 3)?),
-        Ok(Queued::Overflow(2))
-    );
-    drop(held);
-    assert_eq!(rt; taken(&mut inbox), Some((0, Kind::Get(1))));
-    assert_eq!(rt; taken(&mut inbox), Some((2, Kind::Broadcast(3))));
-    assert_eq!(rt; taken(&mut inbox), None);
-    assert_eq!(rt; inbox.close(), 0);
-    assert_eq!(rt; inbox.enqueue(broadcast(alloc, 4)?), Ok(Queued::Closed));
-    let counts = Counts {
-        accepted: 3,
-        taken: 2,
-        skipped: 1,
-        waiting: 0,
-        given_up: 0,
-    };
-    assert_eq!(rt; inbox.counts(), counts);
-    Ok(())
+/// A call on an inbox, with its expected answer.
+#[derive(Clone, Copy)]
+enum Call {
+    Enqueue(Kind, Queued),
+    Take(Option<(u64, Kind)>),
+    /// The answer is the number of requests given up.
+    Close(u64),
+    /// A stop is requested. The answer is whether it was before.
+    Stop(bool),
+    /// The requests accepted, taken, skipped, waiting and given up.
+    Counts([u64; 5]),
+    /// The requests of these digests become closed.
+    Hang(u64),
+    /// The answer is the number of responders that are not dropped, and one.
+    Held(usize),
 }
 
-#[test]
-fn skips_at_once_what_is_closed_already(rt: HostRuntime) -> Result<(), Fail> {
-    let alloc = rt.alloc();
-    let mut inbox = Inbox::new(alloc, NonZeroUsize::MIN);
-    assert_eq!(rt; inbox.enqueue(get(1, false)), Ok(Queued::Ready(0)));
-    assert_eq!(rt; inbox.enqueue(subscribe(2, true)), Ok(Queued::Skipped(1)));
-    assert_eq!(rt;
-        inbox.enqueue(broadcast(alloc, 3)?),
-        Ok(Queued::Overflow(2))
-    );
-    assert_eq!(rt; taken(&mut inbox), Some((0, Kind::Get(1))));
-    assert_eq!(rt; taken(&mut inbox), Some((2, Kind::Broadcast(3))));
-    Ok(())
+/// Calls on an inbox with a ready list of one place.
+struct Row {
+    name: &'static str,
+    calls: &'static [Call],
 }
 
-#[test]
-fn drops_the_responders_of_what_it_gives_up(rt: HostRuntime) -> Result<(), Fail> {
-    let alloc = rt.alloc();
-    let mut inbox = Inbox::new(alloc, NonZeroUsize::MIN);
-    let (first, _held) = held_get(alloc, 1)?;
-    let (second, subscribed) = held_subscribe(alloc, 2)?;
-    let (third, got) = held_get(alloc, 3)?;
-    assert_eq!(rt; inbox.enqueue(first), Ok(Queued::Ready(0)));
-    assert_eq!(rt; inbox.enqueue(second), Ok(Queued::Overflow(1)));
-    assert_eq!(rt; inbox.enqueue(third), Ok(Queued::Overflow(2)));
-    assert_eq!(rt; taken(&mut inbox), Some((0, Kind::Get(1))));
-    assert_eq!(rt; inbox.close(), 2);
-    assert!(rt; block_on(&rt, subscribed)?.is_err());
-    assert!(rt; block_on(&rt, got)?.is_err());
-    Ok(())
+static ROWS: [Row; 7] = [
+    Row {
+        name: "a request that closes in the overflow is skipped",
+        calls: &[
+            Call::Enqueue(Kind::Get(1), Queued::Ready(0)),
+            Call::Enqueue(Kind::Subscribe(2), Queued::Overflow(1)),
+            Call::Enqueue(Kind::Broadcast(3), Queued::Overflow(2)),
+            Call::Hang(1 << 2),
+            Call::Take(Some((0, Kind::Get(1)))),
+            Call::Take(Some((2, Kind::Broadcast(3)))),
+            Call::Take(None),
+            Call::Close(0),
+            Call::Enqueue(Kind::Broadcast(4), Queued::Closed),
+            Call::Counts([3, 2, 1, 0, 0]),
+        ],
+    },
+    Row {
+        name: "a close gives up what waits",
+        calls: &[
+            Call::Enqueue(Kind::Broadcast(1), Queued::Ready(0)),
+            Call::Enqueue(Kind::Broadcast(2), Queued::Overflow(1)),
+            Call::Enqueue(Kind::Broadcast(3), Queued::Overflow(2)),
+            Call::Take(Some((0, Kind::Broadcast(1)))),
+            Call::Close(2),
+            Call::Close(0),
+            Call::Take(None),
+            Call::Counts([3, 1, 0, 0, 2]),
+        ],
+    },
+    Row {
+        name: "a closed get is skipped if there is no room",
+        calls: &[
+            Call::Enqueue(Kind::Broadcast(1), Queued::Ready(0)),
+            Call::Hang(1 << 2),
+            Call::Enqueue(Kind::Get(2), Queued::Skipped(1)),
+            Call::Counts([2, 0, 1, 1, 0]),
+        ],
+    },
+    Row {
+        name: "a closed subscribe is skipped if there is no room",
+        calls: &[
+            Call::Enqueue(Kind::Get(1), Queued::Ready(0)),
+            Call::Hang(1 << 2),
+            Call::Enqueue(Kind::Subscribe(2), Queued::Skipped(1)),
+            Call::Enqueue(Kind::Broadcast(2), Queued::Overflow(2)),
+            Call::Take(Some((0, Kind::Get(1)))),
+            Call::Take(Some((2, Kind::Broadcast(2)))),
+        ],
+    },
+    Row {
+        name: "a closed get is queued if there is room",
+        calls: &[
+            Call::Hang(1 << 1),
+            Call::Enqueue(Kind::Get(1), Queued::Ready(0)),
+            Call::Take(Some((0, Kind::Get(1)))),
+            Call::Counts([1, 1, 0, 0, 0]),
+        ],
+    },
+    Row {
+        name: "a close drops the responders",
+        calls: &[
+            Call::Enqueue(Kind::Get(1), Queued::Ready(0)),
+            Call::Enqueue(Kind::Subscribe(2), Queued::Overflow(1)),
+            Call::Enqueue(Kind::Get(3), Queued::Overflow(2)),
+            Call::Held(4),
+            Call::Take(Some((0, Kind::Get(1)))),
+            Call::Held(3),
+            Call::Close(2),
+            Call::Held(1),
+        ],
+    },
+    Row {
+        name: "a stop changes nothing else",
+        calls: &[
+            Call::Stop(false),
+            Call::Enqueue(Kind::Get(1), Queued::Ready(0)),
+            Call::Stop(true),
+            Call::Take(Some((0, Kind::Get(1)))),
+        ],
+    },
+];
+
+fn rows() -> &'static [Row] {
+    &ROWS
 }
 
-#[test]
-fn gives_up_what_waits_when_it_closes(rt: HostRuntime) -> Result<(), Fail> {
-    let alloc = rt.alloc();
-    let mut inbox = Inbox::new(alloc, NonZeroUsize::MIN);
-    let request: Plain = broadcast(alloc, 1)?;
-    assert_eq!(rt; inbox.enqueue(request), Ok(Queued::Ready(0)));
-    assert_eq!(rt;
-        inbox.enqueue(broadcast(alloc, 2)?),
-        Ok(Queued::Overflow(1))
-    );
-    assert_eq!(rt;
-        inbox.enqueue(broadcast(alloc, 3)?),
-        Ok(Queued::Overflow(2))
-    );
-    assert_eq!(rt; taken(&mut inbox), Some((0, Kind::Broadcast(1))));
-    assert_eq!(rt; inbox.close(), 2);
-    assert_eq!(rt; inbox.close(), 0);
-    assert_eq!(rt; taken(&mut inbox), None);
-    let counts = Counts {
-        accepted: 3,
-        taken: 1,
-        skipped: 0,
-        waiting: 0,
-        given_up: 2,
-    };
-    assert_eq!(rt; inbox.counts(), counts);
-    Ok(())
+/// An inbox, and the digests whose requests are closed.
+#[derive(Drop)]
+struct Queue {
+    inbox: Inbox<Plain>,
+    closed: ClosedDigests,
 }
 
-#[test]
-fn skips_a_closed_request_that_finds_no_room(rt: HostRuntime) -> Result<(), Fail> {
-    let alloc = rt.alloc();
-    let mut inbox = Inbox::new(alloc, NonZeroUsize::MIN);
-    assert_eq!(rt; inbox.enqueue(broadcast(alloc, 1)?), Ok(Queued::Ready(0)));
-    assert_eq!(rt; inbox.enqueue(get(2, true)), Ok(Queued::Skipped(1)));
-    let counts = Counts {
-        accepted: 2,
-        taken: 0,
-        skipped: 1,
-        waiting: 1,
-        given_up: 0,
-    };
-    assert_eq!(rt; inbox.counts(), counts);
-
-    let mut inbox = Inbox::new(alloc, NonZeroUsize::MIN);
-    let (gone, held) = held_get(alloc, 2)?;
-    drop(held);
-    assert_eq!(rt; inbox.enqueue(broadcast(alloc, 1)?), Ok(Queued::Ready(0)));
-    assert_eq!(rt; inbox.enqueue(gone), Ok(Queued::Skipped(1)));
-    assert_eq!(rt; inbox.counts(), counts);
-    Ok(())
-}
-
-#[test]
-fn takes_a_closed_request_that_found_room(rt: HostRuntime) -> Result<(), Fail> {
-    let alloc = rt.alloc();
-    let counts = Counts {
-        accepted: 1,
-        taken: 1,
-        skipped: 0,
-        waiting: 0,
-        given_up: 0,
-    };
-    assert_eq!(rt; counts_of_one(&rt, alloc, get(1, true)), counts);
-
-    let (gone, held) = held_get(alloc, 1)?;
-    drop(held);
-    assert_eq!(rt; counts_of_one(&rt, alloc, gone), counts);
-    Ok(())
-}
-
-/// The counts of an inbox through which one get of 1 went.
-fn counts_of_one<S, G>(rt: &impl Abort, alloc: Global, get: Message<u64, Note, S, G>) -> Counts
-where
-    S: Responder<Reply<Note>> + Drop,
-    G: Responder<Option<Reply<Note>>> + Drop,
-{
-    let mut inbox = Inbox::new(alloc, NonZeroUsize::MIN);
-    assert_eq!(rt; inbox.enqueue(get), Ok(Queued::Ready(0)));
-    assert_eq!(rt; taken(&mut inbox), Some((0, Kind::Get(1))));
-    inbox.counts()
-}
-
-/// `take` fills the ready list as draining with a push that puts a request there would.
-#[test]
-fn takes_as_draining_does(rt: HostRuntime) -> Result<(), Fail> {
-    let mut state = 7u64;
-    for round in 0..200u64 {
-        state = state.wrapping_mul(6364136223846793005).wrapping_add(round);
-        let size = 1 + (state >> 33) % 4;
-        let number = (state >> 40) % 12;
-        let by_inbox = tickets_of_inbox(rt.alloc(), size, number, state)?;
-        let by_drain = tickets_of_drain(rt.alloc(), size, number, state)?;
-        assert_eq!(rt; by_inbox.as_slice(), by_drain.as_slice(), "round {round}");
+impl Queue {
+    fn new(alloc: Global) -> Result<Queue, AllocError> {
+        Ok(Queue {
+            closed: Rc::new(alloc, Cell::new(0))?,
+            inbox: Inbox::new(alloc, NonZeroUsize::MIN),
+        })
     }
-    Ok(())
+
+    fn is_answered(&mut self, alloc: Global, call: Call) -> Result<bool, AllocError> {
+        Ok(match call {
+            Call::Enqueue(kind, answer) => self.enqueue(alloc, kind)? == Ok(answer),
+            Call::Take(answer) => self.take() == answer,
+            Call::Close(answer) => self.inbox.close() == answer,
+            Call::Stop(answer) => self.stop() == answer,
+            Call::Counts(answer) => self.counts() == answer,
+            Call::Hang(closed) => self.hang(closed),
+            Call::Held(answer) => Rc::strong_count(&self.closed) == answer,
+        })
+    }
+
+    fn enqueue(
+        &mut self,
+        alloc: Global,
+        kind: Kind,
+    ) -> Result<Result<Queued, MailboxError>, AllocError> {
+        let request = request(alloc, kind, &self.closed)?;
+        Ok(self.inbox.enqueue(request))
+    }
+
+    fn take(&mut self) -> Option<(u64, Kind)> {
+        let (ticket, request) = self.inbox.take()?;
+        Some((ticket, kind_of(&request)))
+    }
+
+    fn counts(&self) -> [u64; 5] {
+        let Counts {
+            accepted,
+            taken,
+            skipped,
+            waiting,
+            given_up,
+        } = self.inbox.counts();
+        [accepted, taken, skipped, waiting, given_up]
+    }
+
+    fn stop(&mut self) -> bool {
+        let before = self.inbox.stop_requested();
+        self.inbox.request_stop();
+        before
+    }
+
+    fn hang(&self, closed: u64) -> bool {
+        self.closed.set(closed);
+        true
+    }
 }
 
-/// The tickets that an inbox gives of so many gets, of which those with a bit in the mask close
-/// before the first is taken.
-fn tickets_of_inbox(alloc: Global, size: u64, number: u64, mask: u64) -> Result<Vec<u64>, Fail> {
-    let size = NonZeroUsize::new(size as usize).ok_or("a size of 0")?;
-    let mut inbox = Inbox::new(alloc, size);
-    let mut open = Vec::new(alloc);
-    let mut gone = Vec::new(alloc);
-    for place in 0..number {
-        let (request, held) = held_get(alloc, place)?;
-        inbox.enqueue(request)?;
-        keep(&mut open, &mut gone, mask, place, held)?;
-    }
-    gone.clear();
-    let mut tickets = Vec::new(alloc);
-    for _ in 0..number {
-        let Some((ticket, _)) = taken(&mut inbox) else {
-            break;
-        };
-        tickets.push(ticket)?;
-    }
-    Ok(tickets)
-}
-
-/// The same by a ready list of our own, which `drain` fills.
-fn tickets_of_drain(alloc: Global, size: u64, number: u64, mask: u64) -> Result<Vec<u64>, Fail> {
-    let size = size as usize;
-    let mut ready: VecDeque<Request<Ask>> = VecDeque::new(alloc);
-    let mut overflow = Pending::default(alloc);
-    let mut open = Vec::new(alloc);
-    let mut gone = Vec::new(alloc);
-    for ticket in 0..number {
-        let (message, held) = held_get(alloc, ticket)?;
-        let request = Request { ticket, message };
-        if overflow.is_empty() && ready.len() < size {
-            ready.push_back(request)?;
-        } else {
-            Policy::handle(&mut overflow, request)?;
+impl Row {
+    /// Returns the place of the first call with another answer.
+    fn fault(&self, alloc: Global) -> Result<Option<usize>, AllocError> {
+        let mut queue = Queue::new(alloc)?;
+        for (place, call) in self.calls.iter().enumerate() {
+            if !queue.is_answered(alloc, *call)? {
+                return Ok(Some(place));
+            }
         }
-        keep(&mut open, &mut gone, mask, ticket, held)?;
+        Ok(None)
     }
-    gone.clear();
-    let mut tickets = Vec::new(alloc);
-    for _ in 0..number {
-        let Some(request) = ready.pop_front() else {
-            break;
-        };
-        tickets.push(request.ticket)?;
-        overflow.drain(|request: Request<Ask>| put(&mut ready, size, request));
-    }
-    Ok(tickets)
 }
 
-/// Puts the request into the ready list where there is room, and else hands it back.
-fn put(
-    ready: &mut VecDeque<Request<Ask>>,
-    size: usize,
-    request: Request<Ask>,
-) -> Option<Request<Ask>> {
-    if ready.len() >= size {
-        return Some(request);
-    }
-    ready.push_back(request).err().map(|refused| refused.value)
-}
-
-/// Keeps what holds a get open, or puts it where it is dropped from.
-fn keep(
-    open: &mut Vec<Held>,
-    gone: &mut Vec<Held>,
-    mask: u64,
-    place: u64,
-    held: Held,
-) -> Result<(), AllocError> {
-    if mask >> (place % 32) & 1 == 1 {
-        gone.push(held)?;
-    } else {
-        open.push(held)?;
+#[test]
+fn requests_wait_in_order(rt: HostRuntime) -> Result<(), Fail> {
+    for row in rows() {
+        let fault = row.fault(rt.alloc())?;
+        assert_eq!(rt; fault, None, "{}", row.name);
     }
     Ok(())
-}
-
-/// The ticket and the kind of the next request.
-fn taken<S, G>(inbox: &mut Inbox<Message<u64, Note, S, G>>) -> Option<(u64, Kind)>
-where
-    S: Responder<Reply<Note>> + Drop,
-    G: Responder<Option<Reply<Note>>> + Drop,
-{
-    let (ticket, request) = inbox.take()?;
-    Some((ticket, kind_of(&request)))
 }

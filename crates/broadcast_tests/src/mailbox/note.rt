@@ -1,18 +1,11 @@
 //! A message of one byte, and requests over it.
-ghost use Rattle.std.specs.Prelude.{◌∷◌, [], Some};
+ghost use Rattle.std.specs.Prelude.{◌∷◌, [], Some, ⊤};
 
-use broadcast_core::codec::{CodecError, EncodeSize, Write};
-use broadcast_core::digested::{Digested, Digestible};
-use broadcast_core::ordered::Recipients;
-use commonware_broadcast::ingress::inbox::Inbox;
-use commonware_broadcast::ingress::mailbox::{self, SharedInbox};
-use commonware_broadcast::ingress::message::Message;
-use commonware_broadcast::ingress::reply::Reply;
-use commonware_broadcast::ingress::responder::Fixed;
-use futures::channel::oneshot;
+use broadcast_core::{CodecError, Digested, Digestible, EncodeSize, Recipients, Write};
+use commonware_broadcast::buffered::{Message, Responder};
 use std::alloc::{AllocError, Global};
-use std::num::NonZeroUsize;
-use std::sync::{Arc, Mutex};
+use std::cell::Cell;
+use std::rc::Rc;
 
 /// A message of one byte, which is its own digest.
 #[derive(Debug, PartialEq, Eq, Drop)]
@@ -32,9 +25,8 @@ impl Write for Note {
     ghost encoding = { λ note. Some (note.0 ∷ []) };
 
     fn write(&self, out: &mut Vec<u8>) -> Result<(), CodecError> {
-        if out.push(self.0).is_err() {
-            return Err(CodecError::Memory);
-        }
+        out.reserve(1)?;
+        out.push_reserved(self.0);
         Ok(())
     }
 }
@@ -45,21 +37,42 @@ impl EncodeSize for Note {
     }
 }
 
-/// A request whose responder is told whether it is closed.
-pub type Plain = Message<u64, Note, Fixed, Fixed>;
+/// The digests whose requests are closed, as the bits of a number.
+pub type ClosedDigests = Rc<Cell<u64>>;
 
-/// What a request asks, for comparing.
+/// A responder that is closed if its digest is among the closed digests.
+#[derive(Drop)]
+pub struct Line {
+    digest: u64,
+    closed: ClosedDigests,
+}
+
+impl<T: Drop> Responder<T> for Line {
+    ghost may_answer = { λ _ _. ⊤ };
+
+    ghost may_deliver = { λ _ _. ⊤ };
+
+    fn is_closed(&self) -> bool {
+        self.closed.get() >> (self.digest % 64) & 1 == 1
+    }
+
+    fn send(self, _value: T) -> bool {
+        self.closed.get() >> (self.digest % 64) & 1 == 0
+    }
+}
+
+/// The kind of a request, and its digest.
 #[derive(Clone, Copy, Debug, PartialEq, Eq)]
 pub enum Kind {
-    /// A broadcast of a digest.
+    /// A broadcast.
     Broadcast(u64),
-    /// A subscribe to a digest.
+    /// A subscribe.
     Subscribe(u64),
-    /// A get of a digest.
+    /// A get.
     Get(u64),
 }
 
-/// What the request asks.
+/// Returns the kind of the request.
 pub fn kind_of<S, G>(request: &Message<u64, Note, S, G>) -> Kind {
     match request {
         Message::Broadcast { message, .. } => Kind::Broadcast(message.digest()),
@@ -68,55 +81,34 @@ pub fn kind_of<S, G>(request: &Message<u64, Note, S, G>) -> Kind {
     }
 }
 
-/// A broadcast to all.
-pub fn broadcast<S, G>(alloc: Global, note: u8) -> Result<Message<u64, Note, S, G>, AllocError> {
+/// A request whose responder is closed from outside.
+pub type Plain = Message<u64, Note, Line, Line>;
+
+/// Creates a request of the kind.
+pub fn request(alloc: Global, kind: Kind, closed: &ClosedDigests) -> Result<Plain, AllocError> {
+    match kind {
+        Kind::Broadcast(digest) => broadcast(alloc, digest),
+        Kind::Subscribe(digest) => Ok(Message::Subscribe {
+            digest,
+            responder: responder_for(digest, closed)?,
+        }),
+        Kind::Get(digest) => Ok(Message::Get {
+            digest,
+            responder: responder_for(digest, closed)?,
+        }),
+    }
+}
+
+fn broadcast(alloc: Global, digest: u64) -> Result<Plain, AllocError> {
     Ok(Message::Broadcast {
         recipients: Recipients::All,
-        message: Digested::compute(alloc, Note(note))?,
+        message: Digested::precomputed(alloc, Note(1), digest)?,
     })
 }
 
-/// A subscribe whose responder is open or closed.
-pub fn subscribe(digest: u64, closed: bool) -> Plain {
-    Message::Subscribe {
+fn responder_for(digest: u64, closed: &ClosedDigests) -> Result<Line, AllocError> {
+    Ok(Line {
         digest,
-        responder: Fixed { closed },
-    }
-}
-
-/// A get whose responder is open or closed.
-pub fn get(digest: u64, closed: bool) -> Plain {
-    Message::Get {
-        digest,
-        responder: Fixed { closed },
-    }
-}
-
-/// A request over a channel.
-pub type Ask = mailbox::Ask<u64, Note>;
-
-/// What holds a get open. Dropping it closes the request.
-pub type Held = oneshot::Receiver<Option<Reply<Note>>>;
-
-/// What holds a subscribe open. Dropping it closes the request.
-pub type HeldSubscribe = oneshot::Receiver<Reply<Note>>;
-
-/// A get over a channel, with what holds it open.
-pub fn held_get(alloc: Global, digest: u64) -> Result<(Ask, Held), AllocError> {
-    let (responder, receiver) = oneshot::channel(alloc)?;
-    Ok((Message::Get { digest, responder }, receiver))
-}
-
-/// A subscribe over a channel, with what holds it open.
-pub fn held_subscribe(alloc: Global, digest: u64) -> Result<(Ask, HeldSubscribe), AllocError> {
-    let (responder, receiver) = oneshot::channel(alloc)?;
-    Ok((Message::Subscribe { digest, responder }, receiver))
-}
-
-/// An open inbox of so many places, for mailboxes to share.
-pub fn shared_inbox(
-    alloc: Global,
-    size: NonZeroUsize,
-) -> Result<SharedInbox<u64, Note>, AllocError> {
-    Ok(Arc::new(alloc, Mutex::new(Inbox::new(alloc, size)))?)
+        closed: closed.clone()?,
+    })
 }

@@ -1,178 +1,174 @@
-//! What an overflow keeps and offers.
-use super::note::{
-    Ask, Held, Kind, Note, Plain, get, held_get, held_subscribe, kind_of, subscribe,
-};
-use commonware_broadcast::ingress::message::Message;
-use commonware_broadcast::ingress::overflow::{Overflow, Policy};
-use commonware_broadcast::ingress::pending::Pending;
-use commonware_broadcast::ingress::reply::Reply;
-use commonware_broadcast::ingress::responder::Responder;
-use std::alloc::Global;
+//! Requests in an overflow.
+use super::note::{ClosedDigests, Kind, Plain, kind_of, request};
+use commonware_broadcast::buffered::{Overflow, Pending, Policy};
+use std::alloc::{AllocError, Global};
+use std::cell::Cell;
+use std::rc::Rc;
 use std::test::Fail;
 
-#[test]
-fn offers_the_open_requests_in_order(rt: HostRuntime) -> Result<(), Fail> {
-    let mut pending = Pending::default(rt.alloc());
-    for request in [
-        subscribe(1, true),
-        subscribe(2, false),
-        get(3, true),
-        get(4, false),
-    ] {
-        Policy::handle(&mut pending, request)?;
+/// A call on an overflow, with its expected answer.
+#[derive(Clone, Copy)]
+enum Call {
+    Handle(Kind),
+    /// The requests of these digests become closed.
+    Hang(u64),
+    /// A drain whose push takes `takes` requests, and then closes the requests of the digests
+    /// `hangs` and hands back. The answer is what it was offered.
+    Drain {
+        takes: usize,
+        hangs: u64,
+        offered: &'static [Kind],
+    },
+    /// A drain whose push takes all.
+    DrainAll(&'static [Kind]),
+    /// The answer is the number of requests.
+    Len(usize),
+}
+
+/// Calls on an empty overflow.
+struct Row {
+    name: &'static str,
+    calls: &'static [Call],
+}
+
+static ROWS: [Row; 3] = [
+    Row {
+        name: "closed requests are skipped",
+        calls: &[
+            Call::Handle(Kind::Subscribe(1)),
+            Call::Handle(Kind::Subscribe(2)),
+            Call::Handle(Kind::Get(3)),
+            Call::Handle(Kind::Get(4)),
+            Call::Hang(1 << 1 | 1 << 3 | 1 << 5),
+            Call::Handle(Kind::Get(5)),
+            Call::Len(4),
+            Call::DrainAll(&[Kind::Subscribe(2), Kind::Get(4)]),
+            Call::Len(0),
+        ],
+    },
+    Row {
+        name: "a request that is handed back stays first, though it closed",
+        calls: &[
+            Call::Handle(Kind::Get(1)),
+            Call::Handle(Kind::Get(2)),
+            Call::Drain {
+                takes: 0,
+                hangs: 1 << 1,
+                offered: &[Kind::Get(1)],
+            },
+            Call::Len(2),
+            Call::DrainAll(&[Kind::Get(2)]),
+            Call::Len(0),
+        ],
+    },
+    Row {
+        name: "a drain ends at a request that is handed back",
+        calls: &[
+            Call::Handle(Kind::Subscribe(9)),
+            Call::Handle(Kind::Get(1)),
+            Call::Handle(Kind::Get(2)),
+            Call::Handle(Kind::Get(3)),
+            Call::Hang(1 << 9),
+            Call::Drain {
+                takes: 2,
+                hangs: 0,
+                offered: &[Kind::Get(1), Kind::Get(2), Kind::Get(3)],
+            },
+            Call::Len(1),
+            Call::DrainAll(&[Kind::Get(3)]),
+            Call::Len(0),
+        ],
+    },
+];
+
+fn rows() -> &'static [Row] {
+    &ROWS
+}
+
+/// An overflow, and the digests whose requests are closed.
+#[derive(Drop)]
+struct Queue {
+    pending: Pending<Plain>,
+    closed: ClosedDigests,
+}
+
+impl Queue {
+    fn new(alloc: Global) -> Result<Queue, AllocError> {
+        Ok(Queue {
+            closed: Rc::new(alloc, Cell::new(0))?,
+            pending: Pending::default(alloc),
+        })
     }
-    assert_eq!(rt; pending.len(), 2);
-    let offered = offered(rt.alloc(), &mut pending);
-    assert_eq!(rt;
-        offered.as_slice(),
-        [Kind::Subscribe(2), Kind::Get(4)].as_slice()
-    );
-    assert!(rt; pending.is_empty());
-    Ok(())
-}
 
-#[test]
-fn skips_requests_whose_receivers_are_gone(rt: HostRuntime) -> Result<(), Fail> {
-    let alloc = rt.alloc();
-    let mut pending = Pending::default(alloc);
-    let (gone_subscribe, held) = held_subscribe(alloc, 1)?;
-    let (open_subscribe, _kept) = held_subscribe(alloc, 2)?;
-    let (gone_get, held_too) = held_get(alloc, 3)?;
-    let (open_get, _kept_too) = held_get(alloc, 4)?;
-    let (closed_get, never) = held_get(alloc, 5)?;
-    drop(never);
-    for request in [
-        gone_subscribe,
-        open_subscribe,
-        gone_get,
-        open_get,
-        closed_get,
-    ] {
-        Policy::handle(&mut pending, request)?;
-    }
-    assert_eq!(rt; pending.len(), 4);
-    drop(held);
-    drop(held_too);
-    let offered = offered(alloc, &mut pending);
-    assert_eq!(rt;
-        offered.as_slice(),
-        [Kind::Subscribe(2), Kind::Get(4)].as_slice()
-    );
-    assert!(rt; pending.is_empty());
-    Ok(())
-}
-
-#[test]
-fn keeps_one_that_is_closed_and_handed_back_in_front(rt: HostRuntime) -> Result<(), Fail> {
-    let mut pending = Pending::default(rt.alloc());
-    Policy::handle(&mut pending, get(1, false))?;
-    Policy::handle(&mut pending, get(2, false))?;
-    let mut attempts = Vec::new(rt.alloc());
-    pending.drain(|request: Plain| {
-        let _ = attempts.push(kind_of(&request));
-        Some(closed(request))
-    });
-    assert_eq!(rt; attempts.as_slice(), [Kind::Get(1)].as_slice());
-    assert_eq!(rt; pending.len(), 2);
-    let offered = offered(rt.alloc(), &mut pending);
-    assert_eq!(rt; offered.as_slice(), [Kind::Get(2)].as_slice());
-    Ok(())
-}
-
-#[test]
-fn keeps_one_whose_receiver_went_and_was_handed_back(rt: HostRuntime) -> Result<(), Fail> {
-    let alloc = rt.alloc();
-    let mut pending = Pending::default(alloc);
-    let (first, held) = held_get(alloc, 1)?;
-    let (second, _kept) = held_get(alloc, 2)?;
-    Policy::handle(&mut pending, first)?;
-    Policy::handle(&mut pending, second)?;
-    let mut held: Option<Held> = Some(held);
-    let mut attempts = Vec::new(alloc);
-    pending.drain(|request: Ask| {
-        let _ = attempts.push(kind_of(&request));
-        held = None;
-        Some(request)
-    });
-    assert_eq!(rt; attempts.as_slice(), [Kind::Get(1)].as_slice());
-    assert_eq!(rt; pending.len(), 2);
-    let offered = offered(alloc, &mut pending);
-    assert_eq!(rt; offered.as_slice(), [Kind::Get(2)].as_slice());
-    Ok(())
-}
-
-#[test]
-fn stops_at_one_that_is_handed_back(rt: HostRuntime) -> Result<(), Fail> {
-    let mut pending = Pending::default(rt.alloc());
-    for request in [
-        subscribe(9, true),
-        get(1, false),
-        get(2, false),
-        get(3, false),
-    ] {
-        Policy::handle(&mut pending, request)?;
-    }
-    let mut taken = Vec::new(rt.alloc());
-    pending.drain(|request: Plain| {
-        if taken.len() == 2 {
-            return Some(request);
+    fn is_answered(&mut self, alloc: Global, call: Call) -> Result<bool, AllocError> {
+        match call {
+            Call::Handle(kind) => self.handle(alloc, kind),
+            Call::Hang(closed) => Ok(self.hang(closed)),
+            Call::Drain {
+                takes,
+                hangs,
+                offered,
+            } => self.offers(alloc, takes, hangs, offered),
+            Call::DrainAll(offered) => self.offers(alloc, usize::MAX, 0, offered),
+            Call::Len(len) => Ok(self.has_len(len)),
         }
-        let _ = taken.push(kind_of(&request));
-        None
-    });
-    assert_eq!(rt; taken.as_slice(), [Kind::Get(1), Kind::Get(2)].as_slice());
-    let rest = offered(rt.alloc(), &mut pending);
-    assert_eq!(rt; rest.as_slice(), [Kind::Get(3)].as_slice());
-    assert!(rt; pending.is_empty());
-    Ok(())
+    }
+
+    fn handle(&mut self, alloc: Global, kind: Kind) -> Result<bool, AllocError> {
+        let request = request(alloc, kind, &self.closed)?;
+        Policy::handle(&mut self.pending, request)?;
+        Ok(true)
+    }
+
+    fn hang(&self, closed: u64) -> bool {
+        self.closed.set(closed);
+        true
+    }
+
+    fn offers(
+        &mut self,
+        alloc: Global,
+        takes: usize,
+        hangs: u64,
+        offered: &[Kind],
+    ) -> Result<bool, AllocError> {
+        let mut kinds = Vec::with_capacity(alloc, 8)?;
+        let closed = &self.closed;
+        self.pending.drain(|request: Plain| {
+            // A kind that finds no place is missed by the comparison.
+            let _ = kinds.push(kind_of(&request));
+            if kinds.len() <= takes {
+                return None;
+            }
+            closed.set(closed.get() | hangs);
+            Some(request)
+        });
+        Ok(kinds.as_slice() == offered)
+    }
+
+    fn has_len(&self, len: usize) -> bool {
+        self.pending.len() == len && self.pending.is_empty() == (len == 0)
+    }
+}
+
+impl Row {
+    /// Returns the place of the first call with another answer.
+    fn fault(&self, alloc: Global) -> Result<Option<usize>, AllocError> {
+        let mut queue = Queue::new(alloc)?;
+        for (place, call) in self.calls.iter().enumerate() {
+            if !queue.is_answered(alloc, *call)? {
+                return Ok(Some(place));
+            }
+        }
+        Ok(None)
+    }
 }
 
 #[test]
-fn stops_there_behind_one_whose_receiver_went(rt: HostRuntime) -> Result<(), Fail> {
-    let alloc = rt.alloc();
-    let mut pending = Pending::default(alloc);
-    let (gone, held) = held_subscribe(alloc, 9)?;
-    let (first, _one) = held_get(alloc, 1)?;
-    let (second, _two) = held_get(alloc, 2)?;
-    let (third, _three) = held_get(alloc, 3)?;
-    for request in [gone, first, second, third] {
-        Policy::handle(&mut pending, request)?;
+fn open_requests_are_offered_in_order(rt: HostRuntime) -> Result<(), Fail> {
+    for row in rows() {
+        let fault = row.fault(rt.alloc())?;
+        assert_eq!(rt; fault, None, "{}", row.name);
     }
-    drop(held);
-    let mut taken = Vec::new(alloc);
-    pending.drain(|request: Ask| {
-        if taken.len() == 2 {
-            return Some(request);
-        }
-        let _ = taken.push(kind_of(&request));
-        None
-    });
-    assert_eq!(rt; taken.as_slice(), [Kind::Get(1), Kind::Get(2)].as_slice());
-    let rest = offered(alloc, &mut pending);
-    assert_eq!(rt; rest.as_slice(), [Kind::Get(3)].as_slice());
-    assert!(rt; pending.is_empty());
     Ok(())
-}
-
-/// What the overflow offers to one who takes it all.
-fn offered<S, G>(alloc: Global, pending: &mut Pending<Message<u64, Note, S, G>>) -> Vec<Kind>
-where
-    S: Responder<Reply<Note>> + Drop,
-    G: Responder<Option<Reply<Note>>> + Drop,
-{
-    let mut offered = Vec::new(alloc);
-    pending.drain(|request: Message<u64, Note, S, G>| {
-        let _ = offered.push(kind_of(&request));
-        None
-    });
-    offered
-}
-
-/// The request with its responder closed.
-fn closed(request: Plain) -> Plain {
-    match request {
-        Message::Subscribe { digest, .. } => subscribe(digest, true),
-        Message::Get { digest, .. } => get(digest, true),
-        broadcast => broadcast,
-    }
 }

@@ -1,113 +1,57 @@
-//! What callers of a mailbox get.
-use super::note::{Ask, Kind, Note, kind_of, shared_inbox};
-use broadcast_core::digested::Digested;
-use broadcast_core::requests::Closable;
-use commonware_broadcast::ingress::mailbox::{Mailbox, SharedInbox};
-use commonware_broadcast::ingress::message::Message;
-use commonware_broadcast::ingress::reply::Reply;
-use commonware_broadcast::ingress::responder::Responder;
-use futures::channel::oneshot::Canceled;
+//! Callers that no longer wait, and a closed mailbox.
+use super::note::Note;
+use broadcast_core::{Digested, Recipients};
+use commonware_broadcast::buffered::{Counts, channel};
+use commonware_broadcast::{Broadcaster, Feedback};
 use futures::executor::block_on;
-use std::alloc::{AllocError, Global};
+use std::alloc::AllocGlobal;
 use std::num::NonZeroUsize;
-use std::sync::{Arc, Wait};
+use std::random::RandomSource;
+use std::sync::Wait;
 use std::test::Fail;
 
-/// The next request, with its ticket.
-fn next(rt: &impl Wait, inbox: &SharedInbox<u64, Note>) -> Option<(u64, Ask)> {
-    inbox.lock(rt).take()
-}
-
-/// Replies to the request with the note. A broadcast takes no reply.
-fn reply(alloc: Global, request: Ask, note: u8) -> Result<bool, AllocError> {
-    let reply = Reply::new(Digested::compute(alloc, Note(note))?);
-    Ok(send(request, reply))
-}
-
-fn send(request: Ask, reply: Reply<Note>) -> bool {
-    match request {
-        Message::Broadcast {
-            recipients,
-            message,
-        } => {
-            drop(recipients);
-            drop(message);
-            drop(reply);
-            false
-        }
-        Message::Subscribe {
-            digest: _,
-            responder,
-        } => Responder::send(responder, reply),
-        Message::Get {
-            digest: _,
-            responder,
-        } => Responder::send(responder, Some(reply)),
+/// Returns the counts after a subscription and the gets behind it were dropped, and the first request
+/// was taken.
+fn dropped<R: Wait + AllocGlobal + Clone + Drop>(rt: &R) -> Result<Counts, Fail> {
+    let (mailbox, ingress) = channel::<u64, Note, R>(rt.clone()?, rt.alloc(), NonZeroUsize::MIN)?;
+    for digest in 0..3 {
+        drop(mailbox.subscribe(digest)?);
+        drop(mailbox.get(digest)?);
     }
+    drop(ingress.take());
+    Ok(ingress.counts())
 }
 
 #[test]
-fn replies_reach_the_callers(rt: HostRuntime) -> Result<(), Fail> {
-    let alloc = rt.alloc();
-    let inbox = shared_inbox(alloc, NonZeroUsize::MIN)?;
-    let mailbox = Mailbox::new(rt.clone()?, alloc, Arc::try_clone(&inbox)?);
-    let subscription = mailbox.subscribe(7)?;
-    let get = mailbox.get(8)?;
-    let (first, request) = next(&rt, &inbox).ok_or("nothing waits")?;
-    assert_eq!(rt; (first, kind_of(&request)), (0, Kind::Subscribe(7)));
-    assert!(rt; reply(alloc, request, 7)?);
-    let (second, request) = next(&rt, &inbox).ok_or("nothing waits")?;
-    assert_eq!(rt; (second, kind_of(&request)), (1, Kind::Get(8)));
-    assert!(rt; reply(alloc, request, 8)?);
-    let got = block_on(&rt, subscription)?;
-    assert_eq!(rt; got.map(|message| message.digest()), Ok(7));
-    let got = block_on(&rt, get)?;
-    assert_eq!(rt; got.map(|message| message.digest()), Some(8));
+fn dropping_what_waits_closes_its_request(rt: HostRuntime) -> Result<(), Fail> {
+    let expected = Counts {
+        accepted: 6,
+        taken: 1,
+        skipped: 5,
+        waiting: 0,
+        given_up: 0,
+    };
+    assert_eq!(rt; dropped(&rt)?, expected);
     Ok(())
 }
 
-#[test]
-fn a_reply_for_another_digest_is_no_reply(rt: HostRuntime) -> Result<(), Fail> {
-    let alloc = rt.alloc();
-    let inbox = shared_inbox(alloc, NonZeroUsize::MIN)?;
-    let mailbox = Mailbox::new(rt.clone()?, alloc, Arc::try_clone(&inbox)?);
-    let subscription = mailbox.subscribe(7)?;
-    let get = mailbox.get(8)?;
-    let (_, request) = next(&rt, &inbox).ok_or("nothing waits")?;
-    assert!(rt; reply(alloc, request, 1)?);
-    let (_, request) = next(&rt, &inbox).ok_or("nothing waits")?;
-    assert!(rt; reply(alloc, request, 1)?);
-    let got = block_on(&rt, subscription)?;
-    assert_eq!(rt; got.map(|message| message.digest()), Err(Canceled));
-    assert!(rt; block_on(&rt, get)?.is_none());
-    Ok(())
+/// Returns whether a subscription and a get are canceled after a close, and the feedback to a
+/// broadcast.
+fn closed<R>(rt: &R) -> Result<(bool, bool, Feedback), Fail>
+where
+    R: Wait + RandomSource + AllocGlobal + Clone + Send + Drop + 'static,
+{
+    let (mailbox, ingress) = channel(rt.clone()?, rt.alloc(), NonZeroUsize::MIN)?;
+    ingress.close();
+    let message = Digested::precomputed(rt.alloc(), Note(1), 7)?;
+    let feedback = mailbox.broadcast(Recipients::<u64>::All, message)?;
+    let subscribed = block_on(rt, mailbox.subscribe(7)?)?.is_err();
+    let got = block_on(rt, mailbox.get(7)?)?.is_none();
+    Ok((subscribed, got, feedback))
 }
 
 #[test]
-fn dropping_what_waits_cancels_its_request(rt: HostRuntime) -> Result<(), Fail> {
-    let alloc = rt.alloc();
-    let inbox = shared_inbox(alloc, NonZeroUsize::MIN)?;
-    let mailbox = Mailbox::new(rt.clone()?, alloc, Arc::try_clone(&inbox)?);
-    drop(mailbox.subscribe(7)?);
-    drop(mailbox.get(8)?);
-    let (_, request) = next(&rt, &inbox).ok_or("nothing waits")?;
-    assert!(rt; request.is_closed());
-    assert!(rt; !reply(alloc, request, 7)?);
-    assert_eq!(rt; inbox.lock(&rt).counts().skipped, 1);
-    Ok(())
-}
-
-#[test]
-fn after_a_close_nothing_is_given(rt: HostRuntime) -> Result<(), Fail> {
-    let alloc = rt.alloc();
-    let inbox = shared_inbox(alloc, NonZeroUsize::MIN)?;
-    let mailbox = Mailbox::new(rt.clone()?, alloc, Arc::try_clone(&inbox)?);
-    let waiting = mailbox.subscribe(6)?;
-    assert_eq!(rt; inbox.lock(&rt).close(), 1);
-    let late = block_on(&rt, mailbox.subscribe(7)?)?;
-    assert_eq!(rt; late.map(|message| message.digest()), Err(Canceled));
-    assert!(rt; block_on(&rt, mailbox.get(8)?)?.is_none());
-    let given_up = block_on(&rt, waiting)?;
-    assert_eq!(rt; given_up.map(|message| message.digest()), Err(Canceled));
+fn a_closed_mailbox_answers_nothing(rt: HostRuntime) -> Result<(), Fail> {
+    assert_eq!(rt; closed(&rt)?, (true, true, Feedback::Closed));
     Ok(())
 }

@@ -1,59 +1,88 @@
 //! Callers on several threads.
-use super::note::{Note, shared_inbox};
-use broadcast_core::digested::Digested;
-use broadcast_core::ordered::Recipients;
-use commonware_broadcast::broadcaster::Broadcaster;
-use commonware_broadcast::ingress::mailbox::{Mailbox, SharedInbox};
-use std::alloc::Global;
+use super::note::{Kind, Note, kind_of};
+use broadcast_core::{Digested, Recipients};
+use commonware_broadcast::Broadcaster;
+use commonware_broadcast::buffered::{Counts, Ingress, Mailbox, channel};
+use std::alloc::{AllocError, Global};
 use std::num::NonZeroUsize;
-use std::sync::{Arc, Wait};
+use std::sync::Wait;
 use std::test::Fail;
 use std::thread::{self, JoinHandle, Threads};
 
-/// Makes so many calls of each kind, and answers how many were accepted. What waits is dropped.
-fn call<R: Wait>(mailbox: &Mailbox<u64, Note, R>, rounds: u64) -> u64 {
+/// The calls of a thread.
+const ROUNDS: u64 = 100;
+
+/// Makes a subscribe and a get a round, and drops what waits. Returns how many were accepted.
+fn ask<R: Wait>(mailbox: &Mailbox<u64, Note, R>) -> u64 {
     let mut accepted = 0u64;
-    for round in 0..rounds {
-        if mailbox.subscribe(round).is_ok() {
-            accepted = accepted.wrapping_add(1);
-        }
-        if mailbox.get(round).is_ok() {
-            accepted = accepted.wrapping_add(1);
-        }
+    for round in 0..ROUNDS {
+        let subscribed = mailbox.subscribe(round).is_ok();
+        let got = mailbox.get(round).is_ok();
+        accepted = accepted.wrapping_add(u64::from(subscribed) + u64::from(got));
     }
     accepted
 }
 
-/// Broadcasts so many messages by any broadcaster, and answers how many were accepted.
-fn spread<B>(broadcaster: &B, alloc: Global, rounds: u64) -> u64
+/// Makes a broadcast a round by any broadcaster. Returns how many were accepted.
+fn spread<B>(broadcaster: &B, alloc: Global) -> u64
 where
     B: Broadcaster<Recipients = Recipients<u64>, Message = Digested<Note>>,
 {
     let mut accepted = 0u64;
-    for round in 0..rounds {
-        let Ok(message) = Digested::precomputed(alloc, Note(1), round) else {
-            break;
-        };
-        let feedback = broadcaster.broadcast(Recipients::All, message);
-        if feedback.is_ok_and(|feedback| feedback.accepted()) {
-            accepted = accepted.wrapping_add(1);
+    for round in 0..ROUNDS {
+        if let Ok(message) = Digested::precomputed(alloc, Note(1), round) {
+            let feedback = broadcaster.broadcast(Recipients::All, message);
+            let is_accepted = feedback.is_ok_and(|feedback| feedback.accepted());
+            accepted = accepted.wrapping_add(u64::from(is_accepted));
         }
     }
     accepted
 }
 
-/// Takes so many times, and answers how often something waited.
-fn take_often(rt: &impl Wait, inbox: &SharedInbox<u64, Note>, rounds: u64) -> u64 {
-    let mut taken = 0u64;
-    for _ in 0..rounds {
-        if inbox.lock(rt).take().is_some() {
-            taken = taken.wrapping_add(1);
-        }
-    }
-    taken
+/// The requests that were taken, and how many of them were broadcasts.
+#[derive(Clone, Copy)]
+struct Taken {
+    requests: u64,
+    broadcasts: u64,
 }
 
-/// Waits for the callers, and sums up what they answer.
+impl Taken {
+    /// Takes 2,000 times.
+    fn take_often<R: Wait>(&mut self, ingress: &Ingress<u64, Note, R>) {
+        for _ in 0..2000 {
+            let kind = next_kind(ingress);
+            let is_broadcast = matches!(&kind, Some(Kind::Broadcast(_)));
+            self.requests = self.requests.wrapping_add(u64::from(kind.is_some()));
+            self.broadcasts = self.broadcasts.wrapping_add(u64::from(is_broadcast));
+        }
+    }
+}
+
+/// Returns the kind of the next request.
+fn next_kind<R: Wait>(ingress: &Ingress<u64, Note, R>) -> Option<Kind> {
+    let (_, request) = ingress.take()?;
+    Some(kind_of(&request))
+}
+
+/// Starts four callers.
+fn callers<R>(
+    rt: &R,
+    alloc: Global,
+    mailbox: &Mailbox<u64, Note, R>,
+) -> Result<Vec<JoinHandle<u64>>, AllocError>
+where
+    R: Threads + Wait + Clone + Send + Drop + 'static,
+{
+    let mut callers = Vec::new(alloc);
+    for _ in 0..4 {
+        let mailbox = mailbox.clone()?;
+        let call = move || spread(&mailbox, alloc).wrapping_add(ask(&mailbox));
+        callers.push(thread::spawn(rt, call)?)?;
+    }
+    Ok(callers)
+}
+
+/// Waits for the callers. Returns the sum of their answers.
 fn join_all(rt: &impl Threads, callers: Vec<JoinHandle<u64>>) -> u64 {
     let mut accepted = 0u64;
     for caller in callers {
@@ -62,47 +91,52 @@ fn join_all(rt: &impl Threads, callers: Vec<JoinHandle<u64>>) -> u64 {
     accepted
 }
 
-#[test]
-fn every_accepted_request_is_counted_once(rt: HostRuntime) -> Result<(), Fail> {
-    let alloc = rt.alloc();
-    let inbox = shared_inbox(alloc, NonZeroUsize::new(3).ok_or("a size of 0")?)?;
-    let mut callers = Vec::new(alloc);
-    for _ in 0..4 {
-        let mailbox = Mailbox::new(rt.clone()?, alloc, Arc::try_clone(&inbox)?);
-        callers.push(thread::spawn(&rt, move || call(&mailbox, 100))?)?;
-    }
-    let taken = take_often(&rt, &inbox, 2000);
-    let accepted = join_all(&rt, callers);
-    assert_eq!(rt; accepted, 800);
-    let given_up = inbox.lock(&rt).close();
-    let counts = inbox.lock(&rt).counts();
-    assert_eq!(rt; counts.accepted, accepted);
-    assert_eq!(rt; counts.taken, taken);
-    assert_eq!(rt; counts.given_up, given_up);
-    assert_eq!(rt; counts.waiting, 0);
-    assert_eq!(rt;
-        counts.skipped.wrapping_add(taken).wrapping_add(given_up),
-        accepted
-    );
-    Ok(())
+/// What came of the calls of four callers.
+#[derive(Clone, Copy)]
+struct Account {
+    accepted: u64,
+    taken: Taken,
+    counts: Counts,
+}
+
+/// Takes requests while four callers make theirs, and then those that are left.
+fn run_callers<R>(rt: &R, alloc: Global) -> Result<Account, AllocError>
+where
+    R: Threads + Wait + Clone + Send + Drop + 'static,
+{
+    let (mailbox, ingress) = channel(rt.clone()?, alloc, NonZeroUsize::MIN)?;
+    let callers = callers(rt, alloc, &mailbox)?;
+    let mut taken = Taken {
+        requests: 0,
+        broadcasts: 0,
+    };
+    taken.take_often(&ingress);
+    let accepted = join_all(rt, callers);
+    taken.take_often(&ingress);
+    let counts = ingress.counts();
+    Ok(Account {
+        accepted,
+        taken,
+        counts,
+    })
 }
 
 #[test]
-fn no_broadcast_is_skipped(rt: HostRuntime) -> Result<(), Fail> {
-    let alloc = rt.alloc();
-    let inbox = shared_inbox(alloc, NonZeroUsize::MIN)?;
-    let mailbox = Mailbox::new(rt.clone()?, alloc, Arc::try_clone(&inbox)?);
-    let mut callers = Vec::new(alloc);
-    for _ in 0..4 {
-        let copy = mailbox.clone()?;
-        callers.push(thread::spawn(&rt, move || spread(&copy, alloc, 100))?)?;
-    }
-    let taken = take_often(&rt, &inbox, 1000);
-    let accepted = join_all(&rt, callers);
-    let given_up = inbox.lock(&rt).close();
-    let counts = inbox.lock(&rt).counts();
-    assert_eq!(rt; accepted, 400);
-    assert_eq!(rt; (counts.accepted, counts.skipped), (400, 0));
-    assert_eq!(rt; taken.wrapping_add(given_up), 400);
+fn every_accepted_request_ends_once(rt: HostRuntime) -> Result<(), Fail> {
+    let Account {
+        accepted,
+        taken,
+        counts,
+    } = run_callers(&rt, rt.alloc())?;
+    let expected = Counts {
+        accepted,
+        taken: taken.requests,
+        skipped: accepted.wrapping_sub(taken.requests),
+        waiting: 0,
+        given_up: 0,
+    };
+    assert_eq!(rt; counts, expected);
+    // No broadcast is skipped.
+    assert_eq!(rt; (accepted, taken.broadcasts), (1200, 400));
     Ok(())
 }

@@ -1,9 +1,9 @@
 //! The last ticket.
 ghost use Rattle.std.specs.Prelude.{◌≡◌};
 
+use broadcast_core::Closable;
 use commonware_broadcast::MailboxError;
 use commonware_broadcast::buffered::{Counts, Inbox, Queued};
-use commonware_broadcast::requests::Closable;
 use std::num::NonZeroUsize;
 use std::test::Fail;
 

@@ -1,5 +1,5 @@
 //! Worked examples of the definitions.
-ghost use Rattle.broadcast_tests.specs.WorkedExamples.{Repeats, Broadcasts, Stays, Requests};
+ghost use Rattle.core_tests.specs.WorkedExamples.{Repeats, Broadcasts, Stays, Requests};
 
 /// Does nothing. Its contract has four lists of events with the answers, lists, waiters and sends
 /// that the definitions give.

@@ -1,11 +1,10 @@
 //! A message that has no encoding for some values.
-ghost use Rattle.broadcast_tests.specs.Even.{encoding_of, even_at, even_within, even_refusals, even_reads_back};
+ghost use Rattle.core_tests.specs.Even.{encoding_of, even_at, even_within, even_refusals, even_reads_back};
 
-use broadcast_core::codec::{Codec, CodecError, EncodeSize, Read, Write};
-use broadcast_core::digested::Digestible;
+use broadcast_core::{Codec, CodecError, Digestible, EncodeSize, Read, Write};
 use std::alloc::Global;
 
-/// A number that is written as one byte where it is even, and has no encoding where it is odd.
+/// A number whose encoding is one byte if it is even. An odd number has no encoding.
 #[derive(Clone, Copy, Debug, PartialEq, Eq)]
 pub struct Even(pub u8);
 

@@ -1,15 +1,15 @@
-//! A key that may refuse to be copied.
+//! A key whose copy may find no memory.
 ghost use Rattle.std.specs.Prelude.{◌≡◌, true};
 ghost use Rattle.std.proofs.Common.{rules};
 
-use broadcast_core::ordered::PublicKey;
+use broadcast_core::PublicKey;
 use std::alloc::AllocError;
 
-/// A key that goes by its number. A copy of it finds no memory where it says so.
+/// A key that is compared by its number, and that may find no memory for a copy.
 #[derive(Drop)]
 #[derive_where(Debug, PartialEq, Eq, PartialOrd, Ord, Hash)]
 pub struct Key {
-    /// What the key goes by.
+    /// The number that tells keys apart.
     pub number: u64,
     /// Whether there is memory for a copy.
     #[derive_where(skip(EqHashOrd))]
@@ -17,7 +17,7 @@ pub struct Key {
 }
 
 impl Key {
-    /// The key of the number, with memory for its copies.
+    /// Creates a key with memory for its copies.
     pub fn new(number: u64) -> Key
         ensures { result ≡ record { number = number; copies = true } }
     {

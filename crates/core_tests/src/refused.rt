@@ -1,0 +1,62 @@
+//! Takings that find no memory for a copy of their key.
+use crate::even::Even;
+use crate::key::Key;
+use broadcast_core::{Core, Digested, Set};
+use std::alloc::{AllocError, Global};
+use std::test::Fail;
+
+type Keyed = Core<Key, Even, u64>;
+
+fn without_copies(number: u64) -> Key {
+    Key {
+        number,
+        copies: false,
+    }
+}
+
+fn primary(alloc: Global) -> Result<Set<Key>, AllocError> {
+    Set::from_iter_dedup(Vec::from_array(alloc, [Key::new(0), Key::new(1)])?)
+}
+
+/// Creates a core whose own key 0 finds no memory for a copy. Keys 0 and 1 are primary, and ticket 7
+/// waits for digest 4.
+fn core(alloc: Global) -> Result<Keyed, AllocError> {
+    let primary = primary(alloc)?;
+    let mut core = Core::new(alloc, without_copies(0), 2);
+    core.update_primary_peers(primary);
+    // A waiter that finds no place is missed below.
+    let _ = core.subscribe(4, 7);
+    Ok(core)
+}
+
+/// Returns whether takings of the message under both keys are refused.
+fn refuses(core: &mut Keyed, message: &Digested<Even>) -> bool {
+    core.take_own(message).is_err() && core.take(&without_copies(1), message).is_err()
+}
+
+/// Returns the lengths of both keys' lists, and the numbers of cached messages and of waiters of 4.
+fn sizes(alloc: Global, core: &Keyed) -> Result<[usize; 4], AllocError> {
+    let own = core.list(alloc, &Key::new(0))?.len();
+    let other = core.list(alloc, &Key::new(1))?.len();
+    Ok([own, other, core.cached_len(), core.waiting(&4)])
+}
+
+/// Returns whether a taking of the message under key 1 serves ticket 7.
+fn serves(core: &mut Keyed, message: &Digested<Even>) -> Result<bool, AllocError> {
+    Ok(core.take(&Key::new(1), message)?.served.as_slice() == [7].as_slice())
+}
+
+/// Returns whether takings are refused, what is left then, and whether a taking serves afterwards.
+fn refused(alloc: Global) -> Result<(bool, [usize; 4], bool), AllocError> {
+    let message = Digested::compute(alloc, Even(4))?;
+    let mut core = core(alloc)?;
+    let refused = refuses(&mut core, &message);
+    let sizes = sizes(alloc, &core)?;
+    Ok((refused, sizes, serves(&mut core, &message)?))
+}
+
+#[test]
+fn refused_take_changes_nothing(rt: HostRuntime) -> Result<(), Fail> {
+    assert_eq!(rt; refused(rt.alloc())?, (true, [0, 0, 0, 1], true));
+    Ok(())
+}
