@@ -2,15 +2,20 @@
 #![tactic(auto)]
 
 mod cache;
+mod mailbox;
 mod note;
 
-use std::io;
+use anyhow::Error;
+use broadcast_core::{Digested, TestMessage};
 
-fn main(rt: HostRuntime) -> io::Result<()> {
+fn main(rt: HostRuntime) -> Result<(), Error> {
     let alloc = rt.alloc();
     let taken = cache::take_one(alloc, Vec::from_slice(alloc, b"hello")?)?;
     println!(rt; "cache: {taken:?}")?;
-    let read = note::write_and_read(alloc, Vec::from_slice(alloc, b"hello")?);
+    let read = note::write_and_read(alloc, Vec::from_slice(alloc, b"hello")?)?;
     println!(rt; "note: {read:?}")?;
+    let message = TestMessage::shared(alloc, Vec::from_slice(alloc, b"hello")?)?;
+    let asked = mailbox::ask(&rt, &Digested::compute(alloc, message)?)?;
+    println!(rt; "mailbox: {asked:?}")?;
     Ok(())
 }

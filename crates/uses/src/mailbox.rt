@@ -1,0 +1,40 @@
+//! A mailbox: callers ask on one end, and whoever takes the requests replies on the other.
+use anyhow::Error;
+use commonware_broadcast::buffered::{Incoming, Message, Reply, Responder, channel};
+use commonware_broadcast::{Broadcaster, Digested, Feedback, Recipients, TestMessage};
+use futures::executor::block_on;
+use std::alloc::AllocGlobal;
+use std::num::NonZeroUsize;
+use std::random::RandomSource;
+use std::sync::Wait;
+
+/// Broadcasts a message, and asks for it by a get and by a subscription. Returns what the
+/// broadcaster was told, and whether each of the two received a message.
+pub fn ask<R>(rt: &R, message: &Digested<TestMessage>) -> Result<(Feedback, bool, bool), Error>
+where
+    R: Wait + RandomSource + AllocGlobal + Clone + Send + Drop + 'static,
+{
+    let (mailbox, ingress) = channel(rt.clone()?, rt.alloc(), NonZeroUsize::MIN)?;
+    let told = mailbox.broadcast(Recipients::All, message.clone()?)?;
+    let get = mailbox.get(message.digest())?;
+    let subscription = mailbox.subscribe(message.digest())?;
+    while let Some((_ticket, request)) = ingress.take() {
+        reply(request, message.clone()?);
+    }
+    let got = block_on(rt, get)?.is_some();
+    let arrived = block_on(rt, subscription)?.is_ok();
+    Ok((told, got, arrived))
+}
+
+/// Replies to a request, as a node does that has the message in its cache.
+fn reply(request: Incoming<u64, TestMessage>, message: Digested<TestMessage>) {
+    match request {
+        Message::Broadcast { .. } => {}
+        Message::Subscribe { responder, .. } => {
+            let _delivered = responder.send(Reply::new(message));
+        }
+        Message::Get { responder, .. } => {
+            let _delivered = responder.send(Some(Reply::new(message)));
+        }
+    }
+}
