@@ -30,7 +30,7 @@ struct Row {
     fault: &'static [u8],
     status: u8,
     /// The number of requests that were taken, and of those that wait.
-    counts: (u64, usize),
+    counts: (u64, u64),
 }
 
 static ROWS: [Row; 5] = [
