@@ -48,7 +48,8 @@ pub fn parse_byte_list(alloc: Global, word: &[u8]) -> Result<Vec<u8>, LineError>
 fn decode(digits: &[u8], bytes: &mut [u8]) -> bool
     requires { length digits.now ≡ 2 * length bytes.old }
     ensures spelled_so { result ≡ true → digits.now ≡ encode_lower bytes.new }
-    ensures reads_all_bytes { (bs : List ℕ) → IsBytes bs → digits.now ≡ encode_lower bs → result ≡ true }
+    ensures reads_all_bytes { (bs : List ℕ) → IsBytes bs
+        → digits.now ≡ encode_lower bs → result ≡ true }
 {
     let mut greatest = 0u8;
     for i in 0..bytes.len() {

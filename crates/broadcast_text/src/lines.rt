@@ -68,7 +68,7 @@ impl<R: Read + Drop> Lines<R> {
         if self.has_ended {
             return Ok(());
         }
-        // No input has so many lines that the bound is met.
+        // No input reaches this bound.
         for _ in 0..u64::MAX {
             if self.reader.skip_until(b'\n').map_err(reading_fault)? == 0 {
                 break;

@@ -17,12 +17,12 @@ module _ {P M D : Type 0} where
   broadcasts_in (event ∷ events) = broadcasts_by event + broadcasts_in events
 
 module _ {T : Type 0} where
-  -- the mailbox is open, nobody waits, and so many tickets are left
+  -- the mailbox is open, no request waits, and at least `count` tickets are left
   pub record IsIdle (state : MailboxState T) (count : ℕ) : Type 0 where
     pub is_open : state.queue.closed ≡ false
     pub nobody : waiting state.queue ≡ []
     pub left : state.queue.next + count ≤ last_ticket
 
-  -- so many more requests were queued and taken
+  -- `count` more requests were queued and taken
   abbrev pub passed : MailboxState T → ℕ → MailboxState T
   passed state count = record state { queue = record state.queue { next = state.queue.next + count }; taken = state.taken + count }

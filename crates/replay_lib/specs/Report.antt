@@ -23,7 +23,7 @@ abbrev pub content_of : Option (Carried Parts (List ℕ)) → List ℕ
 content_of None = []
 content_of (Some it) = it.message.content
 
--- the key's list, the newest first: each digest is shown as the content of its message
+-- the contents of the messages on the key's list, newest first
 abbrev pub contents_at : Content ℕ Parts (List ℕ) ℕ → ℕ → List (List ℕ)
 contents_at core peer = map (λ d. content_of (message_at same core d)) (list_at same core peer)
 

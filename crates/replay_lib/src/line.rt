@@ -51,7 +51,8 @@ pub fn parse_line(alloc: Global, line: &[u8]) -> Result<Event<u64, TestMessage>,
 /// Returns the kind of a line by its first word.
 fn parse_kind(word: &[u8]) -> Result<Kind, LineError>
     ensures spelled_so { IfOk result (λ kind. word.now ≡ kind_word kind) }
-    ensures reads_each_kind { IfErr result (λ e. (said : Line) → word.now ≢ kind_word (kind_of said)) }
+    ensures reads_each_kind { IfErr result (λ e.
+        (said : Line) → word.now ≢ kind_word (kind_of said)) }
     ensures fails_for_syntax { IfErr result (λ e. e ≡ Syntax) }
 {
     Ok(match word {
@@ -130,7 +131,8 @@ fn parse_payload(alloc: Global, words: Words<'_>) -> Result<Event<u64, TestMessa
 /// Returns the subscribe of the ticket and the digest of the content.
 fn parse_subscribe(alloc: Global, words: Words<'_>) -> Result<Event<u64, TestMessage>, LineError>
     ensures event_of_line { IfOk result (λ event. (ticket : ℕ) × (content : List ℕ)
-        × HasRest words.entry (subscribe ticket content) × IsEventOf (subscribe ticket content) event) }
+        × HasRest words.entry (subscribe ticket content)
+        × IsEventOf (subscribe ticket content) event) }
     ensures reads_each_line { (ticket : ℕ) (content : List ℕ) → Fits (subscribe ticket content)
         → HasRest words.entry (subscribe ticket content) → IfErr result (λ e. e ≡ Memory) }
 {
@@ -141,7 +143,8 @@ fn parse_subscribe(alloc: Global, words: Words<'_>) -> Result<Event<u64, TestMes
 /// Returns the get of the ticket and the digest of the content.
 fn parse_get(alloc: Global, words: Words<'_>) -> Result<Event<u64, TestMessage>, LineError>
     ensures event_of_line { IfOk result (λ event. (ticket : ℕ) × (content : List ℕ)
-        × HasRest words.entry (get ticket content) × IsEventOf (get ticket content) event) }
+        × HasRest words.entry (get ticket content)
+        × IsEventOf (get ticket content) event) }
     ensures reads_each_line { (ticket : ℕ) (content : List ℕ) → Fits (get ticket content)
         → HasRest words.entry (get ticket content) → IfErr result (λ e. e ≡ Memory) }
 {
