@@ -1,6 +1,4 @@
 //! What the calls are given.
-ghost use Rattle.std.specs.Prelude.{◌≡◌};
-
 use broadcast_core::digested::Digested;
 use broadcast_core::mocks::TestMessage;
 use broadcast_core::ordered::Set;
