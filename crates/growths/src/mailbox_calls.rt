@@ -2,8 +2,8 @@
 use crate::material::{digest_of, message, prepare};
 use crate::requests::{write_counts, write_taken};
 use broadcast_core::{Digested, Recipients, TestMessage};
-use commonware_broadcast::{Broadcaster, Feedback, MailboxError};
 use commonware_broadcast::buffered::{Get, Ingress, Mailbox, Subscription, channel};
+use commonware_broadcast::{Broadcaster, Feedback, MailboxError};
 use std::alloc::{AllocError, Global};
 use std::io::{self, Write};
 use std::num::NonZeroUsize;

@@ -1,6 +1,4 @@
 //! What the calls are given.
-ghost use Rattle.std.specs.Prelude.{◌≡◌};
-
 use broadcast_core::{Digested, Set, TestMessage};
 use sha2::{Digest, Sha256};
 use std::alloc::{AllocError, Global};

@@ -1,7 +1,9 @@
 //! Runs of lists of events.
 use crate::material::{digest_of, message, prepare, set_of};
 use crate::show::{content_of, word_of, write_core};
-use broadcast_core::{Answer, Cause, CodecError, Event, Items, RangeCfg, Recipients, Run, Sent, TestMessage, run};
+use broadcast_core::{
+    Answer, Cause, CodecError, Event, Items, RangeCfg, Recipients, Run, Sent, TestMessage, run,
+};
 use std::alloc::{AllocError, Global};
 use std::io::{self, Write};
 
