@@ -19,8 +19,8 @@ enum Progress {
 
 /// The lines of a reader, as bytes. A line ends with a line feed; the last line may lack it.
 ///
-/// The end of a line is sought by `memchr`: `BufRead::read_until` makes a run over long lines a third
-/// slower.
+/// The end of a line is sought by `memchr`: `BufRead::read_until` makes a run over long lines a
+/// third slower.
 #[derive(Drop)]
 pub struct Lines<R: Read + Drop> {
     reader: BufReader<R>,
