@@ -1,5 +1,8 @@
 //! The reply to a request.
 ghost use Rattle.std.specs.Prelude.{◌≡◌};
+ghost use Rattle.std.specs.Ordering.{on, eq_of_both};
+ghost use Rattle.std.specs.Cmp.Rules.{comparing};
+ghost use Rattle.std.proofs.Common.{rules};
 
 use broadcast_core::{Digested, Digestible};
 use std::alloc::AllocError;
@@ -59,4 +62,19 @@ impl<M: Digestible> Clone for Reply<M> {
             message: self.message.clone()?,
         })
     }
+}
+
+impl<M: Digestible + PartialEq> PartialEq for Reply<M> {
+    ghost eq = { eq_of_both (on (λ it. it.digest) M.Digest.eq) (on (λ it. it.message) M.eq) };
+
+    ghost laws = { Prim.search (comparing, rules) };
+
+    /// Returns whether both replies have equal digests and equal messages.
+    fn eq(&self, other: &Self) -> bool {
+        self.message == other.message
+    }
+}
+
+impl<M: Digestible + Eq> Eq for Reply<M> {
+    ghost laws = { Prim.search (comparing, rules) };
 }
