@@ -1,9 +1,9 @@
 //! The mailbox: its overflow, its inbox, its calls, what callers are given, and callers on threads.
 mod calls;
-mod futures;
 mod inbox;
 mod note;
 mod overflow;
+mod polls;
 mod refill;
 mod replies;
 mod threads;

@@ -139,7 +139,8 @@ impl Reading {
 
     fn is_decoded(&self, alloc: Global) -> bool {
         match decode_cfg::<TestMessage>(alloc, self.bytes, &self.range()) {
-            Ok(message) => self.front == Ok((&message.commitment, &message.content, self.bytes.len())),
+            Ok(message) => self.front
+                == Ok((&message.commitment, &message.content, self.bytes.len())),
             Err(refusal) => self.refusal() == Some(refusal),
         }
     }
@@ -227,9 +228,11 @@ impl Writing {
     }
 
     fn is_kept(&self, alloc: Global) -> Result<bool, Fail> {
-        Ok(self.is_written(alloc)?
-            && self.is_written_with_digest(alloc)?
-            && self.has_digest(alloc)?)
+        Ok(
+            self.is_written(alloc)?
+                && self.is_written_with_digest(alloc)?
+                && self.has_digest(alloc)?,
+        )
     }
 }
 

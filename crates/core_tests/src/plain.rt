@@ -127,7 +127,12 @@ impl Plain {
     /// Drops the oldest digest of the key's list if it is too long.
     fn cut(&mut self, key: u64) {
         let len = self.listed.iter().filter(|place| place.0 == key).count();
-        let oldest = self.listed.iter().rev().find(|place| place.0 == key).copied();
+        let oldest = self
+            .listed
+            .iter()
+            .rev()
+            .find(|place| place.0 == key)
+            .copied();
         if len > self.size {
             self.listed.retain(|place| Some(*place) != oldest);
         }
@@ -148,11 +153,7 @@ impl Plain {
 
     /// Drops the messages that are on no list any more.
     fn forget(&mut self) {
-        let Plain {
-            listed,
-            cached,
-            ..
-        } = self;
+        let Plain { listed, cached, .. } = self;
         cached.retain(|(digest, _)| listed.iter().any(|(_, other)| other == digest));
     }
 
@@ -210,7 +211,10 @@ impl Plain {
     }
 
     fn waiters_of(&self, digest: u8) -> usize {
-        self.waiting.iter().filter(|(_, awaited)| *awaited == digest).count()
+        self.waiting
+            .iter()
+            .filter(|(_, awaited)| *awaited == digest)
+            .count()
     }
 
     /// Returns whether the core shows the same.
@@ -219,17 +223,15 @@ impl Plain {
         alloc: Global,
         core: &Core<u64, Even, u64>,
     ) -> Result<bool, AllocError> {
-        Ok(self.has_digests_of(core)
-            && self.has_lists_of(alloc, core)?
-            && core.primary().as_slice() == self.primary.as_slice()
-            && core.cached_len() == self.cached.len())
+        Ok(
+            self.has_digests_of(core)
+                && self.has_lists_of(alloc, core)?
+                && core.primary().as_slice() == self.primary.as_slice()
+                && core.cached_len() == self.cached.len(),
+        )
     }
 
-    fn has_lists_of(
-        &self,
-        alloc: Global,
-        core: &Core<u64, Even, u64>,
-    ) -> Result<bool, AllocError> {
+    fn has_lists_of(&self, alloc: Global, core: &Core<u64, Even, u64>) -> Result<bool, AllocError> {
         let mut same = true;
         for key in 0..5 {
             same &= core.list(alloc, &key)? == self.list_of(alloc, key)?;

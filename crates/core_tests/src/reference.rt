@@ -1,9 +1,7 @@
 //! Runs of generated events, compared with a core of plain vectors.
 use crate::even::Even;
 use crate::plain::Plain;
-use broadcast_core::{
-    Answer, Digested, Event, Items, Outcome, Recipients, Run, Sent, Set, run,
-};
+use broadcast_core::{Answer, Digested, Event, Items, Outcome, Recipients, Run, Sent, Set, run};
 use rand_core::Rng;
 use rand_pcg::Pcg32;
 use std::alloc::{AllocError, Global};
@@ -131,7 +129,11 @@ impl Seen {
 fn kind(answer: &Answer<Even>) -> usize {
     match answer {
         Answer::Peers => 0,
-        Answer::Taken { outcome, served, .. } => match outcome {
+        Answer::Taken {
+            outcome,
+            served,
+            ..
+        } => match outcome {
             Outcome::Inserted => 1,
             Outcome::Duplicate => 2,
             Outcome::Ineligible => 3 + usize::from(served.is_empty()),

@@ -18,8 +18,8 @@ fn primary(alloc: Global) -> Result<Set<Key>, AllocError> {
     Set::from_iter_dedup(Vec::from_array(alloc, [Key::new(0), Key::new(1)])?)
 }
 
-/// Creates a core whose own key 0 finds no memory for a copy. Keys 0 and 1 are primary, and ticket 7
-/// waits for digest 4.
+/// Creates a core whose own key 0 finds no memory for a copy. Keys 0 and 1 are primary, and
+/// ticket 7 waits for digest 4.
 fn core(alloc: Global) -> Result<Keyed, AllocError> {
     let primary = primary(alloc)?;
     let mut core = Core::new(alloc, without_copies(0), 2);
@@ -34,7 +34,7 @@ fn refuses(core: &mut Keyed, message: &Digested<Even>) -> bool {
     core.take_own(message).is_err() && core.take(&without_copies(1), message).is_err()
 }
 
-/// Returns the lengths of both keys' lists, and the numbers of cached messages and of waiters of 4.
+/// Returns the lengths of both lists, and the numbers of cached messages and of waiters of 4.
 fn sizes(alloc: Global, core: &Keyed) -> Result<[usize; 4], AllocError> {
     let own = core.list(alloc, &Key::new(0))?.len();
     let other = core.list(alloc, &Key::new(1))?.len();
@@ -46,7 +46,7 @@ fn serves(core: &mut Keyed, message: &Digested<Even>) -> Result<bool, AllocError
     Ok(core.take(&Key::new(1), message)?.served.as_slice() == [7].as_slice())
 }
 
-/// Returns whether takings are refused, what is left then, and whether a taking serves afterwards.
+/// Returns whether takings are refused, what is left, and whether a taking serves afterwards.
 fn refused(alloc: Global) -> Result<(bool, [usize; 4], bool), AllocError> {
     let message = Digested::compute(alloc, Even(4))?;
     let mut core = core(alloc)?;

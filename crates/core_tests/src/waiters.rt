@@ -51,6 +51,7 @@ enum Call {
     List(u64, &'static [u8]),
     Cleanup(&'static [u64], u64),
     CleanupBy(u64),
+    ClearWaiters,
     /// The answer is the numbers of cached and of awaited digests, and of the waiters of 2 and 4.
     Sizes([usize; 4]),
     /// The answer is the number of waiters that are not dropped, and one.
@@ -60,7 +61,7 @@ enum Call {
 }
 
 /// Calls on a core of the own key 1, whose lists have at most two digests.
-static CALLS: [Call; 51] = [
+static CALLS: [Call; 53] = [
     Call::Peers(&[3, 1]),
     Call::Subscribe(2, 70, false, None),
     Call::Subscribe(2, 50, true, None),
@@ -115,8 +116,10 @@ static CALLS: [Call; 51] = [
     Call::CleanupBy(0),
     Call::Asked(7),
     Call::Take(5, 2, Outcome::Ineligible, &[1]),
-    Call::Take(5, 4, Outcome::Ineligible, &[6]),
+    Call::Alive(2),
+    Call::ClearWaiters,
     Call::Alive(1),
+    Call::Sizes([1, 0, 0, 0]),
 ];
 
 fn calls() -> &'static [Call] {
@@ -161,11 +164,17 @@ impl Room {
             Call::Get(digest, number) => self.number(digest) == number,
             Call::Cleanup(gone, removed) => self.core.cleanup(gone) == removed,
             Call::CleanupBy(removed) => self.core.cleanup_by() == removed,
+            Call::ClearWaiters => self.clear_waiters(),
             Call::Sizes(sizes) => self.sizes() == sizes,
             Call::Alive(alive) => Rc::strong_count(&self.asked) == alive,
             Call::Asked(asked) => self.asked.get() == asked,
             _ => false,
         }
+    }
+
+    fn clear_waiters(&mut self) -> bool {
+        self.core.clear_waiters();
+        true
     }
 
     fn has_primary(&mut self, alloc: Global, keys: &[u64]) -> Result<bool, AllocError> {
@@ -222,7 +231,10 @@ fn is_taken(taken: &Taken<Waiter>, outcome: Outcome, served: &[u64]) -> bool {
 }
 
 fn has_tickets(waiters: &Items<Waiter>, tickets: &[u64]) -> bool {
-    waiters.iter().map(|waiter| waiter.ticket).eq(tickets.iter().copied())
+    waiters
+        .iter()
+        .map(|waiter| waiter.ticket)
+        .eq(tickets.iter().copied())
 }
 
 /// Returns the place of the first call with another answer.

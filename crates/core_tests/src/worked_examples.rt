@@ -8,5 +8,4 @@ pub fn worked_examples()
     ensures broadcasts { Broadcasts }
     ensures stays { Stays }
     ensures requests { Requests }
-{
-}
+{}

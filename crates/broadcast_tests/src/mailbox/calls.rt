@@ -12,7 +12,7 @@ use std::test::Fail;
 const DIGEST: u64 = 7;
 
 /// A call of a mailbox.
-#[derive(Clone, Copy, Debug, PartialEq, Eq)]
+#[derive(Clone, Copy, PartialEq, Eq)]
 enum Call {
     ToAll,
     ToSome,
@@ -22,7 +22,7 @@ enum Call {
 }
 
 /// A call, how many broadcasts wait before it, and whether a stop is requested before it.
-#[derive(Clone, Copy, Debug)]
+#[derive(Clone, Copy)]
 struct Row(Call, u64, bool);
 
 static ROWS: [Row; 20] = [
@@ -54,9 +54,9 @@ fn rows() -> &'static [Row] {
 
 #[test]
 fn each_call_queues_one_request(rt: HostRuntime) -> Result<(), Fail> {
-    for row in rows() {
+    for (place, row) in rows().iter().enumerate() {
         let queued = queues_one(&rt, *row)?;
-        assert!(rt; queued, "{row:?}");
+        assert!(rt; queued, "row {place}");
     }
     Ok(())
 }

@@ -10,10 +10,10 @@ use std::random::RandomSource;
 use std::sync::Wait;
 use std::test::Fail;
 
-/// Returns the counts after a subscription and the gets behind it were dropped, and the first request
-/// was taken.
+/// Returns the counts after all subscriptions and gets were dropped, and one request was taken.
 fn dropped<R: Wait + AllocGlobal + Clone + Drop>(rt: &R) -> Result<Counts, Fail> {
-    let (mailbox, ingress) = channel::<u64, Note, R>(rt.clone()?, rt.alloc(), NonZeroUsize::MIN)?;
+    let size = NonZeroUsize::MIN;
+    let (mailbox, ingress) = channel::<u64, Note, R>(rt.clone()?, rt.alloc(), size)?;
     for digest in 0..3 {
         drop(mailbox.subscribe(digest)?);
         drop(mailbox.get(digest)?);

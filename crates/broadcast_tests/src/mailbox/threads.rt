@@ -91,7 +91,7 @@ fn join_all(rt: &impl Threads, callers: Vec<JoinHandle<u64>>) -> u64 {
     accepted
 }
 
-/// What came of the calls of four callers.
+/// The outcome of the calls of four callers.
 #[derive(Clone, Copy)]
 struct Account {
     accepted: u64,

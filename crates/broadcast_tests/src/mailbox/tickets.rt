@@ -25,7 +25,7 @@ impl Closable for Caller {
 const LAST: u64 = u64::MAX - 1;
 
 /// A call of an inbox, with its result.
-#[derive(Clone, Copy, Debug)]
+#[derive(Clone, Copy)]
 enum Call {
     Enqueue(Result<Queued, MailboxError>),
     EnqueueClosed(Result<Queued, MailboxError>),
@@ -60,9 +60,9 @@ fn rows() -> &'static [Call] {
 #[test]
 fn no_ticket_comes_after_the_last(rt: HostRuntime) -> Result<(), Fail> {
     let mut inbox = Inbox::resumed_after(rt.alloc(), NonZeroUsize::MIN, LAST);
-    for row in rows() {
+    for (place, row) in rows().iter().enumerate() {
         let answered = is_answered(&mut inbox, *row);
-        assert!(rt; answered, "{row:?}");
+        assert!(rt; answered, "row {place}");
     }
     Ok(())
 }

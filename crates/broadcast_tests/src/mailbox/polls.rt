@@ -16,14 +16,14 @@ use std::test::Fail;
 const DIGEST: u64 = 7;
 
 /// The call that made the future.
-#[derive(Clone, Copy, Debug)]
+#[derive(Clone, Copy)]
 enum Call {
     Subscribe,
     Get,
 }
 
 /// What becomes of the request.
-#[derive(Clone, Copy, Debug)]
+#[derive(Clone, Copy)]
 enum End {
     /// Its reply is a message under this digest.
     Replied(u64),
@@ -36,7 +36,7 @@ enum End {
 }
 
 /// A call, what becomes of its request, and the digest of the message that its future gives.
-#[derive(Clone, Copy, Debug)]
+#[derive(Clone, Copy)]
 struct Row(Call, End, Option<u64>);
 
 static ROWS: [Row; 9] = [
@@ -57,9 +57,9 @@ fn rows() -> &'static [Row] {
 
 #[test]
 fn futures_give_their_reply_once_it_is_there(rt: HostRuntime) -> Result<(), Fail> {
-    for row in rows() {
+    for (place, row) in rows().iter().enumerate() {
         let given = gives(&rt, *row)?;
-        assert!(rt; given, "{row:?}");
+        assert!(rt; given, "row {place}");
     }
     Ok(())
 }
