@@ -8,8 +8,8 @@ mod report;
 mod settings;
 
 use broadcast_core::{Event, Run, TestMessage, run};
-use commonware_broadcast::buffered::Inbox;
 use broadcast_text::fault::Fault;
+use commonware_broadcast::buffered::Inbox;
 use events::read_events;
 pub use loopback::Request;
 use loopback::loop_back;

@@ -5,9 +5,9 @@ ghost use Rattle.commonware_broadcast.specs.declared.broadcaster.MailboxError.Th
 ghost use Rattle.broadcast_text.specs.declared.fault.Fault.TheVariants.{Memory, Mailbox as MailboxFailed};
 
 use broadcast_core::{Closable, Event, Items, TestMessage};
+use broadcast_text::fault::Fault;
 use commonware_broadcast::MailboxError;
 use commonware_broadcast::buffered::{Fixed, Inbox, Message, Queued};
-use broadcast_text::fault::Fault;
 use std::alloc::Global;
 use std::mem;
 use std::sync::{Mutex, Wait};
