@@ -7,6 +7,7 @@ from pathlib import Path
 
 TOP = Path(__file__).resolve().parent.parent
 ROWS = TOP / "rows"
+EXAMPLES = TOP / "examples"
 # A program as LLVM builds it, and as Rattle's own compiler does.
 SUFFIXES = ("", ".by-rattle")
 STREAMS = ("stdin", "stdout", "stderr")
@@ -35,11 +36,15 @@ class Row:
                 stream, path = line.split(" ")
                 assert stream in STREAMS, f"{folder}: {stream} is no stream"
                 devices[stream] = path
+        stdin, stdout = folder / "stdin", folder / "stdout"
+        if (folder / "example").exists():
+            example = (folder / "example").read_text().strip()
+            stdin, stdout = EXAMPLES / f"{example}.events", EXAMPLES / f"{example}.output"
         return Row(
             folder.name,
             (folder / "args").read_bytes().split(b"\n")[:-1],
-            (folder / "stdin").read_bytes(),
-            (folder / "stdout").read_bytes(),
+            stdin.read_bytes(),
+            stdout.read_bytes(),
             (folder / "stderr").read_bytes(),
             int((folder / "status").read_text()),
             devices,
