@@ -1,0 +1,4 @@
+pub mod Packet
+pub mod Scene
+pub mod World
+pub mod Steps
