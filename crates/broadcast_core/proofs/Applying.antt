@@ -91,13 +91,10 @@ module _ {P M D : Type 0} (s : Setting P M D) (key_laws : IsEquivalence s.same.k
         sent = refl;
       }
 
-  pub Applies-cleanup : (gone : List ℕ) (n : ℕ) (new : Content P M D ℕ) → length past ≤ 2 ^ 64 - 1 → Cleans s.same (λ k. list_any (λ x. k == x) gone) old new
+  pub Applies-cleanup : (gone : List ℕ) (n : ℕ) (new : Content P M D ℕ) → Cleans s.same (λ k. list_any (λ x. k == x) gone) old new
       → IsDistinct s.same.digest (keys_of old.waiters) → n ≡ counted (gone_from (λ w. w) gone old.waiters) → Applies s past (Cleanup gone) new (answer.Removed n) []
-  Applies-cleanup gone n new short cleans distinct is = record {
-    answered = inl (ap answer.Removed (
-        let count = removed-counted s laws gone past old.waiters distinct has.waiters in
-        let few = removed-le s gone past in
-        is ∙ ap counted count ∙ omega (arith, few, short)));
+  Applies-cleanup gone n new cleans distinct is = record {
+    answered = inl (ap answer.Removed (is ∙ ap counted (removed-counted s laws gone past old.waiters distinct has.waiters)));
     content = HasContent-cleanup s key_laws laws past old has (λ k. list_any (λ x. k == x) gone) new cleans;
     sent = refl;
   }

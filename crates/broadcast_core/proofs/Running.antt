@@ -94,19 +94,18 @@ module _ {P M D : Type 0} where
         }
 
     -- the core has the setting's own key and size
-    follows-setting : (most : ℕ) (e : Event P M D) (old new : Content P M D ℕ) (a : Answer M D) (sending : List (Sent P)) → old.own ≡ s.own → old.deque_size ≡ s.deque_size
-        → Follows (record s { own = old.own; deque_size = old.deque_size }) most e old new a sending → Follows s most e old new a sending
-    follows-setting most e old new a sending own size h =
-        subst (λ n. Follows (record s { own = s.own; deque_size = n }) most e old new a sending) size
-        (subst (λ o. Follows (record s { own = o; deque_size = old.deque_size }) most e old new a sending) own h)
+    follows-setting : (e : Event P M D) (old new : Content P M D ℕ) (a : Answer M D) (sending : List (Sent P)) → old.own ≡ s.own → old.deque_size ≡ s.deque_size
+        → Follows (record s { own = old.own; deque_size = old.deque_size }) e old new a sending → Follows s e old new a sending
+    follows-setting e old new a sending own size h =
+        subst (λ n. Follows (record s { own = s.own; deque_size = n }) e old new a sending) size
+        (subst (λ o. Follows (record s { own = o; deque_size = old.deque_size }) e old new a sending) own h)
 
-    pub HasRun-follows : (most : ℕ) (es : List (Event P M D)) (rs : List (Answer M D)) (sends : List (Sent P)) (old new : Content P M D ℕ) (e : Event P M D) (a : Answer M D) (sending : List (Sent P))
-        → length es ≤ most → HasRun s es rs sends old → Follows (record s { own = old.own; deque_size = old.deque_size }) most e old new a sending
+    pub HasRun-follows : (es : List (Event P M D)) (rs : List (Answer M D)) (sends : List (Sent P)) (old new : Content P M D ℕ) (e : Event P M D) (a : Answer M D) (sending : List (Sent P))
+        → HasRun s es rs sends old → Follows (record s { own = old.own; deque_size = old.deque_size }) e old new a sending
         → HasRun s (es ++ e ∷ []) (rs ++ a ∷ []) (sends ++ sending) new
-    HasRun-follows most es rs sends old new e a sending few before step =
+    HasRun-follows es rs sends old new e a sending before step =
         HasRun-next es rs sends old new e a sending before
-        (follows-setting most e old new a sending before.content.own before.content.deque_size step (history s (log_of es rs))
-        (omega (arith, length-history_of es rs)) before.content)
+        (follows-setting e old new a sending before.content.own before.content.deque_size step (history s (log_of es rs)) before.content)
 
     -- the same lists, under other names
     pub HasRun-same : (es fs : List (Event P M D)) (rs qs : List (Answer M D)) (sends others : List (Sent P)) (core : Content P M D ℕ)

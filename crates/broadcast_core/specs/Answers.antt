@@ -3,6 +3,7 @@ use Rattle.std.specs.Prelude.{◌≡◌, ℕ, Bool, true, false, ◌==◌, if◌
 use Rattle.std.specs.List.{list_any, count_by, zip}
 use Rattle.broadcast_core.specs.Carried.{Carried}
 use Rattle.broadcast_core.specs.Content.{among}
+use Rattle.broadcast_core.specs.Waiters.{counted}
 use Rattle.broadcast_core.specs.History.{Setting, own_digested}
 use Rattle.broadcast_core.specs.Happening.{Happening, broadcast, arrival, subscribe, get, after}
 use Rattle.broadcast_core.specs.Peers.{is_primary}
@@ -56,7 +57,7 @@ module _ {P M D : Type 0} (s : Setting P M D) where
   answer_to (Payload p b) past = answer_to_payload p (s.reading b) past
   answer_to (Subscribe k d) past = answer_to_subscribe (message s d (subscribe k d ∷ past))
   answer_to (Get k d) past = answer.Got (message s d (get k d ∷ past))
-  answer_to (Cleanup gone) past = answer.Removed (removed gone past)
+  answer_to (Cleanup gone) past = answer.Removed (counted (removed gone past))
 
   -- whether an event takes memory: a peer set, a get of a digest that is not listed, a cleanup, a broadcast without an encoding and a payload that is no message take none
   abbrev pub takes_memory : Event P M D → List (Happening P M D ℕ ℕ) → Bool

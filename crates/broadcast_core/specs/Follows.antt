@@ -46,9 +46,9 @@ module _ {P M D : Type 0} (s : Setting P M D) where
     pub content : HasContent s (if is_refused s answer then past else after s e past) new
     pub sent : sent s (if is_refused s answer then past else after s e past) ≡ sent s past ++ sending
 
-  -- whatever history gave the core its content; it is shorter than the numbers that count
-  abbrev pub Follows : ℕ → Event P M D → Content P M D ℕ → Content P M D ℕ → Answer M D → List (Sent P) → Type 0
-  Follows most e old new answer sending = (past : List (Happening P M D ℕ ℕ)) → length past ≤ most → HasContent s past old → Applies past e new answer sending
+  -- whatever history gave the core its content
+  abbrev pub Follows : Event P M D → Content P M D ℕ → Content P M D ℕ → Answer M D → List (Sent P) → Type 0
+  Follows e old new answer sending = (past : List (Happening P M D ℕ ℕ)) → HasContent s past old → Applies past e new answer sending
 
   -- the events were run in order, with these answers and sends, and left this core
   pub record HasRun (events : List (Event P M D)) (answers : List (Answer M D)) (sends : List (Sent P)) (core : Content P M D ℕ) : Type 0 where

@@ -5,7 +5,7 @@ ghost use Rattle.broadcast_core.specs.Content.{same_by};
 ghost use Rattle.broadcast_core.specs.Follows.{HasRun};
 ghost use Rattle.broadcast_core.specs.History.{Setting};
 
-mod apply;
+pub mod apply;
 
 use crate::buffer::Core;
 use crate::codec::Codec;

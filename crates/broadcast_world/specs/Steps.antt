@@ -1,12 +1,47 @@
 -- What steps leave of a world.
-use Rattle.std.specs.Prelude.{◌≡◌, ℕ, List, ◌∷◌, ◌++◌, length}
-use Rattle.std.specs.List.{AllZip}
+use Rattle.std.specs.Prelude.{◌≡◌, ℕ, if◌then◌else◌, List, ◌∷◌, ◌++◌, length, Option, None, Some, slice_set}
+use Rattle.std.specs.List.{AllZip, slice_get}
 use Rattle.std.specs.declared.cmp.Ordering.{Ordering}
+use Rattle.broadcast_core.specs.Content.{Content}
+use Rattle.broadcast_core.specs.TestMessage.{Parts}
+use Rattle.broadcast_core.specs.Happening.{after}
+use Rattle.broadcast_core.specs.Answers.{is_refused}
 use Rattle.broadcast_core.specs.Follows.{HasContent}
+use Rattle.broadcast_core.specs.declared.event.Answer.{Answer}
 use Rattle.broadcast_world.specs.Scene.{Scene, State}
-use Rattle.broadcast_world.specs.World.{Log, log_of, at, packets, history, MayAnswer, AreAnswered}
+use Rattle.broadcast_world.specs.World.{Log, log_of, NodeEvent, NodeHistory, NodeMayAnswer, at, packets, history, MayAnswer, AreAnswered}
 use Rattle.broadcast_world.specs.declared.step.Step.{Step}
 use Rattle.broadcast_world.specs.declared.step.WorldAnswer.{WorldAnswer}
+use Rattle.broadcast_world.specs.declared.step.WorldAnswer.TheVariants.{Given, NoSuch}
+
+abbrev pub NodeContent : Type 0 → Type 0
+NodeContent P = Content P Parts (List ℕ) ℕ
+
+module _ {P : Type 0} (cmp : P → P → Ordering) (w : Scene P) where
+  -- an event at node n, after a history of it, is given an answer that it may have; refused, it
+  -- changes nothing
+  pub record NodeTakes (n : P) (past : NodeHistory P) (e : NodeEvent P) (a : Answer Parts (List ℕ)) (new : NodeContent P) : Type 0 where
+    pub answered : NodeMayAnswer cmp w n e past a
+    pub content : HasContent (at cmp w n) (if is_refused (at cmp w n) a then past else after (at cmp w n) e past) new
+
+  -- whatever history gave the node its content
+  abbrev pub NodeFollows : P → NodeEvent P → NodeContent P → NodeContent P → Answer Parts (List ℕ) → Type 0
+  NodeFollows n e old new a = (past : NodeHistory P) → HasContent (at cmp w n) past old → NodeTakes n past e a new
+
+  -- an event at node n changes that node's content alone
+  pub record ChangesNode (n : P) (e : NodeEvent P) (a : Answer Parts (List ℕ)) (old new : List (NodeContent P)) : Type 0 where
+    pub place : ℕ
+    pub is_node : slice_get w.nodes place ≡ Some n
+    pub before : NodeContent P
+    pub was : slice_get old place ≡ Some before
+    pub core : NodeContent P
+    pub only : new ≡ slice_set old place core
+    pub follows : NodeFollows n e before core a
+
+  -- an event at the node that a key names, if it names one
+  abbrev pub AtNode : Option P → NodeEvent P → List (NodeContent P) → List (NodeContent P) → WorldAnswer → Type 0
+  AtNode None e old new answer = (answer ≡ NoSuch) × (new ≡ old)
+  AtNode (Some n) e old new answer = (a : Answer Parts (List ℕ)) × (answer ≡ Given a) × ChangesNode n e a old new
 
 module _ {P : Type 0} (cmp : P → P → Ordering) where
   -- the world has what the steps of the log leave: each node the content of its history, and the packets

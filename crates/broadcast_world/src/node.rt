@@ -1,18 +1,60 @@
 //! One event at one node.
-ghost use Rattle.std.specs.Prelude.{◌≡◌, ℕ, [], OnOk};
-ghost use Rattle.broadcast_core.specs.Changes.{Takes};
+ghost use Rattle.std.specs.Prelude.{◌≡◌, ℕ, []};
 ghost use Rattle.broadcast_world.specs.Scene.{Scene};
-ghost use Rattle.broadcast_world.specs.World.{at};
+ghost use Rattle.broadcast_world.specs.Steps.{NodeFollows};
+ghost use Rattle.broadcast_core.specs.declared.event.Event.TheVariants as event;
 
 use broadcast_core::buffer::Core;
-use broadcast_core::digested::Digested;
-use broadcast_core::outcome::Taken;
+use broadcast_core::codec::RangeCfg;
+use broadcast_core::event::{Answer, Cause};
 use broadcast_core::mocks::TestMessage;
-use broadcast_core::ordered::PublicKey;
-use std::alloc::AllocError;
+use broadcast_core::ordered::{PublicKey, Set};
+use broadcast_core::run::apply;
+use std::alloc::Global;
 
-pub fn took<P: PublicKey>(core: &mut Core<P, TestMessage, u64>, peer: &P, message: &Digested<TestMessage>) -> Result<Taken<u64>, AllocError>
-    ensures { (w : Scene P) (n : P) → OnOk result (Takes (at P.cmp w n).same peer.now message.now core.old core.new) }
+/// Drops the waiters with these tickets.
+pub fn cleanup<P: PublicKey>(
+    core: &mut Core<P, TestMessage, u64>,
+    gone: &[u64],
+) -> Answer<TestMessage>
+    ensures { (w : Scene P) (n : P) → NodeFollows P.cmp w n (event.Cleanup gone.now) core.old core.new result }
 {
-    core.take(peer, message)
+    Answer::Removed(core.cleanup(gone))
+}
+
+/// Takes the bytes under the peer's key.
+pub fn payload<P: PublicKey>(
+    alloc: Global,
+    core: &mut Core<P, TestMessage, u64>,
+    range: &RangeCfg,
+    peer: &P,
+    bytes: &[u8],
+) -> Answer<TestMessage>
+    ensures { (w : Scene P) (n : P) → w.range ≡ range.now
+        → NodeFollows P.cmp w n (event.Payload peer.now bytes.now) core.old core.new result }
+{
+    apply::payload(alloc, core, range, peer, bytes)
+}
+
+/// Answers a subscribe from the cache, or lets its ticket wait.
+pub fn subscribe<P: PublicKey>(
+    core: &mut Core<P, TestMessage, u64>,
+    ticket: u64,
+    digest: &[u8; 32],
+) -> Answer<TestMessage>
+    ensures { (w : Scene P) (n : P) → NodeFollows P.cmp w n (event.Subscribe ticket digest.now) core.old core.new result }
+{
+    apply::subscribe(core, ticket, *digest)
+}
+
+/// Answers a get from the cache.
+pub fn get<P: PublicKey>(
+    core: &Core<P, TestMessage, u64>,
+    ticket: u64,
+    digest: &[u8; 32],
+) -> Answer<TestMessage>
+    ensures { (w : Scene P) (n : P) → NodeFollows P.cmp w n (event.Get ticket digest.now) core.now core.now result }
+{
+    let _ticket = ticket;
+    apply::get(core, digest)
 }

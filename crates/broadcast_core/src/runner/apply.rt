@@ -34,7 +34,7 @@ pub fn apply<P: PublicKey, M: Digestible + Codec>(
       encoding = M.encoding;
       reading = whole (M.reading cfg.now);
     } in
-        Follows s usize.MAX event core.old core.new result.0 (option_to_list result.1) }
+        Follows s event core.old core.new result.0 (option_to_list result.1) }
 {
     match event {
         Event::Peers(peers) => {
@@ -61,7 +61,7 @@ fn broadcast<P: PublicKey, M: Digestible + Codec>(
 ) -> (Answer<M>, Option<Sent<P>>)
     ensures { (s : Setting P M M.Digest)
         → s.same ≡ same_by P.cmp M.Digest.cmp → s.priority ≡ priority → s.encoding ≡ M.encoding
-        → Follows s usize.MAX (event.Broadcast recipients message) core.old core.new result.0 (option_to_list result.1) }
+        → Follows s (event.Broadcast recipients message) core.old core.new result.0 (option_to_list result.1) }
 {
     let mut bytes = Vec::new(alloc);
     match message.inner().write(&mut bytes) {
@@ -88,7 +88,7 @@ fn broadcast<P: PublicKey, M: Digestible + Codec>(
 }
 
 /// Decodes the bytes, and takes the message under the peer's key.
-fn payload<P: PublicKey, M: Digestible + Codec>(
+pub fn payload<P: PublicKey, M: Digestible + Codec>(
     alloc: Global,
     core: &mut Core<P, M, u64>,
     cfg: &M::Cfg,
@@ -97,7 +97,7 @@ fn payload<P: PublicKey, M: Digestible + Codec>(
 ) -> Answer<M>
     ensures { (s : Setting P M M.Digest)
         → s.same ≡ same_by P.cmp M.Digest.cmp → s.digest_of ≡ M.digest_of → s.reading ≡ whole (M.reading cfg.now)
-        → Follows s usize.MAX (event.Payload peer.now bytes.now) core.old core.new result [] }
+        → Follows s (event.Payload peer.now bytes.now) core.old core.new result [] }
 {
     let message: M = match decode_cfg(alloc, bytes, cfg) {
         Ok(message) => message,
@@ -128,13 +128,13 @@ fn refused<M: Digestible>(refusal: CodecError) -> Answer<M>
 }
 
 /// Answers a subscribe from the cache, or lets its ticket wait.
-fn subscribe<P: PublicKey, M: Digestible>(
+pub fn subscribe<P: PublicKey, M: Digestible>(
     core: &mut Core<P, M, u64>,
     ticket: u64,
     digest: M::Digest,
 ) -> Answer<M>
     ensures { (s : Setting P M M.Digest) → s.same ≡ same_by P.cmp M.Digest.cmp
-        → Follows s usize.MAX (event.Subscribe ticket digest) core.old core.new result [] }
+        → Follows s (event.Subscribe ticket digest) core.old core.new result [] }
 {
     match core.subscribe(digest, ticket) {
         Ok(Subscribed::Answered(_, message)) => Answer::Answered(message),
@@ -144,9 +144,9 @@ fn subscribe<P: PublicKey, M: Digestible>(
 }
 
 /// Answers a get from the cache.
-fn get<P: PublicKey, M: Digestible>(core: &Core<P, M, u64>, digest: &M::Digest) -> Answer<M>
+pub fn get<P: PublicKey, M: Digestible>(core: &Core<P, M, u64>, digest: &M::Digest) -> Answer<M>
     ensures { (s : Setting P M M.Digest) → s.same ≡ same_by P.cmp M.Digest.cmp
-        → (ticket : ℕ) → Follows s usize.MAX (event.Get ticket digest.now) core.now core.now result [] }
+        → (ticket : ℕ) → Follows s (event.Get ticket digest.now) core.now core.now result [] }
 {
     match core.get(digest) {
         None => Answer::Got(None),

@@ -42,8 +42,7 @@ loop-event-preserved g c =
       answers_fit = omega (arith, answers_push.len, answers_push.capacity, ap length steps.0, at.invariant.answers_fit);
       sent_fit = sent_fit;
       has_run = HasRun-same _ _ _ _ _ _ _ _
-          (HasRun-follows _ _ at.yielded at.answers.items at.sent.items at.core c.apply-answer.new.core e applied.0 (option_to_list applied.1)
-          (omega (arith, ap length at.invariant.rest, length-append at.yielded (into_iter_items at.event-iterator), ap length gives.0, gives.1, gives.2, c.args.events.ok))
+          (HasRun-follows _ at.yielded at.answers.items at.sent.items at.core c.apply-answer.new.core e applied.0 (option_to_list applied.1)
           at.invariant.has_run c.apply-answer.ensures)
           refl answers_push.items sent_is;
     }

@@ -10,7 +10,7 @@ use Rattle.broadcast_core.proofs.Applying.{Applies-taken}
 use Rattle.broadcast_core.proofs.runner.apply.broadcast.Goals as goal
 
 pub returns-in-Ok-take_own : goal.returns-in-Ok-take_own
-returns-in-Ok-take_own g c = λ s e pr enc past short has.
+returns-in-Ok-take_own g c = λ s e pr enc past has.
     let key_laws = subst (λ m. IsEquivalence m.key) (sym e) (eq_by_cmp_equiv (g.met.P.Ord g.world.𝓛 g.world.𝓜 g.world.𝓡 (λ s x. x, λ x. x, λ x. x, λ x. x)).total) in
     let laws = subst (λ m. IsEquivalence m.digest) (sym e) (eq_by_cmp_equiv (g.met.M.Digest.Ord g.world.𝓛 g.world.𝓜 g.world.𝓡 (λ s x. x, λ x. x, λ x. x, λ x. x)).total) in
     let m = c.args.message in

@@ -11,7 +11,7 @@ use Rattle.broadcast_core.proofs.Applying.{Applies-taken, Applies-refused, Appli
 use Rattle.broadcast_core.proofs.runner.apply.payload.Goals as goal
 
 pub returns-in-Err : goal.returns-in-Err
-returns-in-Err g c = λ s e dg rd past short has.
+returns-in-Err g c = λ s e dg rd past has.
     let key_laws = subst (λ m. IsEquivalence m.key) (sym e) (eq_by_cmp_equiv (g.met.P.Ord g.world.𝓛 g.world.𝓜 g.world.𝓡 (λ s x. x, λ x. x, λ x. x, λ x. x)).total) in
     let laws = subst (λ m. IsEquivalence m.digest) (sym e) (eq_by_cmp_equiv (g.met.M.Digest.Ord g.world.𝓛 g.world.𝓜 g.world.𝓡 (λ s x. x, λ x. x, λ x. x, λ x. x)).total) in
     let event = Payload c.args.peer.now c.args.bytes.now in
@@ -28,7 +28,7 @@ returns-in-Err g c = λ s e dg rd past short has.
     ]
 
 pub returns-in-Ok-take : goal.returns-in-Ok-take
-returns-in-Ok-take g c = λ s e dg rd past short has.
+returns-in-Ok-take g c = λ s e dg rd past has.
     let key_laws = subst (λ m. IsEquivalence m.key) (sym e) (eq_by_cmp_equiv (g.met.P.Ord g.world.𝓛 g.world.𝓜 g.world.𝓡 (λ s x. x, λ x. x, λ x. x, λ x. x)).total) in
     let laws = subst (λ m. IsEquivalence m.digest) (sym e) (eq_by_cmp_equiv (g.met.M.Digest.Ord g.world.𝓛 g.world.𝓜 g.world.𝓡 (λ s x. x, λ x. x, λ x. x, λ x. x)).total) in
     let event = Payload c.args.peer.now c.args.bytes.now in
