@@ -13,7 +13,7 @@ pub mod mocks;
 pub mod ordered;
 mod outcome;
 pub mod requests;
-mod runner;
+pub mod runner;
 
 pub use buffer::Core;
 pub use codec::{Codec, CodecError, EncodeSize, RangeCfg, Read, Write, byte_list, decode_cfg};

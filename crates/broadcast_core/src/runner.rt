@@ -5,7 +5,7 @@ ghost use Rattle.broadcast_core.specs.Content.{same_by};
 ghost use Rattle.broadcast_core.specs.Setting.{setting};
 ghost use Rattle.broadcast_core.specs.HasRun.{HasRun};
 
-mod apply;
+pub mod apply;
 
 use crate::buffer::Core;
 use crate::codec::Codec;

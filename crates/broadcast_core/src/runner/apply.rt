@@ -82,7 +82,7 @@ fn broadcast<P: PublicKey, M: Digestible + Codec>(
 }
 
 /// Decodes the bytes and takes the message under the peer's key.
-fn payload<P: PublicKey, M: Digestible + Codec>(
+pub fn payload<P: PublicKey, M: Digestible + Codec>(
     alloc: Global,
     core: &mut Core<P, M, u64>,
     cfg: &M::Cfg,
@@ -123,7 +123,7 @@ fn refused<M: Digestible>(refusal: CodecError) -> Answer<M>
 }
 
 /// Answers the subscribe from the cache, or makes its ticket wait.
-fn subscribe<P: PublicKey, M: Digestible>(
+pub fn subscribe<P: PublicKey, M: Digestible>(
     core: &mut Core<P, M, u64>,
     ticket: u64,
     digest: M::Digest,
@@ -139,7 +139,7 @@ fn subscribe<P: PublicKey, M: Digestible>(
 }
 
 /// Answers the get from the cache.
-fn get<P: PublicKey, M: Digestible>(core: &Core<P, M, u64>, digest: &M::Digest) -> Answer<M>
+pub fn get<P: PublicKey, M: Digestible>(core: &Core<P, M, u64>, digest: &M::Digest) -> Answer<M>
     ensures { (s : Setting P M M.Digest) → s.same ≡ same_by P.cmp M.Digest.cmp
         → (ticket : ℕ) → Follows s (event.Get ticket digest.now) core.now core.now result [] }
 {

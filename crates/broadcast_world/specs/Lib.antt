@@ -1,0 +1,6 @@
+pub mod Packet
+pub mod Scene
+pub mod World
+pub mod Steps
+pub mod Made
+pub mod Broadcasts

@@ -1,0 +1,20 @@
+//! Many nodes and a hostile network, step by step.
+#![tactic(auto)]
+
+mod apply;
+mod broadcast;
+mod error;
+mod key;
+mod made;
+mod node;
+mod nodes;
+mod packet;
+mod run;
+mod state;
+mod step;
+
+pub use error::WorldError;
+pub use key::NodeKey;
+pub use run::run_world;
+pub use state::World;
+pub use step::{Step, WorldAnswer, WorldLog};

@@ -1,0 +1,98 @@
+//! One event at one node.
+ghost use Rattle.std.specs.Prelude.{◌≡◌, ℕ, List, Some, IfOk, OnErr};
+ghost use Rattle.broadcast_core.specs.TestMessage.{encoding_of};
+ghost use Rattle.broadcast_core.specs.declared.outcome.Outcome.{Outcome};
+ghost use Rattle.broadcast_core.specs.declared.ordered.Recipients.{Recipients};
+ghost use Rattle.broadcast_core.specs.declared.event.Answer.TheVariants as answer;
+ghost use Rattle.broadcast_world.specs.Scene.{Scene};
+ghost use Rattle.broadcast_world.specs.Steps.{NodeFollows};
+ghost use Rattle.broadcast_core.specs.declared.event.Event.TheVariants as event;
+
+use crate::key::NodeKey;
+use broadcast_core::{Answer, Cause, Core, Digested, PublicKey, RangeCfg, Set, TestMessage, apply};
+use std::alloc::{AllocError, Global};
+
+/// Drops the waiters with these tickets.
+pub fn cleanup<P: PublicKey>(
+    core: &mut Core<P, TestMessage, u64>,
+    gone: &[u64],
+) -> Answer<TestMessage>
+    ensures { (w : Scene P) (n : P) → NodeFollows P.cmp w n (event.Cleanup gone.now) core.old core.new result }
+{
+    Answer::Removed(core.cleanup(gone))
+}
+
+/// Takes the bytes under the peer's key.
+pub fn payload<P: PublicKey>(
+    alloc: Global,
+    core: &mut Core<P, TestMessage, u64>,
+    range: &RangeCfg,
+    peer: &P,
+    bytes: &[u8],
+) -> Answer<TestMessage>
+    ensures { (w : Scene P) (n : P) → w.range ≡ range.now
+        → NodeFollows P.cmp w n (event.Payload peer.now bytes.now) core.old core.new result }
+{
+    apply::payload(alloc, core, range, peer, bytes)
+}
+
+/// Answers a subscribe from the cache, or lets its ticket wait.
+pub fn subscribe<P: PublicKey>(
+    core: &mut Core<P, TestMessage, u64>,
+    ticket: u64,
+    digest: &[u8; 32],
+) -> Answer<TestMessage>
+    ensures { (w : Scene P) (n : P) → NodeFollows P.cmp w n (event.Subscribe ticket digest.now) core.old core.new result }
+{
+    apply::subscribe(core, ticket, *digest)
+}
+
+/// Answers a get from the cache.
+pub fn get<P: PublicKey>(
+    core: &Core<P, TestMessage, u64>,
+    ticket: u64,
+    digest: &[u8; 32],
+) -> Answer<TestMessage>
+    ensures { (w : Scene P) (n : P) → NodeFollows P.cmp w n (event.Get ticket digest.now) core.now core.now result }
+{
+    let _ticket = ticket;
+    apply::get(core, digest)
+}
+
+/// Makes a copy of these keys the primary ones.
+pub fn peers<P: NodeKey>(
+    core: &mut Core<P, TestMessage, u64>,
+    peers: &Set<P>,
+) -> Answer<TestMessage>
+    ensures { (w : Scene P) (n : P) → NodeFollows P.cmp w n (event.Peers peers.now) core.old core.new result }
+{
+    match peers.clone() {
+        Ok(peers) => {
+            core.update_primary_peers(peers);
+            Answer::Peers
+        }
+        Err(_) => Answer::Refused(Cause::Memory),
+    }
+}
+
+/// Takes the message under the node's own key.
+///
+/// `Err` is an allocation failure, and then nothing changes.
+pub fn broadcast<P: PublicKey>(
+    core: &mut Core<P, TestMessage, u64>,
+    message: Digested<TestMessage>,
+) -> Result<Answer<TestMessage>, AllocError>
+    ensures taken { IfOk result (λ a. (outcome : Outcome) × (served : List ℕ)
+        × (a ≡ answer.Taken outcome served message)) }
+    ensures ok { IfOk result (λ a. (w : Scene P) (n : P) (r : Recipients P) (bytes : List ℕ)
+        → encoding_of message.message ≡ Some bytes
+        → NodeFollows P.cmp w n (event.Broadcast r message) core.old core.new a) }
+    ensures err { OnErr result (core.new ≡ core.old) }
+{
+    let taken = core.take_own(&message)?;
+    Ok(Answer::Taken {
+        outcome: taken.outcome,
+        served: taken.served,
+        message,
+    })
+}

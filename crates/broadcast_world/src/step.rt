@@ -1,0 +1,44 @@
+//! Steps of a world, and their answers.
+use broadcast_core::{Answer, Digested, Items, PublicKey, Recipients, Set, TestMessage};
+
+/// A step of a world.
+#[derive(Drop)]
+pub enum Step<P: PublicKey> {
+    /// The node gets a peer set.
+    Peers(P, Set<P>),
+    /// The node broadcasts the message to the recipients.
+    Broadcast(P, Recipients<P>, Digested<TestMessage>),
+    /// The node subscribes, under the ticket, to the digest.
+    Subscribe(P, u64, [u8; 32]),
+    /// The node gets, under the ticket, the digest's cached message.
+    Get(P, u64, [u8; 32]),
+    /// The node drops the waiters with these tickets.
+    Cleanup(P, Items<u64>),
+    /// The packet with this number comes to its addressee.
+    Deliver(u64),
+    /// A hostile key sends bytes to a node, and they come at once.
+    Hostile {
+        /// The hostile key.
+        from: P,
+        /// The node.
+        to: P,
+        /// The bytes.
+        bytes: Items<u8>,
+    },
+}
+
+/// The answer to a step of a world.
+#[derive(Drop)]
+pub enum WorldAnswer {
+    /// The node's answer to the step's event.
+    Given(Answer<TestMessage>),
+    /// The step names a node, a packet or a hostile key that does not exist. It does nothing.
+    NoSuch,
+}
+
+/// The answers of a world to a list of steps.
+#[derive(Drop)]
+pub struct WorldLog {
+    /// The answers, one for each step.
+    pub answers: Items<WorldAnswer>,
+}
