@@ -9,7 +9,8 @@ ghost use Rattle.broadcast_world.specs.Steps.{NodeFollows};
 ghost use Rattle.broadcast_core.specs.declared.event.Event.TheVariants as event;
 
 use crate::key::NodeKey;
-use broadcast_core::{Answer, Cause, Core, Digested, PublicKey, RangeCfg, Set, TestMessage, apply};
+use broadcast_core::runner::apply;
+use broadcast_core::{Answer, Cause, Core, Digested, PublicKey, RangeCfg, Set, TestMessage};
 use std::alloc::{AllocError, Global};
 
 /// Drops the waiters with these tickets.
