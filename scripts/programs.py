@@ -38,8 +38,8 @@ class Row:
                 devices[stream] = path
         stdin, stdout = folder / "stdin", folder / "stdout"
         if (folder / "example").exists():
-            example = (folder / "example").read_text().strip()
-            stdin, stdout = EXAMPLES / f"{example}.events", EXAMPLES / f"{example}.output"
+            stdin = EXAMPLES / (folder / "example").read_text().strip()
+            stdout = stdin.with_suffix(".output")
         return Row(
             folder.name,
             (folder / "args").read_bytes().split(b"\n")[:-1],
