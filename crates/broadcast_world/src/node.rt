@@ -4,6 +4,7 @@ ghost use Rattle.broadcast_world.specs.Scene.{Scene};
 ghost use Rattle.broadcast_world.specs.Steps.{NodeFollows};
 ghost use Rattle.broadcast_core.specs.declared.event.Event.TheVariants as event;
 
+use crate::key::NodeKey;
 use broadcast_core::buffer::Core;
 use broadcast_core::codec::RangeCfg;
 use broadcast_core::event::{Answer, Cause};
@@ -57,4 +58,20 @@ pub fn get<P: PublicKey>(
 {
     let _ticket = ticket;
     apply::get(core, digest)
+}
+
+/// Makes a copy of these keys the primary ones.
+pub fn peers<P: NodeKey>(
+    core: &mut Core<P, TestMessage, u64>,
+    peers: &Set<P>,
+) -> Answer<TestMessage>
+    ensures { (w : Scene P) (n : P) → NodeFollows P.cmp w n (event.Peers peers.now) core.old core.new result }
+{
+    match peers.clone() {
+        Ok(peers) => {
+            core.update_primary_peers(peers);
+            Answer::Peers
+        }
+        Err(_) => Answer::Refused(Cause::Memory),
+    }
 }

@@ -6,4 +6,4 @@ use Rattle.broadcast_world.proofs.Nodes.{NodeTakes-from}
 use Rattle.broadcast_world.proofs.node.payload.Goals as goal
 
 pub returns : goal.returns
-returns g c = λ w n ranged past has. NodeTakes-from g.P.Ord.cmp w n past _ _ _ [] (c.payload.ensures (at g.P.Ord.cmp w n) refl refl (ap (λ r. whole (message_at r)) ranged) past ? has)
+returns g c = λ w n ranged past has. NodeTakes-from g.P.Ord.cmp w n past _ _ _ [] (c.payload.ensures (at g.P.Ord.cmp w n) refl refl (ap (λ r. whole (message_at r)) ranged) past has)
