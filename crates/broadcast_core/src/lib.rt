@@ -14,7 +14,7 @@ pub mod ordered;
 mod outcome;
 pub mod requests;
 mod rows;
-mod runner;
+pub mod runner;
 
 pub use buffer::Core;
 pub use codec::{Codec, CodecError, EncodeSize, RangeCfg, Read, Write, decode_cfg};

@@ -2,7 +2,7 @@
 ghost use Rattle.std.specs.Prelude.{◌≡◌};
 ghost use Rattle.std.proofs.Common.{rules};
 
-use broadcast_core::ordered::PublicKey;
+use broadcast_core::PublicKey;
 
 /// The key of a node. A copy of a key is the same value.
 pub trait NodeKey: PublicKey {

@@ -2,5 +2,6 @@
 #![tactic(auto)]
 
 pub mod key;
-pub mod node;
+mod nodes;
+mod node;
 pub mod step;

@@ -5,12 +5,8 @@ ghost use Rattle.broadcast_world.specs.Steps.{NodeFollows};
 ghost use Rattle.broadcast_core.specs.declared.event.Event.TheVariants as event;
 
 use crate::key::NodeKey;
-use broadcast_core::buffer::Core;
-use broadcast_core::codec::RangeCfg;
-use broadcast_core::event::{Answer, Cause};
-use broadcast_core::mocks::TestMessage;
-use broadcast_core::ordered::{PublicKey, Set};
-use broadcast_core::run::apply;
+use broadcast_core::runner::apply;
+use broadcast_core::{Answer, Cause, Core, PublicKey, RangeCfg, Set, TestMessage};
 use std::alloc::Global;
 
 /// Drops the waiters with these tickets.

@@ -1,9 +1,5 @@
 //! Steps of a world, and their answers.
-use broadcast_core::digested::{Digested, Digestible};
-use broadcast_core::event::Answer;
-use broadcast_core::items::Items;
-use broadcast_core::mocks::TestMessage;
-use broadcast_core::ordered::{PublicKey, Recipients, Set};
+use broadcast_core::{Answer, Digested, Items, PublicKey, Recipients, Set, TestMessage};
 
 /// A step of a world.
 #[derive(Drop)]

@@ -1,0 +1,55 @@
+-- Keys at places, and lists that have something for each key.
+use Rattle.std.proofs.Common.{◌≡◌, ℕ, zero, suc, Bool, true, false, ◌||◌, cond, List, [], ◌∷◌, Option, Some, None, refl, sym, ap, ◌∙◌}
+use Rattle.std.specs.Prelude.{slice_set, is_some}
+use Rattle.std.specs.List.{AllZip, AllByRecursion, IsDistinct, find, list_any, slice_get}
+use Rattle.std.specs.Cmp.{IsEquivalence}
+use Rattle.broadcast_core.proofs.Distinct.{by_test, or_false}
+
+-- what a list has at a place is one of its elements
+at_place : {X : Type 0} (P : X → Type 0) (xs : List X) (i : ℕ) (x : X) → slice_get xs i ≡ Some x → AllByRecursion P xs → P x
+at_place P [] i x h all = absurd (let no = h in cc)
+at_place P (y ∷ ys) zero x h all = let is : y ≡ x = cc in rw (sym is) all.0
+at_place P (y ∷ ys) (suc i) x h all = at_place P ys i x h all.1
+
+module _ {P : Type 0} (same : P → P → Bool) (laws : IsEquivalence same) where
+  -- the only key that equals another is found
+  pub find-at : (p : P) (keys : List P) (i : ℕ) (k : P) → IsDistinct same keys → slice_get keys i ≡ Some k → same p k ≡ true → find (same p) keys ≡ Some k
+  unfolding IsDistinct
+  find-at p [] i k apart h e = absurd (let no = h in cc)
+  find-at p (x ∷ xs) zero k apart h e = let is : x ≡ k = cc in rw (is, e) refl
+  find-at p (x ∷ xs) (suc i) k apart h e =
+      let other : same x k ≡ false = at_place (λ y. same x y ≡ false) xs i k h apart.0 in
+      by_test (same p x)
+      (λ t. absurd (let both = sym (laws.congr p x k t) ∙ e in cc))
+      (λ t. rw t (find-at p xs i k apart.1 h e))
+
+pub find-none : {P : Type 0} (test : P → Bool) (keys : List P) → list_any test keys ≡ false → find test keys ≡ None
+find-none test [] h = refl
+find-none test (x ∷ xs) h = let both = or_false (test x) (list_any test xs) h in rw both.0 (find-none test xs both.1)
+
+-- what two lists have at a place
+pub AllZip-at : {A B : Type 0} (R : A → B → Type 0) (xs : List A) (ys : List B) (i : ℕ) (x : A) (y : B)
+    → AllZip R xs ys → slice_get xs i ≡ Some x → slice_get ys i ≡ Some y → R x y
+AllZip-at R [] ys i x y all h k = absurd (let no = h in cc)
+AllZip-at R (a ∷ xs) [] i x y all h k = absurd (let no = k in cc)
+AllZip-at R (a ∷ xs) (b ∷ ys) zero x y all h k = let is : a ≡ x = cc in let was : b ≡ y = cc in rw (sym is, sym was) all.0
+AllZip-at R (a ∷ xs) (b ∷ ys) (suc i) x y all h k = AllZip-at R xs ys i x y all.1 h k
+
+module _ {P B : Type 0} (same : P → P → Bool) (laws : IsEquivalence same) (R S : P → B → Type 0) (k : P) (other : (q : P) (b : B) → same q k ≡ false → R q b → S q b) where
+  AllZip-others : (keys : List P) (ys : List B) → AllByRecursion (λ q. same k q ≡ false) keys → AllZip R keys ys → AllZip S keys ys
+  AllZip-others [] [] apart all = tt
+  AllZip-others [] (y ∷ ys) apart all = all
+  AllZip-others (q ∷ keys) [] apart all = all
+  AllZip-others (q ∷ keys) (y ∷ ys) apart all = (other q y (laws.symm q k ∙ apart.0) all.0, AllZip-others keys ys apart.1 all.1)
+
+  -- the element of one key changes
+  pub AllZip-changed : (keys : List P) (ys : List B) (i : ℕ) (y : B) → IsDistinct same keys → slice_get keys i ≡ Some k → AllZip R keys ys → S k y
+      → AllZip S keys (slice_set ys i y)
+  unfolding IsDistinct
+  AllZip-changed [] ys i y apart h all here = absurd (let no = h in cc)
+  AllZip-changed (q ∷ keys) [] i y apart h all here = absurd all
+  AllZip-changed (q ∷ keys) (b ∷ ys) zero y apart h all here =
+      let is : q ≡ k = cc in
+      (rw is here, AllZip-others keys ys (rw (sym is) apart.0) all.1)
+  AllZip-changed (q ∷ keys) (b ∷ ys) (suc i) y apart h all here =
+      (other q b (at_place (λ x. same q x ≡ false) keys i k h apart.0) all.0, AllZip-changed keys ys i y apart.1 h all.1 here)

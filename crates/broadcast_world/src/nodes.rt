@@ -1,0 +1,102 @@
+//! An event at the node that a key names.
+ghost use Rattle.std.specs.Prelude.{◌≡◌, length};
+ghost use Rattle.broadcast_world.specs.Scene.{Scene};
+ghost use Rattle.broadcast_world.specs.World.{node};
+ghost use Rattle.broadcast_world.specs.Steps.{AtNode};
+ghost use Rattle.broadcast_core.specs.declared.event.Event.TheVariants as event;
+
+use crate::key::NodeKey;
+use crate::node;
+use crate::step::WorldAnswer;
+use broadcast_core::{Core, RangeCfg, Set, TestMessage};
+use std::alloc::Global;
+
+/// Makes a copy of these keys the primary ones at the node.
+pub fn peers<P: NodeKey>(
+    nodes: &Set<P>,
+    cores: &mut Vec<Core<P, TestMessage, u64>>,
+    key: &P,
+    peers: &Set<P>,
+) -> WorldAnswer
+    requires { length cores.old.items ≡ length nodes.now }
+    ensures { (w : Scene P) → w.nodes ≡ nodes.now
+        → AtNode P.cmp w (node P.cmp w key.now) (event.Peers peers.now) cores.old.items cores.new.items result }
+{
+    let Some(place) = nodes.position(key) else {
+        return WorldAnswer::NoSuch;
+    };
+    WorldAnswer::Given(node::peers(&mut cores[place], peers))
+}
+
+/// Takes the bytes under the peer's key at the node.
+pub fn payload<P: NodeKey>(
+    alloc: Global,
+    nodes: &Set<P>,
+    cores: &mut Vec<Core<P, TestMessage, u64>>,
+    range: &RangeCfg,
+    key: &P,
+    peer: &P,
+    bytes: &[u8],
+) -> WorldAnswer
+    requires { length cores.old.items ≡ length nodes.now }
+    ensures { (w : Scene P) → w.nodes ≡ nodes.now → w.range ≡ range.now
+        → AtNode P.cmp w (node P.cmp w key.now) (event.Payload peer.now bytes.now) cores.old.items cores.new.items result }
+{
+    let Some(place) = nodes.position(key) else {
+        return WorldAnswer::NoSuch;
+    };
+    WorldAnswer::Given(node::payload(alloc, &mut cores[place], range, peer, bytes))
+}
+
+/// Answers a subscribe at the node.
+pub fn subscribe<P: NodeKey>(
+    nodes: &Set<P>,
+    cores: &mut Vec<Core<P, TestMessage, u64>>,
+    key: &P,
+    ticket: u64,
+    digest: &[u8; 32],
+) -> WorldAnswer
+    requires { length cores.old.items ≡ length nodes.now }
+    ensures { (w : Scene P) → w.nodes ≡ nodes.now
+        → AtNode P.cmp w (node P.cmp w key.now) (event.Subscribe ticket digest.now) cores.old.items cores.new.items result }
+{
+    let Some(place) = nodes.position(key) else {
+        return WorldAnswer::NoSuch;
+    };
+    WorldAnswer::Given(node::subscribe(&mut cores[place], ticket, digest))
+}
+
+/// Answers a get at the node.
+pub fn get<P: NodeKey>(
+    nodes: &Set<P>,
+    cores: &[Core<P, TestMessage, u64>],
+    key: &P,
+    ticket: u64,
+    digest: &[u8; 32],
+) -> WorldAnswer
+    requires { length cores.now ≡ length nodes.now }
+    ensures { (w : Scene P) → w.nodes ≡ nodes.now
+        → AtNode P.cmp w (node P.cmp w key.now) (event.Get ticket digest.now) cores.now cores.now result }
+{
+    let Some(place) = nodes.position(key) else {
+        return WorldAnswer::NoSuch;
+    };
+    WorldAnswer::Given(node::get(&cores[place], ticket, digest))
+}
+
+/// Drops the waiters with these tickets at the node.
+pub fn cleanup<P: NodeKey>(
+    nodes: &Set<P>,
+    cores: &mut Vec<Core<P, TestMessage, u64>>,
+    key: &P,
+    gone: &[u64],
+) -> WorldAnswer
+    requires { length cores.old.items ≡ length nodes.now }
+    ensures { (w : Scene P) → w.nodes ≡ nodes.now
+        → AtNode P.cmp w (node P.cmp w key.now) (event.Cleanup gone.now) cores.old.items cores.new.items result }
+{
+    let Some(place) = nodes.position(key) else {
+        return WorldAnswer::NoSuch;
+    };
+    WorldAnswer::Given(node::cleanup(&mut cores[place], gone))
+}
