@@ -1,8 +1,13 @@
 -- Keys at places, and lists that have something for each key.
-use Rattle.std.proofs.Common.{◌≡◌, ℕ, zero, suc, Bool, true, false, ◌||◌, cond, List, [], ◌∷◌, Option, Some, None, refl, sym, ap, ◌∙◌}
-use Rattle.std.specs.Prelude.{slice_set, is_some}
+use Rattle.std.proofs.lemmas.Option.{slice_get-get_or}
+use Rattle.std.proofs.Common.{◌≡◌, ℕ, ◌<◌, zero, suc, length, get_or, Bool, true, false, ◌||◌, cond, List, [], ◌∷◌, Option, Some, None, refl, sym, ap, ◌∙◌}
+use Rattle.std.specs.Prelude.{slice_set, is_some, IfSome, IsSomeAnd, MatchOption}
 use Rattle.std.specs.List.{AllZip, AllByRecursion, IsDistinct, find, list_any, slice_get}
-use Rattle.std.specs.Cmp.{IsEquivalence}
+use Rattle.std.specs.List.Sorted.{IsStrictlySortedBy}
+use Rattle.std.specs.Cmp.{IsEquivalence, IsTotalOrder, eq_by_cmp_equiv}
+use Rattle.std.specs.Ordering.{eq_by_cmp}
+use Rattle.std.specs.declared.cmp.Ordering.{Ordering}
+use Rattle.std.proofs.lemmas.Map.Keys.{IsDistinct-from_sorted}
 use Rattle.broadcast_core.proofs.Distinct.{by_test, or_false}
 
 -- what a list has at a place is one of its elements
@@ -53,3 +58,26 @@ module _ {P B : Type 0} (same : P → P → Bool) (laws : IsEquivalence same) (R
       (rw is here, AllZip-others keys ys (rw (sym is) apart.0) all.1)
   AllZip-changed (q ∷ keys) (b ∷ ys) (suc i) y apart h all here =
       (other q b (at_place (λ x. same q x ≡ false) keys i k h apart.0) all.0, AllZip-changed keys ys i y apart.1 h all.1 here)
+
+some_at : {X : Type 0} (o : Option X) (P : X → Type 0) → IsSomeAnd o P → (x : X) × (o ≡ Some x) × P x
+some_at None P h = absurd h
+some_at (Some x) P h = (x, refl, h)
+
+-- the key at the place that a search found, or none
+pub find-placed : {P : Type 0} {cmp : P → P → Ordering} (o : IsTotalOrder cmp) (p : P) (keys : List P) (r : Option ℕ) → IsStrictlySortedBy cmp keys
+    → IfSome r (λ i. IsSomeAnd (slice_get keys i) (λ q. eq_by_cmp cmp p q ≡ true)) → is_some r ≡ list_any (eq_by_cmp cmp p) keys
+    → MatchOption r (find (eq_by_cmp cmp p) keys ≡ None) (λ i. (k : P) × (slice_get keys i ≡ Some k) × (find (eq_by_cmp cmp p) keys ≡ Some k))
+find-placed {P} {cmp} o p keys None rises place some = find-none (eq_by_cmp cmp p) keys (sym some)
+find-placed {P} {cmp} o p keys (Some i) rises place some =
+    let placed = some_at (slice_get keys i) _ place in
+    (placed.0, placed.1, find-at (eq_by_cmp cmp) (eq_by_cmp_equiv o) p keys i placed.0 (IsDistinct-from_sorted cmp keys rises) placed.1 placed.2)
+
+-- what an index gives
+pub read_at : {X : Type 0} (xs : List X) (i : ℕ) (x : X) → i < length xs → x ≡ get_or xs i x → slice_get xs i ≡ Some x
+read_at xs i x within is = slice_get-get_or xs i x within ∙ ap Some (sym is)
+
+-- an element written over itself
+pub set_same : {X : Type 0} (xs : List X) (i : ℕ) (x : X) → slice_get xs i ≡ Some x → slice_set xs i x ≡ xs
+set_same [] i x h = absurd (let no = h in cc)
+set_same (y ∷ ys) zero x h = let is : y ≡ x = cc in ap (λ z. z ∷ ys) (sym is)
+set_same (y ∷ ys) (suc i) x h = ap (λ zs. y ∷ zs) (set_same ys i x h)

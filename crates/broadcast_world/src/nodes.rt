@@ -1,5 +1,7 @@
 //! An event at the node that a key names.
-ghost use Rattle.std.specs.Prelude.{◌≡◌, length};
+ghost use Rattle.std.specs.Prelude.{◌≡◌, None, Some, length, MatchOption};
+ghost use Rattle.std.specs.List.{find, slice_get};
+ghost use Rattle.std.specs.Ordering.{eq_by_cmp};
 ghost use Rattle.broadcast_world.specs.Scene.{Scene};
 ghost use Rattle.broadcast_world.specs.World.{node};
 ghost use Rattle.broadcast_world.specs.Steps.{AtNode};
@@ -22,7 +24,7 @@ pub fn peers<P: NodeKey>(
     ensures { (w : Scene P) → w.nodes ≡ nodes.now
         → AtNode P.cmp w (node P.cmp w key.now) (event.Peers peers.now) cores.old.items cores.new.items result }
 {
-    let Some(place) = nodes.position(key) else {
+    let Some(place) = place_of(nodes, key) else {
         return WorldAnswer::NoSuch;
     };
     WorldAnswer::Given(node::peers(&mut cores[place], peers))
@@ -42,7 +44,7 @@ pub fn payload<P: NodeKey>(
     ensures { (w : Scene P) → w.nodes ≡ nodes.now → w.range ≡ range.now
         → AtNode P.cmp w (node P.cmp w key.now) (event.Payload peer.now bytes.now) cores.old.items cores.new.items result }
 {
-    let Some(place) = nodes.position(key) else {
+    let Some(place) = place_of(nodes, key) else {
         return WorldAnswer::NoSuch;
     };
     WorldAnswer::Given(node::payload(alloc, &mut cores[place], range, peer, bytes))
@@ -60,7 +62,7 @@ pub fn subscribe<P: NodeKey>(
     ensures { (w : Scene P) → w.nodes ≡ nodes.now
         → AtNode P.cmp w (node P.cmp w key.now) (event.Subscribe ticket digest.now) cores.old.items cores.new.items result }
 {
-    let Some(place) = nodes.position(key) else {
+    let Some(place) = place_of(nodes, key) else {
         return WorldAnswer::NoSuch;
     };
     WorldAnswer::Given(node::subscribe(&mut cores[place], ticket, digest))
@@ -78,7 +80,7 @@ pub fn get<P: NodeKey>(
     ensures { (w : Scene P) → w.nodes ≡ nodes.now
         → AtNode P.cmp w (node P.cmp w key.now) (event.Get ticket digest.now) cores.now cores.now result }
 {
-    let Some(place) = nodes.position(key) else {
+    let Some(place) = place_of(nodes, key) else {
         return WorldAnswer::NoSuch;
     };
     WorldAnswer::Given(node::get(&cores[place], ticket, digest))
@@ -95,8 +97,18 @@ pub fn cleanup<P: NodeKey>(
     ensures { (w : Scene P) → w.nodes ≡ nodes.now
         → AtNode P.cmp w (node P.cmp w key.now) (event.Cleanup gone.now) cores.old.items cores.new.items result }
 {
-    let Some(place) = nodes.position(key) else {
+    let Some(place) = place_of(nodes, key) else {
         return WorldAnswer::NoSuch;
     };
     WorldAnswer::Given(node::cleanup(&mut cores[place], gone))
+}
+
+/// Returns the place of the node that the key names.
+fn place_of<P: NodeKey>(nodes: &Set<P>, key: &P) -> Option<usize>
+    ensures { MatchOption result (find (eq_by_cmp P.cmp key.now) nodes.now ≡ None) (λ place.
+        (node : P) × (slice_get nodes.now place ≡ Some node)
+        × (find (eq_by_cmp P.cmp key.now) nodes.now ≡ Some node)) }
+{
+    let _sorted = nodes.as_slice();
+    nodes.position(key)
 }

@@ -3,7 +3,7 @@ use Rattle.std.specs.Cmp.{eq_by_cmp_equiv}
 use Rattle.std.proofs.lemmas.Cmp.{nat_list_cmp_total}
 use Rattle.broadcast_core.proofs.Applying.{Applies-cleanup}
 use Rattle.broadcast_world.specs.World.{at}
-use Rattle.broadcast_world.proofs.Nodes.{NodeTakes-from}
+use Rattle.broadcast_world.proofs.OneNode.{NodeTakes-from}
 use Rattle.broadcast_world.proofs.node.cleanup.Goals as goal
 
 pub returns : goal.returns

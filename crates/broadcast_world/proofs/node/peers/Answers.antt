@@ -5,7 +5,7 @@ use Rattle.std.proofs.lemmas.List.Elements.{same_from_all_zip}
 use Rattle.broadcast_core.specs.Changes.{TakesPeers}
 use Rattle.broadcast_core.proofs.Applying.{Applies-peers}
 use Rattle.broadcast_world.specs.World.{at}
-use Rattle.broadcast_world.proofs.Nodes.{NodeTakes-from}
+use Rattle.broadcast_world.proofs.OneNode.{NodeTakes-from}
 use Rattle.broadcast_world.proofs.node.peers.Goals as goal
 
 pub returns-in-Ok : goal.returns-in-Ok
