@@ -1,5 +1,5 @@
 -- Keys at places, and lists that have something for each key.
-use Rattle.std.proofs.lemmas.Option.{slice_get-get_or}
+use Rattle.std.proofs.lemmas.Option.{slice_get-get_or, get_or_from_slice_get}
 use Rattle.std.proofs.Common.{◌≡◌, ℕ, ◌<◌, zero, suc, length, get_or, Bool, true, false, ◌||◌, cond, List, [], ◌∷◌, Option, Some, None, refl, sym, ap, ◌∙◌}
 use Rattle.std.specs.Prelude.{slice_set, is_some, IfSome, IsSomeAnd, MatchOption}
 use Rattle.std.specs.List.{AllZip, AllByRecursion, IsDistinct, find, list_any, slice_get}
@@ -81,3 +81,7 @@ pub set_same : {X : Type 0} (xs : List X) (i : ℕ) (x : X) → slice_get xs i �
 set_same [] i x h = absurd (let no = h in cc)
 set_same (y ∷ ys) zero x h = let is : y ≡ x = cc in ap (λ z. z ∷ ys) (sym is)
 set_same (y ∷ ys) (suc i) x h = ap (λ zs. y ∷ zs) (set_same ys i x h)
+
+-- what an index gives of keys that were searched
+pub key_read : {X : Type 0} (xs ys : List X) (i : ℕ) (x r : X) → slice_get ys i ≡ Some x → xs ≡ ys → r ≡ get_or xs i r → r ≡ x
+key_read xs ys i x r h e is = is ∙ ap (λ zs. get_or zs i r) e ∙ get_or_from_slice_get ys i x r h

@@ -88,9 +88,13 @@ module _ {P : Type 0} (cmp : P → P → Ordering) (w : Scene P) where
   named (to.Some ps) = ps
   named (to.One p) = p ∷ []
 
-  -- the nodes that a broadcast at node n is addressed to, each at its first mention
+  -- the nodes other than n that keys name, each at its first mention
+  abbrev pub addressed_of : P → List P → List P
+  addressed_of n ps = without same n (first_places same (filter_map node ps))
+
+  -- the nodes that a broadcast at node n is addressed to
   abbrev pub addressed : P → Recipients P → List P
-  addressed n r = without same n (first_places same (filter_map node (named r)))
+  addressed n r = addressed_of n (named r)
 
   -- one packet for each of them
   abbrev pub packets_to : P → List P → Option (List ℕ) → List (Packet P)

@@ -2,6 +2,7 @@
 #![tactic(auto)]
 
 pub mod key;
-mod nodes;
 mod node;
+mod nodes;
+mod packet;
 pub mod step;

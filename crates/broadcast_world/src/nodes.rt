@@ -104,7 +104,7 @@ pub fn cleanup<P: NodeKey>(
 }
 
 /// Returns the place of the node that the key names.
-fn place_of<P: NodeKey>(nodes: &Set<P>, key: &P) -> Option<usize>
+pub fn place_of<P: NodeKey>(nodes: &Set<P>, key: &P) -> Option<usize>
     ensures { MatchOption result (find (eq_by_cmp P.cmp key.now) nodes.now ≡ None) (λ place.
         (node : P) × (slice_get nodes.now place ≡ Some node)
         × (find (eq_by_cmp P.cmp key.now) nodes.now ≡ Some node)) }

@@ -1,0 +1,87 @@
+-- The nodes that a broadcast is addressed to, one key after the other.
+use Rattle.std.proofs.Common.{◌≡◌, ℕ, ◌+◌, ◌<◌, Bool, true, false, ◌||◌, if◌then◌else◌, List, [], ◌∷◌, ◌++◌, length, take, map, get_or, Some, None, refl, sym, ap, ◌∙◌, append-nil}
+use Rattle.std.specs.List.{filter_map, list_any}
+use Rattle.std.proofs.lemmas.List.{take_more, map-append}
+use Rattle.std.specs.Cmp.{IsEquivalence}
+use Rattle.std.specs.Ordering.{eq_by_cmp}
+use Rattle.std.specs.declared.cmp.Ordering.{Ordering}
+use Rattle.std.proofs.lemmas.List.Elements.{filter_map-append}
+use Rattle.broadcast_core.specs.Content.{first_places, without}
+use Rattle.broadcast_core.proofs.Distinct.{by_test}
+use Rattle.broadcast_world.specs.Scene.{Scene}
+use Rattle.broadcast_world.specs.Packet.{Packet}
+use Rattle.broadcast_world.specs.World.{addressed_of, node, packets_to}
+
+module _ {P : Type 0} (same : P → P → Bool) (laws : IsEquivalence same) where
+  is_in : P → List P → Bool
+  is_in x xs = list_any (λ d. same d x) xs
+
+  any_without : (n x : P) (xs : List P) → same n x ≡ false → list_any (λ d. same d x) (without same n xs) ≡ list_any (λ d. same d x) xs
+  any_without n x [] h = refl
+  any_without n x (d ∷ ds) h = by_test (same n d)
+      (λ t. let other : same d x ≡ false = sym (laws.congr n d x t) ∙ h in rw (t, other) (any_without n x ds h))
+      (λ t. rw t (ap (λ b. same d x || b) (any_without n x ds h)))
+
+  any_first : (x : P) (xs : List P) → list_any (λ d. same d x) (first_places same xs) ≡ list_any (λ d. same d x) xs
+  any_first x [] = refl
+  any_first x (d ∷ ds) = by_test (same d x)
+      (λ t. rw t refl)
+      (λ t. rw t (any_without d x (first_places same ds) t ∙ any_first x ds))
+
+  without-push : (n x : P) (xs : List P) → without same n (xs ++ x ∷ []) ≡ without same n xs ++ (if same n x then [] else x ∷ [])
+  without-push n x [] = by_test (same n x) (λ t. rw t refl) (λ t. rw t refl)
+  without-push n x (d ∷ ds) = by_test (same n d)
+      (λ t. rw t (without-push n x ds))
+      (λ t. rw t (ap (λ zs. d ∷ zs) (without-push n x ds)))
+
+  -- one more at the end
+  first-push : (x : P) (xs : List P) → first_places same (xs ++ x ∷ []) ≡ first_places same xs ++ (if list_any (λ d. same d x) xs then [] else x ∷ [])
+  first-push x [] = refl
+  first-push x (d ∷ ds) = by_test (list_any (λ e. same e x) ds)
+      (λ t. by_test (same d x)
+      (λ u. rw (first-push x ds, t, u) (ap (λ zs. d ∷ without same d zs) (append-nil (first_places same ds)) ∙ sym (append-nil (d ∷ without same d (first_places same ds)))))
+      (λ u. rw (first-push x ds, t, u) (ap (λ zs. d ∷ without same d zs) (append-nil (first_places same ds)) ∙ sym (append-nil (d ∷ without same d (first_places same ds))))))
+      (λ t. by_test (same d x)
+      (λ u. rw (first-push x ds, t, u) (ap (λ zs. d ∷ zs) (without-push d x (first_places same ds) ∙ rw u refl)))
+      (λ u. rw (first-push x ds, t, u) (ap (λ zs. d ∷ zs) (without-push d x (first_places same ds) ∙ rw u refl))))
+
+  -- a key that is the sender's, or there already, changes nothing
+  pub addressed-sender : (n x : P) (xs : List P) → same n x ≡ true → without same n (first_places same (xs ++ x ∷ [])) ≡ without same n (first_places same xs)
+  addressed-sender n x xs h = by_test (list_any (λ d. same d x) xs)
+      (λ t. rw (first-push x xs, t) (ap (without same n) (append-nil (first_places same xs))))
+      (λ t. rw (first-push x xs, t) (without-push n x (first_places same xs) ∙ rw h (append-nil (without same n (first_places same xs)))))
+
+  found : (n x : P) (xs : List P) → same n x ≡ false → list_any (λ d. same d x) (without same n (first_places same xs)) ≡ list_any (λ d. same d x) xs
+  found n x xs h = any_without n x (first_places same xs) h ∙ any_first x xs
+
+  pub addressed-again : (n x : P) (xs : List P) → same n x ≡ false → list_any (λ d. same d x) (without same n (first_places same xs)) ≡ true
+      → without same n (first_places same (xs ++ x ∷ [])) ≡ without same n (first_places same xs)
+  addressed-again n x xs h again =
+      let t : list_any (λ d. same d x) xs ≡ true = sym (found n x xs h) ∙ again in
+      rw (first-push x xs, t) (ap (without same n) (append-nil (first_places same xs)))
+
+  pub addressed-new : (n x : P) (xs : List P) → same n x ≡ false → list_any (λ d. same d x) (without same n (first_places same xs)) ≡ false
+      → without same n (first_places same (xs ++ x ∷ [])) ≡ without same n (first_places same xs) ++ x ∷ []
+  addressed-new n x xs h fresh =
+      let t : list_any (λ d. same d x) xs ≡ false = sym (found n x xs h) ∙ fresh in
+      rw (first-push x xs, t) (without-push n x (first_places same xs) ∙ rw h refl)
+
+module _ {P : Type 0} (cmp : P → P → Ordering) (w : Scene P) where
+  -- a key that names no node
+  pub addressed-none : (n key : P) (keys : List P) → node cmp w key ≡ None → addressed_of cmp w n (keys ++ key ∷ []) ≡ addressed_of cmp w n keys
+  addressed-none n key keys h =
+      rw (filter_map-append (node cmp w) keys (key ∷ []), h) (ap (λ ps. without (eq_by_cmp cmp) n (first_places (eq_by_cmp cmp) ps)) (append-nil (filter_map (node cmp w) keys)))
+
+  -- a key that names one
+  pub addressed-some : (n key x : P) (keys : List P) → node cmp w key ≡ Some x
+      → addressed_of cmp w n (keys ++ key ∷ []) ≡ without (eq_by_cmp cmp) n (first_places (eq_by_cmp cmp) (filter_map (node cmp w) keys ++ x ∷ []))
+  addressed-some n key x keys h = rw (filter_map-append (node cmp w) keys (key ∷ []), h) refl
+
+  -- one packet more
+  pub packets-push : (n : P) (nodes : List P) (i : ℕ) (node sender addressee : P) (bytes shared : List ℕ) (old new : List (Packet P)) → i < length nodes
+      → old ≡ packets_to cmp w n (take i nodes) (Some bytes) → new ≡ old ++ record { sender = sender; addressee = addressee; bytes = shared } ∷ []
+      → node ≡ get_or nodes i node → sender ≡ n → addressee ≡ node → shared ≡ bytes → new ≡ packets_to cmp w n (take (i + 1) nodes) (Some bytes)
+  packets-push n nodes i node sender addressee bytes shared old new within was is read from to same =
+      let packet : P → Packet P = λ p. record { sender = n; addressee = p; bytes = bytes } in
+      is ∙ rw (was, from, to, same)
+      (sym (ap (map packet) (take_more nodes i node within) ∙ map-append packet (take i nodes) (get_or nodes i node ∷ []) ∙ ap (λ p. map packet (take i nodes) ++ packet p ∷ []) (sym read)))

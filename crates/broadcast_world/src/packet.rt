@@ -1,0 +1,149 @@
+//! Packets, and the nodes that they are made for.
+ghost use Rattle.std.specs.Prelude.{◌≡◌, List, [], ◌∷◌, ◌++◌, Some, IfOk, OnOk};
+ghost use Rattle.std.specs.List.{list_any};
+ghost use Rattle.std.specs.Ordering.{eq_by_cmp};
+ghost use Rattle.broadcast_world.specs.Scene.{Scene};
+ghost use Rattle.broadcast_world.specs.World.{addressed, addressed_of, packets_to};
+
+use crate::key::NodeKey;
+use crate::nodes::place_of;
+use broadcast_core::{Items, Recipients, Set};
+use std::alloc::{AllocError, Global};
+use std::marker::Model;
+use std::sync::Arc;
+
+/// A packet on its way to a node. The packets of a broadcast share its bytes.
+#[derive(Drop)]
+pub struct Packet<P: NodeKey> {
+    sender: P,
+    addressee: P,
+    bytes: Arc<Items<u8>>,
+}
+
+impl<P: NodeKey> Model for Packet<P> {
+    ghost use Rattle.broadcast_world.specs.Packet.{Packet};
+    ghost use Rattle.std.specs.Arc.{arc_value};
+
+    ghost Value = { Packet P };
+
+    ghost view = { λ it. record { sender = it.sender; addressee = it.addressee; bytes = arc_value it.bytes } };
+}
+
+impl<P: NodeKey> Packet<P> {
+    /// Returns the key of the node that sent the packet.
+    pub fn sender(&self) -> &P
+        ensures { result.now ≡ self.now.sender }
+    {
+        &self.sender
+    }
+
+    /// Returns the key of the node that the packet is for.
+    pub fn addressee(&self) -> &P
+        ensures { result.now ≡ self.now.addressee }
+    {
+        &self.addressee
+    }
+
+    /// Returns the bytes.
+    pub fn bytes(&self) -> &[u8]
+        ensures { result.now ≡ self.now.bytes }
+    {
+        self.bytes.as_slice()
+    }
+}
+
+/// Returns one packet with the bytes for each of the nodes.
+pub fn packets_for<P: NodeKey>(
+    alloc: Global,
+    sender: &P,
+    nodes: &[P],
+    bytes: Vec<u8>,
+) -> Result<Vec<Packet<P>>, AllocError>
+    ensures { (w : Scene P) → IfOk result (λ packets.
+        packets.items ≡ packets_to P.cmp w sender.now nodes.now (Some bytes.items)) }
+{
+    let bytes = Arc::new(alloc, Items::from_vec(bytes))?;
+    let mut packets = Vec::with_capacity(alloc, nodes.len())?;
+    for node in nodes {
+        packets.push(Packet {
+            sender: sender.clone()?,
+            addressee: node.clone()?,
+            bytes: Arc::try_clone(&bytes)?,
+        })?;
+    }
+    Ok(packets)
+}
+
+/// Returns the nodes other than the sender that the recipients name, each at its first mention.
+pub fn addressees<P: NodeKey>(
+    alloc: Global,
+    nodes: &Set<P>,
+    sender: &P,
+    recipients: &Recipients<P>,
+) -> Result<Vec<P>, AllocError>
+    ensures { (w : Scene P) → w.nodes ≡ nodes.now
+        → IfOk result (λ to. to.items ≡ addressed P.cmp w sender.now recipients.now) }
+{
+    match recipients {
+        Recipients::All => address_all(alloc, nodes, sender, nodes.as_slice()),
+        Recipients::Some(keys) => address_all(alloc, nodes, sender, keys.as_slice()),
+        Recipients::One(key) => {
+            let mut to = Vec::new(alloc);
+            address(nodes, sender, &mut to, key)?;
+            Ok(to)
+        }
+    }
+}
+
+/// Returns the nodes other than the sender that the keys name, each at its first mention.
+fn address_all<P: NodeKey>(
+    alloc: Global,
+    nodes: &Set<P>,
+    sender: &P,
+    keys: &[P],
+) -> Result<Vec<P>, AllocError>
+    ensures { (w : Scene P) → w.nodes ≡ nodes.now
+        → IfOk result (λ to. to.items ≡ addressed_of P.cmp w sender.now keys.now) }
+{
+    let mut to = Vec::new(alloc);
+    for key in keys {
+        address(nodes, sender, &mut to, key)?;
+    }
+    Ok(to)
+}
+
+/// Appends the node that the key names, unless it is the sender or there already.
+fn address<P: NodeKey>(
+    nodes: &Set<P>,
+    sender: &P,
+    to: &mut Vec<P>,
+    key: &P,
+) -> Result<(), AllocError>
+    ensures { (w : Scene P) → w.nodes ≡ nodes.now
+        → (keys : List P) → to.old.items ≡ addressed_of P.cmp w sender.now keys
+        → OnOk result (to.new.items ≡ addressed_of P.cmp w sender.now (keys ++ key.now ∷ [])) }
+{
+    let Some(place) = place_of(nodes, key) else {
+        return Ok(());
+    };
+    let node = &nodes.as_slice()[place];
+    if is_same(sender, node) || is_among(to, node) {
+        return Ok(());
+    }
+    to.push(node.clone()?)?;
+    Ok(())
+}
+
+/// Returns whether the keys are equal.
+fn is_same<P: NodeKey>(key: &P, other: &P) -> bool
+    ensures { result ≡ eq_by_cmp P.cmp key.now other.now }
+{
+    key.cmp(other).is_eq()
+}
+
+/// Returns whether a key equal to this one is among the keys.
+fn is_among<P: NodeKey>(keys: &[P], key: &P) -> bool
+    ensures { result ≡ list_any (λ k. eq_by_cmp P.cmp k key.now) keys.now }
+{
+    keys.iter().any(|k| is_same(k, key))
+}
