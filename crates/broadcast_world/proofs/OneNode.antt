@@ -1,16 +1,24 @@
 -- What an event makes of one node.
-use Rattle.std.proofs.Common.{◌≡◌, ℕ, true, List, Option, Some, None, ◌⊎◌, inl, inr, refl}
-use Rattle.std.specs.Prelude.{IsTrue, slice_set}
+use Rattle.std.proofs.Common.{◌≡◌, ℕ, ◌<◌, true, List, [], length, get_or, Option, Some, None, ◌⊎◌, inl, inr, refl, sym, ◌∙◌}
+use Rattle.std.proofs.lemmas.Option.{slice_get-get_or}
+use Rattle.std.specs.Prelude.{IsTrue, slice_set, is_some}
 use Rattle.std.specs.List.{slice_get}
+use Rattle.std.specs.Option.{option_map}
+use Rattle.broadcast_world.proofs.Places.{read_at, set_same}
 use Rattle.std.specs.declared.cmp.Ordering.{Ordering}
 use Rattle.broadcast_core.specs.Answers.{takes_memory}
 use Rattle.broadcast_core.specs.Follows.{HasContent, Applies}
-use Rattle.broadcast_core.specs.TestMessage.{Parts}
+use Rattle.broadcast_core.specs.Carried.{Carried}
+use Rattle.broadcast_core.specs.TestMessage.{Parts, encoding_of}
+use Rattle.broadcast_core.specs.declared.ordered.Recipients.{Recipients}
+use Rattle.broadcast_core.specs.declared.event.Cause.TheVariants.{Memory, Unencodable}
+use Rattle.broadcast_core.specs.declared.event.Answer.TheVariants.{Refused}
 use Rattle.broadcast_core.specs.declared.event.Event.TheVariants.{Peers, Broadcast, Payload, Subscribe, Get, Cleanup}
 use Rattle.broadcast_core.specs.declared.event.Answer.{Answer}
 use Rattle.broadcast_core.specs.declared.event.Sent.{Sent}
 use Rattle.broadcast_world.specs.Scene.{Scene}
-use Rattle.broadcast_world.specs.World.{NodeEvent, NodeHistory, at, may_be_refused}
+use Rattle.broadcast_world.specs.World.{NodeEvent, NodeHistory, addressed, at, made_by, may_be_refused, packets_to}
+use Rattle.broadcast_world.specs.Packet.{Packet}
 use Rattle.broadcast_world.specs.Steps.{NodeContent, NodeTakes, NodeFollows, ChangesNode, AtNode}
 use Rattle.broadcast_world.specs.declared.step.WorldAnswer.TheVariants.{Given, NoSuch}
 
@@ -35,10 +43,43 @@ module _ {P : Type 0} (cmp : P → P → Ordering) (w : Scene P) where
   -- the node that a key names gives its answer, and no other changes
   pub AtNode-given : (named : Option P) (n : P) (e : NodeEvent P) (place : ℕ) (old : List (NodeContent P)) (before core : NodeContent P) (a : Answer Parts (List ℕ))
       → named ≡ Some n → slice_get w.nodes place ≡ Some n → slice_get old place ≡ Some before → NodeFollows cmp w n e before core a
-      → AtNode cmp w named e old (slice_set old place core) (Given a)
+      → AtNode cmp w (option_map (λ m. (m, e)) named) old (slice_set old place core) (Given a)
   AtNode-given named n e place old before core a is node was follows =
       rw is (a, refl, record { place = place; is_node = node; before = before; was = was; core = core; only = refl; follows = follows })
 
   -- a key that names none
-  pub AtNode-none : (named : Option P) (e : NodeEvent P) (cores : List (NodeContent P)) → named ≡ None → AtNode cmp w named e cores cores NoSuch
+  pub AtNode-none : (named : Option P) (e : NodeEvent P) (cores : List (NodeContent P)) → named ≡ None → AtNode cmp w (option_map (λ m. (m, e)) named) cores cores NoSuch
   AtNode-none named e cores is = rw is (refl, refl)
+
+  -- the node's content stays
+  pub AtNode-kept : (named : Option P) (n : P) (e : NodeEvent P) (place : ℕ) (cores : List (NodeContent P)) (before : NodeContent P) (a : Answer Parts (List ℕ))
+      → named ≡ Some n → slice_get w.nodes place ≡ Some n → slice_get cores place ≡ Some before → NodeFollows cmp w n e before before a
+      → AtNode cmp w (option_map (λ m. (m, e)) named) cores cores (Given a)
+  AtNode-kept named n e place cores before a is node was follows =
+      rw is (a, refl, record { place = place; is_node = node; before = before; was = was; core = before; only = sym (set_same cores place before was); follows = follows })
+
+  -- an allocation failure changes nothing
+  pub NodeFollows-refused : (n : P) (r : Recipients P) (c : Carried Parts (List ℕ)) (core : NodeContent P) → is_some (encoding_of c.message) ≡ true
+      → NodeFollows cmp w n (Broadcast r c) core core (Refused Memory)
+  NodeFollows-refused n r c core encoded = λ past has. record { answered = inr (refl, encoded); content = has }
+
+  pub NodeFollows-unencodable : (n : P) (r : Recipients P) (c : Carried Parts (List ℕ)) (core : NodeContent P) → encoding_of c.message ≡ None
+      → NodeFollows cmp w n (Broadcast r c) core core (Refused Unencodable)
+  NodeFollows-unencodable n r c core none = λ past has. record { answered = inl (rw none refl); content = has }
+
+  nothing_kept : P → NodeContent P
+  nothing_kept own = record { own = own; deque_size = 0; primary = []; lists = []; cached = []; waiters = [] }
+
+  -- no content changes
+  pub AtNode-refused : (named : Option P) (n : P) (e : NodeEvent P) (place : ℕ) (cores : List (NodeContent P)) (a : Answer Parts (List ℕ))
+      → named ≡ Some n → slice_get w.nodes place ≡ Some n → place < length cores → ((core : NodeContent P) → NodeFollows cmp w n e core core a)
+      → AtNode cmp w (option_map (λ m. (m, e)) named) cores cores (Given a)
+  AtNode-refused named n e place cores a is node within follows =
+      let before = get_or cores place (nothing_kept n) in
+      AtNode-kept named n e place cores before a is node (slice_get-get_or cores place (nothing_kept n) within) (follows before)
+
+  -- the packets of a broadcast at the node that a key names
+  pub made_by-broadcast : (named : Option P) (n sender : P) (r : Recipients P) (c : Carried Parts (List ℕ)) (bytes : List ℕ) (made : List (Packet P))
+      → named ≡ Some n → sender ≡ n → encoding_of c.message ≡ Some bytes → made ≡ packets_to cmp w sender (addressed cmp w sender r) (Some bytes)
+      → made ≡ made_by cmp w (option_map (λ m. (m, Broadcast r c)) named)
+  made_by-broadcast named n sender r c bytes made is from encoded h = h ∙ rw (is, encoded, from) refl

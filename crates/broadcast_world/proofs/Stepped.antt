@@ -64,15 +64,15 @@ module _ {P : Type 0} (cmp : P → P → Ordering) (w : Scene P) where
         w.nodes old changes.place changes.core apart changes.is_node has
         (subst (λ es. HasContent (at cmp w n) es changes.core) (sym (own_history n e a (past n))) now.content))
 
-    -- a step that gives the node an event, or gives none
-    pub TakesStep-at : (log : Log P) (step : Step P) (answer : WorldAnswer) (named : Option P) (e : NodeEvent P)
+    -- a step that gives a node an event, or gives none
+    pub TakesStep-at : (log : Log P) (step : Step P) (answer : WorldAnswer) (e : Option (P × NodeEvent P))
         (old_cores new_cores : List (NodeContent P)) (old_packets new_packets : List (Packet P))
-        → event_of cmp w step (packets cmp w log) ≡ option_map (λ n. (n, e)) named
-        → AtNode cmp w named e old_cores new_cores answer
-        → new_packets ≡ old_packets ++ made_by cmp w (unless_refused cmp w answer (option_map (λ n. (n, e)) named))
+        → event_of cmp w step (packets cmp w log) ≡ e
+        → AtNode cmp w e old_cores new_cores answer
+        → new_packets ≡ old_packets ++ made_by cmp w (unless_refused cmp w answer e)
         → HasWorld cmp log (record { scene = w; cores = old_cores; packets = old_packets })
         → TakesStep cmp log step answer (record { scene = w; cores = old_cores; packets = old_packets }) (record { scene = w; cores = new_cores; packets = new_packets })
-    TakesStep-at log step answer None e old_cores new_cores old_packets new_packets is done made has =
+    TakesStep-at log step answer None old_cores new_cores old_packets new_packets is done made has =
         record {
           scene = refl;
           answered = rw is done.0;
@@ -81,14 +81,14 @@ module _ {P : Type 0} (cmp : P → P → Ordering) (w : Scene P) where
               packets = rw (done.0, is) (made ∙ rw done.0 (ap (λ ps. ps ++ []) has.packets));
             };
         }
-    TakesStep-at log step answer (Some n) e old_cores new_cores old_packets new_packets is done made has =
-        let was = AllZip-at (λ q core. HasContent (at cmp w q) (history cmp w q log) core) w.nodes old_cores done.2.place n done.2.before has.cores done.2.is_node done.2.was in
-        let now = done.2.follows (history cmp w n log) was in
+    TakesStep-at log step answer (Some e) old_cores new_cores old_packets new_packets is done made has =
+        let was = AllZip-at (λ q core. HasContent (at cmp w q) (history cmp w q log) core) w.nodes old_cores done.2.place e.0 done.2.before has.cores done.2.is_node done.2.was in
+        let now = done.2.follows (history cmp w e.0 log) was in
         record {
           scene = refl;
           answered = rw (is, done.1) now.answered;
           world = record {
-              cores = rw (done.1, is) (contents n e done.0 (λ q. history cmp w q log) old_cores new_cores has.cores done.2);
-              packets = rw (done.1, is) (made ∙ rw done.1 (ap (λ ps. ps ++ made_by cmp w (unless_refused cmp w (Given done.0) (Some (n, e)))) has.packets));
+              cores = rw (done.1, is) (contents e.0 e.1 done.0 (λ q. history cmp w q log) old_cores new_cores has.cores done.2);
+              packets = rw (done.1, is) (made ∙ rw done.1 (ap (λ ps. ps ++ made_by cmp w (unless_refused cmp w (Given done.0) (Some e))) has.packets));
             };
         }

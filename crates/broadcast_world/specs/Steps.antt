@@ -38,10 +38,10 @@ module _ {P : Type 0} (cmp : P → P → Ordering) (w : Scene P) where
     pub only : new ≡ slice_set old place core
     pub follows : NodeFollows n e before core a
 
-  -- an event at the node that a key names, if it names one
-  abbrev pub AtNode : Option P → NodeEvent P → List (NodeContent P) → List (NodeContent P) → WorldAnswer → Type 0
-  AtNode None e old new answer = (answer ≡ NoSuch) × (new ≡ old)
-  AtNode (Some n) e old new answer = (a : Answer Parts (List ℕ)) × (answer ≡ Given a) × ChangesNode n e a old new
+  -- an event at a node is given the node's answer; without an event nothing changes
+  abbrev pub AtNode : Option (P × NodeEvent P) → List (NodeContent P) → List (NodeContent P) → WorldAnswer → Type 0
+  AtNode None old new answer = (answer ≡ NoSuch) × (new ≡ old)
+  AtNode (Some e) old new answer = (a : Answer Parts (List ℕ)) × (answer ≡ Given a) × ChangesNode e.0 e.1 a old new
 
 module _ {P : Type 0} (cmp : P → P → Ordering) where
   -- the world has what the steps of the log leave: each node the content of its history, and the packets

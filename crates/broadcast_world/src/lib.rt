@@ -2,6 +2,7 @@
 #![tactic(auto)]
 
 pub mod key;
+mod broadcast;
 mod node;
 mod nodes;
 mod packet;

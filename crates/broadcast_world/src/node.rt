@@ -1,13 +1,19 @@
 //! One event at one node.
-ghost use Rattle.std.specs.Prelude.{◌≡◌, ℕ, []};
+ghost use Rattle.std.specs.Prelude.{◌≡◌, ℕ, List, Some, IfOk, OnErr};
+ghost use Rattle.broadcast_core.specs.TestMessage.{encoding_of};
+ghost use Rattle.broadcast_core.specs.declared.outcome.Outcome.{Outcome};
+ghost use Rattle.broadcast_core.specs.declared.ordered.Recipients.{Recipients};
+ghost use Rattle.broadcast_core.specs.declared.event.Answer.TheVariants as answer;
 ghost use Rattle.broadcast_world.specs.Scene.{Scene};
 ghost use Rattle.broadcast_world.specs.Steps.{NodeFollows};
 ghost use Rattle.broadcast_core.specs.declared.event.Event.TheVariants as event;
 
 use crate::key::NodeKey;
 use broadcast_core::runner::apply;
-use broadcast_core::{Answer, Cause, Core, PublicKey, RangeCfg, Set, TestMessage};
-use std::alloc::Global;
+use broadcast_core::{
+    Answer, Cause, Core, Digested, PublicKey, RangeCfg, Set, TestMessage,
+};
+use std::alloc::{AllocError, Global};
 
 /// Drops the waiters with these tickets.
 pub fn cleanup<P: PublicKey>(
@@ -70,4 +76,26 @@ pub fn peers<P: NodeKey>(
         }
         Err(_) => Answer::Refused(Cause::Memory),
     }
+}
+
+/// Takes the message under the node's own key.
+///
+/// `Err` is an allocation failure, and then nothing changes.
+pub fn broadcast<P: PublicKey>(
+    core: &mut Core<P, TestMessage, u64>,
+    message: Digested<TestMessage>,
+) -> Result<Answer<TestMessage>, AllocError>
+    ensures taken { IfOk result (λ a. (outcome : Outcome) × (served : List ℕ)
+        × (a ≡ answer.Taken outcome served message)) }
+    ensures ok { IfOk result (λ a. (w : Scene P) (n : P) (r : Recipients P) (bytes : List ℕ)
+        → encoding_of message.message ≡ Some bytes
+        → NodeFollows P.cmp w n (event.Broadcast r message) core.old core.new a) }
+    ensures err { OnErr result (core.new ≡ core.old) }
+{
+    let taken = core.take_own(&message)?;
+    Ok(Answer::Taken {
+        outcome: taken.outcome,
+        served: taken.served,
+        message,
+    })
 }

@@ -1,12 +1,9 @@
-use Rattle.std.proofs.Common.{◌≡◌, List, Some, arith, sym, ap, subst}
-use Rattle.std.specs.Prelude.{slice_set}
+use Rattle.std.proofs.Common.{arith}
 use Rattle.std.proofs.lemmas.Option.{slice_get_within}
 use Rattle.broadcast_core.specs.declared.event.Event.TheVariants as event
 use Rattle.broadcast_world.specs.World.{node}
-use Rattle.broadcast_world.specs.Steps.{AtNode}
-use Rattle.broadcast_world.specs.declared.step.WorldAnswer.TheVariants.{Given}
-use Rattle.broadcast_world.proofs.OneNode.{AtNode-given, AtNode-none}
-use Rattle.broadcast_world.proofs.Places.{read_at, set_same}
+use Rattle.broadcast_world.proofs.OneNode.{AtNode-kept, AtNode-none}
+use Rattle.broadcast_world.proofs.Places.{read_at}
 use Rattle.broadcast_world.proofs.nodes.get.Goals as goal
 
 pub returns-in_default : goal.returns-in_default
@@ -25,7 +22,5 @@ returns g c = λ w is.
     let core = c.index-cores-place.result in
     let was = read_at cores c.in-Some.place core (omega (arith, within, c.requires)) c.index-cores-place.is in
     let event = event.Get c.args.ticket c.args.digest.now in
-    subst (λ now. AtNode g.P.Ord.cmp w (node g.P.Ord.cmp w c.args.key.now) event cores now (Given c.get.result)) (set_same cores c.in-Some.place core was)
-    (AtNode-given g.P.Ord.cmp w (node g.P.Ord.cmp w c.args.key.now) c.in-Some.ensures.0 event c.in-Some.place cores core core c.get.result
-    (rw is c.in-Some.ensures.2) (rw is c.in-Some.ensures.1) was
-    (c.get.ensures w c.in-Some.ensures.0))
+    AtNode-kept g.P.Ord.cmp w (node g.P.Ord.cmp w c.args.key.now) c.in-Some.ensures.0 event c.in-Some.place cores core c.get.result
+    (rw is c.in-Some.ensures.2) (rw is c.in-Some.ensures.1) was (c.get.ensures w c.in-Some.ensures.0)

@@ -1,0 +1,116 @@
+//! A broadcast at the node that a key names.
+ghost use Rattle.std.specs.Prelude.{◌≡◌, ℕ, ◌≤◌, ◌+◌, ◌++◌, ◌⊎◌, true, List, None, Option, Some, length, is_some, IfErr, IfOk, OnOk, vec_capacity, vec_len};
+ghost use Rattle.broadcast_core.specs.TestMessage.{encoding_of};
+ghost use Rattle.broadcast_core.specs.declared.event.Event.TheVariants as event;
+ghost use Rattle.broadcast_core.specs.declared.ordered.Recipients.{Recipients};
+ghost use Rattle.broadcast_world.specs.Scene.{Scene};
+ghost use Rattle.broadcast_world.specs.World.{NodeEvent, event_at, made_by, packets_by, packets_to, addressed, unless_refused};
+ghost use Rattle.broadcast_world.specs.Steps.{AtNode, NodeFollows};
+ghost use Rattle.broadcast_world.specs.declared.step.WorldAnswer.TheVariants as world;
+
+use crate::key::NodeKey;
+use crate::node;
+use crate::nodes::place_of;
+use crate::packet::{Packet, addressees, packets_for};
+use crate::step::WorldAnswer;
+use broadcast_core::{
+    Answer, Cause, CodecError, Core, Digested, Recipients, Set, TestMessage, Write,
+};
+use std::alloc::{AllocError, Global};
+
+/// Takes the message under the key of the node that `key` names, and makes its packets.
+///
+/// A refused broadcast makes none.
+pub fn broadcast<P: NodeKey>(
+    alloc: Global,
+    nodes: &Set<P>,
+    cores: &mut Vec<Core<P, TestMessage, u64>>,
+    packets: &mut Vec<Packet<P>>,
+    key: &P,
+    recipients: &Recipients<P>,
+    message: &Digested<TestMessage>,
+) -> WorldAnswer
+    requires { length cores.old.items ≡ length nodes.now }
+    ensures node { (w : Scene P) → w.nodes ≡ nodes.now
+        → AtNode P.cmp w (event_at P.cmp w key.now (event.Broadcast recipients.now message.now)) cores.old.items cores.new.items result }
+    ensures packets { (w : Scene P) → w.nodes ≡ nodes.now
+        → packets.new.items ≡ packets.old.items
+            ++ made_by P.cmp w (unless_refused P.cmp w result (event_at P.cmp w key.now (event.Broadcast recipients.now message.now))) }
+{
+    let Some(place) = place_of(nodes, key) else {
+        return WorldAnswer::NoSuch;
+    };
+    let sender = &nodes.as_slice()[place];
+    let bytes = match encode(alloc, message) {
+        Ok(bytes) => bytes,
+        Err(cause) => return WorldAnswer::Given(Answer::Refused(cause)),
+    };
+    match prepare(alloc, nodes, sender, packets, recipients, message, bytes) {
+        Ok((made, message)) => {
+            WorldAnswer::Given(take(&mut cores[place], packets, made, message))
+        }
+        Err(_) => WorldAnswer::Given(Answer::Refused(Cause::Memory)),
+    }
+}
+
+/// Returns the encoding of the message.
+fn encode(alloc: Global, message: &Digested<TestMessage>) -> Result<Vec<u8>, Cause>
+    ensures ok { IfOk result (λ bytes. encoding_of message.now.message ≡ Some bytes.items) }
+    ensures err { IfErr result (λ cause.
+        ((cause ≡ Cause.Memory) × (is_some (encoding_of message.now.message) ≡ true))
+        ⊎ ((cause ≡ Cause.Unencodable) × (encoding_of message.now.message ≡ None))) }
+{
+    let mut bytes = Vec::new(alloc);
+    match message.inner().write(&mut bytes) {
+        Ok(()) => Ok(bytes),
+        Err(CodecError::Unencodable) => Err(Cause::Unencodable),
+        Err(_) => Err(Cause::Memory),
+    }
+}
+
+/// Returns the packets of a broadcast and a copy of its message, with room for the packets.
+fn prepare<P: NodeKey>(
+    alloc: Global,
+    nodes: &Set<P>,
+    sender: &P,
+    packets: &mut Vec<Packet<P>>,
+    recipients: &Recipients<P>,
+    message: &Digested<TestMessage>,
+    bytes: Vec<u8>,
+) -> Result<(Vec<Packet<P>>, Digested<TestMessage>), AllocError>
+    ensures kept { packets.new.items ≡ packets.old.items }
+    ensures made { IfOk result (λ prepared. (w : Scene P) → w.nodes ≡ nodes.now
+        → prepared.0.items ≡ packets_to P.cmp w sender.now (addressed P.cmp w sender.now recipients.now) (Some bytes.items)) }
+    ensures message { IfOk result (λ prepared. prepared.1 ≡ message.now) }
+    ensures room { IfOk result (λ prepared.
+        vec_len packets.new + vec_len prepared.0 ≤ vec_capacity packets.new) }
+{
+    let to = addressees(alloc, nodes, sender, recipients)?;
+    let made = packets_for(alloc, sender, &to, bytes)?;
+    packets.reserve(made.len())?;
+    Ok((made, message.clone()?))
+}
+
+/// Takes the message under the node's own key, and keeps its packets unless that is refused.
+fn take<P: NodeKey>(
+    core: &mut Core<P, TestMessage, u64>,
+    packets: &mut Vec<Packet<P>>,
+    made: Vec<Packet<P>>,
+    message: Digested<TestMessage>,
+) -> Answer<TestMessage>
+    requires { vec_len packets.old + vec_len made ≤ vec_capacity packets.old }
+    ensures follows { (w : Scene P) (n : P) (r : Recipients P) (bytes : List ℕ)
+        → encoding_of message.message ≡ Some bytes
+        → NodeFollows P.cmp w n (event.Broadcast r message) core.old core.new result }
+    ensures packets { (w : Scene P) (e : Option (P × NodeEvent P)) → made.items ≡ made_by P.cmp w e
+        → packets.new.items ≡ packets.old.items ++ made_by P.cmp w (unless_refused P.cmp w (world.Given result) e) }
+{
+    let mut made = made;
+    match node::broadcast(core, message) {
+        Ok(answer) => {
+            let _appended = packets.append(&mut made);
+            answer
+        }
+        Err(_) => Answer::Refused(Cause::Memory),
+    }
+}
