@@ -13,13 +13,15 @@ use Rattle.broadcast_core.specs.TestMessage.{Parts, encoding_of}
 use Rattle.broadcast_core.specs.declared.ordered.Recipients.{Recipients}
 use Rattle.broadcast_core.specs.declared.event.Cause.TheVariants.{Memory, Unencodable}
 use Rattle.broadcast_core.specs.declared.event.Answer.TheVariants.{Refused}
+use Rattle.broadcast_core.specs.declared.event.Answer.TheVariants as answer
 use Rattle.broadcast_core.specs.declared.event.Event.TheVariants.{Peers, Broadcast, Payload, Subscribe, Get, Cleanup}
 use Rattle.broadcast_core.specs.declared.event.Answer.{Answer}
 use Rattle.broadcast_core.specs.declared.event.Sent.{Sent}
 use Rattle.broadcast_world.specs.Scene.{Scene}
-use Rattle.broadcast_world.specs.World.{NodeEvent, NodeHistory, addressed, at, made_by, may_be_refused, packets_to}
+use Rattle.broadcast_world.specs.World.{NodeEvent, NodeHistory, addressed, at, made_by, may_be_refused, packets_by, packets_to, unless_refused}
 use Rattle.broadcast_world.specs.Packet.{Packet}
 use Rattle.broadcast_world.specs.Steps.{NodeContent, NodeTakes, NodeFollows, ChangesNode, AtNode}
+use Rattle.broadcast_world.specs.declared.step.WorldAnswer.{WorldAnswer}
 use Rattle.broadcast_world.specs.declared.step.WorldAnswer.TheVariants.{Given, NoSuch}
 
 module _ {P : Type 0} (cmp : P → P → Ordering) (w : Scene P) (n : P) (past : NodeHistory P) where
@@ -83,3 +85,19 @@ module _ {P : Type 0} (cmp : P → P → Ordering) (w : Scene P) where
       → named ≡ Some n → sender ≡ n → encoding_of c.message ≡ Some bytes → made ≡ packets_to cmp w sender (addressed cmp w sender r) (Some bytes)
       → made ≡ made_by cmp w (option_map (λ m. (m, Broadcast r c)) named)
   made_by-broadcast named n sender r c bytes made is from encoded h = h ∙ rw (is, encoded, from) refl
+
+  unless-cases : (a : WorldAnswer) (e : Option (P × NodeEvent P)) → (unless_refused cmp w a e ≡ e) ⊎ (unless_refused cmp w a e ≡ None)
+  unless-cases NoSuch e = inl refl
+  unless-cases (Given answer.Peers) e = inl refl
+  unless-cases (Given (answer.Taken o s m)) e = inl refl
+  unless-cases (Given (answer.Invalid why)) e = inl refl
+  unless-cases (Given answer.Waiting) e = inl refl
+  unless-cases (Given (answer.Answered m)) e = inl refl
+  unless-cases (Given (answer.Got m)) e = inl refl
+  unless-cases (Given (answer.Removed k)) e = inl refl
+  unless-cases (Given (answer.Refused why)) e = inr refl
+
+  -- a step that is no broadcast makes no packet
+  pub made_by-quiet : (a : WorldAnswer) (named : Option P) (e : NodeEvent P) → ((n : P) → packets_by cmp w n e ≡ []) → made_by cmp w (unless_refused cmp w a (option_map (λ m. (m, e)) named)) ≡ []
+  made_by-quiet a None e quiet = elim (unless-cases a None) [ inl is ↦ rw is refl | inr none ↦ rw none refl ]
+  made_by-quiet a (Some n) e quiet = elim (unless-cases a (Some (n, e))) [ inl is ↦ rw is (quiet n) | inr none ↦ rw none refl ]

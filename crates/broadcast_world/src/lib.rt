@@ -1,9 +1,17 @@
 //! Many nodes and a hostile network, step by step.
 #![tactic(auto)]
 
-pub mod key;
+mod apply;
 mod broadcast;
+mod key;
 mod node;
 mod nodes;
 mod packet;
-pub mod step;
+mod run;
+mod state;
+mod step;
+
+pub use key::NodeKey;
+pub use run::run_world;
+pub use state::World;
+pub use step::{Step, WorldAnswer, WorldLog};
