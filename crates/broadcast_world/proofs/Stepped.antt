@@ -1,5 +1,6 @@
 -- One step of a world, from what it makes of one node.
-use Rattle.std.proofs.Common.{◌≡◌, ℕ, Bool, true, false, if◌then◌else◌, List, [], ◌∷◌, ◌++◌, Option, Some, None, refl, sym, ap, ◌∙◌, subst, append-nil}
+use Rattle.std.proofs.Common.{◌≡◌, ℕ, Bool, true, false, if◌then◌else◌, List, [], ◌∷◌, ◌++◌, length, Option, Some, None, refl, sym, ap, ◌∙◌, subst, append-nil}
+use Rattle.std.proofs.Math.ListN.{length-set}
 use Rattle.std.specs.Option.{option_map}
 use Rattle.std.specs.List.{AllZip, IsDistinct, slice_get}
 use Rattle.std.specs.Cmp.{IsTotalOrder, IsEquivalence, eq_by_cmp_equiv}
@@ -92,3 +93,8 @@ module _ {P : Type 0} (cmp : P → P → Ordering) (w : Scene P) where
               packets = rw (done.1, is) (made ∙ rw done.1 (ap (λ ps. ps ++ made_by cmp w (unless_refused cmp w (Given done.0) (Some e))) has.packets));
             };
         }
+
+  -- as many contents as before
+  pub AtNode-length : (e : Option (P × NodeEvent P)) (old new : List (NodeContent P)) (a : WorldAnswer) → AtNode cmp w e old new a → length new ≡ length old
+  AtNode-length None old new a done = ap (λ cs. length cs) done.1
+  AtNode-length (Some e) old new a done = ap (λ cs. length cs) done.2.only ∙ length-set old done.2.place done.2.core

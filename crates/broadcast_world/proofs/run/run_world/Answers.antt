@@ -1,0 +1,21 @@
+use Rattle.std.proofs.Common.{◌≡◌, length, arith, sym, ap, ◌∙◌, subst}
+use Rattle.std.proofs.lemmas.List.{take_all}
+use Rattle.broadcast_world.specs.Steps.{TakesSteps}
+use Rattle.broadcast_world.proofs.TakenSteps.{TakesSteps-next}
+use Rattle.broadcast_world.proofs.run.run_world.Goals as goal
+
+pub loop-step-preserved : goal.loop-step-preserved
+loop-step-preserved g c =
+    let at = c.loop-step in
+    record {
+      room = omega (arith, c.push_reserved.ensures.len, c.push_reserved.ensures.capacity, at.invariant.room, c.loop-step-test.true);
+      taken = λ log has. TakesSteps-next g.P.Ord.cmp log c.args.steps.now at.step-index at.answers.items c.push_reserved.new.self.items c.step-item.result c.take.result c.args.world.now at.world c.take.new.self
+          c.loop-step-test.true c.step-item.is c.push_reserved.ensures.items (at.invariant.taken log has) (λ past now. c.take.ensures past now);
+    }
+
+pub returns-clause-ok : goal.returns-clause-ok
+returns-clause-ok g c = λ log has.
+    let at = c.loop-step in
+    let all = take_all at.step-index c.args.steps.now (omega arith) in
+    subst (λ answers. TakesSteps g.P.Ord.cmp log c.args.steps.now answers c.args.world.now at.world) (sym c.from_vec.ensures)
+    (subst (λ steps. TakesSteps g.P.Ord.cmp log steps at.answers.items c.args.world.now at.world) all (at.invariant.taken log has))
