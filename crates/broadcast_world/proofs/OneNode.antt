@@ -1,8 +1,8 @@
 -- What an event makes of one node.
-use Rattle.std.proofs.Common.{◌≡◌, ℕ, ◌<◌, true, List, [], length, get_or, Option, Some, None, ◌⊎◌, inl, inr, refl, sym, ◌∙◌}
+use Rattle.std.proofs.Common.{◌≡◌, ℕ, ◌<◌, true, List, [], ◌∷◌, length, map, get_or, Option, Some, None, ◌⊎◌, inl, inr, refl, sym, ◌∙◌}
 use Rattle.std.proofs.lemmas.Option.{slice_get-get_or}
 use Rattle.std.specs.Prelude.{IsTrue, slice_set, is_some}
-use Rattle.std.specs.List.{slice_get}
+use Rattle.std.specs.List.{AllZip, slice_get}
 use Rattle.std.specs.Option.{option_map}
 use Rattle.broadcast_world.proofs.Places.{read_at, set_same}
 use Rattle.std.specs.declared.cmp.Ordering.{Ordering}
@@ -20,6 +20,8 @@ use Rattle.broadcast_core.specs.declared.event.Sent.{Sent}
 use Rattle.broadcast_world.specs.Scene.{Scene}
 use Rattle.broadcast_world.specs.World.{NodeEvent, NodeHistory, addressed, at, made_by, may_be_refused, packets_by, packets_to, unless_refused}
 use Rattle.broadcast_world.specs.Packet.{Packet}
+use Rattle.broadcast_world.specs.Made.{no_content}
+use Rattle.broadcast_core.proofs.Following.{HasContent-empty}
 use Rattle.broadcast_world.specs.Steps.{NodeContent, NodeTakes, NodeFollows, ChangesNode, AtNode}
 use Rattle.broadcast_world.specs.declared.step.WorldAnswer.{WorldAnswer}
 use Rattle.broadcast_world.specs.declared.step.WorldAnswer.TheVariants.{Given, NoSuch}
@@ -101,3 +103,8 @@ module _ {P : Type 0} (cmp : P → P → Ordering) (w : Scene P) where
   pub made_by-quiet : (a : WorldAnswer) (named : Option P) (e : NodeEvent P) → ((n : P) → packets_by cmp w n e ≡ []) → made_by cmp w (unless_refused cmp w a (option_map (λ m. (m, e)) named)) ≡ []
   made_by-quiet a None e quiet = elim (unless-cases a None) [ inl is ↦ rw is refl | inr none ↦ rw none refl ]
   made_by-quiet a (Some n) e quiet = elim (unless-cases a (Some (n, e))) [ inl is ↦ rw is (quiet n) | inr none ↦ rw none refl ]
+
+  -- nothing has happened at any node
+  pub contents-empty : (keys : List P) → AllZip (λ n core. HasContent {V = ℕ} (at cmp w n) [] core) keys (map (λ n. no_content n w.deque_size) keys)
+  contents-empty [] = tt
+  contents-empty (n ∷ keys) = (HasContent-empty (at cmp w n) (no_content n w.deque_size) refl refl refl refl refl refl, contents-empty keys)

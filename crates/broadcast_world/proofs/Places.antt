@@ -1,8 +1,10 @@
 -- Keys at places, and lists that have something for each key.
 use Rattle.std.proofs.lemmas.Option.{slice_get-get_or, get_or_from_slice_get}
-use Rattle.std.proofs.Common.{◌≡◌, ℕ, ◌<◌, zero, suc, length, get_or, Bool, true, false, ◌||◌, cond, List, [], ◌∷◌, Option, Some, None, refl, sym, ap, ◌∙◌}
+use Rattle.std.proofs.Common.{◌≡◌, ℕ, ◌+◌, ◌<◌, zero, suc, length, get_or, map, take, Bool, true, false, List, [], ◌∷◌, ◌++◌, Option, Some, None, refl, sym, ap, ◌∙◌, arith}
+use Rattle.std.proofs.lemmas.List.{take_more, map-append}
+use Rattle.std.specs.Option.{option_map}
 use Rattle.std.specs.Prelude.{slice_set, is_some, IfSome, IsSomeAnd, MatchOption}
-use Rattle.std.specs.List.{AllZip, AllByRecursion, IsDistinct, find, list_any, slice_get}
+use Rattle.std.specs.List.{AllZip, AllByRecursion, IsDistinct, find, list_any, slice_get, zip}
 use Rattle.std.specs.List.Sorted.{IsStrictlySortedBy}
 use Rattle.std.specs.Cmp.{IsEquivalence, IsTotalOrder, eq_by_cmp_equiv}
 use Rattle.std.specs.Ordering.{eq_by_cmp}
@@ -85,3 +87,34 @@ set_same (y ∷ ys) (suc i) x h = ap (λ zs. y ∷ zs) (set_same ys i x h)
 -- what an index gives of keys that were searched
 pub key_read : {X : Type 0} (xs ys : List X) (i : ℕ) (x r : X) → slice_get ys i ≡ Some x → xs ≡ ys → r ≡ get_or xs i r → r ≡ x
 key_read xs ys i x r h e is = is ∙ ap (λ zs. get_or zs i r) e ∙ get_or_from_slice_get ys i x r h
+
+-- one more element of a list that a loop goes over
+pub map_next : {X Y : Type 0} (f : X → Y) (xs : List X) (i : ℕ) (x : X) → i < length xs → x ≡ get_or xs i x → map f (take (i + 1) xs) ≡ map f (take i xs) ++ f x ∷ []
+map_next f xs i x within is =
+    ap (map f) (take_more xs i x within ∙ ap (λ y. take i xs ++ y ∷ []) (sym is)) ∙ map-append f (take i xs) (x ∷ [])
+
+-- what a second list has for a key of the first
+module _ {P B : Type 0} (same : P → P → Bool) (laws : IsEquivalence same) where
+  pub find-zip : (p : P) (keys : List P) (ys : List B) (i : ℕ) (k : P) → IsDistinct same keys → length ys ≡ length keys → slice_get keys i ≡ Some k → same p k ≡ true
+      → option_map (λ e. e.1) (find (λ e. same p e.0) (zip keys ys)) ≡ slice_get ys i
+  unfolding IsDistinct
+  find-zip p [] ys i k apart long h e = absurd (let no = h in cc)
+  find-zip p (x ∷ xs) [] i k apart long h e = absurd (omega arith)
+  find-zip p (x ∷ xs) (y ∷ ys) zero k apart long h e = let is : x ≡ k = cc in rw (is, e) refl
+  find-zip p (x ∷ xs) (y ∷ ys) (suc i) k apart long h e =
+      let other : same x k ≡ false = at_place (λ z. same x z ≡ false) xs i k h apart.0 in
+      by_test (same p x)
+      (λ t. absurd (let both = sym (laws.congr p x k t) ∙ e in cc))
+      (λ t. rw t (find-zip p xs ys i k apart.1 (omega arith) h e))
+
+  pub find-zip-none : (p : P) (keys : List P) (ys : List B) → list_any (same p) keys ≡ false → option_map (λ e. e.1) (find (λ e. same p e.0) (zip keys ys)) ≡ None
+  find-zip-none p [] ys h = refl
+  find-zip-none p (x ∷ xs) [] h = refl
+  find-zip-none p (x ∷ xs) (y ∷ ys) h = let both = or_false (same p x) (list_any (same p) xs) h in rw both.0 (find-zip-none p xs ys both.1)
+
+-- the same, by what a search found
+pub found-zip : {P B : Type 0} {cmp : P → P → Ordering} (o : IsTotalOrder cmp) (p : P) (keys : List P) (ys : List B) (i : ℕ) → IsStrictlySortedBy cmp keys → length ys ≡ length keys
+    → IsSomeAnd (slice_get keys i) (λ q. eq_by_cmp cmp p q ≡ true) → option_map (λ e. e.1) (find (λ e. eq_by_cmp cmp p e.0) (zip keys ys)) ≡ slice_get ys i
+found-zip {P} {B} {cmp} o p keys ys i rises long place =
+    let placed = some_at (slice_get keys i) _ place in
+    find-zip (eq_by_cmp cmp) (eq_by_cmp_equiv o) p keys ys i placed.0 (IsDistinct-from_sorted cmp keys rises) long placed.1 placed.2

@@ -78,9 +78,9 @@ module _ {P : Type 0} (cmp : P → P → Ordering) (w : Scene P) where
           scene = refl;
           answered = rw is done.0;
           world = record {
-              cores = rw (done.0, is, done.1) has.cores;
-              packets = rw (done.0, is) (made ∙ rw done.0 (ap (λ ps. ps ++ []) has.packets));
-            };
+            cores = rw (done.0, is, done.1) has.cores;
+            packets = rw (done.0, is) (made ∙ rw done.0 (ap (λ ps. ps ++ []) has.packets));
+          };
         }
     TakesStep-at log step answer (Some e) old_cores new_cores old_packets new_packets is done made has =
         let was = AllZip-at (λ q core. HasContent (at cmp w q) (history cmp w q log) core) w.nodes old_cores done.2.place e.0 done.2.before has.cores done.2.is_node done.2.was in
@@ -89,9 +89,9 @@ module _ {P : Type 0} (cmp : P → P → Ordering) (w : Scene P) where
           scene = refl;
           answered = rw (is, done.1) now.answered;
           world = record {
-              cores = rw (done.1, is) (contents e.0 e.1 done.0 (λ q. history cmp w q log) old_cores new_cores has.cores done.2);
-              packets = rw (done.1, is) (made ∙ rw done.1 (ap (λ ps. ps ++ made_by cmp w (unless_refused cmp w (Given done.0) (Some e))) has.packets));
-            };
+            cores = rw (done.1, is) (contents e.0 e.1 done.0 (λ q. history cmp w q log) old_cores new_cores has.cores done.2);
+            packets = rw (done.1, is) (made ∙ rw done.1 (ap (λ ps. ps ++ made_by cmp w (unless_refused cmp w (Given done.0) (Some e))) has.packets));
+          };
         }
 
   -- as many contents as before

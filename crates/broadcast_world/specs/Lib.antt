@@ -2,3 +2,4 @@ pub mod Packet
 pub mod Scene
 pub mod World
 pub mod Steps
+pub mod Made

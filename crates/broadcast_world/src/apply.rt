@@ -30,7 +30,7 @@ pub fn apply<P: NodeKey>(
         → AtNode P.cmp w (event_of P.cmp w step.now packets.old.items) cores.old.items cores.new.items result }
     ensures packets { (w : Scene P) → w.nodes ≡ nodes.now → w.hostile ≡ hostile.now → w.range ≡ range.now
         → packets.new.items ≡ packets.old.items
-            ++ made_by P.cmp w (unless_refused P.cmp w result (event_of P.cmp w step.now packets.old.items)) }
+        ++ made_by P.cmp w (unless_refused P.cmp w result (event_of P.cmp w step.now packets.old.items)) }
 {
     match step {
         Step::Peers(key, peers) => nodes::peers(nodes, cores, key, peers),
@@ -44,7 +44,16 @@ pub fn apply<P: NodeKey>(
         Step::Cleanup(key, gone) => nodes::cleanup(nodes, cores, key, gone.as_slice()),
         Step::Deliver(number) => deliver(alloc, nodes, range, cores, packets, *number),
         Step::Hostile { from, to, bytes } => {
-            attack(alloc, nodes, hostile, range, cores, from, to, bytes.as_slice())
+            attack(
+                alloc,
+                nodes,
+                hostile,
+                range,
+                cores,
+                from,
+                to,
+                bytes.as_slice(),
+            )
         }
     }
 }
@@ -90,8 +99,8 @@ fn attack<P: NodeKey>(
     requires { length cores.old.items ≡ length nodes.now }
     ensures { (w : Scene P) → w.nodes ≡ nodes.now → w.hostile ≡ hostile.now → w.range ≡ range.now
         → AtNode P.cmp w
-            (if list_any (eq_by_cmp P.cmp from.now) w.hostile then event_at P.cmp w to.now (event.Payload from.now bytes.now) else None)
-            cores.old.items cores.new.items result }
+        (if list_any (eq_by_cmp P.cmp from.now) w.hostile then event_at P.cmp w to.now (event.Payload from.now bytes.now) else None)
+        cores.old.items cores.new.items result }
 {
     if hostile.position(from).is_none() {
         return WorldAnswer::NoSuch;

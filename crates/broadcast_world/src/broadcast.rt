@@ -35,7 +35,7 @@ pub fn broadcast<P: NodeKey>(
         → AtNode P.cmp w (event_at P.cmp w key.now (event.Broadcast recipients.now message.now)) cores.old.items cores.new.items result }
     ensures packets { (w : Scene P) → w.nodes ≡ nodes.now
         → packets.new.items ≡ packets.old.items
-            ++ made_by P.cmp w (unless_refused P.cmp w result (event_at P.cmp w key.now (event.Broadcast recipients.now message.now))) }
+        ++ made_by P.cmp w (unless_refused P.cmp w result (event_at P.cmp w key.now (event.Broadcast recipients.now message.now))) }
 {
     let Some(place) = place_of(nodes, key) else {
         return WorldAnswer::NoSuch;

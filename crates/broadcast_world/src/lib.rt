@@ -3,7 +3,9 @@
 
 mod apply;
 mod broadcast;
+mod error;
 mod key;
+mod made;
 mod node;
 mod nodes;
 mod packet;
@@ -11,6 +13,7 @@ mod run;
 mod state;
 mod step;
 
+pub use error::WorldError;
 pub use key::NodeKey;
 pub use run::run_world;
 pub use state::World;

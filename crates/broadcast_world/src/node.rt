@@ -10,9 +10,7 @@ ghost use Rattle.broadcast_core.specs.declared.event.Event.TheVariants as event;
 
 use crate::key::NodeKey;
 use broadcast_core::runner::apply;
-use broadcast_core::{
-    Answer, Cause, Core, Digested, PublicKey, RangeCfg, Set, TestMessage,
-};
+use broadcast_core::{Answer, Cause, Core, Digested, PublicKey, RangeCfg, Set, TestMessage};
 use std::alloc::{AllocError, Global};
 
 /// Drops the waiters with these tickets.

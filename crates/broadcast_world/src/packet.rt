@@ -142,7 +142,7 @@ fn is_same<P: NodeKey>(key: &P, other: &P) -> bool
 }
 
 /// Returns whether a key equal to this one is among the keys.
-fn is_among<P: NodeKey>(keys: &[P], key: &P) -> bool
+pub fn is_among<P: NodeKey>(keys: &[P], key: &P) -> bool
     ensures { result ≡ list_any (λ k. eq_by_cmp P.cmp k key.now) keys.now }
 {
     keys.iter().any(|k| is_same(k, key))
