@@ -1,20 +1,20 @@
 -- Keys in rising order, each of them once.
-use Rattle.std.proofs.Common.{◌≡◌, ℕ, zero, suc, ◌+◌, ◌<◌, Bool, true, false, List, [], ◌∷◌, length, get_or, Result, Ok, Err, is_some, refl, sym, ap, ◌∙◌, arith, inl, inr}
+use Rattle.std.proofs.Common.{◌≡◌, ℕ, zero, suc, ◌+◌, ◌<◌, Bool, true, false, not, ◌&&◌, Option, Some, None, List, [], ◌∷◌, length, get_or, Result, Ok, Err, is_some, refl, sym, ap, ◌∙◌, arith, inl, inr}
 use Rattle.std.specs.Prelude.{IfSome, IfOk, IsSomeAnd}
 use Rattle.std.specs.Cmp.{IsTotalOrder, IsEquivalence, Equal-is}
-use Rattle.std.specs.List.{All, AllByRecursion, AllZip, HoldsAt, list_any, slice_get, dedup}
-use Rattle.std.specs.List.Sorted.{IsSorted, IsStrictlySortedBy, IsBinarySearchResult, IsSearchInRange}
+use Rattle.std.specs.List.{All, AllByRecursion, AllZip, HoldsAt, filter, find, list_any, slice_get, dedup, dedup_from}
+use Rattle.std.specs.List.Sorted.{IsSorted, IsStable, IsStrictlySortedBy, ties, IsBinarySearchResult, IsSearchInRange}
 use Rattle.std.specs.Ordering.{eq_by_cmp, is_eq, is_lt, ordering_reverse}
 use Rattle.std.specs.Result.{result_ok}
 use Rattle.std.specs.declared.cmp.Ordering.{Ordering}
-use Rattle.std.specs.declared.cmp.Ordering.TheVariants.{Less, Equal}
+use Rattle.std.specs.declared.cmp.Ordering.TheVariants.{Less, Equal, Greater}
 use Rattle.std.proofs.lemmas.Bool.{cases_lt}
 use Rattle.std.proofs.lemmas.Cmp.{eq_by_cmp_equiv, tied_back, alike_right}
 use Rattle.std.proofs.lemmas.List.Folds.{Any-from_list_any, list_any-from_Any, list_any_at, list_any_none}
 use Rattle.std.proofs.lemmas.List.Kept.{Any-dedup, Contains-from_dedup}
 use Rattle.std.proofs.lemmas.List.Sorted.{searchable_from_sorted}
 use Rattle.std.proofs.lemmas.Map.Keys.{Less-from_sorted}
-use Rattle.broadcast_core.proofs.Distinct.{same_truth}
+use Rattle.broadcast_core.proofs.Distinct.{by_test, same_truth}
 
 -- what is left of the keys has a key equal to each of them, and no other
 pub list_any-dedup : {K : Type 0} {R : K → K → Ordering} (o : IsTotalOrder R) {E : K → K → Bool} (e : IsEquivalence E) → ((x y : K) → E x y ≡ eq_by_cmp R x y) → (xs : List K) (q : K) → list_any (eq_by_cmp R q) (dedup E xs) ≡ list_any (eq_by_cmp R q) xs
@@ -86,3 +86,46 @@ module _ {K : Type 0} {R : K → K → Ordering} (o : IsTotalOrder R) (Copies : 
   rises_from_copies (x ∷ xs) [] all rises = absurd all
   rises_from_copies (x ∷ xs) (y ∷ ys) all rises =
       (below_copies x y xs ys all.0 all.1 rises.0, rises_from_copies xs ys all.1 rises.1)
+
+-- ---- the first of equal keys
+
+abbrev first : {K : Type 0} → List K → Option K
+first [] = None
+first (x ∷ xs) = Some x
+
+find-first : {K : Type 0} (p : K → Bool) (xs : List K) → find p xs ≡ first (filter p xs)
+find-first p [] = refl
+find-first p (x ∷ xs) = by_test (p x) (λ h. rw h refl) (λ h. rw h (find-first p xs))
+
+find-same : {K : Type 0} (p q : K → Bool) → ((x : K) → p x ≡ q x) → (xs : List K) → find p xs ≡ find q xs
+find-same p q same [] = refl
+find-same p q same (x ∷ xs) = rw (same x, find-same p q same xs) refl
+
+not_apart : (o : Ordering) → (not (is_lt o) && not (is_lt (ordering_reverse o))) ≡ is_eq o
+not_apart Less = refl
+not_apart Equal = refl
+not_apart Greater = refl
+
+-- what a stable sort leaves has the same first key of those that equal q
+find-sorted : {K : Type 0} {R : K → K → Ordering} (o : IsTotalOrder R) (xs ys : List K) (q : K) → IsStable R xs ys → find (eq_by_cmp R q) ys ≡ find (eq_by_cmp R q) xs
+find-sorted {K} {R} o xs ys q stable =
+    let tied : K → Bool = ties (λ x y. is_lt (R x y)) q in
+    let is : (x : K) → tied x ≡ eq_by_cmp R q x = λ x. ap (λ r. not (is_lt (R q x)) && not (is_lt r)) (o.antisymm x q) ∙ not_apart (R q x) in
+    sym (find-same tied (eq_by_cmp R q) is ys) ∙ find-first tied ys ∙ ap first (stable q) ∙ sym (find-first tied xs) ∙ find-same tied (eq_by_cmp R q) is xs
+
+module _ {K : Type 0} (E : K → K → Bool) (p : K → Bool) (congr : (x y : K) → E x y ≡ true → p x ≡ p y) where
+  find-dedup_from : (k : K) (xs : List K) → find p (dedup_from E k xs) ≡ find p (k ∷ xs)
+  find-dedup_from k [] = refl
+  find-dedup_from k (x ∷ xs) = by_test (E x k)
+      (λ h. rw (h, find-dedup_from k xs) (by_test (p k) (λ t. rw t refl) (λ t. rw (t, congr x k h, t) refl)))
+      (λ h. rw (h, find-dedup_from x xs) refl)
+
+  find-dedup : (xs : List K) → find p (dedup E xs) ≡ find p xs
+  find-dedup [] = refl
+  find-dedup (x ∷ xs) = find-dedup_from x xs
+
+-- of equal keys, the first of them is left
+pub find-sort_dedup : {K : Type 0} {R : K → K → Ordering} (o : IsTotalOrder R) {E : K → K → Bool} → ((x y : K) → E x y ≡ eq_by_cmp R x y) → (xs ys : List K) → IsStable R xs ys → (q : K) → find (eq_by_cmp R q) (dedup E ys) ≡ find (eq_by_cmp R q) xs
+find-sort_dedup {K} {R} o {E} ties xs ys stable q =
+    find-dedup E (eq_by_cmp R q) (λ x y e. let equal = eq_by_cmp_equiv o in equal.symm q x ∙ equal.congr x y q (sym (ties x y) ∙ e) ∙ equal.symm y q) ys
+    ∙ find-sorted o xs ys q stable

@@ -1,12 +1,13 @@
 -- Worked rows, computed from the definitions: messages are pairs of numbers, of which the second is the digest.
 use Rattle.std.specs.Prelude.{◌≡◌, ℕ, ◌==◌, false, List, [], ◌∷◌, map, None, Some, Result, Ok, Err}
 use Rattle.broadcast_core.specs.Carried.{Carried}
-use Rattle.broadcast_core.specs.History.{Setting}
-use Rattle.broadcast_core.specs.Happening.{Happening, after}
+use Rattle.broadcast_core.specs.Setting.{Setting}
+use Rattle.broadcast_core.specs.Happening.{History}
+use Rattle.broadcast_core.specs.Log.{after}
+use Rattle.broadcast_core.specs.Answers.{answer_to}
 use Rattle.broadcast_core.specs.Lists.{list}
 use Rattle.broadcast_core.specs.Waiting.{waiting}
 use Rattle.broadcast_core.specs.Sent.{sent}
-use Rattle.broadcast_core.specs.Answers.{answer_to}
 use Rattle.broadcast_core.specs.declared.codec.CodecError.{CodecError}
 use Rattle.broadcast_core.specs.declared.codec.CodecError.TheVariants.{EndOfBuffer}
 use Rattle.broadcast_core.specs.declared.event.Event.{Event}
@@ -41,7 +42,7 @@ abbrev Events : Type 0
 Events = List (Event ℕ Message ℕ)
 
 abbrev Happenings : Type 0
-Happenings = List (Happening ℕ Message ℕ ℕ ℕ)
+Happenings = History ℕ Message ℕ ℕ ℕ
 
 -- the answers after a history, where memory is ample
 abbrev answers_after : ℕ → Happenings → Events → List (Answer Message ℕ)

@@ -1,4 +1,4 @@
-//! Messages as bytes.
+//! The encoding of messages as bytes.
 ghost use Rattle.std.specs.Prelude.{◌≡◌, ℕ, ◌≤◌, ◌++◌, ◌↔◌, List, length, IsTrue, Option, Some, None, Result, Ok, Err};
 ghost use Rattle.std.specs.Option.{option_map};
 ghost use Rattle.broadcast_core.specs.declared.codec.CodecError.{CodecError};
@@ -7,26 +7,24 @@ ghost use Rattle.broadcast_core.specs.Codec.{Appends, IsRefusal, layout_of, whol
 use std::alloc::{AllocError, Global};
 use thiserror::Error;
 
-mod byte_list;
+pub mod byte_list;
 
-pub(crate) use byte_list::{list_at, list_size, put_list};
-
-/// Why bytes are no message, or a message has no bytes.
+/// The reason why bytes do not decode, or a message does not encode.
 #[derive(Clone, Copy, Debug, PartialEq, Eq, Error)]
 pub enum CodecError {
     /// The bytes end too early.
     #[error("the bytes end too early")]
     EndOfBuffer,
-    /// A length is out of the range.
+    /// A length is out of its range.
     #[error("a length of {0} is out of the range")]
     InvalidLength(usize),
-    /// So many bytes are left over.
+    /// This number of bytes follows the message.
     #[error("{0} bytes are left over")]
     ExtraData(usize),
     /// The message has no encoding.
     #[error("the message has no encoding")]
     Unencodable,
-    /// There was no memory.
+    /// An allocation failed.
     #[error("out of memory")]
     Memory,
 }
@@ -39,8 +37,8 @@ impl From<AllocError> for CodecError {
     }
 }
 
-/// The lengths that a byte list may have, both ends inclusive. With `min` above `max` it may have
-/// none.
+/// The range of lengths that a byte list may have, both ends included. It is empty if `min` is
+/// above `max`.
 #[derive(Clone, Copy, Debug, PartialEq, Eq)]
 pub struct RangeCfg {
     /// The least length.
@@ -50,21 +48,21 @@ pub struct RangeCfg {
 }
 
 impl RangeCfg {
-    /// The lengths from `min` to `max`.
+    /// Creates the range from `min` to `max`.
     pub const fn new(min: usize, max: usize) -> Self
         ensures { result ≡ record { min = min; max = max } }
     {
         RangeCfg { min, max }
     }
 
-    /// Every length.
+    /// Creates the range of all lengths.
     pub const fn any() -> Self
         ensures { result ≡ record { min = 0; max = usize.MAX } }
     {
         RangeCfg::new(0, usize::MAX)
     }
 
-    /// Whether the length is in the range.
+    /// Returns whether `n` is in the range.
     pub fn contains(&self, n: usize) -> bool
         ensures { IsTrue result ↔ ((self.now.min ≤ n) × (n ≤ self.now.max)) }
     {
@@ -72,63 +70,65 @@ impl RangeCfg {
     }
 }
 
-/// What can be written as bytes.
+/// A type whose values are written as bytes.
 pub trait Write {
-    /// The value's encoding, where it has one.
+    /// The encoding of a value, if it has one.
     ghost encoding: { Self → Option (List ℕ) };
 
-    /// Appends the encoding. Refused, it leaves `out` as it was.
+    /// Appends the encoding to `out`. On an error `out` stays as it was.
     fn write(&self, out: &mut Vec<u8>) -> Result<(), CodecError>
         ensures written { Appends (encoding self.now) out.old.items out.new.items result }
         ensures unencodable { result ≡ Err CodecError.Unencodable ↔ (encoding self.now ≡ None) };
 }
 
-/// What knows the length of its encoding.
+/// A type whose values know the length of their encoding.
 pub trait EncodeSize: Write {
-    /// The length of the encoding in bytes, or `None` where there is none. Takes no memory.
+    /// Returns the length of the encoding in bytes, or `None` if there is none. Does not allocate.
     fn encode_size(&self) -> Option<usize>
         ensures { result ≡ option_map length (Self.encoding self.now) };
 }
 
-/// What can be read from bytes.
+/// A type whose values are read from bytes.
 pub trait Read {
-    /// What may be read.
+    /// The limits on the values that are read.
     type Cfg;
 
-    /// The value that stands in front of the bytes, with how many of them it takes, or the first
-    /// refusal in reading order.
+    /// The value at the front of the bytes and the number of bytes that it takes, or the first
+    /// error in reading order.
     ghost reading: { Self.Cfg → List ℕ → Result (Self × ℕ) CodecError };
 
-    /// How many bytes in front the value takes. Builds nothing and takes no memory.
+    /// Returns the number of bytes that the value at the front takes. Does not allocate.
     fn layout(buf: &[u8], cfg: &Self::Cfg) -> Result<usize, CodecError>
         ensures { result ≡ layout_of (reading cfg.now buf.now) };
 
-    /// The value in front, and how many bytes it takes. Memory may lack where nothing else refuses.
+    /// Reads the value at the front, and returns it with the number of bytes that it takes. An
+    /// allocation fails only if there is no other error.
     fn read_cfg(alloc: Global, buf: &[u8], cfg: &Self::Cfg) -> Result<(Self, usize), CodecError>
     where
         Self: Sized,
         ensures { GivesOrLacks result (reading cfg.now buf.now) };
 
-    /// A value takes no more bytes than there are.
+    /// A value takes at most the bytes that there are.
     ghost within: { (cfg : Self.Cfg) (bytes : List ℕ) (v : Self) (n : ℕ)
         → reading cfg bytes ≡ Ok (v, n) → n ≤ length bytes };
 
-    /// Bytes are refused as too few, or for a length out of the range.
+    /// The bytes end too early, or a length is out of its range.
     ghost refusals: { (cfg : Self.Cfg) (bytes : List ℕ) (e : CodecError)
         → reading cfg bytes ≡ Err e → IsRefusal e };
 }
 
-/// What reads as what it was written from.
+/// A type whose encoding decodes to the value that was encoded.
 pub trait Codec: Write + EncodeSize + Read {
-    /// Where a value's encoding, followed by any bytes, is read, the value and the length of its
-    /// encoding are read.
+    /// What is read from the encoding of a value, followed by any bytes, is the value and the
+    /// length of its encoding.
     ghost reads_back: { (cfg : Self.Cfg) (v w : Self) (encoded rest : List ℕ) (n : ℕ)
         → Self.encoding v ≡ Some encoded → Self.reading cfg (encoded ++ rest) ≡ Ok (w, n)
         → (w ≡ v) × (n ≡ length encoded) };
 }
 
-/// The value that all of the bytes are. The layout and the bytes left over are judged before
-/// anything is allocated.
+/// Decodes all of the bytes as one value.
+///
+/// The layout and the number of bytes are checked before anything is allocated.
 pub fn decode_cfg<M: Read + Drop>(alloc: Global, buf: &[u8], cfg: &M::Cfg) -> Result<M, CodecError>
     ensures { GivesOrLacks result (whole (M.reading cfg.now) buf.now) }
 {

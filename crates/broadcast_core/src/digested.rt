@@ -11,22 +11,22 @@ use std::hash::Hash;
 use std::marker::Model;
 use std::sync::Arc;
 
-/// A message that has a digest of its own.
+/// A message that computes its own digest.
 pub trait Digestible: Drop {
-    /// What names a message: digests that compare equal name one message.
+    /// The name of a message. Digests that compare equal name the same message.
     type Digest: Copy + Ord + Eq + Hash + Send + Sync;
 
-    /// The message's own digest.
+    /// The own digest.
     ghost digest_of: { Self → Self.Digest };
 
-    /// The message's own digest. Takes no memory.
+    /// Computes the own digest. Does not allocate.
     fn digest(&self) -> Self::Digest
         ensures { result ≡ digest_of self.now };
 }
 
 /// A message, shared between its copies, with the digest that it goes by.
 ///
-/// A digest that is handed in is taken as it is, whether or not it is the message's own.
+/// A digest that is passed in is not checked against the message.
 #[derive(Drop)]
 #[derive_where(Debug; M, M::Digest)]
 pub struct Digested<M: Digestible> {
@@ -44,7 +44,7 @@ impl<M: Digestible> Model for Digested<M> {
 }
 
 impl<M: Digestible> Digested<M> {
-    /// The message under the digest that is handed in.
+    /// Creates a message with `digest`, without computing one.
     pub fn precomputed(alloc: Global, message: M, digest: M::Digest) -> Result<Self, AllocError>
         ensures { IfOk result (λ it. it ≡ record { message = message; digest = digest }) }
     {
@@ -54,36 +54,37 @@ impl<M: Digestible> Digested<M> {
         })
     }
 
-    /// The shared message under the digest that is handed in. Takes no memory.
+    /// Creates a message with `digest` from one that is shared already. Does not allocate.
     pub fn precomputed_shared(message: Arc<M>, digest: M::Digest) -> Self
         ensures { result ≡ record { message = arc_value message; digest = digest } }
     {
         Digested { message, digest }
     }
 
-    /// The message under its own digest.
+    /// Creates a message with its own digest.
     pub fn compute(alloc: Global, message: M) -> Result<Self, AllocError>
-        ensures { IfOk result (λ it. it ≡ record { message = message; digest = M.digest_of message }) }
+        ensures { IfOk result (λ it.
+            it ≡ record { message = message; digest = M.digest_of message }) }
     {
         let digest = message.digest();
         Digested::precomputed(alloc, message, digest)
     }
 
-    /// The message.
+    /// Returns the message.
     pub fn inner(&self) -> &M
         ensures { result.now ≡ self.now.message }
     {
         &self.message
     }
 
-    /// The digest that the message goes by.
+    /// Returns the digest that the message goes by.
     pub fn digest(&self) -> M::Digest
         ensures { result ≡ self.now.digest }
     {
         self.digest
     }
 
-    /// The message, shared with this one.
+    /// Returns the message, shared with this one.
     pub fn inner_shared(&self) -> Result<Arc<M>, AllocError>
         ensures { IfOk result (λ message. arc_value message ≡ self.now.message) }
     {
@@ -94,7 +95,7 @@ impl<M: Digestible> Digested<M> {
 impl<M: Digestible> Clone for Digested<M> {
     ghost is_clone = { λ message copy. copy ≡ message };
 
-    /// A copy that shares the message, or no memory for it.
+    /// Returns a copy that shares the message.
     fn clone(&self) -> Result<Self, AllocError> {
         Ok(Digested {
             message: Arc::try_clone(&self.message)?,
@@ -128,7 +129,7 @@ impl<M: Digestible + Write> Write for Digested<M> {
 }
 
 impl<M: Digestible + EncodeSize> EncodeSize for Digested<M> {
-    /// The length of the message's encoding.
+    /// Returns the length of the encoding of the message.
     fn encode_size(&self) -> Option<usize> {
         self.message.encode_size()
     }

@@ -1,4 +1,4 @@
-//! What happens to a core, and what it answers.
+//! Events, which change a core, and their answers.
 use crate::buffer::Core;
 use crate::codec::CodecError;
 use crate::digested::{Digested, Digestible};
@@ -6,30 +6,30 @@ use crate::items::Items;
 use crate::ordered::{PublicKey, Recipients, Set};
 use crate::outcome::Outcome;
 
-/// What happens to a core.
+/// An event, which changes or reads a core.
 #[derive(Drop)]
 #[derive_where(Clone)]
 #[derive_where(Debug; P, M, M::Digest)]
 #[derive_where(PartialEq, Eq; M)]
 pub enum Event<P: PublicKey, M: Digestible> {
-    /// These peers are the primary ones from now on.
+    /// These peers become the primary ones.
     Peers(Set<P>),
     /// The application broadcasts the message to the recipients.
     Broadcast(Recipients<P>, Digested<M>),
     /// The peer sends these bytes.
     Payload(P, Items<u8>),
-    /// The application waits, under the ticket, for the digest's message.
+    /// The application waits for the message of the digest, under the ticket.
     Subscribe(u64, M::Digest),
-    /// The application asks, under the ticket, for the digest's cached message.
+    /// The application asks for the cached message of the digest, under the ticket.
     Get(u64, M::Digest),
-    /// Those who wait under these tickets are gone.
+    /// The waiters with these tickets are gone.
     Cleanup(Items<u64>),
 }
 
-/// Why an event was refused.
+/// The reason why an event was refused.
 #[derive(Clone, Copy, Debug, PartialEq, Eq)]
 pub enum Cause {
-    /// There was no memory.
+    /// An allocation failed.
     Memory,
     /// The message has no encoding.
     Unencodable,
@@ -41,49 +41,49 @@ pub enum Cause {
 #[derive_where(Debug; M, M::Digest)]
 #[derive_where(PartialEq, Eq; M)]
 pub enum Answer<M: Digestible> {
-    /// The peer set was taken.
+    /// The peers are the primary ones.
     Peers,
-    /// A message was taken.
+    /// The message was taken.
     Taken {
-        /// What it came to.
+        /// What happened to the list of the key.
         outcome: Outcome,
-        /// The tickets that waited for its digest, in the order of their subscribes.
+        /// The tickets of the waiters of its digest, in the order of their subscribes.
         served: Items<u64>,
-        /// The message, which is the reply to each of them.
+        /// The message, with which each of them is served.
         message: Digested<M>,
     },
-    /// The payload is no message.
+    /// The payload does not decode.
     Invalid(CodecError),
     /// The subscribe waits.
     Waiting,
-    /// The subscribe's reply, from the cache.
+    /// The subscribe is answered from the cache.
     Answered(Digested<M>),
-    /// The get's reply, from the cache.
+    /// The cached message, if there is one.
     Got(Option<Digested<M>>),
-    /// So many who waited were dropped.
+    /// The number of waiters that were dropped, at most `u64::MAX`.
     Removed(u64),
-    /// The event changed nothing, and counts as none.
+    /// The event changed nothing, as if it had not happened.
     Refused(Cause),
 }
 
-/// What the network is handed.
+/// A message that is sent to the network.
 #[derive(Clone, Debug, PartialEq, Eq, Drop)]
 pub struct Sent<P> {
-    /// Whom it is for.
+    /// The peers that it is for.
     pub recipients: Recipients<P>,
     /// The encoding of the message.
     pub bytes: Items<u8>,
-    /// The flag that the run was given.
+    /// Whether it goes before other messages.
     pub priority: bool,
 }
 
-/// What a run leaves.
+/// The result of running events.
 #[derive(Drop)]
 pub struct Run<P: PublicKey, M: Digestible> {
-    /// The core after the last event. Its waiters are the tickets.
+    /// The core after the last event. Its waiters are tickets.
     pub core: Core<P, M, u64>,
-    /// The answers, one for each event.
+    /// One answer for each event, in order.
     pub answers: Items<Answer<M>>,
-    /// What the network is handed, in order.
+    /// The messages that are sent, in order.
     pub sent: Items<Sent<P>>,
 }

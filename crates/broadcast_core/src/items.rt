@@ -11,8 +11,8 @@ use std::alloc::{AllocError, AllocFailed, Global};
 use std::marker::Model;
 use std::{slice, vec};
 
-/// A vector, seen by contracts as the list of its elements: where it lies and how many places it
-/// has are left out, so that two of them are equal where their elements are.
+/// A vector that contracts see as the list of its elements, without its capacity: two of them are
+/// the same if their elements are.
 #[derive(Debug, Drop)]
 pub struct Items<T> {
     elements: Vec<T>,
@@ -25,7 +25,7 @@ impl<T> Model for Items<T> {
 }
 
 impl<T> Items<T> {
-    /// No elements. Takes no memory.
+    /// Creates an empty list. Does not allocate.
     pub fn new(alloc: Global) -> Self
         ensures { result ≡ [] }
     {
@@ -34,14 +34,14 @@ impl<T> Items<T> {
         }
     }
 
-    /// The elements of the vector.
+    /// Creates a list of the elements. Does not allocate.
     pub fn from_vec(elements: Vec<T>) -> Self
         ensures { result ≡ elements.items }
     {
         Items { elements }
     }
 
-    /// The vector of the elements.
+    /// Returns the elements as a vector. Does not allocate.
     pub fn into_vec(self) -> Vec<T>
         ensures { result.items ≡ self }
     {
@@ -49,7 +49,7 @@ impl<T> Items<T> {
         elements
     }
 
-    /// How many elements there are.
+    /// Returns the number of elements.
     pub fn len(&self) -> usize
         ensures { result ≡ length self.now }
     {
@@ -77,16 +77,16 @@ impl<T> Items<T> {
         self.elements.iter()
     }
 
-    /// Puts an element behind the others. Without memory the list stays, and the element comes back.
-    pub fn push(&mut self, element: T) -> Result<(), AllocFailed<T>>
+    /// Appends an element. On an allocation failure the element is returned and nothing changes.
+    pub(crate) fn push(&mut self, element: T) -> Result<(), AllocFailed<T>>
         ensures ok { OnOk result (self.new ≡ self.old ++ element ∷ []) }
         ensures err { IfErr result (λ refused. (refused.value ≡ element) × (self.new ≡ self.old)) }
     {
         self.elements.push(element)
     }
 
-    /// Keeps the elements that pass, in order. Takes no memory.
-    pub fn retain<F: FnMut(&T) -> bool>(&mut self, keep: F)
+    /// Keeps the elements for which `keep` returns true, in order. Does not allocate.
+    pub(crate) fn retain<F: FnMut(&T) -> bool>(&mut self, keep: F)
     where
         T: Drop,
         requires { F.IsAlwaysCallable keep }

@@ -17,7 +17,7 @@ mod rows;
 pub mod runner;
 
 pub use buffer::Core;
-pub use codec::{Codec, CodecError, EncodeSize, RangeCfg, Read, Write, decode_cfg};
+pub use codec::{Codec, CodecError, EncodeSize, RangeCfg, Read, Write, byte_list, decode_cfg};
 pub use digested::{Digested, Digestible};
 pub use event::{Answer, Cause, Event, Run, Sent};
 pub use items::Items;

@@ -6,12 +6,10 @@ ghost use Rattle.std.specs.Cmp.Rules.{comparing};
 ghost use Rattle.std.proofs.Common.{rules};
 ghost use Rattle.sha2.specs.Sha256.{sha256};
 ghost use Rattle.broadcast_core.specs.Codec.{layout_of, Gives, GivesOrLacks};
-ghost use Rattle.broadcast_core.specs.TestMessage.{Parts, encoding_of, message_at, Begins, IsRefused};
+ghost use Rattle.broadcast_core.specs.TestMessage.{Parts, encoding_of, read_message, Begins, IsRefused};
 ghost use Rattle.broadcast_core.specs.CodecLaws.{message_within, message_refusals, message_reads_back};
 
-use crate::codec::{
-    Codec, CodecError, EncodeSize, RangeCfg, Read, Write, list_at, list_size, put_list,
-};
+use crate::codec::{Codec, CodecError, EncodeSize, RangeCfg, Read, Write, byte_list};
 use crate::digested::Digestible;
 use sha2::{Digest, Sha256};
 use std::alloc::{AllocError, Global};
@@ -20,9 +18,9 @@ use std::marker::Model;
 /// A message of two byte lists. Its digest is that of its content alone.
 #[derive(Debug, Drop)]
 pub struct TestMessage {
-    /// What the message is said to commit to.
+    /// The commitment, which the digest leaves out.
     pub commitment: Vec<u8>,
-    /// What the message says.
+    /// The content.
     pub content: Vec<u8>,
 }
 
@@ -35,7 +33,7 @@ impl Model for TestMessage {
 }
 
 impl TestMessage {
-    /// A message of the two byte lists. Takes no memory.
+    /// Creates a message of the two byte lists. Does not allocate.
     pub fn new(commitment: Vec<u8>, content: Vec<u8>) -> Self
         ensures { result ≡ record { commitment = commitment.items; content = content.items } }
     {
@@ -45,9 +43,10 @@ impl TestMessage {
         }
     }
 
-    /// A message whose commitment is its content.
+    /// Creates a message whose commitment is its content.
     pub fn shared(alloc: Global, message: Vec<u8>) -> Result<Self, AllocError>
-        ensures { IfOk result (λ m. m ≡ record { commitment = message.items; content = message.items }) }
+        ensures { IfOk result (λ m.
+            m ≡ record { commitment = message.items; content = message.items }) }
     {
         let commitment = Vec::from_slice(alloc, &message)?;
         Ok(TestMessage::new(commitment, message))
@@ -57,7 +56,7 @@ impl TestMessage {
 impl Clone for TestMessage {
     ghost is_clone = { λ message copy. copy ≡ message };
 
-    /// A copy of both lists, or no memory for it.
+    /// Returns a copy of both lists.
     fn clone(&self) -> Result<Self, AllocError> {
         Ok(TestMessage::new(self.commitment.clone()?, self.content.clone()?))
     }
@@ -68,7 +67,7 @@ impl PartialEq for TestMessage {
 
     ghost laws = { Prim.search (comparing, rules) };
 
-    /// Whether both lists are the same bytes.
+    /// Returns whether both lists have the same bytes.
     fn eq(&self, other: &Self) -> bool {
         self.commitment == other.commitment && self.content == other.content
     }
@@ -83,7 +82,7 @@ impl Digestible for TestMessage {
 
     ghost digest_of = { λ m. sha256 m.content };
 
-    /// The SHA-256 digest of the content alone.
+    /// Computes the SHA-256 digest of the content alone.
     fn digest(&self) -> [u8; 32] {
         Sha256::digest(&self.content)
     }
@@ -92,23 +91,23 @@ impl Digestible for TestMessage {
 impl Write for TestMessage {
     ghost encoding = { encoding_of };
 
-    /// Appends the commitment, then the content. A list of more than 4,294,967,295 bytes cannot be
-    /// written.
+    /// Appends the commitment, then the content. A list of more than 4,294,967,295 bytes has no
+    /// encoding.
     fn write(&self, out: &mut Vec<u8>) -> Result<(), CodecError> {
         let size = self.encode_size().ok_or(CodecError::Unencodable)?;
         // Nothing is written before there is room for all of it.
         out.reserve(size)?;
-        put_list(out, &self.commitment);
-        put_list(out, &self.content);
+        byte_list::write_reserved(&self.commitment, out);
+        byte_list::write_reserved(&self.content, out);
         Ok(())
     }
 }
 
 impl EncodeSize for TestMessage {
-    /// The length of the encoding, or `None` where a list has more than 4,294,967,295 bytes.
+    /// Returns the length of the encoding, or `None` if a list has more than 4,294,967,295 bytes.
     fn encode_size(&self) -> Option<usize> {
-        let commitment = list_size(&self.commitment)?;
-        let content = list_size(&self.content)?;
+        let commitment = byte_list::encode_size(&self.commitment)?;
+        let content = byte_list::encode_size(&self.content)?;
         Some(commitment + content)
     }
 }
@@ -116,32 +115,34 @@ impl EncodeSize for TestMessage {
 impl Read for TestMessage {
     type Cfg = RangeCfg;
 
-    ghost reading = { message_at };
+    ghost reading = { read_message };
 
-    /// How many bytes in front the message takes.
+    /// Returns the number of bytes that the message at the front takes.
     fn layout(buf: &[u8], cfg: &RangeCfg) -> Result<usize, CodecError>
-        // What has a layout begins with a message.
+        // Bytes that have a layout begin with a message.
         ensures found { IfOk result (λ n. (m : Parts) × Begins cfg.now buf.now m n) }
-        // What begins with a message has its layout.
+        // Bytes that begin with a message have its layout.
         ensures only { (m : Parts) (n : ℕ) → Begins cfg.now buf.now m n → result ≡ Ok n }
-        // What is refused is so for this.
+        // An error has this reason.
         ensures refused { IfErr result (λ e. IsRefused cfg.now buf.now e) }
-        // Which answer it is.
-        ensures exact { result ≡ layout_of (message_at cfg.now buf.now) }
+        // The exact result.
+        ensures exact { result ≡ layout_of (read_message cfg.now buf.now) }
     {
         parts_at(buf, cfg).map(|(_, _, used)| used)
     }
 
-    /// The message in front, and how many bytes it takes.
+    /// Reads the message at the front, and returns it with the number of bytes that it takes.
     fn read_cfg(alloc: Global, buf: &[u8], cfg: &RangeCfg) -> Result<(Self, usize), CodecError>
-        // What is read is spelled so, each byte of it.
+        // The bytes begin with the encoding of what is read.
         ensures found { IfOk result (λ r. Begins cfg.now buf.now r.0 r.1) }
-        // What is spelled so is read.
-        ensures only { (m : Parts) (n : ℕ) → Begins cfg.now buf.now m n → GivesOrLacks result (Ok (m, n)) }
-        // What is refused is so for this, or for want of memory.
-        ensures refused { IfErr result (λ e. (e ≡ CodecError.Memory) ⊎ IsRefused cfg.now buf.now e) }
-        // Which answer it is.
-        ensures exact { GivesOrLacks result (message_at cfg.now buf.now) }
+        // The message that the bytes begin with is read.
+        ensures only { (m : Parts) (n : ℕ) → Begins cfg.now buf.now m n
+            → GivesOrLacks result (Ok (m, n)) }
+        // An error has this reason, or is an allocation failure.
+        ensures refused { IfErr result (λ e.
+            (e ≡ CodecError.Memory) ⊎ IsRefused cfg.now buf.now e) }
+        // The exact result.
+        ensures exact { GivesOrLacks result (read_message cfg.now buf.now) }
     {
         copied_at(alloc, buf, cfg)
     }
@@ -155,23 +156,24 @@ impl Codec for TestMessage {
     ghost reads_back = { message_reads_back };
 }
 
-/// The two byte lists in front, and how many bytes they take.
-#[tactic(auto, unfolding(crate::specs::TestMessage::message_at))]
+/// Returns the two byte lists at the front, and the number of bytes that they take.
+#[tactic(auto, unfolding(crate::specs::TestMessage::read_message))]
 fn parts_at<'a>(buf: &'a [u8], range: &RangeCfg) -> Result<(&'a [u8], &'a [u8], usize), CodecError>
-    ensures { Gives (λ x. (record { commitment = x.0.now; content = x.1.now }, x.2)) result (message_at range.now buf.now) }
+    ensures { Gives (λ x. (record { commitment = x.0.now; content = x.1.now }, x.2)) result
+        (read_message range.now buf.now) }
 {
-    let (commitment, rest) = list_at(buf, range)?;
-    let (content, rest) = list_at(rest, range)?;
+    let (commitment, rest) = byte_list::read_cfg(buf, range)?;
+    let (content, rest) = byte_list::read_cfg(rest, range)?;
     Ok((commitment, content, buf.len() - rest.len()))
 }
 
-/// A message of the two byte lists in front. Memory is asked for once both are there.
+/// Reads the message at the front. Allocates only once both lists are found.
 fn copied_at(
     alloc: Global,
     buf: &[u8],
     range: &RangeCfg,
 ) -> Result<(TestMessage, usize), CodecError>
-    ensures { GivesOrLacks result (message_at range.now buf.now) }
+    ensures { GivesOrLacks result (read_message range.now buf.now) }
 {
     let (commitment, content, used) = parts_at(buf, range)?;
     let commitment = Vec::from_slice(alloc, commitment)?;

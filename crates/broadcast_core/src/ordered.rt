@@ -1,7 +1,7 @@
-//! Keys of peers, sets of them, and whom a message is for.
+//! Keys of peers, sets of keys, and recipients.
 ghost use Rattle.std.specs.Prelude.{◌≡◌, ◌==◌, true, List, [], length, is_some, IfSome, IfOk, OnOk, IsSomeAnd};
 ghost use Rattle.std.specs.Cmp.Lexicographic.{pointwise, lists_per, lists_equiv};
-ghost use Rattle.std.specs.List.{AllZip, list_any, slice_get};
+ghost use Rattle.std.specs.List.{AllZip, find, list_any, slice_get};
 ghost use Rattle.std.specs.List.Sorted.{IsStrictlySortedBy};
 ghost use Rattle.std.specs.Option.{option_copied};
 ghost use Rattle.std.specs.Ordering.{eq_by_cmp};
@@ -12,17 +12,18 @@ use std::alloc::{AllocError, Global};
 use std::hash::Hash;
 use std::marker::Model;
 
-/// The key of a peer. Keys that compare equal are one key.
+/// The key of a peer. Keys that compare equal are the same key.
 pub trait PublicKey: Clone + Ord + Eq + Hash + Send + Drop + 'static {
     /// A copy of a key equals it.
-    ghost copies: { (key copy : Self) → Self.is_clone key copy → eq_by_cmp Self.cmp key copy ≡ true };
+    ghost copies: { (key copy : Self) → Self.is_clone key copy
+        → eq_by_cmp Self.cmp key copy ≡ true };
 }
 
 impl PublicKey for u64 {
     ghost copies = { Prim.search rules };
 }
 
-/// Whom a message is for.
+/// The peers that a message is for.
 #[derive(Clone, Debug, PartialEq, Eq, Drop)]
 pub enum Recipients<P> {
     /// Every peer.
@@ -33,7 +34,7 @@ pub enum Recipients<P> {
     One(P),
 }
 
-/// A set of keys, in rising order. No two of them are equal.
+/// A sorted set of keys.
 #[derive(Drop)]
 #[derive_where(Debug; P)]
 pub struct Set<P: PublicKey> {
@@ -52,7 +53,7 @@ impl<P: PublicKey> Model for Set<P> {
 }
 
 impl<P: PublicKey> Set<P> {
-    /// No keys. Takes no memory.
+    /// Creates an empty set. Does not allocate.
     pub fn default(alloc: Global) -> Self
         ensures { result ≡ [] }
     {
@@ -61,11 +62,15 @@ impl<P: PublicKey> Set<P> {
         }
     }
 
-    /// The keys, sorted, each of them once.
+    /// Creates the set of `keys`. Of several equal keys it keeps the first.
+    ///
+    /// An `Err` is an allocation failure of the sort.
     pub fn from_iter_dedup(mut keys: Vec<P>) -> Result<Self, AllocError>
         ensures members { IfOk result (λ set. (q : P)
             → list_any (eq_by_cmp P.cmp q) set ≡ list_any (eq_by_cmp P.cmp q) keys.items) }
-        ensures rises { IfOk result (IsStrictlySortedBy P.cmp) }
+        ensures first_of_equals { IfOk result (λ set. (q : P)
+            → find (eq_by_cmp P.cmp q) set ≡ find (eq_by_cmp P.cmp q) keys.items) }
+        ensures sorted { IfOk result (IsStrictlySortedBy P.cmp) }
     {
         sort_dedup(&mut keys)?;
         Ok(Set {
@@ -73,7 +78,7 @@ impl<P: PublicKey> Set<P> {
         })
     }
 
-    /// The place of the key that equals this one, or `None` where there is none. Takes no memory.
+    /// Returns the position of the key that equals `key`. Does not allocate.
     pub fn position(&self, key: &P) -> Option<usize>
         ensures place { IfSome result (λ i. IsSomeAnd (slice_get self.now i)
             (λ q. eq_by_cmp P.cmp key.now q ≡ true)) }
@@ -82,30 +87,30 @@ impl<P: PublicKey> Set<P> {
         place_of(self.keys.as_slice(), key)
     }
 
-    /// The keys, in rising order.
+    /// Returns the keys, sorted.
     pub fn as_slice(&self) -> &[P]
         ensures keys { result.now ≡ self.now }
-        ensures rises { IsStrictlySortedBy P.cmp self.now }
+        ensures sorted { IsStrictlySortedBy P.cmp self.now }
     {
         self.keys.as_slice()
     }
 
-    /// How many keys there are.
+    /// Returns the number of keys.
     pub fn len(&self) -> usize
         ensures len { result ≡ length self.now }
-        ensures rises { IsStrictlySortedBy P.cmp self.now }
+        ensures sorted { IsStrictlySortedBy P.cmp self.now }
     {
         self.keys.len()
     }
 
-    /// Whether there are none.
+    /// Returns whether the set has no keys.
     pub fn is_empty(&self) -> bool
         ensures { result ≡ (length self.now == 0) }
     {
         self.len() == 0
     }
 
-    /// The key at the place, or `None` past the end.
+    /// Returns the key at position `i`, or `None` past the end.
     pub fn get(&self, i: usize) -> Option<&P>
         ensures { option_copied result ≡ slice_get self.now i }
     {
@@ -139,21 +144,24 @@ impl<P: PublicKey> Eq for Set<P> {
     ghost laws = { lists_equiv P.Eq.laws };
 }
 
-/// Sorts the keys, and drops repeats.
+/// Sorts the keys and drops repeats.
 fn sort_dedup<K: Ord + Drop>(keys: &mut Vec<K>) -> Result<(), AllocError>
-    ensures members { OnOk result ((q : K)
-        → list_any (eq_by_cmp K.cmp q) keys.new.items ≡ list_any (eq_by_cmp K.cmp q) keys.old.items) }
-    ensures rises { OnOk result (IsStrictlySortedBy K.cmp keys.new.items) }
+    ensures members { OnOk result ((q : K) → list_any (eq_by_cmp K.cmp q) keys.new.items
+        ≡ list_any (eq_by_cmp K.cmp q) keys.old.items) }
+    ensures first_of_equals { OnOk result ((q : K) → find (eq_by_cmp K.cmp q) keys.new.items
+        ≡ find (eq_by_cmp K.cmp q) keys.old.items) }
+    ensures sorted { OnOk result (IsStrictlySortedBy K.cmp keys.new.items) }
 {
     keys.sort()?;
     keys.dedup();
     Ok(())
 }
 
-/// The place of the key in keys that rise.
+/// Returns the position of the key in sorted keys.
 pub(crate) fn place_of<K: Ord>(keys: &[K], key: &K) -> Option<usize>
     requires { IsStrictlySortedBy K.cmp keys.now }
-    ensures place { IfSome result (λ i. IsSomeAnd (slice_get keys.now i) (λ q. eq_by_cmp K.cmp key.now q ≡ true)) }
+    ensures place { IfSome result (λ i. IsSomeAnd (slice_get keys.now i)
+        (λ q. eq_by_cmp K.cmp key.now q ≡ true)) }
     ensures some { is_some result ≡ list_any (eq_by_cmp K.cmp key.now) keys.now }
 {
     keys.binary_search(key).ok()

@@ -1,34 +1,34 @@
-//! What the calls of a core answer.
+//! The results of the calls of a core.
 use crate::digested::{Digested, Digestible};
 use crate::items::Items;
 
-/// What a taking comes to.
+/// The outcome of taking a message under a key.
 #[derive(Clone, Copy, Debug, PartialEq, Eq)]
 pub enum Outcome {
-    /// The digest was not on the key's list, and goes to its front.
+    /// The digest was not on the list of the key, and was put in front of it.
     Inserted,
-    /// The digest was on the key's list, and moves to its front.
+    /// The digest was on the list of the key, and was moved to its front.
     Duplicate,
-    /// The key is not primary. No list changes.
+    /// The key is not primary. No list changed.
     Ineligible,
 }
 
-/// What a taking answers.
+/// The result of taking a message.
 #[derive(Clone, Debug, PartialEq, Eq, Drop)]
 pub struct Taken<W> {
-    /// What it came to.
+    /// What happened to the list of the key.
     pub outcome: Outcome,
-    /// Who waited for the digest, in the order of their subscribes.
+    /// The waiters of the digest, in the order of their subscribes.
     pub served: Items<W>,
 }
 
-/// What a subscribe answers.
+/// The result of a subscribe.
 #[derive(Drop)]
 #[derive_where(Clone; W)]
 #[derive_where(Debug; W, M, M::Digest)]
 #[derive_where(PartialEq, Eq; W, M)]
 pub enum Subscribed<W, M: Digestible> {
-    /// The waiter comes back with the cached message.
+    /// The waiter is returned with the cached message.
     Answered(W, Digested<M>),
     /// The waiter waits.
     Waiting,

@@ -1,12 +1,12 @@
-//! What waits for a message.
+//! Waiters for a message, as a core sees them.
 ghost use Rattle.std.specs.Prelude.{◌≡◌, ℕ, Bool};
 
-/// What waits under a ticket.
+/// A waiter with a ticket.
 pub trait Ticketed {
-    /// The ticket.
+    /// The waiter's ticket.
     ghost ticket_of: { Self → ℕ };
 
-    /// The ticket. Tickets need not be distinct.
+    /// Returns the ticket. Several waiters may have the same one.
     fn ticket(&self) -> u64
         ensures { result ≡ ticket_of self.now };
 }
@@ -19,12 +19,12 @@ impl Ticketed for u64 {
     }
 }
 
-/// What may be closed, by another thread too.
+/// A waiter that its caller may close, from another thread too.
 pub trait Closable {
-    /// Which answers `is_closed` may give.
+    /// The results that `is_closed` may return.
     ghost may_answer: { Self → Bool → Type 0 };
 
-    /// Whether nobody waits for an answer any more.
+    /// Returns whether the caller no longer waits for the message.
     fn is_closed(&self) -> bool
         ensures { may_answer self.now result };
 }

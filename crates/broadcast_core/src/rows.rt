@@ -1,4 +1,4 @@
-//! Worked rows.
+//! Worked examples of the definitions.
 ghost use Rattle.broadcast_core.specs.Rows.{Repeats, Broadcasts, Stays, Requests};
 
 /// The definitions compute the worked rows.

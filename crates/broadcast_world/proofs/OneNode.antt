@@ -6,14 +6,16 @@ use Rattle.std.specs.List.{AllZip, slice_get}
 use Rattle.std.specs.Option.{option_map}
 use Rattle.broadcast_world.proofs.Places.{read_at, set_same}
 use Rattle.std.specs.declared.cmp.Ordering.{Ordering}
-use Rattle.broadcast_core.specs.Answers.{takes_memory}
-use Rattle.broadcast_core.specs.Follows.{HasContent, Applies}
+use Rattle.broadcast_core.specs.Answers.{may_allocate}
+use Rattle.broadcast_core.specs.Log.{is_refused}
+use Rattle.broadcast_core.specs.HasContent.{HasContent}
+use Rattle.broadcast_core.specs.HasRun.{Applies}
 use Rattle.broadcast_core.specs.Carried.{Carried}
 use Rattle.broadcast_core.specs.TestMessage.{Parts, encoding_of}
 use Rattle.broadcast_core.specs.declared.ordered.Recipients.{Recipients}
 use Rattle.broadcast_core.specs.declared.event.Cause.TheVariants.{Memory, Unencodable}
 use Rattle.broadcast_core.specs.declared.event.Answer.TheVariants.{Refused}
-use Rattle.broadcast_core.specs.declared.event.Answer.TheVariants as answer
+use Rattle.broadcast_core.proofs.Distinct.{by_test}
 use Rattle.broadcast_core.specs.declared.event.Event.TheVariants.{Peers, Broadcast, Payload, Subscribe, Get, Cleanup}
 use Rattle.broadcast_core.specs.declared.event.Answer.{Answer}
 use Rattle.broadcast_core.specs.declared.event.Sent.{Sent}
@@ -21,13 +23,13 @@ use Rattle.broadcast_world.specs.Scene.{Scene}
 use Rattle.broadcast_world.specs.World.{NodeEvent, NodeHistory, addressed, at, made_by, may_be_refused, packets_by, packets_to, unless_refused}
 use Rattle.broadcast_world.specs.Packet.{Packet}
 use Rattle.broadcast_world.specs.Made.{no_content}
-use Rattle.broadcast_core.proofs.Following.{HasContent-empty}
+use Rattle.broadcast_core.proofs.Stepping.{HasContent-empty}
 use Rattle.broadcast_world.specs.Steps.{NodeContent, NodeTakes, NodeFollows, ChangesNode, AtNode}
 use Rattle.broadcast_world.specs.declared.step.WorldAnswer.{WorldAnswer}
 use Rattle.broadcast_world.specs.declared.step.WorldAnswer.TheVariants.{Given, NoSuch}
 
 module _ {P : Type 0} (cmp : P → P → Ordering) (w : Scene P) (n : P) (past : NodeHistory P) where
-  refusable : (e : NodeEvent P) → IsTrue (takes_memory (at cmp w n) e past) → IsTrue (may_be_refused cmp w n e past)
+  refusable : (e : NodeEvent P) → IsTrue (may_allocate (at cmp w n) e past) → IsTrue (may_be_refused cmp w n e past)
   refusable (Peers ps) h = refl
   refusable (Broadcast r c) h = h
   refusable (Payload p b) h = h
@@ -90,14 +92,7 @@ module _ {P : Type 0} (cmp : P → P → Ordering) (w : Scene P) where
 
   unless-cases : (a : WorldAnswer) (e : Option (P × NodeEvent P)) → (unless_refused cmp w a e ≡ e) ⊎ (unless_refused cmp w a e ≡ None)
   unless-cases NoSuch e = inl refl
-  unless-cases (Given answer.Peers) e = inl refl
-  unless-cases (Given (answer.Taken o s m)) e = inl refl
-  unless-cases (Given (answer.Invalid why)) e = inl refl
-  unless-cases (Given answer.Waiting) e = inl refl
-  unless-cases (Given (answer.Answered m)) e = inl refl
-  unless-cases (Given (answer.Got m)) e = inl refl
-  unless-cases (Given (answer.Removed k)) e = inl refl
-  unless-cases (Given (answer.Refused why)) e = inr refl
+  unless-cases (Given a) e = by_test (is_refused a) (λ t. inr (rw t refl)) (λ t. inl (rw t refl))
 
   -- a step that is no broadcast makes no packet
   pub made_by-quiet : (a : WorldAnswer) (named : Option P) (e : NodeEvent P) → ((n : P) → packets_by cmp w n e ≡ []) → made_by cmp w (unless_refused cmp w a (option_map (λ m. (m, e)) named)) ≡ []
@@ -107,4 +102,4 @@ module _ {P : Type 0} (cmp : P → P → Ordering) (w : Scene P) where
   -- nothing has happened at any node
   pub contents-empty : (keys : List P) → AllZip (λ n core. HasContent {V = ℕ} (at cmp w n) [] core) keys (map (λ n. no_content n w.deque_size) keys)
   contents-empty [] = tt
-  contents-empty (n ∷ keys) = (HasContent-empty (at cmp w n) (no_content n w.deque_size) refl refl refl refl refl refl, contents-empty keys)
+  contents-empty (n ∷ keys) = (HasContent-empty {s = at cmp w n} {core = no_content n w.deque_size} refl, contents-empty keys)

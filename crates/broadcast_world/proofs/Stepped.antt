@@ -7,9 +7,8 @@ use Rattle.std.specs.Cmp.{IsTotalOrder, IsEquivalence, eq_by_cmp_equiv}
 use Rattle.std.specs.Ordering.{eq_by_cmp}
 use Rattle.std.specs.declared.cmp.Ordering.{Ordering}
 use Rattle.broadcast_core.proofs.Distinct.{by_test}
-use Rattle.broadcast_core.specs.Happening.{after}
-use Rattle.broadcast_core.specs.Answers.{is_refused}
-use Rattle.broadcast_core.specs.Follows.{HasContent}
+use Rattle.broadcast_core.specs.Log.{after, is_refused}
+use Rattle.broadcast_core.specs.HasContent.{HasContent}
 use Rattle.broadcast_core.specs.TestMessage.{Parts}
 use Rattle.broadcast_core.specs.declared.event.Answer.{Answer}
 use Rattle.broadcast_core.specs.declared.event.Answer.TheVariants as answer
@@ -23,33 +22,19 @@ use Rattle.broadcast_world.specs.declared.step.WorldAnswer.TheVariants.{Given, N
 use Rattle.broadcast_world.proofs.Places.{AllZip-at, AllZip-changed}
 
 module _ {P : Type 0} (cmp : P → P → Ordering) (w : Scene P) where
-  -- a refused answer takes the event away
-  unless-tested : (n : P) (a : Answer Parts (List ℕ)) (e : Option (P × NodeEvent P)) → unless_refused cmp w (Given a) e ≡ (if is_refused (at cmp w n) a then None else e)
-  unless-tested n answer.Peers e = refl
-  unless-tested n (answer.Taken o s m) e = refl
-  unless-tested n (answer.Invalid why) e = refl
-  unless-tested n answer.Waiting e = refl
-  unless-tested n (answer.Answered m) e = refl
-  unless-tested n (answer.Got m) e = refl
-  unless-tested n (answer.Removed k) e = refl
-  unless-tested n (answer.Refused why) e = refl
-
-  Has : (P → NodeHistory P) → P → NodeContent P → Type 0
-  Has past n core = HasContent (at cmp w n) (past n) core
-
   module _ (o : IsTotalOrder cmp) (apart : IsDistinct (eq_by_cmp cmp) w.nodes) where
     -- the node's history grows by what it accepted, and no other
     own_history : (n : P) (e : NodeEvent P) (a : Answer Parts (List ℕ)) (past : NodeHistory P)
-        → history_with cmp w n (unless_refused cmp w (Given a) (Some (n, e))) past ≡ (if is_refused (at cmp w n) a then past else after (at cmp w n) e past)
-    own_history n e a past = by_test (is_refused (at cmp w n) a)
-        (λ t. rw (unless-tested n a (Some (n, e)), t) refl)
-        (λ t. rw (unless-tested n a (Some (n, e)), t, (eq_by_cmp_equiv o).refl n) refl)
+        → history_with cmp w n (unless_refused cmp w (Given a) (Some (n, e))) past ≡ (if is_refused a then past else after (at cmp w n) e past)
+    own_history n e a past = by_test (is_refused a)
+        (λ t. rw t refl)
+        (λ t. rw (t, (eq_by_cmp_equiv o).refl n) refl)
 
     other_history : (n q : P) (e : NodeEvent P) (a : Answer Parts (List ℕ)) (past : NodeHistory P) → eq_by_cmp cmp q n ≡ false
         → history_with cmp w q (unless_refused cmp w (Given a) (Some (n, e))) past ≡ past
-    other_history n q e a past h = by_test (is_refused (at cmp w n) a)
-        (λ t. rw (unless-tested n a (Some (n, e)), t) refl)
-        (λ t. rw (unless-tested n a (Some (n, e)), t, h) refl)
+    other_history n q e a past h = by_test (is_refused a)
+        (λ t. rw t refl)
+        (λ t. rw (t, h) refl)
 
     contents : (n : P) (e : NodeEvent P) (a : Answer Parts (List ℕ)) (past : P → NodeHistory P) (old new : List (NodeContent P))
         → AllZip (λ q core. HasContent (at cmp w q) (past q) core) w.nodes old → ChangesNode cmp w n e a old new

@@ -3,3 +3,4 @@ pub mod Scene
 pub mod World
 pub mod Steps
 pub mod Made
+pub mod Broadcasts

@@ -4,9 +4,8 @@ use Rattle.std.specs.List.{AllZip, slice_get}
 use Rattle.std.specs.declared.cmp.Ordering.{Ordering}
 use Rattle.broadcast_core.specs.Content.{Content}
 use Rattle.broadcast_core.specs.TestMessage.{Parts}
-use Rattle.broadcast_core.specs.Happening.{after}
-use Rattle.broadcast_core.specs.Answers.{is_refused}
-use Rattle.broadcast_core.specs.Follows.{HasContent}
+use Rattle.broadcast_core.specs.Log.{after, is_refused}
+use Rattle.broadcast_core.specs.HasContent.{HasContent}
 use Rattle.broadcast_core.specs.declared.event.Answer.{Answer}
 use Rattle.broadcast_world.specs.Scene.{Scene, State}
 use Rattle.broadcast_world.specs.World.{Log, log_of, NodeEvent, NodeHistory, NodeMayAnswer, at, packets, history, MayAnswer, AreAnswered}
@@ -22,7 +21,7 @@ module _ {P : Type 0} (cmp : P → P → Ordering) (w : Scene P) where
   -- changes nothing
   pub record NodeTakes (n : P) (past : NodeHistory P) (e : NodeEvent P) (a : Answer Parts (List ℕ)) (new : NodeContent P) : Type 0 where
     pub answered : NodeMayAnswer cmp w n e past a
-    pub content : HasContent (at cmp w n) (if is_refused (at cmp w n) a then past else after (at cmp w n) e past) new
+    pub content : HasContent (at cmp w n) (if is_refused a then past else after (at cmp w n) e past) new
 
   -- whatever history gave the node its content
   abbrev pub NodeFollows : P → NodeEvent P → NodeContent P → NodeContent P → Answer Parts (List ℕ) → Type 0

@@ -9,10 +9,12 @@ use Rattle.sha2.specs.Sha256.{sha256}
 use Rattle.broadcast_core.specs.Carried.{Carried}
 use Rattle.broadcast_core.specs.Codec.{whole}
 use Rattle.broadcast_core.specs.Content.{same_by, first_places, without}
-use Rattle.broadcast_core.specs.TestMessage.{Parts, encoding_of, message_at}
-use Rattle.broadcast_core.specs.History.{Setting}
-use Rattle.broadcast_core.specs.Happening.{Happening, after}
-use Rattle.broadcast_core.specs.Answers.{answer_to, takes_memory, is_refused}
+use Rattle.broadcast_core.specs.TestMessage.{Parts, encoding_of, read_message}
+use Rattle.broadcast_core.specs.Setting.{Setting, setting}
+use Rattle.broadcast_core.specs.Happening.{History}
+use Rattle.broadcast_core.specs.Log.{after, is_refused}
+use Rattle.broadcast_core.specs.Answers.{answer_to, may_allocate}
+use Rattle.broadcast_core.specs.HasRun.{counted_in}
 use Rattle.broadcast_core.specs.declared.ordered.Recipients.{Recipients}
 use Rattle.broadcast_core.specs.declared.ordered.Recipients.TheVariants as to
 use Rattle.broadcast_core.specs.declared.event.Event.{Event}
@@ -31,7 +33,7 @@ abbrev pub NodeEvent : Type 0 → Type 0
 NodeEvent P = Event P Parts (List ℕ)
 
 abbrev pub NodeHistory : Type 0 → Type 0
-NodeHistory P = List (Happening P Parts (List ℕ) ℕ ℕ)
+NodeHistory P = History P Parts (List ℕ) ℕ ℕ
 
 -- steps with their answers, the newest first
 abbrev pub Log : Type 0 → Type 0
@@ -47,15 +49,8 @@ module _ {P : Type 0} (cmp : P → P → Ordering) (w : Scene P) where
 
   -- what the history of the node with this key is read by
   abbrev pub at : P → Setting P Parts (List ℕ)
-  at own = record {
-    own = own;
-    deque_size = w.deque_size;
-    priority = false;
-    same = same_by cmp (slice_cmp nat_cmp);
-    digest_of = λ m. sha256 m.content;
-    encoding = encoding_of;
-    reading = whole (message_at w.range);
-  }
+  at own = setting own w.deque_size false (same_by cmp (slice_cmp nat_cmp))
+      (λ m. sha256 m.content) encoding_of (whole (read_message w.range))
 
   -- the node that a key names
   abbrev pub node : P → Option P
@@ -113,8 +108,7 @@ module _ {P : Type 0} (cmp : P → P → Ordering) (w : Scene P) where
   -- the event, unless it was refused
   abbrev pub unless_refused : WorldAnswer → Option (P × NodeEvent P) → Option (P × NodeEvent P)
   unless_refused NoSuch e = e
-  unless_refused (Given (answer.Refused cause)) e = None
-  unless_refused (Given a) e = e
+  unless_refused (Given a) e = if is_refused a then None else e
 
   -- the packets of a log, in the order of their making
   abbrev pub packets : Log P → List (Packet P)
@@ -137,12 +131,12 @@ module _ {P : Type 0} (cmp : P → P → Ordering) (w : Scene P) where
   -- a node keeps a copy of a peer set, so here a peer set may be refused too
   abbrev pub may_be_refused : P → NodeEvent P → NodeHistory P → Bool
   may_be_refused n (event.Peers ps) past = true
-  may_be_refused n e past = takes_memory (at n) e past
+  may_be_refused n e past = may_allocate (at n) e past
 
   -- what an event at a node may be answered
   abbrev pub NodeMayAnswer : P → NodeEvent P → NodeHistory P → Answer Parts (List ℕ) → Type 0
   NodeMayAnswer n e past a =
-      (a ≡ answer_to (at n) e past) ⊎ ((a ≡ answer.Refused Memory) × IsTrue (may_be_refused n e past))
+      (a ≡ counted_in (answer_to (at n) e past)) ⊎ ((a ≡ answer.Refused Memory) × IsTrue (may_be_refused n e past))
 
   abbrev pub IsAnswer : Option (P × NodeEvent P) → WorldAnswer → Log P → Type 0
   IsAnswer None a log = a ≡ NoSuch

@@ -1,4 +1,4 @@
-//! What a node keeps of its peers: their deques, and each listed message once.
+//! The deques of the peers, and each listed message once.
 ghost use Rattle.std.specs.Prelude.{◌≡◌, ◌≤◌, false, true, not, length, [], IfOk, IfSome, OnOk, OnErr, IsOk};
 ghost use Rattle.std.specs.Option.{option_copied};
 ghost use Rattle.std.specs.List.{IsDistinct};
@@ -31,15 +31,19 @@ impl<P: PublicKey, M: Digestible> Model for Cache<P, M> {
 
     ghost Value = { Stored P M M.Digest };
 
-    ghost view = { λ it. record { lists = it.deques.entries; messages = map (λ e. (e.0, e.1.message)) it.items.entries } };
+    ghost view = { λ it. record {
+      lists = it.deques.entries;
+      messages = map (λ e. (e.0, e.1.message)) it.items.entries;
+    } };
 
-    ghost invariant = { λ it. IsCache (same_by P.cmp M.Digest.cmp) it.deques.entries it.items.entries };
+    ghost invariant = { λ it.
+        IsCache (same_by P.cmp M.Digest.cmp) it.deques.entries it.items.entries };
 }
 
 impl<P: PublicKey, M: Digestible> Cache<P, M> {
     ghost use Rattle.broadcast_core.specs.Stored.{Stores, Keeps};
 
-    /// No deques and no messages. Takes no memory.
+    /// Creates an empty cache. Does not allocate.
     pub fn new(alloc: Global) -> Self
         ensures { result ≡ record { lists = []; messages = [] } }
     {
@@ -50,10 +54,12 @@ impl<P: PublicKey, M: Digestible> Cache<P, M> {
         }
     }
 
-    /// The digest's message.
+    /// Returns the message of `digest`.
     pub fn get(&self, digest: &M::Digest) -> Option<&Digested<M>>
-        ensures message { option_copied result ≡ lookup (eq_by_cmp M.Digest.cmp digest.now) self.now.messages }
-        ensures named { IfSome result (λ message. eq_by_cmp M.Digest.cmp digest.now message.now.digest ≡ true) }
+        ensures message { option_copied result
+            ≡ lookup (eq_by_cmp M.Digest.cmp digest.now) self.now.messages }
+        ensures named { IfSome result (λ message.
+            eq_by_cmp M.Digest.cmp digest.now message.now.digest ≡ true) }
     {
         match self.items.get(digest) {
             Some(item) => Some(item.message()),
@@ -61,7 +67,7 @@ impl<P: PublicKey, M: Digestible> Cache<P, M> {
         }
     }
 
-    /// How many messages there are.
+    /// Returns the number of messages.
     pub fn len(&self) -> usize
         ensures len { result ≡ length self.now.messages }
         ensures distinct { IsDistinct (eq_by_cmp M.Digest.cmp) (keys_of self.now.messages) }
@@ -69,8 +75,8 @@ impl<P: PublicKey, M: Digestible> Cache<P, M> {
         self.items.len()
     }
 
-    /// Puts a digest that the peer has not in front of its deque, and its message into the cache
-    /// where it is not there yet; then drops the oldest digest where they are too many.
+    /// Puts a digest that is not on the deque of `peer` in front of it, and caches its message
+    /// unless it is cached already. Then drops the oldest digest if there are too many.
     fn insert(
         &mut self,
         peer: &P,
@@ -80,7 +86,8 @@ impl<P: PublicKey, M: Digestible> Cache<P, M> {
         requires absent { among (eq_by_cmp M.Digest.cmp) message.now.digest
             (items_at (eq_by_cmp P.cmp) peer.now self.old.lists) ≡ false }
         requires fits { length (items_at (eq_by_cmp P.cmp) peer.now self.old.lists) ≤ deque_size }
-        ensures ok { OnOk result (Stores (same_by P.cmp M.Digest.cmp) peer.now message.now deque_size self.old self.new) }
+        ensures ok { let same = same_by P.cmp M.Digest.cmp in
+            OnOk result (Stores same peer.now message.now deque_size self.old self.new) }
         ensures err { OnErr result (self.new ≡ self.old) }
     {
         counting::add(self.alloc, &mut self.deques, &mut self.items, peer, message)?;
@@ -88,7 +95,7 @@ impl<P: PublicKey, M: Digestible> Cache<P, M> {
         Ok(())
     }
 
-    /// Puts the digest in front of the peer's deque, and says whether it is new there.
+    /// Puts the digest in front of the deque of `peer`. Returns whether it is new there.
     pub fn take(
         &mut self,
         peer: &P,
@@ -96,15 +103,17 @@ impl<P: PublicKey, M: Digestible> Cache<P, M> {
         deque_size: usize,
     ) -> Result<bool, AllocError>
         requires { length (items_at (eq_by_cmp P.cmp) peer.now self.old.lists) ≤ deque_size }
-        ensures new { IfOk result (λ new. new ≡ not (among (eq_by_cmp M.Digest.cmp) message.now.digest
-            (items_at (eq_by_cmp P.cmp) peer.now self.old.lists))) }
-        ensures ok { OnOk result (Stores (same_by P.cmp M.Digest.cmp) peer.now message.now deque_size self.old self.new) }
+        ensures new { let same = same_by P.cmp M.Digest.cmp in
+            let ds = items_at same.key peer.now self.old.lists in
+            IfOk result (λ new. new ≡ not (among same.digest message.now.digest ds)) }
+        ensures ok { let same = same_by P.cmp M.Digest.cmp in
+            OnOk result (Stores same peer.now message.now deque_size self.old self.new) }
         ensures err { OnErr result (self.new ≡ self.old) }
 
-        // A digest that is there already takes no memory, nor does a deque without places.
-        ensures free { among (eq_by_cmp M.Digest.cmp) message.now.digest
+        // These do not allocate.
+        ensures succeeds_on_duplicate { among (eq_by_cmp M.Digest.cmp) message.now.digest
             (items_at (eq_by_cmp P.cmp) peer.now self.old.lists) ≡ true → IsOk result }
-        ensures no_places { deque_size ≡ 0 → IsOk result }
+        ensures succeeds_at_size_zero { deque_size ≡ 0 → IsOk result }
     {
         let digest = message.digest();
         if counting::renew(&mut self.deques, &self.items, peer, digest) {
@@ -117,10 +126,14 @@ impl<P: PublicKey, M: Digestible> Cache<P, M> {
         Ok(true)
     }
 
-    /// The digests of the peer's deque, the newest first.
+    /// Returns the digests on the deque of `peer`, newest first.
     pub fn list(&self, alloc: Global, peer: &P) -> Result<Vec<M::Digest>, AllocError>
-        ensures items { IfOk result (λ digests. digests.items ≡ items_at (eq_by_cmp P.cmp) peer.now self.now.lists) }
-        ensures distinct { IsDistinct (eq_by_cmp M.Digest.cmp) (items_at (eq_by_cmp P.cmp) peer.now self.now.lists) }
+        ensures digests { IfOk result (λ digests. digests.items
+            ≡ items_at (eq_by_cmp P.cmp) peer.now self.now.lists) }
+        ensures succeeds_on_empty { items_at (eq_by_cmp P.cmp) peer.now self.now.lists ≡ []
+            → IsOk result }
+        ensures distinct { IsDistinct (eq_by_cmp M.Digest.cmp)
+            (items_at (eq_by_cmp P.cmp) peer.now self.now.lists) }
     {
         match self.deques.get(peer) {
             Some(deque) => deque.to_vec(alloc),
@@ -128,7 +141,7 @@ impl<P: PublicKey, M: Digestible> Cache<P, M> {
         }
     }
 
-    /// Drops the deques of all peers but these, which rise.
+    /// Drops the deques of all peers but these, which are sorted.
     pub fn retain_peers(&mut self, peers: &[P])
         requires { IsStrictlySortedBy P.cmp peers.now }
         ensures { Keeps (same_by P.cmp M.Digest.cmp) peers.now self.old self.new }

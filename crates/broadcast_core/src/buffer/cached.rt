@@ -3,17 +3,17 @@ ghost use Rattle.std.specs.Prelude.{◌≡◌};
 
 use crate::digested::{Digested, Digestible};
 
-/// A cached message, with its references.
+/// A cached message, with the number of its references.
 #[derive(Drop)]
 pub struct Cached<M: Digestible> {
     /// The message.
     pub message: Digested<M>,
-    /// How many deques have its digest.
+    /// The number of deques that have its digest.
     pub references: usize,
 }
 
 impl<M: Digestible> Cached<M> {
-    /// The message.
+    /// Returns the message.
     pub fn message(&self) -> &Digested<M>
         ensures { result.now ≡ self.now.message }
     {

@@ -1,5 +1,5 @@
-//! The digests of one peer.
-ghost use Rattle.std.specs.Prelude.{◌≡◌, ◌<◌, ◌+◌, ◌++◌, ◌↔◌, [], ◌∷◌, false, true, length, if◌then◌else◌, IsSome, IfSome, IfOk, OnOk, OnErr, position};
+//! The deque of one peer.
+ghost use Rattle.std.specs.Prelude.{◌≡◌, ◌<◌, ◌+◌, ◌++◌, ◌↔◌, [], ◌∷◌, false, true, length, if◌then◌else◌, IsSome, IfSome, IfOk, IsOk, OnOk, OnErr, position};
 ghost use Rattle.std.specs.Option.{option_to_list};
 ghost use Rattle.std.specs.Ordering.{eq_by_cmp};
 ghost use Rattle.std.specs.List.{IsDistinct};
@@ -29,7 +29,7 @@ impl<D: Ord + Copy> Model for Deque<D> {
 }
 
 impl<D: Ord + Copy> Deque<D> {
-    /// No digests. Takes no memory.
+    /// Creates an empty deque. Does not allocate.
     pub fn new(alloc: Global) -> Self
         ensures { result ≡ [] }
     {
@@ -38,14 +38,14 @@ impl<D: Ord + Copy> Deque<D> {
         }
     }
 
-    /// How many digests there are.
+    /// Returns the number of digests.
     pub fn len(&self) -> usize
         ensures { result ≡ length self.now }
     {
         self.digests.len()
     }
 
-    /// Puts a digest in front. Without memory the digests stay.
+    /// Puts a digest in front. On an allocation failure nothing changes.
     pub fn push_front(&mut self, digest: D) -> Result<(), AllocError>
         requires { among (eq_by_cmp D.cmp) digest self.old ≡ false }
         ensures ok { OnOk result (self.new ≡ digest ∷ self.old) }
@@ -55,7 +55,7 @@ impl<D: Ord + Copy> Deque<D> {
         Ok(())
     }
 
-    /// Moves the digest to the front, if it is there, and says whether it is.
+    /// Moves the digest to the front if it is there. Returns whether it is.
     pub fn move_to_front(&mut self, digest: D) -> bool
         ensures found { result ≡ among (eq_by_cmp D.cmp) digest self.old }
         ensures moved { self.new
@@ -71,15 +71,19 @@ impl<D: Ord + Copy> Deque<D> {
         }
     }
 
-    /// A copy of the digests.
+    /// Returns a copy of the digests, newest first. An empty deque does not allocate.
     pub fn to_vec(&self, alloc: Global) -> Result<Vec<D>, AllocError>
-        ensures items { IfOk result (λ digests. digests.items ≡ self.now) }
+        ensures digests { IfOk result (λ digests. digests.items ≡ self.now) }
+        ensures succeeds_on_empty { self.now ≡ [] → IsOk result }
         ensures distinct { IsDistinct (eq_by_cmp D.cmp) self.now }
     {
+        if self.digests.is_empty() {
+            return Ok(Vec::new(alloc));
+        }
         self.digests.iter().copied().collect(alloc)
     }
 
-    /// The digests.
+    /// Returns an iterator over the digests, newest first.
     pub fn iter(&self) -> vec_deque::Iter<'_, D>
         ensures rest { deque_iter_rest result ≡ self.now }
         ensures distinct { IsDistinct (eq_by_cmp D.cmp) self.now }
@@ -87,7 +91,7 @@ impl<D: Ord + Copy> Deque<D> {
         self.digests.iter()
     }
 
-    /// Takes out the oldest digest.
+    /// Removes the oldest digest and returns it.
     pub fn pop_oldest(&mut self) -> Option<D>
         ensures last { self.old ≡ self.new ++ option_to_list result }
         ensures gone { IfSome result (λ digest. among (eq_by_cmp D.cmp) digest self.new ≡ false) }
@@ -97,7 +101,7 @@ impl<D: Ord + Copy> Deque<D> {
     }
 }
 
-/// The first place of the digest.
+/// Returns the first position of the digest.
 fn place_of<D: Ord>(digests: &VecDeque<D>, digest: &D) -> Option<usize>
     ensures { result ≡ position (eq_by_cmp D.cmp digest.now) digests.now.items }
 {

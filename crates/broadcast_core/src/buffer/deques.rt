@@ -1,4 +1,4 @@
-//! The deques by peer.
+//! The deques, by peer.
 ghost use Rattle.std.specs.Prelude.{◌≡◌, ◌<◌, ◌≤◌, ◌∷◌, false, length, OnOk, OnErr, MatchOption, MatchBool};
 ghost use Rattle.std.specs.Ordering.{eq_by_cmp};
 ghost use Rattle.std.specs.List.{list_any, filter};
@@ -12,16 +12,19 @@ use crate::ordered::{PublicKey, place_of};
 use std::alloc::{AllocError, Global};
 use std::collections::BTreeMap;
 
-/// Puts a digest in front of the peer's deque, which is made where there is none.
+/// Puts a digest in front of the deque of `peer`, which is created if there is none.
 pub fn push_front<P: PublicKey, D: Ord + Copy>(
     alloc: Global,
     deques: &mut BTreeMap<P, Deque<D>>,
     peer: &P,
     digest: D,
 ) -> Result<(), AllocError>
-    requires { among (eq_by_cmp D.cmp) digest (items_at (eq_by_cmp P.cmp) peer.now deques.old.entries) ≡ false }
+    requires { among (eq_by_cmp D.cmp) digest
+        (items_at (eq_by_cmp P.cmp) peer.now deques.old.entries) ≡ false }
     ensures ok { let same = eq_by_cmp P.cmp in
-        OnOk result (PutsDeque same peer.now (digest ∷ items_at same peer.now deques.old.entries) deques.old.entries deques.new.entries) }
+        let ds = items_at same peer.now deques.old.entries in
+        OnOk result
+        (PutsDeque same peer.now (digest ∷ ds) deques.old.entries deques.new.entries) }
     ensures err { OnErr result (IsUnchanged deques.old deques.new) }
 {
     if let Some(deque) = deques.get_mut(peer) {
@@ -33,17 +36,19 @@ pub fn push_front<P: PublicKey, D: Ord + Copy>(
     Ok(())
 }
 
-/// Moves the digest to the front of the peer's deque, if it is there, and says whether it is.
+/// Moves the digest to the front of the deque of `peer` if it is there. Returns whether it is.
 pub fn move_to_front<P: PublicKey, D: Ord + Copy>(
     deques: &mut BTreeMap<P, Deque<D>>,
     peer: &P,
     digest: D,
 ) -> bool
-    ensures found { result ≡ among (eq_by_cmp D.cmp) digest (items_at (eq_by_cmp P.cmp) peer.now deques.old.entries) }
+    ensures found { result ≡ among (eq_by_cmp D.cmp) digest
+        (items_at (eq_by_cmp P.cmp) peer.now deques.old.entries) }
     ensures moved { let same = same_by P.cmp D.cmp in
         let ds = items_at same.key peer.now deques.old.entries in
         MatchBool result
-        (PutsDeque same.key peer.now (digest ∷ without same.digest digest ds) deques.old.entries deques.new.entries)
+        (PutsDeque same.key peer.now (digest ∷ without same.digest digest ds)
+        deques.old.entries deques.new.entries)
         (IsUnchanged deques.old deques.new) }
 {
     match deques.get_mut(peer) {
@@ -52,7 +57,7 @@ pub fn move_to_front<P: PublicKey, D: Ord + Copy>(
     }
 }
 
-/// Takes out the oldest digest of the peer, where there are more than so many.
+/// Removes the oldest digest of `peer` if there are more than `deque_size`, and returns it.
 pub fn pop_beyond<P: PublicKey, D: Ord + Copy>(
     deques: &mut BTreeMap<P, Deque<D>>,
     peer: &P,
@@ -61,8 +66,10 @@ pub fn pop_beyond<P: PublicKey, D: Ord + Copy>(
     ensures { let same = same_by P.cmp D.cmp in
         let ds = items_at same.key peer.now deques.old.entries in
         MatchOption result
-        (PutsDeque same.key peer.now ds deques.old.entries deques.new.entries × IsUnchanged deques.old deques.new × (length ds ≤ deque_size))
-        (λ stale. DropsOldest same peer.now stale deques.old.entries deques.new.entries × (deque_size < length ds)) }
+        (PutsDeque same.key peer.now ds deques.old.entries deques.new.entries
+        × IsUnchanged deques.old deques.new × (length ds ≤ deque_size))
+        (λ stale. DropsOldest same peer.now stale deques.old.entries deques.new.entries
+        × (deque_size < length ds)) }
 {
     let Some(deque) = deques.get_mut(peer) else {
         return None;
@@ -73,15 +80,16 @@ pub fn pop_beyond<P: PublicKey, D: Ord + Copy>(
     deque.pop_oldest()
 }
 
-/// Keeps the entries of these keys alone, which rise.
+/// Keeps only the entries of `keys`, which are sorted.
 pub fn retain_keys<K: Ord + Drop, V: Drop>(entries: &mut BTreeMap<K, V>, keys: &[K])
     requires { IsStrictlySortedBy K.cmp keys.now }
-    ensures { entries.new.entries ≡ filter (λ e. list_any (eq_by_cmp K.cmp e.0) keys.now) entries.old.entries }
+    ensures { entries.new.entries
+        ≡ filter (λ e. list_any (eq_by_cmp K.cmp e.0) keys.now) entries.old.entries }
 {
     entries.retain(|key, _| is_among(keys, key));
 }
 
-/// Whether a key is one of these, which rise.
+/// Returns whether `key` is one of `keys`, which are sorted.
 pub fn is_among<K: Ord>(keys: &[K], key: &K) -> bool
     requires { IsStrictlySortedBy K.cmp keys.now }
     ensures { result ≡ list_any (eq_by_cmp K.cmp key.now) keys.now }

@@ -1,4 +1,4 @@
-//! The cached messages by digest, each with the number of deques that have it.
+//! The cached messages, by digest.
 ghost use Rattle.std.specs.Prelude.{◌≡◌, ◌+◌, ◌<◌, ◌^◌, ◌&&◌, IfOk, OnErr, Some, is_none, if◌then◌else◌, IsSome};
 ghost use Rattle.std.specs.Option.{option_map};
 ghost use Rattle.std.specs.Ordering.{eq_by_cmp};
@@ -10,19 +10,21 @@ use crate::digested::{Digested, Digestible};
 use std::alloc::AllocError;
 use std::collections::BTreeMap;
 
-/// Makes place for a message that is not cached, as yet without a reference, and says whether it did.
+/// Caches a message that is not cached yet, without a reference. Returns whether it did.
 pub fn hold<M: Digestible>(
     items: &mut BTreeMap<M::Digest, Cached<M>>,
     message: &Digested<M>,
 ) -> Result<bool, AllocError>
-    ensures fresh { IfOk result (λ fresh. fresh ≡ is_none (get M.Digest.cmp items.old message.now.digest)) }
+    ensures fresh { IfOk result (λ fresh.
+        fresh ≡ is_none (get M.Digest.cmp items.old message.now.digest)) }
     ensures looked_up { IfOk result (λ fresh. (d : _) → get M.Digest.cmp items.new d
         ≡ (if fresh && eq_by_cmp M.Digest.cmp message.now.digest d
         then Some (record { message = message.now; references = 0 })
         else get M.Digest.cmp items.old d)) }
     ensures held { IfOk result (λ fresh. items.new.entries
         ≡ (if fresh
-        then insert_entry M.Digest.cmp items.old.entries message.now.digest (record { message = message.now; references = 0 })
+        then insert_entry M.Digest.cmp items.old.entries message.now.digest
+        (record { message = message.now; references = 0 })
         else items.old.entries)) }
     ensures err { OnErr result (IsUnchanged items.old items.new) }
 {
@@ -41,7 +43,7 @@ pub fn hold<M: Digestible>(
     Ok(true)
 }
 
-/// Counts one more reference to the digest's message.
+/// Adds a reference to the message of `digest`.
 pub fn refer<M: Digestible>(items: &mut BTreeMap<M::Digest, Cached<M>>, digest: &M::Digest)
     requires { references_of (eq_by_cmp M.Digest.cmp) digest.now items.old.entries + 1 < 2 ^ 64 }
     ensures { (d : _) → get M.Digest.cmp items.new d
@@ -54,11 +56,12 @@ pub fn refer<M: Digestible>(items: &mut BTreeMap<M::Digest, Cached<M>>, digest: 
     }
 }
 
-/// Counts one reference less to the digest's message, which leaves with its last one.
+/// Drops a reference to the message of `digest`, and the message with its last one.
 pub fn release<M: Digestible>(items: &mut BTreeMap<M::Digest, Cached<M>>, digest: &M::Digest)
     requires held { IsHeld (eq_by_cmp M.Digest.cmp) items.old.entries }
     requires there { IsSome (get M.Digest.cmp items.old digest.now) }
-    ensures { Releases (eq_by_cmp M.Digest.cmp) (λ e. one_if (eq_by_cmp M.Digest.cmp digest.now e)) items.old.entries items.new.entries }
+    ensures { let same = eq_by_cmp M.Digest.cmp in
+        Releases same (λ e. one_if (same digest.now e)) items.old.entries items.new.entries }
 {
     let Some(item) = items.get_mut(digest) else {
         return;

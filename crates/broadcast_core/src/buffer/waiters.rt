@@ -1,4 +1,4 @@
-//! Who waits, by digest.
+//! The waiters, by digest.
 ghost use Rattle.std.specs.Prelude.{◌≡◌, ℕ, ◌+◌, ◌++◌, [], ◌∷◌, not, nat_lt, length, if◌then◌else◌, OnOk, IfErr};
 ghost use Rattle.std.specs.List.{filter, IsDistinct};
 ghost use Rattle.std.specs.Map.{keys_of};
@@ -12,7 +12,7 @@ use std::alloc::{AllocError, Global};
 use std::collections::BTreeMap;
 use std::marker::Model;
 
-/// Who waits for each digest, in the order in which they came.
+/// The waiters of each digest, in the order in which they came.
 #[derive(Drop)]
 pub struct Waiters<D: Ord, W> {
     alloc: Global,
@@ -31,7 +31,7 @@ impl<D: Ord, W> Model for Waiters<D, W> {
 }
 
 impl<D: Ord + Copy, W: Drop> Waiters<D, W> {
-    /// Nobody waits. Takes no memory.
+    /// Creates an empty map. Does not allocate.
     pub fn new(alloc: Global) -> Self
         ensures { result ≡ [] }
     {
@@ -41,7 +41,7 @@ impl<D: Ord + Copy, W: Drop> Waiters<D, W> {
         }
     }
 
-    /// How many digests are awaited.
+    /// Returns the number of digests that have waiters.
     pub fn len(&self) -> usize
         ensures len { result ≡ length self.now }
         ensures distinct { IsDistinct (eq_by_cmp D.cmp) (keys_of self.now) }
@@ -50,7 +50,7 @@ impl<D: Ord + Copy, W: Drop> Waiters<D, W> {
         self.by_digest.len()
     }
 
-    /// How many wait for the digest.
+    /// Returns the number of waiters of `digest`.
     pub fn waiting(&self, digest: &D) -> usize
         ensures { result ≡ length (items_at (eq_by_cmp D.cmp) digest.now self.now) }
     {
@@ -60,12 +60,14 @@ impl<D: Ord + Copy, W: Drop> Waiters<D, W> {
         }
     }
 
-    /// The waiter waits behind the others of its digest. Without memory it comes back, and the
-    /// others wait as before.
+    /// Puts the waiter behind the others of its digest. On an allocation failure the waiter is
+    /// returned with it, and nothing changes.
     pub fn push(&mut self, digest: D, waiter: W) -> Result<(), (W, AllocError)>
         ensures ok { let same = eq_by_cmp D.cmp in
             OnOk result ((e : D) → items_at same e self.new
-            ≡ (if same digest e then items_at same e self.old ++ waiter ∷ [] else items_at same e self.old)) }
+            ≡ (if same digest e
+            then items_at same e self.old ++ waiter ∷ []
+            else items_at same e self.old)) }
         ensures err { IfErr result (λ refused. (refused.0 ≡ waiter) × (self.new ≡ self.old)) }
     {
         if let Some(waiters) = self.by_digest.get_mut(&digest) {
@@ -87,11 +89,12 @@ impl<D: Ord + Copy, W: Drop> Waiters<D, W> {
         }
     }
 
-    /// Takes out who waits for the digest. Takes no memory.
+    /// Removes the waiters of `digest` and returns them. Does not allocate.
     pub fn take(&mut self, digest: &D) -> Items<W>
         ensures served { result ≡ items_at (eq_by_cmp D.cmp) digest.now self.old }
         ensures left { let same = eq_by_cmp D.cmp in
-            (e : D) → items_at same e self.new ≡ (if same digest.now e then [] else items_at same e self.old) }
+            (e : D) → items_at same e self.new
+            ≡ (if same digest.now e then [] else items_at same e self.old) }
     {
         match self.by_digest.remove(digest) {
             Some(waiters) => waiters,
@@ -99,8 +102,8 @@ impl<D: Ord + Copy, W: Drop> Waiters<D, W> {
         }
     }
 
-    /// Drops those whose ticket is gone, and says how many they were, or the greatest number where
-    /// they were more. Takes no memory.
+    /// Drops every waiter whose ticket is in `gone`. Returns how many, saturating at `u64::MAX`.
+    /// Does not allocate.
     pub fn cleanup(&mut self, gone: &[u64]) -> u64
     where
         W: Ticketed,
@@ -109,20 +112,23 @@ impl<D: Ord + Copy, W: Drop> Waiters<D, W> {
             ≡ filter (λ w. not (is_gone W.ticket_of gone.now w)) (items_at same e self.old) }
         ensures removed { result ≡ counted (gone_from W.ticket_of gone.now self.old) }
         ensures distinct { IsDistinct (eq_by_cmp D.cmp) (keys_of self.old) }
+        ensures distinct_left { IsDistinct (eq_by_cmp D.cmp) (keys_of self.new) }
     {
         let before = total(&self.by_digest);
         self.by_digest.retain(|_, waiters| drop_gone(waiters, gone));
         clamped(before - total(&self.by_digest))
     }
 
-    /// Drops those that answer closed, and says how many they were, or the greatest number where
-    /// they were more. Each is asked once. Takes no memory.
+    /// Drops every waiter that is closed, asking each of them once. Returns how many, saturating at
+    /// `u64::MAX`. Does not allocate.
     pub fn cleanup_by(&mut self) -> u64
     where
         W: Closable,
         ensures kept { let same = eq_by_cmp D.cmp in
-            (e : D) → DropsClosed W.may_answer (items_at same e self.old) (items_at same e self.new) }
-        ensures removed { (n : ℕ) × (waiting_in self.old ≡ waiting_in self.new + n) × (result ≡ counted n) }
+            (e : D) → DropsClosed W.may_answer
+            (items_at same e self.old) (items_at same e self.new) }
+        ensures removed { (n : ℕ) × (waiting_in self.old ≡ waiting_in self.new + n)
+            × (result ≡ counted n) }
         ensures distinct { IsDistinct (eq_by_cmp D.cmp) (keys_of self.old) }
         ensures distinct_left { IsDistinct (eq_by_cmp D.cmp) (keys_of self.new) }
     {
@@ -130,9 +136,16 @@ impl<D: Ord + Copy, W: Drop> Waiters<D, W> {
         self.by_digest.retain(|_, waiters| drop_closed(waiters));
         clamped(before - total(&self.by_digest))
     }
+
+    /// Drops all waiters. Does not allocate.
+    pub fn clear(&mut self)
+        ensures { self.new ≡ [] }
+    {
+        self.by_digest.clear();
+    }
 }
 
-/// The waiter of a list of one.
+/// Returns the one waiter of the list.
 fn only<W: Drop>(waiters: Items<W>) -> W
     requires { length waiters ≡ 1 }
     ensures { waiters ≡ result ∷ [] }
@@ -140,7 +153,7 @@ fn only<W: Drop>(waiters: Items<W>) -> W
     waiters.into_vec().pop().unwrap()
 }
 
-/// How many wait.
+/// Returns the number of all waiters.
 fn total<D: Ord, W>(by_digest: &BTreeMap<D, Items<W>>) -> u128
     ensures { result ≡ waiting_in by_digest.now.entries }
 {
@@ -151,14 +164,14 @@ fn total<D: Ord, W>(by_digest: &BTreeMap<D, Items<W>>) -> u128
     all
 }
 
-/// The number, or the greatest number where it is above that.
+/// Returns the number, saturating at `u64::MAX`.
 fn clamped(number: u128) -> u64
     ensures { result ≡ counted number }
 {
     u64::try_from(number).unwrap_or(u64::MAX)
 }
 
-/// Whether the waiter's ticket is gone.
+/// Returns whether the ticket of the waiter is in `gone`.
 fn has_gone<W: Ticketed>(waiter: &W, gone: &[u64]) -> bool
     ensures { result ≡ is_gone W.ticket_of gone.now waiter.now }
 {
@@ -166,7 +179,7 @@ fn has_gone<W: Ticketed>(waiter: &W, gone: &[u64]) -> bool
     gone.contains(&ticket)
 }
 
-/// Drops the waiters whose ticket is gone, and says whether any is left.
+/// Drops the waiters whose ticket is in `gone`. Returns whether any is left.
 fn drop_gone<W: Ticketed + Drop>(waiters: &mut Items<W>, gone: &[u64]) -> bool
     ensures kept { waiters.new ≡ filter (λ w. not (is_gone W.ticket_of gone.now w)) waiters.old }
     ensures left { result ≡ nat_lt 0 (length waiters.new) }
@@ -175,7 +188,7 @@ fn drop_gone<W: Ticketed + Drop>(waiters: &mut Items<W>, gone: &[u64]) -> bool
     waiters.len() > 0
 }
 
-/// Drops the waiters that answer closed, and says whether any is left.
+/// Drops the waiters that are closed. Returns whether any is left.
 fn drop_closed<W: Closable + Drop>(waiters: &mut Items<W>) -> bool
     ensures kept { DropsClosed W.may_answer waiters.old waiters.new }
     ensures left { result ≡ nat_lt 0 (length waiters.new) }

@@ -1,20 +1,29 @@
-//! Byte lists as bytes: the length in four bytes, the highest first, then the bytes.
+//! The encoding of a list of bytes: its length in four bytes, big-endian, and then its bytes.
+//!
+//! A message type writes and reads its lists one after the other. Its `encode_size` adds up
+//! [`encode_size`], its `write` reserves that many bytes and then calls [`write_reserved`] for each
+//! list, and its `layout` and `read_cfg` call [`read_cfg`] on the bytes that are left. The laws of
+//! its `Codec` follow from the lemmas of `specs/ByteListLaws`. No call of this module allocates.
 ghost use Rattle.std.specs.Prelude.{◌≡◌, ◌+◌, ◌≤◌, ◌++◌, IsTrue, if◌then◌else◌, length, Option, Some, None, IfOk, vec_len, vec_capacity};
-ghost use Rattle.broadcast_core.specs.Codec.{Gives, has_spelling, spelled, list_at};
+ghost use Rattle.broadcast_core.specs.Codec.{Gives, has_spelling, spelled, read_list};
 
 use super::{CodecError, RangeCfg};
 use byteorder::{BigEndian, ByteOrder};
 
-/// How many bytes say the length.
+/// The number of bytes of a length.
 const LENGTH_BYTES: usize = 4;
 
-/// The greatest length that they can say.
+/// The greatest length that these bytes can say.
 const MAX_LENGTH: usize = u32::MAX as usize;
 
-/// The byte list in front of the bytes, with the bytes after it, or the first refusal.
-#[tactic(auto, unfolding(crate::specs::Codec::list_at))]
-pub fn list_at<'a>(buf: &'a [u8], range: &RangeCfg) -> Result<(&'a [u8], &'a [u8]), CodecError>
-    ensures exact { Gives (λ x. (x.0.now, x.1.now)) result (list_at range.now buf.now) }
+/// Reads the list at the front of `buf`, whose length is in `cfg`, and returns it with the bytes
+/// after it.
+///
+/// Fails with `EndOfBuffer` if `buf` ends before the length, with `InvalidLength` if the length is
+/// out of `cfg`, and with `EndOfBuffer` if `buf` ends before the list, checked in this order.
+#[tactic(auto, unfolding(crate::specs::Codec::read_list))]
+pub fn read_cfg<'a>(buf: &'a [u8], cfg: &RangeCfg) -> Result<(&'a [u8], &'a [u8]), CodecError>
+    ensures exact { Gives (λ x. (x.0.now, x.1.now)) result (read_list cfg.now buf.now) }
     ensures shorter { IfOk result (λ x. length x.1.now ≤ length buf.now) }
 {
     if buf.len() < LENGTH_BYTES {
@@ -22,7 +31,7 @@ pub fn list_at<'a>(buf: &'a [u8], range: &RangeCfg) -> Result<(&'a [u8], &'a [u8
     }
     let (length, rest) = buf.split_at(LENGTH_BYTES);
     let length = BigEndian::read_u32(length) as usize;
-    if !range.contains(length) {
+    if !cfg.contains(length) {
         return Err(CodecError::InvalidLength(length));
     }
     if rest.len() < length {
@@ -31,9 +40,10 @@ pub fn list_at<'a>(buf: &'a [u8], range: &RangeCfg) -> Result<(&'a [u8], &'a [u8
     Ok(rest.split_at(length))
 }
 
-/// How many bytes spell the byte list, or `None` where it is too long.
-pub fn list_size(list: &[u8]) -> Option<usize>
-    ensures { result ≡ (if has_spelling list.now then Some (length (spelled list.now)) else None) }
+/// Returns the number of bytes that encode `list`, or `None` if it has more than 4,294,967,295.
+pub fn encode_size(list: &[u8]) -> Option<usize>
+    ensures { result
+        ≡ (if has_spelling list.now then Some (length (spelled list.now)) else None) }
 {
     if list.len() > MAX_LENGTH {
         return None;
@@ -41,11 +51,11 @@ pub fn list_size(list: &[u8]) -> Option<usize>
     Some(LENGTH_BYTES + list.len())
 }
 
-/// Appends the spelling of the byte list, for which there is room.
-pub fn put_list(out: &mut Vec<u8>, list: &[u8])
+/// Appends the encoding of `list` to `out`, where room for it is reserved.
+pub fn write_reserved(list: &[u8], out: &mut Vec<u8>)
     requires short { IsTrue (has_spelling list.now) }
     requires room { vec_len out.old + length (spelled list.now) ≤ vec_capacity out.old }
-    ensures items { out.new.items ≡ out.old.items ++ spelled list.now }
+    ensures written { out.new.items ≡ out.old.items ++ spelled list.now }
     ensures len { vec_len out.new ≡ vec_len out.old + length (spelled list.now) }
     ensures capacity { vec_capacity out.old ≤ vec_capacity out.new }
 {

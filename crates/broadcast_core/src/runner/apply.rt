@@ -3,8 +3,8 @@ ghost use Rattle.std.specs.Prelude.{◌≡◌, ℕ, []};
 ghost use Rattle.std.specs.Option.{option_to_list};
 ghost use Rattle.broadcast_core.specs.Codec.{whole};
 ghost use Rattle.broadcast_core.specs.Content.{same_by};
-ghost use Rattle.broadcast_core.specs.Follows.{Follows};
-ghost use Rattle.broadcast_core.specs.History.{Setting};
+ghost use Rattle.broadcast_core.specs.Setting.{Setting, setting};
+ghost use Rattle.broadcast_core.specs.HasRun.{Follows};
 ghost use Rattle.broadcast_core.specs.declared.event.Event.TheVariants as event;
 ghost use Rattle.broadcast_core.specs.declared.event.Answer.TheVariants as answer;
 
@@ -25,15 +25,8 @@ pub fn apply<P: PublicKey, M: Digestible + Codec>(
     cfg: &M::Cfg,
     event: Event<P, M>,
 ) -> (Answer<M>, Option<Sent<P>>)
-    ensures { let s : Setting P M M.Digest = record {
-      own = core.old.own;
-      deque_size = core.old.deque_size;
-      priority = priority;
-      same = same_by P.cmp M.Digest.cmp;
-      digest_of = M.digest_of;
-      encoding = M.encoding;
-      reading = whole (M.reading cfg.now);
-    } in
+    ensures { let s = setting core.old.own core.old.deque_size priority (same_by P.cmp M.Digest.cmp)
+        M.digest_of M.encoding (whole (M.reading cfg.now)) in
         Follows s event core.old core.new result.0 (option_to_list result.1) }
 {
     match event {

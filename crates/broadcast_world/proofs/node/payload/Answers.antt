@@ -1,9 +1,9 @@
 use Rattle.std.proofs.Common.{[], refl, ap}
 use Rattle.broadcast_core.specs.Codec.{whole}
-use Rattle.broadcast_core.specs.TestMessage.{message_at}
+use Rattle.broadcast_core.specs.TestMessage.{read_message}
 use Rattle.broadcast_world.specs.World.{at}
 use Rattle.broadcast_world.proofs.OneNode.{NodeTakes-from}
 use Rattle.broadcast_world.proofs.node.payload.Goals as goal
 
 pub returns : goal.returns
-returns g c = λ w n ranged past has. NodeTakes-from g.P.Ord.cmp w n past _ _ _ [] (c.payload.ensures (at g.P.Ord.cmp w n) refl refl (ap (λ r. whole (message_at r)) ranged) past has)
+returns g c = λ w n ranged past has. NodeTakes-from g.P.Ord.cmp w n past _ _ _ [] (c.payload.ensures (at g.P.Ord.cmp w n) refl refl (ap (λ r. whole (read_message r)) ranged) past has)

@@ -8,9 +8,10 @@ use Rattle.broadcast_core.proofs.buffer.Core.list.Goals as goal
 pub returns-clause-cached : goal.returns-clause-cached
 returns-clause-cached g c =
     let same = same_by g.P.Ord.cmp g.M.Digest.Ord.cmp in
+    let st = c.self-inside.inside.0.1.0 in
     let laws = eq_by_cmp_equiv (g.met.M.Digest.Ord g.world.𝓛 g.world.𝓜 g.world.𝓡 (λ s x. x, λ x. x, λ x. x, λ x. x)).total in
-    let lists = c.self.inside.cache.lists in
+    let lists = st.cache.lists in
     let digests = items_at same.key c.args.peer.now lists in
-    rw (← c.self.view_is) (λ i other h.
+    rw (← c.self.view_is, ← c.self-inside.view_is) (λ i other h.
     let d = slice_index_or digests i other in
-    c.self.invariant.messages d ∙ stored-at same c.args.peer.now d lists (list_any_at (same.digest d) digests i other h (laws.refl d)))
+    c.self-inside.invariant.messages d ∙ stored-at same c.args.peer.now d lists (list_any_at (same.digest d) digests i other h (laws.refl d)))

@@ -20,4 +20,4 @@ returns-in-Some g c =
     let total = (g.met.P.Ord g.world.𝓛 g.world.𝓜 g.world.𝓡 (λ s x. x, λ x. x, λ x. x, λ x. x)).total in
     subst (λ now. option_copied c.core_at.result ≡ content_of cmp now c.args.key.now) c.self.view_is
     (c.core_at.ensures ∙ ap (λ cs. slice_get cs c.in-Some.place) c.deref.ensures.value
-    ∙ sym (found-zip total c.args.key.now c.self.inside.nodes c.self.inside.cores.items c.in-Some.place c.as_slice-sorted.ensures.rises c.self.invariant c.in-Some.ensures.place))
+    ∙ sym (found-zip total c.args.key.now c.self.inside.nodes c.self.inside.cores.items c.in-Some.place c.as_slice-sorted.ensures.sorted c.self.invariant c.in-Some.ensures.place))

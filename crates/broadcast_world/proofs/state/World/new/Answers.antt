@@ -1,6 +1,6 @@
 use Rattle.std.proofs.Common.{◌≡◌, ℕ, [], map, sym, ap, ◌∙◌, subst}
 use Rattle.std.specs.List.{AllZip}
-use Rattle.broadcast_core.specs.Follows.{HasContent}
+use Rattle.broadcast_core.specs.HasContent.{HasContent}
 use Rattle.broadcast_world.specs.Scene.{Scene}
 use Rattle.broadcast_world.specs.World.{at}
 use Rattle.broadcast_world.specs.Made.{no_content}

@@ -19,6 +19,6 @@ returns g c = λ log has.
     let step = c.args.step.now in
     let was = subst (λ now. HasWorld cmp log now) (sym c.self.view_is) has in
     subst (λ old. TakesStep cmp log step c.apply.result old (record { scene = w; cores = c.apply.new.cores.items; packets = c.apply.new.packets.items })) c.self.view_is
-    (TakesStep-at cmp w total (IsDistinct-from_sorted cmp w.nodes c.as_slice-sorted.ensures.rises) log step c.apply.result (event_of cmp w step c.self.inside.packets.items)
+    (TakesStep-at cmp w total (IsDistinct-from_sorted cmp w.nodes c.as_slice-sorted.ensures.sorted) log step c.apply.result (event_of cmp w step c.self.inside.packets.items)
     c.self.inside.cores.items c.apply.new.cores.items c.self.inside.packets.items c.apply.new.packets.items
     (ap (event_of cmp w step) (sym was.packets)) (c.apply.ensures.node w refl refl refl) (c.apply.ensures.packets w refl refl refl) was)

@@ -1,8 +1,11 @@
 use Rattle.std.specs.List.{IsDistinct}
 use Rattle.broadcast_core.proofs.buffer.cache.Cache.list.Goals as goal
 
-pub returns-in-Some-clause-items : goal.returns-in-Some-clause-items
-returns-in-Some-clause-items g c = rw (← c.self.view_is, ← c.in-Some.ensures.value) c.to_vec.ensures.items
+pub returns-in-Some-clause-digests : goal.returns-in-Some-clause-digests
+returns-in-Some-clause-digests g c = rw (← c.self.view_is, ← c.in-Some.ensures.value) c.to_vec.ensures.digests
+
+pub returns-in-Some-clause-succeeds_on_empty : goal.returns-in-Some-clause-succeeds_on_empty
+returns-in-Some-clause-succeeds_on_empty g c = rw (← c.self.view_is, ← c.in-Some.ensures.value) c.to_vec.ensures.succeeds_on_empty
 
 pub returns-in-None-clause-distinct : goal.returns-in-None-clause-distinct
 unfolding IsDistinct
