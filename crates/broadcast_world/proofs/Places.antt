@@ -118,3 +118,17 @@ pub found-zip : {P B : Type 0} {cmp : P → P → Ordering} (o : IsTotalOrder cm
 found-zip {P} {B} {cmp} o p keys ys i rises long place =
     let placed = some_at (slice_get keys i) _ place in
     find-zip (eq_by_cmp cmp) (eq_by_cmp_equiv o) p keys ys i placed.0 (IsDistinct-from_sorted cmp keys rises) long placed.1 placed.2
+
+-- lists without a common key
+module _ {P : Type 0} (same : P → P → Bool) (laws : IsEquivalence same) where
+  any-other : (q h : P) (keys : List P) → same q h ≡ true → list_any (λ n. same n h) keys ≡ list_any (same q) keys
+  any-other q h [] e = refl
+  any-other q h (x ∷ keys) e = rw (laws.symm x h, sym (laws.congr q h x e), any-other q h keys e) refl
+
+  pub keys-apart : (q : P) (keys others : List P) → list_any (same q) keys ≡ true → list_any (λ h. list_any (λ n. same n h) keys) others ≡ false → list_any (same q) others ≡ false
+  keys-apart q keys [] here none = refl
+  keys-apart q keys (h ∷ others) here none =
+      let both = or_false (list_any (λ n. same n h) keys) (list_any (λ k. list_any (λ n. same n k) keys) others) none in
+      by_test (same q h)
+      (λ t. absurd (let no = sym both.0 ∙ any-other q h keys t ∙ here in cc))
+      (λ t. rw t (keys-apart q keys others here both.1))

@@ -1,6 +1,7 @@
 //! A list of steps, one after the other.
-ghost use Rattle.std.specs.Prelude.{◌≡◌, IfOk, OnErr};
-ghost use Rattle.broadcast_world.specs.World.{Log};
+ghost use Rattle.std.specs.Prelude.{◌≡◌, ◌++◌, IfOk, OnErr};
+ghost use Rattle.broadcast_world.specs.Broadcasts.{HasOrigins};
+ghost use Rattle.broadcast_world.specs.World.{Log, log_of};
 ghost use Rattle.broadcast_world.specs.Steps.{HasWorld, TakesSteps};
 
 use crate::key::NodeKey;
@@ -20,6 +21,8 @@ pub fn run_world<P: NodeKey>(
 ) -> Result<WorldLog, AllocError>
     ensures ok { IfOk result (λ run. (log : Log P) → HasWorld P.cmp log world.old
         → TakesSteps P.cmp log steps.now run.answers world.old world.new) }
+    ensures origins { IfOk result (λ run. (log : Log P) → HasWorld P.cmp log world.old
+        → HasOrigins P.cmp world.new.scene (log_of steps.now run.answers ++ log) world.new.cores) }
     ensures err { OnErr result (world.new ≡ world.old) }
 {
     let mut answers = Vec::with_capacity(alloc, steps.len())?;

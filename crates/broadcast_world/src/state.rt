@@ -1,5 +1,5 @@
 //! A world.
-ghost use Rattle.std.specs.Prelude.{◌≡◌, true, [], length, IfOk, Err};
+ghost use Rattle.std.specs.Prelude.{◌≡◌, true, false, [], length, IfOk, Err};
 ghost use Rattle.std.specs.List.{list_any, slice_get};
 ghost use Rattle.std.specs.Option.{option_copied};
 ghost use Rattle.std.specs.Ordering.{eq_by_cmp};
@@ -63,6 +63,9 @@ impl<P: NodeKey> World<P> {
             → list_any (eq_by_cmp P.cmp q) world.scene.nodes ≡ list_any (eq_by_cmp P.cmp q) nodes.items) }
         ensures hostile { IfOk result (λ world. (q : P)
             → list_any (eq_by_cmp P.cmp q) world.scene.hostile ≡ list_any (eq_by_cmp P.cmp q) hostile.items) }
+        ensures apart { IfOk result (λ world. (q : P)
+            → list_any (eq_by_cmp P.cmp q) world.scene.nodes ≡ true
+            → list_any (eq_by_cmp P.cmp q) world.scene.hostile ≡ false) }
         ensures deque_size { IfOk result (λ world. world.scene.deque_size ≡ deque_size) }
         ensures range { IfOk result (λ world. world.scene.range ≡ range) }
         ensures empty { IfOk result (λ world. HasWorld P.cmp [] world) }

@@ -1,6 +1,8 @@
-use Rattle.std.proofs.Common.{◌≡◌, length, arith, sym, ap, ◌∙◌, subst}
+use Rattle.std.proofs.Common.{◌≡◌, ◌++◌, length, arith, sym, ap, ◌∙◌, subst}
 use Rattle.std.proofs.lemmas.List.{take_all}
 use Rattle.broadcast_world.specs.Steps.{TakesSteps}
+use Rattle.broadcast_world.specs.World.{log_of}
+use Rattle.broadcast_world.proofs.Origins.{HasOrigins-from}
 use Rattle.broadcast_world.proofs.TakenSteps.{TakesSteps-next}
 use Rattle.broadcast_world.proofs.run.run_world.Goals as goal
 
@@ -19,3 +21,8 @@ returns-clause-ok g c = λ log has.
     let all = take_all at.step-index c.args.steps.now (omega arith) in
     subst (λ answers. TakesSteps g.P.Ord.cmp log c.args.steps.now answers c.args.world.now at.world) (sym c.from_vec.ensures)
     (subst (λ steps. TakesSteps g.P.Ord.cmp log steps at.answers.items c.args.world.now at.world) all (at.invariant.taken log has))
+
+pub returns-clause-origins : goal.returns-clause-origins
+returns-clause-origins g c = λ log has.
+    let total = (g.met.P.Ord g.world.𝓛 g.world.𝓜 g.world.𝓡 (λ s x. x, λ x. x, λ x. x, λ x. x)).total in
+    HasOrigins-from g.P.Ord.cmp total c.loop-step.world.scene (log_of c.args.steps.now c.from_vec.result ++ log) c.loop-step.world.cores (returns-clause-ok g c log has).world.cores

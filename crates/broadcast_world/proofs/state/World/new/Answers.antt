@@ -1,9 +1,13 @@
 use Rattle.std.proofs.Common.{◌≡◌, ℕ, [], map, sym, ap, ◌∙◌, subst}
 use Rattle.std.specs.List.{AllZip}
+use Rattle.std.specs.Cmp.{eq_by_cmp_equiv}
+use Rattle.std.specs.Ordering.{eq_by_cmp}
+use Rattle.broadcast_core.proofs.Distinct.{or_false}
 use Rattle.broadcast_core.specs.HasContent.{HasContent}
 use Rattle.broadcast_world.specs.Scene.{Scene}
 use Rattle.broadcast_world.specs.World.{at}
-use Rattle.broadcast_world.specs.Made.{no_content}
+use Rattle.broadcast_world.specs.Made.{no_content, shares_key}
+use Rattle.broadcast_world.proofs.Places.{keys-apart}
 use Rattle.broadcast_world.proofs.OneNode.{contents-empty}
 use Rattle.broadcast_world.proofs.state.World.new.Goals as goal
 
@@ -17,3 +21,11 @@ returns-clause-empty g c =
       cores = subst (λ cs. AllZip (λ n core. HasContent {V = ℕ} (at cmp w n) [] core) nodes cs) (sym cores) (contents-empty cmp w nodes);
       packets = c.new.ensures.items;
     }
+
+pub returns-clause-apart : goal.returns-clause-apart
+returns-clause-apart g c = λ q here.
+    let total = (g.met.P.Ord g.world.𝓛 g.world.𝓜 g.world.𝓡 (λ s x. x, λ x. x, λ x. x, λ x. x)).total in
+    let none = sym c.shares_key.ensures ∙ c.if-shares_key.false in
+    c.in_ok-hostile.ensures.members q
+    ∙ keys-apart (eq_by_cmp g.P.Ord.cmp) (eq_by_cmp_equiv total) q c.args.nodes.items c.args.hostile.items (sym (c.in_ok-nodes.ensures.members q) ∙ here)
+    (or_false _ _ (ap (λ ns. shares_key g.P.Ord.cmp ns c.args.hostile.items) (sym c.deref.ensures.value) ∙ ap (λ hs. shares_key g.P.Ord.cmp c.deref.result.now hs) (sym c.deref-2.ensures.value) ∙ none)).1
