@@ -25,6 +25,8 @@ mod reference;
 #[cfg(test)]
 mod refused_growths;
 #[cfg(test)]
+mod replay_inbox;
+#[cfg(test)]
 mod replay_rows;
 #[cfg(test)]
 mod sends;

@@ -1,7 +1,7 @@
 //! The program `replay` over readers and writers of all kinds.
 mod table;
 
-use commonware_broadcast::replay::play;
+use replay_lib::play;
 use std::alloc::AllocError;
 use std::io::{self, ErrorKind, Read, Write};
 use std::process::Abort;

@@ -5,7 +5,3 @@ pub mod Refilling
 pub mod Queues
 pub mod TicketCounts
 pub mod TicketRuns
-pub mod ByteLists
-pub mod Numbers
-pub mod Written
-pub mod Loopbacks

@@ -5,8 +5,6 @@ pub mod Queue
 pub mod Mailbox
 pub mod Tickets
 pub mod Asked
-pub mod Words
-pub mod Loopback
 pub use Rattle.broadcast_core.specs.Carried
 pub use Rattle.broadcast_core.specs.Codec
 pub use Rattle.broadcast_core.specs.TestMessage

@@ -1,10 +1,8 @@
-//! Spreading of messages to peers: the mailbox through which callers reach a node, and the program
-//! `replay`.
+//! Spreading of messages to peers: the mailbox through which callers reach a node.
 #![tactic(auto)]
 
 pub mod broadcaster;
 pub mod ingress;
-pub mod replay;
 
 // The cache and its kin, for callers of this crate alone.
 pub use broadcast_core::{

@@ -1,7 +1,7 @@
 //! Runs a file of events from standard input, as `replay OWN SIZE [MAX]`.
 #![tactic(auto)]
 
-use commonware_broadcast::replay::{play, read_arguments};
+use replay_lib::{play, read_arguments};
 use std::process::ExitCode;
 
 fn main(rt: HostRuntime) -> ExitCode {

@@ -1,0 +1,100 @@
+-- Bytes and their digits.
+use Rattle.std.proofs.Common.{◌≢◌, codes, ◌≡◌, ℕ, suc, zero, ◌+◌, ◌*◌, ◌/◌, ◌%◌, ◌<◌, List, [], ◌∷◌, ◌++◌, length, take, drop, slice_index, slice_set, refl, ap, ◌∙◌, arith}
+use Rattle.std.proofs.lemmas.List.{append_assoc, take_more, take_more_set, take-append-drop}
+use Rattle.hex.specs.Hex.{encode_with, encode_lower, lower_digits, IsBytes}
+use Rattle.broadcast_text.specs.Words.{byte_list_word}
+use Rattle.hex.proofs.HexLemmas.{length-encode_with}
+
+-- digits of bytes in turn are the digits of all
+pub encode_with-append : (t xs ys : List ℕ) → encode_with t (xs ++ ys) ≡ encode_with t xs ++ encode_with t ys
+unfolding encode_with
+encode_with-append t [] ys = refl
+encode_with-append t (x ∷ xs) ys = rw (encode_with-append t xs ys) refl
+
+-- the digits of one byte
+pub encode_with-one : (t : List ℕ) (b : ℕ) → encode_with t (b ∷ []) ≡ slice_index t (b / 16) ∷ slice_index t (b % 16) ∷ []
+unfolding encode_with
+encode_with-one t b = refl
+
+-- no bytes have no digits
+pub encode_with-nil : (t : List ℕ) → encode_with t [] ≡ []
+unfolding encode_with
+encode_with-nil t = refl
+
+-- the high digit of a byte
+pub high_digit : (t bs : List ℕ) (i : ℕ) → i < length bs → slice_index (encode_with t bs) (2 * i) ≡ slice_index t (slice_index bs i / 16)
+unfolding encode_with
+high_digit t [] i h = absurd (omega arith)
+high_digit t (b ∷ bs) zero h = refl
+high_digit t (b ∷ bs) (suc i) h =
+    let two : 2 * suc i ≡ suc (suc (2 * i)) = omega arith in
+    rw two (high_digit t bs i (omega arith))
+
+-- the low digit of a byte
+pub low_digit : (t bs : List ℕ) (i : ℕ) → i < length bs → slice_index (encode_with t bs) (2 * i + 1) ≡ slice_index t (slice_index bs i % 16)
+unfolding encode_with
+low_digit t [] i h = absurd (omega arith)
+low_digit t (b ∷ bs) zero h = refl
+low_digit t (b ∷ bs) (suc i) h =
+    let two : 2 * suc i + 1 ≡ suc (suc (2 * i + 1)) = omega arith in
+    rw two (low_digit t bs i (omega arith))
+
+-- two more elements of a list
+take-two_more : (xs : List ℕ) (n : ℕ) → n + 1 < length xs → take (n + 2) xs ≡ take n xs ++ (slice_index xs n ∷ slice_index xs (n + 1) ∷ [])
+take-two_more xs n h =
+    let two : n + 2 ≡ n + 1 + 1 = omega arith in
+    rw (two, take_more xs (n + 1) 0 (omega arith), take_more xs n 0 (omega arith))
+    (append_assoc (take n xs) (slice_index xs n ∷ []) (slice_index xs (n + 1) ∷ []))
+
+-- one byte more is read
+pub decode_step : (digits bytes : List ℕ) (i b high low : ℕ) → i < length bytes → length digits ≡ 2 * length bytes
+    → high < 16 → low < 16 → b ≡ high * 16 + low
+    → slice_index lower_digits high ≡ slice_index digits (2 * i)
+    → slice_index lower_digits low ≡ slice_index digits (2 * i + 1)
+    → take (2 * i) digits ≡ encode_lower (take i bytes)
+    → take (2 * (i + 1)) digits ≡ encode_lower (take (i + 1) (slice_set bytes i b))
+decode_step digits bytes i b high low h len eh el eb hd ld inv =
+    let two : 2 * (i + 1) ≡ 2 * i + 2 = omega arith in
+    let hi : b / 16 ≡ high = omega arith in
+    let lo : b % 16 ≡ low = omega arith in
+    let front = take-two_more digits (2 * i) (omega arith) in
+    let pair : encode_lower (b ∷ []) ≡ slice_index digits (2 * i) ∷ slice_index digits (2 * i + 1) ∷ [] =
+    rw (encode_with-one lower_digits b, hi, lo, hd, ld) refl in
+    rw (two, front, take_more_set bytes i b h, encode_with-append lower_digits (take i bytes) (b ∷ []), pair, inv) refl
+
+-- digits that spell bytes read as them
+pub digit_found : (bs digits : List ℕ) (i high low : ℕ) → IsBytes bs → digits ≡ encode_lower bs → i < length bs
+    → ((v : ℕ) → v < 16 → slice_index digits (2 * i) ≡ slice_index lower_digits v → high ≡ v)
+    → ((v : ℕ) → v < 16 → slice_index digits (2 * i + 1) ≡ slice_index lower_digits v → low ≡ v)
+    → (high < 16) × (low < 16)
+digit_found bs digits i high low fits e h reads_high reads_low =
+    let byte : slice_index bs i < 256 = fits i in
+    let a : slice_index bs i / 16 < 16 = omega arith in
+    let b : slice_index bs i % 16 < 16 = omega arith in
+    let hd : slice_index digits (2 * i) ≡ slice_index lower_digits (slice_index bs i / 16) =
+    ap (λ (ds : List ℕ). slice_index ds (2 * i)) e ∙ high_digit lower_digits bs i h in
+    let ld : slice_index digits (2 * i + 1) ≡ slice_index lower_digits (slice_index bs i % 16) =
+    ap (λ (ds : List ℕ). slice_index ds (2 * i + 1)) e ∙ low_digit lower_digits bs i h in
+    let p = reads_high (slice_index bs i / 16) a hd in
+    let q = reads_low (slice_index bs i % 16) b ld in
+    (omega (arith, p), omega (arith, q))
+
+-- a word of digits is a byte list's word
+pub byte_list_word-found : (bytes word : List ℕ) → word ≡ encode_lower bytes → 0 < length word → word ≡ byte_list_word bytes
+unfolding encode_with
+byte_list_word-found [] word e h = absurd (omega (arith, ap length e))
+byte_list_word-found (b ∷ bytes) word e h = e
+
+-- a byte list's word that is no dash is its digits, of which there are an even number, and some
+pub byte_list_word-digits : (bytes word : List ℕ) → word ≡ byte_list_word bytes → word ≢ codes "-"
+    → (word ≡ encode_lower bytes) × (0 < length word) × (length word % 2 ≡ 0)
+byte_list_word-digits [] word e dash = absurd (dash e)
+byte_list_word-digits (b ∷ bytes) word e dash =
+    let len = length-encode_with lower_digits (b ∷ bytes) in
+    let own : length word ≡ 2 * length (b ∷ bytes) = ap length e ∙ len in
+    (e, omega arith, omega arith)
+
+-- a front and what is cut off the rest
+pub front_more : (front rest bytes : List ℕ) (n : ℕ) → front ++ rest ≡ bytes → (front ++ take n rest) ++ drop n rest ≡ bytes
+front_more front rest bytes n e =
+    append_assoc front (take n rest) (drop n rest) ∙ ap (λ (xs : List ℕ). front ++ xs) (take-append-drop n rest) ∙ e

@@ -1,0 +1,5 @@
+pub mod ByteLists
+pub mod Numbers
+pub mod Written
+pub mod Splits
+pub mod Naming

@@ -1,0 +1,5 @@
+pub mod Words
+pub mod Recipients
+pub mod Message
+pub mod FaultText
+pub mod Printed

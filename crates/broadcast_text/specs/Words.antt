@@ -1,0 +1,24 @@
+-- How the words of a line are spelled.
+use Rattle.std.specs.Prelude.{List, ℕ, Bool, [], ◌∷◌, ◌==◌, if◌then◌else◌, ◌≡◌, ◌<◌, ◌≤◌, codes, length, slice_index}
+use Rattle.std.specs.List.{slice_split}
+use Rattle.hex.specs.Hex.{encode_lower}
+
+-- the words of a text: its parts between separators
+abbrev pub words_of : ℕ → List ℕ → List (List ℕ)
+words_of separator text = slice_split (λ b. b == separator) text
+
+-- the words that are still to come
+abbrev pub words_left : Bool → ℕ → List ℕ → List (List ℕ)
+words_left has_ended separator rest = if has_ended then [] else words_of separator rest
+
+-- a byte list: its bytes in lower-case hexadecimal, or a dash if there are none
+abbrev pub byte_list_word : List ℕ → List ℕ
+byte_list_word [] = codes "-"
+byte_list_word (b ∷ bytes) = encode_lower (b ∷ bytes)
+
+-- the first byte is a digit, and a zero only if it stands alone
+pub record BeginsNumber (word : List ℕ) : Type 0 where
+  pub nonempty : 0 < length word
+  pub low : 48 ≤ slice_index word 0
+  pub high : slice_index word 0 ≤ 57
+  pub alone : slice_index word 0 ≡ 48 → length word ≡ 1

@@ -1,0 +1,112 @@
+//! Byte lists as words: the bytes in lower-case hexadecimal, or a dash if there are none.
+ghost use Rattle.std.specs.Prelude.{◌≡◌, ◌∷◌, ◌*◌, ◌≤◌, ◌<◌, ℕ, List, true, length, slice_index, IfOk, IfErr, OnOk};
+ghost use Rattle.std.specs.Io.KnownBytes.{Appends};
+ghost use Rattle.hex.specs.Hex.{IsBytes, encode_lower, lower_digits};
+ghost use Rattle.broadcast_text.specs.Words.{byte_list_word};
+
+use crate::line_error::LineError;
+use std::alloc::Global;
+use std::io::{self, Write};
+
+/// The word of no bytes.
+const NO_BYTES: &[u8] = b"-";
+
+/// Stands for the value of a byte that is no digit.
+const NO_DIGIT: u8 = u8::MAX;
+
+/// The number of bytes that are written at once.
+const CHUNK_LEN: usize = 64;
+
+/// Returns the bytes that the word spells.
+///
+/// # Errors
+///
+/// Fails with [`LineError::Syntax`] if it spells none, and with [`LineError::Memory`] if an
+/// allocation fails.
+pub fn parse_byte_list(alloc: Global, word: &[u8]) -> Result<Vec<u8>, LineError>
+    ensures spelled_so { IfOk result (λ bytes. word.now ≡ byte_list_word bytes.items) }
+    ensures reads_all_bytes { (bytes : List ℕ) → IsBytes bytes → word.now ≡ byte_list_word bytes
+        → IfErr result (λ e. e ≡ LineError.Memory) }
+{
+    if word == NO_BYTES {
+        return Ok(Vec::new(alloc));
+    }
+    if word.is_empty() || word.len() % 2 != 0 {
+        return Err(LineError::Syntax);
+    }
+    let mut bytes = vec![in alloc; 0; word.len() / 2]?;
+    if !decode(word, &mut bytes) {
+        return Err(LineError::Syntax);
+    }
+    Ok(bytes)
+}
+
+/// Writes the byte of each two digits to `bytes`. Returns whether all of them are digits.
+///
+/// It goes on after one that is no digit: a loop without a branch takes a tenth of the time on
+/// random digits.
+fn decode(digits: &[u8], bytes: &mut [u8]) -> bool
+    requires { length digits.now ≡ 2 * length bytes.old }
+    ensures spelled_so { result ≡ true → digits.now ≡ encode_lower bytes.new }
+    ensures reads_all_bytes { (bs : List ℕ) → IsBytes bs
+        → digits.now ≡ encode_lower bs → result ≡ true }
+{
+    let mut greatest = 0u8;
+    for i in 0..bytes.len() {
+        let high = digit_value(digits[2 * i]);
+        let low = digit_value(digits[2 * i + 1]);
+        greatest = greatest.max(high).max(low);
+        bytes[i] = high.wrapping_mul(16).wrapping_add(low);
+    }
+    greatest < 16
+}
+
+/// Returns the value of a lower-case hexadecimal digit, or `NO_DIGIT`.
+fn digit_value(digit: u8) -> u8
+    ensures spelled_so { result < 16 → slice_index lower_digits result ≡ digit }
+    ensures reads_each_digit { (v : ℕ) → v < 16 → digit ≡ slice_index lower_digits v → result ≡ v }
+{
+    match digit {
+        b'0'..=b'9' => digit - b'0',
+        b'a'..=b'f' => digit - b'a' + 10,
+        _ => NO_DIGIT,
+    }
+}
+
+/// Writes the word that spells the bytes.
+pub fn write_byte_list<W: Write>(out: &mut W, bytes: &[u8]) -> io::Result<()>
+    ensures { OnOk result
+        (Appends (W.contents out.old) (W.contents out.new) (byte_list_word bytes.now)) }
+{
+    if bytes.is_empty() {
+        return out.write_all(NO_BYTES);
+    }
+    let mut rest = bytes;
+    while !rest.is_empty() {
+        let (chunk, after) = rest.split_at(rest.len().min(CHUNK_LEN));
+        write_chunk(out, chunk)?;
+        rest = after;
+    }
+    Ok(())
+}
+
+/// Writes a space and the word of a byte list.
+pub fn write_spaced<W: Write>(out: &mut W, bytes: &[u8]) -> io::Result<()>
+    ensures { OnOk result (Appends (W.contents out.old) (W.contents out.new)
+        (32 ∷ byte_list_word bytes.now)) }
+{
+    out.write_all(b" ")?;
+    write_byte_list(out, bytes)
+}
+
+/// Writes the digits of a few bytes.
+fn write_chunk<W: Write>(out: &mut W, chunk: &[u8]) -> io::Result<()>
+    requires { length chunk.now ≤ CHUNK_LEN }
+    ensures { OnOk result
+        (Appends (W.contents out.old) (W.contents out.new) (encode_lower chunk.now)) }
+{
+    let mut digits = [0; 2 * CHUNK_LEN];
+    let digits = &mut digits[..2 * chunk.len()];
+    hex::encode_to_slice(chunk, digits).unwrap();
+    out.write_all(digits)
+}

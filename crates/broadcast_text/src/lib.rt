@@ -1,0 +1,11 @@
+//! Text of the programs: words and numbers, byte lists, recipients, lines, answers and faults.
+#![tactic(auto)]
+
+pub mod answer;
+pub mod byte_list;
+pub mod fault;
+pub mod line_error;
+pub mod lines;
+pub mod message;
+pub mod recipients;
+pub mod words;

@@ -1,0 +1,54 @@
+//! Recipients as words.
+ghost use Rattle.std.specs.Prelude.{◌≡◌, ℕ, List, IfOk, IfErr};
+ghost use Rattle.broadcast_core.specs.declared.ordered.Recipients.{Recipients as Named};
+ghost use Rattle.broadcast_text.specs.Recipients.{IsKeys, IsRecipients, AreNumbers, keys_of, recipients_of as recipients};
+ghost use Rattle.broadcast_text.specs.declared.line_error.LineError.TheVariants.{Memory};
+
+use crate::line_error::LineError;
+use crate::words::{Words, parse_numbers, strip_mark};
+use broadcast_core::Items;
+use broadcast_core::Recipients;
+use std::alloc::Global;
+
+/// Returns the recipients that the word spells: `all`, or one or more keys after `to:`, separated
+/// by commas.
+///
+/// # Errors
+///
+/// Fails with [`LineError::Syntax`] if it spells none, and with [`LineError::Memory`] if an
+/// allocation fails.
+pub fn parse_recipients(alloc: Global, word: &[u8]) -> Result<Recipients<u64>, LineError>
+    ensures spelled_so { IfOk result (IsRecipients word.now) }
+    ensures reads_all_recipients { (named : Named ℕ) → AreNumbers (keys_of named)
+        → IsRecipients word.now named → IfErr result (λ e. e ≡ Memory) }
+{
+    if word == b"all".as_slice() {
+        return Ok(Recipients::All);
+    }
+    let keys = parse_keys(alloc, strip_mark(word, b"to:")?)?;
+    Ok(recipients_of(keys))
+}
+
+/// Returns the keys that the text spells, one or more of them, separated by commas.
+///
+/// # Errors
+///
+/// Fails with [`LineError::Syntax`] if it spells none, and with [`LineError::Memory`] if an
+/// allocation fails.
+pub fn parse_keys(alloc: Global, text: &[u8]) -> Result<Vec<u64>, LineError>
+    ensures spelled_so { IfOk result (λ keys. IsKeys text.now keys.items) }
+    ensures reads_all_keys { (keys : List ℕ) → AreNumbers keys → IsKeys text.now keys
+        → IfErr result (λ e. e ≡ Memory) }
+{
+    parse_numbers(alloc, Words::new(text, b','))
+}
+
+/// Returns the recipients of one or more keys.
+fn recipients_of(keys: Vec<u64>) -> Recipients<u64>
+    ensures { result ≡ recipients keys.items }
+{
+    match keys.as_slice() {
+        [key] => Recipients::One(*key),
+        _ => Recipients::Some(Items::from_vec(keys)),
+    }
+}

@@ -1,0 +1,79 @@
+-- What the lines of an event file mean.
+use Rattle.std.specs.Prelude.{List, ℕ, [], ◌∷◌, ◌≡◌, ◌<◌, ◌^◌, codes, map}
+use Rattle.std.specs.Fmt.{decimal}
+use Rattle.std.specs.List.{list_any}
+use Rattle.std.specs.List.Sorted.{IsStrictlySortedBy}
+use Rattle.std.specs.Ordering.{eq_by_cmp, nat_cmp}
+use Rattle.sha2.specs.Sha256.{sha256}
+use Rattle.hex.specs.Hex.{IsBytes}
+use Rattle.broadcast_core.specs.TestMessage.{Parts}
+use Rattle.broadcast_core.specs.declared.ordered.Recipients.{Recipients}
+use Rattle.broadcast_core.specs.declared.event.Event.{Event}
+use Rattle.broadcast_core.specs.declared.event.Event.TheVariants.{Peers, Broadcast, Payload, Subscribe, Get, Cleanup}
+use Rattle.broadcast_text.specs.Words.{byte_list_word}
+use Rattle.broadcast_text.specs.Recipients.{IsRecipients, AreNumbers, keys_of}
+use Rattle.broadcast_text.specs.Message.{Spelled, AreBytes, message_words, message_of}
+use Rattle.replay_lib.specs.declared.line.Kind.{Kind}
+use Rattle.replay_lib.specs.declared.line.Kind.TheVariants as kinds
+
+-- a line: its keys or tickets, its recipients, its byte lists
+pub data Line : Type 0 where
+  peers : List ℕ → Line
+  broadcast : Recipients ℕ → Spelled → Line
+  payload : ℕ → List ℕ → Line
+  subscribe : ℕ → List ℕ → Line
+  get : ℕ → List ℕ → Line
+  cleanup : List ℕ → Line
+
+-- the first word
+abbrev pub kind_word : Kind → List ℕ
+kind_word kinds.Peers = codes "peers"
+kind_word kinds.Broadcast = codes "broadcast"
+kind_word kinds.Payload = codes "payload"
+kind_word kinds.Subscribe = codes "subscribe"
+kind_word kinds.Get = codes "get"
+kind_word kinds.Cleanup = codes "cleanup"
+
+abbrev pub kind_of : Line → Kind
+kind_of (peers keys) = kinds.Peers
+kind_of (broadcast named message) = kinds.Broadcast
+kind_of (payload key bytes) = kinds.Payload
+kind_of (subscribe ticket content) = kinds.Subscribe
+kind_of (get ticket content) = kinds.Get
+kind_of (cleanup tickets) = kinds.Cleanup
+
+-- the words after the first
+abbrev pub HasRest : List (List ℕ) → Line → Type 0
+HasRest words (peers keys) = words ≡ map decimal keys
+HasRest words (broadcast named message) = (word : List ℕ) × (words ≡ word ∷ message_words message) × IsRecipients word named
+HasRest words (payload key bytes) = words ≡ decimal key ∷ byte_list_word bytes ∷ []
+HasRest words (subscribe ticket content) = words ≡ decimal ticket ∷ byte_list_word content ∷ []
+HasRest words (get ticket content) = words ≡ decimal ticket ∷ byte_list_word content ∷ []
+HasRest words (cleanup tickets) = words ≡ map decimal tickets
+
+-- the words are those of the line
+abbrev pub HasWords : List (List ℕ) → Line → Type 0
+HasWords words line = (rest : List (List ℕ)) × (words ≡ kind_word (kind_of line) ∷ rest) × HasRest rest line
+
+-- the set has the keys, sorted, each of them once
+pub record IsSetOf (keys set : List ℕ) : Type 0 where
+  pub members : (key : ℕ) → list_any (eq_by_cmp nat_cmp key) set ≡ list_any (eq_by_cmp nat_cmp key) keys
+  pub rises : IsStrictlySortedBy nat_cmp set
+
+-- the event of a line
+abbrev pub IsEventOf : Line → Event ℕ Parts (List ℕ) → Type 0
+IsEventOf (peers keys) event = (set : List ℕ) × (event ≡ Peers set) × IsSetOf keys set
+IsEventOf (broadcast named message) event = event ≡ Broadcast named (message_of message)
+IsEventOf (payload key bytes) event = event ≡ Payload key bytes
+IsEventOf (subscribe ticket content) event = event ≡ Subscribe ticket (sha256 content)
+IsEventOf (get ticket content) event = event ≡ Get ticket (sha256 content)
+IsEventOf (cleanup tickets) event = event ≡ Cleanup tickets
+
+-- numbers are of 64 bits, bytes of 8
+abbrev pub Fits : Line → Type 0
+Fits (peers keys) = AreNumbers keys
+Fits (broadcast named message) = AreNumbers (keys_of named) × AreBytes message
+Fits (payload key bytes) = (key < 2 ^ 64) × IsBytes bytes
+Fits (subscribe ticket content) = (ticket < 2 ^ 64) × IsBytes content
+Fits (get ticket content) = (ticket < 2 ^ 64) × IsBytes content
+Fits (cleanup tickets) = AreNumbers tickets

@@ -1,0 +1,167 @@
+//! A line as an event.
+ghost use Rattle.std.specs.Prelude.{◌≡◌, ◌≢◌, ℕ, List, IfOk, IfErr};
+ghost use Rattle.broadcast_core.specs.declared.ordered.Recipients.{Recipients as Named};
+ghost use Rattle.broadcast_text.specs.Words.{words_of};
+ghost use Rattle.broadcast_text.specs.Message.{Spelled};
+ghost use Rattle.broadcast_text.specs.declared.line_error.LineError.TheVariants.{Syntax, Memory};
+ghost use Rattle.replay_lib.specs.Line.{Line, peers, broadcast, payload, subscribe, get, cleanup, kind_word, kind_of, HasWords, HasRest, IsEventOf, Fits};
+
+use broadcast_core::event::Event;
+use broadcast_core::items::Items;
+use broadcast_core::mocks::TestMessage;
+use broadcast_core::ordered::Set;
+use broadcast_text::byte_list::parse_byte_list;
+use broadcast_text::line_error::LineError;
+use broadcast_text::message::{parse_message, parse_request};
+use broadcast_text::recipients::parse_recipients;
+use broadcast_text::words::{Words, expect_number, parse_numbers};
+use std::alloc::Global;
+
+/// The kind of a line, by its first word.
+#[derive(Clone, Copy, Debug, PartialEq, Eq)]
+pub enum Kind {
+    /// `peers`
+    Peers,
+    /// `broadcast`
+    Broadcast,
+    /// `payload`
+    Payload,
+    /// `subscribe`
+    Subscribe,
+    /// `get`
+    Get,
+    /// `cleanup`
+    Cleanup,
+}
+
+/// Returns the event of a line, which is given without its end.
+///
+/// # Errors
+///
+/// Fails with [`LineError::Syntax`] if the words are those of no line, and with
+/// [`LineError::Memory`] if an allocation fails.
+pub fn parse_line(alloc: Global, line: &[u8]) -> Result<Event<u64, TestMessage>, LineError>
+    ensures event_of_line { IfOk result (λ event.
+        (said : Line) × HasWords (words_of 32 line.now) said × IsEventOf said event) }
+    ensures reads_each_line { (said : Line) → Fits said → HasWords (words_of 32 line.now) said
+        → IfErr result (λ e. e ≡ Memory) }
+{
+    let mut words = Words::new(line, b' ');
+    let kind = parse_kind(words.expect()?)?;
+    parse_rest(alloc, kind, words)
+}
+
+/// Returns the kind of a line by its first word.
+fn parse_kind(word: &[u8]) -> Result<Kind, LineError>
+    ensures spelled_so { IfOk result (λ kind. word.now ≡ kind_word kind) }
+    ensures reads_each_kind { IfErr result (λ e.
+        (said : Line) → word.now ≢ kind_word (kind_of said)) }
+    ensures fails_for_syntax { IfErr result (λ e. e ≡ Syntax) }
+{
+    Ok(match word {
+        b"peers" => Kind::Peers,
+        b"broadcast" => Kind::Broadcast,
+        b"payload" => Kind::Payload,
+        b"subscribe" => Kind::Subscribe,
+        b"get" => Kind::Get,
+        b"cleanup" => Kind::Cleanup,
+        _ => return Err(LineError::Syntax),
+    })
+}
+
+/// Returns the event of a line of this kind by the words after the first.
+fn parse_rest(
+    alloc: Global,
+    kind: Kind,
+    words: Words<'_>,
+) -> Result<Event<u64, TestMessage>, LineError>
+    ensures event_of_line { IfOk result (λ event. (said : Line)
+        × (kind_of said ≡ kind) × HasRest words.entry said × IsEventOf said event) }
+    ensures reads_each_line { (said : Line) → kind_of said ≡ kind → Fits said
+        → HasRest words.entry said → IfErr result (λ e. e ≡ Memory) }
+{
+    match kind {
+        Kind::Peers => parse_peers(alloc, words),
+        Kind::Broadcast => parse_broadcast(alloc, words),
+        Kind::Payload => parse_payload(alloc, words),
+        Kind::Subscribe => parse_subscribe(alloc, words),
+        Kind::Get => parse_get(alloc, words),
+        Kind::Cleanup => parse_cleanup(alloc, words),
+    }
+}
+
+/// Returns the peer set of the keys.
+fn parse_peers(alloc: Global, words: Words<'_>) -> Result<Event<u64, TestMessage>, LineError>
+    ensures event_of_line { IfOk result (λ event. (keys : List ℕ)
+        × HasRest words.entry (peers keys) × IsEventOf (peers keys) event) }
+    ensures reads_each_line { (keys : List ℕ) → Fits (peers keys)
+        → HasRest words.entry (peers keys) → IfErr result (λ e. e ≡ Memory) }
+{
+    let keys = parse_numbers(alloc, words)?;
+    Ok(Event::Peers(Set::from_iter_dedup(keys)?))
+}
+
+/// Returns the broadcast of the recipients and the message.
+fn parse_broadcast(
+    alloc: Global,
+    mut words: Words<'_>,
+) -> Result<Event<u64, TestMessage>, LineError>
+    ensures event_of_line { IfOk result (λ event. (named : Named ℕ) × (message : Spelled)
+        × HasRest words.entry (broadcast named message)
+        × IsEventOf (broadcast named message) event) }
+    ensures reads_each_line { (named : Named ℕ) (message : Spelled)
+        → Fits (broadcast named message) → HasRest words.entry (broadcast named message)
+        → IfErr result (λ e. e ≡ Memory) }
+{
+    let recipients = parse_recipients(alloc, words.expect()?)?;
+    let message = parse_message(alloc, words)?;
+    Ok(Event::Broadcast(recipients, message))
+}
+
+/// Returns the payload of the key and the bytes.
+fn parse_payload(alloc: Global, words: Words<'_>) -> Result<Event<u64, TestMessage>, LineError>
+    ensures event_of_line { IfOk result (λ event. (key : ℕ) × (bytes : List ℕ)
+        × HasRest words.entry (payload key bytes) × IsEventOf (payload key bytes) event) }
+    ensures reads_each_line { (key : ℕ) (bytes : List ℕ) → Fits (payload key bytes)
+        → HasRest words.entry (payload key bytes) → IfErr result (λ e. e ≡ Memory) }
+{
+    let (key, bytes) = words.expect_two()?;
+    let key = expect_number(key)?;
+    let bytes = parse_byte_list(alloc, bytes)?;
+    Ok(Event::Payload(key, Items::from_vec(bytes)))
+}
+
+/// Returns the subscribe of the ticket and the digest of the content.
+fn parse_subscribe(alloc: Global, words: Words<'_>) -> Result<Event<u64, TestMessage>, LineError>
+    ensures event_of_line { IfOk result (λ event. (ticket : ℕ) × (content : List ℕ)
+        × HasRest words.entry (subscribe ticket content)
+        × IsEventOf (subscribe ticket content) event) }
+    ensures reads_each_line { (ticket : ℕ) (content : List ℕ) → Fits (subscribe ticket content)
+        → HasRest words.entry (subscribe ticket content) → IfErr result (λ e. e ≡ Memory) }
+{
+    let (ticket, digest) = parse_request(alloc, words)?;
+    Ok(Event::Subscribe(ticket, digest))
+}
+
+/// Returns the get of the ticket and the digest of the content.
+fn parse_get(alloc: Global, words: Words<'_>) -> Result<Event<u64, TestMessage>, LineError>
+    ensures event_of_line { IfOk result (λ event. (ticket : ℕ) × (content : List ℕ)
+        × HasRest words.entry (get ticket content)
+        × IsEventOf (get ticket content) event) }
+    ensures reads_each_line { (ticket : ℕ) (content : List ℕ) → Fits (get ticket content)
+        → HasRest words.entry (get ticket content) → IfErr result (λ e. e ≡ Memory) }
+{
+    let (ticket, digest) = parse_request(alloc, words)?;
+    Ok(Event::Get(ticket, digest))
+}
+
+/// Returns the cleanup of the tickets.
+fn parse_cleanup(alloc: Global, words: Words<'_>) -> Result<Event<u64, TestMessage>, LineError>
+    ensures event_of_line { IfOk result (λ event. (tickets : List ℕ)
+        × HasRest words.entry (cleanup tickets) × IsEventOf (cleanup tickets) event) }
+    ensures reads_each_line { (tickets : List ℕ) → Fits (cleanup tickets)
+        → HasRest words.entry (cleanup tickets) → IfErr result (λ e. e ≡ Memory) }
+{
+    let tickets = parse_numbers(alloc, words)?;
+    Ok(Event::Cleanup(Items::from_vec(tickets)))
+}

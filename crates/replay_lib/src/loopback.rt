@@ -1,0 +1,120 @@
+//! Broadcasts through an inbox and back.
+ghost use Rattle.std.specs.Prelude.{◌≡◌, IfOk, OnOk, IfErr};
+ghost use Rattle.replay_lib.specs.Loopback.{IsIdle, passed, broadcasts_by, broadcasts_in};
+ghost use Rattle.commonware_broadcast.specs.declared.broadcaster.MailboxError.TheVariants as mailbox;
+ghost use Rattle.broadcast_text.specs.declared.fault.Fault.TheVariants.{Memory, Mailbox as MailboxFailed};
+
+use broadcast_core::event::Event;
+use broadcast_core::items::Items;
+use broadcast_core::mocks::TestMessage;
+use broadcast_core::requests::Closable;
+use broadcast_text::fault::Fault;
+use commonware_broadcast::broadcaster::MailboxError;
+use commonware_broadcast::ingress::inbox::Inbox;
+use commonware_broadcast::ingress::message::Message;
+use commonware_broadcast::ingress::queued::Queued;
+use commonware_broadcast::ingress::responder::Fixed;
+use std::alloc::Global;
+use std::mem;
+use std::sync::{Mutex, Wait};
+
+/// A request of the program. It makes broadcasts alone.
+pub type Request = Message<u64, TestMessage, Fixed, Fixed>;
+
+/// Queues each broadcast in the inbox and takes it again, in order. The events stay the same.
+///
+/// # Errors
+///
+/// Fails with [`Fault::Memory`] if an allocation fails, and with [`Fault::Mailbox`] if the inbox
+/// refuses a broadcast for another cause, or if a request of others waits in it. Some events may be
+/// lost then.
+pub fn loop_back(
+    rt: &impl Wait,
+    inbox: &Mutex<Inbox<Request>>,
+    alloc: Global,
+    events: &mut [Event<u64, TestMessage>],
+) -> Result<(), Fault>
+    ensures { OnOk result (events.new ≡ events.old) }
+{
+    let mut guard = inbox.lock(rt);
+    pass_all(&mut guard, alloc, events)
+}
+
+/// Passes each broadcast through the inbox.
+fn pass_all(
+    inbox: &mut Inbox<Request>,
+    alloc: Global,
+    events: &mut [Event<u64, TestMessage>],
+) -> Result<(), Fault>
+    ensures events_stay { OnOk result (events.new ≡ events.old) }
+    ensures counts_each { OnOk result (inbox.new ≡ passed inbox.old (broadcasts_in events.old)) }
+    // An idle inbox refuses a broadcast only if an allocation fails.
+    ensures idle_lacks_memory_alone { IsIdle inbox.old (broadcasts_in events.old)
+        → IfErr result (λ fault. fault ≡ Memory) }
+{
+    for i in 0..events.len() {
+        let event = mem::replace(&mut events[i], Event::Cleanup(Items::new(alloc)));
+        events[i] = pass_event(inbox, event)?;
+    }
+    Ok(())
+}
+
+/// Passes the event through the inbox if it is a broadcast.
+fn pass_event(
+    inbox: &mut Inbox<Request>,
+    event: Event<u64, TestMessage>,
+) -> Result<Event<u64, TestMessage>, Fault>
+    ensures event_stays { IfOk result (λ back. back ≡ event) }
+    ensures counts_each { OnOk result (inbox.new ≡ passed inbox.old (broadcasts_by event)) }
+    ensures idle_lacks_memory_alone { IsIdle inbox.old (broadcasts_by event)
+        → IfErr result (λ fault. fault ≡ Memory) }
+{
+    match event {
+        Event::Broadcast(recipients, message) => {
+            let request: Request = Message::Broadcast {
+                recipients,
+                message,
+            };
+            let Message::Broadcast {
+                recipients,
+                message,
+            } = pass(inbox, request)?
+            else {
+                return Err(Fault::Mailbox);
+            };
+            Ok(Event::Broadcast(recipients, message))
+        }
+        other => Ok(other),
+    }
+}
+
+/// Queues the message in the inbox, and takes it again.
+fn pass<T: Closable + Drop>(inbox: &mut Inbox<T>, message: T) -> Result<T, Fault>
+    ensures message_stays { IfOk result (λ back. back ≡ message) }
+    ensures counts_each { OnOk result (inbox.new ≡ passed inbox.old 1) }
+    ensures idle_lacks_memory_alone { IsIdle inbox.old 1
+        → IfErr result (λ fault. fault ≡ Memory) }
+{
+    // A request that waits already would be taken in place of this one.
+    if inbox.counts().waiting != 0 {
+        return Err(Fault::Mailbox);
+    }
+    let Queued::Ready(_) = inbox.enqueue(message).map_err(mailbox_fault)? else {
+        return Err(Fault::Mailbox);
+    };
+    let Some((_, message)) = inbox.take() else {
+        return Err(Fault::Mailbox);
+    };
+    Ok(message)
+}
+
+/// Returns the fault of a refused request.
+fn mailbox_fault(error: MailboxError) -> Fault
+    ensures allocation_failed { error ≡ mailbox.Memory → result ≡ Memory }
+    ensures tickets_used_up { error ≡ mailbox.Exhausted → result ≡ MailboxFailed }
+{
+    match error {
+        MailboxError::Memory => Fault::Memory,
+        MailboxError::Exhausted => Fault::Mailbox,
+    }
+}
