@@ -3,12 +3,13 @@ use Rattle.std.proofs.Common.{◌≡◌, suc, ◌<◌, Bool, true, false, not, �
 use Rattle.std.specs.List.{IsDistinct}
 use Rattle.std.specs.Map.{lookup, keys_of}
 use Rattle.std.specs.Cmp.{IsEquivalence}
-use Rattle.broadcast_core.specs.Content.{Content, among, without, first_places, items_at}
+use Rattle.broadcast_core.specs.Content.{Content, Same, among, without, first_places, items_at}
 use Rattle.broadcast_core.specs.Waiters.{NoneEmpty}
 use Rattle.broadcast_core.specs.Setting.{Setting}
-use Rattle.broadcast_core.specs.Happening.{Happening}
+use Rattle.broadcast_core.specs.Happening.{History}
 use Rattle.broadcast_core.specs.HasContent.{HasContent}
-use Rattle.broadcast_core.specs.Waiting.{Awaiting, with_digest, waiting}
+use Rattle.broadcast_core.specs.Waiting.{Awaiting, with_digest, waiting, awaited}
+use Rattle.broadcast_core.proofs.Lawful.{IsLawful}
 use Rattle.broadcast_core.proofs.Distinct.{by_test, among-equal, among-head, IsDistinct-rest, without-absent, among-without_other}
 use Rattle.broadcast_core.proofs.Listing.{IsDistinct-first_places}
 use Rattle.broadcast_core.proofs.WaitsCount.{entry_out}
@@ -86,8 +87,11 @@ module _ {W D : Type 0} (same : D → D → Bool) (laws : IsEquivalence same) wh
       ap suc (rest ∙ ap length out)
       ∙ sym (length-without laws x.0 (awaited_in ws) (IsDistinct-first_places laws (map (λ w. w.digest) ws)) (among-first_places laws x.0 (map (λ w. w.digest) ws) ∙ someone x.0 ws there))
 
-module _ {P M D W V : Type 0} (s : Setting P M D) (laws : IsEquivalence s.same.digest) where
+module _ {P M D W V : Type 0} {s : Setting P M D} {same : Same P D} (is : s.same ≡ same) (lawful : IsLawful same)
+    {past : History P M D W V} {core : Content P M D W} (has : HasContent s past core) where
   -- a core awaits as many digests as its history
-  pub awaited-counted : (past : List (Happening P M D W V)) (core : Content P M D W) → HasContent s past core → IsDistinct s.same.digest (keys_of core.waiters)
-      → NoneEmpty s.same.digest core.waiters → length core.waiters ≡ length (first_places s.same.digest (map (λ w. w.digest) (waiting s past)))
-  awaited-counted past core has distinct some = awaited-entries s.same.digest laws core.waiters (waiting s past) distinct some has.waiters
+  pub awaited-counted : IsDistinct same.digest (keys_of core.waiters) → NoneEmpty same.digest core.waiters → length core.waiters ≡ length (awaited s past)
+  awaited-counted distinct some =
+      let laws = subst (λ m. IsLawful m) (sym is) lawful in
+      awaited-entries s.same.digest laws.digest core.waiters (waiting s past) (subst (λ m. IsDistinct m.digest (keys_of core.waiters)) (sym is) distinct)
+      (subst (λ m. NoneEmpty m.digest core.waiters) (sym is) some) has.waiters

@@ -9,7 +9,8 @@ use Rattle.byteorder.specs.Numbers.{big_from-lt}
 use Rattle.broadcast_core.specs.declared.codec.CodecError.{CodecError}
 use Rattle.broadcast_core.specs.declared.codec.CodecError.TheVariants.{EndOfBuffer, InvalidLength}
 use Rattle.broadcast_core.specs.declared.codec.RangeCfg.{RangeCfg}
-use Rattle.broadcast_core.specs.Codec.{◌>>=◌, GivesOrLacks, layout_of, contains, has_spelling, spelled, Stands, read_length, read_bytes, read_list}
+use Rattle.broadcast_core.specs.ByteList.{◌>>=◌, contains, has_spelling, spelled, Stands, read_length, read_bytes, read_list}
+use Rattle.broadcast_core.specs.Codec.{GivesOrLacks, layout_of}
 use Rattle.broadcast_core.specs.TestMessage.{Parts, Begins, IsRefused, encoding_of, read_message}
 use Rattle.broadcast_core.specs.CodecLaws.{bind_ok, bind_err, ok_is, guard_ok, chosen_ok, list_refused, encoded_parts, message_again}
 

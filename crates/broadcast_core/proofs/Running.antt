@@ -13,8 +13,8 @@ use Rattle.broadcast_core.specs.Cache.{message}
 use Rattle.broadcast_core.specs.Sent.{sent}
 use Rattle.broadcast_core.specs.HasContent.{HasContent}
 use Rattle.broadcast_core.specs.Log.{arrived, after, history, history_of, log_of, is_refused}
-use Rattle.broadcast_core.specs.Answers.{answer_to_broadcast, answer_to_payload, answer_to_subscribe, answer_to, MayAnswer, IsAnswered}
-use Rattle.broadcast_core.specs.HasRun.{counted_in, Applies, Follows, HasRun}
+use Rattle.broadcast_core.specs.Answers.{answer_to_broadcast, answer_to_payload, answer_to_subscribe, answer_to, MayAnswer}
+use Rattle.broadcast_core.specs.HasRun.{IsAnswered, counted_in, Applies, Follows, HasRun}
 use Rattle.broadcast_core.specs.declared.codec.CodecError.{CodecError}
 use Rattle.broadcast_core.specs.declared.ordered.Recipients.{Recipients}
 use Rattle.broadcast_core.specs.declared.event.Event.{Event}

@@ -9,7 +9,7 @@ use Rattle.broadcast_core.specs.Setting.{Setting}
 use Rattle.broadcast_core.specs.Happening.{Taking, of_digest, carried_by, Happening, History, peers, broadcast, arrival, subscribe, get, cleanup, taken, takes}
 use Rattle.broadcast_core.proofs.Distinct.{by_test, filter-same}
 use Rattle.broadcast_core.specs.Cache.{is_listed, message}
-use Rattle.broadcast_core.specs.Waiting.{Reply, later, comes_after, Awaiting, cleans, reply_from, reply, waits, subscribes, waiting, replied_at}
+use Rattle.broadcast_core.specs.Waiting.{Reply, comes_after, Awaiting, cleans, reply_from, reply, waits, subscribes, waiting, replied_at}
 
 -- one more on both sides
 eqb-suc : (x n : ℕ) → ((x + 1) == suc n) ≡ (x == n)
@@ -23,35 +23,39 @@ filter_and p q (x ∷ xs) = by_test (p x)
     (λ h. rw h (ap (λ ys. cond (q x) (x ∷ ys) ys) (filter_and p q xs)))
     (λ h. rw h (filter_and p q xs))
 
+-- one happening later
+abbrev later : {M D : Type 0} → Reply M D → Reply M D
+later r = (r.0 + 1, r.1)
+
 module _ {P M D : Type 0} (s : Setting P M D) where
-  comes_taken : (d : D) (t : Option (Taking P M D)) → of_digest s d t ≡ true → comes_after s 1 (option_map (λ c. (1, c)) (carried_by s t)) ≡ true
+  comes_taken : (d : D) (t : Option (Taking P M D)) → of_digest s d t ≡ true → comes_after 1 (option_map (λ c. (1, c)) (carried_by s t)) ≡ true
   comes_taken d None h = absurd cc
   comes_taken d (Some t) h = refl
 
-  not_none-taken : (d : D) (t : Option (Taking P M D)) → of_digest s d t ≡ true → is_none {T = Reply s} (option_map (λ c. (1, c)) (carried_by s t)) ≡ false
+  not_none-taken : (d : D) (t : Option (Taking P M D)) → of_digest s d t ≡ true → is_none {T = Reply M D} (option_map (λ c. (1, c)) (carried_by s t)) ≡ false
   not_none-taken d None h = absurd cc
   not_none-taken d (Some t) h = refl
 
-  comes_not-later : (n : ℕ) (o : Option (Carried M D)) → comes_after s (n + 2) (option_map (λ c. (1, c)) o) ≡ false
+  comes_not-later : (n : ℕ) (o : Option (Carried M D)) → comes_after (n + 2) (option_map (λ c. (1, c)) o) ≡ false
   comes_not-later n None = refl
   comes_not-later n (Some c) = ne_eqb 1 (n + 2) (λ e. absurd (omega arith))
 
-  is_none-later : (o : Option (Reply s)) → is_none (option_map (later s) o) ≡ is_none o
+  is_none-later : (o : Option (Reply M D)) → is_none (option_map later o) ≡ is_none o
   is_none-later None = refl
   is_none-later (Some r) = refl
 
-  comes-later : (n : ℕ) (o : Option (Reply s)) → comes_after s (suc n) (option_map (later s) o) ≡ comes_after s n o
+  comes-later : (n : ℕ) (o : Option (Reply M D)) → comes_after (suc n) (option_map later o) ≡ comes_after n o
   comes-later n None = refl
   comes-later n (Some r) = eqb-suc r.0 n
 
-  abbrev from_cache : Option (Carried M D) → Option (Reply s)
+  abbrev from_cache : Option (Carried M D) → Option (Reply M D)
   from_cache o = option_map (λ c. (0, c)) o
 
   not_none-cache : (o : Option (Carried M D)) → is_some o ≡ true → is_none (from_cache o) ≡ false
   not_none-cache None h = absurd cc
   not_none-cache (Some c) h = refl
 
-  comes_not-cache : (n : ℕ) (o : Option (Carried M D)) → comes_after s (n + 1) (from_cache o) ≡ false
+  comes_not-cache : (n : ℕ) (o : Option (Carried M D)) → comes_after (n + 1) (from_cache o) ≡ false
   comes_not-cache n None = refl
   comes_not-cache n (Some c) = ne_eqb 0 (n + 1) (λ e. absurd (omega arith))
 
@@ -73,7 +77,7 @@ module _ {P M D W V : Type 0} (s : Setting P M D) where
       (λ c. rw (h, c, is_none-later s (reply_from s w (es ++ e ∷ [])), is_none-later s (reply_from s w es)) (waits_from-last w es e)))
 
   comes_from-last : (w : Awaiting W D) (es : History P M D W V) (e : Happening P M D W V)
-      → comes_after s (length (es ++ e ∷ [])) (reply_from s w (es ++ e ∷ [])) ≡ (waits_from w es && takes s w.digest e)
+      → comes_after (length (es ++ e ∷ [])) (reply_from s w (es ++ e ∷ [])) ≡ (waits_from w es && takes s w.digest e)
   comes_from-last w [] e = by_test (takes s w.digest e)
       (λ h. rw h (comes_taken s w.digest (taken s e) h))
       (λ h. by_test (cleans s w e) (λ c. rw (h, c) refl) (λ c. rw (h, c) refl))
@@ -118,7 +122,7 @@ module _ {P M D W V : Type 0} (s : Setting P M D) where
 
     -- a reply comes at the last happening if the subscribe waited and the happening takes its digest
     comes-last : (e : Happening P M D W V) (w : Awaiting W D) (past es : History P M D W V)
-        → comes_after s (length (es ++ e ∷ [])) (reply s w past (es ++ e ∷ [])) ≡ (waits s w past es && takes s w.digest e)
+        → comes_after (length (es ++ e ∷ [])) (reply s w past (es ++ e ∷ [])) ≡ (waits s w past es && takes s w.digest e)
     comes-last e w past es = by_test (is_listed s w.digest past)
         (λ h. let long : length (es ++ e ∷ []) ≡ length es + 1 = omega (arith, length-append es (e ∷ [])) in
         rw (h, long, not_none-cache s (message s w.digest past) (held w.digest past h)) (comes_not-cache s (length es) (message s w.digest past)))
@@ -130,4 +134,4 @@ module _ {P M D W V : Type 0} (s : Setting P M D) where
 
     -- those that the happening is the reply to are those that waited for what it takes
     pub replied_at-last : (e : Happening P M D W V) (past : History P M D W V) → replied_at s e past ≡ filter (λ w. takes s w.digest e) (waiting s past)
-    replied_at-last e past = subscribes-last (waits s) (λ w before es. comes_after s (length es) (reply s w before es)) (λ w. takes s w.digest e) e (comes-last e) [] past
+    replied_at-last e past = subscribes-last (waits s) (λ w before es. comes_after (length es) (reply s w before es)) (λ w. takes s w.digest e) e (comes-last e) [] past

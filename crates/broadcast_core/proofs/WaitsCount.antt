@@ -75,7 +75,7 @@ waiting_in-counted {W} {D} (e ∷ es) =
 
 module _ {P M D W V : Type 0} (s : Setting P M D) (laws : IsEquivalence s.same.digest) where
   -- as many wait in a core as after its history
-  pub waiting-counted : (past : List (Happening P M D W V)) (core : Content P M D W) → HasContent s past core → IsDistinct s.same.digest (keys_of core.waiters)
+  waiting-counted : (past : List (Happening P M D W V)) (core : Content P M D W) → HasContent s past core → IsDistinct s.same.digest (keys_of core.waiters)
       → waiting_in core.waiters ≡ length (waiting s past)
   waiting-counted past core has distinct =
       sym (waiting_in-counted core.waiters) ∙ counted_by-entries s.same.digest laws (λ w. true) core.waiters (waiting s past) distinct has.waiters ∙ all_counted (waiting s past)
@@ -95,22 +95,23 @@ module _ {P M D W V : Type 0} (s : Setting P M D) (laws : IsEquivalence s.same.d
         length-filter_not (λ w. test w.place w.waiter) (waiting s past),
       )
 
-module _ {P M D : Type 0} (s : Setting P M D) where
-  length-subscribes : (test : Awaiting ℕ D → History P M D ℕ ℕ → History P M D ℕ ℕ → Bool) (es older : History P M D ℕ ℕ) → length (subscribes s test es older) ≤ length older
+module _ {P M D W V : Type 0} (s : Setting P M D) where
+  length-subscribes : (test : Awaiting W D → History P M D W V → History P M D W V → Bool) (es older : History P M D W V) → length (subscribes s test es older) ≤ length older
   length-subscribes test es [] = omega arith
   length-subscribes test es (peers ps ∷ older) = omega (arith, length-subscribes test (peers ps ∷ es) older)
   length-subscribes test es (broadcast r c ∷ older) = omega (arith, length-subscribes test (broadcast r c ∷ es) older)
   length-subscribes test es (arrival p c ∷ older) = omega (arith, length-subscribes test (arrival p c ∷ es) older)
   length-subscribes test es (subscribe k d ∷ older) =
-      let one : List (Awaiting ℕ D) = record { place = length older; waiter = k; digest = d } ∷ [] in
-      let passing = λ (a : Awaiting ℕ D). test a (subscribe k d ∷ older) es in
+      let one : List (Awaiting W D) = record { place = length older; waiter = k; digest = d } ∷ [] in
+      let passing = λ (a : Awaiting W D). test a (subscribe k d ∷ older) es in
       omega (arith, length-append (subscribes s test (subscribe k d ∷ es) older) (filter passing one), length-filter_le passing one, length-subscribes test (subscribe k d ∷ es) older)
   length-subscribes test es (get k d ∷ older) = omega (arith, length-subscribes test (get k d ∷ es) older)
   length-subscribes test es (cleanup named ∷ older) = omega (arith, length-subscribes test (cleanup named ∷ es) older)
 
   -- no more wait than happenings came
-  length-waiting : (past : History P M D ℕ ℕ) → length (waiting s past) ≤ length past
+  length-waiting : (past : History P M D W V) → length (waiting s past) ≤ length past
   length-waiting past = length-subscribes (waits s) [] past
 
+module _ {P M D : Type 0} (s : Setting P M D) where
   pub removed-le : (gone : List ℕ) (past : History P M D ℕ ℕ) → removed s gone past ≤ length past
-  removed-le gone past = omega (arith, length-waiting past, count_by-le-length (λ w. list_any (λ x. w.waiter == x) gone) (waiting s past))
+  removed-le gone past = omega (arith, length-waiting s past, count_by-le-length (λ w. list_any (λ x. w.waiter == x) gone) (waiting s past))

@@ -1,5 +1,5 @@
 -- What each event is answered.
-use Rattle.std.specs.Prelude.{◌≡◌, ℕ, Bool, false, true, ◌==◌, IsTrue, List, [], ◌∷◌, Option, None, Some, is_some, Result, Ok, Err, is_ok, ◌⊎◌}
+use Rattle.std.specs.Prelude.{◌≡◌, ℕ, Bool, false, true, ◌==◌, IsTrue, List, ◌∷◌, Option, None, Some, is_some, Result, Ok, Err, is_ok, ◌⊎◌}
 use Rattle.std.specs.List.{list_any, count_by}
 use Rattle.broadcast_core.specs.Carried.{Carried}
 use Rattle.broadcast_core.specs.Content.{among, outcome_of}
@@ -9,7 +9,6 @@ use Rattle.broadcast_core.specs.Peers.{is_primary}
 use Rattle.broadcast_core.specs.Lists.{list}
 use Rattle.broadcast_core.specs.Cache.{is_listed, message}
 use Rattle.broadcast_core.specs.Waiting.{waiting, replied_at, waiters_of}
-use Rattle.broadcast_core.specs.Log.{Log, history}
 use Rattle.broadcast_core.specs.declared.codec.CodecError.{CodecError}
 use Rattle.broadcast_core.specs.declared.ordered.Recipients.{Recipients}
 use Rattle.broadcast_core.specs.declared.event.Event.{Event}
@@ -77,8 +76,3 @@ module _ {P M D : Type 0} (s : Setting P M D) where
   -- the event may be given the answer
   abbrev pub MayAnswer : Event P M D → History P M D ℕ ℕ → Answer M D → Type 0
   MayAnswer e past a = (a ≡ answer_to e past) ⊎ IsAllocFailure e past a
-
-  -- each answer of the log is one that its event may be given after the history before it
-  abbrev pub IsAnswered : Log P M D → Type 0
-  IsAnswered [] = Unit {0}
-  IsAnswered (x ∷ log) = MayAnswer x.0 (history s log) x.1 × IsAnswered log

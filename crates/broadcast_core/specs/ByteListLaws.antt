@@ -4,7 +4,8 @@ use Rattle.std.proofs.lemmas.Bool.{ltb-true}
 use Rattle.broadcast_core.specs.declared.codec.CodecError.{CodecError}
 use Rattle.broadcast_core.specs.declared.codec.CodecError.TheVariants.{EndOfBuffer, InvalidLength, ExtraData, Unencodable, Memory}
 use Rattle.broadcast_core.specs.declared.codec.RangeCfg.{RangeCfg}
-use Rattle.broadcast_core.specs.Codec.{IsRefusal, NoneStands, contains, has_spelling, spelled, read_list}
+use Rattle.broadcast_core.specs.ByteList.{NoneStands, contains, has_spelling, spelled, read_list}
+use Rattle.broadcast_core.specs.Codec.{IsRefusal}
 use Rattle.broadcast_core.specs.CodecLaws.{chosen_ok, list_again, list_refused, ok_is}
 
 refusal_of : (range : RangeCfg) (bytes : List ℕ) (e : CodecError)

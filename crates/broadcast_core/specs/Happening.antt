@@ -24,6 +24,10 @@ pub data Happening (P M D W V : Type 0) : Type 0 where
 abbrev pub History : (P M D W V : Type 0) → Type 0
 History P M D W V = List (Happening P M D W V)
 
+-- happenings, the oldest first
+abbrev pub Future : (P M D W V : Type 0) → Type 0
+Future P M D W V = List (Happening P M D W V)
+
 -- a message that is taken under a key
 pub record Taking (P M D : Type 0) : Type 0 where
   pub key : P

@@ -1,5 +1,5 @@
 -- What one event does to a core, and what a run of events leaves.
-use Rattle.std.specs.Prelude.{◌≡◌, ℕ, List, ◌++◌, length, if◌then◌else◌, ◌⊎◌}
+use Rattle.std.specs.Prelude.{◌≡◌, ℕ, List, [], ◌∷◌, ◌++◌, length, if◌then◌else◌, ◌⊎◌}
 use Rattle.broadcast_core.specs.Content.{Content, list_at}
 use Rattle.broadcast_core.specs.Setting.{Setting}
 use Rattle.broadcast_core.specs.Happening.{History}
@@ -7,8 +7,8 @@ use Rattle.broadcast_core.specs.Lists.{list}
 use Rattle.broadcast_core.specs.Concerns.{concerns, AreAlike, AreEqual}
 use Rattle.broadcast_core.specs.Sent.{sent}
 use Rattle.broadcast_core.specs.HasContent.{HasContent}
-use Rattle.broadcast_core.specs.Log.{is_refused, log_of, after, history_of}
-use Rattle.broadcast_core.specs.Answers.{answer_to, IsAllocFailure, IsAnswered}
+use Rattle.broadcast_core.specs.Log.{Log, is_refused, log_of, after, history, history_of}
+use Rattle.broadcast_core.specs.Answers.{answer_to, IsAllocFailure, MayAnswer}
 use Rattle.broadcast_core.specs.Waiters.{counted}
 use Rattle.broadcast_core.specs.declared.event.Event.{Event}
 use Rattle.broadcast_core.specs.declared.event.Answer.{Answer}
@@ -21,6 +21,11 @@ counted_in (Removed n) = Removed (counted n)
 counted_in a = a
 
 module _ {P M D : Type 0} (s : Setting P M D) where
+  -- each answer of the log is one that its event may be given after the history before it
+  abbrev pub IsAnswered : Log P M D → Type 0
+  IsAnswered [] = Unit {0}
+  IsAnswered (x ∷ log) = MayAnswer s x.0 (history s log) x.1 × IsAnswered log
+
   -- after the history the event has an answer that it may be given, with its count as 64 bits count
   -- it; a refused event changes nothing, and nothing is sent
   pub record Applies (past : History P M D ℕ ℕ) (e : Event P M D) (new : Content P M D ℕ)
@@ -35,20 +40,20 @@ module _ {P M D : Type 0} (s : Setting P M D) where
   Follows e old new answer sending = (past : History P M D ℕ ℕ)
       → HasContent s past old → Applies past e new answer sending
 
-  -- the events were run in order, with these answers and sends, and left this core
+  -- the events were run in order, gave these answers and sends, and left this core
   pub record HasRun (events : List (Event P M D)) (answers : List (Answer M D))
       (sends : List (Sent P)) (core : Content P M D ℕ) : Type 0 where
     -- each event has its answer
     pub one_each : length answers ≡ length events
     -- which it may be given after the events before it
-    pub answered : IsAnswered s (log_of events answers)
+    pub answered : IsAnswered (log_of events answers)
     -- the core has what the history gives
     pub content : HasContent s (history_of s events answers) core
-    -- a list is that of any key in any history that has the same concerns
+    -- a key's list is that of any key in any history with the same concerns
     pub same_concerns_same_list : (p q : P) (other : History P M D ℕ ℕ)
         → concerns s q other ≡ concerns s p (history_of s events answers)
         → list s q other ≡ list_at s.same core p
-    -- a list equals that of any key in any history that has alike concerns
+    -- and equals that of any key in any history with alike concerns
     pub alike_concerns_equal_list : (p q : P) (other : History P M D ℕ ℕ)
         → AreAlike s.same.digest (concerns s q other) (concerns s p (history_of s events answers))
         → AreEqual s.same.digest (list s q other) (list_at s.same core p)

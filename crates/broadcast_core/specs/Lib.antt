@@ -1,4 +1,5 @@
 pub mod Carried
+pub mod ByteList
 pub mod Codec
 pub mod CodecLaws
 pub mod ByteListLaws
@@ -17,7 +18,6 @@ pub mod HasContent
 pub mod Log
 pub mod Answers
 pub mod HasRun
-pub mod Rows
 pub mod Changes
 pub mod Stored
 pub mod Waiters

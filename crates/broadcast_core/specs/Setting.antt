@@ -20,7 +20,7 @@ pub record Setting (P M D : Type 0) : Type 0 where
   -- the message that the bytes are, all of them, or why they are none
   pub reading : List ℕ → Result M CodecError
 
--- the setting of these
+-- the setting with these parts, in order
 abbrev pub setting : {P M D : Type 0} → P → ℕ → Bool → Same P D
     → (M → D) → (M → Option (List ℕ)) → (List ℕ → Result M CodecError) → Setting P M D
 setting own deque_size priority same digest_of encoding reading = record {

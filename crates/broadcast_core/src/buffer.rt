@@ -1,14 +1,12 @@
 //! The cache of a node and the waiters for its messages.
 //!
 //! A call whose result has no `AllocError` does not allocate.
-ghost use Rattle.std.specs.Prelude.{◌≡◌, ◌≤◌, true, false, [], length, is_some, IsSome, if◌then◌else◌, IfOk, IfSome, OnOk, OnErr, IfErr, IsOk, MatchBool};
-ghost use Rattle.std.specs.List.{All, list_any, IsDistinct};
+ghost use Rattle.std.specs.Prelude.{◌≡◌, ◌≤◌, true, false, [], length, is_some, IsSome, IfOk, IfSome, IfErr, IsOk};
+ghost use Rattle.std.specs.List.{All, IsDistinct};
 ghost use Rattle.std.specs.Map.{keys_of};
 ghost use Rattle.std.specs.Option.{option_copied};
 ghost use Rattle.std.specs.Ordering.{eq_by_cmp};
-ghost use Rattle.broadcast_core.specs.Content.{same_by, among, items_at};
-ghost use Rattle.broadcast_core.specs.Stored.{Stores};
-ghost use Rattle.broadcast_core.specs.declared.outcome.Outcome.TheVariants.{Inserted, Duplicate, Ineligible};
+ghost use Rattle.broadcast_core.specs.Content.{same_by};
 
 mod cache;
 mod cached;
@@ -21,7 +19,7 @@ mod waiters;
 
 use crate::digested::{Digested, Digestible};
 use crate::ordered::{PublicKey, Set};
-use crate::outcome::{Outcome, Subscribed, Taken};
+use crate::outcome::{Subscribed, Taken};
 use crate::requests::{Closable, Ticketed};
 use cache::Cache;
 use state::State;
@@ -47,7 +45,7 @@ impl<P: PublicKey, M: Digestible, W> Model for Core<P, M, W> {
 
 impl<P: PublicKey, M: Digestible, W: Drop> Core<P, M, W> {
     ghost use Rattle.std.specs.Prelude.{ℕ, ◌+◌, ◌*◌};
-    ghost use Rattle.broadcast_core.specs.Content.{has_primary, is_on_list, list_at, message_at, outcome_at, waiting_at};
+    ghost use Rattle.broadcast_core.specs.Content.{has_primary, is_on_list, list_at, message_at, waiting_at};
     ghost use Rattle.broadcast_core.specs.Changes.{IsTaken, TakesPeers, Cleans, KeepsStore, IsSubscribed};
     ghost use Rattle.broadcast_core.specs.Waiters.{NoneEmpty, waiting_in, is_gone, gone_from, DropsClosed, counted};
 

@@ -12,7 +12,7 @@ use std::marker::Model;
 use std::{slice, vec};
 
 /// A vector that contracts see as the list of its elements, without its capacity: two of them are
-/// the same if their elements are.
+/// the same if their elements are. Only `clone` and `push` allocate.
 #[derive(Debug, Drop)]
 pub struct Items<T> {
     elements: Vec<T>,
@@ -25,7 +25,7 @@ impl<T> Model for Items<T> {
 }
 
 impl<T> Items<T> {
-    /// Creates an empty list. Does not allocate.
+    /// Creates an empty list.
     pub fn new(alloc: Global) -> Self
         ensures { result ≡ [] }
     {
@@ -34,14 +34,14 @@ impl<T> Items<T> {
         }
     }
 
-    /// Creates a list of the elements. Does not allocate.
+    /// Creates a list of the elements.
     pub fn from_vec(elements: Vec<T>) -> Self
         ensures { result ≡ elements.items }
     {
         Items { elements }
     }
 
-    /// Returns the elements as a vector. Does not allocate.
+    /// Returns the elements as a vector.
     pub fn into_vec(self) -> Vec<T>
         ensures { result.items ≡ self }
     {
@@ -85,7 +85,7 @@ impl<T> Items<T> {
         self.elements.push(element)
     }
 
-    /// Keeps the elements for which `keep` returns true, in order. Does not allocate.
+    /// Keeps the elements for which `keep` returns true, in order.
     pub(crate) fn retain<F: FnMut(&T) -> bool>(&mut self, keep: F)
     where
         T: Drop,

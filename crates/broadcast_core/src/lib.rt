@@ -13,7 +13,6 @@ pub mod mocks;
 pub mod ordered;
 mod outcome;
 pub mod requests;
-mod rows;
 pub mod runner;
 
 pub use buffer::Core;

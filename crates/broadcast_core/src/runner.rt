@@ -1,4 +1,4 @@
-//! A whole list of events, one after the other.
+//! A run of a list of events.
 ghost use Rattle.std.specs.Prelude.{IfOk};
 ghost use Rattle.broadcast_core.specs.Codec.{whole};
 ghost use Rattle.broadcast_core.specs.Content.{same_by};
@@ -16,11 +16,14 @@ use crate::ordered::PublicKey;
 use apply::apply;
 use std::alloc::{AllocError, Global};
 
-/// Runs the events in order, from an empty core of this own key.
+/// Runs the events in order, from an empty core for the node `own` that keeps at most `deque_size`
+/// digests a peer.
 ///
-/// `Err` is want of memory for the answers or for what is sent. Their places are reserved before
-/// the first event, and nothing comes of the run then.
-/// An event that is answered `Refused` changes nothing and is sent to nobody.
+/// Each send carries the flag `priority`, and payloads are decoded under `cfg`. An event that is
+/// answered `Refused` changes nothing and sends nothing.
+///
+/// Fails if the places for the answers and the sends can't be allocated, which is tried before the
+/// first event.
 pub fn run<P: PublicKey, M: Digestible + Codec>(
     alloc: Global,
     own: P,

@@ -6,6 +6,7 @@ pub mod Mailbox
 pub mod Tickets
 pub mod Asked
 pub use Rattle.broadcast_core.specs.Carried
+pub use Rattle.broadcast_core.specs.ByteList
 pub use Rattle.broadcast_core.specs.Codec
 pub use Rattle.broadcast_core.specs.TestMessage
 pub use Rattle.broadcast_core.specs.Content

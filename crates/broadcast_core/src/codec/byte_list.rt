@@ -5,7 +5,8 @@
 //! list, and its `layout` and `read_cfg` call [`read_cfg`] on the bytes that are left. The laws of
 //! its `Codec` follow from the lemmas of `specs/ByteListLaws`. No call of this module allocates.
 ghost use Rattle.std.specs.Prelude.{◌≡◌, ◌+◌, ◌≤◌, ◌++◌, IsTrue, if◌then◌else◌, length, Option, Some, None, IfOk, vec_len, vec_capacity};
-ghost use Rattle.broadcast_core.specs.Codec.{Gives, has_spelling, spelled, read_list};
+ghost use Rattle.broadcast_core.specs.ByteList.{has_spelling, spelled, read_list};
+ghost use Rattle.broadcast_core.specs.Codec.{Gives};
 
 use super::{CodecError, RangeCfg};
 use byteorder::{BigEndian, ByteOrder};
@@ -21,7 +22,7 @@ const MAX_LENGTH: usize = u32::MAX as usize;
 ///
 /// Fails with `EndOfBuffer` if `buf` ends before the length, with `InvalidLength` if the length is
 /// out of `cfg`, and with `EndOfBuffer` if `buf` ends before the list, checked in this order.
-#[tactic(auto, unfolding(crate::specs::Codec::read_list))]
+#[tactic(auto, unfolding(crate::specs::ByteList::read_list))]
 pub fn read_cfg<'a>(buf: &'a [u8], cfg: &RangeCfg) -> Result<(&'a [u8], &'a [u8]), CodecError>
     ensures exact { Gives (λ x. (x.0.now, x.1.now)) result (read_list cfg.now buf.now) }
     ensures shorter { IfOk result (λ x. length x.1.now ≤ length buf.now) }

@@ -1,4 +1,4 @@
-//! One event.
+//! One event of a run.
 ghost use Rattle.std.specs.Prelude.{◌≡◌, ℕ, []};
 ghost use Rattle.std.specs.Option.{option_to_list};
 ghost use Rattle.broadcast_core.specs.Codec.{whole};
@@ -17,7 +17,7 @@ use crate::ordered::{PublicKey, Recipients};
 use crate::outcome::Subscribed;
 use std::alloc::Global;
 
-/// Applies one event to the core, and says its answer and what is sent.
+/// Applies the event to the core. Returns its answer and what it sends.
 pub fn apply<P: PublicKey, M: Digestible + Codec>(
     alloc: Global,
     core: &mut Core<P, M, u64>,
@@ -44,7 +44,7 @@ pub fn apply<P: PublicKey, M: Digestible + Codec>(
     }
 }
 
-/// Encodes the message, then takes it under the own key, then hands its encoding on.
+/// Encodes the message, then takes it under the own key. Returns the encoding as what is sent.
 fn broadcast<P: PublicKey, M: Digestible + Codec>(
     alloc: Global,
     core: &mut Core<P, M, u64>,
@@ -54,7 +54,8 @@ fn broadcast<P: PublicKey, M: Digestible + Codec>(
 ) -> (Answer<M>, Option<Sent<P>>)
     ensures { (s : Setting P M M.Digest)
         → s.same ≡ same_by P.cmp M.Digest.cmp → s.priority ≡ priority → s.encoding ≡ M.encoding
-        → Follows s (event.Broadcast recipients message) core.old core.new result.0 (option_to_list result.1) }
+        → Follows s (event.Broadcast recipients message) core.old core.new
+        result.0 (option_to_list result.1) }
 {
     let mut bytes = Vec::new(alloc);
     match message.inner().write(&mut bytes) {
@@ -80,7 +81,7 @@ fn broadcast<P: PublicKey, M: Digestible + Codec>(
     }
 }
 
-/// Decodes the bytes, and takes the message under the peer's key.
+/// Decodes the bytes and takes the message under the peer's key.
 pub fn payload<P: PublicKey, M: Digestible + Codec>(
     alloc: Global,
     core: &mut Core<P, M, u64>,
@@ -89,7 +90,8 @@ pub fn payload<P: PublicKey, M: Digestible + Codec>(
     bytes: &[u8],
 ) -> Answer<M>
     ensures { (s : Setting P M M.Digest)
-        → s.same ≡ same_by P.cmp M.Digest.cmp → s.digest_of ≡ M.digest_of → s.reading ≡ whole (M.reading cfg.now)
+        → s.same ≡ same_by P.cmp M.Digest.cmp → s.digest_of ≡ M.digest_of
+        → s.reading ≡ whole (M.reading cfg.now)
         → Follows s (event.Payload peer.now bytes.now) core.old core.new result [] }
 {
     let message: M = match decode_cfg(alloc, bytes, cfg) {
@@ -109,7 +111,7 @@ pub fn payload<P: PublicKey, M: Digestible + Codec>(
     }
 }
 
-/// The answer to a payload that was not read.
+/// Returns the answer to a payload that can't be decoded.
 fn refused<M: Digestible>(refusal: CodecError) -> Answer<M>
     ensures memory { refusal ≡ CodecError.Memory → result ≡ answer.Refused Cause.Memory }
     ensures invalid { (refusal ≡ CodecError.Memory → ⊥) → result ≡ answer.Invalid refusal }
@@ -120,7 +122,7 @@ fn refused<M: Digestible>(refusal: CodecError) -> Answer<M>
     }
 }
 
-/// Answers a subscribe from the cache, or lets its ticket wait.
+/// Answers the subscribe from the cache, or makes its ticket wait.
 pub fn subscribe<P: PublicKey, M: Digestible>(
     core: &mut Core<P, M, u64>,
     ticket: u64,
@@ -136,7 +138,7 @@ pub fn subscribe<P: PublicKey, M: Digestible>(
     }
 }
 
-/// Answers a get from the cache.
+/// Answers the get from the cache.
 pub fn get<P: PublicKey, M: Digestible>(core: &Core<P, M, u64>, digest: &M::Digest) -> Answer<M>
     ensures { (s : Setting P M M.Digest) → s.same ≡ same_by P.cmp M.Digest.cmp
         → (ticket : ℕ) → Follows s (event.Get ticket digest.now) core.now core.now result [] }
