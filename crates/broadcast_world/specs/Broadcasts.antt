@@ -21,7 +21,8 @@ pub record Broadcasting (P : Type 0) : Type 0 where
 
 module _ {P : Type 0} (cmp : P → P → Ordering) (w : Scene P) where
   abbrev pub broadcast_in : P → NodeEvent P → List (Broadcasting P)
-  broadcast_in n (event.Broadcast r c) = record { node = n; recipients = r; message = c.message } ∷ []
+  broadcast_in n (event.Broadcast r c) =
+      record { node = n; recipients = r; message = c.message } ∷ []
   broadcast_in n _ = []
 
   abbrev pub broadcast_by : Option (P × NodeEvent P) → List (Broadcasting P)

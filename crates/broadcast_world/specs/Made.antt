@@ -15,12 +15,21 @@ module _ {P : Type 0} (cmp : P → P → Ordering) where
 
   -- whether a key is twice a node, or a node and hostile
   abbrev pub shares_key : List P → List P → Bool
-  shares_key nodes hostile = has_repeat nodes || list_any (λ h. list_any (λ n. eq_by_cmp cmp n h) nodes) hostile
+  shares_key nodes hostile =
+      has_repeat nodes || list_any (λ h. list_any (λ n. eq_by_cmp cmp n h) nodes) hostile
 
   -- the content of the node that a key names
   abbrev pub content_of : State P → P → Option (NodeContent P)
-  content_of world p = option_map (λ e. e.1) (find (λ e. eq_by_cmp cmp p e.0) (zip world.scene.nodes world.cores))
+  content_of world p =
+      option_map (λ e. e.1) (find (λ e. eq_by_cmp cmp p e.0) (zip world.scene.nodes world.cores))
 
 -- the content of a node without a history
 abbrev pub no_content : {P : Type 0} → P → ℕ → NodeContent P
-no_content own deque_size = record { own = own; deque_size = deque_size; primary = []; lists = []; cached = []; waiters = [] }
+no_content own deque_size = record {
+  own = own;
+  deque_size = deque_size;
+  primary = [];
+  lists = [];
+  cached = [];
+  waiters = [];
+}

@@ -19,16 +19,21 @@ NodeContent P = Content P Parts (List ℕ) ℕ
 module _ {P : Type 0} (cmp : P → P → Ordering) (w : Scene P) where
   -- an event at node n, after a history of it, is given an answer that it may have; refused, it
   -- changes nothing
-  pub record NodeTakes (n : P) (past : NodeHistory P) (e : NodeEvent P) (a : Answer Parts (List ℕ)) (new : NodeContent P) : Type 0 where
+  pub record NodeTakes (n : P) (past : NodeHistory P) (e : NodeEvent P)
+      (a : Answer Parts (List ℕ)) (new : NodeContent P) : Type 0 where
     pub answered : NodeMayAnswer cmp w n e past a
-    pub content : HasContent (at cmp w n) (if is_refused a then past else after (at cmp w n) e past) new
+    pub content :
+        HasContent (at cmp w n) (if is_refused a then past else after (at cmp w n) e past) new
 
   -- whatever history gave the node its content
-  abbrev pub NodeFollows : P → NodeEvent P → NodeContent P → NodeContent P → Answer Parts (List ℕ) → Type 0
-  NodeFollows n e old new a = (past : NodeHistory P) → HasContent (at cmp w n) past old → NodeTakes n past e a new
+  abbrev pub NodeFollows : P → NodeEvent P → NodeContent P → NodeContent P
+      → Answer Parts (List ℕ) → Type 0
+  NodeFollows n e old new a =
+      (past : NodeHistory P) → HasContent (at cmp w n) past old → NodeTakes n past e a new
 
   -- an event at node n changes that node's content alone
-  pub record ChangesNode (n : P) (e : NodeEvent P) (a : Answer Parts (List ℕ)) (old new : List (NodeContent P)) : Type 0 where
+  pub record ChangesNode (n : P) (e : NodeEvent P) (a : Answer Parts (List ℕ))
+      (old new : List (NodeContent P)) : Type 0 where
     pub place : ℕ
     pub is_node : slice_get w.nodes place ≡ Some n
     pub before : NodeContent P
@@ -38,24 +43,30 @@ module _ {P : Type 0} (cmp : P → P → Ordering) (w : Scene P) where
     pub follows : NodeFollows n e before core a
 
   -- an event at a node is given the node's answer; without an event nothing changes
-  abbrev pub AtNode : Option (P × NodeEvent P) → List (NodeContent P) → List (NodeContent P) → WorldAnswer → Type 0
+  abbrev pub AtNode : Option (P × NodeEvent P) → List (NodeContent P) → List (NodeContent P)
+      → WorldAnswer → Type 0
   AtNode None old new answer = (answer ≡ NoSuch) × (new ≡ old)
-  AtNode (Some e) old new answer = (a : Answer Parts (List ℕ)) × (answer ≡ Given a) × ChangesNode e.0 e.1 a old new
+  AtNode (Some e) old new answer =
+      (a : Answer Parts (List ℕ)) × (answer ≡ Given a) × ChangesNode e.0 e.1 a old new
 
 module _ {P : Type 0} (cmp : P → P → Ordering) where
-  -- the world has what the steps of the log leave: each node the content of its history, and the packets
+  -- the world has what the steps of the log leave: the packets, and each node the content of its
+  -- history
   pub record HasWorld (log : Log P) (now : State P) : Type 0 where
-    pub cores : AllZip (λ n core. HasContent (at cmp now.scene n) (history cmp now.scene n log) core) now.scene.nodes now.cores
+    pub cores : AllZip (λ n core. HasContent (at cmp now.scene n) (history cmp now.scene n log) core)
+        now.scene.nodes now.cores
     pub packets : now.packets ≡ packets cmp now.scene log
 
   -- one more step, after a log
-  pub record TakesStep (log : Log P) (step : Step P) (answer : WorldAnswer) (old new : State P) : Type 0 where
+  pub record TakesStep (log : Log P) (step : Step P) (answer : WorldAnswer)
+      (old new : State P) : Type 0 where
     pub scene : new.scene ≡ old.scene
     pub answered : MayAnswer cmp old.scene (step, answer) log
     pub world : HasWorld ((step, answer) ∷ log) new
 
   -- a list of steps, after a log
-  pub record TakesSteps (log : Log P) (steps : List (Step P)) (answers : List WorldAnswer) (old new : State P) : Type 0 where
+  pub record TakesSteps (log : Log P) (steps : List (Step P)) (answers : List WorldAnswer)
+      (old new : State P) : Type 0 where
     pub scene : new.scene ≡ old.scene
     -- each step has its answer
     pub one_each : length answers ≡ length steps

@@ -1,4 +1,4 @@
--- What a list of steps makes of a world: which event each step gives a node, the packets, and the history of each node.
+-- Which event each step gives a node, which packets are sent, and what the nodes answer.
 use Rattle.std.specs.Prelude.{◌≡◌, ℕ, Bool, true, false, ◌||◌, if◌then◌else◌, IsTrue, List, [], ◌∷◌, ◌++◌, map, reverse, Option, None, Some, ◌⊎◌}
 use Rattle.std.specs.Option.{option_map}
 use Rattle.std.specs.List.{filter_map, find, list_any, slice_get, zip}
@@ -65,8 +65,8 @@ module _ {P : Type 0} (cmp : P → P → Ordering) (w : Scene P) where
   delivery None = None
   delivery (Some p) = event_at p.addressee (event.Payload p.sender p.bytes)
 
-  -- the event that a step gives a node, where `sent` are the packets sent before; a key that is no
-  -- node, a packet that was not sent and a key that is not hostile give none
+  -- the event that a step gives a node, by the packets sent before; none if the step names an
+  -- unknown node, an unsent packet or an unknown hostile key
   abbrev pub event_of : Step P → List (Packet P) → Option (P × NodeEvent P)
   event_of (Peers n ps) sent = event_at n (event.Peers ps)
   event_of (Broadcast n r c) sent = event_at n (event.Broadcast r c)
@@ -143,7 +143,8 @@ module _ {P : Type 0} (cmp : P → P → Ordering) (w : Scene P) where
   IsAnswer (Some e) NoSuch log = ⊥
   IsAnswer (Some e) (Given a) log = NodeMayAnswer e.0 e.1 (history e.0 log) a
 
-  -- what a step may be answered after a log: as its node answers its event, or `NoSuch` exactly where it gives none
+  -- what a step may be answered after a log: the answer of its node to its event, or `NoSuch` if it
+  -- gives none
   abbrev pub MayAnswer : Step P × WorldAnswer → Log P → Type 0
   MayAnswer x log = IsAnswer (event_of x.0 (packets log)) x.1 log
 

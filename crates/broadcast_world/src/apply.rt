@@ -26,11 +26,14 @@ pub fn apply<P: NodeKey>(
     step: &Step<P>,
 ) -> WorldAnswer
     requires { length cores.old.items ≡ length nodes.now }
-    ensures node { (w : Scene P) → w.nodes ≡ nodes.now → w.hostile ≡ hostile.now → w.range ≡ range.now
-        → AtNode P.cmp w (event_of P.cmp w step.now packets.old.items) cores.old.items cores.new.items result }
-    ensures packets { (w : Scene P) → w.nodes ≡ nodes.now → w.hostile ≡ hostile.now → w.range ≡ range.now
-        → packets.new.items ≡ packets.old.items
-        ++ made_by P.cmp w (unless_refused P.cmp w result (event_of P.cmp w step.now packets.old.items)) }
+    ensures node { (w : Scene P)
+        → w.nodes ≡ nodes.now → w.hostile ≡ hostile.now → w.range ≡ range.now
+        → AtNode P.cmp w (event_of P.cmp w step.now packets.old.items)
+        cores.old.items cores.new.items result }
+    ensures packets { (w : Scene P)
+        → w.nodes ≡ nodes.now → w.hostile ≡ hostile.now → w.range ≡ range.now
+        → packets.new.items ≡ packets.old.items ++ made_by P.cmp w
+        (unless_refused P.cmp w result (event_of P.cmp w step.now packets.old.items)) }
 {
     match step {
         Step::Peers(key, peers) => nodes::peers(nodes, cores, key, peers),
@@ -69,7 +72,8 @@ fn deliver<P: NodeKey>(
 ) -> WorldAnswer
     requires { length cores.old.items ≡ length nodes.now }
     ensures { (w : Scene P) → w.nodes ≡ nodes.now → w.range ≡ range.now
-        → AtNode P.cmp w (delivery P.cmp w (slice_get packets.now number)) cores.old.items cores.new.items result }
+        → AtNode P.cmp w (delivery P.cmp w (slice_get packets.now number))
+        cores.old.items cores.new.items result }
 {
     let Some(packet) = packets.get(number as usize) else {
         return WorldAnswer::NoSuch;
@@ -97,9 +101,10 @@ fn attack<P: NodeKey>(
     bytes: &[u8],
 ) -> WorldAnswer
     requires { length cores.old.items ≡ length nodes.now }
-    ensures { (w : Scene P) → w.nodes ≡ nodes.now → w.hostile ≡ hostile.now → w.range ≡ range.now
-        → AtNode P.cmp w
-        (if list_any (eq_by_cmp P.cmp from.now) w.hostile then event_at P.cmp w to.now (event.Payload from.now bytes.now) else None)
+    ensures { (w : Scene P)
+        → w.nodes ≡ nodes.now → w.hostile ≡ hostile.now → w.range ≡ range.now
+        → AtNode P.cmp w (if list_any (eq_by_cmp P.cmp from.now) w.hostile
+        then event_at P.cmp w to.now (event.Payload from.now bytes.now) else None)
         cores.old.items cores.new.items result }
 {
     if hostile.position(from).is_none() {

@@ -32,10 +32,11 @@ pub fn broadcast<P: NodeKey>(
 ) -> WorldAnswer
     requires { length cores.old.items ≡ length nodes.now }
     ensures node { (w : Scene P) → w.nodes ≡ nodes.now
-        → AtNode P.cmp w (event_at P.cmp w key.now (event.Broadcast recipients.now message.now)) cores.old.items cores.new.items result }
+        → AtNode P.cmp w (event_at P.cmp w key.now (event.Broadcast recipients.now message.now))
+        cores.old.items cores.new.items result }
     ensures packets { (w : Scene P) → w.nodes ≡ nodes.now
-        → packets.new.items ≡ packets.old.items
-        ++ made_by P.cmp w (unless_refused P.cmp w result (event_at P.cmp w key.now (event.Broadcast recipients.now message.now))) }
+        → packets.new.items ≡ packets.old.items ++ made_by P.cmp w (unless_refused P.cmp w result
+        (event_at P.cmp w key.now (event.Broadcast recipients.now message.now))) }
 {
     let Some(place) = place_of(nodes, key) else {
         return WorldAnswer::NoSuch;
@@ -80,7 +81,8 @@ fn prepare<P: NodeKey>(
 ) -> Result<(Vec<Packet<P>>, Digested<TestMessage>), AllocError>
     ensures kept { packets.new.items ≡ packets.old.items }
     ensures made { IfOk result (λ prepared. (w : Scene P) → w.nodes ≡ nodes.now
-        → prepared.0.items ≡ packets_to P.cmp w sender.now (addressed P.cmp w sender.now recipients.now) (Some bytes.items)) }
+        → prepared.0.items ≡ packets_to P.cmp w sender.now
+        (addressed P.cmp w sender.now recipients.now) (Some bytes.items)) }
     ensures message { IfOk result (λ prepared. prepared.1 ≡ message.now) }
     ensures room { IfOk result (λ prepared.
         vec_len packets.new + vec_len prepared.0 ≤ vec_capacity packets.new) }
@@ -103,7 +105,8 @@ fn take<P: NodeKey>(
         → encoding_of message.message ≡ Some bytes
         → NodeFollows P.cmp w n (event.Broadcast r message) core.old core.new result }
     ensures packets { (w : Scene P) (e : Option (P × NodeEvent P)) → made.items ≡ made_by P.cmp w e
-        → packets.new.items ≡ packets.old.items ++ made_by P.cmp w (unless_refused P.cmp w (world.Given result) e) }
+        → packets.new.items
+        ≡ packets.old.items ++ made_by P.cmp w (unless_refused P.cmp w (world.Given result) e) }
 {
     let mut made = made;
     match node::broadcast(core, message) {

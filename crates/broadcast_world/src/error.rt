@@ -8,8 +8,8 @@ use thiserror::Error;
 /// Why a world can't be made.
 #[derive(Clone, Copy, Debug, PartialEq, Eq, Error)]
 pub enum WorldError {
-    /// A key is a node and hostile, or twice a node.
-    #[error("a key is a node and hostile, or twice a node")]
+    /// Two nodes have one key, or a node and a hostile peer have.
+    #[error("two participants have one key")]
     SharedKey,
     /// An allocation failed.
     #[error("out of memory")]

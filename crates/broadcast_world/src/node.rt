@@ -18,7 +18,8 @@ pub fn cleanup<P: PublicKey>(
     core: &mut Core<P, TestMessage, u64>,
     gone: &[u64],
 ) -> Answer<TestMessage>
-    ensures { (w : Scene P) (n : P) → NodeFollows P.cmp w n (event.Cleanup gone.now) core.old core.new result }
+    ensures { (w : Scene P) (n : P)
+        → NodeFollows P.cmp w n (event.Cleanup gone.now) core.old core.new result }
 {
     Answer::Removed(core.cleanup(gone))
 }
@@ -43,7 +44,8 @@ pub fn subscribe<P: PublicKey>(
     ticket: u64,
     digest: &[u8; 32],
 ) -> Answer<TestMessage>
-    ensures { (w : Scene P) (n : P) → NodeFollows P.cmp w n (event.Subscribe ticket digest.now) core.old core.new result }
+    ensures { (w : Scene P) (n : P)
+        → NodeFollows P.cmp w n (event.Subscribe ticket digest.now) core.old core.new result }
 {
     apply::subscribe(core, ticket, *digest)
 }
@@ -54,7 +56,8 @@ pub fn get<P: PublicKey>(
     ticket: u64,
     digest: &[u8; 32],
 ) -> Answer<TestMessage>
-    ensures { (w : Scene P) (n : P) → NodeFollows P.cmp w n (event.Get ticket digest.now) core.now core.now result }
+    ensures { (w : Scene P) (n : P)
+        → NodeFollows P.cmp w n (event.Get ticket digest.now) core.now core.now result }
 {
     let _ticket = ticket;
     apply::get(core, digest)
@@ -65,7 +68,8 @@ pub fn peers<P: NodeKey>(
     core: &mut Core<P, TestMessage, u64>,
     peers: &Set<P>,
 ) -> Answer<TestMessage>
-    ensures { (w : Scene P) (n : P) → NodeFollows P.cmp w n (event.Peers peers.now) core.old core.new result }
+    ensures { (w : Scene P) (n : P)
+        → NodeFollows P.cmp w n (event.Peers peers.now) core.old core.new result }
 {
     match peers.clone() {
         Ok(peers) => {

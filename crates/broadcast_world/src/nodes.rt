@@ -22,7 +22,8 @@ pub fn peers<P: NodeKey>(
 ) -> WorldAnswer
     requires { length cores.old.items ≡ length nodes.now }
     ensures { (w : Scene P) → w.nodes ≡ nodes.now
-        → AtNode P.cmp w (event_at P.cmp w key.now (event.Peers peers.now)) cores.old.items cores.new.items result }
+        → AtNode P.cmp w (event_at P.cmp w key.now (event.Peers peers.now))
+        cores.old.items cores.new.items result }
 {
     let Some(place) = place_of(nodes, key) else {
         return WorldAnswer::NoSuch;
@@ -42,7 +43,8 @@ pub fn payload<P: NodeKey>(
 ) -> WorldAnswer
     requires { length cores.old.items ≡ length nodes.now }
     ensures { (w : Scene P) → w.nodes ≡ nodes.now → w.range ≡ range.now
-        → AtNode P.cmp w (event_at P.cmp w key.now (event.Payload peer.now bytes.now)) cores.old.items cores.new.items result }
+        → AtNode P.cmp w (event_at P.cmp w key.now (event.Payload peer.now bytes.now))
+        cores.old.items cores.new.items result }
 {
     let Some(place) = place_of(nodes, key) else {
         return WorldAnswer::NoSuch;
@@ -60,7 +62,8 @@ pub fn subscribe<P: NodeKey>(
 ) -> WorldAnswer
     requires { length cores.old.items ≡ length nodes.now }
     ensures { (w : Scene P) → w.nodes ≡ nodes.now
-        → AtNode P.cmp w (event_at P.cmp w key.now (event.Subscribe ticket digest.now)) cores.old.items cores.new.items result }
+        → AtNode P.cmp w (event_at P.cmp w key.now (event.Subscribe ticket digest.now))
+        cores.old.items cores.new.items result }
 {
     let Some(place) = place_of(nodes, key) else {
         return WorldAnswer::NoSuch;
@@ -78,7 +81,8 @@ pub fn get<P: NodeKey>(
 ) -> WorldAnswer
     requires { length cores.now ≡ length nodes.now }
     ensures { (w : Scene P) → w.nodes ≡ nodes.now
-        → AtNode P.cmp w (event_at P.cmp w key.now (event.Get ticket digest.now)) cores.now cores.now result }
+        → AtNode P.cmp w (event_at P.cmp w key.now (event.Get ticket digest.now))
+        cores.now cores.now result }
 {
     let Some(place) = place_of(nodes, key) else {
         return WorldAnswer::NoSuch;
@@ -95,7 +99,8 @@ pub fn cleanup<P: NodeKey>(
 ) -> WorldAnswer
     requires { length cores.old.items ≡ length nodes.now }
     ensures { (w : Scene P) → w.nodes ≡ nodes.now
-        → AtNode P.cmp w (event_at P.cmp w key.now (event.Cleanup gone.now)) cores.old.items cores.new.items result }
+        → AtNode P.cmp w (event_at P.cmp w key.now (event.Cleanup gone.now))
+        cores.old.items cores.new.items result }
 {
     let Some(place) = place_of(nodes, key) else {
         return WorldAnswer::NoSuch;

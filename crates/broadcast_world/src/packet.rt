@@ -26,7 +26,11 @@ impl<P: NodeKey> Model for Packet<P> {
 
     ghost Value = { Packet P };
 
-    ghost view = { λ it. record { sender = it.sender; addressee = it.addressee; bytes = arc_value it.bytes } };
+    ghost view = { λ it. record {
+      sender = it.sender;
+      addressee = it.addressee;
+      bytes = arc_value it.bytes;
+    } };
 }
 
 impl<P: NodeKey> Packet<P> {

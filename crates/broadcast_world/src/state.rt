@@ -35,7 +35,12 @@ impl<P: NodeKey> Model for World<P> {
     ghost Value = { State P };
 
     ghost view = { λ it. record {
-      scene = record { nodes = it.nodes; hostile = it.hostile; deque_size = it.deque_size; range = it.range };
+      scene = record {
+        nodes = it.nodes;
+        hostile = it.hostile;
+        deque_size = it.deque_size;
+        range = it.range;
+      };
       cores = it.cores.items;
       packets = it.packets.items;
     } };
@@ -60,9 +65,11 @@ impl<P: NodeKey> World<P> {
         ensures shared_only { result ≡ Err WorldError.SharedKey
             → shares_key P.cmp nodes.items hostile.items ≡ true }
         ensures nodes { IfOk result (λ world. (q : P)
-            → list_any (eq_by_cmp P.cmp q) world.scene.nodes ≡ list_any (eq_by_cmp P.cmp q) nodes.items) }
+            → list_any (eq_by_cmp P.cmp q) world.scene.nodes
+            ≡ list_any (eq_by_cmp P.cmp q) nodes.items) }
         ensures hostile { IfOk result (λ world. (q : P)
-            → list_any (eq_by_cmp P.cmp q) world.scene.hostile ≡ list_any (eq_by_cmp P.cmp q) hostile.items) }
+            → list_any (eq_by_cmp P.cmp q) world.scene.hostile
+            ≡ list_any (eq_by_cmp P.cmp q) hostile.items) }
         ensures apart { IfOk result (λ world. (q : P)
             → list_any (eq_by_cmp P.cmp q) world.scene.nodes ≡ true
             → list_any (eq_by_cmp P.cmp q) world.scene.hostile ≡ false) }
@@ -106,7 +113,8 @@ impl<P: NodeKey> World<P> {
 
     /// Takes one step.
     pub(crate) fn take(&mut self, alloc: Global, step: &Step<P>) -> WorldAnswer
-        ensures { (log : Log P) → HasWorld P.cmp log self.old → TakesStep P.cmp log step.now result self.old self.new }
+        ensures { (log : Log P) → HasWorld P.cmp log self.old
+            → TakesStep P.cmp log step.now result self.old self.new }
     {
         let World {
             nodes,

@@ -8,15 +8,15 @@ pub enum Step<P: PublicKey> {
     Peers(P, Set<P>),
     /// The node broadcasts the message to the recipients.
     Broadcast(P, Recipients<P>, Digested<TestMessage>),
-    /// The node subscribes, under the ticket, to the digest.
+    /// The node subscribes to the digest's message with a ticket.
     Subscribe(P, u64, [u8; 32]),
-    /// The node gets, under the ticket, the digest's cached message.
+    /// The node is asked for the digest's cached message with a ticket.
     Get(P, u64, [u8; 32]),
     /// The node drops the waiters with these tickets.
     Cleanup(P, Items<u64>),
-    /// The packet with this number comes to its addressee.
+    /// The packet with this number arrives at its addressee.
     Deliver(u64),
-    /// A hostile key sends bytes to a node, and they come at once.
+    /// Bytes of a hostile key arrive at a node.
     Hostile {
         /// The hostile key.
         from: P,
