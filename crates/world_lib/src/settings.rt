@@ -1,4 +1,6 @@
 //! The arguments of the program.
+ghost use Rattle.std.specs.Prelude.{◌≡◌};
+
 use broadcast_core::RangeCfg;
 use broadcast_text::fault::Fault;
 use broadcast_text::line_error::LineError;
@@ -38,7 +40,9 @@ fn parse_hostile(alloc: Global, word: &[u8]) -> Result<Vec<u64>, LineError> {
 }
 
 /// Returns the fault of an argument that was not read.
-fn argument_fault(error: LineError) -> Fault {
+fn argument_fault(error: LineError) -> Fault
+    ensures { error ≡ LineError.Memory → result ≡ Fault.Memory }
+{
     match error {
         LineError::Syntax => Fault::Usage(USAGE),
         LineError::Memory => Fault::Memory,
@@ -46,7 +50,10 @@ fn argument_fault(error: LineError) -> Fault {
 }
 
 /// Returns the fault of a world that was not made.
-fn world_fault(error: WorldError) -> Fault {
+fn world_fault(error: WorldError) -> Fault
+    ensures shared_key { error ≡ WorldError.SharedKey → result ≡ Fault.SharedKey }
+    ensures allocation_failed { error ≡ WorldError.Memory → result ≡ Fault.Memory }
+{
     match error {
         WorldError::SharedKey => Fault::SharedKey,
         WorldError::Memory => Fault::Memory,
