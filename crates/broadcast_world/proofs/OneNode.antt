@@ -4,7 +4,7 @@ use Rattle.std.proofs.lemmas.Option.{slice_get-get_or}
 use Rattle.std.specs.Prelude.{IsTrue, slice_set, is_some}
 use Rattle.std.specs.List.{AllZip, slice_get}
 use Rattle.std.specs.Option.{option_map}
-use Rattle.broadcast_world.proofs.Places.{read_at, set_same}
+use Rattle.broadcast_world.proofs.Places.{set_same}
 use Rattle.std.specs.declared.cmp.Ordering.{Ordering}
 use Rattle.broadcast_core.specs.Answers.{may_allocate}
 use Rattle.broadcast_core.specs.Log.{is_refused}
@@ -24,7 +24,7 @@ use Rattle.broadcast_world.specs.World.{NodeEvent, NodeHistory, addressed, at, m
 use Rattle.broadcast_world.specs.Packet.{Packet}
 use Rattle.broadcast_world.specs.Made.{no_content}
 use Rattle.broadcast_core.proofs.Stepping.{HasContent-empty}
-use Rattle.broadcast_world.specs.Steps.{NodeContent, NodeTakes, NodeFollows, ChangesNode, AtNode}
+use Rattle.broadcast_world.specs.Steps.{NodeContent, NodeTakes, NodeFollows, AtNode}
 use Rattle.broadcast_world.specs.declared.step.WorldAnswer.{WorldAnswer}
 use Rattle.broadcast_world.specs.declared.step.WorldAnswer.TheVariants.{Given, NoSuch}
 

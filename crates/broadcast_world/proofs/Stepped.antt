@@ -1,9 +1,8 @@
 -- One step of a world, from what it makes of one node.
-use Rattle.std.proofs.Common.{◌≡◌, ℕ, Bool, true, false, if◌then◌else◌, List, [], ◌∷◌, ◌++◌, length, Option, Some, None, refl, sym, ap, ◌∙◌, subst, append-nil}
+use Rattle.std.proofs.Common.{◌≡◌, ℕ, false, if◌then◌else◌, List, [], ◌++◌, length, Option, Some, None, refl, sym, ap, ◌∙◌, subst}
 use Rattle.std.proofs.Math.ListN.{length-set}
-use Rattle.std.specs.Option.{option_map}
-use Rattle.std.specs.List.{AllZip, IsDistinct, slice_get}
-use Rattle.std.specs.Cmp.{IsTotalOrder, IsEquivalence, eq_by_cmp_equiv}
+use Rattle.std.specs.List.{AllZip, IsDistinct}
+use Rattle.std.specs.Cmp.{IsTotalOrder, eq_by_cmp_equiv}
 use Rattle.std.specs.Ordering.{eq_by_cmp}
 use Rattle.std.specs.declared.cmp.Ordering.{Ordering}
 use Rattle.broadcast_core.proofs.Distinct.{by_test}
@@ -11,14 +10,13 @@ use Rattle.broadcast_core.specs.Log.{after, is_refused}
 use Rattle.broadcast_core.specs.HasContent.{HasContent}
 use Rattle.broadcast_core.specs.TestMessage.{Parts}
 use Rattle.broadcast_core.specs.declared.event.Answer.{Answer}
-use Rattle.broadcast_core.specs.declared.event.Answer.TheVariants as answer
 use Rattle.broadcast_world.specs.Packet.{Packet}
-use Rattle.broadcast_world.specs.Scene.{Scene, State}
-use Rattle.broadcast_world.specs.World.{Log, NodeEvent, NodeHistory, at, packets, made_by, unless_refused, event_of, history, history_with, accepted}
+use Rattle.broadcast_world.specs.Scene.{Scene}
+use Rattle.broadcast_world.specs.World.{Log, NodeEvent, NodeHistory, at, packets, made_by, unless_refused, event_of, history, history_with}
 use Rattle.broadcast_world.specs.Steps.{NodeContent, AtNode, ChangesNode, HasWorld, TakesStep}
 use Rattle.broadcast_world.specs.declared.step.Step.{Step}
 use Rattle.broadcast_world.specs.declared.step.WorldAnswer.{WorldAnswer}
-use Rattle.broadcast_world.specs.declared.step.WorldAnswer.TheVariants.{Given, NoSuch}
+use Rattle.broadcast_world.specs.declared.step.WorldAnswer.TheVariants.{Given}
 use Rattle.broadcast_world.proofs.Places.{AllZip-at, AllZip-changed}
 
 module _ {P : Type 0} (cmp : P → P → Ordering) (w : Scene P) where

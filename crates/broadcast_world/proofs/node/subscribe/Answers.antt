@@ -1,6 +1,4 @@
-use Rattle.std.proofs.Common.{[], refl, ap}
-use Rattle.broadcast_core.specs.Codec.{whole}
-use Rattle.broadcast_core.specs.TestMessage.{read_message}
+use Rattle.std.proofs.Common.{[], refl}
 use Rattle.broadcast_world.specs.World.{at}
 use Rattle.broadcast_world.proofs.OneNode.{NodeTakes-from}
 use Rattle.broadcast_world.proofs.node.subscribe.Goals as goal

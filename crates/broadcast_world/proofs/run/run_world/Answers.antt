@@ -1,4 +1,4 @@
-use Rattle.std.proofs.Common.{◌≡◌, ◌++◌, length, arith, sym, ap, ◌∙◌, subst}
+use Rattle.std.proofs.Common.{◌++◌, arith, sym, subst}
 use Rattle.std.proofs.lemmas.List.{take_all}
 use Rattle.broadcast_world.specs.Steps.{TakesSteps}
 use Rattle.broadcast_world.specs.World.{log_of}

@@ -1,4 +1,4 @@
-use Rattle.std.proofs.Common.{◌≡◌, ◌+◌, ◌-◌, ◌≤◌, take, length}
+use Rattle.std.proofs.Common.{◌+◌, ◌-◌, ◌≤◌, take, length}
 use Rattle.std.specs.Prelude.{vec_len, vec_capacity}
 use Rattle.broadcast_world.specs.World.{Log}
 use Rattle.broadcast_world.specs.Steps.{HasWorld, TakesSteps}
