@@ -6,14 +6,7 @@ ghost use Rattle.broadcast_text.specs.Words.{byte_list_word};
 ghost use Rattle.broadcast_text.specs.Printed.{line_of, spaced, outcome_word, refusal_words, parts_words, answer_line};
 
 use crate::byte_list::write_spaced;
-<<<<<<< HEAD
 use broadcast_core::{Answer, Cause, CodecError, Outcome, TestMessage};
-=======
-use broadcast_core::CodecError;
-use broadcast_core::{Answer, Cause};
-use broadcast_core::TestMessage;
-use broadcast_core::Outcome;
->>>>>>> 567b1bb44e0e360577cdde268dd3ebcced1821b4
 use std::io::{self, Write};
 
 /// Writes the line of an answer.

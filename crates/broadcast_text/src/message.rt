@@ -10,12 +10,7 @@ ghost use Rattle.broadcast_text.specs.declared.line_error.LineError.TheVariants.
 use crate::byte_list::parse_byte_list;
 use crate::line_error::LineError;
 use crate::words::{Words, expect_number, strip_mark};
-<<<<<<< HEAD
 use broadcast_core::{Digested, TestMessage};
-=======
-use broadcast_core::Digested;
-use broadcast_core::TestMessage;
->>>>>>> 567b1bb44e0e360577cdde268dd3ebcced1821b4
 use sha2::{Digest, Sha256};
 use std::alloc::Global;
 

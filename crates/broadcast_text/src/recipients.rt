@@ -6,12 +6,7 @@ ghost use Rattle.broadcast_text.specs.declared.line_error.LineError.TheVariants.
 
 use crate::line_error::LineError;
 use crate::words::{Words, parse_numbers, strip_mark};
-<<<<<<< HEAD
 use broadcast_core::{Items, Recipients};
-=======
-use broadcast_core::Items;
-use broadcast_core::Recipients;
->>>>>>> 567b1bb44e0e360577cdde268dd3ebcced1821b4
 use std::alloc::Global;
 
 /// Returns the recipients that the word spells: `all`, or one or more keys after `to:`, separated

@@ -13,13 +13,9 @@ use crate::node;
 use crate::nodes::place_of;
 use crate::packet::{Packet, addressees, packets_for};
 use crate::step::WorldAnswer;
-<<<<<<< HEAD
-use broadcast_core::{Answer, Cause, CodecError, Core, Digested, Recipients, Set, TestMessage, Write};
-=======
 use broadcast_core::{
     Answer, Cause, CodecError, Core, Digested, Recipients, Set, TestMessage, Write,
 };
->>>>>>> 567b1bb44e0e360577cdde268dd3ebcced1821b4
 use std::alloc::{AllocError, Global};
 
 /// Takes the message under the key of the node that `key` names, and makes its packets.

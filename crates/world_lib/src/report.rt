@@ -15,14 +15,7 @@ pub struct NodeList<'a> {
 }
 
 /// Returns the lists that are not empty, in ascending order of nodes and then of peers.
-<<<<<<< HEAD
-pub fn lists_of<'a>(
-    alloc: Global,
-    world: &'a World<u64>,
-) -> Result<Vec<NodeList<'a>>, AllocError> {
-=======
 pub fn lists_of<'a>(alloc: Global, world: &'a World<u64>) -> Result<Vec<NodeList<'a>>, AllocError> {
->>>>>>> 567b1bb44e0e360577cdde268dd3ebcced1821b4
     let mut lists = Vec::new(alloc);
     for node in world.nodes().as_slice() {
         if let Some(core) = world.core(node) {
