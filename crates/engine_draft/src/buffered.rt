@@ -1,0 +1,2 @@
+//! Broadcasts messages to peers, and buffers what they broadcast.
+pub mod metrics;
