@@ -1,1 +1,5 @@
 pub mod Counters
+pub mod Replies
+pub mod EngineHistory
+pub mod Ran
+pub mod Handing

@@ -1,2 +1,5 @@
 //! Broadcasts messages to peers, and buffers what they broadcast.
+pub mod engine;
 pub mod metrics;
+pub mod network;
+pub mod outlet;

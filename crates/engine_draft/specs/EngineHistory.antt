@@ -1,0 +1,126 @@
+-- What an engine did: a list of steps, the newest first, and what is read off it.
+use Rattle.std.specs.Prelude.{◌≡◌, ℕ, Bool, true, false, List, [], ◌∷◌, ◌++◌, map, length, Option, None, Some}
+use Rattle.std.specs.List.{count_by}
+use Rattle.broadcast_core.specs.Carried.{Carried}
+use Rattle.broadcast_core.specs.Content.{first_places}
+use Rattle.broadcast_core.specs.History.{Setting}
+use Rattle.broadcast_core.specs.Happening.{Happening, peers, broadcast, arrival, subscribe, get, cleanup}
+use Rattle.broadcast_core.specs.Waiting.{waiting}
+use Rattle.broadcast_core.specs.Follows.{AnswersAs}
+use Rattle.broadcast_core.specs.Answers.{outcome}
+use Rattle.broadcast_core.specs.declared.event.Cause.{Cause}
+use Rattle.broadcast_core.specs.declared.outcome.Outcome.{Outcome}
+use Rattle.broadcast_core.specs.declared.outcome.Outcome.TheVariants.{Inserted, Duplicate, Ineligible}
+use Rattle.commonware_broadcast.specs.declared.ingress.message.Message.{Message}
+use Rattle.commonware_broadcast.specs.declared.ingress.message.Message.TheVariants.{Broadcast, Subscribe, Get}
+use Rattle.engine_draft.specs.declared.buffered.engine.input.Input.{Input}
+use Rattle.engine_draft.specs.declared.buffered.engine.input.Input.TheVariants.{Peers, Request, Arrived, Invalid}
+use Rattle.engine_draft.specs.declared.buffered.metrics.Status.TheVariants.{Success, Failure, Dropped}
+use Rattle.engine_draft.specs.declared.buffered.metrics.Status.TheVariants as status
+use Rattle.engine_draft.specs.Counters.{Totals, added}
+use Rattle.engine_draft.specs.Replies.{Asker, Handed, subscribed, got, due_at, reply_of}
+
+pub data Step (P M D S G : Type 0) : Type 0 where
+  -- the waiters that the test names answered closed, and were dropped
+  swept : (ℕ → Asker S → Bool) → Step P M D S G
+  -- the input was applied, and these replies were handed out
+  applied : Input P M S G D → List (Handed S G (Carried M D) (Option (Carried M D))) → Step P M D S G
+  -- the input was refused, and changed nothing
+  refused : Input P M S G D → Cause → Step P M D S G
+  -- the engine ended, and dropped all waiters
+  ended : Step P M D S G
+
+module _ {P M D S G : Type 0} where
+  -- a request, under its ticket
+  abbrev pub asked : ℕ → Message P M S G D → Happening P M D (Asker S) (Asker G)
+  asked ticket (Broadcast r c) = broadcast r c
+  asked ticket (Subscribe d responder) = subscribe (record { ticket = ticket; responder = responder }) d
+  asked ticket (Get d responder) = get (record { ticket = ticket; responder = responder }) d
+
+  -- what happens at an input; a payload that is no message is no happening
+  abbrev pub happening_of : Input P M S G D → List (Happening P M D (Asker S) (Asker G))
+  happening_of (Peers ps) = peers ps ∷ []
+  happening_of (Request request) = asked request.ticket request.message ∷ []
+  happening_of (Arrived p c) = arrival p c ∷ []
+  happening_of (Invalid error) = []
+
+  abbrev pub happenings_at : Step P M D S G → List (Happening P M D (Asker S) (Asker G))
+  happenings_at (swept test) = cleanup test ∷ []
+  happenings_at (applied input replies) = happening_of input
+  happenings_at (refused input cause) = []
+  happenings_at ended = cleanup (λ n w. true) ∷ []
+
+  -- the happenings of the steps
+  abbrev pub happenings : List (Step P M D S G) → List (Happening P M D (Asker S) (Asker G))
+  happenings [] = []
+  happenings (step ∷ steps) = happenings_at step ++ happenings steps
+
+  abbrev pub handed_at : Step P M D S G → List (Handed S G (Carried M D) (Option (Carried M D)))
+  handed_at (applied input replies) = replies
+  handed_at _ = []
+
+  -- the replies that were handed out, oldest first
+  abbrev pub handed : List (Step P M D S G) → List (Handed S G (Carried M D) (Option (Carried M D)))
+  handed [] = []
+  handed (step ∷ steps) = handed steps ++ handed_at step
+
+module _ {S G A C : Type 0} where
+  -- a reply is counted by whether it was delivered, and a delivered one to a get by whether it has a message
+  abbrev pub count_reply : Handed S G A (Option C) → Totals → Totals
+  count_reply (subscribed w a true) t = record t { subscribe = added Success 1 t.subscribe }
+  count_reply (subscribed w a false) t = record t { subscribe = added Dropped 1 t.subscribe }
+  count_reply (got v (Some c) true) t = record t { get = added Success 1 t.get }
+  count_reply (got v None true) t = record t { get = added Failure 1 t.get }
+  count_reply (got v b false) t = record t { get = added Dropped 1 t.get }
+
+  abbrev pub count_replies : List (Handed S G A (Option C)) → Totals → Totals
+  count_replies [] t = t
+  count_replies (h ∷ hs) t = count_replies hs (count_reply h t)
+
+-- a message that was received is counted by its outcome
+abbrev pub count_outcome : Outcome → Totals → Totals
+count_outcome Inserted t = record t { receive = added Success 1 t.receive }
+count_outcome Duplicate t = record t { receive = added Dropped 1 t.receive }
+count_outcome Ineligible t = record t { receive = added Dropped 1 t.receive }
+
+module _ {P M D S G : Type 0} (s : Setting P M D) where
+  -- the digests that are awaited after a history
+  abbrev pub awaited : List (Happening P M D (Asker S) (Asker G)) → List D
+  awaited past = first_places s.same.digest (map (λ w. w.digest) (waiting s past))
+
+  -- what an input counts, besides replies
+  abbrev pub count_input : Input P M S G D → List (Happening P M D (Asker S) (Asker G)) → Totals → Totals
+  count_input (Arrived p c) past t = count_outcome (outcome s p c.digest past) t
+  count_input (Invalid error) past t = record t { receive = added status.Invalid 1 t.receive }
+  count_input _ past t = t
+
+  -- what a step counts after a history; an end counts nothing
+  abbrev pub count : Step P M D S G → List (Happening P M D (Asker S) (Asker G)) → Totals → Totals
+  count (swept test) past t = record t {
+    subscribe = added Dropped (count_by (λ w. test w.place w.waiter) (waiting s past)) t.subscribe;
+    waiters = length (awaited (cleanup test ∷ past));
+  }
+  count (applied input replies) past t = count_replies replies (count_input input past t)
+  count _ past t = t
+
+  -- what the steps count
+  abbrev pub counts : List (Step P M D S G) → List (Happening P M D (Asker S) (Asker G)) → Totals → Totals
+  counts [] past t = t
+  counts (step ∷ steps) past t = count step (happenings steps ++ past) (counts steps past t)
+
+  -- the replies at an input are those that are due
+  abbrev pub AreDue : List (Happening P M D (Asker S) (Asker G)) → List (Handed S G (Carried M D) (Option (Carried M D)))
+      → List (Happening P M D (Asker S) (Asker G)) → Type 0
+  AreDue [] replies past = replies ≡ []
+  AreDue (e ∷ es) replies past = map reply_of replies ≡ due_at s e past
+
+  -- a step may follow a history
+  abbrev pub IsStep : (Asker S → Bool → Type 0) → Step P M D S G → List (Happening P M D (Asker S) (Asker G)) → Type 0
+  IsStep may_answer (swept test) past = AnswersAs may_answer test (waiting s past)
+  IsStep may_answer (applied input replies) past = AreDue (happening_of input) replies past
+  IsStep may_answer _ past = Unit {0}
+
+  -- each step may follow those before it
+  abbrev pub AreSteps : (Asker S → Bool → Type 0) → List (Step P M D S G) → List (Happening P M D (Asker S) (Asker G)) → Type 0
+  AreSteps may_answer [] past = Unit {0}
+  AreSteps may_answer (step ∷ steps) past = IsStep may_answer step (happenings steps ++ past) × AreSteps may_answer steps past
