@@ -1,5 +1,5 @@
 -- What an engine did: a list of steps, the newest first, and what is read off it.
-use Rattle.std.specs.Prelude.{◌≡◌, ℕ, Bool, true, false, List, [], ◌∷◌, ◌++◌, map, length, Option, None, Some}
+use Rattle.std.specs.Prelude.{◌≡◌, ℕ, ◌+◌, Bool, true, false, if◌then◌else◌, List, [], ◌∷◌, ◌++◌, map, length, Option, None, Some, is_some}
 use Rattle.std.specs.List.{count_by}
 use Rattle.broadcast_core.specs.Carried.{Carried}
 use Rattle.broadcast_core.specs.Content.{first_places}
@@ -9,6 +9,11 @@ use Rattle.broadcast_core.specs.Waiting.{waiting}
 use Rattle.broadcast_core.specs.Follows.{AnswersAs}
 use Rattle.broadcast_core.specs.Answers.{outcome}
 use Rattle.broadcast_core.specs.declared.event.Cause.{Cause}
+use Rattle.broadcast_core.specs.declared.event.Cause.TheVariants.{Memory, Unencodable}
+use Rattle.broadcast_core.specs.Cache.{message}
+use Rattle.broadcast_core.specs.Waiters.{counted}
+use Rattle.engine_draft.specs.declared.buffered.engine.input.Turn.{Turn}
+use Rattle.engine_draft.specs.declared.buffered.engine.input.Turn.TheVariants as turn
 use Rattle.broadcast_core.specs.declared.outcome.Outcome.{Outcome}
 use Rattle.broadcast_core.specs.declared.outcome.Outcome.TheVariants.{Inserted, Duplicate, Ineligible}
 use Rattle.commonware_broadcast.specs.declared.ingress.message.Message.{Message}
@@ -27,6 +32,8 @@ pub data Step (P M D S G : Type 0) : Type 0 where
   applied : Input P M S G D → List (Handed S G (Carried M D) (Option (Carried M D))) → Step P M D S G
   -- the input was refused, and changed nothing
   refused : Input P M S G D → Cause → Step P M D S G
+  -- a payload of the peer was decoded
+  decoded : P → Step P M D S G
   -- the engine ended, and dropped all waiters
   ended : Step P M D S G
 
@@ -48,6 +55,7 @@ module _ {P M D S G : Type 0} where
   happenings_at (swept test) = cleanup test ∷ []
   happenings_at (applied input replies) = happening_of input
   happenings_at (refused input cause) = []
+  happenings_at (decoded p) = []
   happenings_at ended = cleanup (λ n w. true) ∷ []
 
   -- the happenings of the steps
@@ -84,6 +92,23 @@ count_outcome Duplicate t = record t { receive = added Dropped 1 t.receive }
 count_outcome Ineligible t = record t { receive = added Dropped 1 t.receive }
 
 module _ {P M D S G : Type 0} (s : Setting P M D) where
+  abbrev pub turn_of_request : Message P M S G D → List (Happening P M D (Asker S) (Asker G)) → Turn
+  turn_of_request (Broadcast r c) past = turn.Broadcast (outcome s s.own c.digest past)
+  turn_of_request (Subscribe d responder) past = turn.Subscribe
+  turn_of_request (Get d responder) past = turn.Get
+
+  abbrev pub IsEncodable : Message P M S G D → Type 0
+  IsEncodable (Broadcast r c) = is_some (s.encoding c.message) ≡ true
+  IsEncodable _ = Unit {0}
+
+  -- a broadcast is refused if it has no encoding, and any request that takes memory may be refused for that
+  abbrev pub MayRefuseRequest : Message P M S G D → Cause → List (Happening P M D (Asker S) (Asker G)) → Type 0
+  MayRefuseRequest (Broadcast r c) Unencodable past = s.encoding c.message ≡ None
+  MayRefuseRequest (Broadcast r c) Memory past = is_some (s.encoding c.message) ≡ true
+  MayRefuseRequest (Subscribe d responder) Memory past = Unit {0}
+  MayRefuseRequest (Get d responder) Memory past = is_some (message s d past) ≡ true
+  MayRefuseRequest _ cause past = ⊥
+
   -- the digests that are awaited after a history
   abbrev pub awaited : List (Happening P M D (Asker S) (Asker G)) → List D
   awaited past = first_places s.same.digest (map (λ w. w.digest) (waiting s past))
@@ -100,7 +125,7 @@ module _ {P M D S G : Type 0} (s : Setting P M D) where
     subscribe = added Dropped (count_by (λ w. test w.place w.waiter) (waiting s past)) t.subscribe;
     waiters = length (awaited (cleanup test ∷ past));
   }
-  count (applied input replies) past t = count_replies replies (count_input input past t)
+  count (applied input replies) past t = count_input input past (count_replies replies t)
   count _ past t = t
 
   -- what the steps count
@@ -108,16 +133,43 @@ module _ {P M D S G : Type 0} (s : Setting P M D) where
   counts [] past t = t
   counts (step ∷ steps) past t = count step (happenings steps ++ past) (counts steps past t)
 
+  -- the number of a peer after the steps
+  abbrev pub count_peer : P → List (Step P M D S G) → ℕ → ℕ
+  count_peer q [] n = n
+  count_peer q (decoded p ∷ steps) n = if s.same.key p q then counted (count_peer q steps n + 1) else count_peer q steps n
+  count_peer q (step ∷ steps) n = count_peer q steps n
+
+  -- the result of a turn
+  abbrev pub turn_of : Step P M D S G → List (Happening P M D (Asker S) (Asker G)) → Option Turn
+  turn_of (applied (Peers ps) replies) past = Some turn.Peers
+  turn_of (applied (Request request) replies) past = Some (turn_of_request request.message past)
+  turn_of (applied (Arrived p c) replies) past = Some (turn.Payload (outcome s p c.digest past))
+  turn_of (applied (Invalid error) replies) past = Some (turn.Invalid error)
+  turn_of (refused input cause) past = Some (turn.Refused cause)
+  turn_of _ past = None
+
+  -- why an input may be refused after a history
+  abbrev pub MayRefuse : Input P M S G D → Cause → List (Happening P M D (Asker S) (Asker G)) → Type 0
+  MayRefuse (Request request) cause past = MayRefuseRequest request.message cause past
+  MayRefuse (Arrived p c) Memory past = Unit {0}
+  MayRefuse _ cause past = ⊥
+
   -- the replies at an input are those that are due
   abbrev pub AreDue : List (Happening P M D (Asker S) (Asker G)) → List (Handed S G (Carried M D) (Option (Carried M D)))
       → List (Happening P M D (Asker S) (Asker G)) → Type 0
   AreDue [] replies past = replies ≡ []
   AreDue (e ∷ es) replies past = map reply_of replies ≡ due_at s e past
 
+  -- a broadcast that was applied has an encoding
+  abbrev pub HasEncoding : Input P M S G D → Type 0
+  HasEncoding (Request request) = IsEncodable request.message
+  HasEncoding _ = Unit {0}
+
   -- a step may follow a history
   abbrev pub IsStep : (Asker S → Bool → Type 0) → Step P M D S G → List (Happening P M D (Asker S) (Asker G)) → Type 0
   IsStep may_answer (swept test) past = AnswersAs may_answer test (waiting s past)
-  IsStep may_answer (applied input replies) past = AreDue (happening_of input) replies past
+  IsStep may_answer (applied input replies) past = AreDue (happening_of input) replies past × HasEncoding input
+  IsStep may_answer (refused input cause) past = MayRefuse input cause past
   IsStep may_answer _ past = Unit {0}
 
   -- each step may follow those before it

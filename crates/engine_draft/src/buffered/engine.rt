@@ -1,7 +1,9 @@
 //! The engine of a node.
-// mod handler;
+mod handler;
 mod input;
+mod node;
 mod reply;
+mod take;
 mod waiter;
 
 pub use input::{Input, Request, Turn};

@@ -1,0 +1,137 @@
+//! One input.
+ghost use Rattle.std.specs.Prelude.{◌≡◌, List, [], ◌∷◌, Option, IfOk, OnOk, OnErr, Bool, true, is_some};
+ghost use Rattle.broadcast_core.specs.Carried.{Carried};
+ghost use Rattle.broadcast_core.specs.Content.{same_by, message_at};
+ghost use Rattle.broadcast_core.specs.History.{Setting};
+ghost use Rattle.broadcast_core.specs.Happening.{Happening};
+ghost use Rattle.broadcast_core.specs.Follows.{HasContent};
+ghost use Rattle.broadcast_core.specs.Answers.{outcome};
+ghost use Rattle.commonware_broadcast.specs.declared.ingress.message.Message.TheVariants as message;
+ghost use Rattle.engine_draft.specs.declared.buffered.engine.input.Input.TheVariants as input;
+ghost use Rattle.engine_draft.specs.Replies.{Asker, Handed};
+ghost use Rattle.engine_draft.specs.EngineHistory.{Step, applied, count_outcome};
+ghost use Rattle.engine_draft.specs.Ran.{Steps};
+
+use crate::buffered::engine::node::Node;
+use crate::buffered::engine::reply::{respond_get, respond_subscribe};
+use crate::buffered::engine::take::take;
+use crate::buffered::engine::waiter::Waiter;
+use crate::buffered::metrics::{Metrics, Status};
+use crate::buffered::outlet::Outlet;
+use broadcast_core::digested::{Digested, Digestible};
+use broadcast_core::ordered::{PublicKey, Set};
+use broadcast_core::outcome::{Outcome, Subscribed};
+use commonware_broadcast::ingress::reply::Reply;
+use commonware_broadcast::ingress::responder::Responder;
+use std::alloc::{AllocError, Global};
+
+/// Replaces the primary peers.
+pub(super) fn handle_peers<P, M, S, G, O>(node: &mut Node<P, M, S, O>, peers: Set<P>)
+where
+    P: PublicKey,
+    M: Digestible,
+    S: Responder<Reply<M>> + Drop,
+    O: Outlet<S, G, Reply<M>, Option<Reply<M>>>,
+    ensures { (s : Setting P M M.Digest) → s.same ≡ same_by P.cmp M.Digest.cmp
+        → (past : List (Happening P M M.Digest (Asker S) (Asker G))) → HasContent s past node.old.core
+        → Steps s (λ w b. S.may_answer w.responder b) O.told past (applied (input.Peers peers) []) node.old node.new }
+{
+    node.core.update_primary_peers(peers);
+}
+
+/// Takes a message of a peer. After an allocation failure nothing has changed.
+pub(super) fn handle_arrival<P, M, S, G, O>(
+    node: &mut Node<P, M, S, O>,
+    alloc: Global,
+    peer: &P,
+    message: &Digested<M>,
+) -> Result<Outcome, AllocError>
+where
+    P: PublicKey,
+    M: Digestible,
+    S: Responder<Reply<M>> + Drop,
+    O: Outlet<S, G, Reply<M>, Option<Reply<M>>>,
+    ensures steps { IfOk result (λ out. (replies : List (Handed S G (Carried M M.Digest) (Option (Carried M M.Digest))))
+        × ((s : Setting P M M.Digest) → s.same ≡ same_by P.cmp M.Digest.cmp
+        → (past : List (Happening P M M.Digest (Asker S) (Asker G))) → HasContent s past node.old.core
+        → (out ≡ outcome s peer.now message.now.digest past)
+        × Steps s (λ w b. S.may_answer w.responder b) O.told past (applied (input.Arrived peer.now message.now) replies) node.old node.new)) }
+    ensures unchanged_on_error { OnErr result (node.new ≡ node.old) }
+{
+    let outcome = take(node, alloc, peer, message)?;
+    count_received(&mut node.metrics, outcome);
+    Ok(outcome)
+}
+
+/// Answers a subscribe from the cache, or lets it wait. After an allocation failure nothing has
+/// changed, and the responder is dropped.
+pub(super) fn handle_subscribe<P, M, S, G, O>(
+    node: &mut Node<P, M, S, O>,
+    ticket: u64,
+    responder: S,
+    digest: M::Digest,
+) -> Result<(), AllocError>
+where
+    P: PublicKey,
+    M: Digestible,
+    S: Responder<Reply<M>> + Drop,
+    O: Outlet<S, G, Reply<M>, Option<Reply<M>>>,
+    ensures steps { OnOk result ((replies : List (Handed S G (Carried M M.Digest) (Option (Carried M M.Digest))))
+        × ((s : Setting P M M.Digest) → s.same ≡ same_by P.cmp M.Digest.cmp
+        → (past : List (Happening P M M.Digest (Asker S) (Asker G))) → HasContent s past node.old.core
+        → (counted : Bool) → Steps s (λ w b. S.may_answer w.responder b) O.told past
+        (applied (input.Request (record { ticket = ticket; message = message.Subscribe digest responder; counted = counted })) replies)
+        node.old node.new)) }
+    ensures unchanged_on_error { OnErr result (node.new ≡ node.old) }
+{
+    match node.core.subscribe(digest, Waiter::new(ticket, responder)) {
+        Ok(Subscribed::Answered(waiter, message)) => {
+            respond_subscribe(&mut node.metrics, &mut node.outlet, waiter, message);
+            Ok(())
+        }
+        Ok(Subscribed::Waiting) => Ok(()),
+        Err(_) => Err(AllocError),
+    }
+}
+
+/// Answers a get from the cache. After an allocation failure nothing has changed, and the responder
+/// is dropped.
+pub(super) fn handle_get<P, M, S, G, O>(
+    node: &mut Node<P, M, S, O>,
+    ticket: u64,
+    responder: G,
+    digest: M::Digest,
+) -> Result<(), AllocError>
+where
+    P: PublicKey,
+    M: Digestible,
+    S: Responder<Reply<M>> + Drop,
+    G: Drop,
+    O: Outlet<S, G, Reply<M>, Option<Reply<M>>>,
+    ensures steps { OnOk result ((replies : List (Handed S G (Carried M M.Digest) (Option (Carried M M.Digest))))
+        × ((s : Setting P M M.Digest) → s.same ≡ same_by P.cmp M.Digest.cmp
+        → (past : List (Happening P M M.Digest (Asker S) (Asker G))) → HasContent s past node.old.core
+        → (counted : Bool) → Steps s (λ w b. S.may_answer w.responder b) O.told past
+        (applied (input.Request (record { ticket = ticket; message = message.Get digest responder; counted = counted })) replies)
+        node.old node.new)) }
+    ensures unchanged_on_error { OnErr result (node.new ≡ node.old) }
+    ensures fails_only_if_cached { OnErr result
+        (is_some (message_at (same_by P.cmp M.Digest.cmp) node.old.core digest) ≡ true) }
+{
+    let found = match node.core.get(&digest) {
+        Some(message) => Some(message.clone()?),
+        None => None,
+    };
+    respond_get(&mut node.metrics, &mut node.outlet, ticket, responder, found);
+    Ok(())
+}
+
+/// Counts a message of a peer by its outcome.
+fn count_received<P: PublicKey>(metrics: &mut Metrics<P>, outcome: Outcome)
+    ensures { metrics.new ≡ record metrics.old { totals = count_outcome outcome metrics.old.totals } }
+{
+    match outcome {
+        Outcome::Inserted => metrics.count_receive(Status::Success),
+        Outcome::Duplicate | Outcome::Ineligible => metrics.count_receive(Status::Dropped),
+    }
+}
