@@ -9,6 +9,7 @@ use Rattle.broadcast_core.specs.Happening.{Happening, peers, broadcast, arrival,
 use Rattle.broadcast_core.specs.Follows.{HasContent}
 use Rattle.broadcast_core.specs.Answers.{outcome}
 use Rattle.broadcast_core.specs.Cache.{message}
+use Rattle.broadcast_core.specs.declared.codec.CodecError.{CodecError}
 use Rattle.broadcast_core.specs.declared.event.Cause.{Cause}
 use Rattle.broadcast_core.specs.declared.event.Cause.TheVariants.{Memory, Unencodable}
 use Rattle.broadcast_core.specs.declared.ordered.Recipients.{Recipients}
@@ -22,7 +23,8 @@ use Rattle.commonware_broadcast.specs.declared.ingress.message.Message.TheVarian
 use Rattle.engine_draft.specs.declared.buffered.engine.input.Input.{Input}
 use Rattle.engine_draft.specs.declared.buffered.engine.input.Input.TheVariants.{Peers, Request, Arrived, Invalid}
 use Rattle.engine_draft.specs.declared.buffered.engine.node.Node.{Node}
-use Rattle.engine_draft.specs.Counters.{Counters}
+use Rattle.engine_draft.specs.declared.buffered.metrics.Status.TheVariants as status
+use Rattle.engine_draft.specs.Counters.{Counters, added}
 use Rattle.engine_draft.specs.Replies.{Asker, Handed, subscribed, got, Due, to_subscribe, to_get, reply_of, from_cache, due_at}
 use Rattle.engine_draft.specs.EngineHistory.{applied, refused, count_outcome, count_replies, MayRefuse}
 use Rattle.engine_draft.specs.Handing.{Hands, Serves}
@@ -106,3 +108,23 @@ module _ {P M D S G O : Type 0} (s : Setting P M D) (same : Same P D) (e : s.sam
 
   pub Steps-refused : (input : Input P M S G D) (cause : Cause) → MayRefuse s input cause past → Steps s may_answer told past (refused input cause) old old
   Steps-refused input cause may = record { lawful = may; content = has; counted = refl; replied = silent }
+
+  pub Steps-broadcast : (r : Recipients P) (c : Carried M D) (ticket : ℕ) (counted : Bool) (mid : Node P M S O D) (out : Outcome) (replies : List (Handed S G (Carried M D) (Option (Carried M D))))
+      → Serves same told old.core.own c replies old mid → out ≡ outcome_at same old.core old.core.own c.digest → is_some (s.encoding c.message) ≡ true
+      → (out ≡ outcome s s.own c.digest past) × Steps s may_answer told past (applied (Request (record { ticket = ticket; message = Broadcast r c; counted = counted })) replies) old mid
+  Steps-broadcast r c ticket counted mid out replies serves at encodable =
+      let takes : Takes same s.own c old.core mid.core = subst (λ p. Takes same p c old.core mid.core) has.own serves.takes in
+      (at ∙ ap (λ p. outcome_at same old.core p c.digest) has.own ∙ followed s.own c.digest, record {
+        lawful = (
+          serves.due ∙ ap (λ m. map (λ w. to_subscribe w c) (waiting_at m old.core c.digest)) (sym e)
+          ∙ ap (λ ws. map (λ w. to_subscribe w c) ws) (served-broadcast s key_laws laws past old.core has r c),
+          encodable,
+        );
+        content = HasContent-broadcast s key_laws laws past old.core has r c mid.core (subst (λ m. Takes m s.own c old.core mid.core) (sym e) takes);
+        counted = serves.hands.counted;
+        replied = serves.hands.handed;
+      })
+
+  pub Steps-invalid : (error : CodecError) (counters : Counters P) → counters ≡ record old.metrics { totals = record old.metrics.totals { receive = added status.Invalid 1 old.metrics.totals.receive } }
+      → Steps s may_answer told past (applied (Invalid error) []) old (record old { metrics = counters })
+  Steps-invalid error counters counted = record { lawful = (refl, tt); content = has; counted = counted; replied = silent }

@@ -1,3 +1,4 @@
 pub mod PeerCounts
 pub mod Handing
 pub mod EngineSteps
+pub mod Runs

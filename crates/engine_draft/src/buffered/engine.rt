@@ -1,4 +1,6 @@
 //! The engine of a node.
+mod apply;
+mod broadcast;
 mod handler;
 mod input;
 mod node;

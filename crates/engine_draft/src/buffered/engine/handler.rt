@@ -6,7 +6,7 @@ ghost use Rattle.broadcast_core.specs.History.{Setting};
 ghost use Rattle.broadcast_core.specs.Happening.{Happening};
 ghost use Rattle.broadcast_core.specs.Follows.{HasContent};
 ghost use Rattle.broadcast_core.specs.Answers.{outcome};
-ghost use Rattle.commonware_broadcast.specs.declared.ingress.message.Message.TheVariants as message;
+ghost use Rattle.commonware_broadcast.specs.declared.ingress.message.Message.TheVariants as request;
 ghost use Rattle.engine_draft.specs.declared.buffered.engine.input.Input.TheVariants as input;
 ghost use Rattle.engine_draft.specs.Replies.{Asker, Handed};
 ghost use Rattle.engine_draft.specs.EngineHistory.{Step, applied, count_outcome};
@@ -80,7 +80,7 @@ where
         × ((s : Setting P M M.Digest) → s.same ≡ same_by P.cmp M.Digest.cmp
         → (past : List (Happening P M M.Digest (Asker S) (Asker G))) → HasContent s past node.old.core
         → (counted : Bool) → Steps s (λ w b. S.may_answer w.responder b) O.told past
-        (applied (input.Request (record { ticket = ticket; message = message.Subscribe digest responder; counted = counted })) replies)
+        (applied (input.Request (record { ticket = ticket; message = request.Subscribe digest responder; counted = counted })) replies)
         node.old node.new)) }
     ensures unchanged_on_error { OnErr result (node.new ≡ node.old) }
 {
@@ -112,7 +112,7 @@ where
         × ((s : Setting P M M.Digest) → s.same ≡ same_by P.cmp M.Digest.cmp
         → (past : List (Happening P M M.Digest (Asker S) (Asker G))) → HasContent s past node.old.core
         → (counted : Bool) → Steps s (λ w b. S.may_answer w.responder b) O.told past
-        (applied (input.Request (record { ticket = ticket; message = message.Get digest responder; counted = counted })) replies)
+        (applied (input.Request (record { ticket = ticket; message = request.Get digest responder; counted = counted })) replies)
         node.old node.new)) }
     ensures unchanged_on_error { OnErr result (node.new ≡ node.old) }
     ensures fails_only_if_cached { OnErr result
