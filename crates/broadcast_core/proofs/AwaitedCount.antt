@@ -5,10 +5,10 @@ use Rattle.std.specs.Map.{lookup, keys_of}
 use Rattle.std.specs.Cmp.{IsEquivalence}
 use Rattle.broadcast_core.specs.Content.{Content, among, without, first_places, items_at}
 use Rattle.broadcast_core.specs.Waiters.{NoneEmpty}
-use Rattle.broadcast_core.specs.History.{Setting}
+use Rattle.broadcast_core.specs.Setting.{Setting}
 use Rattle.broadcast_core.specs.Happening.{Happening}
+use Rattle.broadcast_core.specs.HasContent.{HasContent}
 use Rattle.broadcast_core.specs.Waiting.{Awaiting, with_digest, waiting}
-use Rattle.broadcast_core.specs.Follows.{HasContent}
 use Rattle.broadcast_core.proofs.Distinct.{by_test, among-equal, among-head, IsDistinct-rest, without-absent, among-without_other}
 use Rattle.broadcast_core.proofs.Listing.{IsDistinct-first_places}
 use Rattle.broadcast_core.proofs.WaitsCount.{entry_out}

@@ -5,7 +5,7 @@ use Rattle.std.proofs.lemmas.Bool.{eq-eqb, ne_eqb}
 use Rattle.broadcast_core.specs.Waiters.{DropsClosed}
 use Rattle.broadcast_core.proofs.Distinct.{by_test}
 use Rattle.broadcast_core.specs.Waiting.{Awaiting, with_digest}
-use Rattle.broadcast_core.specs.Follows.{AnswersAs}
+use Rattle.broadcast_core.specs.HasContent.{AnswersAs}
 
 module _ {W D : Type 0} where
   -- no place stands twice: each is after those before it

@@ -1,71 +1,65 @@
 -- A key's list depends on what concerns the key alone.
-use Rattle.std.proofs.Common.{◌≡◌, Bool, true, false, if◌then◌else◌, List, [], ◌∷◌, ◌++◌, take, map, refl, sym, ap, ◌∙◌}
+use Rattle.std.proofs.Common.{◌≡◌, ℕ, zero, suc, Bool, true, false, if◌then◌else◌, List, [], ◌∷◌, ◌++◌, take, map, refl, sym, ap, subst, ◌∙◌}
 use Rattle.std.specs.List.{list_any}
-use Rattle.broadcast_core.specs.Content.{first_places}
-use Rattle.broadcast_core.specs.History.{Setting}
-use Rattle.broadcast_core.specs.Happening.{Happening, peers, broadcast, arrival, subscribe, get, cleanup, taken}
+use Rattle.std.specs.Cmp.{IsEquivalence}
+use Rattle.broadcast_core.specs.Content.{without, first_places}
+use Rattle.broadcast_core.specs.Setting.{Setting}
+use Rattle.broadcast_core.specs.Happening.{Happening, History, peers, broadcast, arrival, subscribe, get, cleanup, taken}
 use Rattle.broadcast_core.specs.Peers.{primary, is_primary, since}
 use Rattle.broadcast_core.specs.Lists.{digest_under, digests_under, list}
-use Rattle.broadcast_core.specs.Concerns.{Concern, peer_set, digest, concerns}
+use Rattle.broadcast_core.specs.Concerns.{Concern, peer_set, digest, concerns, AreAlike, AreEqual}
 use Rattle.broadcast_core.proofs.Distinct.{by_test}
 use Rattle.broadcast_core.proofs.Listing.{since-empty}
 
-module _ {P M D : Type 0} (s : Setting P M D) where
-  -- the primary set, by what concerns a key
-  abbrev last_set : List (Concern P D) → List P
-  last_set [] = []
-  last_set (peer_set ps ∷ cs) = ps
-  last_set (digest d ∷ cs) = last_set cs
-
-  abbrev has_set : P → List (Concern P D) → Bool
-  has_set p cs = list_any (s.same.key p) (last_set cs)
+module _ {D : Type 0} where
+  -- whether the key is primary, by what concerns it
+  abbrev has_set : List (Concern D) → Bool
+  has_set [] = false
+  has_set (peer_set b ∷ cs) = b
+  has_set (digest d ∷ cs) = has_set cs
 
   -- the digests taken since the key was last not primary
-  abbrev stay : P → List (Concern P D) → List D
-  stay p [] = []
-  stay p (peer_set ps ∷ cs) = if has_set p (peer_set ps ∷ cs) then stay p cs else []
-  stay p (digest d ∷ cs) = if has_set p cs then d ∷ stay p cs else []
+  abbrev stay : List (Concern D) → List D
+  stay [] = []
+  stay (peer_set b ∷ cs) = if b then stay cs else []
+  stay (digest d ∷ cs) = if has_set cs then d ∷ stay cs else []
 
-  last_set-after : (ds : List D) (cs : List (Concern P D)) → last_set (map digest ds ++ cs) ≡ last_set cs
-  last_set-after [] cs = refl
-  last_set-after (d ∷ ds) cs = last_set-after ds cs
+  has_set-after : (ds : List D) (cs : List (Concern D)) → has_set (map digest ds ++ cs) ≡ has_set cs
+  has_set-after [] cs = refl
+  has_set-after (d ∷ ds) cs = has_set-after ds cs
 
-  has_set-after : (p : P) (ds : List D) (cs : List (Concern P D)) → has_set p (map digest ds ++ cs) ≡ has_set p cs
-  has_set-after p ds cs = ap (λ ps. list_any (s.same.key p) ps) (last_set-after ds cs)
+  stay-more : (ds : List D) (cs : List (Concern D)) → has_set cs ≡ true → stay (map digest ds ++ cs) ≡ ds ++ stay cs
+  stay-more [] cs h = refl
+  stay-more (d ∷ ds) cs h = rw (has_set-after ds cs ∙ h) (ap (λ xs. d ∷ xs) (stay-more ds cs h))
 
-  stay-more : (p : P) (ds : List D) (cs : List (Concern P D)) → has_set p cs ≡ true → stay p (map digest ds ++ cs) ≡ ds ++ stay p cs
-  stay-more p [] cs h = refl
-  stay-more p (d ∷ ds) cs h = rw (has_set-after p ds cs ∙ h) (ap (λ xs. d ∷ xs) (stay-more p ds cs h))
-
-  stay-none : (p : P) (ds : List D) (cs : List (Concern P D)) → has_set p cs ≡ false → stay p cs ≡ [] → stay p (map digest ds ++ cs) ≡ []
-  stay-none p [] cs h k = k
-  stay-none p (d ∷ ds) cs h k = rw (has_set-after p ds cs ∙ h) refl
+  stay-none : (ds : List D) (cs : List (Concern D)) → has_set cs ≡ false → stay cs ≡ [] → stay (map digest ds ++ cs) ≡ []
+  stay-none [] cs h k = k
+  stay-none (d ∷ ds) cs h k = rw (has_set-after ds cs ∙ h) refl
 
 module _ {P M D W V : Type 0} (s : Setting P M D) where
-  none-under : (p : P) (past : List (Happening P M D W V)) → is_primary s p past ≡ false → digests_under s p (since s p past) ≡ []
+  none-under : (p : P) (past : History P M D W V) → is_primary s p past ≡ false → digests_under s p (since s p past) ≡ []
   none-under p past h = rw (since-empty s p past h) refl
 
-  -- what concerns a key tells the primary set, and the digests of its stay s
-  record Tells (p : P) (past : List (Happening P M D W V)) : Type 0 where
-    set : primary s past ≡ last_set s (concerns s p past)
-    digests : digests_under s p (since s p past) ≡ stay s p (concerns s p past)
+  -- what concerns a key tells whether it is primary, and the digests of its stay
+  record Tells (p : P) (past : History P M D W V) : Type 0 where
+    set : is_primary s p past ≡ has_set (concerns s p past)
+    digests : digests_under s p (since s p past) ≡ stay (concerns s p past)
 
-  -- an event that is no peer set keeps the primary set, and adds what it takes under the key
-  tells-next : (p : P) (e : Happening P M D W V) (older : List (Happening P M D W V)) → Tells p older → primary s (e ∷ older) ≡ primary s older
+  -- a happening that is no peer set keeps the primary set, and adds what it takes under the key
+  tells-next : (p : P) (e : Happening P M D W V) (older : History P M D W V) → Tells p older → primary s (e ∷ older) ≡ primary s older
       → concerns s p (e ∷ older) ≡ map digest (digest_under s p (taken s e)) ++ concerns s p older → Tells p (e ∷ older)
   tells-next p e older tells kept more =
       let ds = digest_under s p (taken s e) in
       let cs = concerns s p older in
       let still : is_primary s p (e ∷ older) ≡ is_primary s p older = ap (λ ps. list_any (s.same.key p) ps) kept in
-      let has : is_primary s p older ≡ has_set s p cs = ap (λ ps. list_any (s.same.key p) ps) tells.set in
       record {
-        set = kept ∙ tells.set ∙ sym (last_set-after s ds cs) ∙ ap (last_set s) (sym more);
+        set = still ∙ tells.set ∙ sym (has_set-after ds cs) ∙ ap has_set (sym more);
         digests = by_test (is_primary s p older)
-            (λ h. rw (still ∙ h) (ap (λ xs. ds ++ xs) tells.digests ∙ sym (stay-more s p ds cs (sym has ∙ h)) ∙ ap (stay s p) (sym more)))
-            (λ h. rw (still ∙ h) (sym (ap (stay s p) more ∙ stay-none s p ds cs (sym has ∙ h) (sym tells.digests ∙ none-under p older h))));
+            (λ h. rw (still ∙ h) (ap (λ xs. ds ++ xs) tells.digests ∙ sym (stay-more ds cs (sym tells.set ∙ h)) ∙ ap stay (sym more)))
+            (λ h. rw (still ∙ h) (sym (ap stay more ∙ stay-none ds cs (sym tells.set ∙ h) (sym tells.digests ∙ none-under p older h))));
       }
 
-  tells : (p : P) (past : List (Happening P M D W V)) → Tells p past
+  tells : (p : P) (past : History P M D W V) → Tells p past
   tells p [] = record { set = refl; digests = refl }
   tells p (peers ps ∷ older) = record {
     set = refl;
@@ -77,7 +71,71 @@ module _ {P M D W V : Type 0} (s : Setting P M D) where
   tells p (get v d ∷ older) = tells-next p (get v d) older (tells p older) refl refl
   tells p (cleanup test ∷ older) = tells-next p (cleanup test) older (tells p older) refl refl
 
-  -- histories that agree in what concerns a key give it one list
-  pub list-alone : (p : P) (past other : List (Happening P M D W V)) → concerns s p other ≡ concerns s p past → list s p other ≡ list s p past
-  list-alone p past other h =
-      ap (λ ds. take s.deque_size (first_places s.same.digest ds)) ((tells p other).digests ∙ ap (stay s p) h ∙ sym (tells p past).digests)
+  -- a key's list by what concerns the key
+  list-stay : (p : P) (past : History P M D W V) → list s p past ≡ take s.deque_size (first_places s.same.digest (stay (concerns s p past)))
+  list-stay p past = ap (λ ds. take s.deque_size (first_places s.same.digest ds)) (tells p past).digests
+
+module _ {D : Type 0} {same : D → D → Bool} (laws : IsEquivalence same) where
+  has_set-alike : (cs ds : List (Concern D)) → AreAlike same cs ds → has_set cs ≡ has_set ds
+  has_set-alike [] [] h = refl
+  has_set-alike [] (d ∷ ds) h = absurd h
+  has_set-alike (c ∷ cs) [] h = absurd h
+  has_set-alike (peer_set a ∷ cs) (peer_set b ∷ ds) h = h.0
+  has_set-alike (digest d ∷ cs) (digest e ∷ ds) h = has_set-alike cs ds h.1
+  has_set-alike (peer_set a ∷ cs) (digest e ∷ ds) h = absurd h.0
+  has_set-alike (digest d ∷ cs) (peer_set b ∷ ds) h = absurd h.0
+
+  if-equal : (b : Bool) (xs ys : List D) → AreEqual same xs ys → AreEqual same (if b then xs else []) (if b then ys else [])
+  if-equal true xs ys h = h
+  if-equal false xs ys h = tt
+
+  stay-alike : (cs ds : List (Concern D)) → AreAlike same cs ds → AreEqual same (stay cs) (stay ds)
+  stay-alike [] [] h = tt
+  stay-alike [] (d ∷ ds) h = absurd h
+  stay-alike (c ∷ cs) [] h = absurd h
+  stay-alike (peer_set a ∷ cs) (peer_set b ∷ ds) h = rw h.0 (if-equal b (stay cs) (stay ds) (stay-alike cs ds h.1))
+  stay-alike (digest d ∷ cs) (digest e ∷ ds) h = rw (has_set-alike cs ds h.1) (if-equal (has_set ds) (d ∷ stay cs) (e ∷ stay ds) (h.0, stay-alike cs ds h.1))
+  stay-alike (peer_set a ∷ cs) (digest e ∷ ds) h = absurd h.0
+  stay-alike (digest d ∷ cs) (peer_set b ∷ ds) h = absurd h.0
+
+  without-equal : (d e : D) (xs ys : List D) → same d e ≡ true → AreEqual same xs ys → AreEqual same (without same d xs) (without same e ys)
+  without-equal d e [] [] is h = tt
+  without-equal d e [] (y ∷ ys) is h = absurd h
+  without-equal d e (x ∷ xs) [] is h = absurd h
+  without-equal d e (x ∷ xs) (y ∷ ys) is h =
+      let both : same d x ≡ same e y = laws.congr d e x is ∙ laws.symm e x ∙ laws.congr x y e h.0 ∙ laws.symm y e in
+      rw both (by_test (same e y)
+      (λ t. rw t (without-equal d e xs ys is h.1))
+      (λ t. rw t (h.0, without-equal d e xs ys is h.1)))
+
+  first_places-equal : (xs ys : List D) → AreEqual same xs ys → AreEqual same (first_places same xs) (first_places same ys)
+  first_places-equal [] [] h = tt
+  first_places-equal [] (y ∷ ys) h = absurd h
+  first_places-equal (x ∷ xs) [] h = absurd h
+  first_places-equal (x ∷ xs) (y ∷ ys) h = (h.0, without-equal x y (first_places same xs) (first_places same ys) h.0 (first_places-equal xs ys h.1))
+
+  take-equal : (n : ℕ) (xs ys : List D) → AreEqual same xs ys → AreEqual same (take n xs) (take n ys)
+  take-equal zero xs ys h = tt
+  take-equal (suc n) [] [] h = tt
+  take-equal (suc n) [] (y ∷ ys) h = absurd h
+  take-equal (suc n) (x ∷ xs) [] h = absurd h
+  take-equal (suc n) (x ∷ xs) (y ∷ ys) h = (h.0, take-equal n xs ys h.1)
+
+-- two histories, each by its setting: of one size, and with one equality of digests
+module _ {P M D W V X Y : Type 0} (s t : Setting P M D) (size : t.deque_size ≡ s.deque_size) (same : t.same.digest ≡ s.same.digest)
+    (p q : P) (past : History P M D W V) (other : History P M D X Y) where
+  list-turned : list t q other ≡ take s.deque_size (first_places s.same.digest (stay (concerns t q other)))
+  list-turned = list-stay t q other ∙ ap (λ n. take n (first_places t.same.digest (stay (concerns t q other)))) size
+      ∙ ap (λ m. take s.deque_size (first_places m (stay (concerns t q other)))) same
+
+  -- same concerns, same list
+  pub list-same : concerns t q other ≡ concerns s p past → list t q other ≡ list s p past
+  list-same h = list-turned ∙ ap (λ cs. take s.deque_size (first_places s.same.digest (stay cs))) h ∙ sym (list-stay s p past)
+
+  -- alike concerns, equal lists
+  pub list-alike : IsEquivalence s.same.digest → AreAlike s.same.digest (concerns t q other) (concerns s p past) → AreEqual s.same.digest (list t q other) (list s p past)
+  list-alike laws h =
+      let equal = take-equal laws s.deque_size (first_places s.same.digest (stay (concerns t q other))) (first_places s.same.digest (stay (concerns s p past)))
+      (first_places-equal laws (stay (concerns t q other)) (stay (concerns s p past)) (stay-alike laws (concerns t q other) (concerns s p past) h)) in
+      subst (λ xs. AreEqual s.same.digest xs (list s p past)) (sym list-turned)
+      (subst (λ ys. AreEqual s.same.digest (take s.deque_size (first_places s.same.digest (stay (concerns t q other)))) ys) (sym (list-stay s p past)) equal)

@@ -2,19 +2,17 @@
 use Rattle.std.proofs.Common.{◌≡◌, true, false, if◌then◌else◌, List, [], ◌∷◌, take, Option, Some, None, is_some, refl, sym, ap, ◌∙◌}
 use Rattle.std.specs.List.{list_any}
 use Rattle.std.specs.Cmp.{IsEquivalence}
-use Rattle.broadcast_core.specs.Carried.{Carried}
 use Rattle.broadcast_core.specs.Content.{Content, among, without, items_at, has_primary, list_at, is_on_list, message_at, waiting_at, outcome_at, list_with}
 use Rattle.broadcast_core.specs.Changes.{Takes, TakesPeers, KeepsStore}
-use Rattle.broadcast_core.specs.History.{Setting, Taking, carried_by}
-use Rattle.broadcast_core.specs.declared.ordered.Recipients.{Recipients}
+use Rattle.broadcast_core.specs.Setting.{Setting}
+use Rattle.broadcast_core.specs.Happening.{Taking, carried_by, Happening, peers, taken}
+use Rattle.broadcast_core.specs.HasContent.{HasContent}
 use Rattle.broadcast_core.specs.Answers.{outcome}
 use Rattle.broadcast_core.proofs.Distinct.{by_test, list_any-same, among-equal}
-use Rattle.broadcast_core.specs.Happening.{Happening, peers, broadcast, arrival, taken}
 use Rattle.broadcast_core.specs.Peers.{primary, is_primary}
 use Rattle.broadcast_core.specs.Lists.{list}
 use Rattle.broadcast_core.specs.Cache.{is_listed, message}
 use Rattle.broadcast_core.specs.Waiting.{waiting_for}
-use Rattle.broadcast_core.specs.Follows.{HasContent}
 use Rattle.broadcast_core.proofs.Listing.{take-none, any-weaker, from-any, primary-taken, is_primary-equal, list-empty, list-none, list-peers, list-other, list-equal, list-taken}
 
 module _ {P M D W V : Type 0} (s : Setting P M D) where
@@ -127,12 +125,6 @@ module _ {P M D W V : Type 0} (s : Setting P M D) where
     cached = λ d. rw cached refl;
   }
 
-  -- and nobody waits
-  pub HasContent-empty : (core : Content P M D W) → core.own ≡ s.own → core.deque_size ≡ s.deque_size → core.primary ≡ [] → core.lists ≡ [] → core.cached ≡ [] → core.waiters ≡ []
-      → HasContent {V = V} s [] core
-  HasContent-empty core own size keys lists cached waiters =
-      HasContent-store [] core (HasStore-empty core own size keys lists cached) (λ d. ap (λ es. items_at s.same.digest d es) waiters)
-
   -- an event that takes nothing and names no peers
   pub HasStore-other : (e : Happening P M D W V) (past : List (Happening P M D W V)) (old new : Content P M D W) → HasStore past old → KeepsStore s.same old new
       → taken s e ≡ None → primary s (e ∷ past) ≡ primary s past → HasStore (e ∷ past) new
@@ -185,12 +177,3 @@ module _ {P M D W V : Type 0} (s : Setting P M D) where
             cached = λ d. takes.cached d
                 ∙ rw (on_list-followed (e ∷ past) new keys lists d, is_on_list-followed past old has d, has.cached d, some) refl;
           }
-
-      -- a broadcast, and an arrival
-      pub HasStore-broadcast : (r : Recipients P) (c : Carried M D) (past : List (Happening P M D W V)) (old new : Content P M D W) → HasStore past old
-          → Takes s.same s.own c old new → HasStore (broadcast r c ∷ past) new
-      HasStore-broadcast r c past old new has takes = HasStore-taken (broadcast r c) (record { key = s.own; carried = c }) past old new has takes refl
-
-      pub HasStore-arrival : (p : P) (c : Carried M D) (past : List (Happening P M D W V)) (old new : Content P M D W) → HasStore past old
-          → Takes s.same p c old new → HasStore (arrival p c ∷ past) new
-      HasStore-arrival p c past old new has takes = HasStore-taken (arrival p c) (record { key = p; carried = c }) past old new has takes refl

@@ -19,6 +19,8 @@ pub mod Choice
 pub mod WaitsAfter
 pub mod WaitsCount
 pub mod AwaitedCount
+pub mod Lawful
 pub mod Stepping
+pub mod Handing
 pub mod Applying
 pub mod Running

@@ -3,8 +3,8 @@ use Rattle.std.proofs.Common.{◌≡◌, ℕ, zero, suc, Bool, true, false, ◌|
 use Rattle.std.specs.List.{list_any, IsDistinct}
 use Rattle.std.specs.Cmp.{IsEquivalence}
 use Rattle.broadcast_core.specs.Content.{among, without, first_places}
-use Rattle.broadcast_core.specs.History.{Setting, Taking}
-use Rattle.broadcast_core.specs.Happening.{Happening, peers, broadcast, arrival, subscribe, get, cleanup, taken}
+use Rattle.broadcast_core.specs.Setting.{Setting}
+use Rattle.broadcast_core.specs.Happening.{Taking, Happening, peers, broadcast, arrival, subscribe, get, cleanup, taken}
 use Rattle.broadcast_core.specs.Peers.{primary, is_primary, since}
 use Rattle.broadcast_core.specs.Lists.{digest_under, digests_under, list}
 use Rattle.broadcast_core.proofs.Distinct.{by_test, or_false, or_right, among-equal, among-head, without-absent, IsDistinct-rest, IsDistinct-moved}

@@ -1,22 +1,31 @@
 -- A list of events, run one after the other.
-use Rattle.std.proofs.Common.{◌≡◌, ℕ, suc, ◌≤◌, true, false, if◌then◌else◌, List, [], ◌∷◌, ◌++◌, length, reverse, Result, Ok, Err, refl, sym, ap, subst, ◌∙◌, arith, append_assoc, length-append}
+use Rattle.std.proofs.Common.{◌≡◌, ℕ, suc, ◌≤◌, true, false, if◌then◌else◌, List, [], ◌∷◌, ◌++◌, length, reverse, Option, Some, None, Result, Ok, Err, inl, inr, refl, sym, ap, subst, ◌∙◌, arith, append_assoc, length-append}
+use Rattle.std.specs.Prelude.{◌-◌, ◌^◌}
 use Rattle.std.specs.List.{zip}
 use Rattle.std.proofs.lemmas.List.{reverse-append, append-nil, length-reverse}
-use Rattle.broadcast_core.specs.Content.{Content, list_at}
-use Rattle.broadcast_core.specs.History.{Setting}
-use Rattle.broadcast_core.specs.Happening.{Happening, arrived, after}
-use Rattle.broadcast_core.specs.declared.codec.CodecError.{CodecError}
-use Rattle.broadcast_core.specs.declared.event.Event.TheVariants.{Peers, Broadcast, Payload, Subscribe, Get, Cleanup}
+use Rattle.broadcast_core.specs.Carried.{Carried}
+use Rattle.broadcast_core.specs.Content.{Content}
+use Rattle.broadcast_core.specs.Setting.{Setting}
+use Rattle.broadcast_core.specs.Happening.{Happening, History, subscribe}
 use Rattle.broadcast_core.specs.Lists.{list}
-use Rattle.broadcast_core.specs.Concerns.{concerns}
-use Rattle.broadcast_core.specs.Answers.{IsAnswered, history, log_of, is_refused}
+use Rattle.broadcast_core.specs.Concerns.{AreEqual}
+use Rattle.broadcast_core.specs.Cache.{message}
 use Rattle.broadcast_core.specs.Sent.{sent}
-use Rattle.broadcast_core.specs.Follows.{HasContent, Applies, Follows, HasRun}
+use Rattle.broadcast_core.specs.HasContent.{HasContent}
+use Rattle.broadcast_core.specs.Log.{arrived, after, history, history_of, log_of, is_refused}
+use Rattle.broadcast_core.specs.Answers.{answer_to_broadcast, answer_to_payload, answer_to_subscribe, answer_to, MayAnswer}
+use Rattle.broadcast_core.specs.HasRun.{IsAnswered, counted_in, Applies, Follows, HasRun}
+use Rattle.broadcast_core.specs.declared.codec.CodecError.{CodecError}
+use Rattle.broadcast_core.specs.declared.ordered.Recipients.{Recipients}
 use Rattle.broadcast_core.specs.declared.event.Event.{Event}
+use Rattle.broadcast_core.specs.declared.event.Event.TheVariants.{Peers, Broadcast, Payload, Subscribe, Get, Cleanup}
 use Rattle.broadcast_core.specs.declared.event.Answer.{Answer}
+use Rattle.broadcast_core.specs.declared.event.Answer.TheVariants.{Removed}
 use Rattle.broadcast_core.specs.declared.event.Sent.{Sent}
-use Rattle.broadcast_core.proofs.Following.{HasContent-empty}
-use Rattle.broadcast_core.proofs.Concerning.{list-alone}
+use Rattle.broadcast_core.proofs.Concerning.{list-same, list-alike}
+use Rattle.broadcast_core.proofs.Lawful.{IsLawful}
+use Rattle.broadcast_core.proofs.Stepping.{HasContent-empty}
+use Rattle.broadcast_core.proofs.WaitsCount.{removed-le}
 
 zip-push : {A B : Type 0} (xs : List A) (ys : List B) (x : A) (y : B) → length ys ≡ length xs → zip (xs ++ x ∷ []) (ys ++ y ∷ []) ≡ zip xs ys ++ (x, y) ∷ []
 zip-push [] [] x y h = refl
@@ -60,53 +69,79 @@ module _ {P M D : Type 0} where
 
     length-history : (log : List (Event P M D × Answer M D)) → length (history s log) ≤ length log
     length-history [] = omega arith
-    length-history (x ∷ log) = elim (is_refused s x.1) as (λ b. length (if b then history s log else after s x.0 (history s log)) ≤ suc (length log))
+    length-history (x ∷ log) = elim (is_refused x.1) as (λ b. length (if b then history s log else after s x.0 (history s log)) ≤ suc (length log))
         [ true ↦ omega (arith, length-history log) | false ↦ omega (arith, length-history log, length-after x.0 (history s log)) ]
 
     -- a history has at most as many events as were run
-    pub length-history_of : (es : List (Event P M D)) (rs : List (Answer M D)) → length (history s (log_of es rs)) ≤ length es
+    length-history_of : (es : List (Event P M D)) (rs : List (Answer M D)) → length (history s (log_of es rs)) ≤ length es
     length-history_of es rs = omega (arith, length-history (log_of es rs), length-reverse (zip es rs), length-zip_of es rs)
 
-    -- what is the history's list is that of any history that agrees in what concerns the key
-    content-alone : (past : List (Happening P M D ℕ ℕ)) (core : Content P M D ℕ) → HasContent s past core
-        → (p : P) (other : List (Happening P M D ℕ ℕ)) → concerns s p other ≡ concerns s p past → list_at s.same core p ≡ list s p other
-    content-alone past core content p other h = content.lists p ∙ sym (list-alone s p past other h)
+    module _ (lawful : IsLawful s.same) where
+      -- the core has what the history of the events gives
+      has_run : (es : List (Event P M D)) (rs : List (Answer M D)) (sends : List (Sent P)) (core : Content P M D ℕ) → length rs ≡ length es → IsAnswered s (log_of es rs)
+          → HasContent s (history_of s es rs) core → sends ≡ sent s (history_of s es rs) → HasRun s es rs sends core
+      has_run es rs sends core each answered content sent = record {
+        one_each = each;
+        answered = answered;
+        content = content;
+        same_concerns_same_list = λ p q other h. list-same s s refl refl p q (history_of s es rs) other h ∙ sym (content.lists p);
+        alike_concerns_equal_list = λ p q other h. subst (λ xs. AreEqual s.same.digest (list s q other) xs) (sym (content.lists p))
+            (list-alike s s refl refl p q (history_of s es rs) other lawful.digest h);
+        sent = sent;
+      }
 
-    -- none as yet
-    pub HasRun-none : (core : Content P M D ℕ) → core ≡ record { own = s.own; deque_size = s.deque_size; primary = []; lists = []; cached = []; waiters = [] } → HasRun s [] [] [] core
-    HasRun-none core new =
-        let content = HasContent-empty s core (ap (λ c. c.own) new) (ap (λ c. c.deque_size) new) (ap (λ c. c.primary) new) (ap (λ c. c.lists) new) (ap (λ c. c.cached) new) (ap (λ c. c.waiters) new) in
-        record { one_each = refl; answered = tt; content = content; alone = content-alone [] core content; sent = refl }
+      -- no event has been run yet
+      pub HasRun-none : {core : Content P M D ℕ} → core ≡ record { own = s.own; deque_size = s.deque_size; primary = []; lists = []; cached = []; waiters = [] } → HasRun s [] [] [] core
+      HasRun-none {core} new = has_run [] [] [] core refl tt (HasContent-empty new) refl
 
-    -- one more
-    pub HasRun-next : (es : List (Event P M D)) (rs : List (Answer M D)) (sends : List (Sent P)) (old new : Content P M D ℕ) (e : Event P M D) (a : Answer M D) (sending : List (Sent P))
-        → HasRun s es rs sends old → Applies s (history s (log_of es rs)) e new a sending → HasRun s (es ++ e ∷ []) (rs ++ a ∷ []) (sends ++ sending) new
-    HasRun-next es rs sends old new e a sending before step =
-        let log : log_of (es ++ e ∷ []) (rs ++ a ∷ []) ≡ (e, a) ∷ log_of es rs = log_of-push es rs e a before.one_each in
-        let content = subst (λ l. HasContent s (history s l) new) (sym log) step.content in
-        record {
-          one_each = omega (arith, length-append rs (a ∷ []), length-append es (e ∷ []), before.one_each);
-          answered = subst (λ l. IsAnswered s l) (sym log) (step.answered, before.answered);
-          content = content;
-          alone = content-alone (history s (log_of (es ++ e ∷ []) (rs ++ a ∷ []))) new content;
-          sent = subst (λ l. sends ++ sending ≡ sent s (history s l)) (sym log)
-              (ap (λ xs. xs ++ sending) before.sent ∙ sym step.sent);
-        }
+    -- the count of a cleanup is exact where the history is short
+    exact-broadcast : (r : Recipients P) (c : Carried M D) (bytes : Option (List ℕ)) (past : History P M D ℕ ℕ) → counted_in (answer_to_broadcast s r c bytes past) ≡ answer_to_broadcast s r c bytes past
+    exact-broadcast r c None past = refl
+    exact-broadcast r c (Some bytes) past = refl
+
+    exact-payload : (p : P) (read : Result M CodecError) (past : History P M D ℕ ℕ) → counted_in (answer_to_payload s p read past) ≡ answer_to_payload s p read past
+    exact-payload p (Ok m) past = refl
+    exact-payload p (Err why) past = refl
+
+    exact-subscribe : (found : Option (Carried M D)) → counted_in (answer_to_subscribe s found) ≡ answer_to_subscribe s found
+    exact-subscribe None = refl
+    exact-subscribe (Some c) = refl
+
+    exact : (e : Event P M D) (past : History P M D ℕ ℕ) → length past ≤ 2 ^ 64 - 1 → counted_in (answer_to s e past) ≡ answer_to s e past
+    exact (Peers ps) past short = refl
+    exact (Broadcast r c) past short = exact-broadcast r c (s.encoding c.message) past
+    exact (Payload p b) past short = exact-payload p (s.reading b) past
+    exact (Subscribe k d) past short = exact-subscribe (message s d (subscribe k d ∷ past))
+    exact (Get k d) past short = refl
+    exact (Cleanup gone) past short = ap Removed (let few = removed-le s gone past in omega (arith, few, short))
 
     -- the core has the setting's own key and size
-    follows-setting : (most : ℕ) (e : Event P M D) (old new : Content P M D ℕ) (a : Answer M D) (sending : List (Sent P)) → old.own ≡ s.own → old.deque_size ≡ s.deque_size
-        → Follows (record s { own = old.own; deque_size = old.deque_size }) most e old new a sending → Follows s most e old new a sending
-    follows-setting most e old new a sending own size h =
-        subst (λ n. Follows (record s { own = s.own; deque_size = n }) most e old new a sending) size
-        (subst (λ o. Follows (record s { own = o; deque_size = old.deque_size }) most e old new a sending) own h)
+    follows-setting : (e : Event P M D) (old new : Content P M D ℕ) (a : Answer M D) (sending : List (Sent P)) → old.own ≡ s.own → old.deque_size ≡ s.deque_size
+        → Follows (record s { own = old.own; deque_size = old.deque_size }) e old new a sending → Follows s e old new a sending
+    follows-setting e old new a sending own size h =
+        subst (λ n. Follows (record s { own = s.own; deque_size = n }) e old new a sending) size
+        (subst (λ o. Follows (record s { own = o; deque_size = old.deque_size }) e old new a sending) own h)
 
-    pub HasRun-follows : (most : ℕ) (es : List (Event P M D)) (rs : List (Answer M D)) (sends : List (Sent P)) (old new : Content P M D ℕ) (e : Event P M D) (a : Answer M D) (sending : List (Sent P))
-        → length es ≤ most → HasRun s es rs sends old → Follows (record s { own = old.own; deque_size = old.deque_size }) most e old new a sending
-        → HasRun s (es ++ e ∷ []) (rs ++ a ∷ []) (sends ++ sending) new
-    HasRun-follows most es rs sends old new e a sending few before step =
-        HasRun-next es rs sends old new e a sending before
-        (follows-setting most e old new a sending before.content.own before.content.deque_size step (history s (log_of es rs))
-        (omega (arith, length-history_of es rs)) before.content)
+    module _ (lawful : IsLawful s.same) where
+      -- one more
+      HasRun-next : (es : List (Event P M D)) (rs : List (Answer M D)) (sends : List (Sent P)) (old new : Content P M D ℕ) (e : Event P M D) (a : Answer M D) (sending : List (Sent P))
+          → length es ≤ 2 ^ 64 - 1 → HasRun s es rs sends old → Applies s (history_of s es rs) e new a sending → HasRun s (es ++ e ∷ []) (rs ++ a ∷ []) (sends ++ sending) new
+      HasRun-next es rs sends old new e a sending short before step =
+          let log : log_of (es ++ e ∷ []) (rs ++ a ∷ []) ≡ (e, a) ∷ log_of es rs = log_of-push es rs e a before.one_each in
+          let exactly = exact e (history_of s es rs) (omega (arith, length-history_of es rs, short)) in
+          let answered : MayAnswer s e (history_of s es rs) a = elim step.answered [ inl is ↦ inl (is ∙ exactly) | inr failed ↦ inr failed ] in
+          has_run lawful (es ++ e ∷ []) (rs ++ a ∷ []) (sends ++ sending) new
+          (omega (arith, length-append rs (a ∷ []), length-append es (e ∷ []), before.one_each))
+          (subst (λ l. IsAnswered s l) (sym log) (answered, before.answered))
+          (subst (λ l. HasContent s (history s l) new) (sym log) step.content)
+          (subst (λ l. sends ++ sending ≡ sent s (history s l)) (sym log) (ap (λ xs. xs ++ sending) before.sent ∙ sym step.sent))
+
+      pub HasRun-follows : (es : List (Event P M D)) (rs : List (Answer M D)) (sends : List (Sent P)) (old new : Content P M D ℕ) (e : Event P M D) (a : Answer M D) (sending : List (Sent P))
+          → length es ≤ 2 ^ 64 - 1 → HasRun s es rs sends old → Follows (record s { own = old.own; deque_size = old.deque_size }) e old new a sending
+          → HasRun s (es ++ e ∷ []) (rs ++ a ∷ []) (sends ++ sending) new
+      HasRun-follows es rs sends old new e a sending short before step =
+          HasRun-next es rs sends old new e a sending short before
+          (follows-setting e old new a sending before.content.own before.content.deque_size step (history_of s es rs) before.content)
 
     -- the same lists, under other names
     pub HasRun-same : (es fs : List (Event P M D)) (rs qs : List (Answer M D)) (sends others : List (Sent P)) (core : Content P M D ℕ)

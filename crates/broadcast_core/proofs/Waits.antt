@@ -1,15 +1,15 @@
 -- Who waits after one happening more, and to whom the happening is the reply.
-use Rattle.std.proofs.Common.{◌≡◌, ℕ, suc, ◌+◌, Bool, true, false, not, ◌&&◌, ◌==◌, if◌then◌else◌, is_none, is_some, List, [], ◌∷◌, ◌++◌, length, map, filter, Option, Some, None, option_map, refl, sym, ap, ◌∙◌, arith}
+use Rattle.std.proofs.Common.{◌≡◌, ℕ, suc, ◌+◌, Bool, true, false, not, ◌&&◌, ◌==◌, cond, is_none, is_some, List, [], ◌∷◌, ◌++◌, length, filter, Option, Some, None, option_map, refl, sym, ap, ◌∙◌, arith}
 use Rattle.std.specs.List.{list_any}
 use Rattle.std.proofs.lemmas.Bool.{eq-eqb, ne_eqb, eqb-true, eqb-false}
-use Rattle.std.proofs.lemmas.List.{map-append, length-append}
+use Rattle.std.proofs.lemmas.List.{length-append}
 use Rattle.std.proofs.lemmas.List.Elements.{filter-append}
 use Rattle.broadcast_core.specs.Carried.{Carried}
-use Rattle.broadcast_core.specs.History.{Setting, Taking, of_digest, carried_by}
-use Rattle.broadcast_core.proofs.Distinct.{by_test}
-use Rattle.broadcast_core.specs.Happening.{Happening, peers, broadcast, arrival, subscribe, get, cleanup, taken, takes}
+use Rattle.broadcast_core.specs.Setting.{Setting}
+use Rattle.broadcast_core.specs.Happening.{Taking, of_digest, carried_by, Happening, History, peers, broadcast, arrival, subscribe, get, cleanup, taken, takes}
+use Rattle.broadcast_core.proofs.Distinct.{by_test, filter-same}
 use Rattle.broadcast_core.specs.Cache.{is_listed, message}
-use Rattle.broadcast_core.specs.Waiting.{Reply, later, comes_after, Awaiting, cleans, reply_from, reply, waits, waiting_before, replied_before}
+use Rattle.broadcast_core.specs.Waiting.{Reply, later, comes_after, Awaiting, cleans, reply_from, reply, waits, subscribes, waiting, replied_at}
 
 -- one more on both sides
 eqb-suc : (x n : ℕ) → ((x + 1) == suc n) ≡ (x == n)
@@ -17,12 +17,11 @@ eqb-suc x n = by_test (x == n)
     (λ h. let same : x ≡ n = eqb-true x n h in rw h (eq-eqb (x + 1) (suc n) (omega arith)))
     (λ h. rw h (ne_eqb (x + 1) (suc n) (λ e. eqb-false x n h (omega arith))))
 
--- a subscribe, where it waits
-abbrev pub one_waiting : {W D : Type 0} → ℕ → W → D → Bool → List (Awaiting W D)
-one_waiting n w d b = if b then record { place = n; waiter = w; digest = d } ∷ [] else []
-
-abbrev one_waiter : {W : Type 0} → W → Bool → List W
-one_waiter w b = if b then w ∷ [] else []
+filter_and : {X : Type 0} (p q : X → Bool) (xs : List X) → filter (λ x. p x && q x) xs ≡ filter q (filter p xs)
+filter_and p q [] = refl
+filter_and p q (x ∷ xs) = by_test (p x)
+    (λ h. rw h (ap (λ ys. cond (q x) (x ∷ ys) ys) (filter_and p q xs)))
+    (λ h. rw h (filter_and p q xs))
 
 module _ {P M D : Type 0} (s : Setting P M D) where
   comes_taken : (d : D) (t : Option (Taking P M D)) → of_digest s d t ≡ true → comes_after s 1 (option_map (λ c. (1, c)) (carried_by s t)) ≡ true
@@ -57,104 +56,78 @@ module _ {P M D : Type 0} (s : Setting P M D) where
   comes_not-cache n (Some c) = ne_eqb 0 (n + 1) (λ e. absurd (omega arith))
 
 module _ {P M D W V : Type 0} (s : Setting P M D) where
-  abbrev waits_from : ℕ → W → D → List (Happening P M D W V) → Bool
-  waits_from n w d es = is_none (reply_from s n w d es) && not (list_any (cleans s n w) es)
+  abbrev waits_from : Awaiting W D → History P M D W V → Bool
+  waits_from w es = is_none (reply_from s w es) && not (list_any (cleans s w) es)
 
   -- a happening leaves a subscribe that waits, unless it takes the digest or names the subscribe
   abbrev pub leaves : Happening P M D W V → Awaiting W D → Bool
-  leaves e a = not (takes s a.digest e) && not (cleans s a.place a.waiter e)
+  leaves e w = not (takes s w.digest e) && not (cleans s w e)
 
-  abbrev leaves_one : Happening P M D W V → ℕ → W → D → Bool
-  leaves_one e n w d = not (takes s d e) && not (cleans s n w e)
+  waits_from-last : (w : Awaiting W D) (es : History P M D W V) (e : Happening P M D W V) → waits_from w (es ++ e ∷ []) ≡ (waits_from w es && leaves e w)
+  waits_from-last w [] e = by_test (takes s w.digest e)
+      (λ h. rw (h, not_none-taken s w.digest (taken s e) h) refl)
+      (λ h. by_test (cleans s w e) (λ c. rw (h, c) refl) (λ c. rw (h, c) refl))
+  waits_from-last w (x ∷ es) e = by_test (takes s w.digest x)
+      (λ h. rw (h, not_none-taken s w.digest (taken s x) h) refl)
+      (λ h. by_test (cleans s w x) (λ c. rw (h, c) refl)
+      (λ c. rw (h, c, is_none-later s (reply_from s w (es ++ e ∷ [])), is_none-later s (reply_from s w es)) (waits_from-last w es e)))
 
-  waits_from-last : (n : ℕ) (w : W) (d : D) (es : List (Happening P M D W V)) (e : Happening P M D W V) → waits_from n w d (es ++ e ∷ []) ≡ (waits_from n w d es && leaves_one e n w d)
-  waits_from-last n w d [] e = by_test (takes s d e)
-      (λ h. rw (h, not_none-taken s d (taken s e) h) refl)
-      (λ h. by_test (cleans s n w e) (λ c. rw (h, c) refl) (λ c. rw (h, c) refl))
-  waits_from-last n w d (x ∷ es) e = by_test (takes s d x)
-      (λ h. rw (h, not_none-taken s d (taken s x) h) refl)
-      (λ h. by_test (cleans s n w x) (λ c. rw (h, c) refl)
-      (λ c. rw (h, c, is_none-later s (reply_from s n w d (es ++ e ∷ [])), is_none-later s (reply_from s n w d es)) (waits_from-last n w d es e)))
-
-  comes_from-last : (n : ℕ) (w : W) (d : D) (es : List (Happening P M D W V)) (e : Happening P M D W V)
-      → comes_after s (length (es ++ e ∷ [])) (reply_from s n w d (es ++ e ∷ [])) ≡ (waits_from n w d es && takes s d e)
-  comes_from-last n w d [] e = by_test (takes s d e)
-      (λ h. rw h (comes_taken s d (taken s e) h))
-      (λ h. by_test (cleans s n w e) (λ c. rw (h, c) refl) (λ c. rw (h, c) refl))
-  comes_from-last n w d (x ∷ es) e = by_test (takes s d x)
+  comes_from-last : (w : Awaiting W D) (es : History P M D W V) (e : Happening P M D W V)
+      → comes_after s (length (es ++ e ∷ [])) (reply_from s w (es ++ e ∷ [])) ≡ (waits_from w es && takes s w.digest e)
+  comes_from-last w [] e = by_test (takes s w.digest e)
+      (λ h. rw h (comes_taken s w.digest (taken s e) h))
+      (λ h. by_test (cleans s w e) (λ c. rw (h, c) refl) (λ c. rw (h, c) refl))
+  comes_from-last w (x ∷ es) e = by_test (takes s w.digest x)
       (λ h. let long : length (x ∷ (es ++ e ∷ [])) ≡ length es + 2 = omega (arith, length-append es (e ∷ [])) in
-      rw (h, long, not_none-taken s d (taken s x) h) (comes_not-later s (length es) (carried_by s (taken s x))))
-      (λ h. by_test (cleans s n w x) (λ c. rw (h, c) refl)
-      (λ c. rw (h, c, is_none-later s (reply_from s n w d es)) (comes-later s (length (es ++ e ∷ [])) (reply_from s n w d (es ++ e ∷ [])) ∙ comes_from-last n w d es e)))
+      rw (h, long, not_none-taken s w.digest (taken s x) h) (comes_not-later s (length es) (carried_by s (taken s x))))
+      (λ h. by_test (cleans s w x) (λ c. rw (h, c) refl)
+      (λ c. rw (h, c, is_none-later s (reply_from s w es)) (comes-later s (length (es ++ e ∷ [])) (reply_from s w (es ++ e ∷ [])) ∙ comes_from-last w es e)))
 
   -- at first a subscribe waits unless its digest is listed
-  pub waits-unlisted : (n : ℕ) (w : W) (d : D) (past : List (Happening P M D W V)) → is_listed s d past ≡ false → waits s n w d past [] ≡ true
-  waits-unlisted n w d past h = rw h refl
+  pub waits-unlisted : (w : Awaiting W D) (past : History P M D W V) → is_listed s w.digest past ≡ false → waits s w past [] ≡ true
+  waits-unlisted w past h = rw h refl
 
-  module _ (held : (d : D) (past : List (Happening P M D W V)) → is_listed s d past ≡ true → is_some (message s d past) ≡ true) where
-    pub waits-listed : (n : ℕ) (w : W) (d : D) (past : List (Happening P M D W V)) → is_listed s d past ≡ true → waits s n w d past [] ≡ false
-    waits-listed n w d past h = rw (h, not_none-cache s (message s d past) (held d past h)) refl
+  -- the subscribes that pass a test after one happening more
+  subscribes-last : (before after : Awaiting W D → History P M D W V → History P M D W V → Bool) (keep : Awaiting W D → Bool) (e : Happening P M D W V)
+      → ((w : Awaiting W D) (past es : History P M D W V) → after w past (es ++ e ∷ []) ≡ (before w past es && keep w))
+      → (es older : History P M D W V) → subscribes s after (es ++ e ∷ []) older ≡ filter keep (subscribes s before es older)
+  subscribes-last before after keep e h es [] = refl
+  subscribes-last before after keep e h es (peers ps ∷ older) = subscribes-last before after keep e h (peers ps ∷ es) older
+  subscribes-last before after keep e h es (broadcast r c ∷ older) = subscribes-last before after keep e h (broadcast r c ∷ es) older
+  subscribes-last before after keep e h es (arrival p c ∷ older) = subscribes-last before after keep e h (arrival p c ∷ es) older
+  subscribes-last before after keep e h es (subscribe w d ∷ older) =
+      let past : History P M D W V = subscribe w d ∷ older in
+      let one : List (Awaiting W D) = record { place = length older; waiter = w; digest = d } ∷ [] in
+      let now = λ (a : Awaiting W D). before a past es in
+      ap (λ ws. ws ++ filter (λ a. after a past (es ++ e ∷ [])) one) (subscribes-last before after keep e h (subscribe w d ∷ es) older)
+      ∙ ap (λ ws. filter keep (subscribes s before (subscribe w d ∷ es) older) ++ ws)
+      (filter-same (λ a. after a past (es ++ e ∷ [])) (λ a. now a && keep a) one (λ a. h a past es) ∙ filter_and now keep one)
+      ∙ sym (filter-append keep (subscribes s before (subscribe w d ∷ es) older) (filter now one))
+  subscribes-last before after keep e h es (get v d ∷ older) = subscribes-last before after keep e h (get v d ∷ es) older
+  subscribes-last before after keep e h es (cleanup test ∷ older) = subscribes-last before after keep e h (cleanup test ∷ es) older
 
-    -- who waits after one happening more
-    pub waits-last : (n : ℕ) (w : W) (d : D) (past es : List (Happening P M D W V)) (e : Happening P M D W V)
-        → waits s n w d past (es ++ e ∷ []) ≡ (waits s n w d past es && (not (takes s d e) && not (cleans s n w e)))
-    waits-last n w d past es e = by_test (is_listed s d past)
-        (λ h. rw (h, not_none-cache s (message s d past) (held d past h)) refl)
-        (λ h. rw h (waits_from-last n w d es e))
+  module _ (held : (d : D) (past : History P M D W V) → is_listed s d past ≡ true → is_some (message s d past) ≡ true) where
+    pub waits-listed : (w : Awaiting W D) (past : History P M D W V) → is_listed s w.digest past ≡ true → waits s w past [] ≡ false
+    waits-listed w past h = rw (h, not_none-cache s (message s w.digest past) (held w.digest past h)) refl
 
-    -- a reply comes at the last happening where one waits before and the happening takes the digest
-    pub comes-last : (n : ℕ) (w : W) (d : D) (past es : List (Happening P M D W V)) (e : Happening P M D W V)
-        → comes_after s (length (es ++ e ∷ [])) (reply s n w d past (es ++ e ∷ [])) ≡ (waits s n w d past es && takes s d e)
-    comes-last n w d past es e = by_test (is_listed s d past)
+    -- a subscribe waits after one happening more if it waited and the happening leaves it
+    waits-last : (e : Happening P M D W V) (w : Awaiting W D) (past es : History P M D W V) → waits s w past (es ++ e ∷ []) ≡ (waits s w past es && leaves e w)
+    waits-last e w past es = by_test (is_listed s w.digest past)
+        (λ h. rw (h, not_none-cache s (message s w.digest past) (held w.digest past h)) refl)
+        (λ h. rw h (waits_from-last w es e))
+
+    -- a reply comes at the last happening if the subscribe waited and the happening takes its digest
+    comes-last : (e : Happening P M D W V) (w : Awaiting W D) (past es : History P M D W V)
+        → comes_after s (length (es ++ e ∷ [])) (reply s w past (es ++ e ∷ [])) ≡ (waits s w past es && takes s w.digest e)
+    comes-last e w past es = by_test (is_listed s w.digest past)
         (λ h. let long : length (es ++ e ∷ []) ≡ length es + 1 = omega (arith, length-append es (e ∷ [])) in
-        rw (h, long, not_none-cache s (message s d past) (held d past h)) (comes_not-cache s (length es) (message s d past)))
-        (λ h. rw h (comes_from-last n w d es e))
+        rw (h, long, not_none-cache s (message s w.digest past) (held w.digest past h)) (comes_not-cache s (length es) (message s w.digest past)))
+        (λ h. rw h (comes_from-last w es e))
 
-    one_left : (e : Happening P M D W V) (n : ℕ) (w : W) (d : D) (b : Bool) → one_waiting n w d (b && leaves_one e n w d) ≡ filter (leaves e) (one_waiting n w d b)
-    one_left e n w d true = refl
-    one_left e n w d false = refl
+    -- those that wait after one happening more
+    pub waiting-last : (e : Happening P M D W V) (past : History P M D W V) → subscribes s (waits s) (e ∷ []) past ≡ filter (leaves e) (waiting s past)
+    waiting-last e past = subscribes-last (waits s) (waits s) (leaves e) e (waits-last e) [] past
 
-    -- those who wait after one happening more
-    pub waiting_before-last : (es older : List (Happening P M D W V)) (e : Happening P M D W V)
-        → waiting_before s (es ++ e ∷ []) older ≡ filter (λ a. not (takes s a.digest e) && not (cleans s a.place a.waiter e)) (waiting_before s es older)
-    waiting_before-last es [] e = refl
-    waiting_before-last es (peers ps ∷ older) e = waiting_before-last (peers ps ∷ es) older e
-    waiting_before-last es (broadcast r c ∷ older) e = waiting_before-last (broadcast r c ∷ es) older e
-    waiting_before-last es (arrival p c ∷ older) e = waiting_before-last (arrival p c ∷ es) older e
-    waiting_before-last es (subscribe w d ∷ older) e =
-        let now : List (Awaiting W D) = waiting_before s (subscribe w d ∷ es) older in
-        let one : List (Awaiting W D) = one_waiting (length older) w d (waits s (length older) w d (subscribe w d ∷ older) es) in
-        ap (λ ws. ws ++ one_waiting (length older) w d (waits s (length older) w d (subscribe w d ∷ older) (es ++ e ∷ []))) (waiting_before-last (subscribe w d ∷ es) older e)
-        ∙ ap (λ ws. filter (leaves e) now ++ ws) (ap (one_waiting (length older) w d) (waits-last (length older) w d (subscribe w d ∷ older) es e)
-        ∙ one_left e (length older) w d (waits s (length older) w d (subscribe w d ∷ older) es))
-        ∙ sym (filter-append (leaves e) now one)
-    waiting_before-last es (get v d ∷ older) e = waiting_before-last (get v d ∷ es) older e
-    waiting_before-last es (cleanup test ∷ older) e = waiting_before-last (cleanup test ∷ es) older e
-
-    abbrev waiters_taken : Happening P M D W V → List (Awaiting W D) → List W
-    waiters_taken e ws = map (λ a. a.waiter) (filter (λ a. takes s a.digest e) ws)
-
-    one_replied : (e : Happening P M D W V) (n : ℕ) (w : W) (d : D) (b : Bool) → one_waiter w (b && takes s d e) ≡ waiters_taken e (one_waiting n w d b)
-    one_replied e n w d true = by_test (takes s d e) (λ h. rw h refl) (λ h. rw h refl)
-    one_replied e n w d false = refl
-
-    waiters_taken-append : (e : Happening P M D W V) (xs ys : List (Awaiting W D)) → waiters_taken e (xs ++ ys) ≡ waiters_taken e xs ++ waiters_taken e ys
-    waiters_taken-append e xs ys = ap (λ ws. map (λ a. a.waiter) ws) (filter-append (λ a. takes s a.digest e) xs ys)
-        ∙ map-append (λ a. a.waiter) (filter (λ a. takes s a.digest e) xs) (filter (λ a. takes s a.digest e) ys)
-
-    -- those who are replied to at the last happening are those who waited for what it takes
-    pub replied_before-last : (es older : List (Happening P M D W V)) (e : Happening P M D W V)
-        → replied_before s (es ++ e ∷ []) older ≡ map (λ a. a.waiter) (filter (λ a. takes s a.digest e) (waiting_before s es older))
-    replied_before-last es [] e = refl
-    replied_before-last es (peers ps ∷ older) e = replied_before-last (peers ps ∷ es) older e
-    replied_before-last es (broadcast r c ∷ older) e = replied_before-last (broadcast r c ∷ es) older e
-    replied_before-last es (arrival p c ∷ older) e = replied_before-last (arrival p c ∷ es) older e
-    replied_before-last es (subscribe w d ∷ older) e =
-        let now : List (Awaiting W D) = waiting_before s (subscribe w d ∷ es) older in
-        let one : List (Awaiting W D) = one_waiting (length older) w d (waits s (length older) w d (subscribe w d ∷ older) es) in
-        ap (λ ks. ks ++ one_waiter w (comes_after s (length (es ++ e ∷ [])) (reply s (length older) w d (subscribe w d ∷ older) (es ++ e ∷ [])))) (replied_before-last (subscribe w d ∷ es) older e)
-        ∙ ap (λ ks. waiters_taken e now ++ ks) (ap (one_waiter w) (comes-last (length older) w d (subscribe w d ∷ older) es e)
-        ∙ one_replied e (length older) w d (waits s (length older) w d (subscribe w d ∷ older) es))
-        ∙ sym (waiters_taken-append e now one)
-    replied_before-last es (get v d ∷ older) e = replied_before-last (get v d ∷ es) older e
-    replied_before-last es (cleanup test ∷ older) e = replied_before-last (cleanup test ∷ es) older e
+    -- those that the happening is the reply to are those that waited for what it takes
+    pub replied_at-last : (e : Happening P M D W V) (past : History P M D W V) → replied_at s e past ≡ filter (λ w. takes s w.digest e) (waiting s past)
+    replied_at-last e past = subscribes-last (waits s) (λ w before es. comes_after s (length es) (reply s w before es)) (λ w. takes s w.digest e) e (comes-last e) [] past

@@ -3,13 +3,13 @@ use Rattle.std.proofs.Common.{◌≡◌, ℕ, suc, ◌+◌, ◌<◌, ◌≤◌, 
 use Rattle.std.specs.Cmp.{IsEquivalence}
 use Rattle.std.proofs.lemmas.List.{map-append}
 use Rattle.std.proofs.lemmas.List.Elements.{filter-append}
-use Rattle.broadcast_core.specs.History.{Setting, Taking, of_digest}
+use Rattle.broadcast_core.specs.Setting.{Setting}
+use Rattle.broadcast_core.specs.Happening.{Taking, of_digest, Happening, History, peers, broadcast, arrival, subscribe, get, cleanup, taken, takes}
 use Rattle.broadcast_core.proofs.Distinct.{by_test, filter-same}
-use Rattle.broadcast_core.specs.Happening.{Happening, peers, broadcast, arrival, subscribe, get, cleanup, taken, takes}
 use Rattle.broadcast_core.specs.Cache.{is_listed, message}
-use Rattle.broadcast_core.specs.Waiting.{Awaiting, with_digest, cleans, waits, waiting_before, waiting, waiting_for, replied_at}
+use Rattle.broadcast_core.specs.Waiting.{Awaiting, waiters_of, with_digest, cleans, waits, subscribes, waiting, waiting_for, replied_at}
 use Rattle.broadcast_core.proofs.Choice.{Rises}
-use Rattle.broadcast_core.proofs.Waits.{one_waiting, leaves, waits-listed, waits-unlisted, waiting_before-last, replied_before-last}
+use Rattle.broadcast_core.proofs.Waits.{leaves, waits-listed, waits-unlisted, waiting-last, replied_at-last}
 
 and_true : (b : Bool) → (b && true) ≡ b
 and_true true = refl
@@ -29,15 +29,13 @@ module _ {W D : Type 0} where
   AllBelow-more n [] h = tt
   AllBelow-more n (w ∷ ws) h = (omega (arith, h.0), AllBelow-more n ws h.1)
 
-  AllBelow-last : (n : ℕ) (w : W) (d : D) (b : Bool) (ws : List (Awaiting W D)) → AllBelow n ws → AllBelow (suc n) (ws ++ one_waiting n w d b)
-  AllBelow-last n w d true [] h = (omega arith, tt)
-  AllBelow-last n w d false [] h = tt
-  AllBelow-last n w d b (x ∷ ws) h = (omega (arith, h.0), AllBelow-last n w d b ws h.1)
+  AllBelow-last : (n : ℕ) (p : Awaiting W D → Bool) (w : Awaiting W D) (ws : List (Awaiting W D)) → w.place ≡ n → AllBelow n ws → AllBelow (suc n) (ws ++ filter p (w ∷ []))
+  AllBelow-last n p w [] at h = by_test (p w) (λ t. rw t (omega (arith, at), tt)) (λ t. rw t tt)
+  AllBelow-last n p w (x ∷ ws) at h = (omega (arith, h.0), AllBelow-last n p w ws at h.1)
 
-  Rises-last : (k n : ℕ) (w : W) (d : D) (b : Bool) (ws : List (Awaiting W D)) → k ≤ n → AllBelow n ws → Rises k ws → Rises k (ws ++ one_waiting n w d b)
-  Rises-last k n w d true [] le below rises = (le, tt)
-  Rises-last k n w d false [] le below rises = tt
-  Rises-last k n w d b (x ∷ ws) le below rises = (rises.0, Rises-last (x.place + 1) n w d b ws (omega (arith, below.0)) below.1 rises.1)
+  Rises-last : (k n : ℕ) (p : Awaiting W D → Bool) (w : Awaiting W D) (ws : List (Awaiting W D)) → w.place ≡ n → k ≤ n → AllBelow n ws → Rises k ws → Rises k (ws ++ filter p (w ∷ []))
+  Rises-last k n p w [] at le below rises = by_test (p w) (λ t. rw t (omega (arith, at, le), tt)) (λ t. rw t tt)
+  Rises-last k n p w (x ∷ ws) at le below rises = (rises.0, Rises-last (x.place + 1) n p w ws at (omega (arith, below.0)) below.1 rises.1)
 
 -- those who wait, with their places
 module _ {W D : Type 0} (same : D → D → Bool) where
@@ -72,37 +70,42 @@ module _ {W D : Type 0} (same : D → D → Bool) where
         (λ e. rw e (ap (λ vs. map (λ w. w.waiter) vs) (others_left x d ws e)))
 
     -- one more behind the others
-    with_digest-one : (n : ℕ) (w : W) (x d : D) (ws : List (Awaiting W D)) → with_digest same d (ws ++ record { place = n; waiter = w; digest = x } ∷ [])
-        ≡ (if same x d then with_digest same d ws ++ w ∷ [] else with_digest same d ws)
-    with_digest-one n w x d ws = with_digest-append d ws (record { place = n; waiter = w; digest = x } ∷ []) ∙ by_test (same x d)
-        (λ e. let turned : same d x ≡ true = laws.symm d x ∙ e in rw (turned, e) refl)
-        (λ e. let turned : same d x ≡ false = laws.symm d x ∙ e in rw (turned, e) (append-nil (with_digest same d ws)))
+    with_digest-one : (w : Awaiting W D) (d : D) (ws : List (Awaiting W D)) → with_digest same d (ws ++ w ∷ [])
+        ≡ (if same w.digest d then with_digest same d ws ++ w.waiter ∷ [] else with_digest same d ws)
+    with_digest-one w d ws = with_digest-append d ws (w ∷ []) ∙ by_test (same w.digest d)
+        (λ e. let turned : same d w.digest ≡ true = laws.symm d w.digest ∙ e in rw (turned, e) refl)
+        (λ e. let turned : same d w.digest ≡ false = laws.symm d w.digest ∙ e in rw (turned, e) (append-nil (with_digest same d ws)))
 
 module _ {P M D W V : Type 0} (s : Setting P M D) where
-  -- places are below the history's length, and rise
-  waiting-below : (es older : List (Happening P M D W V)) → AllBelow (length older) (waiting_before s es older)
-  waiting-below es [] = tt
-  waiting-below es (peers ps ∷ older) = AllBelow-more (length older) (waiting_before s (peers ps ∷ es) older) (waiting-below (peers ps ∷ es) older)
-  waiting-below es (broadcast r c ∷ older) = AllBelow-more (length older) (waiting_before s (broadcast r c ∷ es) older) (waiting-below (broadcast r c ∷ es) older)
-  waiting-below es (arrival p c ∷ older) = AllBelow-more (length older) (waiting_before s (arrival p c ∷ es) older) (waiting-below (arrival p c ∷ es) older)
-  waiting-below es (subscribe w d ∷ older) =
-      AllBelow-last (length older) w d (waits s (length older) w d (subscribe w d ∷ older) es) (waiting_before s (subscribe w d ∷ es) older) (waiting-below (subscribe w d ∷ es) older)
-  waiting-below es (get v d ∷ older) = AllBelow-more (length older) (waiting_before s (get v d ∷ es) older) (waiting-below (get v d ∷ es) older)
-  waiting-below es (cleanup test ∷ older) = AllBelow-more (length older) (waiting_before s (cleanup test ∷ es) older) (waiting-below (cleanup test ∷ es) older)
+  module _ (test : Awaiting W D → History P M D W V → History P M D W V → Bool) where
+    -- places are below the history's length, and rise
+    subscribes-below : (es older : History P M D W V) → AllBelow (length older) (subscribes s test es older)
+    subscribes-below es [] = tt
+    subscribes-below es (peers ps ∷ older) = AllBelow-more (length older) (subscribes s test (peers ps ∷ es) older) (subscribes-below (peers ps ∷ es) older)
+    subscribes-below es (broadcast r c ∷ older) = AllBelow-more (length older) (subscribes s test (broadcast r c ∷ es) older) (subscribes-below (broadcast r c ∷ es) older)
+    subscribes-below es (arrival p c ∷ older) = AllBelow-more (length older) (subscribes s test (arrival p c ∷ es) older) (subscribes-below (arrival p c ∷ es) older)
+    subscribes-below es (subscribe w d ∷ older) =
+        AllBelow-last (length older) (λ a. test a (subscribe w d ∷ older) es) (record { place = length older; waiter = w; digest = d })
+        (subscribes s test (subscribe w d ∷ es) older) refl (subscribes-below (subscribe w d ∷ es) older)
+    subscribes-below es (get v d ∷ older) = AllBelow-more (length older) (subscribes s test (get v d ∷ es) older) (subscribes-below (get v d ∷ es) older)
+    subscribes-below es (cleanup named ∷ older) = AllBelow-more (length older) (subscribes s test (cleanup named ∷ es) older) (subscribes-below (cleanup named ∷ es) older)
 
-  pub waiting-rises : (es older : List (Happening P M D W V)) → Rises 0 (waiting_before s es older)
-  waiting-rises es [] = tt
-  waiting-rises es (subscribe w d ∷ older) =
-      Rises-last 0 (length older) w d (waits s (length older) w d (subscribe w d ∷ older) es) (waiting_before s (subscribe w d ∷ es) older) (omega arith)
-      (waiting-below (subscribe w d ∷ es) older) (waiting-rises (subscribe w d ∷ es) older)
-  waiting-rises es (e ∷ older) = waiting-rises (e ∷ es) older
+    subscribes-rise : (es older : History P M D W V) → Rises 0 (subscribes s test es older)
+    subscribes-rise es [] = tt
+    subscribes-rise es (subscribe w d ∷ older) =
+        Rises-last 0 (length older) (λ a. test a (subscribe w d ∷ older) es) (record { place = length older; waiter = w; digest = d })
+        (subscribes s test (subscribe w d ∷ es) older) refl (omega arith) (subscribes-below (subscribe w d ∷ es) older) (subscribes-rise (subscribe w d ∷ es) older)
+    subscribes-rise es (e ∷ older) = subscribes-rise (e ∷ es) older
+
+  pub waiting-rises : (past : History P M D W V) → Rises 0 (waiting s past)
+  waiting-rises past = subscribes-rise (waits s) [] past
 
 module _ {P M D W V : Type 0} (s : Setting P M D) (laws : IsEquivalence s.same.digest)
     (held : (d : D) (past : List (Happening P M D W V)) → is_listed s d past ≡ true → is_some (message s d past) ≡ true) where
   takes-taken : (d : D) (e : Happening P M D W V) (t : Taking P M D) → taken s e ≡ Some t → takes s d e ≡ s.same.digest t.carried.digest d
   takes-taken d e t h = ap (of_digest s d) h ∙ laws.symm d t.carried.digest
 
-  taking_step : (e : Happening P M D W V) (past : List (Happening P M D W V)) (t : Taking P M D) → taken s e ≡ Some t → waiting s (e ∷ past) ≡ waiting_before s (e ∷ []) past
+  taking_step : (e : Happening P M D W V) (past : List (Happening P M D W V)) (t : Taking P M D) → taken s e ≡ Some t → waiting s (e ∷ past) ≡ subscribes s (waits s) (e ∷ []) past
   taking_step (peers ps) past t h = absurd cc
   taking_step (broadcast r c) past t h = refl
   taking_step (arrival p c) past t h = refl
@@ -110,40 +113,40 @@ module _ {P M D W V : Type 0} (s : Setting P M D) (laws : IsEquivalence s.same.d
   taking_step (get v d) past t h = absurd cc
   taking_step (cleanup test) past t h = absurd cc
 
-  taking_cleans : (n : ℕ) (w : W) (e : Happening P M D W V) (t : Taking P M D) → taken s e ≡ Some t → cleans s n w e ≡ false
-  taking_cleans n w (peers ps) t h = absurd cc
-  taking_cleans n w (broadcast r c) t h = refl
-  taking_cleans n w (arrival p c) t h = refl
-  taking_cleans n w (subscribe v d) t h = absurd cc
-  taking_cleans n w (get v d) t h = absurd cc
-  taking_cleans n w (cleanup test) t h = absurd cc
+  taking_cleans : (w : Awaiting W D) (e : Happening P M D W V) (t : Taking P M D) → taken s e ≡ Some t → cleans s w e ≡ false
+  taking_cleans w (peers ps) t h = absurd cc
+  taking_cleans w (broadcast r c) t h = refl
+  taking_cleans w (arrival p c) t h = refl
+  taking_cleans w (subscribe v d) t h = absurd cc
+  taking_cleans w (get v d) t h = absurd cc
+  taking_cleans w (cleanup test) t h = absurd cc
 
-  leaves-taken : (e : Happening P M D W V) (t : Taking P M D) → taken s e ≡ Some t → (a : Awaiting W D) → leaves s e a ≡ not (s.same.digest t.carried.digest a.digest)
-  leaves-taken e t h a = ap (λ b. not (takes s a.digest e) && not b) (taking_cleans a.place a.waiter e t h) ∙ and_true (not (takes s a.digest e)) ∙ ap not (takes-taken a.digest e t h)
+  leaves-taken : (e : Happening P M D W V) (t : Taking P M D) → taken s e ≡ Some t → (w : Awaiting W D) → leaves s e w ≡ not (s.same.digest t.carried.digest w.digest)
+  leaves-taken e t h w = ap (λ b. not (takes s w.digest e) && not b) (taking_cleans w e t h) ∙ and_true (not (takes s w.digest e)) ∙ ap not (takes-taken w.digest e t h)
 
   -- the happening is the reply to those who wait for its digest
-  pub replied_at-taking : (e : Happening P M D W V) (past : List (Happening P M D W V)) (t : Taking P M D) → taken s e ≡ Some t → replied_at s e past ≡ waiting_for s t.carried.digest past
-  replied_at-taking e past t h = replied_before-last s held [] past e
-      ∙ ap (λ ws. map (λ a. a.waiter) ws) (filter-same (λ a. takes s a.digest e) (λ a. s.same.digest t.carried.digest a.digest) (waiting s past) (λ a. takes-taken a.digest e t h))
+  pub replied_at-taking : (e : Happening P M D W V) (past : List (Happening P M D W V)) (t : Taking P M D) → taken s e ≡ Some t → waiters_of (replied_at s e past) ≡ waiting_for s t.carried.digest past
+  replied_at-taking e past t h = ap waiters_of (replied_at-last s held e past
+      ∙ filter-same (λ w. takes s w.digest e) (λ w. s.same.digest t.carried.digest w.digest) (waiting s past) (λ w. takes-taken w.digest e t h))
 
   -- nobody waits any more for what is taken
   pub waiting_for-taking : (e : Happening P M D W V) (past : List (Happening P M D W V)) (t : Taking P M D) → taken s e ≡ Some t → (d : D)
       → waiting_for s d (e ∷ past) ≡ (if s.same.digest t.carried.digest d then [] else waiting_for s d past)
   waiting_for-taking e past t h d =
-      ap (with_digest s.same.digest d) (taking_step e past t h ∙ waiting_before-last s held [] past e
-      ∙ filter-same (leaves s e) (λ a. not (s.same.digest t.carried.digest a.digest)) (waiting s past) (leaves-taken e t h))
+      ap (with_digest s.same.digest d) (taking_step e past t h ∙ waiting-last s held e past
+      ∙ filter-same (leaves s e) (λ w. not (s.same.digest t.carried.digest w.digest)) (waiting s past) (leaves-taken e t h))
       ∙ with_digest-other s.same.digest laws t.carried.digest d (waiting s past)
 
   -- who waits stays at a happening that takes nothing and cleans nothing
   pub waiting_for-peers : (ps : List P) (past : List (Happening P M D W V)) (d : D) → waiting_for s d (peers ps ∷ past) ≡ waiting_for s d past
-  waiting_for-peers ps past d = ap (with_digest s.same.digest d) (waiting_before-last s held [] past (peers ps) ∙ filter_true (waiting s past))
+  waiting_for-peers ps past d = ap (with_digest s.same.digest d) (waiting-last s held (peers ps) past ∙ filter_true (waiting s past))
 
   pub waiting_for-get : (v : V) (x : D) (past : List (Happening P M D W V)) (d : D) → waiting_for s d (get v x ∷ past) ≡ waiting_for s d past
-  waiting_for-get v x past d = ap (with_digest s.same.digest d) (waiting_before-last s held [] past (get v x) ∙ filter_true (waiting s past))
+  waiting_for-get v x past d = ap (with_digest s.same.digest d) (waiting-last s held (get v x) past ∙ filter_true (waiting s past))
 
   -- a cleanup takes out the subscribes that it names
-  pub waiting-cleanup : (test : ℕ → W → Bool) (past : List (Happening P M D W V)) → waiting s (cleanup test ∷ past) ≡ filter (λ a. not (test a.place a.waiter)) (waiting s past)
-  waiting-cleanup test past = waiting_before-last s held [] past (cleanup test)
+  pub waiting-cleanup : (test : ℕ → W → Bool) (past : List (Happening P M D W V)) → waiting s (cleanup test ∷ past) ≡ filter (λ w. not (test w.place w.waiter)) (waiting s past)
+  waiting-cleanup test past = waiting-last s held (cleanup test) past
 
   -- one that names by the waiter alone
   pub waiting_for-cleanup : (gone : W → Bool) (past : List (Happening P M D W V)) (d : D)
@@ -151,19 +154,23 @@ module _ {P M D W V : Type 0} (s : Setting P M D) (laws : IsEquivalence s.same.d
   waiting_for-cleanup gone past d =
       ap (with_digest s.same.digest d) (waiting-cleanup (λ n w. gone w) past) ∙ with_digest-cleaned s.same.digest gone d (waiting s past)
 
-  subscribe_step : (w : W) (x : D) (past : List (Happening P M D W V)) → waiting_before s (subscribe w x ∷ []) past ≡ waiting s past
-  subscribe_step w x past = waiting_before-last s held [] past (subscribe w x) ∙ filter_true (waiting s past)
+  -- a subscribe leaves the others, and waits itself or not
+  subscribe_step : (w : W) (x : D) (past : List (Happening P M D W V)) (b : Bool)
+      → waits s (record { place = length past; waiter = w; digest = x }) (subscribe w x ∷ past) [] ≡ b
+      → waiting s (subscribe w x ∷ past) ≡ waiting s past ++ (if b then record { place = length past; waiter = w; digest = x } ∷ [] else [])
+  subscribe_step w x past b h =
+      ap (λ ws. ws ++ filter (λ a. waits s a (subscribe w x ∷ past) []) (record { place = length past; waiter = w; digest = x } ∷ []))
+      (waiting-last s held (subscribe w x) past ∙ filter_true (waiting s past))
+      ∙ ap (λ c. waiting s past ++ (if c then record { place = length past; waiter = w; digest = x } ∷ [] else [])) h
 
   -- a subscribe with a reply does not wait
   pub waiting_for-listed : (w : W) (x : D) (past : List (Happening P M D W V)) (d : D) → is_listed s x (subscribe w x ∷ past) ≡ true → waiting_for s d (subscribe w x ∷ past) ≡ waiting_for s d past
   waiting_for-listed w x past d h = ap (with_digest s.same.digest d)
-      (ap (λ ws. ws ++ one_waiting (length past) w x (waits s (length past) w x (subscribe w x ∷ past) [])) (subscribe_step w x past)
-      ∙ ap (λ b. waiting s past ++ one_waiting (length past) w x b) (waits-listed s held (length past) w x (subscribe w x ∷ past) h) ∙ append-nil (waiting s past))
+      (subscribe_step w x past false (waits-listed s held (record { place = length past; waiter = w; digest = x }) (subscribe w x ∷ past) h) ∙ append-nil (waiting s past))
 
   -- one without waits behind the others
   pub waiting_for-subscribe : (w : W) (x : D) (past : List (Happening P M D W V)) (d : D) → is_listed s x (subscribe w x ∷ past) ≡ false
       → waiting_for s d (subscribe w x ∷ past) ≡ (if s.same.digest x d then waiting_for s d past ++ w ∷ [] else waiting_for s d past)
   waiting_for-subscribe w x past d h = ap (with_digest s.same.digest d)
-      (ap (λ ws. ws ++ one_waiting (length past) w x (waits s (length past) w x (subscribe w x ∷ past) [])) (subscribe_step w x past)
-      ∙ ap (λ b. waiting s past ++ one_waiting (length past) w x b) (waits-unlisted s (length past) w x (subscribe w x ∷ past) h))
-      ∙ with_digest-one s.same.digest laws (length past) w x d (waiting s past)
+      (subscribe_step w x past true (waits-unlisted s (record { place = length past; waiter = w; digest = x }) (subscribe w x ∷ past) h))
+      ∙ with_digest-one s.same.digest laws (record { place = length past; waiter = w; digest = x }) d (waiting s past)

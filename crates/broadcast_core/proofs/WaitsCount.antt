@@ -6,16 +6,15 @@ use Rattle.std.specs.Cmp.{IsEquivalence}
 use Rattle.std.proofs.lemmas.List.{length-append}
 use Rattle.std.proofs.lemmas.List.Sums.{sum_by-cons, count_by-le-length}
 use Rattle.broadcast_core.specs.Content.{Content, among, items_at}
-use Rattle.broadcast_core.specs.History.{Setting}
-use Rattle.broadcast_core.specs.Happening.{Happening, peers, broadcast, arrival, subscribe, get, cleanup}
-use Rattle.broadcast_core.specs.Waiting.{Awaiting, with_digest, waits, waiting_before, waiting, waiting_for}
+use Rattle.broadcast_core.specs.Setting.{Setting}
+use Rattle.broadcast_core.specs.Happening.{Happening, History, peers, broadcast, arrival, subscribe, get, cleanup}
+use Rattle.broadcast_core.specs.HasContent.{HasContent, named_by}
 use Rattle.broadcast_core.specs.Answers.{removed}
-use Rattle.broadcast_core.proofs.Distinct.{by_test, or_false, among-equal, among-head, IsDistinct-rest}
-use Rattle.broadcast_core.proofs.Waits.{one_waiting}
+use Rattle.broadcast_core.specs.Waiting.{Awaiting, with_digest, waits, subscribes, waiting}
+use Rattle.broadcast_core.proofs.Distinct.{by_test, length-filter_le, or_false, among-equal, among-head, IsDistinct-rest}
 use Rattle.broadcast_core.proofs.WaitersLemmas.{length-filter_not}
 use Rattle.broadcast_core.specs.Waiters.{waiting_in}
 use Rattle.broadcast_core.specs.Cache.{is_listed, message}
-use Rattle.broadcast_core.specs.Follows.{HasContent}
 use Rattle.broadcast_core.proofs.WaitsAfter.{with_digest-other, waiting-cleanup}
 
 -- pairs of a ticket and a digest, and entries that have the tickets of each digest
@@ -85,7 +84,7 @@ module _ {P M D W V : Type 0} (s : Setting P M D) (laws : IsEquivalence s.same.d
   pub named-counted : (held : (d : D) (es : List (Happening P M D W V)) → is_listed s d es ≡ true → is_some (message s d es) ≡ true)
       → (test : ℕ → W → Bool) (past : List (Happening P M D W V)) (old new : Content P M D W) (n : ℕ) → HasContent s past old → HasContent s (cleanup test ∷ past) new
       → IsDistinct s.same.digest (keys_of old.waiters) → IsDistinct s.same.digest (keys_of new.waiters) → waiting_in old.waiters ≡ waiting_in new.waiters + n
-      → n ≡ count_by (λ w. test w.place w.waiter) (waiting s past)
+      → n ≡ named_by test (waiting s past)
   named-counted held test past old new n has then apart apart_then fewer =
       omega (
         arith,
@@ -97,30 +96,21 @@ module _ {P M D W V : Type 0} (s : Setting P M D) (laws : IsEquivalence s.same.d
       )
 
 module _ {P M D : Type 0} (s : Setting P M D) where
-  -- what a cleanup drops from the entries of a core is what it removes
-  pub removed-counted : IsEquivalence s.same.digest → (gone : List ℕ) (past : List (Happening P M D ℕ ℕ)) (es : List (D × List ℕ)) → IsDistinct s.same.digest (keys_of es)
-      → ((d : D) → items_at s.same.digest d es ≡ waiting_for s d past)
-      → sum_by (λ e. count_by (λ w. list_any (λ t. w == t) gone) e.1) es ≡ removed s gone past
-  removed-counted laws gone past es distinct h = counted_by-entries s.same.digest laws (λ w. list_any (λ t. w == t) gone) es (waiting s past) distinct h
+  length-subscribes : (test : Awaiting ℕ D → History P M D ℕ ℕ → History P M D ℕ ℕ → Bool) (es older : History P M D ℕ ℕ) → length (subscribes s test es older) ≤ length older
+  length-subscribes test es [] = omega arith
+  length-subscribes test es (peers ps ∷ older) = omega (arith, length-subscribes test (peers ps ∷ es) older)
+  length-subscribes test es (broadcast r c ∷ older) = omega (arith, length-subscribes test (broadcast r c ∷ es) older)
+  length-subscribes test es (arrival p c ∷ older) = omega (arith, length-subscribes test (arrival p c ∷ es) older)
+  length-subscribes test es (subscribe k d ∷ older) =
+      let one : List (Awaiting ℕ D) = record { place = length older; waiter = k; digest = d } ∷ [] in
+      let passing = λ (a : Awaiting ℕ D). test a (subscribe k d ∷ older) es in
+      omega (arith, length-append (subscribes s test (subscribe k d ∷ es) older) (filter passing one), length-filter_le passing one, length-subscribes test (subscribe k d ∷ es) older)
+  length-subscribes test es (get k d ∷ older) = omega (arith, length-subscribes test (get k d ∷ es) older)
+  length-subscribes test es (cleanup named ∷ older) = omega (arith, length-subscribes test (cleanup named ∷ es) older)
 
-  length-one_waiting : (n k : ℕ) (d : D) (b : Bool) → length (one_waiting n k d b) ≤ 1
-  length-one_waiting n k d true = omega arith
-  length-one_waiting n k d false = omega arith
+  -- no more wait than happenings came
+  length-waiting : (past : History P M D ℕ ℕ) → length (waiting s past) ≤ length past
+  length-waiting past = length-subscribes (waits s) [] past
 
-  length-waiting_before : (es older : List (Happening P M D ℕ ℕ)) → length (waiting_before s es older) ≤ length older
-  length-waiting_before es [] = omega arith
-  length-waiting_before es (peers ps ∷ older) = omega (arith, length-waiting_before (peers ps ∷ es) older)
-  length-waiting_before es (broadcast r c ∷ older) = omega (arith, length-waiting_before (broadcast r c ∷ es) older)
-  length-waiting_before es (arrival p c ∷ older) = omega (arith, length-waiting_before (arrival p c ∷ es) older)
-  length-waiting_before es (subscribe k d ∷ older) =
-      let one : List (Awaiting ℕ D) = one_waiting (length older) k d (waits s (length older) k d (subscribe k d ∷ older) es) in
-      omega (arith, length-append (waiting_before s (subscribe k d ∷ es) older) one, length-one_waiting (length older) k d (waits s (length older) k d (subscribe k d ∷ older) es), length-waiting_before (subscribe k d ∷ es) older)
-  length-waiting_before es (get k d ∷ older) = omega (arith, length-waiting_before (get k d ∷ es) older)
-  length-waiting_before es (cleanup test ∷ older) = omega (arith, length-waiting_before (cleanup test ∷ es) older)
-
-  -- no more wait than events came
-  pub length-waiting : (past : List (Happening P M D ℕ ℕ)) → length (waiting s past) ≤ length past
-  length-waiting past = length-waiting_before [] past
-
-  pub removed-le : (gone : List ℕ) (past : List (Happening P M D ℕ ℕ)) → removed s gone past ≤ length past
+  pub removed-le : (gone : List ℕ) (past : History P M D ℕ ℕ) → removed s gone past ≤ length past
   removed-le gone past = omega (arith, length-waiting past, count_by-le-length (λ w. list_any (λ x. w.waiter == x) gone) (waiting s past))

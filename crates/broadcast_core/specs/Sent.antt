@@ -1,23 +1,23 @@
--- What the network is handed.
+-- What is sent to the network.
 use Rattle.std.specs.Prelude.{ℕ, List, [], ◌∷◌, ◌++◌, Option, None, Some}
-use Rattle.broadcast_core.specs.History.{Setting}
-use Rattle.broadcast_core.specs.Happening.{Happening, broadcast}
+use Rattle.broadcast_core.specs.Setting.{Setting}
+use Rattle.broadcast_core.specs.Happening.{Happening, History, broadcast}
 use Rattle.broadcast_core.specs.declared.event.Sent.{Sent}
 use Rattle.broadcast_core.specs.declared.ordered.Recipients.{Recipients}
 
 module _ {P M D : Type 0} (s : Setting P M D) where
-  -- an encoding, with its recipients and the flag
+  -- the send of an encoding, if there is one
   abbrev pub sending : Recipients P → Option (List ℕ) → List (Sent P)
   sending r None = []
   sending r (Some bytes) = record { recipients = r; bytes = bytes; priority = s.priority } ∷ []
 
 module _ {P M D W V : Type 0} (s : Setting P M D) where
-  -- what the network is handed at a happening: the encoding of a broadcast
+  -- what a happening sends: a broadcast its encoding
   abbrev pub sent_at : Happening P M D W V → List (Sent P)
   sent_at (broadcast r c) = sending s r (s.encoding c.message)
   sent_at _ = []
 
-  -- the broadcasts of a history, in order
-  abbrev pub sent : List (Happening P M D W V) → List (Sent P)
+  -- what a history sends, the oldest first
+  abbrev pub sent : History P M D W V → List (Sent P)
   sent [] = []
   sent (e ∷ older) = sent older ++ sent_at e

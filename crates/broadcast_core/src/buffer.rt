@@ -238,10 +238,11 @@ impl<P: PublicKey, M: Digestible, W: Drop> Core<P, M, W> {
     pub fn cleanup(&mut self, gone: &[u64]) -> u64
     where
         W: Ticketed,
-        ensures gone { Cleans (same_by P.cmp M.Digest.cmp) (is_gone W.ticket_of gone.now)
-            self.old self.new }
+        ensures dropped { let same = same_by P.cmp M.Digest.cmp in
+            Cleans same (is_gone W.ticket_of gone.now) self.old self.new }
         ensures removed { result ≡ counted (gone_from W.ticket_of gone.now self.old.waiters) }
         ensures distinct { IsDistinct (eq_by_cmp M.Digest.cmp) (keys_of self.old.waiters) }
+        ensures distinct_left { IsDistinct (eq_by_cmp M.Digest.cmp) (keys_of self.new.waiters) }
     {
         self.waiters.cleanup(gone)
     }
@@ -252,7 +253,7 @@ impl<P: PublicKey, M: Digestible, W: Drop> Core<P, M, W> {
     where
         W: Closable,
         ensures store { KeepsStore (same_by P.cmp M.Digest.cmp) self.old self.new }
-        ensures closed { let same = same_by P.cmp M.Digest.cmp in
+        ensures dropped { let same = same_by P.cmp M.Digest.cmp in
             (d : _) → DropsClosed W.may_answer (waiting_at same self.old d) (waiting_at same self.new d) }
         ensures removed { (n : ℕ) × (waiting_in self.old.waiters ≡ waiting_in self.new.waiters + n)
             × (result ≡ counted n) }
@@ -260,6 +261,14 @@ impl<P: PublicKey, M: Digestible, W: Drop> Core<P, M, W> {
         ensures distinct_left { IsDistinct (eq_by_cmp M.Digest.cmp) (keys_of self.new.waiters) }
     {
         self.waiters.cleanup_by()
+    }
+
+    /// Drops all waiters and keeps everything else. Does not allocate.
+    pub fn clear_waiters(&mut self)
+        ensures store { KeepsStore (same_by P.cmp M.Digest.cmp) self.old self.new }
+        ensures none_waits { self.new.waiters ≡ [] }
+    {
+        self.waiters.clear();
     }
 }
 

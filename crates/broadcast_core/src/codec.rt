@@ -9,7 +9,7 @@ use thiserror::Error;
 
 mod byte_list;
 
-pub(crate) use byte_list::{list_at, list_size, put_list};
+pub(crate) use byte_list::{list_size, put_list, read_list};
 
 /// Why bytes are no message, or a message has no bytes.
 #[derive(Clone, Copy, Debug, PartialEq, Eq, Error)]

@@ -10,5 +10,4 @@ pub mod mocks;
 pub mod ordered;
 pub mod outcome;
 pub mod requests;
-pub mod rows;
 pub mod run;

@@ -6,11 +6,11 @@ ghost use Rattle.std.specs.Cmp.Rules.{comparing};
 ghost use Rattle.std.proofs.Common.{rules};
 ghost use Rattle.sha2.specs.Sha256.{sha256};
 ghost use Rattle.broadcast_core.specs.Codec.{layout_of, Gives, GivesOrLacks};
-ghost use Rattle.broadcast_core.specs.TestMessage.{Parts, encoding_of, message_at, Begins, IsRefused};
+ghost use Rattle.broadcast_core.specs.TestMessage.{Parts, encoding_of, read_message, Begins, IsRefused};
 ghost use Rattle.broadcast_core.specs.CodecLaws.{message_within, message_refusals, message_reads_back};
 
 use crate::codec::{
-    Codec, CodecError, EncodeSize, RangeCfg, Read, Write, list_at, list_size, put_list,
+    Codec, CodecError, EncodeSize, RangeCfg, Read, Write, list_size, put_list, read_list,
 };
 use crate::digested::Digestible;
 use sha2::{Digest, Sha256};
@@ -116,7 +116,7 @@ impl EncodeSize for TestMessage {
 impl Read for TestMessage {
     type Cfg = RangeCfg;
 
-    ghost reading = { message_at };
+    ghost reading = { read_message };
 
     /// How many bytes in front the message takes.
     fn layout(buf: &[u8], cfg: &RangeCfg) -> Result<usize, CodecError>
@@ -127,7 +127,7 @@ impl Read for TestMessage {
         // What is refused is so for this.
         ensures refused { IfErr result (λ e. IsRefused cfg.now buf.now e) }
         // Which answer it is.
-        ensures exact { result ≡ layout_of (message_at cfg.now buf.now) }
+        ensures exact { result ≡ layout_of (read_message cfg.now buf.now) }
     {
         parts_at(buf, cfg).map(|(_, _, used)| used)
     }
@@ -141,7 +141,7 @@ impl Read for TestMessage {
         // What is refused is so for this, or for want of memory.
         ensures refused { IfErr result (λ e. (e ≡ CodecError.Memory) ⊎ IsRefused cfg.now buf.now e) }
         // Which answer it is.
-        ensures exact { GivesOrLacks result (message_at cfg.now buf.now) }
+        ensures exact { GivesOrLacks result (read_message cfg.now buf.now) }
     {
         copied_at(alloc, buf, cfg)
     }
@@ -156,12 +156,12 @@ impl Codec for TestMessage {
 }
 
 /// The two byte lists in front, and how many bytes they take.
-#[tactic(auto, unfolding(crate::specs::TestMessage::message_at))]
+#[tactic(auto, unfolding(crate::specs::TestMessage::read_message))]
 fn parts_at<'a>(buf: &'a [u8], range: &RangeCfg) -> Result<(&'a [u8], &'a [u8], usize), CodecError>
-    ensures { Gives (λ x. (record { commitment = x.0.now; content = x.1.now }, x.2)) result (message_at range.now buf.now) }
+    ensures { Gives (λ x. (record { commitment = x.0.now; content = x.1.now }, x.2)) result (read_message range.now buf.now) }
 {
-    let (commitment, rest) = list_at(buf, range)?;
-    let (content, rest) = list_at(rest, range)?;
+    let (commitment, rest) = read_list(buf, range)?;
+    let (content, rest) = read_list(rest, range)?;
     Ok((commitment, content, buf.len() - rest.len()))
 }
 
@@ -171,7 +171,7 @@ fn copied_at(
     buf: &[u8],
     range: &RangeCfg,
 ) -> Result<(TestMessage, usize), CodecError>
-    ensures { GivesOrLacks result (message_at range.now buf.now) }
+    ensures { GivesOrLacks result (read_message range.now buf.now) }
 {
     let (commitment, content, used) = parts_at(buf, range)?;
     let commitment = Vec::from_slice(alloc, commitment)?;

@@ -2,8 +2,8 @@
 ghost use Rattle.std.specs.Prelude.{IfOk};
 ghost use Rattle.broadcast_core.specs.Codec.{whole};
 ghost use Rattle.broadcast_core.specs.Content.{same_by};
-ghost use Rattle.broadcast_core.specs.Follows.{HasRun};
-ghost use Rattle.broadcast_core.specs.History.{Setting};
+ghost use Rattle.broadcast_core.specs.Setting.{setting};
+ghost use Rattle.broadcast_core.specs.HasRun.{HasRun};
 
 mod apply;
 
@@ -29,15 +29,8 @@ pub fn run<P: PublicKey, M: Digestible + Codec>(
     cfg: &M::Cfg,
     events: Vec<Event<P, M>>,
 ) -> Result<Run<P, M>, AllocError>
-    ensures { let s : Setting P M M.Digest = record {
-      own = own;
-      deque_size = deque_size;
-      priority = priority;
-      same = same_by P.cmp M.Digest.cmp;
-      digest_of = M.digest_of;
-      encoding = M.encoding;
-      reading = whole (M.reading cfg.now);
-    } in
+    ensures { let s = setting own deque_size priority (same_by P.cmp M.Digest.cmp)
+        M.digest_of M.encoding (whole (M.reading cfg.now)) in
         IfOk result (λ run. HasRun s events.items run.answers run.sent run.core) }
 {
     let mut answers = Vec::with_capacity(alloc, events.len())?;

@@ -30,3 +30,4 @@ mod replay_rows;
 mod sends;
 #[cfg(test)]
 mod steps;
+pub mod worked_examples;

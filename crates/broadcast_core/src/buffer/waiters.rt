@@ -109,6 +109,7 @@ impl<D: Ord + Copy, W: Drop> Waiters<D, W> {
             ≡ filter (λ w. not (is_gone W.ticket_of gone.now w)) (items_at same e self.old) }
         ensures removed { result ≡ counted (gone_from W.ticket_of gone.now self.old) }
         ensures distinct { IsDistinct (eq_by_cmp D.cmp) (keys_of self.old) }
+        ensures distinct_left { IsDistinct (eq_by_cmp D.cmp) (keys_of self.new) }
     {
         let before = total(&self.by_digest);
         self.by_digest.retain(|_, waiters| drop_gone(waiters, gone));
@@ -129,6 +130,13 @@ impl<D: Ord + Copy, W: Drop> Waiters<D, W> {
         let before = total(&self.by_digest);
         self.by_digest.retain(|_, waiters| drop_closed(waiters));
         clamped(before - total(&self.by_digest))
+    }
+
+    /// Drops all waiters. Does not allocate.
+    pub fn clear(&mut self)
+        ensures { self.new ≡ [] }
+    {
+        self.by_digest.clear();
     }
 }
 

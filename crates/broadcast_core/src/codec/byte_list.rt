@@ -1,6 +1,7 @@
 //! Byte lists as bytes: the length in four bytes, the highest first, then the bytes.
 ghost use Rattle.std.specs.Prelude.{◌≡◌, ◌+◌, ◌≤◌, ◌++◌, IsTrue, if◌then◌else◌, length, Option, Some, None, IfOk, vec_len, vec_capacity};
-ghost use Rattle.broadcast_core.specs.Codec.{Gives, has_spelling, spelled, list_at};
+ghost use Rattle.broadcast_core.specs.ByteList.{has_spelling, spelled, read_list};
+ghost use Rattle.broadcast_core.specs.Codec.{Gives};
 
 use super::{CodecError, RangeCfg};
 use byteorder::{BigEndian, ByteOrder};
@@ -12,9 +13,9 @@ const LENGTH_BYTES: usize = 4;
 const MAX_LENGTH: usize = u32::MAX as usize;
 
 /// The byte list in front of the bytes, with the bytes after it, or the first refusal.
-#[tactic(auto, unfolding(crate::specs::Codec::list_at))]
-pub fn list_at<'a>(buf: &'a [u8], range: &RangeCfg) -> Result<(&'a [u8], &'a [u8]), CodecError>
-    ensures exact { Gives (λ x. (x.0.now, x.1.now)) result (list_at range.now buf.now) }
+#[tactic(auto, unfolding(crate::specs::ByteList::read_list))]
+pub fn read_list<'a>(buf: &'a [u8], range: &RangeCfg) -> Result<(&'a [u8], &'a [u8]), CodecError>
+    ensures exact { Gives (λ x. (x.0.now, x.1.now)) result (read_list range.now buf.now) }
     ensures shorter { IfOk result (λ x. length x.1.now ≤ length buf.now) }
 {
     if buf.len() < LENGTH_BYTES {

@@ -3,8 +3,8 @@ ghost use Rattle.std.specs.Prelude.{◌≡◌, ℕ, []};
 ghost use Rattle.std.specs.Option.{option_to_list};
 ghost use Rattle.broadcast_core.specs.Codec.{whole};
 ghost use Rattle.broadcast_core.specs.Content.{same_by};
-ghost use Rattle.broadcast_core.specs.Follows.{Follows};
-ghost use Rattle.broadcast_core.specs.History.{Setting};
+ghost use Rattle.broadcast_core.specs.Setting.{Setting, setting};
+ghost use Rattle.broadcast_core.specs.HasRun.{Follows};
 ghost use Rattle.broadcast_core.specs.declared.event.Event.TheVariants as event;
 ghost use Rattle.broadcast_core.specs.declared.event.Answer.TheVariants as answer;
 
@@ -25,16 +25,9 @@ pub fn apply<P: PublicKey, M: Digestible + Codec>(
     cfg: &M::Cfg,
     event: Event<P, M>,
 ) -> (Answer<M>, Option<Sent<P>>)
-    ensures { let s : Setting P M M.Digest = record {
-      own = core.old.own;
-      deque_size = core.old.deque_size;
-      priority = priority;
-      same = same_by P.cmp M.Digest.cmp;
-      digest_of = M.digest_of;
-      encoding = M.encoding;
-      reading = whole (M.reading cfg.now);
-    } in
-        Follows s usize.MAX event core.old core.new result.0 (option_to_list result.1) }
+    ensures { let s = setting core.old.own core.old.deque_size priority (same_by P.cmp M.Digest.cmp)
+        M.digest_of M.encoding (whole (M.reading cfg.now)) in
+        Follows s event core.old core.new result.0 (option_to_list result.1) }
 {
     match event {
         Event::Peers(peers) => {
@@ -61,7 +54,7 @@ fn broadcast<P: PublicKey, M: Digestible + Codec>(
 ) -> (Answer<M>, Option<Sent<P>>)
     ensures { (s : Setting P M M.Digest)
         → s.same ≡ same_by P.cmp M.Digest.cmp → s.priority ≡ priority → s.encoding ≡ M.encoding
-        → Follows s usize.MAX (event.Broadcast recipients message) core.old core.new result.0 (option_to_list result.1) }
+        → Follows s (event.Broadcast recipients message) core.old core.new result.0 (option_to_list result.1) }
 {
     let mut bytes = Vec::new(alloc);
     match message.inner().write(&mut bytes) {
@@ -97,7 +90,7 @@ fn payload<P: PublicKey, M: Digestible + Codec>(
 ) -> Answer<M>
     ensures { (s : Setting P M M.Digest)
         → s.same ≡ same_by P.cmp M.Digest.cmp → s.digest_of ≡ M.digest_of → s.reading ≡ whole (M.reading cfg.now)
-        → Follows s usize.MAX (event.Payload peer.now bytes.now) core.old core.new result [] }
+        → Follows s (event.Payload peer.now bytes.now) core.old core.new result [] }
 {
     let message: M = match decode_cfg(alloc, bytes, cfg) {
         Ok(message) => message,
@@ -134,7 +127,7 @@ fn subscribe<P: PublicKey, M: Digestible>(
     digest: M::Digest,
 ) -> Answer<M>
     ensures { (s : Setting P M M.Digest) → s.same ≡ same_by P.cmp M.Digest.cmp
-        → Follows s usize.MAX (event.Subscribe ticket digest) core.old core.new result [] }
+        → Follows s (event.Subscribe ticket digest) core.old core.new result [] }
 {
     match core.subscribe(digest, ticket) {
         Ok(Subscribed::Answered(_, message)) => Answer::Answered(message),
@@ -146,7 +139,7 @@ fn subscribe<P: PublicKey, M: Digestible>(
 /// Answers a get from the cache.
 fn get<P: PublicKey, M: Digestible>(core: &Core<P, M, u64>, digest: &M::Digest) -> Answer<M>
     ensures { (s : Setting P M M.Digest) → s.same ≡ same_by P.cmp M.Digest.cmp
-        → (ticket : ℕ) → Follows s usize.MAX (event.Get ticket digest.now) core.now core.now result [] }
+        → (ticket : ℕ) → Follows s (event.Get ticket digest.now) core.now core.now result [] }
 {
     match core.get(digest) {
         None => Answer::Got(None),

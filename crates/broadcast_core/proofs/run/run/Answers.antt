@@ -2,24 +2,27 @@ use Rattle.std.proofs.Common.{◌≡◌, [], ◌++◌, length, arith, refl, sym,
 use Rattle.std.specs.Prelude.{◌+◌, ◌≤◌, vec_len, vec_capacity}
 use Rattle.std.specs.Option.{option_to_list}
 use Rattle.std.specs.Vec.Iter.{into_iter_items}
+use Rattle.broadcast_core.proofs.Lawful.{same_by-lawful}
 use Rattle.broadcast_core.proofs.Running.{HasRun-none, HasRun-same, HasRun-follows, one_come, none_left}
 use Rattle.broadcast_core.proofs.run.run.Goals as goal
 use Rattle.broadcast_core.proofs.run.run.Goals.{in-Some-sending, in_default}
 
 pub loop-event-init : goal.loop-event-init
 loop-event-init g c =
+    let lawful = same_by-lawful (g.met.P.Ord g.world.𝓛 g.world.𝓜 g.world.𝓡 (λ s x. x, λ x. x, λ x. x, λ x. x)).total (g.met.M.Digest.Ord g.world.𝓛 g.world.𝓜 g.world.𝓡 (λ s x. x, λ x. x, λ x. x, λ x. x)).total in
     let gives = c.into_iter-event-iterator.ensures.into_iter_gives in
     record {
       rest = refl;
       left = omega (arith, ap length gives.0, gives.1, c.args.events.ok);
       answers_fit = omega (arith, ap length gives.0, c.args.events.ok, c.len.ensures, c.in_ok-answers.ensures.len, c.in_ok-answers.ensures.capacity);
       sent_fit = omega (arith, ap length gives.0, c.args.events.ok, c.len-2.ensures, c.in_ok-sent.ensures.len, c.in_ok-sent.ensures.capacity);
-      has_run = HasRun-same _ [] [] [] c.in_ok-answers.answers.items [] c.in_ok-sent.sent.items _ (HasRun-none _ c.new-core.result c.new-core.ensures)
+      has_run = HasRun-same _ [] [] [] c.in_ok-answers.answers.items [] c.in_ok-sent.sent.items _ (HasRun-none _ lawful c.new-core.ensures)
           refl c.in_ok-answers.ensures.items c.in_ok-sent.ensures.items;
     }
 
 pub loop-event-preserved : goal.loop-event-preserved
 loop-event-preserved g c =
+    let lawful = same_by-lawful (g.met.P.Ord g.world.𝓛 g.world.𝓜 g.world.𝓡 (λ s x. x, λ x. x, λ x. x, λ x. x)).total (g.met.M.Digest.Ord g.world.𝓛 g.world.𝓜 g.world.𝓡 (λ s x. x, λ x. x, λ x. x, λ x. x)).total in
     let at = c.loop-event in
     let e = c.in-Some.event in
     let steps = c.in-Some.ensures.steps in
@@ -42,7 +45,7 @@ loop-event-preserved g c =
       answers_fit = omega (arith, answers_push.len, answers_push.capacity, ap length steps.0, at.invariant.answers_fit);
       sent_fit = sent_fit;
       has_run = HasRun-same _ _ _ _ _ _ _ _
-          (HasRun-follows _ _ at.yielded at.answers.items at.sent.items at.core c.apply-answer.new.core e applied.0 (option_to_list applied.1)
+          (HasRun-follows _ lawful at.yielded at.answers.items at.sent.items at.core c.apply-answer.new.core e applied.0 (option_to_list applied.1)
           (omega (arith, ap length at.invariant.rest, length-append at.yielded (into_iter_items at.event-iterator), ap length gives.0, gives.1, gives.2, c.args.events.ok))
           at.invariant.has_run c.apply-answer.ensures)
           refl answers_push.items sent_is;

@@ -3,21 +3,14 @@ use Rattle.std.specs.Prelude.{◌+◌, ◌≤◌, vec_len, vec_capacity}
 use Rattle.std.specs.Vec.Iter.{into_iter_items, into_iter_len}
 use Rattle.broadcast_core.specs.Codec.{whole}
 use Rattle.broadcast_core.specs.Content.{same_by}
-use Rattle.broadcast_core.specs.History.{Setting}
-use Rattle.broadcast_core.specs.Follows.{HasRun}
+use Rattle.broadcast_core.specs.Setting.{setting}
+use Rattle.broadcast_core.specs.HasRun.{HasRun}
 use Rattle.broadcast_core.proofs.run.run.Given as goal
 
 abbrev pub invariant-loop-event : goal.invariant-loop-event
 invariant-loop-event g l =
-    let s : Setting g.row.P.Denot g.row.M.Denot g.row.M-Digest.Denot = record {
-      own = l.fn.own;
-      deque_size = l.fn.deque_size;
-      priority = l.fn.priority;
-      same = same_by g.P.Ord.cmp g.M.Digest.Ord.cmp;
-      digest_of = g.M.Digestible.digest_of;
-      encoding = g.M.Write.encoding;
-      reading = whole (g.M.Read.reading l.fn.cfg);
-    } in record {
+    let s = setting l.fn.own l.fn.deque_size l.fn.priority (same_by g.P.Ord.cmp g.M.Digest.Ord.cmp) g.M.Digestible.digest_of g.M.Write.encoding (whole (g.M.Read.reading l.fn.cfg)) in
+    record {
       rest : l.yielded ++ into_iter_items l.event-iterator ≡ into_iter_items l.initial.event-iterator;
       left : into_iter_len l.event-iterator ≡ length (into_iter_items l.event-iterator);
       answers_fit : vec_len l.answers + length (into_iter_items l.event-iterator) ≤ vec_capacity l.answers;

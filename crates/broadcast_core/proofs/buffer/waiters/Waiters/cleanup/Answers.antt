@@ -28,3 +28,8 @@ returns-clause-removed g c =
 
 pub returns-clause-distinct : goal.returns-clause-distinct
 returns-clause-distinct g c = rw (← c.self.view_is) (digests_apart c.self.inside.by_digest.entries c.self.invariant)
+
+pub returns-clause-distinct_left : goal.returns-clause-distinct_left
+returns-clause-distinct_left g c =
+    let kept = Kept-from_retain _ (Leaves g.W.Ticketed.ticket_of c.args.gone.now) _ (λ k v b w f' t. search rules) c.self.inside.by_digest.entries c.retain.new.self.entries c.retain.ensures.filtered in
+    digests_apart c.retain.new.self.entries (AreAwaited-kept (Leaves g.W.Ticketed.ticket_of c.args.gone.now) c.self.inside.by_digest.entries c.retain.new.self.entries kept c.retain.ensures.ordered)
