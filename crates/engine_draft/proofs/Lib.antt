@@ -2,3 +2,4 @@ pub mod PeerCounts
 pub mod Handing
 pub mod EngineSteps
 pub mod Runs
+pub mod Composing

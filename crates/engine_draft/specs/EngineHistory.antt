@@ -1,12 +1,11 @@
 -- What an engine did: a list of steps, the newest first, and what is read off it.
 use Rattle.std.specs.Prelude.{◌≡◌, ℕ, ◌+◌, Bool, true, false, if◌then◌else◌, List, [], ◌∷◌, ◌++◌, map, length, Option, None, Some, is_some}
-use Rattle.std.specs.List.{count_by}
 use Rattle.broadcast_core.specs.Carried.{Carried}
 use Rattle.broadcast_core.specs.Content.{first_places}
-use Rattle.broadcast_core.specs.History.{Setting}
-use Rattle.broadcast_core.specs.Happening.{Happening, peers, broadcast, arrival, subscribe, get, cleanup}
+use Rattle.broadcast_core.specs.Setting.{Setting}
+use Rattle.broadcast_core.specs.Happening.{Happening, History, peers, broadcast, arrival, subscribe, get, cleanup}
 use Rattle.broadcast_core.specs.Waiting.{waiting}
-use Rattle.broadcast_core.specs.Follows.{AnswersAs}
+use Rattle.broadcast_core.specs.HasContent.{AnswersAs, named_by}
 use Rattle.broadcast_core.specs.Answers.{outcome}
 use Rattle.broadcast_core.specs.declared.event.Cause.{Cause}
 use Rattle.broadcast_core.specs.declared.event.Cause.TheVariants.{Memory, Unencodable}
@@ -23,13 +22,14 @@ use Rattle.engine_draft.specs.declared.buffered.engine.input.Input.TheVariants.{
 use Rattle.engine_draft.specs.declared.buffered.metrics.Status.TheVariants.{Success, Failure, Dropped}
 use Rattle.engine_draft.specs.declared.buffered.metrics.Status.TheVariants as status
 use Rattle.engine_draft.specs.Counters.{Totals, added}
-use Rattle.engine_draft.specs.Replies.{Asker, Handed, subscribed, got, due_at, reply_of}
+use Rattle.broadcast_core.specs.Handed.{handed_at}
+use Rattle.engine_draft.specs.Replies.{Asker, Replied, subscribed, got, reply_of}
 
 pub data Step (P M D S G : Type 0) : Type 0 where
   -- the waiters that the test names answered closed, and were dropped
   swept : (ℕ → Asker S → Bool) → Step P M D S G
   -- the input was applied, and these replies were handed out
-  applied : Input P M S G D → List (Handed S G (Carried M D) (Option (Carried M D))) → Step P M D S G
+  applied : Input P M S G D → List (Replied S G (Carried M D) (Option (Carried M D))) → Step P M D S G
   -- the input was refused, and changed nothing
   refused : Input P M S G D → Cause → Step P M D S G
   -- a payload of the peer was decoded
@@ -45,13 +45,13 @@ module _ {P M D S G : Type 0} where
   asked ticket (Get d responder) = get (record { ticket = ticket; responder = responder }) d
 
   -- what happens at an input; a payload that is no message is no happening
-  abbrev pub happening_of : Input P M S G D → List (Happening P M D (Asker S) (Asker G))
+  abbrev pub happening_of : Input P M S G D → History P M D (Asker S) (Asker G)
   happening_of (Peers ps) = peers ps ∷ []
   happening_of (Request request) = asked request.ticket request.message ∷ []
   happening_of (Arrived p c) = arrival p c ∷ []
   happening_of (Invalid error) = []
 
-  abbrev pub happenings_at : Step P M D S G → List (Happening P M D (Asker S) (Asker G))
+  abbrev pub happenings_at : Step P M D S G → History P M D (Asker S) (Asker G)
   happenings_at (swept test) = cleanup test ∷ []
   happenings_at (applied input replies) = happening_of input
   happenings_at (refused input cause) = []
@@ -59,29 +59,29 @@ module _ {P M D S G : Type 0} where
   happenings_at ended = cleanup (λ n w. true) ∷ []
 
   -- the happenings of the steps
-  abbrev pub happenings : List (Step P M D S G) → List (Happening P M D (Asker S) (Asker G))
+  abbrev pub happenings : List (Step P M D S G) → History P M D (Asker S) (Asker G)
   happenings [] = []
   happenings (step ∷ steps) = happenings_at step ++ happenings steps
 
-  abbrev pub handed_at : Step P M D S G → List (Handed S G (Carried M D) (Option (Carried M D)))
-  handed_at (applied input replies) = replies
-  handed_at _ = []
+  abbrev pub handed_out_at : Step P M D S G → List (Replied S G (Carried M D) (Option (Carried M D)))
+  handed_out_at (applied input replies) = replies
+  handed_out_at _ = []
 
   -- the replies that were handed out, oldest first
-  abbrev pub handed : List (Step P M D S G) → List (Handed S G (Carried M D) (Option (Carried M D)))
-  handed [] = []
-  handed (step ∷ steps) = handed steps ++ handed_at step
+  abbrev pub handed_out : List (Step P M D S G) → List (Replied S G (Carried M D) (Option (Carried M D)))
+  handed_out [] = []
+  handed_out (step ∷ steps) = handed_out steps ++ handed_out_at step
 
 module _ {S G A C : Type 0} where
   -- a reply is counted by whether it was delivered, and a delivered one to a get by whether it has a message
-  abbrev pub count_reply : Handed S G A (Option C) → Totals → Totals
+  abbrev pub count_reply : Replied S G A (Option C) → Totals → Totals
   count_reply (subscribed w a true) t = record t { subscribe = added Success 1 t.subscribe }
   count_reply (subscribed w a false) t = record t { subscribe = added Dropped 1 t.subscribe }
   count_reply (got v (Some c) true) t = record t { get = added Success 1 t.get }
   count_reply (got v None true) t = record t { get = added Failure 1 t.get }
   count_reply (got v b false) t = record t { get = added Dropped 1 t.get }
 
-  abbrev pub count_replies : List (Handed S G A (Option C)) → Totals → Totals
+  abbrev pub count_replies : List (Replied S G A (Option C)) → Totals → Totals
   count_replies [] t = t
   count_replies (h ∷ hs) t = count_replies hs (count_reply h t)
 
@@ -92,7 +92,7 @@ count_outcome Duplicate t = record t { receive = added Dropped 1 t.receive }
 count_outcome Ineligible t = record t { receive = added Dropped 1 t.receive }
 
 module _ {P M D S G : Type 0} (s : Setting P M D) where
-  abbrev pub turn_of_request : Message P M S G D → List (Happening P M D (Asker S) (Asker G)) → Turn
+  abbrev pub turn_of_request : Message P M S G D → History P M D (Asker S) (Asker G) → Turn
   turn_of_request (Broadcast r c) past = turn.Broadcast (outcome s s.own c.digest past)
   turn_of_request (Subscribe d responder) past = turn.Subscribe
   turn_of_request (Get d responder) past = turn.Get
@@ -102,7 +102,7 @@ module _ {P M D S G : Type 0} (s : Setting P M D) where
   IsEncodable _ = Unit {0}
 
   -- a broadcast is refused if it has no encoding, and any request that takes memory may be refused for that
-  abbrev pub MayRefuseRequest : Message P M S G D → Cause → List (Happening P M D (Asker S) (Asker G)) → Type 0
+  abbrev pub MayRefuseRequest : Message P M S G D → Cause → History P M D (Asker S) (Asker G) → Type 0
   MayRefuseRequest (Broadcast r c) Unencodable past = s.encoding c.message ≡ None
   MayRefuseRequest (Broadcast r c) Memory past = is_some (s.encoding c.message) ≡ true
   MayRefuseRequest (Subscribe d responder) Memory past = Unit {0}
@@ -110,26 +110,26 @@ module _ {P M D S G : Type 0} (s : Setting P M D) where
   MayRefuseRequest _ cause past = ⊥
 
   -- the digests that are awaited after a history
-  abbrev pub awaited : List (Happening P M D (Asker S) (Asker G)) → List D
+  abbrev pub awaited : History P M D (Asker S) (Asker G) → List D
   awaited past = first_places s.same.digest (map (λ w. w.digest) (waiting s past))
 
   -- what an input counts, besides replies
-  abbrev pub count_input : Input P M S G D → List (Happening P M D (Asker S) (Asker G)) → Totals → Totals
+  abbrev pub count_input : Input P M S G D → History P M D (Asker S) (Asker G) → Totals → Totals
   count_input (Arrived p c) past t = count_outcome (outcome s p c.digest past) t
   count_input (Invalid error) past t = record t { receive = added status.Invalid 1 t.receive }
   count_input _ past t = t
 
   -- what a step counts after a history; an end counts nothing
-  abbrev pub count : Step P M D S G → List (Happening P M D (Asker S) (Asker G)) → Totals → Totals
+  abbrev pub count : Step P M D S G → History P M D (Asker S) (Asker G) → Totals → Totals
   count (swept test) past t = record t {
-    subscribe = added Dropped (count_by (λ w. test w.place w.waiter) (waiting s past)) t.subscribe;
+    subscribe = added Dropped (named_by test (waiting s past)) t.subscribe;
     waiters = length (awaited (cleanup test ∷ past));
   }
   count (applied input replies) past t = count_input input past (count_replies replies t)
   count _ past t = t
 
   -- what the steps count
-  abbrev pub counts : List (Step P M D S G) → List (Happening P M D (Asker S) (Asker G)) → Totals → Totals
+  abbrev pub counts : List (Step P M D S G) → History P M D (Asker S) (Asker G) → Totals → Totals
   counts [] past t = t
   counts (step ∷ steps) past t = count step (happenings steps ++ past) (counts steps past t)
 
@@ -140,7 +140,7 @@ module _ {P M D S G : Type 0} (s : Setting P M D) where
   count_peer q (step ∷ steps) n = count_peer q steps n
 
   -- the result of a turn
-  abbrev pub turn_of : Step P M D S G → List (Happening P M D (Asker S) (Asker G)) → Option Turn
+  abbrev pub turn_of : Step P M D S G → History P M D (Asker S) (Asker G) → Option Turn
   turn_of (applied (Peers ps) replies) past = Some turn.Peers
   turn_of (applied (Request request) replies) past = Some (turn_of_request request.message past)
   turn_of (applied (Arrived p c) replies) past = Some (turn.Payload (outcome s p c.digest past))
@@ -149,16 +149,16 @@ module _ {P M D S G : Type 0} (s : Setting P M D) where
   turn_of _ past = None
 
   -- why an input may be refused after a history
-  abbrev pub MayRefuse : Input P M S G D → Cause → List (Happening P M D (Asker S) (Asker G)) → Type 0
+  abbrev pub MayRefuse : Input P M S G D → Cause → History P M D (Asker S) (Asker G) → Type 0
   MayRefuse (Request request) cause past = MayRefuseRequest request.message cause past
   MayRefuse (Arrived p c) Memory past = Unit {0}
   MayRefuse _ cause past = ⊥
 
   -- the replies at an input are those that are due
-  abbrev pub AreDue : List (Happening P M D (Asker S) (Asker G)) → List (Handed S G (Carried M D) (Option (Carried M D)))
-      → List (Happening P M D (Asker S) (Asker G)) → Type 0
+  abbrev pub AreDue : History P M D (Asker S) (Asker G) → List (Replied S G (Carried M D) (Option (Carried M D)))
+      → History P M D (Asker S) (Asker G) → Type 0
   AreDue [] replies past = replies ≡ []
-  AreDue (e ∷ es) replies past = map reply_of replies ≡ due_at s e past
+  AreDue (e ∷ es) replies past = map reply_of replies ≡ handed_at s e past
 
   -- a broadcast that was applied has an encoding
   abbrev pub HasEncoding : Input P M S G D → Type 0
@@ -166,13 +166,13 @@ module _ {P M D S G : Type 0} (s : Setting P M D) where
   HasEncoding _ = Unit {0}
 
   -- a step may follow a history
-  abbrev pub IsStep : (Asker S → Bool → Type 0) → Step P M D S G → List (Happening P M D (Asker S) (Asker G)) → Type 0
+  abbrev pub IsStep : (Asker S → Bool → Type 0) → Step P M D S G → History P M D (Asker S) (Asker G) → Type 0
   IsStep may_answer (swept test) past = AnswersAs may_answer test (waiting s past)
   IsStep may_answer (applied input replies) past = AreDue (happening_of input) replies past × HasEncoding input
   IsStep may_answer (refused input cause) past = MayRefuse input cause past
   IsStep may_answer _ past = Unit {0}
 
   -- each step may follow those before it
-  abbrev pub AreSteps : (Asker S → Bool → Type 0) → List (Step P M D S G) → List (Happening P M D (Asker S) (Asker G)) → Type 0
+  abbrev pub AreSteps : (Asker S → Bool → Type 0) → List (Step P M D S G) → History P M D (Asker S) (Asker G) → Type 0
   AreSteps may_answer [] past = Unit {0}
   AreSteps may_answer (step ∷ steps) past = IsStep may_answer step (happenings steps ++ past) × AreSteps may_answer steps past

@@ -1,4 +1,6 @@
 pub mod Counters
+pub mod Sources
+pub mod Jobs
 pub mod Replies
 pub mod EngineHistory
 pub mod Ran

@@ -1,8 +1,45 @@
-//! Where an engine's messages go.
-ghost use Rattle.std.specs.Prelude.{List, [], ◌∷◌, ◌++◌};
+//! The peers and the network of an engine.
+ghost use Rattle.std.specs.Prelude.{ℕ, List, [], ◌∷◌, ◌++◌};
+ghost use Rattle.futures.specs.Poll.{OnPending};
+ghost use Rattle.futures.specs.Task.{IsArmed, Keeps};
 ghost use Rattle.broadcast_core.specs.declared.event.Sent.{Sent};
+ghost use Rattle.engine_draft.specs.Sources.{given_some, given_ok};
 
-use broadcast_core::ordered::Recipients;
+use broadcast_core::items::Items;
+use broadcast_core::ordered::{PublicKey, Recipients, Set};
+use futures::task::{Context, Poll};
+use thiserror::Error;
+
+/// The error of a receiver that gives no more payloads.
+#[derive(Clone, Copy, Debug, PartialEq, Eq, Error)]
+#[error("the network failed")]
+pub struct NetworkFailed;
+
+/// Gives the primary peers, again at each change.
+pub trait Provider<P: PublicKey> {
+    /// Whether this may be the list of the sets that were given, oldest first.
+    ghost told: { Self → List (List P) → Type 0 };
+
+    /// Returns the next set of primary peers, or `None` once there are no more.
+    fn poll_update(&mut self, cx: &mut Context<'_>) -> Poll<Option<Set<P>>>
+        ensures tells { (sets : List (List P))
+            → told self.old sets → told self.new (sets ++ given_some result) }
+        ensures armed { OnPending result (IsArmed cx.new) }
+        ensures kept { Keeps cx.old cx.new };
+}
+
+/// Receives payloads of peers.
+pub trait Receiver<P> {
+    /// Whether this may be the list of the payloads that were given, oldest first.
+    ghost told: { Self → List (P × List ℕ) → Type 0 };
+
+    /// Returns the next payload with its sender.
+    fn poll_recv(&mut self, cx: &mut Context<'_>) -> Poll<Result<(P, Items<u8>), NetworkFailed>>
+        ensures tells { (payloads : List (P × List ℕ))
+            → told self.old payloads → told self.new (payloads ++ given_ok result) }
+        ensures armed { OnPending result (IsArmed cx.new) }
+        ensures kept { Keeps cx.old cx.new };
+}
 
 /// Sends encoded messages to peers.
 pub trait Sender<P> {

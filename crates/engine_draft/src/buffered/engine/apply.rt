@@ -1,9 +1,9 @@
 //! One input, applied or refused.
 ghost use Rattle.std.specs.Prelude.{◌≡◌, List};
 ghost use Rattle.broadcast_core.specs.Content.{same_by};
-ghost use Rattle.broadcast_core.specs.History.{Setting};
-ghost use Rattle.broadcast_core.specs.Happening.{Happening};
-ghost use Rattle.broadcast_core.specs.Follows.{HasContent};
+ghost use Rattle.broadcast_core.specs.Setting.{Setting};
+ghost use Rattle.broadcast_core.specs.Happening.{History};
+ghost use Rattle.broadcast_core.specs.HasContent.{HasContent};
 ghost use Rattle.engine_draft.specs.declared.buffered.engine.input.Input.TheVariants as input;
 ghost use Rattle.engine_draft.specs.Replies.{Asker};
 ghost use Rattle.engine_draft.specs.Ran.{Applied};
@@ -43,7 +43,7 @@ where
     N: Sender<P>,
     ensures { (s : Setting P M M.Digest) → s.same ≡ same_by P.cmp M.Digest.cmp
         → s.encoding ≡ M.encoding → s.priority ≡ priority
-        → (past : List (Happening P M M.Digest (Asker S) (Asker G))) → HasContent s past node.old.core
+        → (past : History P M M.Digest (Asker S) (Asker G)) → HasContent s past node.old.core
         → Applied s (λ w b. S.may_answer w.responder b) O.told N.told past input
         result node.old node.new sender.old sender.new }
 {
@@ -81,7 +81,7 @@ where
     N: Sender<P>,
     ensures { (s : Setting P M M.Digest) → s.same ≡ same_by P.cmp M.Digest.cmp
         → s.encoding ≡ M.encoding → s.priority ≡ priority
-        → (past : List (Happening P M M.Digest (Asker S) (Asker G))) → HasContent s past node.old.core
+        → (past : History P M M.Digest (Asker S) (Asker G)) → HasContent s past node.old.core
         → Applied s (λ w b. S.may_answer w.responder b) O.told N.told past (input.Request request)
         result node.old node.new sender.old sender.new }
 {

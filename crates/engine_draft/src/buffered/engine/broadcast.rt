@@ -1,9 +1,9 @@
 //! Messages of the node itself.
 ghost use Rattle.std.specs.Prelude.{◌≡◌, ℕ, List, Bool, true, Some, None, is_some, IfOk, Err, ◌↔◌};
 ghost use Rattle.broadcast_core.specs.Content.{same_by};
-ghost use Rattle.broadcast_core.specs.History.{Setting};
-ghost use Rattle.broadcast_core.specs.Happening.{Happening};
-ghost use Rattle.broadcast_core.specs.Follows.{HasContent};
+ghost use Rattle.broadcast_core.specs.Setting.{Setting};
+ghost use Rattle.broadcast_core.specs.Happening.{History};
+ghost use Rattle.broadcast_core.specs.HasContent.{HasContent};
 ghost use Rattle.commonware_broadcast.specs.declared.ingress.message.Message.TheVariants as request;
 ghost use Rattle.engine_draft.specs.declared.buffered.engine.input.Input.TheVariants as input;
 ghost use Rattle.engine_draft.specs.Replies.{Asker};
@@ -40,7 +40,7 @@ where
     N: Sender<P>,
     ensures { (s : Setting P M M.Digest) → s.same ≡ same_by P.cmp M.Digest.cmp
         → s.encoding ≡ M.encoding → s.priority ≡ priority
-        → (past : List (Happening P M M.Digest (Asker S) (Asker G))) → HasContent s past node.old.core
+        → (past : History P M M.Digest (Asker S) (Asker G)) → HasContent s past node.old.core
         → (ticket : ℕ) (counted : Bool)
         → Applied s (λ w b. S.may_answer w.responder b) O.told N.told past
         (input.Request (record { ticket = ticket; message = request.Broadcast recipients message; counted = counted }))

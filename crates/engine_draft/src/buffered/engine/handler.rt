@@ -1,15 +1,15 @@
 //! One input.
-ghost use Rattle.std.specs.Prelude.{◌≡◌, List, [], ◌∷◌, Option, IfOk, OnOk, OnErr, Bool, true, is_some};
+ghost use Rattle.std.specs.Prelude.{◌≡◌, List, [], ◌∷◌, Option, IfOk, OnOk, OnErr, ℕ, Bool, true, is_some};
 ghost use Rattle.broadcast_core.specs.Carried.{Carried};
 ghost use Rattle.broadcast_core.specs.Content.{same_by, message_at};
-ghost use Rattle.broadcast_core.specs.History.{Setting};
-ghost use Rattle.broadcast_core.specs.Happening.{Happening};
-ghost use Rattle.broadcast_core.specs.Follows.{HasContent};
+ghost use Rattle.broadcast_core.specs.Setting.{Setting};
+ghost use Rattle.broadcast_core.specs.Happening.{History};
+ghost use Rattle.broadcast_core.specs.HasContent.{HasContent};
 ghost use Rattle.broadcast_core.specs.Answers.{outcome};
 ghost use Rattle.commonware_broadcast.specs.declared.ingress.message.Message.TheVariants as request;
 ghost use Rattle.engine_draft.specs.declared.buffered.engine.input.Input.TheVariants as input;
-ghost use Rattle.engine_draft.specs.Replies.{Asker, Handed};
-ghost use Rattle.engine_draft.specs.EngineHistory.{Step, applied, count_outcome};
+ghost use Rattle.engine_draft.specs.Replies.{Asker, Replied};
+ghost use Rattle.engine_draft.specs.EngineHistory.{applied, swept, ended, count_outcome};
 ghost use Rattle.engine_draft.specs.Ran.{Steps};
 
 use crate::buffered::engine::node::Node;
@@ -33,7 +33,7 @@ where
     S: Responder<Reply<M>> + Drop,
     O: Outlet<S, G, Reply<M>, Option<Reply<M>>>,
     ensures { (s : Setting P M M.Digest) → s.same ≡ same_by P.cmp M.Digest.cmp
-        → (past : List (Happening P M M.Digest (Asker S) (Asker G))) → HasContent s past node.old.core
+        → (past : History P M M.Digest (Asker S) (Asker G)) → HasContent s past node.old.core
         → Steps s (λ w b. S.may_answer w.responder b) O.told past (applied (input.Peers peers) []) node.old node.new }
 {
     node.core.update_primary_peers(peers);
@@ -51,9 +51,9 @@ where
     M: Digestible,
     S: Responder<Reply<M>> + Drop,
     O: Outlet<S, G, Reply<M>, Option<Reply<M>>>,
-    ensures steps { IfOk result (λ out. (replies : List (Handed S G (Carried M M.Digest) (Option (Carried M M.Digest))))
+    ensures steps { IfOk result (λ out. (replies : List (Replied S G (Carried M M.Digest) (Option (Carried M M.Digest))))
         × ((s : Setting P M M.Digest) → s.same ≡ same_by P.cmp M.Digest.cmp
-        → (past : List (Happening P M M.Digest (Asker S) (Asker G))) → HasContent s past node.old.core
+        → (past : History P M M.Digest (Asker S) (Asker G)) → HasContent s past node.old.core
         → (out ≡ outcome s peer.now message.now.digest past)
         × Steps s (λ w b. S.may_answer w.responder b) O.told past (applied (input.Arrived peer.now message.now) replies) node.old node.new)) }
     ensures unchanged_on_error { OnErr result (node.new ≡ node.old) }
@@ -76,9 +76,9 @@ where
     M: Digestible,
     S: Responder<Reply<M>> + Drop,
     O: Outlet<S, G, Reply<M>, Option<Reply<M>>>,
-    ensures steps { OnOk result ((replies : List (Handed S G (Carried M M.Digest) (Option (Carried M M.Digest))))
+    ensures steps { OnOk result ((replies : List (Replied S G (Carried M M.Digest) (Option (Carried M M.Digest))))
         × ((s : Setting P M M.Digest) → s.same ≡ same_by P.cmp M.Digest.cmp
-        → (past : List (Happening P M M.Digest (Asker S) (Asker G))) → HasContent s past node.old.core
+        → (past : History P M M.Digest (Asker S) (Asker G)) → HasContent s past node.old.core
         → (counted : Bool) → Steps s (λ w b. S.may_answer w.responder b) O.told past
         (applied (input.Request (record { ticket = ticket; message = request.Subscribe digest responder; counted = counted })) replies)
         node.old node.new)) }
@@ -108,9 +108,9 @@ where
     S: Responder<Reply<M>> + Drop,
     G: Drop,
     O: Outlet<S, G, Reply<M>, Option<Reply<M>>>,
-    ensures steps { OnOk result ((replies : List (Handed S G (Carried M M.Digest) (Option (Carried M M.Digest))))
+    ensures steps { OnOk result ((replies : List (Replied S G (Carried M M.Digest) (Option (Carried M M.Digest))))
         × ((s : Setting P M M.Digest) → s.same ≡ same_by P.cmp M.Digest.cmp
-        → (past : List (Happening P M M.Digest (Asker S) (Asker G))) → HasContent s past node.old.core
+        → (past : History P M M.Digest (Asker S) (Asker G)) → HasContent s past node.old.core
         → (counted : Bool) → Steps s (λ w b. S.may_answer w.responder b) O.told past
         (applied (input.Request (record { ticket = ticket; message = request.Get digest responder; counted = counted })) replies)
         node.old node.new)) }
@@ -134,4 +134,35 @@ fn count_received<P: PublicKey>(metrics: &mut Metrics<P>, outcome: Outcome)
         Outcome::Inserted => metrics.count_receive(Status::Success),
         Outcome::Duplicate | Outcome::Ineligible => metrics.count_receive(Status::Dropped),
     }
+}
+
+/// Drops the waiters that answer closed, counts them, and sets the gauge. Does not allocate.
+pub(super) fn cleanup_waiters<P, M, S, G, O>(node: &mut Node<P, M, S, O>)
+where
+    P: PublicKey,
+    M: Digestible,
+    S: Responder<Reply<M>> + Drop,
+    O: Outlet<S, G, Reply<M>, Option<Reply<M>>>,
+    ensures { (s : Setting P M M.Digest) → s.same ≡ same_by P.cmp M.Digest.cmp
+        → (past : History P M M.Digest (Asker S) (Asker G)) → HasContent s past node.old.core
+        → (test : ℕ → Asker S → Bool)
+        × Steps s (λ w b. S.may_answer w.responder b) O.told past (swept test) node.old node.new }
+{
+    let dropped = node.core.cleanup_by();
+    node.metrics.count_subscribe(Status::Dropped, dropped);
+    node.metrics.set_waiters(node.core.awaited() as u64);
+}
+
+/// Drops all waiters. Does not allocate.
+pub(super) fn drop_waiters<P, M, S, G, O>(node: &mut Node<P, M, S, O>)
+where
+    P: PublicKey,
+    M: Digestible,
+    S: Responder<Reply<M>> + Drop,
+    O: Outlet<S, G, Reply<M>, Option<Reply<M>>>,
+    ensures { (s : Setting P M M.Digest) → s.same ≡ same_by P.cmp M.Digest.cmp
+        → (past : History P M M.Digest (Asker S) (Asker G)) → HasContent s past node.old.core
+        → Steps s (λ w b. S.may_answer w.responder b) O.told past ended node.old node.new }
+{
+    node.core.clear_waiters();
 }

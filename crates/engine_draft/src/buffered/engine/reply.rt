@@ -2,7 +2,8 @@
 ghost use Rattle.std.specs.Prelude.{◌≡◌, Bool, List, [], ◌∷◌, map, Option, length, IfOk, ◌≤◌};
 ghost use Rattle.std.specs.List.{All};
 ghost use Rattle.broadcast_core.specs.Carried.{Carried};
-ghost use Rattle.engine_draft.specs.Replies.{Handed, subscribed, got, reply_of, to_subscribe};
+ghost use Rattle.broadcast_core.specs.Handed.{to_subscribe};
+ghost use Rattle.engine_draft.specs.Replies.{Replied, subscribed, got, reply_of};
 ghost use Rattle.engine_draft.specs.Handing.{Hands};
 
 use crate::buffered::engine::waiter::Waiter;
@@ -93,7 +94,7 @@ pub(super) fn respond_waiters<P, M, S, G, O>(
     S: Drop,
     requires { length copies.items ≡ length waiters }
     ensures { (message : Carried M M.Digest) → All (λ copy. copy ≡ message) copies.items
-        → (replies : List (Handed S G (Carried M M.Digest) (Option (Carried M M.Digest))))
+        → (replies : List (Replied S G (Carried M M.Digest) (Option (Carried M M.Digest))))
         × (map reply_of replies ≡ map (λ w. to_subscribe w message) waiters)
         × Hands O.told outlet.old metrics.old replies outlet.new metrics.new }
 {

@@ -1,5 +1,5 @@
 use Rattle.std.proofs.Common.{[], Some, refl, sym, ap}
-use Rattle.std.specs.Cmp.{eq_by_cmp_equiv}
+use Rattle.broadcast_core.proofs.Lawful.{same_by-lawful}
 use Rattle.broadcast_core.specs.declared.event.Cause.TheVariants.{Memory}
 use Rattle.engine_draft.specs.declared.buffered.engine.input.Input.TheVariants.{Peers, Arrived, Invalid}
 use Rattle.engine_draft.specs.declared.buffered.engine.input.Turn.TheVariants as turn
@@ -29,8 +29,7 @@ returns-in-Arrived g c = λ s e encoding priority past has.
 
 pub returns : goal.returns
 returns g c = λ s e encoding priority past has.
-    let key = eq_by_cmp_equiv (g.met.P.Ord g.world.𝓛 g.world.𝓜 g.world.𝓡 (λ s x. x, λ x. x, λ x. x, λ x. x)).total in
-    let digest = eq_by_cmp_equiv (g.met.M.Digest.Ord g.world.𝓛 g.world.𝓜 g.world.𝓡 (λ s x. x, λ x. x, λ x. x, λ x. x)).total in
+    let lawful = same_by-lawful (g.met.P.Ord g.world.𝓛 g.world.𝓜 g.world.𝓡 (λ s x. x, λ x. x, λ x. x, λ x. x)).total (g.met.M.Digest.Ord g.world.𝓛 g.world.𝓜 g.world.𝓡 (λ s x. x, λ x. x, λ x. x, λ x. x)).total in
     rw c.in-Invalid.is (Applied-silent s (λ w b. g.S.Responder.may_answer w.responder b) g.O.Outlet.told g.N.Sender.told past (Invalid c.in-Invalid.error) [] (turn.Invalid c.in-Invalid.error)
     c.args.node.now (record c.args.node.now { metrics = c.count_receive.new.self }) c.args.sender.now
-    (Steps-invalid s _ e key digest (λ w b. g.S.Responder.may_answer w.responder b) g.O.Outlet.told past c.args.node.now has c.in-Invalid.error c.count_receive.new.self c.count_receive.ensures) refl refl)
+    (Steps-invalid e lawful (λ w b. g.S.Responder.may_answer w.responder b) g.O.Outlet.told past c.args.node.now has c.in-Invalid.error c.count_receive.new.self c.count_receive.ensures) refl refl)

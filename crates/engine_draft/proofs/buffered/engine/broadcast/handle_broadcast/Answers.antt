@@ -1,5 +1,5 @@
 use Rattle.std.proofs.Common.{◌≡◌, Bool, true, Some, Err, is_some, refl, sym, ap, ◌∙◌}
-use Rattle.std.specs.Cmp.{eq_by_cmp_equiv}
+use Rattle.broadcast_core.proofs.Lawful.{same_by-lawful}
 use Rattle.broadcast_core.specs.declared.event.Cause.TheVariants.{Memory}
 use Rattle.commonware_broadcast.specs.declared.ingress.message.Message.TheVariants.{Broadcast}
 use Rattle.engine_draft.specs.declared.buffered.engine.input.Input.TheVariants.{Request}
@@ -17,12 +17,11 @@ returns-in-Err g c = λ s e encoding priority past has ticket counted.
 
 pub returns-in-Ok-take_own : goal.returns-in-Ok-take_own
 returns-in-Ok-take_own g c = λ s e encoding priority past has ticket counted.
-    let key = eq_by_cmp_equiv (g.met.P.Ord g.world.𝓛 g.world.𝓜 g.world.𝓡 (λ s x. x, λ x. x, λ x. x, λ x. x)).total in
-    let digest = eq_by_cmp_equiv (g.met.M.Digest.Ord g.world.𝓛 g.world.𝓜 g.world.𝓡 (λ s x. x, λ x. x, λ x. x, λ x. x)).total in
+    let lawful = same_by-lawful (g.met.P.Ord g.world.𝓛 g.world.𝓜 g.world.𝓡 (λ s x. x, λ x. x, λ x. x, λ x. x)).total (g.met.M.Digest.Ord g.world.𝓛 g.world.𝓜 g.world.𝓡 (λ s x. x, λ x. x, λ x. x, λ x. x)).total in
     let m = c.args.message in
     let spelled : s.encoding m.message ≡ Some c.in-Ok.bytes.items = ap (λ f. f m.message) encoding ∙ c.in-Ok.ensures.ok in
     let serves = c.in-Ok-take_own.ensures.serves in
-    let step = Steps-broadcast s _ e key digest (λ w b. g.S.Responder.may_answer w.responder b) g.O.Outlet.told past c.args.node.now has c.args.recipients m ticket counted
+    let step = Steps-broadcast e lawful (λ w b. g.S.Responder.may_answer w.responder b) g.O.Outlet.told past c.args.node.now has c.args.recipients m ticket counted
     c.take_own.new.node c.in-Ok-take_own.outcome serves.0 serves.1 c.in-Ok-take_own.ensures.outcome (ap is_some spelled) in
     Applied-broadcast s (λ w b. g.S.Responder.may_answer w.responder b) g.O.Outlet.told g.N.Sender.told past c.args.recipients m ticket counted c.in-Ok.bytes.items c.args.priority
     c.in-Ok-take_own.outcome serves.0 c.args.node.now c.take_own.new.node c.args.sender.now c.send.new.self step.1 step.0 spelled priority c.send.ensures

@@ -1,5 +1,5 @@
 use Rattle.std.proofs.Common.{◌≡◌, ◌∷◌, Some, [], sym, ap, ◌∙◌}
-use Rattle.std.specs.Cmp.{eq_by_cmp_equiv}
+use Rattle.broadcast_core.proofs.Lawful.{same_by-lawful}
 use Rattle.std.specs.Option.{option_copied}
 use Rattle.broadcast_core.specs.Content.{same_by, message_at}
 use Rattle.engine_draft.specs.Replies.{got}
@@ -17,7 +17,6 @@ returns-clause-steps g c =
       | in-None w ↦ w.found-is ∙ ap option_copied (sym w.in-None.is) ∙ c.get.ensures.message
     ] in
     (got (record { ticket = c.args.ticket; responder = c.args.responder }) c.match-get.found handed.0 ∷ [], λ s e past has counted.
-    let key = eq_by_cmp_equiv (g.met.P.Ord g.world.𝓛 g.world.𝓜 g.world.𝓡 (λ s x. x, λ x. x, λ x. x, λ x. x)).total in
-    let digest = eq_by_cmp_equiv (g.met.M.Digest.Ord g.world.𝓛 g.world.𝓜 g.world.𝓡 (λ s x. x, λ x. x, λ x. x, λ x. x)).total in
-    Steps-got s same e key digest (λ w b. g.S.Responder.may_answer w.responder b) g.O.Outlet.told past c.args.node.now has
+    let lawful = same_by-lawful (g.met.P.Ord g.world.𝓛 g.world.𝓜 g.world.𝓡 (λ s x. x, λ x. x, λ x. x, λ x. x)).total (g.met.M.Digest.Ord g.world.𝓛 g.world.𝓜 g.world.𝓡 (λ s x. x, λ x. x, λ x. x, λ x. x)).total in
+    Steps-got e lawful (λ w b. g.S.Responder.may_answer w.responder b) g.O.Outlet.told past c.args.node.now has
     (record { ticket = c.args.ticket; responder = c.args.responder }) c.args.digest handed.0 counted c.match-get.found c.respond_get.new.outlet c.respond_get.new.metrics found handed.1)

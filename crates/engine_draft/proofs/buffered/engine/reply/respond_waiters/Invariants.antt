@@ -12,5 +12,5 @@ invariant-loop-waiter g l = record {
   enough : length l.copies.items ≡ length (into_iter_items l.waiter-iterator);
   equal : (message : Carried g.row.M.Denot g.row.M-Digest.Denot) → All (λ copy. copy ≡ message) l.fn.copies.items → All (λ copy. copy ≡ message) l.copies.items;
   handed : (message : Carried g.row.M.Denot g.row.M-Digest.Denot) → All (λ copy. copy ≡ message) l.fn.copies.items
-      → AllHanded {P = g.row.P.Denot} {S = g.row.S.Denot} {G = g.row.G.Denot} {C = Carried g.row.M.Denot g.row.M-Digest.Denot} {O = g.row.O.Denot} g.O.Outlet.told message l.yielded l.fn.outlet l.fn.metrics l.outlet l.metrics;
+      → AllHanded {P = g.row.P.Denot} {M = g.row.M.Denot} {D = g.row.M-Digest.Denot} {S = g.row.S.Denot} {G = g.row.G.Denot} {O = g.row.O.Denot} g.O.Outlet.told message l.yielded l.fn.outlet l.fn.metrics l.outlet l.metrics;
 }

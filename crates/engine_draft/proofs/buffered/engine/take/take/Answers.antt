@@ -1,5 +1,5 @@
 use Rattle.std.proofs.Common.{map, ap, ◌∙◌}
-use Rattle.engine_draft.specs.Replies.{to_subscribe}
+use Rattle.broadcast_core.specs.Handed.{to_subscribe}
 use Rattle.engine_draft.proofs.buffered.engine.take.take.Goals as goal
 
 pub returns-clause-serves : goal.returns-clause-serves
