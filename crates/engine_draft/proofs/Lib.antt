@@ -3,3 +3,4 @@ pub mod Handing
 pub mod EngineSteps
 pub mod Runs
 pub mod Composing
+pub mod Polling

@@ -5,3 +5,4 @@ pub mod Replies
 pub mod EngineHistory
 pub mod Ran
 pub mod Handing
+pub mod Polled

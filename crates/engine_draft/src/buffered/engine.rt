@@ -4,8 +4,9 @@ mod broadcast;
 mod handler;
 mod input;
 mod node;
+mod poll;
 mod reply;
 mod take;
 mod waiter;
 
-pub use input::{Input, Request, Turn};
+pub use input::{EndCause, Input, Request, Turn};

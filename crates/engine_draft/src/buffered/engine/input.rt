@@ -48,3 +48,14 @@ pub enum Turn {
     /// The input was refused, and changed nothing.
     Refused(Cause),
 }
+
+/// Why an engine ended.
+#[derive(Clone, Copy, Debug, PartialEq, Eq)]
+pub enum EndCause {
+    /// The engine was asked to stop.
+    Stopped,
+    /// There are no more peer sets.
+    PeersClosed,
+    /// The receiver failed.
+    NetworkFailed,
+}

@@ -1,0 +1,59 @@
+-- What a poll of an engine does.
+use Rattle.std.specs.Prelude.{◌≡◌, Bool, List, [], ◌∷◌, ◌++◌, Option, Some, Result, Ok, Err}
+use Rattle.futures.specs.declared.task.Poll.{Poll}
+use Rattle.futures.specs.declared.task.Poll.TheVariants.{Ready, Pending}
+use Rattle.broadcast_core.specs.Carried.{Carried}
+use Rattle.broadcast_core.specs.Setting.{Setting}
+use Rattle.broadcast_core.specs.Happening.{History}
+use Rattle.broadcast_core.specs.declared.event.Sent.{Sent}
+use Rattle.commonware_broadcast.specs.declared.ingress.message.Message.{Message}
+use Rattle.engine_draft.specs.declared.buffered.engine.input.EndCause.{EndCause}
+use Rattle.engine_draft.specs.declared.buffered.engine.input.Input.{Input}
+use Rattle.engine_draft.specs.declared.buffered.engine.input.Input.TheVariants as input
+use Rattle.engine_draft.specs.declared.buffered.engine.input.Request.{Request}
+use Rattle.engine_draft.specs.declared.buffered.engine.input.Turn.{Turn}
+use Rattle.engine_draft.specs.declared.buffered.engine.node.Node.{Node}
+use Rattle.engine_draft.specs.Replies.{Asker, Replied}
+use Rattle.engine_draft.specs.EngineHistory.{Step, applied, refused, happenings, turn_of}
+use Rattle.engine_draft.specs.Ran.{Ran}
+
+module _ {P M D S G : Type 0} where
+  -- the input of a step
+  abbrev pub inputs_at : Step P M D S G → List (Input P M S G D)
+  inputs_at (applied i replies) = i ∷ []
+  inputs_at (refused i cause) = i ∷ []
+  inputs_at _ = []
+
+  -- the inputs of steps, refused ones too, the oldest first
+  abbrev pub inputs : List (Step P M D S G) → List (Input P M S G D)
+  inputs [] = []
+  inputs (step ∷ steps) = inputs steps ++ inputs_at step
+
+  abbrev pub sets_in : List (Input P M S G D) → List (List P)
+  sets_in [] = []
+  sets_in (input.Peers ps ∷ is) = ps ∷ sets_in is
+  sets_in (_ ∷ is) = sets_in is
+
+  abbrev pub requests_in : List (Input P M S G D) → List (Request (Message P M S G D))
+  requests_in [] = []
+  requests_in (input.Request request ∷ is) = request ∷ requests_in is
+  requests_in (_ ∷ is) = requests_in is
+
+  -- a poll that is ready ends with the step of its turn; one that is pending, or ends the engine, has no input
+  abbrev pub Ends : Setting P M D → Poll (Result Turn EndCause) → List (Step P M D S G) → History P M D (Asker S) (Asker G) → Type 0
+  Ends s (Ready (Ok turn)) [] past = ⊥
+  Ends s (Ready (Ok turn)) (step ∷ steps) past = (turn_of s step (happenings steps ++ past) ≡ Some turn) × (inputs steps ≡ [])
+  Ends s _ steps past = inputs steps ≡ []
+
+module _ {P M D S G O N B Q : Type 0} (s : Setting P M D) (may_answer : Asker S → Bool → Type 0)
+    (outlet_told : O → List (Replied S G (Carried M D) (Option (Carried M D))) → Type 0) (sender_told : N → List (Sent P) → Type 0)
+    (provider_told : B → List (List P) → Type 0) (requests_told : Q → List (Request (Message P M S G D)) → Type 0) where
+  -- after a history, a poll of the peer sets and the requests took these steps
+  pub record Polled (past : History P M D (Asker S) (Asker G)) (result : Poll (Result Turn EndCause)) (old new : Node P M S O D) (old_sender new_sender : N)
+      (old_provider new_provider : B) (old_requests new_requests : Q) : Type 0 where
+    pub steps : List (Step P M D S G)
+    pub ran : Ran s may_answer outlet_told sender_told past steps old new old_sender new_sender
+    pub turn : Ends s result steps past
+    -- its peer sets and requests are those that were given
+    pub sets : (before : List (List P)) → provider_told old_provider before → provider_told new_provider (before ++ sets_in (inputs steps))
+    pub requests : (before : List (Request (Message P M S G D))) → requests_told old_requests before → requests_told new_requests (before ++ requests_in (inputs steps))
