@@ -1,10 +1,14 @@
 -- One poll.
-use Rattle.std.proofs.Common.{◌≡◌, ℕ, Bool, List, [], ◌∷◌, ◌++◌, Option, Result, refl, sym, ap, subst, append-nil}
+use Rattle.std.proofs.Common.{◌≡◌, ℕ, ◌+◌, Bool, if◌then◌else◌, List, [], ◌∷◌, ◌++◌, Option, Some, None, Result, refl, sym, ap, subst, append-nil}
+use Rattle.futures.specs.Poll.{IfReady, OnPending}
 use Rattle.futures.specs.declared.task.Poll.{Poll}
 use Rattle.futures.specs.declared.task.Poll.TheVariants.{Ready, Pending}
 use Rattle.std.specs.Prelude.{Ok, Err}
 use Rattle.broadcast_core.specs.Carried.{Carried}
-use Rattle.broadcast_core.specs.Setting.{Setting}
+use Rattle.broadcast_core.specs.Setting.{Setting, own_digested}
+use Rattle.broadcast_core.specs.Content.{Same}
+use Rattle.broadcast_core.specs.HasContent.{HasContent}
+use Rattle.broadcast_core.specs.Waiters.{counted}
 use Rattle.broadcast_core.specs.Happening.{History, cleanup}
 use Rattle.broadcast_core.specs.declared.event.Sent.{Sent}
 use Rattle.commonware_broadcast.specs.declared.ingress.message.Message.{Message}
@@ -13,29 +17,38 @@ use Rattle.engine_draft.specs.declared.buffered.engine.input.Input.{Input}
 use Rattle.engine_draft.specs.declared.buffered.engine.input.Request.{Request}
 use Rattle.engine_draft.specs.declared.buffered.engine.input.Turn.{Turn}
 use Rattle.engine_draft.specs.declared.buffered.engine.node.Node.{Node}
+use Rattle.engine_draft.specs.declared.buffered.engine.input.Input.TheVariants as input
+use Rattle.engine_draft.specs.Counters.{Counters, count_of}
 use Rattle.engine_draft.specs.Replies.{Asker, Replied}
 use Rattle.engine_draft.specs.EngineHistory.{Step, swept, applied, refused, decoded, ended}
 use Rattle.engine_draft.specs.Ran.{Steps, Ran, Applied, IsOf}
-use Rattle.engine_draft.specs.Polled.{Polled, Ends, inputs_at, sets_in, requests_in}
+use Rattle.engine_draft.specs.Polled.{Polled, Ends, Started, inputs_at, sets_in, requests_in}
 use Rattle.engine_draft.proofs.Runs.{Ran-one}
 use Rattle.engine_draft.proofs.Composing.{Ran-more}
+
+-- what is ready meets what follows from what it met
+pub IfReady-weaker : {A : Type 0} (r : Poll A) (X Y : A → Type 0) → ((a : A) → X a → Y a) → IfReady r X → IfReady r Y
+IfReady-weaker (Ready a) X Y f h = f a h
+IfReady-weaker Pending X Y f h = tt
 
 -- a source that gave nothing
 pub told-same : {X A : Type 0} (told : X → List A → Type 0) (x : X) (before : List A) → told x before → told x (before ++ [])
 told-same told x before h = subst (told x) (sym (append-nil before)) h
 
-module _ {P M D S G O N B Q : Type 0} (s : Setting P M D) (may_answer : Asker S → Bool → Type 0)
-    (outlet_told : O → List (Replied S G (Carried M D) (Option (Carried M D))) → Type 0) (sender_told : N → List (Sent P) → Type 0)
-    (provider_told : B → List (List P) → Type 0) (requests_told : Q → List (Request (Message P M S G D)) → Type 0)
-    (past : History P M D (Asker S) (Asker G)) (old mid : Node P M S O D) (sender : N)
-    (test : ℕ → Asker S → Bool) (cleaned : Steps s may_answer outlet_told past (swept test) old mid) where
-  input-at : (input : Input P M S G D) (step : Step P M D S G) → IsOf s may_answer outlet_told sender_told input step → inputs_at step ≡ input ∷ []
+module _ {P M D S G O N : Type 0} (s : Setting P M D) (may_answer : Asker S → Bool → Type 0)
+    (outlet_told : O → List (Replied S G (Carried M D) (Option (Carried M D))) → Type 0) (sender_told : N → List (Sent P) → Type 0) where
+  pub input-at : (input : Input P M S G D) (step : Step P M D S G) → IsOf s may_answer outlet_told sender_told input step → inputs_at step ≡ input ∷ []
   input-at input (applied given replies) h = ap (λ i. i ∷ []) h
   input-at input (refused given cause) h = ap (λ i. i ∷ []) h
   input-at input (swept other) h = absurd h
   input-at input (decoded p) h = absurd h
   input-at input ended h = absurd h
 
+module _ {P M D S G O N B Q : Type 0} (s : Setting P M D) (may_answer : Asker S → Bool → Type 0)
+    (outlet_told : O → List (Replied S G (Carried M D) (Option (Carried M D))) → Type 0) (sender_told : N → List (Sent P) → Type 0)
+    (provider_told : B → List (List P) → Type 0) (requests_told : Q → List (Request (Message P M S G D)) → Type 0)
+    (past : History P M D (Asker S) (Asker G)) (old mid : Node P M S O D) (sender : N)
+    (test : ℕ → Asker S → Bool) (cleaned : Steps s may_answer outlet_told past (swept test) old mid) where
   cleaning : Ran s may_answer outlet_told sender_told past (swept test ∷ []) old mid sender sender
   cleaning = Ran-one s may_answer outlet_told sender_told past (swept test) old mid sender sender cleaned (λ q n. refl) (λ before h. told-same sender_told sender before h)
 
@@ -53,7 +66,7 @@ module _ {P M D S G O N B Q : Type 0} (s : Setting P M D) (may_answer : Asker S 
       → ((before : List (Request (Message P M S G D))) → requests_told requests before → requests_told requests' (before ++ requests_in (input ∷ [])))
       → Polled s may_answer outlet_told sender_told provider_told requests_told past (Ready (Ok turn)) old new sender last provider provider' requests requests'
   Polled-input input turn new last provider provider' requests requests' one sets asked =
-      let is : inputs_at one.step ≡ input ∷ [] = input-at input one.step one.of_input in
+      let is : inputs_at one.step ≡ input ∷ [] = input-at s may_answer outlet_told sender_told input one.step one.of_input in
       record {
         steps = one.step ∷ swept test ∷ [];
         ran = Ran-more s may_answer outlet_told sender_told past (swept test ∷ []) (one.step ∷ []) old mid new sender sender last cleaning one.ran;
@@ -61,3 +74,61 @@ module _ {P M D S G O N B Q : Type 0} (s : Setting P M D) (may_answer : Asker S 
         sets = λ before h. subst (λ is. provider_told provider' (before ++ sets_in is)) (sym is) (sets before h);
         requests = λ before h. subst (λ is. requests_told requests' (before ++ requests_in is)) (sym is) (asked before h);
       }
+
+module _ {P M D S G O N J : Type 0} (s : Setting P M D) (may_answer : Asker S → Bool → Type 0)
+    (outlet_told : O → List (Replied S G (Carried M D) (Option (Carried M D))) → Type 0) (sender_told : N → List (Sent P) → Type 0)
+    (is_of : J → M → Type 0) (past : History P M D (Asker S) (Asker G)) (p : P) (m : M) where
+  -- a payload was decoded, and counted
+  pub Ran-decoded : {same : Same P D} (is : s.same ≡ same) (old : Node P M S O D) (counters : Counters P) (sender : N) → HasContent s past old.core
+      → ((q : P) → count_of same.key q counters.peer ≡ (if same.key p q then counted (count_of same.key q old.metrics.peer + 1) else count_of same.key q old.metrics.peer))
+      → counters.totals ≡ old.metrics.totals → Ran s may_answer outlet_told sender_told past (decoded p ∷ []) old (record old { metrics = counters }) sender sender
+  Ran-decoded is old counters sender has one stays = record {
+    lawful = (tt, tt);
+    content = has;
+    totals = stays;
+    peers = λ q. subst (λ a. count_of a.key q counters.peer ≡ (if a.key p q then counted (count_of a.key q old.metrics.peer + 1) else count_of a.key q old.metrics.peer)) (sym is) (one q);
+    replied = λ before h. told-same outlet_told old.outlet before h;
+    sends = λ before h. told-same sender_told sender before h;
+  }
+
+  -- it was refused before it was counted
+  pub Started-uncounted : (turn : Turn) (old new : Node P M S O D) (first last : N) → Applied s may_answer outlet_told sender_told past (input.Arrived p (own_digested s m)) turn old new first last
+      → Started s may_answer outlet_told sender_told is_of past p m (Ready turn) old new first last None
+  Started-uncounted turn old new first last one = record {
+    steps = one.step ∷ [];
+    ran = one.ran;
+    arrives = (one.turned, input-at s may_answer outlet_told sender_told (input.Arrived p (own_digested s m)) one.step one.of_input, refl);
+  }
+
+  -- it was applied or refused after that
+  pub Started-ready : (turn : Turn) (old mid new : Node P M S O D) (first last : N) (slot : Option (P × J)) → Ran s may_answer outlet_told sender_told past (decoded p ∷ []) old mid first first
+      → Applied s may_answer outlet_told sender_told past (input.Arrived p (own_digested s m)) turn mid new first last → slot ≡ None
+      → Started s may_answer outlet_told sender_told is_of past p m (Ready turn) old new first last slot
+  Started-ready turn old mid new first last slot began one none = record {
+    steps = one.step ∷ decoded p ∷ [];
+    ran = Ran-more s may_answer outlet_told sender_told past (decoded p ∷ []) (one.step ∷ []) old mid new first first last began one.ran;
+    arrives = (one.turned, input-at s may_answer outlet_told sender_told (input.Arrived p (own_digested s m)) one.step one.of_input, none);
+  }
+
+  -- its job is pending
+  pub Started-pending : (old mid new : Node P M S O D) (first last : N) (slot : Option (P × J)) → Ran s may_answer outlet_told sender_told past (decoded p ∷ []) old mid first first
+      → new ≡ mid → last ≡ first → ((job : J) × (slot ≡ Some (p, job)) × is_of job m)
+      → Started s may_answer outlet_told sender_told is_of past p m Pending old new first last slot
+  Started-pending old mid new first last slot began same_node same_sender job = record {
+    steps = decoded p ∷ [];
+    ran = subst (λ n. Ran s may_answer outlet_told sender_told past (decoded p ∷ []) old n first last) (sym same_node)
+        (subst (λ n. Ran s may_answer outlet_told sender_told past (decoded p ∷ []) old mid first n) (sym same_sender) began);
+    arrives = (refl, job);
+  }
+
+  -- what a polled job comes to
+  pub Started-polled : (result : Poll Turn) (digest_of : M → D) → s.digest_of ≡ digest_of → (old mid new : Node P M S O D) (first last : N) (slot : Option (P × J))
+      → Ran s may_answer outlet_told sender_told past (decoded p ∷ []) old mid first first
+      → IfReady result (λ turn. Applied s may_answer outlet_told sender_told past (input.Arrived p (record { message = m; digest = digest_of m })) turn mid new first last)
+      → IfReady result (λ turn. slot ≡ None) → OnPending result ((job : J) × (slot ≡ Some (p, job)) × is_of job m)
+      → OnPending result ((new ≡ mid) × (last ≡ first))
+      → Started s may_answer outlet_told sender_told is_of past p m result old new first last slot
+  Started-polled (Ready turn) digest_of own old mid new first last slot began one none job same =
+      Started-ready turn old mid new first last slot began
+      (subst (λ f. Applied s may_answer outlet_told sender_told past (input.Arrived p (record { message = m; digest = f m })) turn mid new first last) (sym own) one) none
+  Started-polled Pending digest_of own old mid new first last slot began one none job same = Started-pending old mid new first last slot began same.0 same.1 job

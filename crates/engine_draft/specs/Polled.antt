@@ -1,9 +1,9 @@
 -- What a poll of an engine does.
-use Rattle.std.specs.Prelude.{◌≡◌, Bool, List, [], ◌∷◌, ◌++◌, Option, Some, Result, Ok, Err}
+use Rattle.std.specs.Prelude.{◌≡◌, Bool, List, [], ◌∷◌, ◌++◌, Option, Some, None, Result, Ok, Err}
 use Rattle.futures.specs.declared.task.Poll.{Poll}
 use Rattle.futures.specs.declared.task.Poll.TheVariants.{Ready, Pending}
 use Rattle.broadcast_core.specs.Carried.{Carried}
-use Rattle.broadcast_core.specs.Setting.{Setting}
+use Rattle.broadcast_core.specs.Setting.{Setting, own_digested}
 use Rattle.broadcast_core.specs.Happening.{History}
 use Rattle.broadcast_core.specs.declared.event.Sent.{Sent}
 use Rattle.commonware_broadcast.specs.declared.ingress.message.Message.{Message}
@@ -57,3 +57,19 @@ module _ {P M D S G O N B Q : Type 0} (s : Setting P M D) (may_answer : Asker S 
     -- its peer sets and requests are those that were given
     pub sets : (before : List (List P)) → provider_told old_provider before → provider_told new_provider (before ++ sets_in (inputs steps))
     pub requests : (before : List (Request (Message P M S G D))) → requests_told old_requests before → requests_told new_requests (before ++ requests_in (inputs steps))
+
+module _ {P M D S G O N J : Type 0} (s : Setting P M D) (may_answer : Asker S → Bool → Type 0)
+    (outlet_told : O → List (Replied S G (Carried M D) (Option (Carried M D))) → Type 0) (sender_told : N → List (Sent P) → Type 0)
+    (is_of : J → M → Type 0) where
+  -- a ready poll ends with the step of the message that arrived; the message of a pending one is that of the job
+  abbrev pub Arrives : P → M → Poll Turn → List (Step P M D S G) → History P M D (Asker S) (Asker G) → Option (P × J) → Type 0
+  Arrives p m (Ready turn) [] past slot = ⊥
+  Arrives p m (Ready turn) (step ∷ steps) past slot = (turn_of s step (happenings steps ++ past) ≡ Some turn)
+      × (inputs (step ∷ steps) ≡ input.Arrived p (own_digested s m) ∷ []) × (slot ≡ None)
+  Arrives p m Pending steps past slot = (inputs steps ≡ []) × ((job : J) × (slot ≡ Some (p, job)) × is_of job m)
+
+  -- after a history, a message that was decoded was digested by these steps
+  pub record Started (past : History P M D (Asker S) (Asker G)) (p : P) (m : M) (result : Poll Turn) (old new : Node P M S O D) (old_sender new_sender : N) (slot : Option (P × J)) : Type 0 where
+    pub steps : List (Step P M D S G)
+    pub ran : Ran s may_answer outlet_told sender_told past steps old new old_sender new_sender
+    pub arrives : Arrives p m result steps past slot

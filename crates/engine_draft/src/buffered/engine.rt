@@ -3,6 +3,7 @@ mod apply;
 mod broadcast;
 mod handler;
 mod input;
+mod job;
 mod node;
 mod poll;
 mod reply;
