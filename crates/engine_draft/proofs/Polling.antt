@@ -1,5 +1,5 @@
 -- One poll.
-use Rattle.std.proofs.Common.{◌≡◌, ℕ, ◌+◌, Bool, if◌then◌else◌, List, [], ◌∷◌, ◌++◌, Option, Some, None, Result, refl, sym, ap, subst, append-nil}
+use Rattle.std.proofs.Common.{◌≡◌, ℕ, ◌+◌, Bool, if◌then◌else◌, List, [], ◌∷◌, ◌++◌, Option, Some, None, Result, true, false, is_ok, refl, sym, ap, ◌∙◌, subst, append-nil}
 use Rattle.futures.specs.Poll.{IfReady, OnPending}
 use Rattle.futures.specs.declared.task.Poll.{Poll}
 use Rattle.futures.specs.declared.task.Poll.TheVariants.{Ready, Pending}
@@ -10,20 +10,23 @@ use Rattle.broadcast_core.specs.Content.{Same}
 use Rattle.broadcast_core.specs.HasContent.{HasContent}
 use Rattle.broadcast_core.specs.Waiters.{counted}
 use Rattle.broadcast_core.specs.Happening.{History, cleanup}
+use Rattle.broadcast_core.specs.declared.codec.CodecError.{CodecError}
+use Rattle.broadcast_core.specs.declared.event.Cause.TheVariants.{Memory}
 use Rattle.broadcast_core.specs.declared.event.Sent.{Sent}
 use Rattle.commonware_broadcast.specs.declared.ingress.message.Message.{Message}
 use Rattle.engine_draft.specs.declared.buffered.engine.input.EndCause.{EndCause}
 use Rattle.engine_draft.specs.declared.buffered.engine.input.Input.{Input}
 use Rattle.engine_draft.specs.declared.buffered.engine.input.Request.{Request}
 use Rattle.engine_draft.specs.declared.buffered.engine.input.Turn.{Turn}
+use Rattle.engine_draft.specs.declared.buffered.engine.input.Turn.TheVariants as turn
 use Rattle.engine_draft.specs.declared.buffered.engine.node.Node.{Node}
 use Rattle.engine_draft.specs.declared.buffered.engine.input.Input.TheVariants as input
 use Rattle.engine_draft.specs.Counters.{Counters, count_of}
 use Rattle.engine_draft.specs.Replies.{Asker, Replied}
 use Rattle.engine_draft.specs.EngineHistory.{Step, swept, applied, refused, decoded, ended}
 use Rattle.engine_draft.specs.Ran.{Steps, Ran, Applied, IsOf}
-use Rattle.engine_draft.specs.Polled.{Polled, Ends, Started, inputs_at, sets_in, requests_in}
-use Rattle.engine_draft.proofs.Runs.{Ran-one}
+use Rattle.engine_draft.specs.Polled.{Polled, Ends, Started, Received, Arrives, Comes, payload_input, inputs_at, sets_in, requests_in}
+use Rattle.engine_draft.proofs.Runs.{Ran-one, Applied-refused}
 use Rattle.engine_draft.proofs.Composing.{Ran-more}
 
 -- what is ready meets what follows from what it met
@@ -132,3 +135,44 @@ module _ {P M D S G O N J : Type 0} (s : Setting P M D) (may_answer : Asker S �
       Started-ready turn old mid new first last slot began
       (subst (λ f. Applied s may_answer outlet_told sender_told past (input.Arrived p (record { message = m; digest = f m })) turn mid new first last) (sym own) one) none
   Started-polled Pending digest_of own old mid new first last slot began one none job same = Started-pending old mid new first last slot began same.0 same.1 job
+
+  comes : (read : Result M CodecError) → read ≡ Ok m → (result : Poll Turn) (steps : List (Step P M D S G)) (slot : Option (P × J))
+      → Arrives s may_answer outlet_told sender_told is_of p m result steps past slot → Comes s may_answer outlet_told sender_told is_of p read result steps past slot
+  comes read is (Ready turn) [] slot a = absurd a
+  comes read is (Ready turn) (step ∷ steps) slot a = (a.0, a.1 ∙ ap (λ r. payload_input s may_answer outlet_told sender_told is_of p r ∷ []) (sym is), a.2)
+  comes read is Pending steps slot a = (m, is, a.0, a.1)
+
+  -- a payload that reads whole as the message
+  pub Received-started : (bytes : List ℕ) (result : Poll Turn) (old new : Node P M S O D) (first last : N) (slot : Option (P × J)) → s.reading bytes ≡ Ok m
+      → Started s may_answer outlet_told sender_told is_of past p m result old new first last slot
+      → Received s may_answer outlet_told sender_told is_of past p bytes result old new first last slot
+  Received-started bytes result old new first last slot is started = record { steps = started.steps; ran = started.ran; comes = comes (s.reading bytes) is result started.steps slot started.arrives }
+
+-- what reads whole reads as some message
+pub some_ok : {M E : Type 0} (r : Result M E) → is_ok r ≡ true → (m : M) × (r ≡ Ok m)
+some_ok (Ok m) h = (m, refl)
+some_ok (Err e) h = absurd (let no : false ≡ true = h in cc)
+
+module _ {P M D S G O N J : Type 0} (s : Setting P M D) (may_answer : Asker S → Bool → Type 0)
+    (outlet_told : O → List (Replied S G (Carried M D) (Option (Carried M D))) → Type 0) (sender_told : N → List (Sent P) → Type 0)
+    (is_of : J → M → Type 0) (past : History P M D (Asker S) (Asker G)) (p : P) where
+  -- a payload that is no message
+  pub Received-invalid : (bytes : List ℕ) (error : CodecError) (turn : Turn) (old new : Node P M S O D) (first last : N) → s.reading bytes ≡ Err error
+      → Applied s may_answer outlet_told sender_told past (input.Invalid error) turn old new first last
+      → Received s may_answer outlet_told sender_told is_of past p bytes (Ready turn) old new first last None
+  Received-invalid bytes error turn old new first last is one = record {
+    steps = one.step ∷ [];
+    ran = one.ran;
+    comes = (one.turned, input-at s may_answer outlet_told sender_told (input.Invalid error) one.step one.of_input ∙ ap (λ r. payload_input s may_answer outlet_told sender_told is_of p r ∷ []) (sym is), refl);
+  }
+
+  -- a payload that was refused before it was decoded
+  pub Received-refused : (bytes : List ℕ) (result : Turn) (old new : Node P M S O D) (first last : N) → HasContent s past old.core → is_ok (s.reading bytes) ≡ true
+      → (result ≡ turn.Refused Memory) × (new ≡ old) × (last ≡ first) → Received s may_answer outlet_told sender_told is_of past p bytes (Ready result) old new first last None
+  Received-refused bytes result old new first last has reads same =
+      let read = some_ok (s.reading bytes) reads in
+      subst (λ t. Received s may_answer outlet_told sender_told is_of past p bytes (Ready t) old new first last None) (sym same.0)
+      (subst (λ n. Received s may_answer outlet_told sender_told is_of past p bytes (Ready (turn.Refused Memory)) old new first n None) (sym same.2)
+      (Received-started s may_answer outlet_told sender_told is_of past p read.0 bytes (Ready (turn.Refused Memory)) old new first first None read.1
+      (Started-uncounted s may_answer outlet_told sender_told is_of past p read.0 (turn.Refused Memory) old new first first
+      (Applied-refused s may_answer outlet_told sender_told past (input.Arrived p (own_digested s read.0)) Memory old new first has same.1 tt))))

@@ -1,10 +1,11 @@
 -- What a poll of an engine does.
-use Rattle.std.specs.Prelude.{◌≡◌, Bool, List, [], ◌∷◌, ◌++◌, Option, Some, None, Result, Ok, Err}
+use Rattle.std.specs.Prelude.{◌≡◌, ℕ, Bool, List, [], ◌∷◌, ◌++◌, Option, Some, None, Result, Ok, Err}
 use Rattle.futures.specs.declared.task.Poll.{Poll}
 use Rattle.futures.specs.declared.task.Poll.TheVariants.{Ready, Pending}
 use Rattle.broadcast_core.specs.Carried.{Carried}
 use Rattle.broadcast_core.specs.Setting.{Setting, own_digested}
 use Rattle.broadcast_core.specs.Happening.{History}
+use Rattle.broadcast_core.specs.declared.codec.CodecError.{CodecError}
 use Rattle.broadcast_core.specs.declared.event.Sent.{Sent}
 use Rattle.commonware_broadcast.specs.declared.ingress.message.Message.{Message}
 use Rattle.engine_draft.specs.declared.buffered.engine.input.EndCause.{EndCause}
@@ -73,3 +74,21 @@ module _ {P M D S G O N J : Type 0} (s : Setting P M D) (may_answer : Asker S �
     pub steps : List (Step P M D S G)
     pub ran : Ran s may_answer outlet_told sender_told past steps old new old_sender new_sender
     pub arrives : Arrives p m result steps past slot
+
+  -- a payload that reads whole arrives with its own digest, and another one is invalid
+  abbrev pub payload_input : P → Result M CodecError → Input P M S G D
+  payload_input p (Ok m) = input.Arrived p (own_digested s m)
+  payload_input p (Err error) = input.Invalid error
+
+  -- a ready poll ends with the step of the payload; a pending one has a job of its message
+  abbrev pub Comes : P → Result M CodecError → Poll Turn → List (Step P M D S G) → History P M D (Asker S) (Asker G) → Option (P × J) → Type 0
+  Comes p read (Ready turn) [] past slot = ⊥
+  Comes p read (Ready turn) (step ∷ steps) past slot = (turn_of s step (happenings steps ++ past) ≡ Some turn)
+      × (inputs (step ∷ steps) ≡ payload_input p read ∷ []) × (slot ≡ None)
+  Comes p read Pending steps past slot = (m : M) × (read ≡ Ok m) × (inputs steps ≡ []) × ((job : J) × (slot ≡ Some (p, job)) × is_of job m)
+
+  -- after a history, a payload was taken by these steps
+  pub record Received (past : History P M D (Asker S) (Asker G)) (p : P) (bytes : List ℕ) (result : Poll Turn) (old new : Node P M S O D) (old_sender new_sender : N) (slot : Option (P × J)) : Type 0 where
+    pub steps : List (Step P M D S G)
+    pub ran : Ran s may_answer outlet_told sender_told past steps old new old_sender new_sender
+    pub comes : Comes p (s.reading bytes) result steps past slot

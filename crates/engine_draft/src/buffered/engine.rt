@@ -6,6 +6,7 @@ mod input;
 mod job;
 mod node;
 mod poll;
+mod receive;
 mod reply;
 mod take;
 mod waiter;
