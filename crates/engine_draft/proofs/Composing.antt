@@ -9,7 +9,7 @@ use Rattle.broadcast_core.specs.Sent.{sent, sent_at}
 use Rattle.broadcast_core.specs.declared.event.Sent.{Sent}
 use Rattle.engine_draft.specs.declared.buffered.engine.node.Node.{Node}
 use Rattle.engine_draft.specs.Counters.{Totals, count_of}
-use Rattle.engine_draft.specs.Replies.{Asker, Replied}
+use Rattle.engine_draft.specs.Replies.{Asker, Replied, Replies}
 use Rattle.engine_draft.specs.EngineHistory.{Step, swept, applied, refused, decoded, ended, AreSteps, IsStep, happenings_at, happenings, handed_out_at, handed_out, count, counts, count_peer}
 use Rattle.engine_draft.specs.Ran.{Ran}
 
@@ -54,7 +54,7 @@ module _ {P M D S G : Type 0} (s : Setting P M D) where
   count_peer-append q (ended ∷ later) earlier n = count_peer-append q later earlier n
 
 module _ {P M D S G O N : Type 0} (s : Setting P M D) (may_answer : Asker S → Bool → Type 0)
-    (outlet_told : O → List (Replied S G (Carried M D) (Option (Carried M D))) → Type 0) (sender_told : N → List (Sent P) → Type 0) where
+    (outlet_told : O → Replies S G M D → Type 0) (sender_told : N → List (Sent P) → Type 0) where
   pub Ran-none : (past : History P M D (Asker S) (Asker G)) (node : Node P M S O D) (sender : N) → HasContent s past node.core
       → Ran s may_answer outlet_told sender_told past [] node node sender sender
   Ran-none past node sender has = record {

@@ -27,7 +27,7 @@ use Rattle.engine_draft.specs.declared.buffered.engine.node.Node.{Node}
 use Rattle.engine_draft.specs.declared.buffered.metrics.Counter.{Counter}
 use Rattle.engine_draft.specs.declared.buffered.metrics.Status.TheVariants as status
 use Rattle.engine_draft.specs.Counters.{Counters, added}
-use Rattle.engine_draft.specs.Replies.{Asker, Replied, got, reply_of}
+use Rattle.engine_draft.specs.Replies.{Asker, Replied, got, reply_of, Replies}
 use Rattle.engine_draft.specs.EngineHistory.{applied, swept, ended, count_outcome, count_replies, MayRefuse}
 use Rattle.engine_draft.specs.Handing.{Hands, Serves}
 use Rattle.engine_draft.specs.Ran.{Steps}
@@ -36,30 +36,32 @@ added-counted : (n : ℕ) (c : Counter) → added status.Dropped (counted n) c �
 added-counted n c = ap (λ k. record c { dropped = k }) (omega arith)
 
 module _ {P M D S G O : Type 0} {s : Setting P M D} {same : Same P D} (is : s.same ≡ same) (lawful : IsLawful same)
-    (may_answer : Asker S → Bool → Type 0) (told : O → List (Replied S G (Carried M D) (Option (Carried M D))) → Type 0)
+    (may_answer : Asker S → Bool → Type 0) (told : O → Replies S G M D → Type 0)
     (past : History P M D (Asker S) (Asker G)) (old : Node P M S O D) (has : HasContent s past old.core) where
-  silent : (replies : List (Replied S G (Carried M D) (Option (Carried M D)))) → told old.outlet replies → told old.outlet (replies ++ [])
+  silent : (replies : Replies S G M D) → told old.outlet replies → told old.outlet (replies ++ [])
   silent replies h = subst (told old.outlet) (sym (append-nil replies)) h
 
   pub Steps-peers : (ps : List P) (core : Content P M D (Asker S)) → TakesPeers same ps old.core core
       → Steps s may_answer told past (applied (Peers ps) []) old (record old { core = core })
   Steps-peers ps core takes = record { lawful = (refl, tt); content = HasContent-peers is lawful has takes; counted = refl; replied = silent }
 
-  pub Steps-arrival : (p : P) (c : Carried M D) (mid : Node P M S O D) (counters : Counters P) (out : Outcome) (replies : List (Replied S G (Carried M D) (Option (Carried M D))))
+  pub Steps-arrival : (p : P) (c : Carried M D) (mid : Node P M S O D) (counters : Counters P) (out : Outcome) (replies : Replies S G M D)
       → Serves same told p c replies old mid → out ≡ outcome_at same old.core p c.digest
       → counters ≡ record mid.metrics { totals = count_outcome out mid.metrics.totals }
       → (out ≡ outcome s p c.digest past) × Steps s may_answer told past (applied (Arrived p c) replies) old (record mid { metrics = counters })
   Steps-arrival p c mid counters out replies serves at counted =
-      let turned : out ≡ outcome s p c.digest past = at ∙ outcome-taken is lawful has p c.digest in
-      (turned, record {
-        lawful = (serves.due ∙ handed-arrival is lawful has p c, tt);
-        content = HasContent-arrival is lawful has serves.takes;
-        counted = counted ∙ ap (λ (m : Counters P). record m { totals = count_outcome out m.totals }) serves.hands.counted
-            ∙ ap (λ (o : Outcome). record old.metrics { totals = count_outcome o (count_replies replies old.metrics.totals) }) turned;
-        replied = serves.hands.handed;
-      })
+      let turned : out ≡ outcome s p c.digest past = at ∙ outcome-taken is lawful has p c.digest in (
+        turned,
+        record {
+          lawful = (serves.due ∙ handed-arrival is lawful has p c, tt);
+          content = HasContent-arrival is lawful has serves.takes;
+          counted = counted ∙ ap (λ (m : Counters P). record m { totals = count_outcome out m.totals }) serves.hands.counted
+              ∙ ap (λ (o : Outcome). record old.metrics { totals = count_outcome o (count_replies replies old.metrics.totals) }) turned;
+          replied = serves.hands.handed;
+        },
+      )
 
-  pub Steps-subscribed : (w : Asker S) (d : D) (core : Content P M D (Asker S)) (r : Subscribed (Asker S) M D) (replies : List (Replied S G (Carried M D) (Option (Carried M D)))) (counted : Bool)
+  pub Steps-subscribed : (w : Asker S) (d : D) (core : Content P M D (Asker S)) (r : Subscribed (Asker S) M D) (replies : Replies S G M D) (counted : Bool)
       (outlet : O) (counters : Counters P) → IsSubscribed same d w old.core core r → map reply_of replies ≡ handed_by r → Hands told old.outlet old.metrics replies outlet counters
       → Steps s may_answer told past (applied (Request (record { ticket = w.ticket; message = Subscribe d w.responder; counted = counted })) replies) old (record { core = core; metrics = counters; outlet = outlet })
   Steps-subscribed w d core r replies counted outlet counters h due hands = record {
@@ -79,16 +81,18 @@ module _ {P M D S G O : Type 0} {s : Setting P M D} {same : Same P D} (is : s.sa
     replied = hands.handed;
   }
 
-  pub Steps-broadcast : (r : Recipients P) (c : Carried M D) (ticket : ℕ) (counted : Bool) (mid : Node P M S O D) (out : Outcome) (replies : List (Replied S G (Carried M D) (Option (Carried M D))))
+  pub Steps-broadcast : (r : Recipients P) (c : Carried M D) (ticket : ℕ) (counted : Bool) (mid : Node P M S O D) (out : Outcome) (replies : Replies S G M D)
       → Serves same told old.core.own c replies old mid → out ≡ outcome_at same old.core old.core.own c.digest → is_some (s.encoding c.message) ≡ true
       → (out ≡ outcome s s.own c.digest past) × Steps s may_answer told past (applied (Request (record { ticket = ticket; message = Broadcast r c; counted = counted })) replies) old mid
-  Steps-broadcast r c ticket counted mid out replies serves at encodable =
-      (at ∙ ap (λ p. outcome_at same old.core p c.digest) has.own ∙ outcome-taken is lawful has s.own c.digest, record {
-        lawful = (serves.due ∙ handed-broadcast is lawful has r c, encodable);
-        content = HasContent-broadcast is lawful has r (subst (λ p. Takes same p c old.core mid.core) has.own serves.takes);
-        counted = serves.hands.counted;
-        replied = serves.hands.handed;
-      })
+  Steps-broadcast r c ticket counted mid out replies serves at encodable = (
+    at ∙ ap (λ p. outcome_at same old.core p c.digest) has.own ∙ outcome-taken is lawful has s.own c.digest,
+    record {
+      lawful = (serves.due ∙ handed-broadcast is lawful has r c, encodable);
+      content = HasContent-broadcast is lawful has r (subst (λ p. Takes same p c old.core mid.core) has.own serves.takes);
+      counted = serves.hands.counted;
+      replied = serves.hands.handed;
+    },
+  )
 
   pub Steps-invalid : (error : CodecError) (counters : Counters P) → counters ≡ record old.metrics { totals = record old.metrics.totals { receive = added status.Invalid 1 old.metrics.totals.receive } }
       → Steps s may_answer told past (applied (Invalid error) []) old (record old { metrics = counters })
@@ -102,16 +106,18 @@ module _ {P M D S G O : Type 0} {s : Setting P M D} {same : Same P D} (is : s.sa
   Steps-swept core dropped number counters last cleaned len distinct some counted gauge =
       let laws = subst (λ m. IsLawful m) (sym is) lawful in
       let waits = awaited-counted s laws.digest (cleanup cleaned.test ∷ past) core cleaned.content (subst (λ m. IsDistinct m.digest (keys_of core.waiters)) (sym is) distinct)
-      (subst (λ m. NoneEmpty m.digest core.waiters) (sym is) some) in
-      (cleaned.test, record {
-        lawful = cleaned.answered;
-        content = cleaned.content;
-        counted = gauge ∙ ap (λ (m : Counters P). record m { totals = record m.totals { waiters = number } }) counted
-            ∙ ap (λ (c : Counter). record old.metrics { totals = record old.metrics.totals { subscribe = c; waiters = number } })
-            (ap (λ n. added status.Dropped n old.metrics.totals.subscribe) cleaned.removed ∙ added-counted (named_by cleaned.test (waiting s past)) old.metrics.totals.subscribe)
-            ∙ ap (λ (n : ℕ). record old.metrics { totals = record old.metrics.totals { subscribe = added status.Dropped (named_by cleaned.test (waiting s past)) old.metrics.totals.subscribe; waiters = n } }) (len ∙ waits);
-        replied = silent;
-      })
+      (subst (λ m. NoneEmpty m.digest core.waiters) (sym is) some) in (
+        cleaned.test,
+        record {
+          lawful = cleaned.answered;
+          content = cleaned.content;
+          counted = gauge ∙ ap (λ (m : Counters P). record m { totals = record m.totals { waiters = number } }) counted
+              ∙ ap (λ (c : Counter). record old.metrics { totals = record old.metrics.totals { subscribe = c; waiters = number } })
+              (ap (λ n. added status.Dropped n old.metrics.totals.subscribe) cleaned.removed ∙ added-counted (named_by cleaned.test (waiting s past)) old.metrics.totals.subscribe)
+              ∙ ap (λ (n : ℕ). record old.metrics { totals = record old.metrics.totals { subscribe = added status.Dropped (named_by cleaned.test (waiting s past)) old.metrics.totals.subscribe; waiters = n } }) (len ∙ waits);
+          replied = silent;
+        },
+      )
 
   pub Steps-ended : (core : Content P M D (Asker S)) → KeepsStore same old.core core → core.waiters ≡ [] → Steps s may_answer told past ended old (record old { core = core })
   Steps-ended core keeps none = record { lawful = tt; content = HasContent-clear_waiters is lawful has keeps none; counted = refl; replied = silent }

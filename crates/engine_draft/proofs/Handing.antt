@@ -3,7 +3,7 @@ use Rattle.std.proofs.Common.{◌≡◌, List, [], ◌∷◌, ◌++◌, map, Opt
 use Rattle.broadcast_core.specs.Carried.{Carried}
 use Rattle.broadcast_core.specs.Handed.{to_subscribe}
 use Rattle.engine_draft.specs.Counters.{Totals, Counters}
-use Rattle.engine_draft.specs.Replies.{Asker, Replied, subscribed, reply_of}
+use Rattle.engine_draft.specs.Replies.{Asker, Replied, subscribed, reply_of, Replies}
 use Rattle.engine_draft.specs.EngineHistory.{count_reply, count_replies}
 use Rattle.engine_draft.specs.Handing.{Hands}
 
@@ -27,10 +27,10 @@ module _ {P S G A C O : Type 0} (told : O → List (Replied S G A (Option C)) �
     counted = next.counted ∙ rw first.counted (ap (λ t. record c { totals = t }) (sym (count_replies-append hs more c.totals)));
   }
 
-module _ {P M D S G O : Type 0} (told : O → List (Replied S G (Carried M D) (Option (Carried M D))) → Type 0) where
+module _ {P M D S G O : Type 0} (told : O → Replies S G M D → Type 0) where
   -- the waiters that were handed the message
   pub record AllHanded (message : Carried M D) (waiters : List (Asker S)) (o : O) (c : Counters P) (last : O) (clast : Counters P) : Type 0 where
-    pub replies : List (Replied S G (Carried M D) (Option (Carried M D)))
+    pub replies : Replies S G M D
     pub due : map reply_of replies ≡ map (λ w. to_subscribe w message) waiters
     pub hands : Hands told o c replies last clast
 

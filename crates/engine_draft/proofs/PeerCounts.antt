@@ -17,5 +17,5 @@ module _ {P : Type 0} {same : P → P → Bool} (laws : IsEquivalence same) wher
       let found : lookup (same q) fs ≡ cond (same p q) (Some 1) (lookup (same q) es) =
       at q ∙ ap (λ b. cond b (Some 1) (lookup (same q) mid)) (sym (laws.congr p k q equal)) ∙ ap (λ xs. cond (same p q) (Some 1) (lookup (same q) xs)) kept in
       rw found (by_test (same p q)
-          (λ t. let missing : lookup (same q) es ≡ None = lookup-same (same q) (same p) es (λ x. sym (laws.congr p q x t)) ∙ none in rw (t, missing) refl)
-          (λ t. rw t refl))
+      (λ t. let missing : lookup (same q) es ≡ None = lookup-same (same q) (same p) es (λ x. sym (laws.congr p q x t)) ∙ none in rw (t, missing) refl)
+      (λ t. rw t refl))

@@ -22,7 +22,7 @@ use Rattle.engine_draft.specs.declared.buffered.engine.input.Turn.TheVariants as
 use Rattle.engine_draft.specs.declared.buffered.engine.node.Node.{Node}
 use Rattle.engine_draft.specs.declared.buffered.engine.input.Input.TheVariants as input
 use Rattle.engine_draft.specs.Counters.{Counters, count_of}
-use Rattle.engine_draft.specs.Replies.{Asker, Replied}
+use Rattle.engine_draft.specs.Replies.{Asker, Replied, Replies}
 use Rattle.engine_draft.specs.EngineHistory.{Step, swept, applied, refused, decoded, ended}
 use Rattle.engine_draft.specs.Ran.{Steps, Ran, Applied, IsOf}
 use Rattle.engine_draft.specs.Polled.{Polled, Ends, Started, Received, Arrives, Comes, payload_input, inputs_at, sets_in, requests_in}
@@ -39,7 +39,7 @@ pub told-same : {X A : Type 0} (told : X → List A → Type 0) (x : X) (before 
 told-same told x before h = subst (told x) (sym (append-nil before)) h
 
 module _ {P M D S G O N : Type 0} (s : Setting P M D) (may_answer : Asker S → Bool → Type 0)
-    (outlet_told : O → List (Replied S G (Carried M D) (Option (Carried M D))) → Type 0) (sender_told : N → List (Sent P) → Type 0) where
+    (outlet_told : O → Replies S G M D → Type 0) (sender_told : N → List (Sent P) → Type 0) where
   pub input-at : (input : Input P M S G D) (step : Step P M D S G) → IsOf s may_answer outlet_told sender_told input step → inputs_at step ≡ input ∷ []
   input-at input (applied given replies) h = ap (λ i. i ∷ []) h
   input-at input (refused given cause) h = ap (λ i. i ∷ []) h
@@ -48,7 +48,7 @@ module _ {P M D S G O N : Type 0} (s : Setting P M D) (may_answer : Asker S → 
   input-at input ended h = absurd h
 
 module _ {P M D S G O N B Q : Type 0} (s : Setting P M D) (may_answer : Asker S → Bool → Type 0)
-    (outlet_told : O → List (Replied S G (Carried M D) (Option (Carried M D))) → Type 0) (sender_told : N → List (Sent P) → Type 0)
+    (outlet_told : O → Replies S G M D → Type 0) (sender_told : N → List (Sent P) → Type 0)
     (provider_told : B → List (List P) → Type 0) (requests_told : Q → List (Request (Message P M S G D)) → Type 0)
     (past : History P M D (Asker S) (Asker G)) (old mid : Node P M S O D) (sender : N)
     (test : ℕ → Asker S → Bool) (cleaned : Steps s may_answer outlet_told past (swept test) old mid) where
@@ -79,7 +79,7 @@ module _ {P M D S G O N B Q : Type 0} (s : Setting P M D) (may_answer : Asker S 
       }
 
 module _ {P M D S G O N J : Type 0} (s : Setting P M D) (may_answer : Asker S → Bool → Type 0)
-    (outlet_told : O → List (Replied S G (Carried M D) (Option (Carried M D))) → Type 0) (sender_told : N → List (Sent P) → Type 0)
+    (outlet_told : O → Replies S G M D → Type 0) (sender_told : N → List (Sent P) → Type 0)
     (is_of : J → M → Type 0) (past : History P M D (Asker S) (Asker G)) (p : P) (m : M) where
   -- a payload was decoded, and counted
   pub Ran-decoded : {same : Same P D} (is : s.same ≡ same) (old : Node P M S O D) (counters : Counters P) (sender : N) → HasContent s past old.core
@@ -154,7 +154,7 @@ some_ok (Ok m) h = (m, refl)
 some_ok (Err e) h = absurd (let no : false ≡ true = h in cc)
 
 module _ {P M D S G O N J : Type 0} (s : Setting P M D) (may_answer : Asker S → Bool → Type 0)
-    (outlet_told : O → List (Replied S G (Carried M D) (Option (Carried M D))) → Type 0) (sender_told : N → List (Sent P) → Type 0)
+    (outlet_told : O → Replies S G M D → Type 0) (sender_told : N → List (Sent P) → Type 0)
     (is_of : J → M → Type 0) (past : History P M D (Asker S) (Asker G)) (p : P) where
   -- a payload that is no message
   pub Received-invalid : (bytes : List ℕ) (error : CodecError) (turn : Turn) (old new : Node P M S O D) (first last : N) → s.reading bytes ≡ Err error

@@ -21,12 +21,12 @@ use Rattle.engine_draft.specs.declared.buffered.engine.input.Turn.{Turn}
 use Rattle.engine_draft.specs.declared.buffered.engine.input.Turn.TheVariants as turn
 use Rattle.engine_draft.specs.declared.buffered.engine.node.Node.{Node}
 use Rattle.engine_draft.specs.Counters.{Counters, count_of}
-use Rattle.engine_draft.specs.Replies.{Asker, Replied}
+use Rattle.engine_draft.specs.Replies.{Asker, Replied, Replies}
 use Rattle.engine_draft.specs.EngineHistory.{Step, applied, refused, happening_of, happenings_at, happenings, turn_of, count_peer, MayRefuse, MayRefuseRequest}
 use Rattle.engine_draft.specs.Ran.{Steps, Ran, Applied}
 
 module _ {P M D S G O N : Type 0} (s : Setting P M D) (may_answer : Asker S → Bool → Type 0)
-    (outlet_told : O → List (Replied S G (Carried M D) (Option (Carried M D))) → Type 0) (sender_told : N → List (Sent P) → Type 0)
+    (outlet_told : O → Replies S G M D → Type 0) (sender_told : N → List (Sent P) → Type 0)
     (past : History P M D (Asker S) (Asker G)) where
   -- one step, and what was sent at it
   pub Ran-one : (step : Step P M D S G) (old new : Node P M S O D) (first last : N) → Steps s may_answer outlet_told past step old new
@@ -43,7 +43,7 @@ module _ {P M D S G O N : Type 0} (s : Setting P M D) (may_answer : Asker S → 
   }
 
   -- an input at which nothing is sent
-  pub Applied-silent : (input : Input P M S G D) (replies : List (Replied S G (Carried M D) (Option (Carried M D)))) (result : Turn) (old new : Node P M S O D) (sender : N)
+  pub Applied-silent : (input : Input P M S G D) (replies : Replies S G M D) (result : Turn) (old new : Node P M S O D) (sender : N)
       → Steps s may_answer outlet_told past (applied input replies) old new → turn_of s (applied input replies) past ≡ Some result → sent s (happening_of input) ≡ []
       → Applied s may_answer outlet_told sender_told past input result old new sender sender
   Applied-silent input replies result old new sender steps turned none = record {
@@ -71,7 +71,7 @@ module _ {P M D S G O N : Type 0} (s : Setting P M D) (may_answer : Asker S → 
   }
 
   pub Applied-broadcast : (r : Recipients P) (c : Carried M D) (ticket : ℕ) (counted : Bool) (bytes : List ℕ) (priority : Bool) (out : Outcome)
-      (replies : List (Replied S G (Carried M D) (Option (Carried M D)))) (old new : Node P M S O D) (first last : N)
+      (replies : Replies S G M D) (old new : Node P M S O D) (first last : N)
       → Steps s may_answer outlet_told past (applied (Request (record { ticket = ticket; message = Broadcast r c; counted = counted })) replies) old new
       → out ≡ outcome s s.own c.digest past → s.encoding c.message ≡ Some bytes → s.priority ≡ priority
       → ((sends : List (Sent P)) → sender_told first sends → sender_told last (sends ++ record { recipients = r; bytes = bytes; priority = priority } ∷ []))

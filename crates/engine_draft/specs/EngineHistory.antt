@@ -23,13 +23,13 @@ use Rattle.engine_draft.specs.declared.buffered.metrics.Status.TheVariants.{Succ
 use Rattle.engine_draft.specs.declared.buffered.metrics.Status.TheVariants as status
 use Rattle.engine_draft.specs.Counters.{Totals, added}
 use Rattle.broadcast_core.specs.Handed.{handed_at}
-use Rattle.engine_draft.specs.Replies.{Asker, Replied, subscribed, got, reply_of}
+use Rattle.engine_draft.specs.Replies.{Asker, Replied, subscribed, got, reply_of, Replies}
 
 pub data Step (P M D S G : Type 0) : Type 0 where
   -- the waiters that the test names answered closed, and were dropped
   swept : (ℕ → Asker S → Bool) → Step P M D S G
   -- the input was applied, and these replies were handed out
-  applied : Input P M S G D → List (Replied S G (Carried M D) (Option (Carried M D))) → Step P M D S G
+  applied : Input P M S G D → Replies S G M D → Step P M D S G
   -- the input was refused, and changed nothing
   refused : Input P M S G D → Cause → Step P M D S G
   -- a payload of the peer was decoded
@@ -43,6 +43,10 @@ module _ {P M D S G : Type 0} where
   asked ticket (Broadcast r c) = broadcast r c
   asked ticket (Subscribe d responder) = subscribe (record { ticket = ticket; responder = responder }) d
   asked ticket (Get d responder) = get (record { ticket = ticket; responder = responder }) d
+
+  -- a request as an input
+  abbrev pub requested : ℕ → Bool → Message P M S G D → Input P M S G D
+  requested ticket counted message = Request (record { ticket = ticket; message = message; counted = counted })
 
   -- what happens at an input; a payload that is no message is no happening
   abbrev pub happening_of : Input P M S G D → History P M D (Asker S) (Asker G)
@@ -63,12 +67,12 @@ module _ {P M D S G : Type 0} where
   happenings [] = []
   happenings (step ∷ steps) = happenings_at step ++ happenings steps
 
-  abbrev pub handed_out_at : Step P M D S G → List (Replied S G (Carried M D) (Option (Carried M D)))
+  abbrev pub handed_out_at : Step P M D S G → Replies S G M D
   handed_out_at (applied input replies) = replies
   handed_out_at _ = []
 
   -- the replies that were handed out, oldest first
-  abbrev pub handed_out : List (Step P M D S G) → List (Replied S G (Carried M D) (Option (Carried M D)))
+  abbrev pub handed_out : List (Step P M D S G) → Replies S G M D
   handed_out [] = []
   handed_out (step ∷ steps) = handed_out steps ++ handed_out_at step
 
@@ -155,7 +159,7 @@ module _ {P M D S G : Type 0} (s : Setting P M D) where
   MayRefuse _ cause past = ⊥
 
   -- the replies at an input are those that are due
-  abbrev pub AreDue : History P M D (Asker S) (Asker G) → List (Replied S G (Carried M D) (Option (Carried M D)))
+  abbrev pub AreDue : History P M D (Asker S) (Asker G) → Replies S G M D
       → History P M D (Asker S) (Asker G) → Type 0
   AreDue [] replies past = replies ≡ []
   AreDue (e ∷ es) replies past = map reply_of replies ≡ handed_at s e past

@@ -14,7 +14,7 @@ use Rattle.engine_draft.specs.declared.buffered.engine.input.Input.TheVariants a
 use Rattle.engine_draft.specs.declared.buffered.engine.input.Request.{Request}
 use Rattle.engine_draft.specs.declared.buffered.engine.input.Turn.{Turn}
 use Rattle.engine_draft.specs.declared.buffered.engine.node.Node.{Node}
-use Rattle.engine_draft.specs.Replies.{Asker, Replied}
+use Rattle.engine_draft.specs.Replies.{Asker, Replied, Replies}
 use Rattle.engine_draft.specs.EngineHistory.{Step, applied, refused, happenings, turn_of}
 use Rattle.engine_draft.specs.Ran.{Ran}
 
@@ -47,7 +47,7 @@ module _ {P M D S G : Type 0} where
   Ends s _ steps past = inputs steps ≡ []
 
 module _ {P M D S G O N B Q : Type 0} (s : Setting P M D) (may_answer : Asker S → Bool → Type 0)
-    (outlet_told : O → List (Replied S G (Carried M D) (Option (Carried M D))) → Type 0) (sender_told : N → List (Sent P) → Type 0)
+    (outlet_told : O → Replies S G M D → Type 0) (sender_told : N → List (Sent P) → Type 0)
     (provider_told : B → List (List P) → Type 0) (requests_told : Q → List (Request (Message P M S G D)) → Type 0) where
   -- after a history, a poll of the peer sets and the requests took these steps
   pub record Polled (past : History P M D (Asker S) (Asker G)) (result : Poll (Result Turn EndCause)) (old new : Node P M S O D) (old_sender new_sender : N)
@@ -60,7 +60,7 @@ module _ {P M D S G O N B Q : Type 0} (s : Setting P M D) (may_answer : Asker S 
     pub requests : (before : List (Request (Message P M S G D))) → requests_told old_requests before → requests_told new_requests (before ++ requests_in (inputs steps))
 
 module _ {P M D S G O N J : Type 0} (s : Setting P M D) (may_answer : Asker S → Bool → Type 0)
-    (outlet_told : O → List (Replied S G (Carried M D) (Option (Carried M D))) → Type 0) (sender_told : N → List (Sent P) → Type 0)
+    (outlet_told : O → Replies S G M D → Type 0) (sender_told : N → List (Sent P) → Type 0)
     (is_of : J → M → Type 0) where
   -- a ready poll ends with the step of the message that arrived; the message of a pending one is that of the job
   abbrev pub Arrives : P → M → Poll Turn → List (Step P M D S G) → History P M D (Asker S) (Asker G) → Option (P × J) → Type 0

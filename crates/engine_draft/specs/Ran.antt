@@ -10,17 +10,17 @@ use Rattle.engine_draft.specs.declared.buffered.engine.input.Input.{Input}
 use Rattle.engine_draft.specs.declared.buffered.engine.input.Turn.{Turn}
 use Rattle.engine_draft.specs.declared.buffered.engine.node.Node.{Node}
 use Rattle.engine_draft.specs.Counters.{count_of}
-use Rattle.engine_draft.specs.Replies.{Asker, Replied}
+use Rattle.engine_draft.specs.Replies.{Asker, Replied, Replies}
 use Rattle.engine_draft.specs.EngineHistory.{Step, applied, refused, IsStep, AreSteps, happenings_at, happenings, handed_out_at, handed_out, count, counts, count_peer, turn_of}
 
 module _ {P M D S G O : Type 0} (s : Setting P M D) (may_answer : Asker S → Bool → Type 0)
-    (outlet_told : O → List (Replied S G (Carried M D) (Option (Carried M D))) → Type 0) where
+    (outlet_told : O → Replies S G M D → Type 0) where
   -- one step, whatever was sent; it counts on no peer
   pub record Steps (past : History P M D (Asker S) (Asker G)) (step : Step P M D S G) (old new : Node P M S O D) : Type 0 where
     pub lawful : IsStep s may_answer step past
     pub content : HasContent s (happenings_at step ++ past) new.core
     pub counted : new.metrics ≡ record old.metrics { totals = count s step past old.metrics.totals }
-    pub replied : (replies : List (Replied S G (Carried M D) (Option (Carried M D)))) → outlet_told old.outlet replies → outlet_told new.outlet (replies ++ handed_out_at step)
+    pub replied : (replies : Replies S G M D) → outlet_told old.outlet replies → outlet_told new.outlet (replies ++ handed_out_at step)
 
   module _ {N : Type 0} (sender_told : N → List (Sent P) → Type 0) where
     -- after a history these steps were taken
@@ -33,7 +33,7 @@ module _ {P M D S G O : Type 0} (s : Setting P M D) (may_answer : Asker S → Bo
       pub totals : new.metrics.totals ≡ counts s steps past old.metrics.totals
       pub peers : (p : P) → count_of s.same.key p new.metrics.peer ≡ count_peer s p steps (count_of s.same.key p old.metrics.peer)
       -- the outlet was handed the replies, and the sender the broadcasts
-      pub replied : (replies : List (Replied S G (Carried M D) (Option (Carried M D)))) → outlet_told old.outlet replies → outlet_told new.outlet (replies ++ handed_out steps)
+      pub replied : (replies : Replies S G M D) → outlet_told old.outlet replies → outlet_told new.outlet (replies ++ handed_out steps)
       pub sends : (sends : List (Sent P)) → sender_told old_sender sends → sender_told new_sender (sends ++ sent s (happenings steps))
 
     -- the step of an input: it was applied, or refused

@@ -99,7 +99,12 @@ impl<P: PublicKey> Model for Metrics<P> {
 
     ghost view = { λ it. record {
       peer = it.peer.entries;
-      totals = record { receive = it.receive; subscribe = it.subscribe; get = it.get; waiters = it.waiters };
+      totals = record {
+        receive = it.receive;
+        subscribe = it.subscribe;
+        get = it.get;
+        waiters = it.waiters;
+      };
     } };
 }
 
@@ -169,31 +174,41 @@ impl<P: PublicKey> Metrics<P> {
 
     /// Counts a received message with `status`.
     pub fn count_receive(&mut self, status: Status)
-        ensures { self.new ≡ record self.old { totals = record self.old.totals {
-          receive = added status 1 self.old.totals.receive } } }
+        ensures { self.new ≡ record self.old {
+          totals = record self.old.totals {
+            receive = added status 1 self.old.totals.receive;
+          };
+        } }
     {
         self.receive.add(status, 1);
     }
 
     /// Counts `number` subscribes that ended with `status`.
     pub fn count_subscribe(&mut self, status: Status, number: u64)
-        ensures { self.new ≡ record self.old { totals = record self.old.totals {
-          subscribe = added status number self.old.totals.subscribe } } }
+        ensures { self.new ≡ record self.old {
+          totals = record self.old.totals {
+            subscribe = added status number self.old.totals.subscribe;
+          };
+        } }
     {
         self.subscribe.add(status, number);
     }
 
     /// Counts a get that ended with `status`.
     pub fn count_get(&mut self, status: Status)
-        ensures { self.new ≡ record self.old { totals = record self.old.totals {
-          get = added status 1 self.old.totals.get } } }
+        ensures { self.new ≡ record self.old {
+          totals = record self.old.totals {
+            get = added status 1 self.old.totals.get;
+          };
+        } }
     {
         self.get.add(status, 1);
     }
 
     /// Sets the number of awaited digests.
     pub fn set_waiters(&mut self, number: u64)
-        ensures { self.new ≡ record self.old { totals = record self.old.totals { waiters = number } } }
+        ensures { self.new
+            ≡ record self.old { totals = record self.old.totals { waiters = number } } }
     {
         self.waiters = number;
     }

@@ -48,6 +48,9 @@ pub trait Sender<P> {
 
     /// Hands over `bytes` to be sent to `recipients`, as priority if `priority` is true.
     fn send(&mut self, recipients: Recipients<P>, bytes: Vec<u8>, priority: bool)
-        ensures { (sent : List (Sent P)) → told self.old sent → told self.new
-            (sent ++ record { recipients = recipients; bytes = bytes.items; priority = priority } ∷ []) };
+        ensures { (sent : List (Sent P)) → told self.old sent → told self.new (sent ++ record {
+          recipients = recipients;
+          bytes = bytes.items;
+          priority = priority;
+        } ∷ []) };
 }

@@ -12,7 +12,8 @@ pub trait Outlet<S, G, A, B> {
     /// Hands `reply` to the responder of a subscribe. Returns whether it was delivered.
     fn subscribed(&mut self, ticket: u64, to: S, reply: A) -> bool
         ensures { (replies : List (Replied S G A B)) → told self.old replies → told self.new
-            (replies ++ subscribed (record { ticket = ticket; responder = to }) reply result ∷ []) };
+            (replies
+            ++ subscribed (record { ticket = ticket; responder = to }) reply result ∷ []) };
 
     /// Hands `reply` to the responder of a get. Returns whether it was delivered.
     fn got(&mut self, ticket: u64, to: G, reply: B) -> bool

@@ -15,7 +15,8 @@ pub trait Requests<T> {
 
     /// Returns whether the engine is to stop. If not, the task is woken once it is.
     fn stopped(&mut self, cx: &mut Context<'_>) -> bool
-        ensures tells { (requests : List (Request T)) → told self.old requests → told self.new requests }
+        ensures tells { (requests : List (Request T))
+            → told self.old requests → told self.new requests }
         ensures kept { Keeps cx.old cx.new };
 
     /// Returns the next request.

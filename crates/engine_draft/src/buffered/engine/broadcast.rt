@@ -5,7 +5,7 @@ ghost use Rattle.broadcast_core.specs.Setting.{Setting};
 ghost use Rattle.broadcast_core.specs.Happening.{History};
 ghost use Rattle.broadcast_core.specs.HasContent.{HasContent};
 ghost use Rattle.commonware_broadcast.specs.declared.ingress.message.Message.TheVariants as request;
-ghost use Rattle.engine_draft.specs.declared.buffered.engine.input.Input.TheVariants as input;
+ghost use Rattle.engine_draft.specs.EngineHistory.{requested};
 ghost use Rattle.engine_draft.specs.Replies.{Asker};
 ghost use Rattle.engine_draft.specs.Ran.{Applied};
 
@@ -43,7 +43,7 @@ where
         → (past : History P M M.Digest (Asker S) (Asker G)) → HasContent s past node.old.core
         → (ticket : ℕ) (counted : Bool)
         → Applied s (λ w b. S.may_answer w.responder b) O.told N.told past
-        (input.Request (record { ticket = ticket; message = request.Broadcast recipients message; counted = counted }))
+        (requested ticket counted (request.Broadcast recipients message))
         result node.old node.new sender.old sender.new }
 {
     let bytes = match encoded(alloc, &message) {

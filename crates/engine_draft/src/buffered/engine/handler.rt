@@ -1,5 +1,5 @@
 //! One input.
-ghost use Rattle.std.specs.Prelude.{◌≡◌, List, [], ◌∷◌, Option, IfOk, OnOk, OnErr, ℕ, Bool, true, is_some};
+ghost use Rattle.std.specs.Prelude.{◌≡◌, ℕ, Bool, true, List, [], is_some, IfOk, OnOk, OnErr};
 ghost use Rattle.broadcast_core.specs.Carried.{Carried};
 ghost use Rattle.broadcast_core.specs.Content.{same_by, message_at};
 ghost use Rattle.broadcast_core.specs.Setting.{Setting};
@@ -8,8 +8,8 @@ ghost use Rattle.broadcast_core.specs.HasContent.{HasContent};
 ghost use Rattle.broadcast_core.specs.Answers.{outcome};
 ghost use Rattle.commonware_broadcast.specs.declared.ingress.message.Message.TheVariants as request;
 ghost use Rattle.engine_draft.specs.declared.buffered.engine.input.Input.TheVariants as input;
-ghost use Rattle.engine_draft.specs.Replies.{Asker, Replied};
-ghost use Rattle.engine_draft.specs.EngineHistory.{applied, swept, ended, count_outcome};
+ghost use Rattle.engine_draft.specs.Replies.{Asker, Replied, Replies};
+ghost use Rattle.engine_draft.specs.EngineHistory.{applied, swept, ended, count_outcome, requested};
 ghost use Rattle.engine_draft.specs.Ran.{Steps};
 
 use crate::buffered::engine::node::Node;
@@ -34,7 +34,8 @@ where
     O: Outlet<S, G, Reply<M>, Option<Reply<M>>>,
     ensures { (s : Setting P M M.Digest) → s.same ≡ same_by P.cmp M.Digest.cmp
         → (past : History P M M.Digest (Asker S) (Asker G)) → HasContent s past node.old.core
-        → Steps s (λ w b. S.may_answer w.responder b) O.told past (applied (input.Peers peers) []) node.old node.new }
+        → Steps s (λ w b. S.may_answer w.responder b) O.told past
+        (applied (input.Peers peers) []) node.old node.new }
 {
     node.core.update_primary_peers(peers);
 }
@@ -51,11 +52,12 @@ where
     M: Digestible,
     S: Responder<Reply<M>> + Drop,
     O: Outlet<S, G, Reply<M>, Option<Reply<M>>>,
-    ensures steps { IfOk result (λ out. (replies : List (Replied S G (Carried M M.Digest) (Option (Carried M M.Digest))))
+    ensures steps { IfOk result (λ out. (replies : Replies S G M M.Digest)
         × ((s : Setting P M M.Digest) → s.same ≡ same_by P.cmp M.Digest.cmp
         → (past : History P M M.Digest (Asker S) (Asker G)) → HasContent s past node.old.core
         → (out ≡ outcome s peer.now message.now.digest past)
-        × Steps s (λ w b. S.may_answer w.responder b) O.told past (applied (input.Arrived peer.now message.now) replies) node.old node.new)) }
+        × Steps s (λ w b. S.may_answer w.responder b) O.told past
+        (applied (input.Arrived peer.now message.now) replies) node.old node.new)) }
     ensures unchanged_on_error { OnErr result (node.new ≡ node.old) }
 {
     let outcome = take(node, alloc, peer, message)?;
@@ -76,11 +78,11 @@ where
     M: Digestible,
     S: Responder<Reply<M>> + Drop,
     O: Outlet<S, G, Reply<M>, Option<Reply<M>>>,
-    ensures steps { OnOk result ((replies : List (Replied S G (Carried M M.Digest) (Option (Carried M M.Digest))))
+    ensures steps { OnOk result ((replies : Replies S G M M.Digest)
         × ((s : Setting P M M.Digest) → s.same ≡ same_by P.cmp M.Digest.cmp
         → (past : History P M M.Digest (Asker S) (Asker G)) → HasContent s past node.old.core
         → (counted : Bool) → Steps s (λ w b. S.may_answer w.responder b) O.told past
-        (applied (input.Request (record { ticket = ticket; message = request.Subscribe digest responder; counted = counted })) replies)
+        (applied (requested ticket counted (request.Subscribe digest responder)) replies)
         node.old node.new)) }
     ensures unchanged_on_error { OnErr result (node.new ≡ node.old) }
 {
@@ -108,11 +110,11 @@ where
     S: Responder<Reply<M>> + Drop,
     G: Drop,
     O: Outlet<S, G, Reply<M>, Option<Reply<M>>>,
-    ensures steps { OnOk result ((replies : List (Replied S G (Carried M M.Digest) (Option (Carried M M.Digest))))
+    ensures steps { OnOk result ((replies : Replies S G M M.Digest)
         × ((s : Setting P M M.Digest) → s.same ≡ same_by P.cmp M.Digest.cmp
         → (past : History P M M.Digest (Asker S) (Asker G)) → HasContent s past node.old.core
         → (counted : Bool) → Steps s (λ w b. S.may_answer w.responder b) O.told past
-        (applied (input.Request (record { ticket = ticket; message = request.Get digest responder; counted = counted })) replies)
+        (applied (requested ticket counted (request.Get digest responder)) replies)
         node.old node.new)) }
     ensures unchanged_on_error { OnErr result (node.new ≡ node.old) }
     ensures fails_only_if_cached { OnErr result
@@ -122,13 +124,20 @@ where
         Some(message) => Some(message.clone()?),
         None => None,
     };
-    respond_get(&mut node.metrics, &mut node.outlet, ticket, responder, found);
+    respond_get(
+        &mut node.metrics,
+        &mut node.outlet,
+        ticket,
+        responder,
+        found,
+    );
     Ok(())
 }
 
 /// Counts a message of a peer by its outcome.
 fn count_received<P: PublicKey>(metrics: &mut Metrics<P>, outcome: Outcome)
-    ensures { metrics.new ≡ record metrics.old { totals = count_outcome outcome metrics.old.totals } }
+    ensures { metrics.new
+        ≡ record metrics.old { totals = count_outcome outcome metrics.old.totals } }
 {
     match outcome {
         Outcome::Inserted => metrics.count_receive(Status::Success),

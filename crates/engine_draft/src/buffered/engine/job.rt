@@ -26,8 +26,8 @@ use commonware_broadcast::ingress::responder::Responder;
 use futures::task::{Context, Poll};
 use std::alloc::Global;
 
-/// Polls the job of a message of `peer`. A pending job stays in the slot. The message of a ready one
-/// is applied, and the slot is empty.
+/// Polls the job of a message of `peer`. A pending job stays in the slot. The message of a ready
+/// one is applied, and the slot is empty.
 pub(super) fn poll_job<P, M, S, G, O, N, J>(
     node: &mut Node<P, M, S, O>,
     sender: &mut N,

@@ -48,7 +48,8 @@ where
         → s.encoding ≡ M.encoding → s.priority ≡ priority
         → (past : History P M M.Digest (Asker S) (Asker G)) → HasContent s past node.old.core
         → Polled s (λ w b. S.may_answer w.responder b) O.told N.told B.told Q.told past result
-        node.old node.new sender.old sender.new provider.old provider.new requests.old requests.new }
+        node.old node.new sender.old sender.new
+        provider.old provider.new requests.old requests.new }
     ensures armed { OnPending result (IsArmed cx.new) }
     ensures kept { Keeps cx.old cx.new }
 {

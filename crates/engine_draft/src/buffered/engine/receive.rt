@@ -55,8 +55,8 @@ where
         → s.encoding ≡ M.encoding → s.priority ≡ priority → s.digest_of ≡ M.digest_of
         → s.reading ≡ whole (M.reading cfg.now)
         → (past : History P M M.Digest (Asker S) (Asker G)) → HasContent s past node.old.core
-        → Received s (λ w b. S.may_answer w.responder b) O.told N.told T.Job.is_of past peer bytes.now
-        result node.old node.new sender.old sender.new slot.new }
+        → Received s (λ w b. S.may_answer w.responder b) O.told N.told T.Job.is_of past
+        peer bytes.now result node.old node.new sender.old sender.new slot.new }
     ensures armed { OnPending result (IsArmed cx.new) }
     ensures kept { Keeps cx.old cx.new }
 {

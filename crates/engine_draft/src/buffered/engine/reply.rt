@@ -3,7 +3,7 @@ ghost use Rattle.std.specs.Prelude.{◌≡◌, Bool, List, [], ◌∷◌, map, O
 ghost use Rattle.std.specs.List.{All};
 ghost use Rattle.broadcast_core.specs.Carried.{Carried};
 ghost use Rattle.broadcast_core.specs.Handed.{to_subscribe};
-ghost use Rattle.engine_draft.specs.Replies.{Replied, subscribed, got, reply_of};
+ghost use Rattle.engine_draft.specs.Replies.{Replied, subscribed, got, reply_of, Replies};
 ghost use Rattle.engine_draft.specs.Handing.{Hands};
 
 use crate::buffered::engine::waiter::Waiter;
@@ -21,12 +21,14 @@ pub(super) fn respond_subscribe<P, M, S, G, O>(
     outlet: &mut O,
     waiter: Waiter<M, S>,
     message: Digested<M>,
-) where
+)
+where
     P: PublicKey,
     M: Digestible,
     O: Outlet<S, G, Reply<M>, Option<Reply<M>>>,
     ensures { (delivered : Bool)
-        × Hands O.told outlet.old metrics.old (subscribed waiter message delivered ∷ []) outlet.new metrics.new }
+        × Hands O.told outlet.old metrics.old
+        (subscribed waiter message delivered ∷ []) outlet.new metrics.new }
 {
     let (ticket, responder) = waiter.into_parts();
     let status = if outlet.subscribed(ticket, responder, Reply::new(message)) {
@@ -44,13 +46,15 @@ pub(super) fn respond_get<P, M, S, G, O>(
     ticket: u64,
     responder: G,
     message: Option<Digested<M>>,
-) where
+)
+where
     P: PublicKey,
     M: Digestible,
     O: Outlet<S, G, Reply<M>, Option<Reply<M>>>,
     ensures { (delivered : Bool)
         × Hands O.told outlet.old metrics.old
-        (got (record { ticket = ticket; responder = responder }) message delivered ∷ []) outlet.new metrics.new }
+        (got (record { ticket = ticket; responder = responder }) message delivered ∷ [])
+        outlet.new metrics.new }
 {
     let found = message.is_some();
     let reply = match message {
@@ -87,14 +91,15 @@ pub(super) fn respond_waiters<P, M, S, G, O>(
     outlet: &mut O,
     waiters: Items<Waiter<M, S>>,
     mut copies: Vec<Digested<M>>,
-) where
+)
+where
     P: PublicKey,
     M: Digestible,
     O: Outlet<S, G, Reply<M>, Option<Reply<M>>>,
     S: Drop,
     requires { length copies.items ≡ length waiters }
     ensures { (message : Carried M M.Digest) → All (λ copy. copy ≡ message) copies.items
-        → (replies : List (Replied S G (Carried M M.Digest) (Option (Carried M M.Digest))))
+        → (replies : Replies S G M M.Digest)
         × (map reply_of replies ≡ map (λ w. to_subscribe w message) waiters)
         × Hands O.told outlet.old metrics.old replies outlet.new metrics.new }
 {

@@ -2,7 +2,7 @@
 ghost use Rattle.std.specs.Prelude.{◌≡◌, List, Option, IfOk, OnErr};
 ghost use Rattle.broadcast_core.specs.Carried.{Carried};
 ghost use Rattle.broadcast_core.specs.Content.{same_by, outcome_at};
-ghost use Rattle.engine_draft.specs.Replies.{Replied};
+ghost use Rattle.engine_draft.specs.Replies.{Replied, Replies};
 ghost use Rattle.engine_draft.specs.Handing.{Serves};
 
 use crate::buffered::engine::node::Node;
@@ -30,8 +30,9 @@ where
     ensures outcome { IfOk result (λ outcome. outcome
         ≡ outcome_at (same_by P.cmp M.Digest.cmp) node.old.core peer.now message.now.digest) }
     ensures serves { IfOk result (λ outcome.
-        (replies : List (Replied S G (Carried M M.Digest) (Option (Carried M M.Digest))))
-        × Serves (same_by P.cmp M.Digest.cmp) O.told peer.now message.now replies node.old node.new) }
+        (replies : Replies S G M M.Digest)
+        × Serves (same_by P.cmp M.Digest.cmp) O.told peer.now message.now replies
+        node.old node.new) }
     ensures unchanged_on_error { OnErr result (node.new ≡ node.old) }
 {
     let number = node.core.waiting(&message.digest());
@@ -53,10 +54,12 @@ where
     S: Drop,
     O: Outlet<S, G, Reply<M>, Option<Reply<M>>>,
     ensures outcome { IfOk result (λ outcome. outcome
-        ≡ outcome_at (same_by P.cmp M.Digest.cmp) node.old.core node.old.core.own message.now.digest) }
+        ≡ outcome_at (same_by P.cmp M.Digest.cmp) node.old.core
+        node.old.core.own message.now.digest) }
     ensures serves { IfOk result (λ outcome.
-        (replies : List (Replied S G (Carried M M.Digest) (Option (Carried M M.Digest))))
-        × Serves (same_by P.cmp M.Digest.cmp) O.told node.old.core.own message.now replies node.old node.new) }
+        (replies : Replies S G M M.Digest)
+        × Serves (same_by P.cmp M.Digest.cmp) O.told node.old.core.own message.now replies
+        node.old node.new) }
     ensures unchanged_on_error { OnErr result (node.new ≡ node.old) }
 {
     let number = node.core.waiting(&message.digest());

@@ -8,7 +8,7 @@ use Rattle.engine_draft.proofs.buffered.engine.job.arrive.Goals as goal
 pub returns-in-Ok : goal.returns-in-Ok
 returns-in-Ok g c = λ s e encoding priority past has.
     subst (λ d. Applied s (λ w b. g.S.Responder.may_answer w.responder b) g.O.Outlet.told g.N.Sender.told past (input.Arrived c.args.peer d)
-        c.apply.result c.args.node.now c.apply.new.node c.args.sender.now c.apply.new.sender) c.in-Ok.ensures (c.apply.ensures s e encoding priority past has)
+    c.apply.result c.args.node.now c.apply.new.node c.args.sender.now c.apply.new.sender) c.in-Ok.ensures (c.apply.ensures s e encoding priority past has)
 
 pub returns-in-Err : goal.returns-in-Err
 returns-in-Err g c = λ s e encoding priority past has.

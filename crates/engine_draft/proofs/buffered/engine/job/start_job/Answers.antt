@@ -24,8 +24,8 @@ returns-in-Ok-start-clause-started g c = λ s e encoding priority own past has.
     (Ran-decoded s (λ w b. g.S.Responder.may_answer w.responder b) g.O.Outlet.told g.N.Sender.told g.T.Job.Job.is_of past c.args.peer c.args.message e c.args.node.now c.count_peer.new.self c.args.sender.now has
     c.in-Ok.ensures.counts_one c.count_peer.ensures.totals_stay)
     (IfReady-weaker c.poll_job.result _ (λ (t : Turn). Applied s (λ w b. g.S.Responder.may_answer w.responder b) g.O.Outlet.told g.N.Sender.told past
-        (input.Arrived c.args.peer (record { message = c.args.message; digest = g.M.Digestible.digest_of c.args.message })) t (record c.args.node.now { metrics = c.count_peer.new.self }) c.poll_job.new.node c.args.sender.now c.poll_job.new.sender)
-        (λ t says. says s e encoding priority past has) (c.poll_job.ensures.applied c.args.message c.in-Ok-start.ensures))
+    (input.Arrived c.args.peer (record { message = c.args.message; digest = g.M.Digestible.digest_of c.args.message })) t (record c.args.node.now { metrics = c.count_peer.new.self }) c.poll_job.new.node c.args.sender.now c.poll_job.new.sender)
+    (λ t says. says s e encoding priority past has) (c.poll_job.ensures.applied c.args.message c.in-Ok-start.ensures))
     c.poll_job.ensures.empty (c.poll_job.ensures.pending c.args.message c.in-Ok-start.ensures) c.poll_job.ensures.unchanged_if_pending
 
 pub returns-in-Err-clause-started : goal.returns-in-Err-clause-started
