@@ -60,7 +60,7 @@ module _ {P M D S G O N B Q : Type 0} (s : Setting P M D) (may_answer : Asker S 
       → ((before : List (List P)) → provider_told provider before → provider_told provider' (before ++ []))
       → ((before : List (Request (Message P M S G D))) → requests_told requests before → requests_told requests' (before ++ []))
       → Polled s may_answer outlet_told sender_told provider_told requests_told past result old mid sender sender provider provider' requests requests'
-  Polled-idle result provider provider' requests requests' ends sets asked = record { steps = swept test ∷ []; ran = cleaning; turn = ends; sets = sets; requests = asked }
+  Polled-idle result provider provider' requests requests' ends sets asked = record { steps = swept test ∷ []; ran = cleaning; swept_first = (test, [], refl); turn = ends; sets = sets; requests = asked }
 
   -- a source gave one, which was applied or refused
   pub Polled-input : (input : Input P M S G D) (turn : Turn) (new : Node P M S O D) (last : N) (provider provider' : B) (requests requests' : Q)
@@ -73,6 +73,7 @@ module _ {P M D S G O N B Q : Type 0} (s : Setting P M D) (may_answer : Asker S 
       record {
         steps = one.step ∷ swept test ∷ [];
         ran = Ran-more s may_answer outlet_told sender_told past (swept test ∷ []) (one.step ∷ []) old mid new sender sender last cleaning one.ran;
+        swept_first = (test, one.step ∷ [], refl);
         turn = (one.turned, refl);
         sets = λ before h. subst (λ is. provider_told provider' (before ++ sets_in is)) (sym is) (sets before h);
         requests = λ before h. subst (λ is. requests_told requests' (before ++ requests_in is)) (sym is) (asked before h);

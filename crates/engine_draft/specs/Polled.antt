@@ -15,7 +15,7 @@ use Rattle.engine_draft.specs.declared.buffered.engine.input.Request.{Request}
 use Rattle.engine_draft.specs.declared.buffered.engine.input.Turn.{Turn}
 use Rattle.engine_draft.specs.declared.buffered.engine.node.Node.{Node}
 use Rattle.engine_draft.specs.Replies.{Asker, Replied, Replies}
-use Rattle.engine_draft.specs.EngineHistory.{Step, applied, refused, happenings, turn_of}
+use Rattle.engine_draft.specs.EngineHistory.{Step, swept, applied, refused, happenings, turn_of}
 use Rattle.engine_draft.specs.Ran.{Ran}
 
 module _ {P M D S G : Type 0} where
@@ -40,6 +40,10 @@ module _ {P M D S G : Type 0} where
   requests_in (input.Request request ∷ is) = request ∷ requests_in is
   requests_in (_ ∷ is) = requests_in is
 
+  -- the first of the steps is a cleanup of the waiters that answered closed
+  abbrev pub IsSweptFirst : List (Step P M D S G) → Type 0
+  IsSweptFirst steps = (test : ℕ → Asker S → Bool) × (later : List (Step P M D S G)) × (steps ≡ later ++ swept test ∷ [])
+
   -- a poll that is ready ends with the step of its turn; one that is pending, or ends the engine, has no input
   abbrev pub Ends : Setting P M D → Poll (Result Turn EndCause) → List (Step P M D S G) → History P M D (Asker S) (Asker G) → Type 0
   Ends s (Ready (Ok turn)) [] past = ⊥
@@ -54,6 +58,7 @@ module _ {P M D S G O N B Q : Type 0} (s : Setting P M D) (may_answer : Asker S 
       (old_provider new_provider : B) (old_requests new_requests : Q) : Type 0 where
     pub steps : List (Step P M D S G)
     pub ran : Ran s may_answer outlet_told sender_told past steps old new old_sender new_sender
+    pub swept_first : IsSweptFirst steps
     pub turn : Ends s result steps past
     -- its peer sets and requests are those that were given
     pub sets : (before : List (List P)) → provider_told old_provider before → provider_told new_provider (before ++ sets_in (inputs steps))
