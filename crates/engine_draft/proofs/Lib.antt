@@ -4,3 +4,4 @@ pub mod EngineSteps
 pub mod Runs
 pub mod Composing
 pub mod Polling
+pub mod Fetching

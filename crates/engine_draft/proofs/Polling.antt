@@ -101,7 +101,7 @@ module _ {P M D S G O N J : Type 0} (s : Setting P M D) (may_answer : Asker S �
   Started-uncounted turn old new first last one = record {
     steps = one.step ∷ [];
     ran = one.ran;
-    arrives = (one.turned, input-at s may_answer outlet_told sender_told (input.Arrived p (own_digested s m)) one.step one.of_input, refl);
+    arrives = (one.turned, refl, input-at s may_answer outlet_told sender_told (input.Arrived p (own_digested s m)) one.step one.of_input, refl);
   }
 
   -- it was applied or refused after that
@@ -111,7 +111,7 @@ module _ {P M D S G O N J : Type 0} (s : Setting P M D) (may_answer : Asker S �
   Started-ready turn old mid new first last slot began one none = record {
     steps = one.step ∷ decoded p ∷ [];
     ran = Ran-more s may_answer outlet_told sender_told past (decoded p ∷ []) (one.step ∷ []) old mid new first first last began one.ran;
-    arrives = (one.turned, input-at s may_answer outlet_told sender_told (input.Arrived p (own_digested s m)) one.step one.of_input, none);
+    arrives = (one.turned, refl, input-at s may_answer outlet_told sender_told (input.Arrived p (own_digested s m)) one.step one.of_input, none);
   }
 
   -- its job is pending
@@ -140,7 +140,7 @@ module _ {P M D S G O N J : Type 0} (s : Setting P M D) (may_answer : Asker S �
   comes : (read : Result M CodecError) → read ≡ Ok m → (result : Poll Turn) (steps : List (Step P M D S G)) (slot : Option (P × J))
       → Arrives s may_answer outlet_told sender_told is_of p m result steps past slot → Comes s may_answer outlet_told sender_told is_of p read result steps past slot
   comes read is (Ready turn) [] slot a = absurd a
-  comes read is (Ready turn) (step ∷ steps) slot a = (a.0, a.1 ∙ ap (λ r. payload_input s may_answer outlet_told sender_told is_of p r ∷ []) (sym is), a.2)
+  comes read is (Ready turn) (step ∷ steps) slot a = (a.0, a.1, a.2 ∙ ap (λ r. payload_input s may_answer outlet_told sender_told is_of p r ∷ []) (sym is), a.3)
   comes read is Pending steps slot a = (m, is, a.0, a.1)
 
   -- a payload that reads whole as the message
@@ -164,7 +164,7 @@ module _ {P M D S G O N J : Type 0} (s : Setting P M D) (may_answer : Asker S �
   Received-invalid bytes error turn old new first last is one = record {
     steps = one.step ∷ [];
     ran = one.ran;
-    comes = (one.turned, input-at s may_answer outlet_told sender_told (input.Invalid error) one.step one.of_input ∙ ap (λ r. payload_input s may_answer outlet_told sender_told is_of p r ∷ []) (sym is), refl);
+    comes = (one.turned, refl, input-at s may_answer outlet_told sender_told (input.Invalid error) one.step one.of_input ∙ ap (λ r. payload_input s may_answer outlet_told sender_told is_of p r ∷ []) (sym is), refl);
   }
 
   -- a payload that was refused before it was decoded

@@ -6,3 +6,4 @@ pub mod EngineHistory
 pub mod Ran
 pub mod Handing
 pub mod Polled
+pub mod Fetched

@@ -71,7 +71,7 @@ module _ {P M D S G O N J : Type 0} (s : Setting P M D) (may_answer : Asker S �
   abbrev pub Arrives : P → M → Poll Turn → List (Step P M D S G) → History P M D (Asker S) (Asker G) → Option (P × J) → Type 0
   Arrives p m (Ready turn) [] past slot = ⊥
   Arrives p m (Ready turn) (step ∷ steps) past slot = (turn_of s step (happenings steps ++ past) ≡ Some turn)
-      × (inputs (step ∷ steps) ≡ input.Arrived p (own_digested s m) ∷ []) × (slot ≡ None)
+      × (inputs steps ≡ []) × (inputs_at step ≡ input.Arrived p (own_digested s m) ∷ []) × (slot ≡ None)
   Arrives p m Pending steps past slot = (inputs steps ≡ []) × ((job : J) × (slot ≡ Some (p, job)) × is_of job m)
 
   -- after a history, a message that was decoded was digested by these steps
@@ -89,7 +89,7 @@ module _ {P M D S G O N J : Type 0} (s : Setting P M D) (may_answer : Asker S �
   abbrev pub Comes : P → Result M CodecError → Poll Turn → List (Step P M D S G) → History P M D (Asker S) (Asker G) → Option (P × J) → Type 0
   Comes p read (Ready turn) [] past slot = ⊥
   Comes p read (Ready turn) (step ∷ steps) past slot = (turn_of s step (happenings steps ++ past) ≡ Some turn)
-      × (inputs (step ∷ steps) ≡ payload_input p read ∷ []) × (slot ≡ None)
+      × (inputs steps ≡ []) × (inputs_at step ≡ payload_input p read ∷ []) × (slot ≡ None)
   Comes p read Pending steps past slot = (m : M) × (read ≡ Ok m) × (inputs steps ≡ []) × ((job : J) × (slot ≡ Some (p, job)) × is_of job m)
 
   -- after a history, a payload was taken by these steps

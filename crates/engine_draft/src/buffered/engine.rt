@@ -1,6 +1,7 @@
 //! The engine of a node.
 mod apply;
 mod broadcast;
+mod fetch;
 mod handler;
 mod input;
 mod job;
