@@ -1,6 +1,5 @@
 -- Steps after steps.
-use Rattle.std.proofs.Common.{◌≡◌, ℕ, ◌+◌, Bool, if◌then◌else◌, List, [], ◌∷◌, ◌++◌, Option, refl, sym, ap, ◌∙◌, subst, append-nil, append_assoc}
-use Rattle.broadcast_core.specs.Carried.{Carried}
+use Rattle.std.proofs.Common.{◌≡◌, ℕ, ◌+◌, Bool, if◌then◌else◌, List, [], ◌∷◌, ◌++◌, refl, sym, ap, ◌∙◌, subst, append-nil, append_assoc}
 use Rattle.broadcast_core.specs.Setting.{Setting}
 use Rattle.broadcast_core.specs.Happening.{History}
 use Rattle.broadcast_core.specs.HasContent.{HasContent}
@@ -9,7 +8,7 @@ use Rattle.broadcast_core.specs.Sent.{sent, sent_at}
 use Rattle.broadcast_core.specs.declared.event.Sent.{Sent}
 use Rattle.engine_draft.specs.declared.buffered.engine.node.Node.{Node}
 use Rattle.engine_draft.specs.Counters.{Totals, count_of}
-use Rattle.engine_draft.specs.Replies.{Asker, Replied, Replies}
+use Rattle.engine_draft.specs.Replies.{Asker, Replies}
 use Rattle.engine_draft.specs.EngineHistory.{Step, swept, applied, refused, decoded, ended, AreSteps, IsStep, happenings_at, happenings, handed_out_at, handed_out, count, counts, count_peer}
 use Rattle.engine_draft.specs.Ran.{Ran}
 

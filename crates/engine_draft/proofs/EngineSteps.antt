@@ -12,7 +12,6 @@ use Rattle.broadcast_core.specs.Waiters.{NoneEmpty, counted}
 use Rattle.broadcast_core.specs.Waiting.{waiting}
 use Rattle.broadcast_core.specs.Answers.{outcome}
 use Rattle.broadcast_core.specs.declared.codec.CodecError.{CodecError}
-use Rattle.broadcast_core.specs.declared.event.Cause.{Cause}
 use Rattle.broadcast_core.specs.declared.ordered.Recipients.{Recipients}
 use Rattle.broadcast_core.specs.declared.outcome.Outcome.{Outcome}
 use Rattle.broadcast_core.specs.declared.outcome.Subscribed.{Subscribed}
@@ -21,14 +20,13 @@ use Rattle.broadcast_core.proofs.Stepping.{HasContent-peers, HasContent-arrival,
 use Rattle.broadcast_core.proofs.AwaitedCount.{awaited-counted}
 use Rattle.broadcast_core.proofs.Handing.{handed_by, outcome-taken, handed-arrival, handed-broadcast, handed-get, handed-subscribe}
 use Rattle.commonware_broadcast.specs.declared.ingress.message.Message.TheVariants.{Broadcast, Subscribe, Get}
-use Rattle.engine_draft.specs.declared.buffered.engine.input.Input.{Input}
 use Rattle.engine_draft.specs.declared.buffered.engine.input.Input.TheVariants.{Peers, Request, Arrived, Invalid}
 use Rattle.engine_draft.specs.declared.buffered.engine.node.Node.{Node}
 use Rattle.engine_draft.specs.declared.buffered.metrics.Counter.{Counter}
 use Rattle.engine_draft.specs.declared.buffered.metrics.Status.TheVariants as status
 use Rattle.engine_draft.specs.Counters.{Counters, added}
-use Rattle.engine_draft.specs.Replies.{Asker, Replied, got, reply_of, Replies}
-use Rattle.engine_draft.specs.EngineHistory.{applied, swept, ended, count_outcome, count_replies, MayRefuse}
+use Rattle.engine_draft.specs.Replies.{Asker, got, reply_of, Replies}
+use Rattle.engine_draft.specs.EngineHistory.{applied, swept, ended, count_outcome, count_replies}
 use Rattle.engine_draft.specs.Handing.{Hands, Serves}
 use Rattle.engine_draft.specs.Ran.{Steps}
 

@@ -1,9 +1,7 @@
 -- One poll of the network.
 use Rattle.std.proofs.Common.{◌≡◌, ℕ, Bool, List, [], ◌∷◌, ◌++◌, Option, Some, None, Result, refl, sym, ap, ◌∙◌, subst, append-nil}
-use Rattle.std.specs.Prelude.{Ok, Err}
 use Rattle.futures.specs.declared.task.Poll.{Poll}
 use Rattle.futures.specs.declared.task.Poll.TheVariants.{Ready, Pending}
-use Rattle.broadcast_core.specs.Carried.{Carried}
 use Rattle.broadcast_core.specs.Setting.{Setting, own_digested}
 use Rattle.broadcast_core.specs.Happening.{History}
 use Rattle.broadcast_core.specs.HasContent.{HasContent}

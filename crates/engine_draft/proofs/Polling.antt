@@ -4,7 +4,6 @@ use Rattle.futures.specs.Poll.{IfReady, OnPending}
 use Rattle.futures.specs.declared.task.Poll.{Poll}
 use Rattle.futures.specs.declared.task.Poll.TheVariants.{Ready, Pending}
 use Rattle.std.specs.Prelude.{Ok, Err}
-use Rattle.broadcast_core.specs.Carried.{Carried}
 use Rattle.broadcast_core.specs.Setting.{Setting, own_digested}
 use Rattle.broadcast_core.specs.Content.{Same}
 use Rattle.broadcast_core.specs.HasContent.{HasContent}
@@ -22,7 +21,7 @@ use Rattle.engine_draft.specs.declared.buffered.engine.input.Turn.TheVariants as
 use Rattle.engine_draft.specs.declared.buffered.engine.node.Node.{Node}
 use Rattle.engine_draft.specs.declared.buffered.engine.input.Input.TheVariants as input
 use Rattle.engine_draft.specs.Counters.{Counters, count_of}
-use Rattle.engine_draft.specs.Replies.{Asker, Replied, Replies}
+use Rattle.engine_draft.specs.Replies.{Asker, Replies}
 use Rattle.engine_draft.specs.EngineHistory.{Step, swept, applied, refused, decoded, ended}
 use Rattle.engine_draft.specs.Ran.{Steps, Ran, Applied, IsOf}
 use Rattle.engine_draft.specs.Polled.{Polled, Ends, Started, Received, Arrives, Comes, payload_input, inputs_at, sets_in, requests_in}

@@ -1,6 +1,5 @@
 -- Steps, one after the other.
-use Rattle.std.proofs.Common.{◌≡◌, ℕ, Bool, true, false, List, [], ◌∷◌, ◌++◌, Option, Some, None, is_some, refl, sym, ap, ◌∙◌, subst, append-nil, append_assoc}
-use Rattle.std.specs.Cmp.{IsEquivalence}
+use Rattle.std.proofs.Common.{◌≡◌, ℕ, Bool, true, List, [], ◌∷◌, ◌++◌, Some, None, is_some, refl, sym, ap, ◌∙◌, subst, append-nil}
 use Rattle.broadcast_core.specs.Carried.{Carried}
 use Rattle.broadcast_core.specs.Setting.{Setting}
 use Rattle.broadcast_core.specs.Happening.{History}
@@ -21,8 +20,8 @@ use Rattle.engine_draft.specs.declared.buffered.engine.input.Turn.{Turn}
 use Rattle.engine_draft.specs.declared.buffered.engine.input.Turn.TheVariants as turn
 use Rattle.engine_draft.specs.declared.buffered.engine.node.Node.{Node}
 use Rattle.engine_draft.specs.Counters.{Counters, count_of}
-use Rattle.engine_draft.specs.Replies.{Asker, Replied, Replies}
-use Rattle.engine_draft.specs.EngineHistory.{Step, applied, refused, happening_of, happenings_at, happenings, turn_of, count_peer, MayRefuse, MayRefuseRequest}
+use Rattle.engine_draft.specs.Replies.{Asker, Replies}
+use Rattle.engine_draft.specs.EngineHistory.{Step, applied, refused, happening_of, happenings_at, turn_of, count_peer, MayRefuse, MayRefuseRequest}
 use Rattle.engine_draft.specs.Ran.{Steps, Ran, Applied}
 
 module _ {P M D S G O N : Type 0} (s : Setting P M D) (may_answer : Asker S → Bool → Type 0)

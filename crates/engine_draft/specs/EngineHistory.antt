@@ -1,6 +1,5 @@
 -- What an engine did: a list of steps, the newest first, and what is read off it.
 use Rattle.std.specs.Prelude.{◌≡◌, ℕ, ◌+◌, Bool, true, false, if◌then◌else◌, List, [], ◌∷◌, ◌++◌, map, length, Option, None, Some, is_some}
-use Rattle.broadcast_core.specs.Carried.{Carried}
 use Rattle.broadcast_core.specs.Content.{first_places}
 use Rattle.broadcast_core.specs.Setting.{Setting}
 use Rattle.broadcast_core.specs.Happening.{Happening, History, peers, broadcast, arrival, subscribe, get, cleanup}

@@ -2,7 +2,6 @@
 use Rattle.std.specs.Prelude.{◌≡◌, ℕ, Bool, List, [], ◌∷◌, ◌++◌, Option, Some, None, Result, Ok, Err}
 use Rattle.futures.specs.declared.task.Poll.{Poll}
 use Rattle.futures.specs.declared.task.Poll.TheVariants.{Ready, Pending}
-use Rattle.broadcast_core.specs.Carried.{Carried}
 use Rattle.broadcast_core.specs.Setting.{Setting, own_digested}
 use Rattle.broadcast_core.specs.Happening.{History}
 use Rattle.broadcast_core.specs.declared.codec.CodecError.{CodecError}
@@ -14,7 +13,7 @@ use Rattle.engine_draft.specs.declared.buffered.engine.input.Input.TheVariants a
 use Rattle.engine_draft.specs.declared.buffered.engine.input.Request.{Request}
 use Rattle.engine_draft.specs.declared.buffered.engine.input.Turn.{Turn}
 use Rattle.engine_draft.specs.declared.buffered.engine.node.Node.{Node}
-use Rattle.engine_draft.specs.Replies.{Asker, Replied, Replies}
+use Rattle.engine_draft.specs.Replies.{Asker, Replies}
 use Rattle.engine_draft.specs.EngineHistory.{Step, swept, applied, refused, happenings, turn_of}
 use Rattle.engine_draft.specs.Ran.{Ran}
 

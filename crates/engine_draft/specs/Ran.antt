@@ -1,6 +1,5 @@
 -- What the steps of an engine leave.
-use Rattle.std.specs.Prelude.{◌≡◌, Bool, List, [], ◌∷◌, ◌++◌, Option, Some}
-use Rattle.broadcast_core.specs.Carried.{Carried}
+use Rattle.std.specs.Prelude.{◌≡◌, Bool, List, [], ◌∷◌, ◌++◌, Some}
 use Rattle.broadcast_core.specs.Setting.{Setting}
 use Rattle.broadcast_core.specs.Happening.{History}
 use Rattle.broadcast_core.specs.HasContent.{HasContent}
@@ -10,7 +9,7 @@ use Rattle.engine_draft.specs.declared.buffered.engine.input.Input.{Input}
 use Rattle.engine_draft.specs.declared.buffered.engine.input.Turn.{Turn}
 use Rattle.engine_draft.specs.declared.buffered.engine.node.Node.{Node}
 use Rattle.engine_draft.specs.Counters.{count_of}
-use Rattle.engine_draft.specs.Replies.{Asker, Replied, Replies}
+use Rattle.engine_draft.specs.Replies.{Asker, Replies}
 use Rattle.engine_draft.specs.EngineHistory.{Step, applied, refused, IsStep, AreSteps, happenings_at, happenings, handed_out_at, handed_out, count, counts, count_peer, turn_of}
 
 module _ {P M D S G O : Type 0} (s : Setting P M D) (may_answer : Asker S → Bool → Type 0)

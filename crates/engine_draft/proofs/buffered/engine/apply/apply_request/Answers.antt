@@ -1,4 +1,4 @@
-use Rattle.std.proofs.Common.{Some, refl, sym, ap, ◌∙◌}
+use Rattle.std.proofs.Common.{refl, sym, ap, ◌∙◌}
 use Rattle.std.specs.Prelude.{is_some}
 use Rattle.broadcast_core.specs.Content.{message_at}
 use Rattle.broadcast_core.specs.declared.event.Cause.TheVariants.{Memory}

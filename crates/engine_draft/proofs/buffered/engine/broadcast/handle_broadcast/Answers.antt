@@ -1,4 +1,4 @@
-use Rattle.std.proofs.Common.{◌≡◌, Bool, true, Some, Err, is_some, refl, sym, ap, ◌∙◌}
+use Rattle.std.proofs.Common.{◌≡◌, Some, Err, is_some, refl, ap, ◌∙◌}
 use Rattle.broadcast_core.proofs.Lawful.{same_by-lawful}
 use Rattle.broadcast_core.specs.declared.event.Cause.TheVariants.{Memory}
 use Rattle.commonware_broadcast.specs.declared.ingress.message.Message.TheVariants.{Broadcast}

@@ -1,4 +1,4 @@
-use Rattle.std.proofs.Common.{◌≡◌, Err, refl, sym, ap, subst}
+use Rattle.std.proofs.Common.{Err, refl, subst}
 use Rattle.futures.specs.declared.task.Poll.TheVariants.{Ready, Pending}
 use Rattle.engine_draft.specs.declared.buffered.engine.input.EndCause.TheVariants.{NetworkFailed}
 use Rattle.engine_draft.specs.Polled.{Received}
@@ -20,5 +20,5 @@ returns-in-Ready-Ok-clause-fetched g c = λ s e encoding priority own reading pa
     rw c.going_on.ensures (Fetched-received s (λ w b. g.S.Responder.may_answer w.responder b) g.O.Outlet.told g.N.Sender.told g.T.Job.Job.is_of g.R.Receiver.told past c.in-Ready-Ok.peer c.in-Ready-Ok.bytes c.receive.result
     c.args.node.now c.receive.new.node c.args.sender.now c.receive.new.sender c.args.receiver.now c.poll_recv.new.self c.receive.new.slot
     (subst (λ bs. Received s (λ w b. g.S.Responder.may_answer w.responder b) g.O.Outlet.told g.N.Sender.told g.T.Job.Job.is_of past c.in-Ready-Ok.peer bs c.receive.result
-        c.args.node.now c.receive.new.node c.args.sender.now c.receive.new.sender c.receive.new.slot) c.as_slice-payload.ensures (c.receive.ensures.received s e encoding priority own reading past has))
+    c.args.node.now c.receive.new.node c.args.sender.now c.receive.new.sender c.receive.new.slot) c.as_slice-payload.ensures (c.receive.ensures.received s e encoding priority own reading past has))
     (rw c.in-Ready-Ok.field-0-is at c.in-Ready-Ok.ensures.tells))

@@ -1,4 +1,4 @@
-use Rattle.std.proofs.Common.{refl, sym, subst}
+use Rattle.std.proofs.Common.{refl, subst}
 use Rattle.broadcast_core.specs.declared.event.Cause.TheVariants.{Memory}
 use Rattle.engine_draft.specs.Ran.{Applied}
 use Rattle.engine_draft.specs.declared.buffered.engine.input.Input.TheVariants as input

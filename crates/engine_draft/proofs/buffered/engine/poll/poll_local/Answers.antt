@@ -1,5 +1,5 @@
 use Rattle.std.proofs.Common.{◌∷◌, refl}
-use Rattle.std.specs.Prelude.{Ok, Err}
+use Rattle.std.specs.Prelude.{Err}
 use Rattle.futures.specs.declared.task.Poll.TheVariants.{Ready, Pending}
 use Rattle.broadcast_core.specs.Happening.{cleanup}
 use Rattle.engine_draft.specs.declared.buffered.engine.input.EndCause.TheVariants.{PeersClosed}

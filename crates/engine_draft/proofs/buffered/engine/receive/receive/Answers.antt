@@ -1,4 +1,4 @@
-use Rattle.std.proofs.Common.{◌≡◌, Ok, Err, inl, inr, refl, sym, ap, ◌∙◌}
+use Rattle.std.proofs.Common.{◌≡◌, Ok, Err, inl, inr, sym, ap, ◌∙◌}
 use Rattle.std.specs.Prelude.{length, is_ok, true}
 use Rattle.broadcast_core.specs.declared.codec.CodecError.TheVariants as CodecError
 use Rattle.broadcast_core.proofs.Applying.{not_memory}
