@@ -9,7 +9,8 @@ use Rattle.broadcast_core.specs.declared.event.Sent.{Sent}
 use Rattle.engine_draft.specs.declared.buffered.engine.node.Node.{Node}
 use Rattle.engine_draft.specs.Counters.{Totals, count_of}
 use Rattle.engine_draft.specs.Replies.{Asker, Replies}
-use Rattle.engine_draft.specs.EngineHistory.{Step, swept, applied, refused, decoded, ended, AreSteps, IsStep, happenings_at, happenings, handed_out_at, handed_out, count, counts, count_peer}
+use Rattle.engine_draft.specs.EngineHistory.{Step, swept, applied, refused, decoded, ended, AreSteps, IsStep, happenings_at, happenings, handed_out_at, handed_out}
+use Rattle.engine_draft.specs.Counting.{count, counts, count_peer}
 use Rattle.engine_draft.specs.Ran.{Ran}
 
 module _ {P M D S G : Type 0} where

@@ -26,7 +26,8 @@ use Rattle.engine_draft.specs.declared.buffered.metrics.Counter.{Counter}
 use Rattle.engine_draft.specs.declared.buffered.metrics.Status.TheVariants as status
 use Rattle.engine_draft.specs.Counters.{Counters, added}
 use Rattle.engine_draft.specs.Replies.{Asker, got, reply_of, Replies}
-use Rattle.engine_draft.specs.EngineHistory.{applied, swept, ended, count_outcome, count_replies}
+use Rattle.engine_draft.specs.EngineHistory.{applied, swept, ended}
+use Rattle.engine_draft.specs.Counting.{count_outcome, count_replies}
 use Rattle.engine_draft.specs.Handing.{Hands, Serves}
 use Rattle.engine_draft.specs.Ran.{Steps}
 

@@ -4,7 +4,7 @@ use Rattle.broadcast_core.specs.Carried.{Carried}
 use Rattle.broadcast_core.specs.Handed.{to_subscribe}
 use Rattle.engine_draft.specs.Counters.{Totals, Counters}
 use Rattle.engine_draft.specs.Replies.{Asker, Replied, subscribed, reply_of, Replies}
-use Rattle.engine_draft.specs.EngineHistory.{count_reply, count_replies}
+use Rattle.engine_draft.specs.Counting.{count_reply, count_replies}
 use Rattle.engine_draft.specs.Handing.{Hands}
 
 module _ {S G A C : Type 0} where

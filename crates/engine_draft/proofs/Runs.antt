@@ -21,7 +21,8 @@ use Rattle.engine_draft.specs.declared.buffered.engine.input.Turn.TheVariants as
 use Rattle.engine_draft.specs.declared.buffered.engine.node.Node.{Node}
 use Rattle.engine_draft.specs.Counters.{Counters, count_of}
 use Rattle.engine_draft.specs.Replies.{Asker, Replies}
-use Rattle.engine_draft.specs.EngineHistory.{Step, applied, refused, happening_of, happenings_at, turn_of, count_peer, MayRefuse, MayRefuseRequest}
+use Rattle.engine_draft.specs.EngineHistory.{Step, applied, refused, happening_of, happenings_at, turn_of, MayRefuse, MayRefuseRequest}
+use Rattle.engine_draft.specs.Counting.{count_peer}
 use Rattle.engine_draft.specs.Ran.{Steps, Ran, Applied}
 
 module _ {P M D S G O N : Type 0} (s : Setting P M D) (may_answer : Asker S → Bool → Type 0)

@@ -23,7 +23,10 @@ no_counts = record { success = 0; failure = 0; invalid = 0; dropped = 0 }
 
 -- the counters of an engine to which nothing has happened
 abbrev pub zero_counters : {P : Type 0} → Counters P
-zero_counters = record { peer = []; totals = record { receive = no_counts; subscribe = no_counts; get = no_counts; waiters = 0 } }
+zero_counters = record {
+  peer = [];
+  totals = record { receive = no_counts; subscribe = no_counts; get = no_counts; waiters = 0 };
+}
 
 -- the number for the status
 abbrev pub number_of : Status → Counter → ℕ

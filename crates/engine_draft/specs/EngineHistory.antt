@@ -40,12 +40,14 @@ module _ {P M D S G : Type 0} where
   -- a request, under its ticket
   abbrev pub asked : ℕ → Message P M S G D → Happening P M D (Asker S) (Asker G)
   asked ticket (Broadcast r c) = broadcast r c
-  asked ticket (Subscribe d responder) = subscribe (record { ticket = ticket; responder = responder }) d
+  asked ticket (Subscribe d responder) =
+      subscribe (record { ticket = ticket; responder = responder }) d
   asked ticket (Get d responder) = get (record { ticket = ticket; responder = responder }) d
 
   -- a request as an input
   abbrev pub requested : ℕ → Bool → Message P M S G D → Input P M S G D
-  requested ticket counted message = Request (record { ticket = ticket; message = message; counted = counted })
+  requested ticket counted message =
+      Request (record { ticket = ticket; message = message; counted = counted })
 
   -- what happens at an input; a payload that is no message is no happening
   abbrev pub happening_of : Input P M S G D → History P M D (Asker S) (Asker G)
@@ -75,25 +77,6 @@ module _ {P M D S G : Type 0} where
   handed_out [] = []
   handed_out (step ∷ steps) = handed_out steps ++ handed_out_at step
 
-module _ {S G A C : Type 0} where
-  -- a reply is counted by whether it was delivered, and a delivered one to a get by whether it has a message
-  abbrev pub count_reply : Replied S G A (Option C) → Totals → Totals
-  count_reply (subscribed w a true) t = record t { subscribe = added Success 1 t.subscribe }
-  count_reply (subscribed w a false) t = record t { subscribe = added Dropped 1 t.subscribe }
-  count_reply (got v (Some c) true) t = record t { get = added Success 1 t.get }
-  count_reply (got v None true) t = record t { get = added Failure 1 t.get }
-  count_reply (got v b false) t = record t { get = added Dropped 1 t.get }
-
-  abbrev pub count_replies : List (Replied S G A (Option C)) → Totals → Totals
-  count_replies [] t = t
-  count_replies (h ∷ hs) t = count_replies hs (count_reply h t)
-
--- a message that was received is counted by its outcome
-abbrev pub count_outcome : Outcome → Totals → Totals
-count_outcome Inserted t = record t { receive = added Success 1 t.receive }
-count_outcome Duplicate t = record t { receive = added Dropped 1 t.receive }
-count_outcome Ineligible t = record t { receive = added Dropped 1 t.receive }
-
 module _ {P M D S G : Type 0} (s : Setting P M D) where
   abbrev pub turn_of_request : Message P M S G D → History P M D (Asker S) (Asker G) → Turn
   turn_of_request (Broadcast r c) past = turn.Broadcast (outcome s s.own c.digest past)
@@ -104,43 +87,15 @@ module _ {P M D S G : Type 0} (s : Setting P M D) where
   IsEncodable (Broadcast r c) = is_some (s.encoding c.message) ≡ true
   IsEncodable _ = Unit {0}
 
-  -- a broadcast is refused if it has no encoding, and any request that takes memory may be refused for that
-  abbrev pub MayRefuseRequest : Message P M S G D → Cause → History P M D (Asker S) (Asker G) → Type 0
+  -- a broadcast is refused if it has no encoding, and any request that takes memory may be
+  -- refused for that
+  abbrev pub MayRefuseRequest : Message P M S G D → Cause → History P M D (Asker S) (Asker G)
+      → Type 0
   MayRefuseRequest (Broadcast r c) Unencodable past = s.encoding c.message ≡ None
   MayRefuseRequest (Broadcast r c) Memory past = is_some (s.encoding c.message) ≡ true
   MayRefuseRequest (Subscribe d responder) Memory past = Unit {0}
   MayRefuseRequest (Get d responder) Memory past = is_some (message s d past) ≡ true
   MayRefuseRequest _ cause past = ⊥
-
-  -- the digests that are awaited after a history
-  abbrev pub awaited : History P M D (Asker S) (Asker G) → List D
-  awaited past = first_places s.same.digest (map (λ w. w.digest) (waiting s past))
-
-  -- what an input counts, besides replies
-  abbrev pub count_input : Input P M S G D → History P M D (Asker S) (Asker G) → Totals → Totals
-  count_input (Arrived p c) past t = count_outcome (outcome s p c.digest past) t
-  count_input (Invalid error) past t = record t { receive = added status.Invalid 1 t.receive }
-  count_input _ past t = t
-
-  -- what a step counts after a history; an end counts nothing
-  abbrev pub count : Step P M D S G → History P M D (Asker S) (Asker G) → Totals → Totals
-  count (swept test) past t = record t {
-    subscribe = added Dropped (named_by test (waiting s past)) t.subscribe;
-    waiters = length (awaited (cleanup test ∷ past));
-  }
-  count (applied input replies) past t = count_input input past (count_replies replies t)
-  count _ past t = t
-
-  -- what the steps count
-  abbrev pub counts : List (Step P M D S G) → History P M D (Asker S) (Asker G) → Totals → Totals
-  counts [] past t = t
-  counts (step ∷ steps) past t = count step (happenings steps ++ past) (counts steps past t)
-
-  -- the number of a peer after the steps
-  abbrev pub count_peer : P → List (Step P M D S G) → ℕ → ℕ
-  count_peer q [] n = n
-  count_peer q (decoded p ∷ steps) n = if s.same.key p q then counted (count_peer q steps n + 1) else count_peer q steps n
-  count_peer q (step ∷ steps) n = count_peer q steps n
 
   -- the result of a turn
   abbrev pub turn_of : Step P M D S G → History P M D (Asker S) (Asker G) → Option Turn
@@ -169,13 +124,17 @@ module _ {P M D S G : Type 0} (s : Setting P M D) where
   HasEncoding _ = Unit {0}
 
   -- a step may follow a history
-  abbrev pub IsStep : (Asker S → Bool → Type 0) → Step P M D S G → History P M D (Asker S) (Asker G) → Type 0
+  abbrev pub IsStep : (Asker S → Bool → Type 0) → Step P M D S G
+      → History P M D (Asker S) (Asker G) → Type 0
   IsStep may_answer (swept test) past = AnswersAs may_answer test (waiting s past)
-  IsStep may_answer (applied input replies) past = AreDue (happening_of input) replies past × HasEncoding input
+  IsStep may_answer (applied input replies) past = AreDue (happening_of input) replies past
+      × HasEncoding input
   IsStep may_answer (refused input cause) past = MayRefuse input cause past
   IsStep may_answer _ past = Unit {0}
 
   -- each step may follow those before it
-  abbrev pub AreSteps : (Asker S → Bool → Type 0) → List (Step P M D S G) → History P M D (Asker S) (Asker G) → Type 0
+  abbrev pub AreSteps : (Asker S → Bool → Type 0) → List (Step P M D S G)
+      → History P M D (Asker S) (Asker G) → Type 0
   AreSteps may_answer [] past = Unit {0}
-  AreSteps may_answer (step ∷ steps) past = IsStep may_answer step (happenings steps ++ past) × AreSteps may_answer steps past
+  AreSteps may_answer (step ∷ steps) past = IsStep may_answer step (happenings steps ++ past)
+      × AreSteps may_answer steps past

@@ -36,17 +36,21 @@ module _ {P M D S G O N J R : Type 0} (s : Setting P M D) (may_answer : Asker S 
 
   -- the inputs that the payloads are
   abbrev pub payload_inputs : List (P × List ℕ) → List (Input P M S G D)
-  payload_inputs payloads = map (λ x. payload_input s may_answer outlet_told sender_told is_of x.0 (s.reading x.1)) payloads
+  payload_inputs payloads = map
+      (λ x. payload_input s may_answer outlet_told sender_told is_of x.0 (s.reading x.1)) payloads
 
   -- after a history in which no job was pending, a poll of the network took these steps
-  pub record Fetched (past : History P M D (Asker S) (Asker G)) (result : Poll (Result Turn EndCause)) (old new : Node P M S O D) (old_sender new_sender : N)
+  pub record Fetched (past : History P M D (Asker S) (Asker G))
+      (result : Poll (Result Turn EndCause)) (old new : Node P M S O D) (old_sender new_sender : N)
       (old_receiver new_receiver : R) (slot : Option (P × J)) : Type 0 where
     pub steps : List (Step P M D S G)
     pub ran : Ran s may_answer outlet_told sender_told past steps old new old_sender new_sender
     pub turn : Ends s result steps past
-    -- the payloads that the receiver gave are, in order, the inputs and the message of the job that is pending now
+    -- the payloads that the receiver gave are, in order, the inputs and the message of the job
+    -- that is pending now
     pub received : List (P × List ℕ)
-    pub given : (before : List (P × List ℕ)) → receiver_told old_receiver before → receiver_told new_receiver (before ++ received)
+    pub given : (before : List (P × List ℕ)) → receiver_told old_receiver before
+        → receiver_told new_receiver (before ++ received)
     pub pending : Option (P × M)
     pub held : HoldsJob is_of slot pending
     pub flow : payload_inputs received ≡ inputs steps ++ pending_input pending

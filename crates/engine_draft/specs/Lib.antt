@@ -3,6 +3,7 @@ pub mod Sources
 pub mod Jobs
 pub mod Replies
 pub mod EngineHistory
+pub mod Counting
 pub mod Ran
 pub mod Handing
 pub mod Polled

@@ -18,6 +18,7 @@ abbrev pub Replies : (S G M D : Type 0) → Type 0
 Replies S G M D = List (Replied S G (Carried M D) (Option (Carried M D)))
 
 -- the reply, delivered or not
-abbrev pub reply_of : {M D S G : Type 0} → Replied S G (Carried M D) (Option (Carried M D)) → Handed M D (Asker S) (Asker G)
+abbrev pub reply_of : {M D S G : Type 0} → Replied S G (Carried M D) (Option (Carried M D))
+    → Handed M D (Asker S) (Asker G)
 reply_of (subscribed w c delivered) = to_subscribe w c
 reply_of (got v found delivered) = to_get v found

@@ -9,7 +9,8 @@ ghost use Rattle.broadcast_core.specs.Answers.{outcome};
 ghost use Rattle.commonware_broadcast.specs.declared.ingress.message.Message.TheVariants as request;
 ghost use Rattle.engine_draft.specs.declared.buffered.engine.input.Input.TheVariants as input;
 ghost use Rattle.engine_draft.specs.Replies.{Asker, Replied, Replies};
-ghost use Rattle.engine_draft.specs.EngineHistory.{applied, swept, ended, count_outcome, requested};
+ghost use Rattle.engine_draft.specs.EngineHistory.{applied, swept, ended, requested};
+ghost use Rattle.engine_draft.specs.Counting.{count_outcome};
 ghost use Rattle.engine_draft.specs.Ran.{Steps};
 
 use crate::buffered::engine::node::Node;
