@@ -23,7 +23,7 @@ module _ {P M D S G : Type 0} where
   handed_out-append (step ∷ later) earlier = ap (λ rs. rs ++ handed_out_at step) (handed_out-append later earlier) ∙ append_assoc (handed_out earlier) (handed_out later) (handed_out_at step)
 
   -- the history before the later steps
-  history-append : (later earlier : List (Step P M D S G)) (past : History P M D (Asker S) (Asker G)) → happenings (later ++ earlier) ++ past ≡ happenings later ++ (happenings earlier ++ past)
+  pub history-append : (later earlier : List (Step P M D S G)) (past : History P M D (Asker S) (Asker G)) → happenings (later ++ earlier) ++ past ≡ happenings later ++ (happenings earlier ++ past)
   history-append later earlier past = ap (λ hs. hs ++ past) (happenings-append later earlier) ∙ append_assoc (happenings later) (happenings earlier) past
 
 module _ {P M D W V : Type 0} (s : Setting P M D) where

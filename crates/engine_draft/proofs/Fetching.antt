@@ -1,4 +1,5 @@
 -- One poll of the network.
+use Rattle.std.specs.Prelude.{Ok, Err}
 use Rattle.std.proofs.Common.{◌≡◌, ℕ, Bool, List, [], ◌∷◌, ◌++◌, Option, Some, None, Result, refl, sym, ap, ◌∙◌, subst, append-nil}
 use Rattle.futures.specs.declared.task.Poll.{Poll}
 use Rattle.futures.specs.declared.task.Poll.TheVariants.{Ready, Pending}
@@ -14,8 +15,14 @@ use Rattle.engine_draft.specs.declared.buffered.engine.node.Node.{Node}
 use Rattle.engine_draft.specs.Replies.{Asker, Replies}
 use Rattle.engine_draft.specs.EngineHistory.{Step}
 use Rattle.engine_draft.specs.Polled.{Ends, Received, Comes, inputs, inputs_at, payload_input}
-use Rattle.engine_draft.specs.Fetched.{Fetched, HoldsJob, goes_on, pending_input, payload_inputs}
+use Rattle.engine_draft.specs.Fetched.{Fetched, IsRemote, HoldsJob, goes_on, pending_input, payload_inputs}
 use Rattle.engine_draft.proofs.Composing.{Ran-none}
+
+module _ {P M D S G O N J : Type 0} (s : Setting P M D) (may_answer : Asker S → Bool → Type 0)
+    (outlet_told : O → Replies S G M D → Type 0) (sender_told : N → List (Sent P) → Type 0) (is_of : J → M → Type 0) where
+  IsRemote-one : (p : P) (read : Result M CodecError) → IsRemote (payload_input s may_answer outlet_told sender_told is_of p read ∷ [])
+  IsRemote-one p (Ok m) = record { no_sets = refl; no_requests = refl; all = refl }
+  IsRemote-one p (Err e) = record { no_sets = refl; no_requests = refl; all = refl }
 
 module _ {P M D S G O N J R : Type 0} (s : Setting P M D) (may_answer : Asker S → Bool → Type 0)
     (outlet_told : O → Replies S G M D → Type 0) (sender_told : N → List (Sent P) → Type 0)
@@ -28,6 +35,7 @@ module _ {P M D S G O N J R : Type 0} (s : Setting P M D) (may_answer : Asker S 
     steps = [];
     ran = Ran-none s may_answer outlet_told sender_told past node sender has;
     turn = ends;
+    remote = record { no_sets = refl; no_requests = refl; all = refl };
     received = [];
     given = given;
     pending = None;
@@ -38,6 +46,7 @@ module _ {P M D S G O N J R : Type 0} (s : Setting P M D) (may_answer : Asker S 
   -- what a taken payload is: its turn, and the job that is pending now
   record Flows (p : P) (bytes : List ℕ) (result : Poll Turn) (steps : List (Step P M D S G)) (slot : Option (P × J)) : Type 0 where
     turn : Ends s (goes_on result) steps past
+    remote : IsRemote (inputs steps)
     pending : Option (P × M)
     held : HoldsJob is_of slot pending
     flow : payload_inputs s may_answer outlet_told sender_told is_of receiver_told ((p, bytes) ∷ []) ≡ inputs steps ++ pending_input s may_answer outlet_told sender_told is_of receiver_told pending
@@ -47,12 +56,14 @@ module _ {P M D S G O N J R : Type 0} (s : Setting P M D) (may_answer : Asker S 
   flows p bytes read is (Ready turn) [] slot c = absurd c
   flows p bytes read is (Ready turn) (step ∷ steps) slot c = record {
     turn = (c.0, c.1);
+    remote = subst (λ l. IsRemote l) (sym (ap (λ l. l ++ inputs_at step) c.1 ∙ c.2)) (IsRemote-one s may_answer outlet_told sender_told is_of p read);
     pending = None;
     held = subst (λ x. HoldsJob is_of x None) (sym c.3) tt;
     flow = ap (λ r. payload_input s may_answer outlet_told sender_told is_of p r ∷ []) is ∙ sym c.2 ∙ ap (λ l. l ++ inputs_at step) (sym c.1) ∙ sym (append-nil (inputs steps ++ inputs_at step));
   }
   flows p bytes read is Pending steps slot (m, reads, none, (job, at, of_job)) = record {
     turn = none;
+    remote = subst (λ l. IsRemote l) (sym none) (record { no_sets = refl; no_requests = refl; all = refl });
     pending = Some (p, m);
     held = subst (λ x. HoldsJob is_of x (Some (p, m))) (sym at) (refl, of_job);
     flow = ap (λ r. payload_input s may_answer outlet_told sender_told is_of p r ∷ []) (is ∙ reads) ∙ ap (λ l. l ++ input.Arrived p (own_digested s m) ∷ []) (sym none);
@@ -64,4 +75,4 @@ module _ {P M D S G O N J R : Type 0} (s : Setting P M D) (may_answer : Asker S 
       → Fetched s may_answer outlet_told sender_told is_of receiver_told past (goes_on result) old new first last receiver receiver' slot
   Fetched-received p bytes result old new first last receiver receiver' slot one given =
       let f = flows p bytes (s.reading bytes) refl result one.steps slot one.comes in
-      record { steps = one.steps; ran = one.ran; turn = f.turn; received = (p, bytes) ∷ []; given = given; pending = f.pending; held = f.held; flow = f.flow }
+      record { steps = one.steps; ran = one.ran; turn = f.turn; remote = f.remote; received = (p, bytes) ∷ []; given = given; pending = f.pending; held = f.held; flow = f.flow }

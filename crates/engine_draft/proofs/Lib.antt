@@ -5,3 +5,4 @@ pub mod Runs
 pub mod Composing
 pub mod Polling
 pub mod Fetching
+pub mod Looking

@@ -24,7 +24,7 @@ use Rattle.engine_draft.specs.Counters.{Counters, count_of}
 use Rattle.engine_draft.specs.Replies.{Asker, Replies}
 use Rattle.engine_draft.specs.EngineHistory.{Step, swept, applied, refused, decoded, ended}
 use Rattle.engine_draft.specs.Ran.{Steps, Ran, Applied, IsOf}
-use Rattle.engine_draft.specs.Polled.{Polled, Ends, Started, Received, Arrives, Comes, payload_input, inputs_at, sets_in, requests_in}
+use Rattle.engine_draft.specs.Polled.{Polled, Ends, Started, Received, Arrives, Comes, payload_input, inputs_at, sets_in, requests_in, payloads_in}
 use Rattle.engine_draft.proofs.Runs.{Ran-one, Applied-refused}
 use Rattle.engine_draft.proofs.Composing.{Ran-more}
 
@@ -59,19 +59,20 @@ module _ {P M D S G O N B Q : Type 0} (s : Setting P M D) (may_answer : Asker S 
       → ((before : List (List P)) → provider_told provider before → provider_told provider' (before ++ []))
       → ((before : List (Request (Message P M S G D))) → requests_told requests before → requests_told requests' (before ++ []))
       → Polled s may_answer outlet_told sender_told provider_told requests_told past result old mid sender sender provider provider' requests requests'
-  Polled-idle result provider provider' requests requests' ends sets asked = record { steps = swept test ∷ []; ran = cleaning; swept_first = (test, [], refl); turn = ends; sets = sets; requests = asked }
+  Polled-idle result provider provider' requests requests' ends sets asked = record { steps = swept test ∷ []; ran = cleaning; local = refl; swept_first = (test, [], refl); turn = ends; sets = sets; requests = asked }
 
   -- a source gave one, which was applied or refused
   pub Polled-input : (input : Input P M S G D) (turn : Turn) (new : Node P M S O D) (last : N) (provider provider' : B) (requests requests' : Q)
-      → Applied s may_answer outlet_told sender_told (cleanup test ∷ past) input turn mid new sender last
+      → Applied s may_answer outlet_told sender_told (cleanup test ∷ past) input turn mid new sender last → payloads_in (input ∷ []) ≡ []
       → ((before : List (List P)) → provider_told provider before → provider_told provider' (before ++ sets_in (input ∷ [])))
       → ((before : List (Request (Message P M S G D))) → requests_told requests before → requests_told requests' (before ++ requests_in (input ∷ [])))
       → Polled s may_answer outlet_told sender_told provider_told requests_told past (Ready (Ok turn)) old new sender last provider provider' requests requests'
-  Polled-input input turn new last provider provider' requests requests' one sets asked =
+  Polled-input input turn new last provider provider' requests requests' one kind sets asked =
       let is : inputs_at one.step ≡ input ∷ [] = input-at s may_answer outlet_told sender_told input one.step one.of_input in
       record {
         steps = one.step ∷ swept test ∷ [];
         ran = Ran-more s may_answer outlet_told sender_told past (swept test ∷ []) (one.step ∷ []) old mid new sender sender last cleaning one.ran;
+        local = ap payloads_in is ∙ kind;
         swept_first = (test, one.step ∷ [], refl);
         turn = (one.turned, refl);
         sets = λ before h. subst (λ is. provider_told provider' (before ++ sets_in is)) (sym is) (sets before h);

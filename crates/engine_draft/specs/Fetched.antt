@@ -13,7 +13,13 @@ use Rattle.engine_draft.specs.declared.buffered.engine.node.Node.{Node}
 use Rattle.engine_draft.specs.Replies.{Asker, Replies}
 use Rattle.engine_draft.specs.EngineHistory.{Step}
 use Rattle.engine_draft.specs.Ran.{Ran}
-use Rattle.engine_draft.specs.Polled.{Ends, inputs, payload_input}
+use Rattle.engine_draft.specs.Polled.{Ends, inputs, payload_input, sets_in, requests_in, payloads_in}
+
+-- none of the inputs is a peer set or a request
+pub record IsRemote {P M D S G : Type 0} (is : List (Input P M S G D)) : Type 0 where
+  pub no_sets : sets_in is ≡ []
+  pub no_requests : requests_in is ≡ []
+  pub all : payloads_in is ≡ is
 
 -- the turn of a poll, for an engine that goes on
 abbrev pub goes_on : Poll Turn → Poll (Result Turn EndCause)
@@ -46,6 +52,8 @@ module _ {P M D S G O N J R : Type 0} (s : Setting P M D) (may_answer : Asker S 
     pub steps : List (Step P M D S G)
     pub ran : Ran s may_answer outlet_told sender_told past steps old new old_sender new_sender
     pub turn : Ends s result steps past
+    -- its inputs are payloads
+    pub remote : IsRemote (inputs steps)
     -- the payloads that the receiver gave are, in order, the inputs and the message of the job
     -- that is pending now
     pub received : List (P × List ℕ)

@@ -8,3 +8,4 @@ pub mod Ran
 pub mod Handing
 pub mod Polled
 pub mod Fetched
+pub mod Looked

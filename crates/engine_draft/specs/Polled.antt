@@ -39,6 +39,13 @@ module _ {P M D S G : Type 0} where
   requests_in (input.Request request ∷ is) = request ∷ requests_in is
   requests_in (_ ∷ is) = requests_in is
 
+  -- the inputs that payloads are
+  abbrev pub payloads_in : List (Input P M S G D) → List (Input P M S G D)
+  payloads_in [] = []
+  payloads_in (input.Arrived p c ∷ is) = input.Arrived p c ∷ payloads_in is
+  payloads_in (input.Invalid error ∷ is) = input.Invalid error ∷ payloads_in is
+  payloads_in (_ ∷ is) = payloads_in is
+
   -- the first of the steps is a cleanup of the waiters that answered closed
   abbrev pub IsSweptFirst : List (Step P M D S G) → Type 0
   IsSweptFirst steps = (test : ℕ → Asker S → Bool) × (later : List (Step P M D S G))
@@ -64,6 +71,8 @@ module _ {P M D S G O N B Q : Type 0} (s : Setting P M D) (may_answer : Asker S 
       (old_provider new_provider : B) (old_requests new_requests : Q) : Type 0 where
     pub steps : List (Step P M D S G)
     pub ran : Ran s may_answer outlet_told sender_told past steps old new old_sender new_sender
+    -- none of its inputs is a payload
+    pub local : payloads_in (inputs steps) ≡ []
     pub swept_first : IsSweptFirst steps
     pub turn : Ends s result steps past
     -- its peer sets and requests are those that were given

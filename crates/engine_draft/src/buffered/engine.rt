@@ -5,6 +5,7 @@ mod fetch;
 mod handler;
 mod input;
 mod job;
+mod look;
 mod node;
 mod poll;
 mod receive;
