@@ -1,5 +1,5 @@
 -- One look at all sources.
-use Rattle.std.proofs.Common.{◌≡◌, ℕ, Bool, List, [], ◌∷◌, ◌++◌, Option, Some, None, Result, refl, sym, ap, ◌∙◌, subst, append-nil, append_assoc}
+use Rattle.std.proofs.Common.{◌≡◌, ℕ, Bool, List, [], ◌∷◌, ◌++◌, Option, None, Result, sym, ap, ◌∙◌, subst, append-nil, append_assoc}
 use Rattle.std.specs.Prelude.{Ok, Err}
 use Rattle.futures.specs.declared.task.Poll.{Poll}
 use Rattle.futures.specs.declared.task.Poll.TheVariants.{Ready, Pending}
@@ -14,7 +14,7 @@ use Rattle.engine_draft.specs.declared.buffered.engine.node.Node.{Node}
 use Rattle.engine_draft.specs.Replies.{Asker, Replies}
 use Rattle.engine_draft.specs.EngineHistory.{Step, swept, happenings, turn_of}
 use Rattle.engine_draft.specs.Polled.{Ends, Polled, inputs, inputs_at, sets_in, requests_in, payloads_in}
-use Rattle.engine_draft.specs.Fetched.{Fetched, HoldsJob, pending_input, payload_inputs}
+use Rattle.engine_draft.specs.Fetched.{Fetched, HoldsJob, pending_input}
 use Rattle.engine_draft.specs.Looked.{Looked}
 use Rattle.engine_draft.proofs.Composing.{Ran-more, history-append}
 use Rattle.engine_draft.proofs.Polling.{told-same}

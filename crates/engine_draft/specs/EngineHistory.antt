@@ -1,10 +1,9 @@
 -- What an engine did: a list of steps, the newest first, and what is read off it.
-use Rattle.std.specs.Prelude.{◌≡◌, ℕ, ◌+◌, Bool, true, false, if◌then◌else◌, List, [], ◌∷◌, ◌++◌, map, length, Option, None, Some, is_some}
-use Rattle.broadcast_core.specs.Content.{first_places}
+use Rattle.std.specs.Prelude.{◌≡◌, ℕ, Bool, true, List, [], ◌∷◌, ◌++◌, map, Option, None, Some, is_some}
 use Rattle.broadcast_core.specs.Setting.{Setting}
 use Rattle.broadcast_core.specs.Happening.{Happening, History, peers, broadcast, arrival, subscribe, get, cleanup}
 use Rattle.broadcast_core.specs.Waiting.{waiting}
-use Rattle.broadcast_core.specs.HasContent.{AnswersAs, named_by}
+use Rattle.broadcast_core.specs.HasContent.{AnswersAs}
 use Rattle.broadcast_core.specs.Answers.{outcome}
 use Rattle.broadcast_core.specs.declared.event.Cause.{Cause}
 use Rattle.broadcast_core.specs.declared.event.Cause.TheVariants.{Memory, Unencodable}
@@ -12,17 +11,12 @@ use Rattle.broadcast_core.specs.Cache.{message}
 use Rattle.broadcast_core.specs.Waiters.{counted}
 use Rattle.engine_draft.specs.declared.buffered.engine.input.Turn.{Turn}
 use Rattle.engine_draft.specs.declared.buffered.engine.input.Turn.TheVariants as turn
-use Rattle.broadcast_core.specs.declared.outcome.Outcome.{Outcome}
-use Rattle.broadcast_core.specs.declared.outcome.Outcome.TheVariants.{Inserted, Duplicate, Ineligible}
 use Rattle.commonware_broadcast.specs.declared.ingress.message.Message.{Message}
 use Rattle.commonware_broadcast.specs.declared.ingress.message.Message.TheVariants.{Broadcast, Subscribe, Get}
 use Rattle.engine_draft.specs.declared.buffered.engine.input.Input.{Input}
 use Rattle.engine_draft.specs.declared.buffered.engine.input.Input.TheVariants.{Peers, Request, Arrived, Invalid}
-use Rattle.engine_draft.specs.declared.buffered.metrics.Status.TheVariants.{Success, Failure, Dropped}
-use Rattle.engine_draft.specs.declared.buffered.metrics.Status.TheVariants as status
-use Rattle.engine_draft.specs.Counters.{Totals, added}
 use Rattle.broadcast_core.specs.Handed.{handed_at}
-use Rattle.engine_draft.specs.Replies.{Asker, Replied, subscribed, got, reply_of, Replies}
+use Rattle.engine_draft.specs.Replies.{Asker, reply_of, Replies}
 
 pub data Step (P M D S G : Type 0) : Type 0 where
   -- the waiters that the test names answered closed, and were dropped

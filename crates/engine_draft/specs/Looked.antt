@@ -21,9 +21,11 @@ module _ {P M D S G O N J R B Q : Type 0} (s : Setting P M D) (may_answer : Aske
     (provider_told : B → List (List P) → Type 0)
     (requests_told : Q → List (Request (Message P M S G D)) → Type 0) where
   -- after a history in which no job was pending, a look at all sources took these steps
-  pub record Looked (past : History P M D (Asker S) (Asker G)) (result : Poll (Result Turn EndCause))
+  pub record Looked (past : History P M D (Asker S) (Asker G))
+      (result : Poll (Result Turn EndCause))
       (old new : Node P M S O D) (old_sender new_sender : N) (old_receiver new_receiver : R)
-      (old_provider new_provider : B) (old_requests new_requests : Q) (slot : Option (P × J)) : Type 0 where
+      (old_provider new_provider : B) (old_requests new_requests : Q)
+      (slot : Option (P × J)) : Type 0 where
     pub steps : List (Step P M D S G)
     pub ran : Ran s may_answer outlet_told sender_told past steps old new old_sender new_sender
     pub swept_first : IsSweptFirst steps
@@ -40,4 +42,5 @@ module _ {P M D S G O N J R B Q : Type 0} (s : Setting P M D) (may_answer : Aske
     pub pending : Option (P × M)
     pub held : HoldsJob is_of slot pending
     pub flow : payload_inputs s may_answer outlet_told sender_told is_of receiver_told received
-        ≡ payloads_in (inputs steps) ++ pending_input s may_answer outlet_told sender_told is_of receiver_told pending
+        ≡ payloads_in (inputs steps)
+        ++ pending_input s may_answer outlet_told sender_told is_of receiver_told pending

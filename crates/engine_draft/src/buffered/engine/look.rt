@@ -58,8 +58,8 @@ where
         → s.encoding ≡ M.encoding → s.priority ≡ priority → s.digest_of ≡ M.digest_of
         → s.reading ≡ whole (M.reading cfg.now)
         → (past : History P M M.Digest (Asker S) (Asker G)) → HasContent s past node.old.core
-        → Looked s (λ w b. S.may_answer w.responder b) O.told N.told T.Job.is_of R.told B.told Q.told
-        past result node.old node.new sender.old sender.new receiver.old receiver.new
+        → Looked s (λ w b. S.may_answer w.responder b) O.told N.told T.Job.is_of R.told B.told
+        Q.told past result node.old node.new sender.old sender.new receiver.old receiver.new
         provider.old provider.new requests.old requests.new slot.new }
     ensures armed { OnPending result (IsArmed cx.new) }
     ensures kept { Keeps cx.old cx.new }
