@@ -1,0 +1,78 @@
+-- One poll of the network.
+use Rattle.std.specs.Prelude.{Ok, Err}
+use Rattle.std.proofs.Common.{◌≡◌, ℕ, Bool, List, [], ◌∷◌, ◌++◌, Option, Some, None, Result, refl, sym, ap, ◌∙◌, subst, append-nil}
+use Rattle.futures.specs.declared.task.Poll.{Poll}
+use Rattle.futures.specs.declared.task.Poll.TheVariants.{Ready, Pending}
+use Rattle.broadcast_core.specs.Setting.{Setting, own_digested}
+use Rattle.broadcast_core.specs.Happening.{History}
+use Rattle.broadcast_core.specs.HasContent.{HasContent}
+use Rattle.broadcast_core.specs.declared.codec.CodecError.{CodecError}
+use Rattle.broadcast_core.specs.declared.event.Sent.{Sent}
+use Rattle.broadcast_engine.specs.declared.buffered.engine.input.EndCause.{EndCause}
+use Rattle.broadcast_engine.specs.declared.buffered.engine.input.Input.TheVariants as input
+use Rattle.broadcast_engine.specs.declared.buffered.engine.input.Turn.{Turn}
+use Rattle.broadcast_engine.specs.declared.buffered.engine.node.Node.{Node}
+use Rattle.broadcast_engine.specs.Replies.{Asker, Replies}
+use Rattle.broadcast_engine.specs.EngineHistory.{Step}
+use Rattle.broadcast_engine.specs.Polled.{Ends, Received, Comes, inputs, inputs_at, payload_input}
+use Rattle.broadcast_engine.specs.Fetched.{Fetched, IsRemote, HoldsJob, goes_on, pending_input, payload_inputs}
+use Rattle.broadcast_engine.proofs.Composing.{Ran-none}
+
+module _ {P M D S G O N J : Type 0} (s : Setting P M D) (may_answer : Asker S → Bool → Type 0)
+    (outlet_told : O → Replies S G M D → Type 0) (sender_told : N → List (Sent P) → Type 0) (is_of : J → M → Type 0) where
+  IsRemote-one : (p : P) (read : Result M CodecError) → IsRemote (payload_input s may_answer outlet_told sender_told is_of p read ∷ [])
+  IsRemote-one p (Ok m) = record { no_sets = refl; no_requests = refl; all = refl }
+  IsRemote-one p (Err e) = record { no_sets = refl; no_requests = refl; all = refl }
+
+module _ {P M D S G O N J R : Type 0} (s : Setting P M D) (may_answer : Asker S → Bool → Type 0)
+    (outlet_told : O → Replies S G M D → Type 0) (sender_told : N → List (Sent P) → Type 0)
+    (is_of : J → M → Type 0) (receiver_told : R → List (P × List ℕ) → Type 0) (past : History P M D (Asker S) (Asker G)) where
+  -- the network gave nothing
+  pub Fetched-none : (result : Poll (Result Turn EndCause)) (node : Node P M S O D) (sender : N) (receiver receiver' : R) (slot : Option (P × J)) → HasContent s past node.core
+      → Ends s result [] past → slot ≡ None → ((before : List (P × List ℕ)) → receiver_told receiver before → receiver_told receiver' (before ++ []))
+      → Fetched s may_answer outlet_told sender_told is_of receiver_told past result node node sender sender receiver receiver' slot
+  Fetched-none result node sender receiver receiver' slot has ends none given = record {
+    steps = [];
+    ran = Ran-none s may_answer outlet_told sender_told past node sender has;
+    turn = ends;
+    remote = record { no_sets = refl; no_requests = refl; all = refl };
+    received = [];
+    given = given;
+    pending = None;
+    held = subst (λ x. HoldsJob is_of x None) (sym none) tt;
+    flow = refl;
+  }
+
+  -- what a taken payload is: its turn, and the job that is pending now
+  record Flows (p : P) (bytes : List ℕ) (result : Poll Turn) (steps : List (Step P M D S G)) (slot : Option (P × J)) : Type 0 where
+    turn : Ends s (goes_on result) steps past
+    remote : IsRemote (inputs steps)
+    pending : Option (P × M)
+    held : HoldsJob is_of slot pending
+    flow : payload_inputs s may_answer outlet_told sender_told is_of receiver_told ((p, bytes) ∷ []) ≡ inputs steps ++ pending_input s may_answer outlet_told sender_told is_of receiver_told pending
+
+  flows : (p : P) (bytes : List ℕ) (read : Result M CodecError) → s.reading bytes ≡ read → (result : Poll Turn) (steps : List (Step P M D S G)) (slot : Option (P × J))
+      → Comes s may_answer outlet_told sender_told is_of p read result steps past slot → Flows p bytes result steps slot
+  flows p bytes read is (Ready turn) [] slot c = absurd c
+  flows p bytes read is (Ready turn) (step ∷ steps) slot c = record {
+    turn = (c.0, c.1);
+    remote = subst (λ l. IsRemote l) (sym (ap (λ l. l ++ inputs_at step) c.1 ∙ c.2)) (IsRemote-one s may_answer outlet_told sender_told is_of p read);
+    pending = None;
+    held = subst (λ x. HoldsJob is_of x None) (sym c.3) tt;
+    flow = ap (λ r. payload_input s may_answer outlet_told sender_told is_of p r ∷ []) is ∙ sym c.2 ∙ ap (λ l. l ++ inputs_at step) (sym c.1) ∙ sym (append-nil (inputs steps ++ inputs_at step));
+  }
+  flows p bytes read is Pending steps slot (m, reads, none, (job, at, of_job)) = record {
+    turn = none;
+    remote = subst (λ l. IsRemote l) (sym none) (record { no_sets = refl; no_requests = refl; all = refl });
+    pending = Some (p, m);
+    held = subst (λ x. HoldsJob is_of x (Some (p, m))) (sym at) (refl, of_job);
+    flow = ap (λ r. payload_input s may_answer outlet_told sender_told is_of p r ∷ []) (is ∙ reads) ∙ ap (λ l. l ++ input.Arrived p (own_digested s m) ∷ []) (sym none);
+  }
+
+  pub Fetched-received : (p : P) (bytes : List ℕ) (result : Poll Turn) (old new : Node P M S O D) (first last : N) (receiver receiver' : R) (slot : Option (P × J))
+      → Received s may_answer outlet_told sender_told is_of past p bytes result old new first last slot
+      → ((before : List (P × List ℕ)) → receiver_told receiver before → receiver_told receiver' (before ++ (p, bytes) ∷ []))
+      → Fetched s may_answer outlet_told sender_told is_of receiver_told past (goes_on result) old new first last receiver receiver' slot
+  Fetched-received p bytes result old new first last receiver receiver' slot one given =
+      let f = flows p bytes (s.reading bytes) refl result one.steps slot one.comes in
+      record { steps = one.steps; ran = one.ran; turn = f.turn; remote = f.remote; received = (p, bytes) ∷ []; given = given; pending = f.pending; held = f.held; flow = f.flow }

@@ -1,0 +1,27 @@
+-- Replies are handed out, and counted.
+use Rattle.std.specs.Prelude.{◌≡◌, List, ◌++◌, map, Option}
+use Rattle.broadcast_core.specs.Carried.{Carried}
+use Rattle.broadcast_core.specs.Content.{Same, waiting_at}
+use Rattle.broadcast_core.specs.Changes.{Takes}
+use Rattle.broadcast_engine.specs.declared.buffered.engine.node.Node.{Node}
+use Rattle.broadcast_engine.specs.Counters.{Counters}
+use Rattle.broadcast_core.specs.Handed.{to_subscribe}
+use Rattle.broadcast_engine.specs.Replies.{Replied, reply_of, Replies}
+use Rattle.broadcast_engine.specs.Counting.{count_replies}
+
+module _ {P S G A C O : Type 0} (told : O → List (Replied S G A (Option C)) → Type 0) where
+  pub record Hands (old : O) (old_counters : Counters P)
+      (replies : List (Replied S G A (Option C))) (new : O)
+      (new_counters : Counters P) : Type 0 where
+    pub handed : (before : List (Replied S G A (Option C))) → told old before
+        → told new (before ++ replies)
+    pub counted : new_counters
+        ≡ record old_counters { totals = count_replies replies old_counters.totals }
+
+module _ {P M D S G O : Type 0} (same : Same P D) (told : O → Replies S G M D → Type 0) where
+  -- a message is taken under the key, and each who waits for its digest is handed it
+  pub record Serves (p : P) (c : Carried M D) (replies : Replies S G M D)
+      (old new : Node P M S O D) : Type 0 where
+    pub takes : Takes same p c old.core new.core
+    pub due : map reply_of replies ≡ map (λ w. to_subscribe w c) (waiting_at same old.core c.digest)
+    pub hands : Hands told old.outlet old.metrics replies new.outlet new.metrics

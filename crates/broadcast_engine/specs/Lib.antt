@@ -1,0 +1,11 @@
+pub mod Counters
+pub mod Sources
+pub mod Jobs
+pub mod Replies
+pub mod EngineHistory
+pub mod Counting
+pub mod Ran
+pub mod Handing
+pub mod Polled
+pub mod Fetched
+pub mod Looked

@@ -1,0 +1,8 @@
+//! Broadcasts messages to peers, and buffers what they broadcast.
+pub mod config;
+pub mod engine;
+pub mod metrics;
+pub mod network;
+pub mod outlet;
+pub mod requests;
+pub mod strategy;

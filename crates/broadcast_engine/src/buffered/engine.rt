@@ -1,0 +1,16 @@
+//! The engine of a node.
+mod apply;
+mod broadcast;
+mod fetch;
+mod handler;
+mod input;
+mod job;
+mod look;
+mod node;
+mod poll;
+mod receive;
+mod reply;
+mod take;
+mod waiter;
+
+pub use input::{EndCause, Input, Request, Turn};

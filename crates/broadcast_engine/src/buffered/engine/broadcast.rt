@@ -1,0 +1,70 @@
+//! Messages of the node itself.
+ghost use Rattle.std.specs.Prelude.{◌≡◌, ℕ, List, Bool, true, Some, None, is_some, IfOk, Err, ◌↔◌};
+ghost use Rattle.broadcast_core.specs.Content.{same_by};
+ghost use Rattle.broadcast_core.specs.Setting.{Setting};
+ghost use Rattle.broadcast_core.specs.Happening.{History};
+ghost use Rattle.broadcast_core.specs.HasContent.{HasContent};
+ghost use Rattle.commonware_broadcast.specs.declared.ingress.message.Message.TheVariants as request;
+ghost use Rattle.broadcast_engine.specs.EngineHistory.{requested};
+ghost use Rattle.broadcast_engine.specs.Replies.{Asker};
+ghost use Rattle.broadcast_engine.specs.Ran.{Applied};
+
+use crate::buffered::engine::input::Turn;
+use crate::buffered::engine::node::Node;
+use crate::buffered::engine::take::take_own;
+use crate::buffered::network::Sender;
+use crate::buffered::outlet::Outlet;
+use broadcast_core::{Cause, CodecError, Digested, Digestible, PublicKey, Recipients, Write};
+use commonware_broadcast::buffered::{Reply, Responder};
+use std::alloc::Global;
+
+/// Encodes the message, then takes it under the node's own key, then hands its encoding to the
+/// sender. A refused message changes nothing and is not sent.
+pub(super) fn handle_broadcast<P, M, S, G, O, N>(
+    node: &mut Node<P, M, S, O>,
+    sender: &mut N,
+    alloc: Global,
+    priority: bool,
+    recipients: Recipients<P>,
+    message: Digested<M>,
+) -> Turn
+where
+    P: PublicKey,
+    M: Digestible + Write,
+    S: Responder<Reply<M>> + Drop,
+    O: Outlet<S, G, Reply<M>, Option<Reply<M>>>,
+    N: Sender<P>,
+    ensures { (s : Setting P M M.Digest) → s.same ≡ same_by P.cmp M.Digest.cmp
+        → s.encoding ≡ M.encoding → s.priority ≡ priority
+        → (past : History P M M.Digest (Asker S) (Asker G)) → HasContent s past node.old.core
+        → (ticket : ℕ) (counted : Bool)
+        → Applied s (λ w b. S.may_answer w.responder b) O.told N.told past
+        (requested ticket counted (request.Broadcast recipients message))
+        result node.old node.new sender.old sender.new }
+{
+    let bytes = match encoded(alloc, &message) {
+        Ok(bytes) => bytes,
+        Err(cause) => return Turn::Refused(cause),
+    };
+    match take_own(node, alloc, &message) {
+        Ok(outcome) => {
+            sender.send(recipients, bytes, priority);
+            Turn::Broadcast(outcome)
+        }
+        Err(_) => Turn::Refused(Cause::Memory),
+    }
+}
+
+/// Returns the encoding of the message.
+fn encoded<M: Digestible + Write>(alloc: Global, message: &Digested<M>) -> Result<Vec<u8>, Cause>
+    ensures ok { IfOk result (λ bytes. M.encoding message.now.message ≡ Some bytes.items) }
+    ensures memory { result ≡ Err Cause.Memory → is_some (M.encoding message.now.message) ≡ true }
+    ensures unencodable { result ≡ Err Cause.Unencodable → M.encoding message.now.message ≡ None }
+{
+    let mut bytes = Vec::new(alloc);
+    match message.inner().write(&mut bytes) {
+        Ok(()) => Ok(bytes),
+        Err(CodecError::Unencodable) => Err(Cause::Unencodable),
+        Err(_) => Err(Cause::Memory),
+    }
+}

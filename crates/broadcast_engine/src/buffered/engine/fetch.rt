@@ -1,0 +1,75 @@
+//! One poll of the network.
+ghost use Rattle.std.specs.Prelude.{◌≡◌, List, None};
+ghost use Rattle.futures.specs.Poll.{OnPending};
+ghost use Rattle.futures.specs.Task.{IsArmed, Keeps};
+ghost use Rattle.broadcast_core.specs.Codec.{whole};
+ghost use Rattle.broadcast_core.specs.Content.{same_by};
+ghost use Rattle.broadcast_core.specs.Setting.{Setting};
+ghost use Rattle.broadcast_core.specs.Happening.{History};
+ghost use Rattle.broadcast_core.specs.HasContent.{HasContent};
+ghost use Rattle.broadcast_engine.specs.Replies.{Asker};
+ghost use Rattle.broadcast_engine.specs.Fetched.{Fetched, goes_on};
+
+use crate::buffered::engine::input::{EndCause, Turn};
+use crate::buffered::engine::node::Node;
+use crate::buffered::engine::receive::receive;
+use crate::buffered::network::{Receiver, Sender};
+use crate::buffered::outlet::Outlet;
+use crate::buffered::strategy::Strategy;
+use broadcast_core::{Codec, Digestible, PublicKey};
+use commonware_broadcast::buffered::{Reply, Responder};
+use futures::task::{Context, Poll};
+use std::alloc::Global;
+
+/// Takes one payload of the network, if no job is pending.
+pub(super) fn poll_network<P, M, S, G, O, N, T, R>(
+    node: &mut Node<P, M, S, O>,
+    sender: &mut N,
+    receiver: &mut R,
+    slot: &mut Option<(P, T::Job)>,
+    cx: &mut Context<'_>,
+    alloc: Global,
+    priority: bool,
+    strategy: &T,
+    cfg: &M::Cfg,
+) -> Poll<Result<Turn, EndCause>>
+where
+    P: PublicKey,
+    M: Digestible + Codec,
+    S: Responder<Reply<M>> + Drop,
+    G: Drop,
+    O: Outlet<S, G, Reply<M>, Option<Reply<M>>>,
+    N: Sender<P>,
+    T: Strategy<M>,
+    R: Receiver<P>,
+    requires { slot.old ≡ None }
+    ensures fetched { (s : Setting P M M.Digest) → s.same ≡ same_by P.cmp M.Digest.cmp
+        → s.encoding ≡ M.encoding → s.priority ≡ priority → s.digest_of ≡ M.digest_of
+        → s.reading ≡ whole (M.reading cfg.now)
+        → (past : History P M M.Digest (Asker S) (Asker G)) → HasContent s past node.old.core
+        → Fetched s (λ w b. S.may_answer w.responder b) O.told N.told T.Job.is_of R.told past
+        result node.old node.new sender.old sender.new receiver.old receiver.new slot.new }
+    ensures armed { OnPending result (IsArmed cx.new) }
+    ensures kept { Keeps cx.old cx.new }
+{
+    match receiver.poll_recv(cx) {
+        Poll::Pending => Poll::Pending,
+        Poll::Ready(Err(_)) => Poll::Ready(Err(EndCause::NetworkFailed)),
+        Poll::Ready(Ok((peer, bytes))) => {
+            let payload = bytes.as_slice();
+            going_on(receive(
+                node, sender, slot, cx, alloc, priority, strategy, cfg, peer, payload,
+            ))
+        }
+    }
+}
+
+/// Returns the turn as that of an engine that has not ended.
+pub(super) fn going_on(turn: Poll<Turn>) -> Poll<Result<Turn, EndCause>>
+    ensures { result ≡ goes_on turn }
+{
+    match turn {
+        Poll::Ready(turn) => Poll::Ready(Ok(turn)),
+        Poll::Pending => Poll::Pending,
+    }
+}

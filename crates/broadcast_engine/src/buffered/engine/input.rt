@@ -1,0 +1,57 @@
+//! What an engine is given, and the result of a turn.
+use broadcast_core::{Cause, CodecError, Digested, Digestible, Outcome, PublicKey, Set};
+use commonware_broadcast::buffered::Message;
+
+/// A request with its ticket.
+#[derive(Drop)]
+pub struct Request<T> {
+    /// The ticket.
+    pub ticket: u64,
+    /// The message.
+    pub message: T,
+    /// Whether the request was made through a tally.
+    pub counted: bool,
+}
+
+/// One input of an engine.
+#[derive(Drop)]
+pub enum Input<P: PublicKey, M: Digestible, S, G> {
+    /// The primary peers from now on.
+    Peers(Set<P>),
+    /// A request of the application.
+    Request(Request<Message<P, M, S, G>>),
+    /// A message of a peer.
+    Arrived(P, Digested<M>),
+    /// A payload that is no message.
+    Invalid(CodecError),
+}
+
+/// The result of a turn.
+#[derive(Clone, Copy, Debug, PartialEq, Eq)]
+pub enum Turn {
+    /// The primary peers were replaced.
+    Peers,
+    /// A message of the node was taken.
+    Broadcast(Outcome),
+    /// A subscribe was answered, or waits.
+    Subscribe,
+    /// A get was answered.
+    Get,
+    /// A message of a peer was taken.
+    Payload(Outcome),
+    /// A payload was no message.
+    Invalid(CodecError),
+    /// The input was refused, and changed nothing.
+    Refused(Cause),
+}
+
+/// Why an engine ended.
+#[derive(Clone, Copy, Debug, PartialEq, Eq)]
+pub enum EndCause {
+    /// The engine was asked to stop.
+    Stopped,
+    /// There are no more peer sets.
+    PeersClosed,
+    /// The receiver failed.
+    NetworkFailed,
+}

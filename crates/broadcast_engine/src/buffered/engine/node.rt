@@ -1,0 +1,12 @@
+//! What the inputs of an engine change.
+use crate::buffered::engine::waiter::Waiter;
+use crate::buffered::metrics::Metrics;
+use broadcast_core::{Core, Digestible, PublicKey};
+
+/// What the inputs of an engine change, besides the sender.
+#[derive(Drop)]
+pub(crate) struct Node<P: PublicKey, M: Digestible, S, O> {
+    pub(crate) core: Core<P, M, Waiter<M, S>>,
+    pub(crate) metrics: Metrics<P>,
+    pub(crate) outlet: O,
+}

@@ -1,0 +1,65 @@
+//! One poll.
+ghost use Rattle.std.specs.Prelude.{◌≡◌, List};
+ghost use Rattle.futures.specs.Poll.{OnPending};
+ghost use Rattle.futures.specs.Task.{IsArmed, Keeps};
+ghost use Rattle.broadcast_core.specs.Content.{same_by};
+ghost use Rattle.broadcast_core.specs.Setting.{Setting};
+ghost use Rattle.broadcast_core.specs.Happening.{History};
+ghost use Rattle.broadcast_core.specs.HasContent.{HasContent};
+ghost use Rattle.broadcast_engine.specs.Replies.{Asker};
+ghost use Rattle.broadcast_engine.specs.Polled.{Polled};
+
+use crate::buffered::engine::apply::apply;
+use crate::buffered::engine::handler::cleanup_waiters;
+use crate::buffered::engine::input::{EndCause, Input, Turn};
+use crate::buffered::engine::node::Node;
+use crate::buffered::network::{Provider, Sender};
+use crate::buffered::outlet::Outlet;
+use crate::buffered::requests::Requests;
+use broadcast_core::{Digestible, PublicKey, Write};
+use commonware_broadcast::buffered::{Message, Reply, Responder};
+use futures::task::{Context, Poll};
+use std::alloc::Global;
+
+/// Drops the waiters that answer closed, then takes one peer set, or else one request.
+pub(super) fn poll_local<P, M, S, G, O, N, B, Q>(
+    node: &mut Node<P, M, S, O>,
+    provider: &mut B,
+    requests: &mut Q,
+    sender: &mut N,
+    cx: &mut Context<'_>,
+    alloc: Global,
+    priority: bool,
+) -> Poll<Result<Turn, EndCause>>
+where
+    P: PublicKey,
+    M: Digestible + Write,
+    S: Responder<Reply<M>> + Drop,
+    G: Drop,
+    O: Outlet<S, G, Reply<M>, Option<Reply<M>>>,
+    N: Sender<P>,
+    B: Provider<P>,
+    Q: Requests<Message<P, M, S, G>>,
+    ensures polled { (s : Setting P M M.Digest) → s.same ≡ same_by P.cmp M.Digest.cmp
+        → s.encoding ≡ M.encoding → s.priority ≡ priority
+        → (past : History P M M.Digest (Asker S) (Asker G)) → HasContent s past node.old.core
+        → Polled s (λ w b. S.may_answer w.responder b) O.told N.told B.told Q.told past result
+        node.old node.new sender.old sender.new
+        provider.old provider.new requests.old requests.new }
+    ensures armed { OnPending result (IsArmed cx.new) }
+    ensures kept { Keeps cx.old cx.new }
+{
+    cleanup_waiters(node);
+    match provider.poll_update(cx) {
+        Poll::Ready(Some(peers)) => {
+            Poll::Ready(Ok(apply(node, sender, alloc, priority, Input::Peers(peers))))
+        }
+        Poll::Ready(None) => Poll::Ready(Err(EndCause::PeersClosed)),
+        Poll::Pending => match requests.poll_next(cx) {
+            Poll::Ready(request) => {
+                Poll::Ready(Ok(apply(node, sender, alloc, priority, Input::Request(request))))
+            }
+            Poll::Pending => Poll::Pending,
+        },
+    }
+}

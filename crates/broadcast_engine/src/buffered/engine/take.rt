@@ -1,0 +1,68 @@
+//! Messages are taken, and served to who waits for them.
+ghost use Rattle.std.specs.Prelude.{◌≡◌, List, Option, IfOk, OnErr};
+ghost use Rattle.broadcast_core.specs.Carried.{Carried};
+ghost use Rattle.broadcast_core.specs.Content.{same_by, outcome_at};
+ghost use Rattle.broadcast_engine.specs.Replies.{Replied, Replies};
+ghost use Rattle.broadcast_engine.specs.Handing.{Serves};
+
+use crate::buffered::engine::node::Node;
+use crate::buffered::engine::reply::{copies, respond_waiters};
+use crate::buffered::outlet::Outlet;
+use broadcast_core::{Digested, Digestible, Outcome, PublicKey};
+use commonware_broadcast::buffered::Reply;
+use std::alloc::{AllocError, Global};
+
+/// Takes a message under `peer`, and hands a copy to each waiter of its digest. The copies are made
+/// first: after an allocation failure nothing has changed.
+pub(super) fn take<P, M, S, G, O>(
+    node: &mut Node<P, M, S, O>,
+    alloc: Global,
+    peer: &P,
+    message: &Digested<M>,
+) -> Result<Outcome, AllocError>
+where
+    P: PublicKey,
+    M: Digestible,
+    S: Drop,
+    O: Outlet<S, G, Reply<M>, Option<Reply<M>>>,
+    ensures outcome { IfOk result (λ outcome. outcome
+        ≡ outcome_at (same_by P.cmp M.Digest.cmp) node.old.core peer.now message.now.digest) }
+    ensures serves { IfOk result (λ outcome.
+        (replies : Replies S G M M.Digest)
+        × Serves (same_by P.cmp M.Digest.cmp) O.told peer.now message.now replies
+        node.old node.new) }
+    ensures unchanged_on_error { OnErr result (node.new ≡ node.old) }
+{
+    let number = node.core.waiting(&message.digest());
+    let copies = copies(alloc, message, number)?;
+    let taken = node.core.take(peer, message)?;
+    respond_waiters(&mut node.metrics, &mut node.outlet, taken.served, copies);
+    Ok(taken.outcome)
+}
+
+/// Takes a message under the node's own key, as `take` does.
+pub(super) fn take_own<P, M, S, G, O>(
+    node: &mut Node<P, M, S, O>,
+    alloc: Global,
+    message: &Digested<M>,
+) -> Result<Outcome, AllocError>
+where
+    P: PublicKey,
+    M: Digestible,
+    S: Drop,
+    O: Outlet<S, G, Reply<M>, Option<Reply<M>>>,
+    ensures outcome { IfOk result (λ outcome. outcome
+        ≡ outcome_at (same_by P.cmp M.Digest.cmp) node.old.core
+        node.old.core.own message.now.digest) }
+    ensures serves { IfOk result (λ outcome.
+        (replies : Replies S G M M.Digest)
+        × Serves (same_by P.cmp M.Digest.cmp) O.told node.old.core.own message.now replies
+        node.old node.new) }
+    ensures unchanged_on_error { OnErr result (node.new ≡ node.old) }
+{
+    let number = node.core.waiting(&message.digest());
+    let copies = copies(alloc, message, number)?;
+    let taken = node.core.take_own(message)?;
+    respond_waiters(&mut node.metrics, &mut node.outlet, taken.served, copies);
+    Ok(taken.outcome)
+}

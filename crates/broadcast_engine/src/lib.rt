@@ -1,0 +1,4 @@
+//! A node that buffers what its peers broadcast: counters, sources and the engine.
+#![tactic(auto)]
+
+pub mod buffered;
