@@ -1,9 +1,9 @@
 //! A mailbox: callers ask on one end, and whoever takes the requests replies on the other.
 use anyhow::Error;
-use commonware_broadcast::buffered::{Incoming, Message, Reply, Responder, channel};
+use commonware_broadcast::buffered::{Incoming, Ingress, Message, Reply, Responder, channel};
 use commonware_broadcast::{Broadcaster, Digested, Feedback, Recipients, TestMessage};
 use futures::executor::block_on;
-use std::alloc::AllocGlobal;
+use std::alloc::{AllocError, AllocGlobal};
 use std::num::NonZeroUsize;
 use std::random::RandomSource;
 use std::sync::Wait;
@@ -18,12 +18,23 @@ where
     let told = mailbox.broadcast(Recipients::All, message.clone()?)?;
     let get = mailbox.get(message.digest())?;
     let subscription = mailbox.subscribe(message.digest())?;
-    while let Some((_ticket, request)) = ingress.take() {
-        reply(request, message.clone()?);
+    for _ in 0..3 {
+        serve_one(&ingress, message)?;
     }
     let got = block_on(rt, get)?.is_some();
     let arrived = block_on(rt, subscription)?.is_ok();
     Ok((told, got, arrived))
+}
+
+/// Takes the oldest request, and replies to it.
+fn serve_one<R: Wait>(
+    ingress: &Ingress<u64, TestMessage, R>,
+    message: &Digested<TestMessage>,
+) -> Result<(), AllocError> {
+    if let Some((_ticket, request)) = ingress.take() {
+        reply(request, message.clone()?);
+    }
+    Ok(())
 }
 
 /// Replies to a request, as a node does that has the message in its cache.
