@@ -6,7 +6,7 @@ use Rattle.broadcast_core.specs.Carried.{Carried}
 use Rattle.broadcast_core.specs.Content.{Content, Same, message_at, outcome_at}
 use Rattle.broadcast_core.specs.Changes.{Takes, TakesPeers, KeepsStore, IsSubscribed}
 use Rattle.broadcast_core.specs.Setting.{Setting}
-use Rattle.broadcast_core.specs.Happening.{History, cleanup}
+use Rattle.broadcast_core.specs.Happening.{History}
 use Rattle.broadcast_core.specs.HasContent.{HasContent, HasCleaned, named_by}
 use Rattle.broadcast_core.specs.Waiters.{NoneEmpty, counted}
 use Rattle.broadcast_core.specs.Waiting.{waiting}
@@ -19,7 +19,7 @@ use Rattle.broadcast_core.proofs.Lawful.{IsLawful}
 use Rattle.broadcast_core.proofs.Stepping.{HasContent-peers, HasContent-arrival, HasContent-broadcast, HasContent-get, HasContent-subscribe, HasContent-clear_waiters}
 use Rattle.broadcast_core.proofs.AwaitedCount.{awaited-counted}
 use Rattle.broadcast_core.proofs.Handing.{handed_by, outcome-taken, handed-arrival, handed-broadcast, handed-get, handed-subscribe}
-use Rattle.commonware_broadcast.specs.declared.ingress.message.Message.TheVariants.{Broadcast, Subscribe, Get}
+use Rattle.commonware_broadcast.specs.declared.buffered.ingress.message.Message.TheVariants.{Broadcast, Subscribe, Get}
 use Rattle.broadcast_engine.specs.declared.buffered.engine.input.Input.TheVariants.{Peers, Request, Arrived, Invalid}
 use Rattle.broadcast_engine.specs.declared.buffered.engine.node.Node.{Node}
 use Rattle.broadcast_engine.specs.declared.buffered.metrics.Counter.{Counter}
@@ -103,9 +103,7 @@ module _ {P M D S G O : Type 0} {s : Setting P M D} {same : Same P D} (is : s.sa
       → last ≡ record counters { totals = record counters.totals { waiters = number } }
       → (test : ℕ → Asker S → Bool) × Steps s may_answer told past (swept test) old (record old { core = core; metrics = last })
   Steps-swept core dropped number counters last cleaned len distinct some counted gauge =
-      let laws = subst (λ m. IsLawful m) (sym is) lawful in
-      let waits = awaited-counted s laws.digest (cleanup cleaned.test ∷ past) core cleaned.content (subst (λ m. IsDistinct m.digest (keys_of core.waiters)) (sym is) distinct)
-      (subst (λ m. NoneEmpty m.digest core.waiters) (sym is) some) in (
+      let waits = awaited-counted is lawful cleaned.content distinct some in (
         cleaned.test,
         record {
           lawful = cleaned.answered;

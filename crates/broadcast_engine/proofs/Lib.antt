@@ -6,3 +6,4 @@ pub mod Composing
 pub mod Polling
 pub mod Fetching
 pub mod Looking
+pub mod Waking

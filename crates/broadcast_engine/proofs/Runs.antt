@@ -11,8 +11,8 @@ use Rattle.broadcast_core.specs.declared.event.Sent.{Sent}
 use Rattle.broadcast_core.specs.declared.ordered.Recipients.{Recipients}
 use Rattle.broadcast_core.specs.declared.outcome.Outcome.{Outcome}
 use Rattle.broadcast_core.specs.Answers.{outcome}
-use Rattle.commonware_broadcast.specs.declared.ingress.message.Message.{Message}
-use Rattle.commonware_broadcast.specs.declared.ingress.message.Message.TheVariants.{Broadcast}
+use Rattle.commonware_broadcast.specs.declared.buffered.ingress.message.Message.{Message}
+use Rattle.commonware_broadcast.specs.declared.buffered.ingress.message.Message.TheVariants.{Broadcast}
 use Rattle.broadcast_engine.specs.declared.buffered.engine.input.Request.{Request as RequestOf}
 use Rattle.broadcast_engine.specs.declared.buffered.engine.input.Input.{Input}
 use Rattle.broadcast_engine.specs.declared.buffered.engine.input.Input.TheVariants.{Request}

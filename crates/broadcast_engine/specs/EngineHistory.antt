@@ -11,8 +11,8 @@ use Rattle.broadcast_core.specs.Cache.{message}
 use Rattle.broadcast_core.specs.Waiters.{counted}
 use Rattle.broadcast_engine.specs.declared.buffered.engine.input.Turn.{Turn}
 use Rattle.broadcast_engine.specs.declared.buffered.engine.input.Turn.TheVariants as turn
-use Rattle.commonware_broadcast.specs.declared.ingress.message.Message.{Message}
-use Rattle.commonware_broadcast.specs.declared.ingress.message.Message.TheVariants.{Broadcast, Subscribe, Get}
+use Rattle.commonware_broadcast.specs.declared.buffered.ingress.message.Message.{Message}
+use Rattle.commonware_broadcast.specs.declared.buffered.ingress.message.Message.TheVariants.{Broadcast, Subscribe, Get}
 use Rattle.broadcast_engine.specs.declared.buffered.engine.input.Input.{Input}
 use Rattle.broadcast_engine.specs.declared.buffered.engine.input.Input.TheVariants.{Peers, Request, Arrived, Invalid}
 use Rattle.broadcast_core.specs.Handed.{handed_at}

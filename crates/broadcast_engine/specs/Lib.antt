@@ -9,3 +9,4 @@ pub mod Handing
 pub mod Polled
 pub mod Fetched
 pub mod Looked
+pub mod Woken

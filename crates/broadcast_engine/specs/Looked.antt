@@ -4,7 +4,7 @@ use Rattle.futures.specs.declared.task.Poll.{Poll}
 use Rattle.broadcast_core.specs.Setting.{Setting}
 use Rattle.broadcast_core.specs.Happening.{History}
 use Rattle.broadcast_core.specs.declared.event.Sent.{Sent}
-use Rattle.commonware_broadcast.specs.declared.ingress.message.Message.{Message}
+use Rattle.commonware_broadcast.specs.declared.buffered.ingress.message.Message.{Message}
 use Rattle.broadcast_engine.specs.declared.buffered.engine.input.EndCause.{EndCause}
 use Rattle.broadcast_engine.specs.declared.buffered.engine.input.Request.{Request}
 use Rattle.broadcast_engine.specs.declared.buffered.engine.input.Turn.{Turn}

@@ -6,7 +6,7 @@ use Rattle.broadcast_core.specs.Setting.{Setting, own_digested}
 use Rattle.broadcast_core.specs.Happening.{History}
 use Rattle.broadcast_core.specs.declared.codec.CodecError.{CodecError}
 use Rattle.broadcast_core.specs.declared.event.Sent.{Sent}
-use Rattle.commonware_broadcast.specs.declared.ingress.message.Message.{Message}
+use Rattle.commonware_broadcast.specs.declared.buffered.ingress.message.Message.{Message}
 use Rattle.broadcast_engine.specs.declared.buffered.engine.input.EndCause.{EndCause}
 use Rattle.broadcast_engine.specs.declared.buffered.engine.input.Input.{Input}
 use Rattle.broadcast_engine.specs.declared.buffered.engine.input.Input.TheVariants as input

@@ -7,6 +7,7 @@ mod input;
 mod job;
 mod look;
 mod node;
+mod open;
 mod poll;
 mod receive;
 mod reply;

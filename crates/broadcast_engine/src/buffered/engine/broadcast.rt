@@ -4,7 +4,7 @@ ghost use Rattle.broadcast_core.specs.Content.{same_by};
 ghost use Rattle.broadcast_core.specs.Setting.{Setting};
 ghost use Rattle.broadcast_core.specs.Happening.{History};
 ghost use Rattle.broadcast_core.specs.HasContent.{HasContent};
-ghost use Rattle.commonware_broadcast.specs.declared.ingress.message.Message.TheVariants as request;
+ghost use Rattle.commonware_broadcast.specs.declared.buffered.ingress.message.Message.TheVariants as request;
 ghost use Rattle.broadcast_engine.specs.EngineHistory.{requested};
 ghost use Rattle.broadcast_engine.specs.Replies.{Asker};
 ghost use Rattle.broadcast_engine.specs.Ran.{Applied};

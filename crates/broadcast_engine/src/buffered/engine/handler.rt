@@ -6,7 +6,7 @@ ghost use Rattle.broadcast_core.specs.Setting.{Setting};
 ghost use Rattle.broadcast_core.specs.Happening.{History};
 ghost use Rattle.broadcast_core.specs.HasContent.{HasContent};
 ghost use Rattle.broadcast_core.specs.Answers.{outcome};
-ghost use Rattle.commonware_broadcast.specs.declared.ingress.message.Message.TheVariants as request;
+ghost use Rattle.commonware_broadcast.specs.declared.buffered.ingress.message.Message.TheVariants as request;
 ghost use Rattle.broadcast_engine.specs.declared.buffered.engine.input.Input.TheVariants as input;
 ghost use Rattle.broadcast_engine.specs.Replies.{Asker, Replied, Replies};
 ghost use Rattle.broadcast_engine.specs.EngineHistory.{applied, swept, ended, requested};

@@ -1,7 +1,7 @@
 use Rattle.std.proofs.Common.{◌≡◌, Some, Err, is_some, refl, ap, ◌∙◌}
 use Rattle.broadcast_core.proofs.Lawful.{same_by-lawful}
 use Rattle.broadcast_core.specs.declared.event.Cause.TheVariants.{Memory}
-use Rattle.commonware_broadcast.specs.declared.ingress.message.Message.TheVariants.{Broadcast}
+use Rattle.commonware_broadcast.specs.declared.buffered.ingress.message.Message.TheVariants.{Broadcast}
 use Rattle.broadcast_engine.specs.declared.buffered.engine.input.Input.TheVariants.{Request}
 use Rattle.broadcast_engine.proofs.EngineSteps.{Steps-broadcast}
 use Rattle.broadcast_engine.proofs.Runs.{Applied-broadcast, Applied-refused, may-refuse}
