@@ -7,3 +7,4 @@ pub mod Polling
 pub mod Fetching
 pub mod Looking
 pub mod Waking
+pub mod Going

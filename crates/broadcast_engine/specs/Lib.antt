@@ -10,3 +10,4 @@ pub mod Polled
 pub mod Fetched
 pub mod Looked
 pub mod Woken
+pub mod EngineState

@@ -11,7 +11,9 @@ mod open;
 mod poll;
 mod receive;
 mod reply;
+mod state;
 mod take;
 mod waiter;
 
 pub use input::{EndCause, Input, Request, Turn};
+pub use state::Engine;
