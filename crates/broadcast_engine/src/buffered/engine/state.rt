@@ -1,5 +1,5 @@
 //! The engine: its polls, and its end.
-ghost use Rattle.std.specs.Prelude.{◌≡◌, Option, Some};
+ghost use Rattle.std.specs.Prelude.{◌≡◌, Option, Some, None, []};
 ghost use Rattle.futures.specs.Poll.{OnPending};
 ghost use Rattle.futures.specs.Task.{IsArmed, Keeps};
 ghost use Rattle.futures.specs.declared.task.Poll.TheVariants.{Ready};
@@ -10,18 +10,21 @@ ghost use Rattle.broadcast_core.specs.Happening.{History};
 ghost use Rattle.broadcast_core.specs.HasContent.{HasContent};
 ghost use Rattle.broadcast_engine.specs.declared.buffered.engine.input.Turn.TheVariants as turn;
 ghost use Rattle.broadcast_engine.specs.declared.buffered.engine.input.EndCause.{EndCause};
+ghost use Rattle.broadcast_engine.specs.Counters.{zero_counters};
 ghost use Rattle.broadcast_engine.specs.Replies.{Asker};
 ghost use Rattle.broadcast_engine.specs.EngineState.{Went, Holds};
 
+use crate::buffered::config::Config;
 use crate::buffered::engine::handler::drop_waiters;
 use crate::buffered::engine::input::{EndCause, Turn};
 use crate::buffered::engine::node::Node;
 use crate::buffered::engine::open::poll_open;
+use crate::buffered::metrics::Metrics;
 use crate::buffered::network::{Provider, Receiver, Sender};
 use crate::buffered::outlet::Outlet;
 use crate::buffered::requests::Requests;
 use crate::buffered::strategy::Strategy;
-use broadcast_core::{Codec, Digestible, PublicKey};
+use broadcast_core::{Codec, Core, Digestible, PublicKey};
 use commonware_broadcast::buffered::{Message, Reply, Responder};
 use futures::task::{Context, Poll};
 use std::alloc::Global;
@@ -59,6 +62,57 @@ impl<P: PublicKey, M: Digestible + Codec, S, O, B, Q, T: Strategy<M>> Model
 }
 
 impl<P: PublicKey, M: Digestible + Codec, S, O, B, Q, T: Strategy<M>> Engine<P, M, S, O, B, Q, T> {
+    /// Creates an engine to which nothing has happened, over these requests. Does not allocate.
+    pub fn over(alloc: Global, cfg: Config<P, M::Cfg, B, T>, requests: Q, outlet: O) -> Self
+    where
+        S: Drop,
+        ensures { result ≡ record {
+          node = record {
+            core = record {
+              own = cfg.public_key;
+              deque_size = cfg.deque_size;
+              primary = [];
+              lists = [];
+              cached = [];
+              waiters = [];
+            };
+            metrics = zero_counters;
+            outlet = outlet;
+          };
+          provider = cfg.peer_provider;
+          requests = requests;
+          job = None;
+          end = None;
+          priority = cfg.priority;
+          codec_config = cfg.codec_config;
+          strategy = cfg.strategy;
+        } }
+    {
+        let Config {
+            public_key,
+            mailbox_size: _,
+            deque_size,
+            priority,
+            codec_config,
+            peer_provider,
+            strategy,
+        } = cfg;
+        Engine {
+            node: Node {
+                core: Core::new(alloc, public_key, deque_size),
+                metrics: Metrics::init(alloc),
+                outlet,
+            },
+            provider: peer_provider,
+            requests,
+            job: None,
+            end: None,
+            priority,
+            codec_config,
+            strategy,
+        }
+    }
+
     /// Returns where replies go.
     pub fn outlet(&self) -> &O
         ensures { result.now ≡ self.now.node.outlet }
@@ -94,6 +148,8 @@ impl<P: PublicKey, M: Digestible + Codec, S, O, B, Q, T: Strategy<M>> Engine<P, 
         ensures same_after_end { (cause : EndCause) → self.old.end ≡ Some cause
             → (result ≡ Ready (turn.Ended cause)) × (self.new ≡ self.old)
             × (network.new ≡ network.old) }
+        ensures tells_its_end { (cause : EndCause) → self.new.end ≡ Some cause
+            → result ≡ Ready (turn.Ended cause) }
         ensures keeps_priority { self.new.priority ≡ self.old.priority }
         ensures keeps_codec_config { self.new.codec_config ≡ self.old.codec_config }
         ensures keeps_strategy { self.new.strategy ≡ self.old.strategy }
