@@ -8,3 +8,4 @@ pub mod Fetching
 pub mod Looking
 pub mod Waking
 pub mod Going
+pub mod Driving
