@@ -6,7 +6,7 @@ use Rattle.broadcast_core.specs.Carried.{Carried}
 use Rattle.broadcast_core.specs.Content.{Content, Same, message_at, outcome_at}
 use Rattle.broadcast_core.specs.Changes.{Takes, TakesPeers, KeepsStore, IsSubscribed}
 use Rattle.broadcast_core.specs.Setting.{Setting}
-use Rattle.broadcast_core.specs.Happening.{History, cleanup}
+use Rattle.broadcast_core.specs.Happening.{History}
 use Rattle.broadcast_core.specs.HasContent.{HasContent, HasCleaned, named_by}
 use Rattle.broadcast_core.specs.Waiters.{NoneEmpty, counted}
 use Rattle.broadcast_core.specs.Waiting.{waiting}

@@ -6,3 +6,6 @@ pub mod Composing
 pub mod Polling
 pub mod Fetching
 pub mod Looking
+pub mod Waking
+pub mod Going
+pub mod Driving

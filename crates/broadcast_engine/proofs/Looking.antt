@@ -20,7 +20,7 @@ use Rattle.broadcast_engine.proofs.Composing.{Ran-more, history-append}
 use Rattle.broadcast_engine.proofs.Polling.{told-same}
 
 module _ {P M D S G : Type 0} where
-  inputs-append : (later earlier : List (Step P M D S G)) → inputs (later ++ earlier) ≡ inputs earlier ++ inputs later
+  pub inputs-append : (later earlier : List (Step P M D S G)) → inputs (later ++ earlier) ≡ inputs earlier ++ inputs later
   inputs-append [] earlier = sym (append-nil (inputs earlier))
   inputs-append (step ∷ later) earlier = ap (λ is. is ++ inputs_at step) (inputs-append later earlier) ∙ append_assoc (inputs earlier) (inputs later) (inputs_at step)
 

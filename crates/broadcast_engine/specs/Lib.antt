@@ -9,3 +9,5 @@ pub mod Handing
 pub mod Polled
 pub mod Fetched
 pub mod Looked
+pub mod Woken
+pub mod EngineState

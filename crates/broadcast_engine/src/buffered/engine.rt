@@ -7,10 +7,13 @@ mod input;
 mod job;
 mod look;
 mod node;
+mod open;
 mod poll;
 mod receive;
 mod reply;
+mod state;
 mod take;
 mod waiter;
 
 pub use input::{EndCause, Input, Request, Turn};
+pub use state::Engine;

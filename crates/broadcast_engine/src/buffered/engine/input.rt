@@ -43,6 +43,8 @@ pub enum Turn {
     Invalid(CodecError),
     /// The input was refused, and changed nothing.
     Refused(Cause),
+    /// The engine ended.
+    Ended(EndCause),
 }
 
 /// Why an engine ended.

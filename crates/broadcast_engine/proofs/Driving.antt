@@ -1,0 +1,78 @@
+-- Polls after polls.
+use Rattle.std.proofs.Common.{◌≡◌, ℕ, Bool, List, [], ◌∷◌, ◌++◌, map, Option, refl, sym, ap, ◌∙◌, subst, append_assoc}
+use Rattle.broadcast_core.specs.Setting.{Setting}
+use Rattle.broadcast_core.specs.Happening.{History}
+use Rattle.broadcast_core.specs.declared.event.Sent.{Sent}
+use Rattle.commonware_broadcast.specs.declared.buffered.ingress.message.Message.{Message}
+use Rattle.broadcast_engine.specs.declared.buffered.engine.input.Input.{Input}
+use Rattle.broadcast_engine.specs.declared.buffered.engine.input.Input.TheVariants.{Peers, Request, Arrived, Invalid}
+use Rattle.broadcast_engine.specs.declared.buffered.engine.input.Request.{Request as Asked}
+use Rattle.broadcast_engine.specs.Replies.{Asker, Replies}
+use Rattle.broadcast_engine.specs.EngineHistory.{happenings}
+use Rattle.broadcast_engine.specs.Polled.{inputs, sets_in, requests_in, payloads_in}
+use Rattle.broadcast_engine.specs.Fetched.{pending_input, payload_inputs}
+use Rattle.broadcast_engine.specs.EngineState.{EngineState, Went}
+use Rattle.broadcast_engine.proofs.Composing.{Ran-more}
+use Rattle.broadcast_engine.proofs.Looking.{inputs-append}
+
+map-after : {A B : Type 0} (f : A → B) (xs ys : List A) → map f (xs ++ ys) ≡ map f xs ++ map f ys
+map-after f [] ys = refl
+map-after f (x ∷ xs) ys = ap (λ l. f x ∷ l) (map-after f xs ys)
+
+module _ {P M D S G : Type 0} where
+  sets-append : (is js : List (Input P M S G D)) → sets_in (is ++ js) ≡ sets_in is ++ sets_in js
+  sets-append [] js = refl
+  sets-append (Peers ps ∷ is) js = ap (λ l. ps ∷ l) (sets-append is js)
+  sets-append (Request r ∷ is) js = sets-append is js
+  sets-append (Arrived p c ∷ is) js = sets-append is js
+  sets-append (Invalid e ∷ is) js = sets-append is js
+
+  requests-append : (is js : List (Input P M S G D)) → requests_in (is ++ js) ≡ requests_in is ++ requests_in js
+  requests-append [] js = refl
+  requests-append (Peers ps ∷ is) js = requests-append is js
+  requests-append (Request r ∷ is) js = ap (λ l. r ∷ l) (requests-append is js)
+  requests-append (Arrived p c ∷ is) js = requests-append is js
+  requests-append (Invalid e ∷ is) js = requests-append is js
+
+  payloads-append : (is js : List (Input P M S G D)) → payloads_in (is ++ js) ≡ payloads_in is ++ payloads_in js
+  payloads-append [] js = refl
+  payloads-append (Peers ps ∷ is) js = payloads-append is js
+  payloads-append (Request r ∷ is) js = payloads-append is js
+  payloads-append (Arrived p c ∷ is) js = ap (λ l. Arrived p c ∷ l) (payloads-append is js)
+  payloads-append (Invalid e ∷ is) js = ap (λ l. Invalid e ∷ l) (payloads-append is js)
+
+-- what flows through two stretches flows through both
+flow-append : {A : Type 0} (b m n p q i j : List A) → b ++ m ≡ p ++ i → i ++ n ≡ q ++ j → b ++ (m ++ n) ≡ (p ++ q) ++ j
+flow-append b m n p q i j first second =
+    sym (append_assoc b m n) ∙ ap (λ l. l ++ n) first ∙ append_assoc p i n ∙ ap (λ l. p ++ l) second ∙ sym (append_assoc p q j)
+
+module _ {P M D S G O N J R B Q C T : Type 0} (s : Setting P M D) (may_answer : Asker S → Bool → Type 0)
+    (outlet_told : O → Replies S G M D → Type 0) (sender_told : N → List (Sent P) → Type 0)
+    (is_of : J → M → Type 0) (receiver_told : R → List (P × List ℕ) → Type 0)
+    (provider_told : B → List (List P) → Type 0) (requests_told : Q → List (Asked (Message P M S G D)) → Type 0)
+    (past : History P M D (Asker S) (Asker G)) (before : Option (P × M)) where
+  -- polls, and then more
+  pub Went-more : (old mid new : EngineState P M S O D J B Q C T) (first between last : N × R)
+      → (one : Went s may_answer outlet_told sender_told is_of receiver_told provider_told requests_told past before old mid first between)
+      → Went s may_answer outlet_told sender_told is_of receiver_told provider_told requests_told (happenings one.steps ++ past) one.pending mid new between last
+      → Went s may_answer outlet_told sender_told is_of receiver_told provider_told requests_told past before old new first last
+  Went-more old mid new first between last one more =
+      let all : inputs (more.steps ++ one.steps) ≡ inputs one.steps ++ inputs more.steps = inputs-append more.steps one.steps in
+      record {
+        steps = more.steps ++ one.steps;
+        ran = Ran-more s may_answer outlet_told sender_told past one.steps more.steps old.node mid.node new.node first.0 between.0 last.0 one.ran more.ran;
+        sets = λ told h. subst (provider_told new.provider) (append_assoc told (sets_in (inputs one.steps)) (sets_in (inputs more.steps))
+            ∙ ap (λ l. told ++ l) (sym (ap sets_in all ∙ sets-append (inputs one.steps) (inputs more.steps)))) (more.sets (told ++ sets_in (inputs one.steps)) (one.sets told h));
+        requests = λ told h. subst (requests_told new.requests) (append_assoc told (requests_in (inputs one.steps)) (requests_in (inputs more.steps))
+            ∙ ap (λ l. told ++ l) (sym (ap requests_in all ∙ requests-append (inputs one.steps) (inputs more.steps)))) (more.requests (told ++ requests_in (inputs one.steps)) (one.requests told h));
+        received = one.received ++ more.received;
+        given = λ told h. subst (receiver_told last.1) (append_assoc told one.received more.received) (more.given (told ++ one.received) (one.given told h));
+        pending = more.pending;
+        held = more.held;
+        flow =
+            let made = payload_inputs s may_answer outlet_told sender_told is_of receiver_told in
+            let holds = pending_input s may_answer outlet_told sender_told is_of receiver_told in
+            ap (λ l. holds before ++ l) (map-after _ one.received more.received)
+            ∙ flow-append (holds before) (made one.received) (made more.received) (payloads_in (inputs one.steps)) (payloads_in (inputs more.steps)) (holds one.pending) (holds more.pending) one.flow more.flow
+            ∙ ap (λ l. l ++ holds more.pending) (sym (ap payloads_in all ∙ payloads-append (inputs one.steps) (inputs more.steps)));
+      }

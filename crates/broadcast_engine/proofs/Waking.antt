@@ -1,0 +1,106 @@
+-- One poll of an engine that has not ended.
+use Rattle.std.specs.Prelude.{Ok}
+use Rattle.std.proofs.Common.{◌≡◌, ℕ, Bool, List, [], ◌∷◌, ◌++◌, Option, Some, None, Result, refl, sym, ap, ◌∙◌, subst, append-nil}
+use Rattle.futures.specs.Poll.{IfReady, OnPending}
+use Rattle.futures.specs.declared.task.Poll.{Poll}
+use Rattle.futures.specs.declared.task.Poll.TheVariants.{Ready, Pending}
+use Rattle.broadcast_core.specs.Setting.{Setting, own_digested}
+use Rattle.broadcast_core.specs.Happening.{History}
+use Rattle.broadcast_core.specs.HasContent.{HasContent}
+use Rattle.broadcast_core.specs.declared.event.Sent.{Sent}
+use Rattle.commonware_broadcast.specs.declared.buffered.ingress.message.Message.{Message}
+use Rattle.broadcast_engine.specs.declared.buffered.engine.input.EndCause.{EndCause}
+use Rattle.broadcast_engine.specs.declared.buffered.engine.input.Input.TheVariants as input
+use Rattle.broadcast_engine.specs.declared.buffered.engine.input.Request.{Request}
+use Rattle.broadcast_engine.specs.declared.buffered.engine.input.Turn.{Turn}
+use Rattle.broadcast_engine.specs.declared.buffered.engine.node.Node.{Node}
+use Rattle.broadcast_engine.specs.Replies.{Asker, Replies}
+use Rattle.broadcast_engine.specs.Ran.{Ran, Applied}
+use Rattle.broadcast_engine.specs.Polled.{Ends, inputs_at, sets_in, requests_in, payloads_in}
+use Rattle.broadcast_engine.specs.Fetched.{HoldsJob, goes_on, pending_input}
+use Rattle.broadcast_engine.specs.Looked.{Looked}
+use Rattle.broadcast_engine.specs.Woken.{Woken}
+use Rattle.broadcast_engine.proofs.Composing.{Ran-none}
+use Rattle.broadcast_engine.proofs.Polling.{told-same, input-at}
+
+module _ {P M D S G O N J R B Q : Type 0} (s : Setting P M D) (may_answer : Asker S → Bool → Type 0)
+    (outlet_told : O → Replies S G M D → Type 0) (sender_told : N → List (Sent P) → Type 0)
+    (is_of : J → M → Type 0) (receiver_told : R → List (P × List ℕ) → Type 0)
+    (provider_told : B → List (List P) → Type 0) (requests_told : Q → List (Request (Message P M S G D)) → Type 0)
+    (past : History P M D (Asker S) (Asker G)) (receiver : R) (provider : B) (requests requests' : Q)
+    (tells : (told : List (Request (Message P M S G D))) → requests_told requests told → requests_told requests' told) where
+  -- no more requests were given
+  asked-none : (told : List (Request (Message P M S G D))) → requests_told requests told → requests_told requests' (told ++ [])
+  asked-none told h = subst (requests_told requests') (sym (append-nil told)) (tells told h)
+
+  -- nothing was looked at
+  pub Woken-idle : (before : Option (P × M)) (result : Poll (Result Turn EndCause)) (old new : Node P M S O D) (first last : N) (slot : Option (P × J))
+      → Ran s may_answer outlet_told sender_told past [] old new first last → Ends s result [] past → HoldsJob is_of slot before
+      → Woken s may_answer outlet_told sender_told is_of receiver_told provider_told requests_told past before result old new first last receiver receiver provider provider requests requests' slot
+  Woken-idle before result old new first last slot ran turn held = record {
+    steps = [];
+    ran = ran;
+    turn = turn;
+    sets = λ told h. told-same provider_told provider told h;
+    requests = λ told h. asked-none told h;
+    received = [];
+    given = λ told h. told-same receiver_told receiver told h;
+    pending = before;
+    held = held;
+    flow = append-nil (pending_input s may_answer outlet_told sender_told is_of receiver_told before);
+  }
+
+  -- the pending job was ready
+  Woken-ready : (p q : P) (m : M) → p ≡ q → (turn : Turn) (old new : Node P M S O D) (first last : N) (slot : Option (P × J)) → slot ≡ None
+      → Applied s may_answer outlet_told sender_told past (input.Arrived p (own_digested s m)) turn old new first last
+      → Woken s may_answer outlet_told sender_told is_of receiver_told provider_told requests_told past (Some (q, m)) (Ready (Ok turn)) old new first last receiver receiver provider provider requests requests' slot
+  Woken-ready p q m same turn old new first last slot none one =
+      let is : inputs_at one.step ≡ input.Arrived p (own_digested s m) ∷ [] = input-at s may_answer outlet_told sender_told (input.Arrived p (own_digested s m)) one.step one.of_input in
+      record {
+        steps = one.step ∷ [];
+        ran = one.ran;
+        turn = (one.turned, refl);
+        sets = λ told h. subst (λ l. provider_told provider (told ++ sets_in l)) (sym is) (told-same provider_told provider told h);
+        requests = λ told h. subst (λ l. requests_told requests' (told ++ requests_in l)) (sym is) (asked-none told h);
+        received = [];
+        given = λ told h. told-same receiver_told receiver told h;
+        pending = None;
+        held = subst (λ x. HoldsJob is_of x None) (sym none) tt;
+        flow = ap (λ x. input.Arrived x (own_digested s m) ∷ []) (sym same) ∙ sym (ap payloads_in is) ∙ sym (append-nil (payloads_in (inputs_at one.step)));
+      }
+
+  -- a job was pending
+  pub Woken-job : (p : P) (job : J) (before : Option (P × M)) → HoldsJob is_of (Some (p, job)) before → (result : Poll Turn) (digest_of : M → D) → s.digest_of ≡ digest_of
+      → (old new : Node P M S O D) (first last : N) (slot : Option (P × J)) → HasContent s past old.core
+      → ((m : M) → is_of job m → IfReady result (λ turn. Applied s may_answer outlet_told sender_told past (input.Arrived p (record { message = m; digest = digest_of m })) turn old new first last))
+      → IfReady result (λ turn. slot ≡ None) → ((m : M) → is_of job m → OnPending result ((j : J) × (slot ≡ Some (p, j)) × is_of j m))
+      → OnPending result ((new ≡ old) × (last ≡ first))
+      → Woken s may_answer outlet_told sender_told is_of receiver_told provider_told requests_told past before (goes_on result) old new first last receiver receiver provider provider requests requests' slot
+  Woken-job p job None held result digest_of own old new first last slot has applied none pending same = absurd held
+  Woken-job p job (Some (q, m)) held (Ready turn) digest_of own old new first last slot has applied none pending same =
+      Woken-ready p q m held.0 turn old new first last slot none
+      (subst (λ f. Applied s may_answer outlet_told sender_told past (input.Arrived p (record { message = m; digest = f m })) turn old new first last) (sym own) (applied m held.1))
+  Woken-job p job (Some (q, m)) held Pending digest_of own old new first last slot has applied none pending same =
+      let left = pending m held.1 in
+      Woken-idle (Some (q, m)) Pending old new first last slot
+      (subst (λ n. Ran s may_answer outlet_told sender_told past [] old n first last) (sym same.0)
+      (subst (λ n. Ran s may_answer outlet_told sender_told past [] old old first n) (sym same.1) (Ran-none s may_answer outlet_told sender_told past old first has)))
+      refl (subst (λ x. HoldsJob is_of x (Some (q, m))) (sym left.1) (held.0, left.2))
+
+  -- none was pending, and the sources were looked at
+  pub Woken-looked : (before : Option (P × M)) → HoldsJob {P = P} {M = M} {J = J} is_of None before → (result : Poll (Result Turn EndCause)) (old new : Node P M S O D) (first last : N) (receiver' : R) (provider' : B) (requests'' : Q) (slot : Option (P × J))
+      → Looked s may_answer outlet_told sender_told is_of receiver_told provider_told requests_told past result old new first last receiver receiver' provider provider' requests' requests'' slot
+      → Woken s may_answer outlet_told sender_told is_of receiver_told provider_told requests_told past before result old new first last receiver receiver' provider provider' requests requests'' slot
+  Woken-looked None held result old new first last receiver' provider' requests'' slot one = record {
+    steps = one.steps;
+    ran = one.ran;
+    turn = one.turn;
+    sets = one.sets;
+    requests = λ told h. one.requests told (tells told h);
+    received = one.received;
+    given = one.given;
+    pending = one.pending;
+    held = one.held;
+    flow = one.flow;
+  }
+  Woken-looked (Some message) held result old new first last receiver' provider' requests'' slot one = absurd held

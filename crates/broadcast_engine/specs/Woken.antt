@@ -1,0 +1,46 @@
+-- What one poll of an engine that has not ended does.
+use Rattle.std.specs.Prelude.{◌≡◌, ℕ, Bool, List, ◌++◌, Option, Result}
+use Rattle.futures.specs.declared.task.Poll.{Poll}
+use Rattle.broadcast_core.specs.Setting.{Setting}
+use Rattle.broadcast_core.specs.Happening.{History}
+use Rattle.broadcast_core.specs.declared.event.Sent.{Sent}
+use Rattle.commonware_broadcast.specs.declared.buffered.ingress.message.Message.{Message}
+use Rattle.broadcast_engine.specs.declared.buffered.engine.input.EndCause.{EndCause}
+use Rattle.broadcast_engine.specs.declared.buffered.engine.input.Request.{Request}
+use Rattle.broadcast_engine.specs.declared.buffered.engine.input.Turn.{Turn}
+use Rattle.broadcast_engine.specs.declared.buffered.engine.node.Node.{Node}
+use Rattle.broadcast_engine.specs.Replies.{Asker, Replies}
+use Rattle.broadcast_engine.specs.EngineHistory.{Step}
+use Rattle.broadcast_engine.specs.Ran.{Ran}
+use Rattle.broadcast_engine.specs.Polled.{Ends, inputs, sets_in, requests_in, payloads_in}
+use Rattle.broadcast_engine.specs.Fetched.{HoldsJob, pending_input, payload_inputs}
+
+module _ {P M D S G O N J R B Q : Type 0} (s : Setting P M D) (may_answer : Asker S → Bool → Type 0)
+    (outlet_told : O → Replies S G M D → Type 0) (sender_told : N → List (Sent P) → Type 0)
+    (is_of : J → M → Type 0) (receiver_told : R → List (P × List ℕ) → Type 0)
+    (provider_told : B → List (List P) → Type 0)
+    (requests_told : Q → List (Request (Message P M S G D)) → Type 0) where
+  -- after a history, and with the message of a job pending before or none, a poll took these steps
+  pub record Woken (past : History P M D (Asker S) (Asker G)) (before : Option (P × M))
+      (result : Poll (Result Turn EndCause)) (old new : Node P M S O D) (old_sender new_sender : N)
+      (old_receiver new_receiver : R) (old_provider new_provider : B) (old_requests new_requests : Q)
+      (slot : Option (P × J)) : Type 0 where
+    pub steps : List (Step P M D S G)
+    pub ran : Ran s may_answer outlet_told sender_told past steps old new old_sender new_sender
+    pub turn : Ends s result steps past
+    -- the peer sets and the requests of its inputs are those that were given, in order
+    pub sets : (told : List (List P)) → provider_told old_provider told
+        → provider_told new_provider (told ++ sets_in (inputs steps))
+    pub requests : (told : List (Request (Message P M S G D))) → requests_told old_requests told
+        → requests_told new_requests (told ++ requests_in (inputs steps))
+    -- the message pending before, and then the payloads that were given, are, in order, those of
+    -- its inputs and then the message that is pending now
+    pub received : List (P × List ℕ)
+    pub given : (told : List (P × List ℕ)) → receiver_told old_receiver told
+        → receiver_told new_receiver (told ++ received)
+    pub pending : Option (P × M)
+    pub held : HoldsJob is_of slot pending
+    pub flow : pending_input s may_answer outlet_told sender_told is_of receiver_told before
+        ++ payload_inputs s may_answer outlet_told sender_told is_of receiver_told received
+        ≡ payloads_in (inputs steps)
+        ++ pending_input s may_answer outlet_told sender_told is_of receiver_told pending

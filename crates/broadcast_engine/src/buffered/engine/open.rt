@@ -1,0 +1,74 @@
+//! One poll of an engine that has not ended.
+ghost use Rattle.std.specs.Prelude.{◌≡◌, Option};
+ghost use Rattle.broadcast_engine.specs.Fetched.{HoldsJob};
+ghost use Rattle.futures.specs.Poll.{OnPending};
+ghost use Rattle.futures.specs.Task.{IsArmed, Keeps};
+ghost use Rattle.broadcast_core.specs.Codec.{whole};
+ghost use Rattle.broadcast_core.specs.Content.{same_by};
+ghost use Rattle.broadcast_core.specs.Setting.{Setting};
+ghost use Rattle.broadcast_core.specs.Happening.{History};
+ghost use Rattle.broadcast_core.specs.HasContent.{HasContent};
+ghost use Rattle.broadcast_engine.specs.Replies.{Asker};
+ghost use Rattle.broadcast_engine.specs.Woken.{Woken};
+
+use crate::buffered::engine::fetch::going_on;
+use crate::buffered::engine::input::{EndCause, Turn};
+use crate::buffered::engine::job::poll_job;
+use crate::buffered::engine::look::poll_sources;
+use crate::buffered::engine::node::Node;
+use crate::buffered::network::{Provider, Receiver, Sender};
+use crate::buffered::outlet::Outlet;
+use crate::buffered::requests::Requests;
+use crate::buffered::strategy::Strategy;
+use broadcast_core::{Codec, Digestible, PublicKey};
+use commonware_broadcast::buffered::{Message, Reply, Responder};
+use futures::task::{Context, Poll};
+use std::alloc::Global;
+
+/// Polls the engine. A stop comes first, then the pending job, and only if none is pending the
+/// sources, as `poll_sources` does.
+pub(super) fn poll_open<P, M, S, G, O, N, T, R, B, Q>(
+    node: &mut Node<P, M, S, O>,
+    provider: &mut B,
+    requests: &mut Q,
+    sender: &mut N,
+    receiver: &mut R,
+    slot: &mut Option<(P, T::Job)>,
+    cx: &mut Context<'_>,
+    alloc: Global,
+    priority: bool,
+    strategy: &T,
+    cfg: &M::Cfg,
+) -> Poll<Result<Turn, EndCause>>
+where
+    P: PublicKey,
+    M: Digestible + Codec,
+    S: Responder<Reply<M>> + Drop,
+    G: Drop,
+    O: Outlet<S, G, Reply<M>, Option<Reply<M>>>,
+    N: Sender<P>,
+    T: Strategy<M>,
+    R: Receiver<P>,
+    B: Provider<P>,
+    Q: Requests<Message<P, M, S, G>>,
+    ensures woken { (s : Setting P M M.Digest) → s.same ≡ same_by P.cmp M.Digest.cmp
+        → s.encoding ≡ M.encoding → s.priority ≡ priority → s.digest_of ≡ M.digest_of
+        → s.reading ≡ whole (M.reading cfg.now)
+        → (past : History P M M.Digest (Asker S) (Asker G)) → HasContent s past node.old.core
+        → (before : Option (P × M)) → HoldsJob T.Job.is_of slot.old before
+        → Woken s (λ w b. S.may_answer w.responder b) O.told N.told T.Job.is_of R.told B.told
+        Q.told past before result node.old node.new sender.old sender.new
+        receiver.old receiver.new provider.old provider.new requests.old requests.new slot.new }
+    ensures armed { OnPending result (IsArmed cx.new) }
+    ensures kept { Keeps cx.old cx.new }
+{
+    if requests.stopped(cx) {
+        return Poll::Ready(Err(EndCause::Stopped));
+    }
+    if let Some((peer, job)) = slot.take() {
+        return going_on(poll_job(node, sender, slot, cx, alloc, priority, peer, job));
+    }
+    poll_sources(
+        node, provider, requests, sender, receiver, slot, cx, alloc, priority, strategy, cfg,
+    )
+}

@@ -1,0 +1,187 @@
+//! The engine: its polls, and its end.
+ghost use Rattle.std.specs.Prelude.{◌≡◌, Option, Some, None, []};
+ghost use Rattle.futures.specs.Poll.{OnPending};
+ghost use Rattle.futures.specs.Task.{IsArmed, Keeps};
+ghost use Rattle.futures.specs.declared.task.Poll.TheVariants.{Ready};
+ghost use Rattle.broadcast_core.specs.Codec.{whole};
+ghost use Rattle.broadcast_core.specs.Content.{same_by};
+ghost use Rattle.broadcast_core.specs.Setting.{Setting};
+ghost use Rattle.broadcast_core.specs.Happening.{History};
+ghost use Rattle.broadcast_core.specs.HasContent.{HasContent};
+ghost use Rattle.broadcast_engine.specs.declared.buffered.engine.input.Turn.TheVariants as turn;
+ghost use Rattle.broadcast_engine.specs.declared.buffered.engine.input.EndCause.{EndCause};
+ghost use Rattle.broadcast_engine.specs.Counters.{zero_counters};
+ghost use Rattle.broadcast_engine.specs.Replies.{Asker};
+ghost use Rattle.broadcast_engine.specs.EngineState.{Went, Holds};
+
+use crate::buffered::config::Config;
+use crate::buffered::engine::handler::drop_waiters;
+use crate::buffered::engine::input::{EndCause, Turn};
+use crate::buffered::engine::node::Node;
+use crate::buffered::engine::open::poll_open;
+use crate::buffered::metrics::Metrics;
+use crate::buffered::network::{Provider, Receiver, Sender};
+use crate::buffered::outlet::Outlet;
+use crate::buffered::requests::Requests;
+use crate::buffered::strategy::Strategy;
+use broadcast_core::{Codec, Core, Digestible, PublicKey};
+use commonware_broadcast::buffered::{Message, Reply, Responder};
+use futures::task::{Context, Poll};
+use std::alloc::Global;
+use std::marker::Model;
+
+/// An engine: it applies requests, peer sets and payloads to the cache of a node, one at a poll.
+#[derive(Drop)]
+pub struct Engine<P: PublicKey, M: Digestible + Codec, S, O, B, Q, T: Strategy<M>> {
+    node: Node<P, M, S, O>,
+    provider: B,
+    requests: Q,
+    job: Option<(P, T::Job)>,
+    end: Option<EndCause>,
+    priority: bool,
+    codec_config: M::Cfg,
+    strategy: T,
+}
+
+impl<P: PublicKey, M: Digestible + Codec, S, O, B, Q, T: Strategy<M>> Model
+    for Engine<P, M, S, O, B, Q, T> {
+    ghost use Rattle.broadcast_engine.specs.EngineState.{EngineState};
+
+    ghost Value = { EngineState P M S O M.Digest T.Job B Q M.Cfg T };
+
+    ghost view = { λ it. record {
+      node = it.node;
+      provider = it.provider;
+      requests = it.requests;
+      job = it.job;
+      end = it.end;
+      priority = it.priority;
+      codec_config = it.codec_config;
+      strategy = it.strategy;
+    } };
+}
+
+impl<P: PublicKey, M: Digestible + Codec, S, O, B, Q, T: Strategy<M>> Engine<P, M, S, O, B, Q, T> {
+    /// Creates an engine to which nothing has happened, over these requests. Does not allocate.
+    pub fn over(alloc: Global, cfg: Config<P, M::Cfg, B, T>, requests: Q, outlet: O) -> Self
+    where
+        S: Drop,
+        ensures { result ≡ record {
+          node = record {
+            core = record {
+              own = cfg.public_key;
+              deque_size = cfg.deque_size;
+              primary = [];
+              lists = [];
+              cached = [];
+              waiters = [];
+            };
+            metrics = zero_counters;
+            outlet = outlet;
+          };
+          provider = cfg.peer_provider;
+          requests = requests;
+          job = None;
+          end = None;
+          priority = cfg.priority;
+          codec_config = cfg.codec_config;
+          strategy = cfg.strategy;
+        } }
+    {
+        let Config {
+            public_key,
+            mailbox_size: _,
+            deque_size,
+            priority,
+            codec_config,
+            peer_provider,
+            strategy,
+        } = cfg;
+        Engine {
+            node: Node {
+                core: Core::new(alloc, public_key, deque_size),
+                metrics: Metrics::init(alloc),
+                outlet,
+            },
+            provider: peer_provider,
+            requests,
+            job: None,
+            end: None,
+            priority,
+            codec_config,
+            strategy,
+        }
+    }
+
+    /// Returns where replies go.
+    pub fn outlet(&self) -> &O
+        ensures { result.now ≡ self.now.node.outlet }
+    {
+        &self.node.outlet
+    }
+
+    /// Polls the engine. It takes at most one input: a peer set, or else a request, or else a
+    /// payload. A stop, the end of the peer sets and a failure of the network end it, and every
+    /// later poll returns the same.
+    pub fn poll<G, N, R>(
+        &mut self,
+        alloc: Global,
+        cx: &mut Context<'_>,
+        network: &mut (N, R),
+    ) -> Poll<Turn>
+    where
+        S: Responder<Reply<M>> + Drop,
+        G: Drop,
+        O: Outlet<S, G, Reply<M>, Option<Reply<M>>>,
+        N: Sender<P>,
+        R: Receiver<P>,
+        B: Provider<P>,
+        Q: Requests<Message<P, M, S, G>>,
+        ensures went { (s : Setting P M M.Digest) → s.same ≡ same_by P.cmp M.Digest.cmp
+            → s.encoding ≡ M.encoding → s.priority ≡ self.old.priority → s.digest_of ≡ M.digest_of
+            → s.reading ≡ whole (M.reading self.old.codec_config)
+            → (past : History P M M.Digest (Asker S) (Asker G))
+            → HasContent s past self.old.node.core → (before : Option (P × M))
+            → Holds T.Job.is_of self.old.end self.old.job before
+            → Went s (λ w b. S.may_answer w.responder b) O.told N.told T.Job.is_of R.told B.told
+            Q.told past before self.old self.new network.old network.new }
+        ensures same_after_end { (cause : EndCause) → self.old.end ≡ Some cause
+            → (result ≡ Ready (turn.Ended cause)) × (self.new ≡ self.old)
+            × (network.new ≡ network.old) }
+        ensures tells_its_end { (cause : EndCause) → self.new.end ≡ Some cause
+            → result ≡ Ready (turn.Ended cause) }
+        ensures keeps_priority { self.new.priority ≡ self.old.priority }
+        ensures keeps_codec_config { self.new.codec_config ≡ self.old.codec_config }
+        ensures keeps_strategy { self.new.strategy ≡ self.old.strategy }
+        ensures armed { OnPending result (IsArmed cx.new) }
+        ensures kept { Keeps cx.old cx.new }
+    {
+        if let Some(cause) = self.end {
+            return Poll::Ready(Turn::Ended(cause));
+        }
+        let result = poll_open(
+            &mut self.node,
+            &mut self.provider,
+            &mut self.requests,
+            &mut network.0,
+            &mut network.1,
+            &mut self.job,
+            cx,
+            alloc,
+            self.priority,
+            &self.strategy,
+            &self.codec_config,
+        );
+        match result {
+            Poll::Ready(Ok(turn)) => Poll::Ready(turn),
+            Poll::Ready(Err(cause)) => {
+                self.requests.close();
+                drop_waiters(&mut self.node);
+                self.job = None;
+                self.end = Some(cause);
+                Poll::Ready(Turn::Ended(cause))
+            }
+            Poll::Pending => Poll::Pending,
+        }
+    }
+}
