@@ -2,7 +2,7 @@
 ghost use Rattle.std.specs.Prelude.{◌≡◌, ◌<◌, ◌+◌, ◌++◌, ◌↔◌, [], ◌∷◌, false, true, length, if◌then◌else◌, IsSome, IfSome, IfOk, IsOk, OnOk, OnErr, position};
 ghost use Rattle.std.specs.Option.{option_to_list};
 ghost use Rattle.std.specs.Ordering.{eq_by_cmp};
-ghost use Rattle.std.specs.List.{IsDistinct};
+ghost use Rattle.std.specs.List.{IsDistinct, remove};
 ghost use Rattle.std.specs.VecDeque.Iter.{deque_iter_rest};
 ghost use Rattle.broadcast_core.specs.Content.{among, without};
 
@@ -64,8 +64,7 @@ impl<D: Ord + Copy> Deque<D> {
         match place_of(&self.digests, &digest) {
             None => false,
             Some(place) => {
-                let _old = self.digests.remove(place);
-                self.digests.push_front_reserved(digest);
+                put_first(&mut self.digests, place, digest);
                 true
             }
         }
@@ -106,4 +105,13 @@ fn place_of<D: Ord>(digests: &VecDeque<D>, digest: &D) -> Option<usize>
     ensures { result ≡ position (eq_by_cmp D.cmp digest.now) digests.now.items }
 {
     digests.iter().position(|other| digest.cmp(other).is_eq())
+}
+
+/// Puts the digest in front, in place of the equal one at `place`.
+fn put_first<D: Drop>(digests: &mut VecDeque<D>, place: usize, digest: D)
+    requires { place < length digests.old.items }
+    ensures { digests.new.items ≡ digest ∷ remove digests.old.items place }
+{
+    let _old = digests.remove(place);
+    digests.push_front_reserved(digest);
 }

@@ -1,23 +1,16 @@
 use Rattle.std.proofs.Common.{◌≡◌, ◌∷◌, sym, ◌∙◌, ap, Option, Some, None, arith}
-use Rattle.std.specs.Prelude.{IsSome, OnSome}
 use Rattle.std.specs.Cmp.{eq_by_cmp_equiv}
 use Rattle.std.specs.Ordering.{eq_by_cmp}
 use Rattle.std.proofs.lemmas.List.Quantifiers.{position-Some}
 use Rattle.broadcast_core.specs.Content.{without}
 use Rattle.broadcast_core.proofs.Distinct.{IsDistinct-moved, remove-found, none-found, any-found}
 use Rattle.broadcast_core.proofs.buffer.deque.Deque.move_to_front.Goals as goal
-use Rattle.broadcast_core.proofs.buffer.deque.Deque.move_to_front.Goals.{After-push_front_reserved}
+use Rattle.broadcast_core.proofs.buffer.deque.Deque.move_to_front.Goals.{After-put_first}
 
-on_some : {A P : Type 0} (r : Option A) → OnSome r P → IsSome r → P
-on_some None h so = absurd cc
-on_some (Some x) h so = h
-
-moved : (g : _) (c : After-push_front_reserved g) → c.push_front_reserved.new.self.items ≡ c.args.digest ∷ without (eq_by_cmp g.D.Ord.cmp) c.args.digest c.self.inside.digests.items
+moved : (g : _) (c : After-put_first g) → c.put_first.new.digests.items ≡ c.args.digest ∷ without (eq_by_cmp g.D.Ord.cmp) c.args.digest c.self.inside.digests.items
 moved g c =
     let found = sym c.place_of.ensures ∙ c.in-Some.is in
-    let there : IsSome c.remove-old.result = c.remove-old.ensures.variant.1 (omega (arith, (position-Some (eq_by_cmp g.D.Ord.cmp c.args.digest) c.self.inside.digests.items c.in-Some.place c.args.digest found).0, c.self.inside.digests.ok)) in
-    let rest = on_some c.remove-old.result c.remove-old.ensures.items there in
-    c.push_front_reserved.ensures.items ∙ ap (λ xs. c.args.digest ∷ xs) (rest ∙ remove-found (eq_by_cmp_equiv g.met.D.Ord.total) c.args.digest c.self.inside.digests.items c.in-Some.place c.self.invariant found)
+    c.put_first.ensures ∙ ap (λ xs. c.args.digest ∷ xs) (remove-found (eq_by_cmp_equiv g.met.D.Ord.total) c.args.digest c.self.inside.digests.items c.in-Some.place c.self.invariant found)
 
 pub invariant_of-self : goal.invariant_of-self
 invariant_of-self g c = rw (moved g c) (IsDistinct-moved (eq_by_cmp_equiv g.met.D.Ord.total) c.args.digest c.self.inside.digests.items c.self.invariant)
