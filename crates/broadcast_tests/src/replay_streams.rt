@@ -114,7 +114,7 @@ impl Row {
             return came == all;
         }
         let len = self.step.saturating_mul(calls).min(all.len());
-        all.get(..len) == Some(came)
+        came.len() == len && all.starts_with(came)
     }
 
     fn has_passed(&self, rt: &impl Wait, inbox: &Mutex<Inbox<Request>>) -> bool {

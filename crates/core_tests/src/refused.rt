@@ -46,17 +46,28 @@ fn serves(core: &mut Keyed, message: &Digested<Even>) -> Result<bool, AllocError
     Ok(core.take(&Key::new(1), message)?.served.as_slice() == [7].as_slice())
 }
 
-/// Returns whether takings are refused, what is left, and whether a taking serves afterwards.
-fn refused(alloc: Global) -> Result<(bool, [usize; 4], bool), AllocError> {
+/// What takings under both keys show: whether they are refused, what is left, and whether a taking
+/// serves afterwards.
+type Shown = (bool, [usize; 4], bool);
+
+fn shown(alloc: Global) -> Result<Shown, AllocError> {
     let message = Digested::compute(alloc, Even(4))?;
     let mut core = core(alloc)?;
-    let refused = refuses(&mut core, &message);
-    let sizes = sizes(alloc, &core)?;
-    Ok((refused, sizes, serves(&mut core, &message)?))
+    shown_by(alloc, &mut core, &message)
+}
+
+fn shown_by(
+    alloc: Global,
+    core: &mut Keyed,
+    message: &Digested<Even>,
+) -> Result<Shown, AllocError> {
+    let refused = refuses(core, message);
+    let sizes = sizes(alloc, core)?;
+    Ok((refused, sizes, serves(core, message)?))
 }
 
 #[test]
 fn refused_take_changes_nothing(rt: HostRuntime) -> Result<(), Fail> {
-    assert_eq!(rt; refused(rt.alloc())?, (true, [0, 0, 0, 1], true));
+    assert_eq!(rt; shown(rt.alloc())?, (true, [0, 0, 0, 1], true));
     Ok(())
 }

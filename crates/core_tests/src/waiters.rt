@@ -237,9 +237,13 @@ fn has_tickets(waiters: &Items<Waiter>, tickets: &[u64]) -> bool {
         .eq(tickets.iter().copied())
 }
 
-/// Returns the place of the first call with another answer.
+/// Makes the calls, and returns the place of the first with another answer.
 fn fault(alloc: Global) -> Result<Option<usize>, AllocError> {
     let mut room = Room::new(alloc)?;
+    fault_in(alloc, &mut room)
+}
+
+fn fault_in(alloc: Global, room: &mut Room) -> Result<Option<usize>, AllocError> {
     for (place, call) in calls().iter().enumerate() {
         if !room.is_answered(alloc, *call)? {
             return Ok(Some(place));

@@ -140,24 +140,33 @@ fn recipients_of(alloc: Global, call: Call) -> Result<Recipients<u64>, AllocErro
 /// Returns whether the request of the call waits behind the others, alone and with the next ticket.
 fn is_last<R: Wait>(ingress: &Ingress<u64, Note, R>, row: Row) -> bool {
     let Row(call, waiting, stopped) = row;
-    let accepted = waiting.wrapping_add(1);
-    let counts = Counts {
-        accepted,
-        taken: 0,
-        skipped: 0,
-        waiting: accepted,
-        given_up: 0,
-    };
-    if ingress.counts() != counts || ingress.stop_requested() != stopped {
+    if ingress.counts() != counts_with(waiting) || ingress.stop_requested() != stopped {
         return false;
     }
     for _ in 0..waiting {
         drop(ingress.take());
     }
-    let Some((ticket, request)) = ingress.take() else {
-        return false;
-    };
-    ticket == waiting && is_request_of(&request, call) && ingress.take().is_none()
+    is_next(ingress, waiting, call) && ingress.take().is_none()
+}
+
+/// Returns the counts if a request waits behind `waiting` others.
+fn counts_with(waiting: u64) -> Counts {
+    let accepted = waiting.wrapping_add(1);
+    Counts {
+        accepted,
+        taken: 0,
+        skipped: 0,
+        waiting: accepted,
+        given_up: 0,
+    }
+}
+
+/// Returns whether the next request is that of the call, with this ticket.
+fn is_next<R: Wait>(ingress: &Ingress<u64, Note, R>, ticket: u64, call: Call) -> bool {
+    match ingress.take() {
+        Some((drawn, request)) => drawn == ticket && is_request_of(&request, call),
+        None => false,
+    }
 }
 
 /// Returns whether the request is that of the call.

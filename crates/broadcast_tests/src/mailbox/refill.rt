@@ -29,28 +29,6 @@ impl Case {
     }
 }
 
-/// Returns the tickets that an inbox gives.
-fn tickets_of_inbox(alloc: Global, case: Case) -> Result<Vec<u64>, Fail> {
-    let closed = Rc::new(alloc, Cell::new(0))?;
-    let mut inbox = Inbox::new(alloc, case.size);
-    for digest in 0..case.number {
-        inbox.enqueue(request(alloc, Kind::Get(digest), &closed)?)?;
-    }
-    closed.set(case.closes);
-    Ok(taken(alloc, &mut inbox, case.number)?)
-}
-
-/// Returns the tickets of at most `number` requests that wait.
-fn taken(alloc: Global, inbox: &mut Inbox<Plain>, number: u64) -> Result<Vec<u64>, AllocError> {
-    let mut tickets = Vec::new(alloc);
-    for _ in 0..number {
-        if let Some((ticket, _)) = inbox.take() {
-            tickets.push(ticket)?;
-        }
-    }
-    Ok(tickets)
-}
-
 /// A ready list that is refilled by `drain`.
 #[derive(Drop)]
 struct Refilled {
@@ -60,6 +38,14 @@ struct Refilled {
 }
 
 impl Refilled {
+    fn new(alloc: Global, size: usize) -> Refilled {
+        Refilled {
+            size,
+            ready: VecDeque::new(alloc),
+            overflow: Pending::default(alloc),
+        }
+    }
+
     fn enqueue(&mut self, request: Request<Plain>) -> Result<(), AllocError> {
         if self.overflow.is_empty() && self.ready.len() < self.size {
             self.ready.push_back(request)?;
@@ -92,41 +78,40 @@ fn put(
     ready.push_back(request).err().map(|refused| refused.value)
 }
 
-/// Returns the tickets that the same calls give if the ready list is refilled by `drain`.
-fn tickets_of_drain(alloc: Global, case: Case) -> Result<Vec<u64>, AllocError> {
-    let closed = Rc::new(alloc, Cell::new(0))?;
-    let mut refilled = Refilled {
-        size: case.size.get(),
-        ready: VecDeque::new(alloc),
-        overflow: Pending::default(alloc),
-    };
-    enqueue_all(alloc, &mut refilled, case.number, &closed)?;
-    closed.set(case.closes);
-    let mut tickets = Vec::new(alloc);
-    for _ in 0..case.number {
-        if let Some(ticket) = refilled.take() {
-            tickets.push(ticket)?;
-        }
-    }
-    Ok(tickets)
-}
-
+/// Queues gets of the digests below `number` in both.
 fn enqueue_all(
     alloc: Global,
+    inbox: &mut Inbox<Plain>,
     refilled: &mut Refilled,
     number: u64,
     closed: &ClosedDigests,
-) -> Result<(), AllocError> {
+) -> Result<(), Fail> {
     for ticket in 0..number {
+        inbox.enqueue(request(alloc, Kind::Get(ticket), closed)?)?;
         let message = request(alloc, Kind::Get(ticket), closed)?;
         refilled.enqueue(Request { ticket, message })?;
     }
     Ok(())
 }
 
-/// Returns whether both give the same tickets.
+/// Returns whether `number` takes give the same tickets.
+fn give_the_same(inbox: &mut Inbox<Plain>, refilled: &mut Refilled, number: u64) -> bool {
+    for _ in 0..number {
+        if inbox.take().map(|taken| taken.0) != refilled.take() {
+            return false;
+        }
+    }
+    true
+}
+
+/// Returns whether an inbox and a ready list that is refilled by `drain` give the same tickets.
 fn is_same(alloc: Global, case: Case) -> Result<bool, Fail> {
-    Ok(tickets_of_inbox(alloc, case)? == tickets_of_drain(alloc, case)?)
+    let closed = Rc::new(alloc, Cell::new(0))?;
+    let mut inbox = Inbox::new(alloc, case.size);
+    let mut refilled = Refilled::new(alloc, case.size.get());
+    enqueue_all(alloc, &mut inbox, &mut refilled, case.number, &closed)?;
+    closed.set(case.closes);
+    Ok(give_the_same(&mut inbox, &mut refilled, case.number))
 }
 
 #[test]

@@ -1,10 +1,10 @@
 //! Callers that no longer wait, and a closed mailbox.
 use super::note::Note;
 use broadcast_core::{Digested, Recipients};
-use commonware_broadcast::buffered::{Counts, channel};
+use commonware_broadcast::buffered::{Counts, Mailbox, channel};
 use commonware_broadcast::{Broadcaster, Feedback};
 use futures::executor::block_on;
-use std::alloc::AllocGlobal;
+use std::alloc::{AllocGlobal, Global};
 use std::num::NonZeroUsize;
 use std::random::RandomSource;
 use std::sync::Wait;
@@ -35,19 +35,33 @@ fn dropping_what_waits_closes_its_request(rt: HostRuntime) -> Result<(), Fail> {
     Ok(())
 }
 
-/// Returns whether a subscription and a get are canceled after a close, and the feedback to a
-/// broadcast.
+/// Returns what a closed mailbox answers to each call.
 fn closed<R>(rt: &R) -> Result<(bool, bool, Feedback), Fail>
 where
     R: Wait + RandomSource + AllocGlobal + Clone + Send + Drop + 'static,
 {
     let (mailbox, ingress) = channel(rt.clone()?, rt.alloc(), NonZeroUsize::MIN)?;
     ingress.close();
-    let message = Digested::precomputed(rt.alloc(), Note(1), 7)?;
-    let feedback = mailbox.broadcast(Recipients::<u64>::All, message)?;
+    answers_of(rt, &mailbox)
+}
+
+/// Returns whether a subscription and a get are canceled, and the feedback to a broadcast.
+fn answers_of<R>(rt: &R, mailbox: &Mailbox<u64, Note, R>) -> Result<(bool, bool, Feedback), Fail>
+where
+    R: Wait + RandomSource + AllocGlobal + Clone + Send + Drop + 'static,
+{
     let subscribed = block_on(rt, mailbox.subscribe(7)?)?.is_err();
     let got = block_on(rt, mailbox.get(7)?)?.is_none();
-    Ok((subscribed, got, feedback))
+    Ok((subscribed, got, feedback_of(mailbox, rt.alloc())?))
+}
+
+/// Returns the feedback to a broadcast.
+fn feedback_of<B>(mailbox: &B, alloc: Global) -> Result<Feedback, Fail>
+where
+    B: Broadcaster<Recipients = Recipients<u64>, Message = Digested<Note>>,
+{
+    let message = Digested::precomputed(alloc, Note(1), 7)?;
+    Ok(mailbox.broadcast(Recipients::All, message)?)
 }
 
 #[test]
