@@ -1,8 +1,7 @@
 -- The nodes that a broadcast is addressed to, one key after the other.
-use Rattle.std.proofs.Common.{◌≡◌, ℕ, ◌+◌, ◌<◌, Bool, true, false, ◌||◌, if◌then◌else◌, List, [], ◌∷◌, ◌++◌, length, take, map, get_or, Some, None, refl, sym, ap, ◌∙◌, append-nil}
+use Rattle.std.proofs.Common.{◌≡◌, ℕ, ◌+◌, ◌<◌, Bool, true, false, ◌||◌, if◌then◌else◌, List, [], ◌∷◌, ◌++◌, length, take, map, get_or, Some, None, refl, sym, ap, ◌∙◌, subst, append-nil}
 use Rattle.std.specs.List.{filter_map, list_any}
-use Rattle.std.proofs.lemmas.List.{take_more, map-append}
-use Rattle.std.specs.Cmp.{IsEquivalence}
+use Rattle.std.specs.Cmp.{IsEquivalence, IsTotalOrder, eq_by_cmp_equiv}
 use Rattle.std.specs.Ordering.{eq_by_cmp}
 use Rattle.std.specs.declared.cmp.Ordering.{Ordering}
 use Rattle.std.proofs.lemmas.List.Elements.{filter_map-append}
@@ -10,6 +9,9 @@ use Rattle.broadcast_core.specs.Content.{first_places, without}
 use Rattle.broadcast_core.proofs.Distinct.{by_test}
 use Rattle.broadcast_world.specs.Scene.{Scene}
 use Rattle.broadcast_world.specs.Packet.{Packet}
+use Rattle.broadcast_core.specs.Concerns.{AreEqual}
+use Rattle.broadcast_world.specs.Steps.{AreCopies}
+use Rattle.broadcast_world.proofs.Places.{AllZip-append, map_next}
 use Rattle.broadcast_world.specs.World.{addressed_of, node, packets_to}
 
 module _ {P : Type 0} (same : P → P → Bool) (laws : IsEquivalence same) where
@@ -79,9 +81,29 @@ module _ {P : Type 0} (cmp : P → P → Ordering) (w : Scene P) where
 
   -- one packet more
   pub packets-push : (n : P) (nodes : List P) (i : ℕ) (node sender addressee : P) (bytes shared : List ℕ) (old new : List (Packet P)) → i < length nodes
-      → old ≡ packets_to cmp w n (take i nodes) (Some bytes) → new ≡ old ++ record { sender = sender; addressee = addressee; bytes = shared } ∷ []
-      → node ≡ get_or nodes i node → sender ≡ n → addressee ≡ node → shared ≡ bytes → new ≡ packets_to cmp w n (take (i + 1) nodes) (Some bytes)
+      → AreCopies cmp old (packets_to cmp w n (take i nodes) (Some bytes)) → new ≡ old ++ record { sender = sender; addressee = addressee; bytes = shared } ∷ []
+      → node ≡ get_or nodes i node → eq_by_cmp cmp sender n ≡ true → eq_by_cmp cmp addressee node ≡ true → shared ≡ bytes → AreCopies cmp new (packets_to cmp w n (take (i + 1) nodes) (Some bytes))
   packets-push n nodes i node sender addressee bytes shared old new within was is read from to same =
       let packet : P → Packet P = λ p. record { sender = n; addressee = p; bytes = bytes } in
-      is ∙ rw (was, from, to, same)
-      (sym (ap (map packet) (take_more nodes i node within) ∙ map-append packet (take i nodes) (get_or nodes i node ∷ []) ∙ ap (λ p. map packet (take i nodes) ++ packet p ∷ []) (sym read)))
+      let more = map_next packet nodes i node within read in
+      subst (λ ps. AreCopies cmp new ps) (sym more) (subst (λ ps. AreCopies cmp ps (map packet (take i nodes) ++ packet node ∷ [])) (sym is)
+      (AllZip-append _ old (map packet (take i nodes)) (record { sender = sender; addressee = addressee; bytes = shared } ∷ []) (packet node ∷ []) was ((from, to, same), tt)))
+
+  -- packets for copies of keys
+  pub packets-copied : IsTotalOrder cmp → (n : P) (bytes : List ℕ) (packets : List (Packet P)) (copies given : List P) → AreCopies cmp packets (packets_to cmp w n copies (Some bytes)) → AreEqual (eq_by_cmp cmp) copies given
+      → AreCopies cmp packets (packets_to cmp w n given (Some bytes))
+  packets-copied total n bytes [] [] [] h is = tt
+  packets-copied total n bytes [] [] (q ∷ given) h is = absurd is
+  packets-copied total n bytes [] (p ∷ copies) given h is = absurd h
+  packets-copied total n bytes (x ∷ packets) [] given h is = absurd h
+  packets-copied total n bytes (x ∷ packets) (p ∷ copies) [] h is = absurd is
+  packets-copied total n bytes (x ∷ packets) (p ∷ copies) (q ∷ given) h is =
+      let laws = eq_by_cmp_equiv total in
+      ((h.0.0, laws.congr x.addressee p q h.0.1 ∙ is.0, h.0.2), packets-copied total n bytes packets copies given h.1 is.1)
+
+  -- equal keys are among equal keys alike
+  pub any-copied : IsTotalOrder cmp → (x : P) (copies given : List P) → AreEqual (eq_by_cmp cmp) copies given → list_any (λ k. eq_by_cmp cmp k x) copies ≡ list_any (λ k. eq_by_cmp cmp k x) given
+  any-copied total x [] [] is = refl
+  any-copied total x [] (q ∷ given) is = absurd is
+  any-copied total x (p ∷ copies) [] is = absurd is
+  any-copied total x (p ∷ copies) (q ∷ given) is = rw ((eq_by_cmp_equiv total).congr p q x is.0, any-copied total x copies given is.1) refl
