@@ -1,8 +1,9 @@
 //! Packets, and the nodes that they are made for.
-ghost use Rattle.std.specs.Prelude.{◌≡◌, List, [], ◌∷◌, ◌++◌, Some, IfOk, OnOk};
+ghost use Rattle.std.specs.Prelude.{◌≡◌, if◌then◌else◌, List, [], ◌∷◌, ◌++◌, Some, IfOk, OnOk};
 ghost use Rattle.std.specs.List.{list_any};
 ghost use Rattle.std.specs.Ordering.{eq_by_cmp};
 ghost use Rattle.broadcast_core.specs.Concerns.{AreEqual};
+ghost use Rattle.broadcast_core.specs.Content.{without};
 ghost use Rattle.broadcast_world.specs.Scene.{Scene};
 ghost use Rattle.broadcast_world.specs.Steps.{AreCopies};
 ghost use Rattle.broadcast_world.specs.World.{addressed, addressed_of, packets_to};
@@ -92,7 +93,7 @@ pub fn addressees<P: PublicKey>(
         AreEqual (eq_by_cmp P.cmp) to.items (addressed P.cmp w sender.now recipients.now)) }
 {
     match recipients {
-        Recipients::All => address_all(alloc, nodes, sender, nodes.as_slice()),
+        Recipients::All => all_but(alloc, nodes.as_slice(), sender),
         Recipients::Some(keys) => address_all(alloc, nodes, sender, keys.as_slice()),
         Recipients::One(key) => {
             let mut to = Vec::new(alloc);
@@ -100,6 +101,31 @@ pub fn addressees<P: PublicKey>(
             Ok(to)
         }
     }
+}
+
+/// Returns the keys that differ from the sender.
+fn all_but<P: PublicKey>(alloc: Global, keys: &[P], sender: &P) -> Result<Vec<P>, AllocError>
+    ensures { IfOk result (λ to.
+        AreEqual (eq_by_cmp P.cmp) to.items (without (eq_by_cmp P.cmp) sender.now keys.now)) }
+{
+    let mut to = Vec::new(alloc);
+    for key in keys {
+        push_other(sender, &mut to, key)?;
+    }
+    Ok(to)
+}
+
+/// Appends the key, unless it is the sender.
+fn push_other<P: PublicKey>(sender: &P, to: &mut Vec<P>, key: &P) -> Result<(), AllocError>
+    ensures { (given : List P) → AreEqual (eq_by_cmp P.cmp) to.old.items given
+        → OnOk result (AreEqual (eq_by_cmp P.cmp) to.new.items
+        (given ++ (if eq_by_cmp P.cmp sender.now key.now then [] else key.now ∷ []))) }
+{
+    if is_same(sender, key) {
+        return Ok(());
+    }
+    to.push(key.clone()?)?;
+    Ok(())
 }
 
 /// Returns the nodes other than the sender that the keys name, each at its first mention.
