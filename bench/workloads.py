@@ -1,11 +1,11 @@
 #!/usr/bin/env python3
-"""Generates event files for `replay` from a seed.
+"""Generates files of events for `replay`, and of steps for `world`, from a seed.
 
 A workload is a shape, and the scale multiplies its events.
 
     workloads.py                          lists the workloads
-    workloads.py NAME [--scale S] [--seed N] [--out FILE]     writes an event file
-    workloads.py NAME --args              prints the arguments of `replay`
+    workloads.py NAME [--scale S] [--seed N] [--out FILE]     writes a file
+    workloads.py NAME --args              prints the arguments of the program
 """
 
 import argparse
@@ -17,8 +17,9 @@ ALL = {}
 
 
 class Workload:
-    def __init__(self, name, words, base, about, make):
-        self.name, self.words, self.base, self.about, self.make = name, words, base, about, make
+    def __init__(self, name, words, base, about, make, program, table):
+        self.name, self.words, self.base, self.about = name, words, base, about
+        self.make, self.program, self.table = make, program, table
 
     def write(self, scale, seed, out):
         """Writes the file. Returns the number of its lines."""
@@ -38,9 +39,9 @@ class Workload:
         return lines
 
 
-def workload(name, words, base, about):
+def workload(name, words, base, about, program="replay", table="replay"):
     def keep(make):
-        ALL[name] = Workload(name, words, base, about, make)
+        ALL[name] = Workload(name, words, base, about, make, program, table)
         return make
 
     return keep
@@ -323,6 +324,41 @@ def reads(chance, count):
             yield f"{chance.choice(('get', 'subscribe'))} {at} {content.hex()}"
 
 
+# As many messages of 1 kB as a world delivers, straight to one cache.
+@workload(
+    "payloads-1k",
+    ["1", "16"],
+    20_000,
+    "100 peers send messages of 1 kB, none twice",
+    table="world",
+)
+def payloads(chance, count):
+    yield peers(range(1, 101))
+    for at in range(count):
+        yield f"payload {at % 100 + 1} {encoded(b'', chance.randbytes(1_000)).hex()}"
+
+
+# A world in which each broadcast is delivered to all other nodes, in any order.
+@workload(
+    "world-n100-1k",
+    ["16", ",".join(map(str, range(1, 101))), "-"],
+    20_000,
+    "100 nodes, each broadcast of 1 kB delivered to the 99 others",
+    program="world",
+    table="world",
+)
+def world(chance, count):
+    nodes = range(1, 101)
+    for node in nodes:
+        yield " ".join(["peers", str(node), *map(str, nodes)])
+    for first in range(0, count, 99):
+        packets = list(range(first, min(first + 99, count)))
+        chance.shuffle(packets)
+        yield f"broadcast {chance.choice(nodes)} all - {chance.randbytes(1_000).hex()}"
+        for packet in packets:
+            yield f"deliver {packet}"
+
+
 def main():
     words = argparse.ArgumentParser(
         description=__doc__, formatter_class=argparse.RawTextHelpFormatter
@@ -335,7 +371,8 @@ def main():
     given = words.parse_args()
     if not given.name:
         for it in ALL.values():
-            print(f"{it.name:24} replay {' '.join(it.words):14} {it.base:7} events: {it.about}")
+            words = " ".join(word if len(word) < 12 else "1,2,.." for word in it.words)
+            print(f"{it.name:24} {it.program} {words:14} {it.base:7} events: {it.about}")
     elif given.args:
         print(" ".join(ALL[given.name].words))
     else:

@@ -12,7 +12,6 @@ use Rattle.broadcast_core.specs.Codec.{all_taken, whole}
 use Rattle.broadcast_core.specs.CodecLaws.{message_reads_back}
 use Rattle.broadcast_core.specs.Content.{first_places, among, list_at}
 use Rattle.broadcast_core.specs.Happening.{Happening, peers, broadcast, arrival, subscribe, get, cleanup, taken}
-use Rattle.broadcast_core.specs.HasContent.{HasContent}
 use Rattle.broadcast_core.specs.Lists.{list, digest_under, digests_under}
 use Rattle.broadcast_core.specs.Peers.{is_primary, since}
 use Rattle.broadcast_core.specs.declared.codec.CodecError.{CodecError}
@@ -21,10 +20,11 @@ use Rattle.broadcast_core.specs.TestMessage.{Parts, encoding_of, read_message}
 use Rattle.broadcast_core.specs.Log.{after, arrived, is_refused}
 use Rattle.broadcast_core.specs.declared.event.Event.TheVariants as event
 use Rattle.broadcast_core.specs.declared.ordered.Recipients.{Recipients}
+use Rattle.broadcast_world.proofs.Places.{AllZip-weaker}
 use Rattle.broadcast_world.specs.Packet.{Packet}
 use Rattle.broadcast_world.specs.Scene.{Scene}
 use Rattle.broadcast_world.specs.World.{Log, NodeEvent, NodeHistory, accepted, addressed, at, delivery, event_of, history, history_with, made_by, node, packets, packets_by, packets_to, unless_refused}
-use Rattle.broadcast_world.specs.Steps.{NodeContent}
+use Rattle.broadcast_world.specs.Steps.{HasNode, NodeContent}
 use Rattle.broadcast_world.specs.Broadcasts.{Broadcasting, HasOrigins, broadcast_by, broadcast_in, broadcasts, was_broadcast}
 use Rattle.broadcast_world.specs.declared.step.Step.{Step}
 use Rattle.broadcast_world.specs.declared.step.Step.TheVariants.{Peers, Broadcast, Subscribe, Get, Cleanup, Deliver, Hostile}
@@ -91,12 +91,6 @@ any_first same test [] h = h
 any_first same test (x ∷ xs) h = by_test (test x)
     (λ t. rw t refl)
     (λ t. rw t (any_first same test xs (any_filter test (λ y. not (same x y)) (first_places same xs) (rw t at h))))
-
-AllZip-weaker : {A B : Type 0} (R S : A → B → Type 0) (xs : List A) (ys : List B) → ((a : A) (b : B) → R a b → S a b) → AllZip R xs ys → AllZip S xs ys
-AllZip-weaker R S [] [] f h = tt
-AllZip-weaker R S [] (y ∷ ys) f h = h
-AllZip-weaker R S (x ∷ xs) [] f h = h
-AllZip-weaker R S (x ∷ xs) (y ∷ ys) f h = (f x y h.0, AllZip-weaker R S xs ys f h.1)
 
 module _ {P : Type 0} (cmp : P → P → Ordering) (total : IsTotalOrder cmp) (w : Scene P) where
   -- a packet is the encoding of a broadcast at its sender, and its addressee was addressed
@@ -297,7 +291,7 @@ module _ {P : Type 0} (cmp : P → P → Ordering) (total : IsTotalOrder cmp) (w
       (λ t. absurd (let no = rw t at h in cc))
 
   -- what a node lists for another key was broadcast there to it
-  origins : (n : P) (log : Log P) (core : NodeContent P) → HasContent (at cmp w n) (history cmp w n log) core → (p : P) (d : List ℕ) → eq_by_cmp cmp p n ≡ false
+  origins : (n : P) (log : Log P) (core : NodeContent P) → HasNode cmp w n (history cmp w n log) core → (p : P) (d : List ℕ) → eq_by_cmp cmp p n ≡ false
       → list_any (eq_by_cmp cmp p) w.hostile ≡ false → among (at cmp w n).same.digest d (list_at (at cmp w n).same core p) ≡ true → was_broadcast cmp w p n d log ≡ true
   origins n log core has p d other clean h =
       let equal : List ℕ → Bool = (at cmp w n).same.digest d in
@@ -311,5 +305,5 @@ module _ {P : Type 0} (cmp : P → P → Ordering) (total : IsTotalOrder cmp) (w
             (ap (λ m. equal (sha256 m.content)) sent.message ∙ ap equal (sym a.own) ∙ a.digest))
       ]
 
-  pub HasOrigins-from : (log : Log P) (cores : List (NodeContent P)) → AllZip (λ n core. HasContent (at cmp w n) (history cmp w n log) core) w.nodes cores → HasOrigins cmp w log cores
-  HasOrigins-from log cores has = AllZip-weaker (λ n core. HasContent (at cmp w n) (history cmp w n log) core) _ w.nodes cores (λ n core h p d other clean listed. origins n log core h p d other clean listed) has
+  pub HasOrigins-from : (log : Log P) (cores : List (NodeContent P)) → AllZip (λ n core. HasNode cmp w n (history cmp w n log) core) w.nodes cores → HasOrigins cmp w log cores
+  HasOrigins-from log cores has = AllZip-weaker (λ n core. HasNode cmp w n (history cmp w n log) core) _ w.nodes cores (λ n core h p d other clean listed. origins n log core h p d other clean listed) has

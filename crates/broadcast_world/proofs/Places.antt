@@ -1,6 +1,6 @@
 -- Keys at places, and lists that have something for each key.
 use Rattle.std.proofs.lemmas.Option.{slice_get-get_or, get_or_from_slice_get}
-use Rattle.std.proofs.Common.{◌≡◌, ℕ, ◌+◌, ◌<◌, zero, suc, length, get_or, map, take, Bool, true, false, List, [], ◌∷◌, ◌++◌, Option, Some, None, refl, sym, ap, ◌∙◌, arith}
+use Rattle.std.proofs.Common.{◌≡◌, ℕ, ◌+◌, ◌<◌, ◌≤◌, zero, suc, length, get_or, map, take, Bool, true, false, List, [], ◌∷◌, ◌++◌, Option, Some, None, refl, sym, ap, ◌∙◌, arith}
 use Rattle.std.proofs.lemmas.List.{take_more, map-append}
 use Rattle.std.specs.Option.{option_map}
 use Rattle.std.specs.Prelude.{slice_set, is_some, IfSome, IsSomeAnd, MatchOption}
@@ -30,6 +30,11 @@ module _ {P : Type 0} (same : P → P → Bool) (laws : IsEquivalence same) wher
       (λ t. absurd (let both = sym (laws.congr p x k t) ∙ e in cc))
       (λ t. rw t (find-at p xs i k apart.1 h e))
 
+-- equal keys find the same
+pub find-equal : {P : Type 0} (same : P → P → Bool) (laws : IsEquivalence same) (p q : P) (keys : List P) → same p q ≡ true → find (same p) keys ≡ find (same q) keys
+find-equal same laws p q [] h = refl
+find-equal same laws p q (x ∷ keys) h = rw (laws.congr p q x h, find-equal same laws p q keys h) refl
+
 pub find-none : {P : Type 0} (test : P → Bool) (keys : List P) → list_any test keys ≡ false → find test keys ≡ None
 find-none test [] h = refl
 find-none test (x ∷ xs) h = let both = or_false (test x) (list_any test xs) h in rw both.0 (find-none test xs both.1)
@@ -41,6 +46,39 @@ AllZip-at R [] ys i x y all h k = absurd (let no = h in cc)
 AllZip-at R (a ∷ xs) [] i x y all h k = absurd (let no = k in cc)
 AllZip-at R (a ∷ xs) (b ∷ ys) zero x y all h k = let is : a ≡ x = cc in let was : b ≡ y = cc in rw (sym is, sym was) all.0
 AllZip-at R (a ∷ xs) (b ∷ ys) (suc i) x y all h k = AllZip-at R xs ys i x y all.1 h k
+
+pub AllZip-length : {A B : Type 0} (R : A → B → Type 0) (xs : List A) (ys : List B) → AllZip R xs ys → length ys ≡ length xs
+AllZip-length R [] [] all = refl
+AllZip-length R [] (b ∷ ys) all = absurd all
+AllZip-length R (a ∷ xs) [] all = absurd all
+AllZip-length R (a ∷ xs) (b ∷ ys) all = ap suc (AllZip-length R xs ys all.1)
+
+-- what follows at each place
+pub AllZip-weaker : {A B : Type 0} (R S : A → B → Type 0) (xs : List A) (ys : List B) → ((a : A) (b : B) → R a b → S a b) → AllZip R xs ys → AllZip S xs ys
+AllZip-weaker R S [] [] f h = tt
+AllZip-weaker R S [] (y ∷ ys) f h = h
+AllZip-weaker R S (x ∷ xs) [] f h = h
+AllZip-weaker R S (x ∷ xs) (y ∷ ys) f h = (f x y h.0, AllZip-weaker R S xs ys f h.1)
+
+-- the second list has an element where the first has one, and none where it has none
+pub AllZip-some : {A B : Type 0} (R : A → B → Type 0) (xs : List A) (ys : List B) (i : ℕ) (x : A) → AllZip R xs ys → slice_get xs i ≡ Some x → (y : B) × (slice_get ys i ≡ Some y) × R x y
+AllZip-some R [] ys i x all h = absurd (let no = h in cc)
+AllZip-some R (a ∷ xs) [] i x all h = absurd all
+AllZip-some R (a ∷ xs) (b ∷ ys) zero x all h = let is : a ≡ x = cc in (b, refl, rw (sym is) all.0)
+AllZip-some R (a ∷ xs) (b ∷ ys) (suc i) x all h = AllZip-some R xs ys i x all.1 h
+
+pub AllZip-none : {A B : Type 0} (R : A → B → Type 0) (xs : List A) (ys : List B) (i : ℕ) → AllZip R xs ys → slice_get xs i ≡ None → slice_get ys i ≡ None
+AllZip-none R [] [] i all h = refl
+AllZip-none R [] (b ∷ ys) i all h = absurd all
+AllZip-none R (a ∷ xs) [] i all h = absurd all
+AllZip-none R (a ∷ xs) (b ∷ ys) zero all h = absurd (let no = h in cc)
+AllZip-none R (a ∷ xs) (b ∷ ys) (suc i) all h = AllZip-none R xs ys i all.1 h
+
+pub AllZip-append : {A B : Type 0} (R : A → B → Type 0) (xs : List A) (ys : List B) (more : List A) (others : List B) → AllZip R xs ys → AllZip R more others → AllZip R (xs ++ more) (ys ++ others)
+AllZip-append R [] [] more others all h = h
+AllZip-append R [] (b ∷ ys) more others all h = absurd all
+AllZip-append R (a ∷ xs) [] more others all h = absurd all
+AllZip-append R (a ∷ xs) (b ∷ ys) more others all h = (all.0, AllZip-append R xs ys more others all.1 h)
 
 module _ {P B : Type 0} (same : P → P → Bool) (laws : IsEquivalence same) (R S : P → B → Type 0) (k : P) (other : (q : P) (b : B) → same q k ≡ false → R q b → S q b) where
   AllZip-others : (keys : List P) (ys : List B) → AllByRecursion (λ q. same k q ≡ false) keys → AllZip R keys ys → AllZip S keys ys
@@ -77,6 +115,12 @@ find-placed {P} {cmp} o p keys (Some i) rises place some =
 -- what an index gives
 pub read_at : {X : Type 0} (xs : List X) (i : ℕ) (x : X) → i < length xs → x ≡ get_or xs i x → slice_get xs i ≡ Some x
 read_at xs i x within is = slice_get-get_or xs i x within ∙ ap Some (sym is)
+
+-- what lies past the end
+pub slice_get-past : {X : Type 0} (xs : List X) (i : ℕ) → length xs ≤ i → slice_get xs i ≡ None
+slice_get-past [] i h = refl
+slice_get-past (x ∷ xs) zero h = absurd (omega arith)
+slice_get-past (x ∷ xs) (suc i) h = slice_get-past xs i (omega arith)
 
 -- an element written over itself
 pub set_same : {X : Type 0} (xs : List X) (i : ℕ) (x : X) → slice_get xs i ≡ Some x → slice_set xs i x ≡ xs

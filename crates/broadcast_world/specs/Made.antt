@@ -1,6 +1,6 @@
 -- What a world is made with, and how its nodes are looked up.
-use Rattle.std.specs.Prelude.{ℕ, Bool, false, ◌||◌, List, [], ◌∷◌, Option}
-use Rattle.std.specs.List.{find, list_any, zip}
+use Rattle.std.specs.Prelude.{◌≡◌, ℕ, IsTrue, Bool, false, ◌||◌, List, [], ◌∷◌, Option}
+use Rattle.std.specs.List.{AllZip, find, list_any, zip}
 use Rattle.std.specs.Option.{option_map}
 use Rattle.std.specs.Ordering.{eq_by_cmp}
 use Rattle.std.specs.declared.cmp.Ordering.{Ordering}
@@ -33,3 +33,9 @@ no_content own deque_size = record {
   cached = [];
   waiters = [];
 }
+
+-- one node without a history for each key; its own key is a copy, which equals that given
+abbrev pub AreEmpty : {P : Type 0} → (P → P → Ordering) → ℕ → List P → List (NodeContent P)
+    → Type 0
+AreEmpty cmp deque_size nodes cores = AllZip (λ n core.
+    IsTrue (eq_by_cmp cmp n core.own) × (core ≡ no_content core.own deque_size)) nodes cores

@@ -1,22 +1,22 @@
 //! One step, over the parts of a world.
-ghost use Rattle.std.specs.Prelude.{◌≡◌, ◌++◌, None, length, if◌then◌else◌};
+ghost use Rattle.std.specs.Prelude.{◌≡◌, List, ◌++◌, None, length, if◌then◌else◌};
 ghost use Rattle.std.specs.List.{list_any, slice_get};
 ghost use Rattle.std.specs.Ordering.{eq_by_cmp};
 ghost use Rattle.broadcast_core.specs.declared.event.Event.TheVariants as event;
+ghost use Rattle.broadcast_world.specs.Packet.{Packet as Keyed};
 ghost use Rattle.broadcast_world.specs.Scene.{Scene};
 ghost use Rattle.broadcast_world.specs.World.{delivery, event_at, event_of, made_by, unless_refused};
-ghost use Rattle.broadcast_world.specs.Steps.{AtNode};
+ghost use Rattle.broadcast_world.specs.Steps.{AreCopies, AtNode};
 
 use crate::broadcast::broadcast;
-use crate::key::NodeKey;
 use crate::nodes;
 use crate::packet::Packet;
 use crate::step::{Step, WorldAnswer};
-use broadcast_core::{Core, RangeCfg, Set, TestMessage};
+use broadcast_core::{Core, PublicKey, RangeCfg, Set, TestMessage};
 use std::alloc::Global;
 
 /// Gives the node the event of the step, and appends the packets that it makes.
-pub fn apply<P: NodeKey>(
+pub fn apply<P: PublicKey>(
     alloc: Global,
     nodes: &Set<P>,
     hostile: &Set<P>,
@@ -26,14 +26,14 @@ pub fn apply<P: NodeKey>(
     step: &Step<P>,
 ) -> WorldAnswer
     requires { length cores.old.items ≡ length nodes.now }
-    ensures node { (w : Scene P)
+    ensures node { (w : Scene P) (sent : List (Keyed P))
         → w.nodes ≡ nodes.now → w.hostile ≡ hostile.now → w.range ≡ range.now
-        → AtNode P.cmp w (event_of P.cmp w step.now packets.old.items)
-        cores.old.items cores.new.items result }
-    ensures packets { (w : Scene P)
+        → AreCopies P.cmp packets.old.items sent
+        → AtNode P.cmp w (event_of P.cmp w step.now sent) cores.old.items cores.new.items result }
+    ensures packets { (w : Scene P) (sent : List (Keyed P))
         → w.nodes ≡ nodes.now → w.hostile ≡ hostile.now → w.range ≡ range.now
-        → packets.new.items ≡ packets.old.items ++ made_by P.cmp w
-        (unless_refused P.cmp w result (event_of P.cmp w step.now packets.old.items)) }
+        → AreCopies P.cmp packets.old.items sent → AreCopies P.cmp packets.new.items
+        (sent ++ made_by P.cmp w (unless_refused P.cmp w result (event_of P.cmp w step.now sent))) }
 {
     match step {
         Step::Peers(key, peers) => nodes::peers(nodes, cores, key, peers),
@@ -62,7 +62,7 @@ pub fn apply<P: NodeKey>(
 }
 
 /// Brings the packet with this number to its addressee.
-fn deliver<P: NodeKey>(
+fn deliver<P: PublicKey>(
     alloc: Global,
     nodes: &Set<P>,
     range: &RangeCfg,
@@ -71,8 +71,9 @@ fn deliver<P: NodeKey>(
     number: u64,
 ) -> WorldAnswer
     requires { length cores.old.items ≡ length nodes.now }
-    ensures { (w : Scene P) → w.nodes ≡ nodes.now → w.range ≡ range.now
-        → AtNode P.cmp w (delivery P.cmp w (slice_get packets.now number))
+    ensures { (w : Scene P) (sent : List (Keyed P)) → w.nodes ≡ nodes.now → w.range ≡ range.now
+        → AreCopies P.cmp packets.now sent
+        → AtNode P.cmp w (delivery P.cmp w (slice_get sent number))
         cores.old.items cores.new.items result }
 {
     let Some(packet) = packets.get(number as usize) else {
@@ -90,7 +91,7 @@ fn deliver<P: NodeKey>(
 }
 
 /// Brings the bytes of a hostile key to the node.
-fn attack<P: NodeKey>(
+fn attack<P: PublicKey>(
     alloc: Global,
     nodes: &Set<P>,
     hostile: &Set<P>,

@@ -3,25 +3,25 @@ ghost use Rattle.std.specs.Prelude.{◌≡◌, ℕ, ◌≤◌, ◌+◌, ◌++◌
 ghost use Rattle.broadcast_core.specs.TestMessage.{encoding_of};
 ghost use Rattle.broadcast_core.specs.declared.event.Event.TheVariants as event;
 ghost use Rattle.broadcast_core.specs.declared.ordered.Recipients.{Recipients};
+ghost use Rattle.broadcast_world.specs.Packet.{Packet as Keyed};
 ghost use Rattle.broadcast_world.specs.Scene.{Scene};
 ghost use Rattle.broadcast_world.specs.World.{NodeEvent, event_at, made_by, packets_by, packets_to, addressed, unless_refused};
-ghost use Rattle.broadcast_world.specs.Steps.{AtNode, NodeFollows};
+ghost use Rattle.broadcast_world.specs.Steps.{AreCopies, AtNode, NodeFollows};
 ghost use Rattle.broadcast_world.specs.declared.step.WorldAnswer.TheVariants as world;
 
-use crate::key::NodeKey;
 use crate::node;
 use crate::nodes::place_of;
 use crate::packet::{Packet, addressees, packets_for};
 use crate::step::WorldAnswer;
 use broadcast_core::{
-    Answer, Cause, CodecError, Core, Digested, Recipients, Set, TestMessage, Write,
+    Answer, Cause, CodecError, Core, Digested, PublicKey, Recipients, Set, TestMessage, Write,
 };
 use std::alloc::{AllocError, Global};
 
 /// Takes the message under the key of the node that `key` names, and makes its packets.
 ///
 /// A refused broadcast makes none.
-pub fn broadcast<P: NodeKey>(
+pub fn broadcast<P: PublicKey>(
     alloc: Global,
     nodes: &Set<P>,
     cores: &mut Vec<Core<P, TestMessage, u64>>,
@@ -34,9 +34,10 @@ pub fn broadcast<P: NodeKey>(
     ensures node { (w : Scene P) → w.nodes ≡ nodes.now
         → AtNode P.cmp w (event_at P.cmp w key.now (event.Broadcast recipients.now message.now))
         cores.old.items cores.new.items result }
-    ensures packets { (w : Scene P) → w.nodes ≡ nodes.now
-        → packets.new.items ≡ packets.old.items ++ made_by P.cmp w (unless_refused P.cmp w result
-        (event_at P.cmp w key.now (event.Broadcast recipients.now message.now))) }
+    ensures packets { (w : Scene P) (sent : List (Keyed P)) → w.nodes ≡ nodes.now
+        → AreCopies P.cmp packets.old.items sent
+        → AreCopies P.cmp packets.new.items (sent ++ made_by P.cmp w (unless_refused P.cmp w result
+        (event_at P.cmp w key.now (event.Broadcast recipients.now message.now)))) }
 {
     let Some(place) = place_of(nodes, key) else {
         return WorldAnswer::NoSuch;
@@ -70,7 +71,7 @@ fn encode(alloc: Global, message: &Digested<TestMessage>) -> Result<Vec<u8>, Cau
 }
 
 /// Returns the packets of a broadcast and a copy of its message, with room for the packets.
-fn prepare<P: NodeKey>(
+fn prepare<P: PublicKey>(
     alloc: Global,
     nodes: &Set<P>,
     sender: &P,
@@ -81,8 +82,8 @@ fn prepare<P: NodeKey>(
 ) -> Result<(Vec<Packet<P>>, Digested<TestMessage>), AllocError>
     ensures kept { packets.new.items ≡ packets.old.items }
     ensures made { IfOk result (λ prepared. (w : Scene P) → w.nodes ≡ nodes.now
-        → prepared.0.items ≡ packets_to P.cmp w sender.now
-        (addressed P.cmp w sender.now recipients.now) (Some bytes.items)) }
+        → AreCopies P.cmp prepared.0.items (packets_to P.cmp w sender.now
+        (addressed P.cmp w sender.now recipients.now) (Some bytes.items))) }
     ensures message { IfOk result (λ prepared. prepared.1 ≡ message.now) }
     ensures room { IfOk result (λ prepared.
         vec_len packets.new + vec_len prepared.0 ≤ vec_capacity packets.new) }
@@ -94,7 +95,7 @@ fn prepare<P: NodeKey>(
 }
 
 /// Takes the message under the node's own key, and keeps its packets unless that is refused.
-fn take<P: NodeKey>(
+fn take<P: PublicKey>(
     core: &mut Core<P, TestMessage, u64>,
     packets: &mut Vec<Packet<P>>,
     made: Vec<Packet<P>>,
@@ -104,9 +105,10 @@ fn take<P: NodeKey>(
     ensures follows { (w : Scene P) (n : P) (r : Recipients P) (bytes : List ℕ)
         → encoding_of message.message ≡ Some bytes
         → NodeFollows P.cmp w n (event.Broadcast r message) core.old core.new result }
-    ensures packets { (w : Scene P) (e : Option (P × NodeEvent P)) → made.items ≡ made_by P.cmp w e
-        → packets.new.items
-        ≡ packets.old.items ++ made_by P.cmp w (unless_refused P.cmp w (world.Given result) e) }
+    ensures packets { (w : Scene P) (e : Option (P × NodeEvent P)) (sent : List (Keyed P))
+        → AreCopies P.cmp made.items (made_by P.cmp w e) → AreCopies P.cmp packets.old.items sent
+        → AreCopies P.cmp packets.new.items
+        (sent ++ made_by P.cmp w (unless_refused P.cmp w (world.Given result) e)) }
 {
     let mut made = made;
     match node::broadcast(core, message) {

@@ -4,7 +4,6 @@
 mod apply;
 mod broadcast;
 mod error;
-mod key;
 mod made;
 mod node;
 mod nodes;
@@ -14,7 +13,6 @@ mod state;
 mod step;
 
 pub use error::WorldError;
-pub use key::NodeKey;
 pub use run::run_world;
 pub use state::World;
 pub use step::{Step, WorldAnswer, WorldLog};

@@ -1,5 +1,6 @@
 //! One event at one node.
-ghost use Rattle.std.specs.Prelude.{◌≡◌, ℕ, List, Some, IfOk, OnErr};
+ghost use Rattle.std.specs.Prelude.{◌≡◌, ℕ, IsTrue, List, Some, IfOk, OnErr};
+ghost use Rattle.std.specs.Ordering.{eq_by_cmp};
 ghost use Rattle.broadcast_core.specs.TestMessage.{encoding_of};
 ghost use Rattle.broadcast_core.specs.declared.outcome.Outcome.{Outcome};
 ghost use Rattle.broadcast_core.specs.declared.ordered.Recipients.{Recipients};
@@ -8,7 +9,6 @@ ghost use Rattle.broadcast_world.specs.Scene.{Scene};
 ghost use Rattle.broadcast_world.specs.Steps.{NodeFollows};
 ghost use Rattle.broadcast_core.specs.declared.event.Event.TheVariants as event;
 
-use crate::key::NodeKey;
 use broadcast_core::runner::apply;
 use broadcast_core::{Answer, Cause, Core, Digested, PublicKey, RangeCfg, Set, TestMessage};
 use std::alloc::{AllocError, Global};
@@ -24,7 +24,7 @@ pub fn cleanup<P: PublicKey>(
     Answer::Removed(core.cleanup(gone))
 }
 
-/// Takes the bytes under the peer's key.
+/// Takes the bytes under the peer's key. It may be a copy of the key `p` that is meant.
 pub fn payload<P: PublicKey>(
     alloc: Global,
     core: &mut Core<P, TestMessage, u64>,
@@ -32,8 +32,8 @@ pub fn payload<P: PublicKey>(
     peer: &P,
     bytes: &[u8],
 ) -> Answer<TestMessage>
-    ensures { (w : Scene P) (n : P) → w.range ≡ range.now
-        → NodeFollows P.cmp w n (event.Payload peer.now bytes.now) core.old core.new result }
+    ensures { (w : Scene P) (n p : P) → w.range ≡ range.now → IsTrue (eq_by_cmp P.cmp p peer.now)
+        → NodeFollows P.cmp w n (event.Payload p bytes.now) core.old core.new result }
 {
     apply::payload(alloc, core, range, peer, bytes)
 }
@@ -64,7 +64,7 @@ pub fn get<P: PublicKey>(
 }
 
 /// Makes a copy of these keys the primary ones.
-pub fn peers<P: NodeKey>(
+pub fn peers<P: PublicKey>(
     core: &mut Core<P, TestMessage, u64>,
     peers: &Set<P>,
 ) -> Answer<TestMessage>

@@ -1,5 +1,5 @@
 //! An event at the node that a key names.
-ghost use Rattle.std.specs.Prelude.{◌≡◌, None, Some, length, MatchOption};
+ghost use Rattle.std.specs.Prelude.{◌≡◌, IsTrue, None, Some, length, MatchOption};
 ghost use Rattle.std.specs.List.{find, slice_get};
 ghost use Rattle.std.specs.Ordering.{eq_by_cmp};
 ghost use Rattle.broadcast_world.specs.Scene.{Scene};
@@ -7,14 +7,13 @@ ghost use Rattle.broadcast_world.specs.World.{event_at};
 ghost use Rattle.broadcast_world.specs.Steps.{AtNode};
 ghost use Rattle.broadcast_core.specs.declared.event.Event.TheVariants as event;
 
-use crate::key::NodeKey;
 use crate::node;
 use crate::step::WorldAnswer;
-use broadcast_core::{Core, RangeCfg, Set, TestMessage};
+use broadcast_core::{Core, PublicKey, RangeCfg, Set, TestMessage};
 use std::alloc::Global;
 
 /// Makes a copy of these keys the primary ones at the node.
-pub fn peers<P: NodeKey>(
+pub fn peers<P: PublicKey>(
     nodes: &Set<P>,
     cores: &mut Vec<Core<P, TestMessage, u64>>,
     key: &P,
@@ -31,8 +30,8 @@ pub fn peers<P: NodeKey>(
     WorldAnswer::Given(node::peers(&mut cores[place], peers))
 }
 
-/// Takes the bytes under the peer's key at the node.
-pub fn payload<P: NodeKey>(
+/// Takes the bytes under the peer's key at the node. Both keys may be copies of those meant.
+pub fn payload<P: PublicKey>(
     alloc: Global,
     nodes: &Set<P>,
     cores: &mut Vec<Core<P, TestMessage, u64>>,
@@ -42,8 +41,9 @@ pub fn payload<P: NodeKey>(
     bytes: &[u8],
 ) -> WorldAnswer
     requires { length cores.old.items ≡ length nodes.now }
-    ensures { (w : Scene P) → w.nodes ≡ nodes.now → w.range ≡ range.now
-        → AtNode P.cmp w (event_at P.cmp w key.now (event.Payload peer.now bytes.now))
+    ensures { (w : Scene P) (n p : P) → w.nodes ≡ nodes.now → w.range ≡ range.now
+        → IsTrue (eq_by_cmp P.cmp n key.now) → IsTrue (eq_by_cmp P.cmp p peer.now)
+        → AtNode P.cmp w (event_at P.cmp w n (event.Payload p bytes.now))
         cores.old.items cores.new.items result }
 {
     let Some(place) = place_of(nodes, key) else {
@@ -53,7 +53,7 @@ pub fn payload<P: NodeKey>(
 }
 
 /// Answers a subscribe at the node.
-pub fn subscribe<P: NodeKey>(
+pub fn subscribe<P: PublicKey>(
     nodes: &Set<P>,
     cores: &mut Vec<Core<P, TestMessage, u64>>,
     key: &P,
@@ -72,7 +72,7 @@ pub fn subscribe<P: NodeKey>(
 }
 
 /// Answers a get at the node.
-pub fn get<P: NodeKey>(
+pub fn get<P: PublicKey>(
     nodes: &Set<P>,
     cores: &[Core<P, TestMessage, u64>],
     key: &P,
@@ -91,7 +91,7 @@ pub fn get<P: NodeKey>(
 }
 
 /// Drops the waiters with these tickets at the node.
-pub fn cleanup<P: NodeKey>(
+pub fn cleanup<P: PublicKey>(
     nodes: &Set<P>,
     cores: &mut Vec<Core<P, TestMessage, u64>>,
     key: &P,
@@ -109,7 +109,7 @@ pub fn cleanup<P: NodeKey>(
 }
 
 /// Returns the place of the node that the key names.
-pub fn place_of<P: NodeKey>(nodes: &Set<P>, key: &P) -> Option<usize>
+pub fn place_of<P: PublicKey>(nodes: &Set<P>, key: &P) -> Option<usize>
     ensures { MatchOption result (find (eq_by_cmp P.cmp key.now) nodes.now ≡ None) (λ place.
         (node : P) × (slice_get nodes.now place ≡ Some node)
         × (find (eq_by_cmp P.cmp key.now) nodes.now ≡ Some node)) }

@@ -1,26 +1,28 @@
 //! Packets, and the nodes that they are made for.
-ghost use Rattle.std.specs.Prelude.{◌≡◌, List, [], ◌∷◌, ◌++◌, Some, IfOk, OnOk};
+ghost use Rattle.std.specs.Prelude.{◌≡◌, if◌then◌else◌, List, [], ◌∷◌, ◌++◌, Some, IfOk, OnOk};
 ghost use Rattle.std.specs.List.{list_any};
 ghost use Rattle.std.specs.Ordering.{eq_by_cmp};
+ghost use Rattle.broadcast_core.specs.Concerns.{AreEqual};
+ghost use Rattle.broadcast_core.specs.Content.{without};
 ghost use Rattle.broadcast_world.specs.Scene.{Scene};
+ghost use Rattle.broadcast_world.specs.Steps.{AreCopies};
 ghost use Rattle.broadcast_world.specs.World.{addressed, addressed_of, packets_to};
 
-use crate::key::NodeKey;
 use crate::nodes::place_of;
-use broadcast_core::{Items, Recipients, Set};
+use broadcast_core::{Items, PublicKey, Recipients, Set};
 use std::alloc::{AllocError, Global};
 use std::marker::Model;
 use std::sync::Arc;
 
 /// A packet on its way to a node. The packets of a broadcast share its bytes.
 #[derive(Drop)]
-pub struct Packet<P: NodeKey> {
+pub struct Packet<P: PublicKey> {
     sender: P,
     addressee: P,
     bytes: Arc<Items<u8>>,
 }
 
-impl<P: NodeKey> Model for Packet<P> {
+impl<P: PublicKey> Model for Packet<P> {
     ghost use Rattle.broadcast_world.specs.Packet.{Packet};
     ghost use Rattle.std.specs.Arc.{arc_value};
 
@@ -33,7 +35,7 @@ impl<P: NodeKey> Model for Packet<P> {
     } };
 }
 
-impl<P: NodeKey> Packet<P> {
+impl<P: PublicKey> Packet<P> {
     /// Returns the key of the node that sent the packet.
     pub fn sender(&self) -> &P
         ensures { result.now ≡ self.now.sender }
@@ -57,14 +59,15 @@ impl<P: NodeKey> Packet<P> {
 }
 
 /// Returns one packet with the bytes for each of the nodes.
-pub fn packets_for<P: NodeKey>(
+pub fn packets_for<P: PublicKey>(
     alloc: Global,
     sender: &P,
     nodes: &[P],
     bytes: Vec<u8>,
 ) -> Result<Vec<Packet<P>>, AllocError>
-    ensures { (w : Scene P) → IfOk result (λ packets.
-        packets.items ≡ packets_to P.cmp w sender.now nodes.now (Some bytes.items)) }
+    ensures { (w : Scene P) (to : List P) → AreEqual (eq_by_cmp P.cmp) nodes.now to
+        → IfOk result (λ packets. AreCopies P.cmp packets.items
+        (packets_to P.cmp w sender.now to (Some bytes.items))) }
 {
     let bytes = Arc::new(alloc, Items::from_vec(bytes))?;
     let mut packets = Vec::with_capacity(alloc, nodes.len())?;
@@ -79,17 +82,18 @@ pub fn packets_for<P: NodeKey>(
 }
 
 /// Returns the nodes other than the sender that the recipients name, each at its first mention.
-pub fn addressees<P: NodeKey>(
+pub fn addressees<P: PublicKey>(
     alloc: Global,
     nodes: &Set<P>,
     sender: &P,
     recipients: &Recipients<P>,
 ) -> Result<Vec<P>, AllocError>
     ensures { (w : Scene P) → w.nodes ≡ nodes.now
-        → IfOk result (λ to. to.items ≡ addressed P.cmp w sender.now recipients.now) }
+        → IfOk result (λ to.
+        AreEqual (eq_by_cmp P.cmp) to.items (addressed P.cmp w sender.now recipients.now)) }
 {
     match recipients {
-        Recipients::All => address_all(alloc, nodes, sender, nodes.as_slice()),
+        Recipients::All => all_but(alloc, nodes.as_slice(), sender),
         Recipients::Some(keys) => address_all(alloc, nodes, sender, keys.as_slice()),
         Recipients::One(key) => {
             let mut to = Vec::new(alloc);
@@ -99,15 +103,41 @@ pub fn addressees<P: NodeKey>(
     }
 }
 
+/// Returns the keys that differ from the sender.
+fn all_but<P: PublicKey>(alloc: Global, keys: &[P], sender: &P) -> Result<Vec<P>, AllocError>
+    ensures { IfOk result (λ to.
+        AreEqual (eq_by_cmp P.cmp) to.items (without (eq_by_cmp P.cmp) sender.now keys.now)) }
+{
+    let mut to = Vec::new(alloc);
+    for key in keys {
+        push_other(sender, &mut to, key)?;
+    }
+    Ok(to)
+}
+
+/// Appends the key, unless it is the sender.
+fn push_other<P: PublicKey>(sender: &P, to: &mut Vec<P>, key: &P) -> Result<(), AllocError>
+    ensures { (given : List P) → AreEqual (eq_by_cmp P.cmp) to.old.items given
+        → OnOk result (AreEqual (eq_by_cmp P.cmp) to.new.items
+        (given ++ (if eq_by_cmp P.cmp sender.now key.now then [] else key.now ∷ []))) }
+{
+    if is_same(sender, key) {
+        return Ok(());
+    }
+    to.push(key.clone()?)?;
+    Ok(())
+}
+
 /// Returns the nodes other than the sender that the keys name, each at its first mention.
-fn address_all<P: NodeKey>(
+fn address_all<P: PublicKey>(
     alloc: Global,
     nodes: &Set<P>,
     sender: &P,
     keys: &[P],
 ) -> Result<Vec<P>, AllocError>
     ensures { (w : Scene P) → w.nodes ≡ nodes.now
-        → IfOk result (λ to. to.items ≡ addressed_of P.cmp w sender.now keys.now) }
+        → IfOk result (λ to.
+        AreEqual (eq_by_cmp P.cmp) to.items (addressed_of P.cmp w sender.now keys.now)) }
 {
     let mut to = Vec::new(alloc);
     for key in keys {
@@ -117,15 +147,17 @@ fn address_all<P: NodeKey>(
 }
 
 /// Appends the node that the key names, unless it is the sender or there already.
-fn address<P: NodeKey>(
+fn address<P: PublicKey>(
     nodes: &Set<P>,
     sender: &P,
     to: &mut Vec<P>,
     key: &P,
 ) -> Result<(), AllocError>
     ensures { (w : Scene P) → w.nodes ≡ nodes.now
-        → (keys : List P) → to.old.items ≡ addressed_of P.cmp w sender.now keys
-        → OnOk result (to.new.items ≡ addressed_of P.cmp w sender.now (keys ++ key.now ∷ [])) }
+        → (keys : List P)
+        → AreEqual (eq_by_cmp P.cmp) to.old.items (addressed_of P.cmp w sender.now keys)
+        → OnOk result (AreEqual (eq_by_cmp P.cmp) to.new.items
+        (addressed_of P.cmp w sender.now (keys ++ key.now ∷ []))) }
 {
     let Some(place) = place_of(nodes, key) else {
         return Ok(());
@@ -139,14 +171,14 @@ fn address<P: NodeKey>(
 }
 
 /// Returns whether the keys are equal.
-fn is_same<P: NodeKey>(key: &P, other: &P) -> bool
+fn is_same<P: PublicKey>(key: &P, other: &P) -> bool
     ensures { result ≡ eq_by_cmp P.cmp key.now other.now }
 {
     key.cmp(other).is_eq()
 }
 
 /// Returns whether a key equal to this one is among the keys.
-pub fn is_among<P: NodeKey>(keys: &[P], key: &P) -> bool
+pub fn is_among<P: PublicKey>(keys: &[P], key: &P) -> bool
     ensures { result ≡ list_any (λ k. eq_by_cmp P.cmp k key.now) keys.now }
 {
     keys.iter().any(|k| is_same(k, key))

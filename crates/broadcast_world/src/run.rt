@@ -4,17 +4,16 @@ ghost use Rattle.broadcast_world.specs.Broadcasts.{HasOrigins};
 ghost use Rattle.broadcast_world.specs.World.{Log, log_of};
 ghost use Rattle.broadcast_world.specs.Steps.{HasWorld, TakesSteps};
 
-use crate::key::NodeKey;
 use crate::state::World;
 use crate::step::{Step, WorldLog};
-use broadcast_core::Items;
+use broadcast_core::{Items, PublicKey};
 use std::alloc::{AllocError, Global};
 
 /// Takes the steps in order, and returns their answers.
 ///
 /// Places for the answers are reserved first. `Err` is their allocation failure, and then no step
 /// was taken.
-pub fn run_world<P: NodeKey>(
+pub fn run_world<P: PublicKey>(
     alloc: Global,
     world: &mut World<P>,
     steps: &[Step<P>],

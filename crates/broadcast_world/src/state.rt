@@ -9,17 +9,16 @@ ghost use Rattle.broadcast_world.specs.Steps.{HasWorld, TakesStep};
 
 use crate::apply::apply;
 use crate::error::WorldError;
-use crate::key::NodeKey;
 use crate::made::{cores_for, shares_key};
 use crate::packet::Packet;
 use crate::step::{Step, WorldAnswer};
-use broadcast_core::{Core, RangeCfg, Set, TestMessage};
+use broadcast_core::{Core, PublicKey, RangeCfg, Set, TestMessage};
 use std::alloc::Global;
 use std::marker::Model;
 
 /// Nodes, hostile keys, and the packets sent so far.
 #[derive(Drop)]
-pub struct World<P: NodeKey> {
+pub struct World<P: PublicKey> {
     nodes: Set<P>,
     hostile: Set<P>,
     deque_size: usize,
@@ -28,7 +27,7 @@ pub struct World<P: NodeKey> {
     packets: Vec<Packet<P>>,
 }
 
-impl<P: NodeKey> Model for World<P> {
+impl<P: PublicKey> Model for World<P> {
     ghost use Rattle.std.specs.Prelude.{◌≡◌, length};
     ghost use Rattle.broadcast_world.specs.Scene.{State};
 
@@ -48,7 +47,7 @@ impl<P: NodeKey> Model for World<P> {
     ghost invariant = { λ it. length it.cores.items ≡ length it.nodes };
 }
 
-impl<P: NodeKey> World<P> {
+impl<P: PublicKey> World<P> {
     /// Creates a world in which nothing has happened and no packet was sent.
     ///
     /// A hostile key that is listed twice counts once. `SharedKey` is judged first, and does not
@@ -130,7 +129,7 @@ impl<P: NodeKey> World<P> {
 }
 
 /// Returns the core at the place.
-fn core_at<P: NodeKey>(
+fn core_at<P: PublicKey>(
     cores: &[Core<P, TestMessage, u64>],
     place: usize,
 ) -> Option<&Core<P, TestMessage, u64>>

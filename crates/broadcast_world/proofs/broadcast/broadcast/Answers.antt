@@ -1,11 +1,10 @@
-use Rattle.std.proofs.Common.{◌≡◌, true, ◌++◌, Some, inl, inr, arith, ap, ◌∙◌, subst}
+use Rattle.std.proofs.Common.{◌≡◌, true, Some, inl, inr, arith, sym, ap, ◌∙◌, subst}
 use Rattle.std.specs.Prelude.{is_some}
 use Rattle.std.proofs.lemmas.Option.{slice_get_within}
 use Rattle.broadcast_core.specs.TestMessage.{encoding_of}
 use Rattle.broadcast_core.specs.declared.event.Event.TheVariants.{Broadcast}
-use Rattle.broadcast_world.specs.World.{node, event_at, made_by, unless_refused}
-use Rattle.broadcast_world.specs.Steps.{NodeFollows}
-use Rattle.broadcast_world.specs.declared.step.WorldAnswer.TheVariants.{Given}
+use Rattle.broadcast_world.specs.World.{node, event_at}
+use Rattle.broadcast_world.specs.Steps.{AreCopies, NodeFollows}
 use Rattle.broadcast_world.proofs.OneNode.{AtNode-given, AtNode-refused, NodeFollows-refused, NodeFollows-unencodable, made_by-broadcast}
 use Rattle.broadcast_world.proofs.Places.{key_read, read_at}
 use Rattle.broadcast_world.proofs.broadcast.broadcast.Goals as goal
@@ -50,7 +49,7 @@ returns-in-Ok-prepare-clause-node g c = λ w is.
     (subst (λ m. NodeFollows cmp w x (Broadcast r m) c.index_mut.result.now c.take.new.core c.take.result) same (c.take.ensures.follows w x r c.in-Ok.bytes.items encoded))
 
 pub returns-in-Ok-prepare-clause-packets : goal.returns-in-Ok-prepare-clause-packets
-returns-in-Ok-prepare-clause-packets g c = λ w is.
+returns-in-Ok-prepare-clause-packets g c = λ w sent is has.
     let cmp = g.P.Ord.cmp in
     let x = c.in-Some.ensures.0 in
     let r = c.args.recipients.now in
@@ -58,5 +57,4 @@ returns-in-Ok-prepare-clause-packets g c = λ w is.
     let event = event_at cmp w c.args.key.now (Broadcast r m) in
     let read : c.index-as_slice-place.result ≡ x = key_read c.as_slice.result.now c.args.nodes.now c.in-Some.place x c.index-as_slice-place.result c.in-Some.ensures.1 c.as_slice.ensures.keys c.index-as_slice-place.is in
     let made = made_by-broadcast cmp w (node cmp w c.args.key.now) x c.index-as_slice-place.result r m c.in-Ok.bytes.items c.in-Ok-prepare.made.items (rw is c.in-Some.ensures.2) read c.in-Ok.ensures.ok (c.in-Ok-prepare.ensures.made w is) in
-    c.take.ensures.packets w event made
-    ∙ ap (λ ps. ps ++ made_by cmp w (unless_refused cmp w (Given c.take.result) event)) c.in-Ok-prepare.ensures.kept
+    c.take.ensures.packets w event sent made (subst (λ ps. AreCopies cmp ps sent) (sym c.in-Ok-prepare.ensures.kept) has)

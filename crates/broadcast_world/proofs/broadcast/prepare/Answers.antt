@@ -1,7 +1,10 @@
-use Rattle.std.proofs.Common.{Some, ap, ◌∙◌}
-use Rattle.broadcast_world.specs.World.{packets_to}
+use Rattle.std.specs.Ordering.{eq_by_cmp}
+use Rattle.std.proofs.Common.{sym, subst}
+use Rattle.broadcast_core.specs.Concerns.{AreEqual}
+use Rattle.broadcast_world.specs.World.{addressed}
 use Rattle.broadcast_world.proofs.broadcast.prepare.Goals as goal
 
 pub returns-clause-made : goal.returns-clause-made
-returns-clause-made g c = λ w is. c.in_ok-made.ensures w
-    ∙ ap (λ ps. packets_to g.P.Ord.cmp w c.args.sender.now ps (Some c.args.bytes.items)) (c.deref.ensures.value ∙ c.in_ok-to.ensures w is)
+returns-clause-made g c = λ w is.
+    let to = addressed g.P.Ord.cmp w c.args.sender.now c.args.recipients.now in
+    c.in_ok-made.ensures w to (subst (λ ns. AreEqual (eq_by_cmp g.P.Ord.cmp) ns to) (sym c.deref.ensures.value) (c.in_ok-to.ensures w is))

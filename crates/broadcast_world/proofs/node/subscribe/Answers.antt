@@ -1,7 +1,10 @@
 use Rattle.std.proofs.Common.{[], refl}
 use Rattle.broadcast_world.specs.World.{at}
-use Rattle.broadcast_world.proofs.OneNode.{NodeTakes-from}
+use Rattle.broadcast_world.proofs.Copied.{event_subscribe}
+use Rattle.broadcast_world.proofs.Following.{NodeFollows-from}
 use Rattle.broadcast_world.proofs.node.subscribe.Goals as goal
 
 pub returns : goal.returns
-returns g c = λ w n past has. NodeTakes-from g.P.Ord.cmp w n past _ _ _ [] (c.subscribe.ensures (at g.P.Ord.cmp w n) refl past has)
+returns g c = λ w n.
+    let total = (g.met.P.Ord g.world.𝓛 g.world.𝓜 g.world.𝓡 (λ s x. x, λ x. x, λ x. x, λ x. x)).total in
+    NodeFollows-from g.P.Ord.cmp total w n (event_subscribe c.args.ticket c.args.digest.now) _ _ _ [] (c.subscribe.ensures (at g.P.Ord.cmp w c.args.core.now.own) refl)

@@ -1,25 +1,25 @@
-use Rattle.std.proofs.Common.{◌≡◌, ℕ, [], map, sym, ap, ◌∙◌, subst}
-use Rattle.std.specs.List.{AllZip}
+use Rattle.std.proofs.Common.{length, sym, ap, ◌∙◌, subst}
 use Rattle.std.specs.Cmp.{eq_by_cmp_equiv}
 use Rattle.std.specs.Ordering.{eq_by_cmp}
 use Rattle.broadcast_core.proofs.Distinct.{or_false}
-use Rattle.broadcast_core.specs.HasContent.{HasContent}
 use Rattle.broadcast_world.specs.Scene.{Scene}
-use Rattle.broadcast_world.specs.World.{at}
-use Rattle.broadcast_world.specs.Made.{no_content, shares_key}
-use Rattle.broadcast_world.proofs.Places.{keys-apart}
+use Rattle.broadcast_world.specs.Made.{AreEmpty, shares_key}
+use Rattle.broadcast_world.proofs.Places.{AllZip-length, keys-apart}
 use Rattle.broadcast_world.proofs.OneNode.{contents-empty}
 use Rattle.broadcast_world.proofs.state.World.new.Goals as goal
+
+pub invariant_of-result : goal.invariant_of-result
+invariant_of-result g c = AllZip-length _ c.as_slice.result.now c.in_ok-cores.cores.items c.in_ok-cores.ensures ∙ ap (λ ns. length ns) c.as_slice.ensures.keys
 
 pub returns-clause-empty : goal.returns-clause-empty
 returns-clause-empty g c =
     let cmp = g.P.Ord.cmp in
     let nodes = c.in_ok-nodes.nodes in
     let w : Scene g.row.P.Denot = record { nodes = nodes; hostile = c.in_ok-hostile.hostile; deque_size = c.args.deque_size; range = c.args.range } in
-    let cores : c.in_ok-cores.cores.items ≡ map (λ n. no_content n c.args.deque_size) nodes = c.in_ok-cores.ensures ∙ ap (λ ns. map (λ n. no_content n c.args.deque_size) ns) c.as_slice.ensures.keys in
+    let empty = subst (λ ns. AreEmpty cmp c.args.deque_size ns c.in_ok-cores.cores.items) c.as_slice.ensures.keys c.in_ok-cores.ensures in
     record {
-      cores = subst (λ cs. AllZip (λ n core. HasContent {V = ℕ} (at cmp w n) [] core) nodes cs) (sym cores) (contents-empty cmp w nodes);
-      packets = c.new.ensures.items;
+      cores = contents-empty cmp w nodes c.in_ok-cores.cores.items empty;
+      packets = rw c.new.ensures.items tt;
     }
 
 pub returns-clause-apart : goal.returns-clause-apart
