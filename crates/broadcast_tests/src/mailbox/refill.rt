@@ -119,7 +119,11 @@ fn enqueue_all(
 ) -> Result<(), AllocError> {
     for ticket in 0..number {
         let message = request(alloc, Kind::Get(ticket), closed)?;
-        refilled.enqueue(Request { ticket, message })?;
+        refilled.enqueue(Request {
+            ticket,
+            message,
+            counted: false,
+        })?;
     }
     Ok(())
 }
