@@ -1,6 +1,7 @@
 pub mod Counters
 pub mod Sources
 pub mod Jobs
+pub mod Workers
 pub mod Replies
 pub mod EngineHistory
 pub mod Counting
