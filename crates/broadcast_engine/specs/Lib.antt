@@ -11,3 +11,4 @@ pub mod Fetched
 pub mod Looked
 pub mod Woken
 pub mod EngineState
+pub mod Fresh

@@ -1,6 +1,7 @@
 //! Broadcasts messages to peers, and buffers what they broadcast.
 pub mod config;
 pub mod engine;
+pub mod front;
 pub mod metrics;
 pub mod network;
 pub mod outlet;
