@@ -12,3 +12,4 @@ pub mod Fetched
 pub mod Looked
 pub mod Woken
 pub mod EngineState
+pub mod Fresh

@@ -1,6 +1,7 @@
 //! Broadcasts messages to peers, and buffers what they broadcast.
 pub mod config;
 pub mod engine;
+pub mod front;
 pub mod gate;
 pub mod metrics;
 pub mod network;
