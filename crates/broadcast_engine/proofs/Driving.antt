@@ -6,7 +6,7 @@ use Rattle.broadcast_core.specs.declared.event.Sent.{Sent}
 use Rattle.commonware_broadcast.specs.declared.buffered.ingress.message.Message.{Message}
 use Rattle.broadcast_engine.specs.declared.buffered.engine.input.Input.{Input}
 use Rattle.broadcast_engine.specs.declared.buffered.engine.input.Input.TheVariants.{Peers, Request, Arrived, Invalid}
-use Rattle.broadcast_engine.specs.declared.buffered.engine.input.Request.{Request as Asked}
+use Rattle.commonware_broadcast.specs.declared.buffered.ingress.request.Request.{Request as Asked}
 use Rattle.broadcast_engine.specs.Replies.{Asker, Replies}
 use Rattle.broadcast_engine.specs.EngineHistory.{happenings}
 use Rattle.broadcast_engine.specs.Polled.{inputs, sets_in, requests_in, payloads_in}

@@ -13,7 +13,7 @@ use Rattle.broadcast_core.specs.declared.outcome.Outcome.{Outcome}
 use Rattle.broadcast_core.specs.Answers.{outcome}
 use Rattle.commonware_broadcast.specs.declared.buffered.ingress.message.Message.{Message}
 use Rattle.commonware_broadcast.specs.declared.buffered.ingress.message.Message.TheVariants.{Broadcast}
-use Rattle.broadcast_engine.specs.declared.buffered.engine.input.Request.{Request as RequestOf}
+use Rattle.commonware_broadcast.specs.declared.buffered.ingress.request.Request.{Request as RequestOf}
 use Rattle.broadcast_engine.specs.declared.buffered.engine.input.Input.{Input}
 use Rattle.broadcast_engine.specs.declared.buffered.engine.input.Input.TheVariants.{Request}
 use Rattle.broadcast_engine.specs.declared.buffered.engine.input.Turn.{Turn}

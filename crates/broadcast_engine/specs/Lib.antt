@@ -1,6 +1,7 @@
 pub mod Counters
 pub mod Sources
 pub mod Jobs
+pub mod Workers
 pub mod Replies
 pub mod EngineHistory
 pub mod Counting
@@ -11,3 +12,4 @@ pub mod Fetched
 pub mod Looked
 pub mod Woken
 pub mod EngineState
+pub mod Fresh

@@ -10,7 +10,7 @@ use Rattle.commonware_broadcast.specs.declared.buffered.ingress.message.Message.
 use Rattle.broadcast_engine.specs.declared.buffered.engine.input.EndCause.{EndCause}
 use Rattle.broadcast_engine.specs.declared.buffered.engine.input.Input.{Input}
 use Rattle.broadcast_engine.specs.declared.buffered.engine.input.Input.TheVariants as input
-use Rattle.broadcast_engine.specs.declared.buffered.engine.input.Request.{Request}
+use Rattle.commonware_broadcast.specs.declared.buffered.ingress.request.Request.{Request}
 use Rattle.broadcast_engine.specs.declared.buffered.engine.input.Turn.{Turn}
 use Rattle.broadcast_engine.specs.declared.buffered.engine.node.Node.{Node}
 use Rattle.broadcast_engine.specs.Replies.{Asker, Replies}

@@ -44,14 +44,14 @@ module _ {T : Type 0} (answers : Request T → Bool → Type 0) (size : ℕ) whe
 
 module _ {T : Type 0} (answers : T → Bool → Type 0) where
   -- each request that waited was taken, was skipped or waits
-  pub Pops-length : (old : QueueState T) (result : Option (ℕ × T)) (skipped : List (Request T)) (new : QueueState T) → Pops answers old result skipped new
+  pub Pops-length : (old : QueueState T) (result : Option (Request T)) (skipped : List (Request T)) (new : QueueState T) → Pops answers old result skipped new
       → length (waiting old) ≡ count_taken result + length skipped + length (waiting new)
   Pops-length old None skipped new (nobody, none, same) = omega (arith, ap length none, ap (λ (q : QueueState T). length (waiting q)) same)
-  Pops-length old (Some taken) skipped new (rest, front, refills, same) =
+  Pops-length old (Some request) skipped new (rest, front, refills, same) =
       let moved = Refills-length (λ (request : Request T) (answer : Bool). answers request.message answer) old.size rest old.overflow skipped new.overflow new.ready refills in
       omega (arith, moved, ap length front, length-append old.ready old.overflow, length-append new.ready new.overflow)
 
   -- no ticket is drawn
-  pub Pops-next : (old : QueueState T) (result : Option (ℕ × T)) (skipped : List (Request T)) (new : QueueState T) → Pops answers old result skipped new → new.next ≡ old.next
+  pub Pops-next : (old : QueueState T) (result : Option (Request T)) (skipped : List (Request T)) (new : QueueState T) → Pops answers old result skipped new → new.next ≡ old.next
   Pops-next old None skipped new (nobody, none, same) = ap (λ (q : QueueState T). q.next) same
-  Pops-next old (Some taken) skipped new (rest, front, refills, same) = ap (λ (q : QueueState T). q.next) same
+  Pops-next old (Some request) skipped new (rest, front, refills, same) = ap (λ (q : QueueState T). q.next) same

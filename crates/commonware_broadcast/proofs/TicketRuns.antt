@@ -1,5 +1,5 @@
 -- What the steps of a mailbox do with its tickets.
-use Rattle.std.proofs.Common.{◌≡◌, ℕ, ◌+◌, ◌≤◌, Bool, List, [], ◌∷◌, ◌++◌, length, Option, None, Some, Ok, Err, sym, subst, append_assoc, ap, inl, inr, arith, length-append}
+use Rattle.std.proofs.Common.{◌≡◌, ℕ, ◌+◌, ◌≤◌, Bool, false, List, [], ◌∷◌, ◌++◌, length, Option, None, Some, Ok, Err, sym, subst, append_assoc, ap, inl, inr, arith, length-append}
 use Rattle.std.specs.List.{flat_map}
 use Rattle.commonware_broadcast.specs.declared.buffered.ingress.request.Request.{Request}
 use Rattle.commonware_broadcast.specs.declared.buffered.ingress.queued.Queued.TheVariants as queued
@@ -34,12 +34,12 @@ module _ {T : Type 0} (ticket : ℕ) where
   -- a queue with one more request, in its ready list or in its overflow
   held-ready : (queue : QueueState T) (message : T) → held (waiting (with_ready queue message)) ≡ held (waiting queue) + times ticket (queue.next ∷ [])
   held-ready queue message =
-      let request : Request T = record { ticket = queue.next; message = message } in
+      let request : Request T = record { ticket = queue.next; message = message; counted = false } in
       omega (arith, held-append (queue.ready ++ request ∷ []) queue.overflow, held-append queue.ready (request ∷ []), held-append queue.ready queue.overflow)
 
   held-overflow : (queue : QueueState T) (message : T) → held (waiting (with_overflow queue message)) ≡ held (waiting queue) + times ticket (queue.next ∷ [])
   held-overflow queue message =
-      let request : Request T = record { ticket = queue.next; message = message } in
+      let request : Request T = record { ticket = queue.next; message = message; counted = false } in
       omega (arith, held-append queue.ready (queue.overflow ++ request ∷ []), held-append queue.overflow (request ∷ []), held-append queue.ready queue.overflow)
 
 module _ {T : Type 0} (answers : T → Bool → Type 0) where
@@ -60,16 +60,16 @@ module _ {T : Type 0} (answers : T → Bool → Type 0) where
       omega (arith, ap (λ (q : QueueState T). held ticket (waiting q)) same)
   times-Moves ticket old (Took None skipped) new ((nobody, none, same), state) =
       omega (arith, ap (λ (q : QueueState T). held ticket (waiting q)) same, ap (held ticket) none)
-  times-Moves ticket old (Took (Some taken) skipped) new ((rest, front, refills, same), state) =
+  times-Moves ticket old (Took (Some request) skipped) new ((rest, front, refills, same), state) =
       let moved = held-Refills ticket (λ (request : Request T) (answer : Bool). answers request.message answer) old.queue.size rest old.queue.overflow skipped new.queue.overflow new.queue.ready refills in
       omega (arith, moved, ap (held ticket) front, held-append ticket old.queue.ready old.queue.overflow, held-append ticket new.queue.ready new.queue.overflow)
   times-Moves ticket old StopRequested new same = omega (arith, ap (λ (s : MailboxState T). held ticket (waiting s.queue)) same)
   times-Moves ticket old (GaveUp requests) new (all, (len, same)) =
       omega (arith, ap (λ (s : MailboxState T). held ticket (waiting s.queue)) same, ap (held ticket) all)
 
-  rising-Took : (old : QueueState T) (result : Option (ℕ × T)) (skipped : List (Request T)) (new : QueueState T) → Pops answers old result skipped new → IsRising old.next (drawn_by (Took result skipped)) new.next
+  rising-Took : (old : QueueState T) (result : Option (Request T)) (skipped : List (Request T)) (new : QueueState T) → Pops answers old result skipped new → IsRising old.next (drawn_by (Took result skipped)) new.next
   rising-Took old None skipped new pops = omega (arith, Pops-next answers old None skipped new pops)
-  rising-Took old (Some taken) skipped new pops = omega (arith, Pops-next answers old (Some taken) skipped new pops)
+  rising-Took old (Some request) skipped new pops = omega (arith, Pops-next answers old (Some request) skipped new pops)
 
   -- one step hands out the next tickets
   rising-Moves : (old : MailboxState T) (step : Step T) (new : MailboxState T) → Moves answers old step new → IsRising old.queue.next (drawn_by step) new.queue.next
@@ -103,7 +103,7 @@ module _ {T : Type 0} (answers : T → Bool → Type 0) where
       (omega (arith, ap (λ (s : MailboxState T). s.taken) same), omega (arith, ap (λ (s : MailboxState T). s.skipped) same), omega (arith, ap (λ (s : MailboxState T). s.given_up) same))
   counted-Moves old (Took None skipped) new (step, same) =
       (omega (arith, ap (λ (s : MailboxState T). s.taken) same, length-tickets_of skipped), omega (arith, ap (λ (s : MailboxState T). s.skipped) same, length-tickets_of skipped), omega (arith, ap (λ (s : MailboxState T). s.given_up) same, length-tickets_of skipped))
-  counted-Moves old (Took (Some taken) skipped) new (step, same) =
+  counted-Moves old (Took (Some request) skipped) new (step, same) =
       (omega (arith, ap (λ (s : MailboxState T). s.taken) same, length-tickets_of skipped), omega (arith, ap (λ (s : MailboxState T). s.skipped) same, length-tickets_of skipped), omega (arith, ap (λ (s : MailboxState T). s.given_up) same, length-tickets_of skipped))
   counted-Moves old StopRequested new same =
       (omega (arith, ap (λ (s : MailboxState T). s.taken) same), omega (arith, ap (λ (s : MailboxState T). s.skipped) same), omega (arith, ap (λ (s : MailboxState T). s.given_up) same))
@@ -126,10 +126,10 @@ module _ {T : Type 0} (answers : T → Bool → Type 0) where
       subst (λ (q : QueueState T). IsRising low (tickets_of (waiting q)) q.next) (sym same) rises
   waiting-Moves low old (Took None skipped) new rises ((nobody, none, same), state) =
       subst (λ (q : QueueState T). IsRising low (tickets_of (waiting q)) q.next) (sym same) rises
-  waiting-Moves low old (Took (Some taken) skipped) new rises ((rest, front, refills, same), state) =
+  waiting-Moves low old (Took (Some request) skipped) new rises ((rest, front, refills, same), state) =
       let split = subst (λ (xs : List (Request T)). IsRising low (tickets_of (xs ++ old.queue.overflow)) old.queue.next) front rises in
-      let filled = Refills-rising (λ (request : Request T) (answer : Bool). answers request.message answer) old.queue.size (taken.0 + 1) old.queue.next rest old.queue.overflow skipped new.queue.overflow new.queue.ready split.1 refills in
-      (split.0, subst (λ (n : ℕ). IsRising (taken.0 + 1) (tickets_of (waiting new.queue)) n) (sym (ap (λ (q : QueueState T). q.next) same)) filled)
+      let filled = Refills-rising (λ (request : Request T) (answer : Bool). answers request.message answer) old.queue.size (request.ticket + 1) old.queue.next rest old.queue.overflow skipped new.queue.overflow new.queue.ready split.1 refills in
+      (split.0, subst (λ (n : ℕ). IsRising (request.ticket + 1) (tickets_of (waiting new.queue)) n) (sym (ap (λ (q : QueueState T). q.next) same)) filled)
   waiting-Moves low old StopRequested new rises same =
       subst (λ (s : MailboxState T). IsRising low (tickets_of (waiting s.queue)) s.queue.next) (sym same) rises
   waiting-Moves low old (GaveUp requests) new rises (all, (len, same)) =

@@ -5,6 +5,8 @@ pub mod Queue
 pub mod Mailbox
 pub mod Tickets
 pub mod Asked
+pub mod Waited
+pub mod Attended
 pub use Rattle.broadcast_core.specs.Carried
 pub use Rattle.broadcast_core.specs.ByteList
 pub use Rattle.broadcast_core.specs.Codec

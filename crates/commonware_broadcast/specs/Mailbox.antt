@@ -23,9 +23,9 @@ count_skipped (Ok (queued.Skipped ticket)) = 1
 count_skipped _ = 0
 
 -- how many requests a take with this result takes
-abbrev pub count_taken : {T : Type 0} → Option (ℕ × T) → ℕ
+abbrev pub count_taken : {T : Type 0} → Option (Request T) → ℕ
 count_taken None = 0
-count_taken (Some taken) = 1
+count_taken (Some request) = 1
 
 module _ {T : Type 0} where
   -- an open, empty mailbox whose ready list has `size` places, after `drawn` requests were taken
@@ -58,6 +58,11 @@ module _ {T : Type 0} where
     given_up = state.given_up;
   }
 
+  -- the ticket and the message of a request
+  abbrev pub taken_of : Option (Request T) → Option (ℕ × T)
+  taken_of None = None
+  taken_of (Some request) = Some (request.ticket, request.message)
+
   module _ (answers : T → Bool → Type 0) where
     -- a message is queued, skipped or refused
     abbrev pub Enqueues : MailboxState T → T → Result Queued MailboxError → MailboxState T → Type 0
@@ -66,7 +71,8 @@ module _ {T : Type 0} where
         × (new ≡ record old { queue = new.queue; skipped = old.skipped + count_skipped result })
 
     -- the oldest request is taken, and closed ones of the overflow are skipped
-    abbrev pub Takes : MailboxState T → Option (ℕ × T) → List (Request T) → MailboxState T → Type 0
+    abbrev pub Takes :
+        MailboxState T → Option (Request T) → List (Request T) → MailboxState T → Type 0
     Takes old result skipped new =
         Pops answers old.queue result skipped new.queue
         × (new ≡ record old {

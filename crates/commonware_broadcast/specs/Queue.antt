@@ -57,7 +57,8 @@ module _ {T : Type 0} where
 
   -- the request that the message becomes once it has drawn the next ticket
   abbrev pub request_of : QueueState T → T → Request T
-  request_of queue message = record { ticket = queue.next; message = message }
+  request_of queue message =
+      record { ticket = queue.next; message = message; counted = false }
 
   -- the queue with one more request in its ready list
   abbrev pub with_ready : QueueState T → T → QueueState T
@@ -96,11 +97,12 @@ module _ {T : Type 0} where
 
     -- what a pop may return, what it skips, and the queue that it leaves: the front of the ready
     -- list is removed, and then the ready list is filled from the overflow
-    abbrev pub Pops : QueueState T → Option (ℕ × T) → List (Request T) → QueueState T → Type 0
+    abbrev pub Pops :
+        QueueState T → Option (Request T) → List (Request T) → QueueState T → Type 0
     Pops old None skipped new = (waiting old ≡ []) × (skipped ≡ []) × (new ≡ old)
-    Pops old (Some taken) skipped new =
+    Pops old (Some request) skipped new =
         (rest : List (Request T))
-        × (old.ready ≡ record { ticket = taken.0; message = taken.1 } ∷ rest)
+        × (old.ready ≡ request ∷ rest)
         × Drains (λ (request : Request T) answer. answers request.message answer)
         (PutsWithin old.size) rest old.overflow skipped new.overflow new.ready
         × (new ≡ record old { ready = new.ready; overflow = new.overflow })

@@ -13,7 +13,7 @@ use Rattle.commonware_broadcast.specs.Mailbox.{counts_of}
 -- a call of a mailbox with its result, and with the requests that it skipped or gave up
 pub data Step (T : Type 0) : Type 0 where
   Enqueued : T → Result Queued MailboxError → Step T
-  Took : Option (ℕ × T) → List (Request T) → Step T
+  Took : Option (Request T) → List (Request T) → Step T
   StopRequested : Step T
   GaveUp : List (Request T) → Step T
 
@@ -32,7 +32,7 @@ module _ {T : Type 0} where
 
   -- the tickets of the requests that a call takes
   abbrev pub taken_by : Step T → List ℕ
-  taken_by (Took (Some taken) skipped) = taken.0 ∷ []
+  taken_by (Took (Some request) skipped) = request.ticket ∷ []
   taken_by _ = []
 
   -- the tickets of the requests that a call skips

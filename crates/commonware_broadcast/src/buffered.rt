@@ -13,4 +13,5 @@ pub use ingress::reply::Reply;
 pub use ingress::request::Request;
 pub use ingress::responder::{Fixed, Responder};
 pub use ingress::source::Ingress;
+pub use ingress::stopper::Stopper;
 pub use ingress::subscription::Subscription;

@@ -2,7 +2,7 @@
 use crate::material::{digest_of, message, prepare};
 use crate::requests::{write_counts, write_taken};
 use broadcast_core::{Digested, Recipients, TestMessage};
-use commonware_broadcast::buffered::{Get, Ingress, Mailbox, Subscription, channel};
+use commonware_broadcast::buffered::{Get, Incoming, Ingress, Mailbox, Subscription, channel};
 use commonware_broadcast::{Broadcaster, Feedback, MailboxError};
 use std::alloc::{AllocError, Global};
 use std::io::{self, Write};
@@ -61,7 +61,7 @@ fn calls() -> &'static [Call] {
 type TestMailbox<R> = Mailbox<u64, TestMessage, R>;
 
 /// The end of a mailbox from which its requests are taken.
-type TestIngress<R> = Ingress<u64, TestMessage, R>;
+type TestIngress<R> = Ingress<Incoming<u64, TestMessage>, R>;
 
 /// The futures of a mailbox, which keep their requests open, with places for all of them.
 #[derive(Drop)]

@@ -28,7 +28,7 @@ where
 
 /// Takes the oldest request, and replies to it.
 fn serve_one<R: Wait>(
-    ingress: &Ingress<u64, TestMessage, R>,
+    ingress: &Ingress<Incoming<u64, TestMessage>, R>,
     message: &Digested<TestMessage>,
 ) -> Result<(), AllocError> {
     if let Some((_ticket, request)) = ingress.take() {

@@ -15,5 +15,5 @@ mod state;
 mod take;
 mod waiter;
 
-pub use input::{EndCause, Input, Request, Turn};
+pub use input::{EndCause, Input, Turn};
 pub use state::Engine;

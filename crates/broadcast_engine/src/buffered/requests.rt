@@ -1,12 +1,14 @@
 //! Where an engine's requests come from.
-ghost use Rattle.std.specs.Prelude.{ℕ, List, ◌++◌};
+ghost use Rattle.std.specs.Prelude.{◌≡◌, ⊤, ℕ, List, ◌++◌, false};
 ghost use Rattle.futures.specs.Poll.{OnPending};
 ghost use Rattle.futures.specs.Task.{IsArmed, Keeps};
 ghost use Rattle.broadcast_engine.specs.Sources.{given};
-ghost use Rattle.broadcast_engine.specs.declared.buffered.engine.input.Request.{Request};
+ghost use Rattle.commonware_broadcast.specs.declared.buffered.ingress.request.Request.{Request};
 
-use crate::buffered::engine::Request;
+use broadcast_core::Closable;
+use commonware_broadcast::buffered::{Ingress, Request};
 use futures::task::{Context, Poll};
+use std::sync::Wait;
 
 /// Gives requests, and the order to stop.
 pub trait Requests<T> {
@@ -17,6 +19,7 @@ pub trait Requests<T> {
     fn stopped(&mut self, cx: &mut Context<'_>) -> bool
         ensures tells { (requests : List (Request T))
             → told self.old requests → told self.new requests }
+        ensures armed { result ≡ false → IsArmed cx.new }
         ensures kept { Keeps cx.old cx.new };
 
     /// Returns the next request.
@@ -29,4 +32,21 @@ pub trait Requests<T> {
     /// Refuses later requests, and gives up those that wait.
     fn close(&mut self)
         ensures { (requests : List (Request T)) → told self.old requests → told self.new requests };
+}
+
+/// Other threads queue the requests, so nothing is told of them.
+impl<T: Closable + Drop, R: Wait> Requests<T> for Ingress<T, R> {
+    ghost told = { λ _ _. ⊤ };
+
+    fn stopped(&mut self, cx: &mut Context<'_>) -> bool {
+        self.poll_stopped(cx)
+    }
+
+    fn poll_next(&mut self, cx: &mut Context<'_>) -> Poll<Request<T>> {
+        Ingress::poll_next(self, cx)
+    }
+
+    fn close(&mut self) {
+        let _given_up = Ingress::close(self);
+    }
 }

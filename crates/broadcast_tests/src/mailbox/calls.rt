@@ -90,7 +90,7 @@ where
 /// Makes the call and returns whether it queued its own request, and nothing else.
 fn queues_the_call<R: Wait + Clone + Send + 'static>(
     mailbox: &Mailbox<u64, Note, R>,
-    ingress: &Ingress<u64, Note, R>,
+    ingress: &Ingress<Incoming<u64, Note>, R>,
     alloc: Global,
     row: Row,
 ) -> Result<bool, Fail> {
@@ -138,7 +138,7 @@ fn recipients_of(alloc: Global, call: Call) -> Result<Recipients<u64>, AllocErro
 }
 
 /// Returns whether the request of the call waits behind the others, alone and with the next ticket.
-fn is_last<R: Wait>(ingress: &Ingress<u64, Note, R>, row: Row) -> bool {
+fn is_last<R: Wait>(ingress: &Ingress<Incoming<u64, Note>, R>, row: Row) -> bool {
     let Row(call, waiting, stopped) = row;
     if ingress.counts() != counts_with(waiting) || ingress.stop_requested() != stopped {
         return false;

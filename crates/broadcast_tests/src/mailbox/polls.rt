@@ -84,7 +84,7 @@ fn gives<R: Wait + RandomSource + AllocGlobal + Clone + Drop>(
 fn given_to_subscribe<R: Wait + RandomSource + AllocGlobal>(
     rt: &R,
     mut subscription: Subscription<Note>,
-    ingress: &Ingress<u64, Note, R>,
+    ingress: &Ingress<Incoming<u64, Note>, R>,
     end: End,
 ) -> Result<Option<Option<u64>>, Fail> {
     let before = block_on(rt, poll_immediate(&mut subscription))?;
@@ -100,7 +100,7 @@ fn given_to_subscribe<R: Wait + RandomSource + AllocGlobal>(
 fn given_to_get<R: Wait + RandomSource + AllocGlobal>(
     rt: &R,
     mut get: Get<Note>,
-    ingress: &Ingress<u64, Note, R>,
+    ingress: &Ingress<Incoming<u64, Note>, R>,
     end: End,
 ) -> Result<Option<Option<u64>>, Fail> {
     let before = block_on(rt, poll_immediate(&mut get))?;
@@ -114,7 +114,7 @@ fn given_to_get<R: Wait + RandomSource + AllocGlobal>(
 
 /// Ends the request that waits.
 fn end_request<R: Wait>(
-    ingress: &Ingress<u64, Note, R>,
+    ingress: &Ingress<Incoming<u64, Note>, R>,
     alloc: Global,
     end: End,
 ) -> Result<(), Fail> {

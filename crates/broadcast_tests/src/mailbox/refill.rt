@@ -89,7 +89,11 @@ fn enqueue_all(
     for ticket in 0..number {
         inbox.enqueue(request(alloc, Kind::Get(ticket), closed)?)?;
         let message = request(alloc, Kind::Get(ticket), closed)?;
-        refilled.enqueue(Request { ticket, message })?;
+        refilled.enqueue(Request {
+            ticket,
+            message,
+            counted: false,
+        })?;
     }
     Ok(())
 }

@@ -2,7 +2,7 @@
 use super::note::{Kind, Note, kind_of};
 use broadcast_core::{Digested, Recipients};
 use commonware_broadcast::Broadcaster;
-use commonware_broadcast::buffered::{Counts, Ingress, Mailbox, channel};
+use commonware_broadcast::buffered::{Counts, Incoming, Ingress, Mailbox, channel};
 use std::alloc::{AllocError, Global};
 use std::num::NonZeroUsize;
 use std::sync::Wait;
@@ -48,7 +48,7 @@ struct Taken {
 
 impl Taken {
     /// Takes 2,000 times.
-    fn take_often<R: Wait>(&mut self, ingress: &Ingress<u64, Note, R>) {
+    fn take_often<R: Wait>(&mut self, ingress: &Ingress<Incoming<u64, Note>, R>) {
         for _ in 0..2000 {
             let kind = next_kind(ingress);
             let is_broadcast = matches!(&kind, Some(Kind::Broadcast(_)));
@@ -59,7 +59,7 @@ impl Taken {
 }
 
 /// Returns the kind of the next request.
-fn next_kind<R: Wait>(ingress: &Ingress<u64, Note, R>) -> Option<Kind> {
+fn next_kind<R: Wait>(ingress: &Ingress<Incoming<u64, Note>, R>) -> Option<Kind> {
     let (_, request) = ingress.take()?;
     Some(kind_of(&request))
 }

@@ -1,4 +1,5 @@
 //! How callers reach a node: their messages, the inbox that queues them, and both of its ends.
+mod attended;
 pub mod get;
 pub mod inbox;
 pub mod laws;
@@ -13,5 +14,7 @@ pub mod reply;
 pub mod request;
 pub mod responder;
 mod returns;
+mod shared;
 pub mod source;
+pub mod stopper;
 pub mod subscription;

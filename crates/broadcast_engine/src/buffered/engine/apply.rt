@@ -12,13 +12,13 @@ use crate::buffered::engine::broadcast::handle_broadcast;
 use crate::buffered::engine::handler::{
     handle_arrival, handle_get, handle_peers, handle_subscribe,
 };
-use crate::buffered::engine::input::{Input, Request, Turn};
+use crate::buffered::engine::input::{Input, Turn};
 use crate::buffered::engine::node::Node;
 use crate::buffered::metrics::Status;
 use crate::buffered::network::Sender;
 use crate::buffered::outlet::Outlet;
 use broadcast_core::{Cause, Digestible, PublicKey, Write};
-use commonware_broadcast::buffered::{Message, Reply, Responder};
+use commonware_broadcast::buffered::{Message, Reply, Request, Responder};
 use std::alloc::Global;
 
 /// Applies one input. A refused input changes nothing.

@@ -1,17 +1,6 @@
 //! What an engine is given, and the result of a turn.
 use broadcast_core::{Cause, CodecError, Digested, Digestible, Outcome, PublicKey, Set};
-use commonware_broadcast::buffered::Message;
-
-/// A request with its ticket.
-#[derive(Drop)]
-pub struct Request<T> {
-    /// The ticket.
-    pub ticket: u64,
-    /// The message.
-    pub message: T,
-    /// Whether the request was made through a tally.
-    pub counted: bool,
-}
+use commonware_broadcast::buffered::{Message, Request};
 
 /// One input of an engine.
 #[derive(Drop)]

@@ -10,9 +10,9 @@ ghost use Rattle.broadcast_core.specs.Happening.{History};
 ghost use Rattle.broadcast_core.specs.HasContent.{HasContent};
 ghost use Rattle.broadcast_engine.specs.declared.buffered.engine.input.Turn.TheVariants as turn;
 ghost use Rattle.broadcast_engine.specs.declared.buffered.engine.input.EndCause.{EndCause};
-ghost use Rattle.broadcast_engine.specs.Counters.{zero_counters};
 ghost use Rattle.broadcast_engine.specs.Replies.{Asker};
 ghost use Rattle.broadcast_engine.specs.EngineState.{Went, Holds};
+ghost use Rattle.broadcast_engine.specs.Fresh.{fresh};
 
 use crate::buffered::config::Config;
 use crate::buffered::engine::handler::drop_waiters;
@@ -66,27 +66,7 @@ impl<P: PublicKey, M: Digestible + Codec, S, O, B, Q, T: Strategy<M>> Engine<P, 
     pub fn over(alloc: Global, cfg: Config<P, M::Cfg, B, T>, requests: Q, outlet: O) -> Self
     where
         S: Drop,
-        ensures { result ≡ record {
-          node = record {
-            core = record {
-              own = cfg.public_key;
-              deque_size = cfg.deque_size;
-              primary = [];
-              lists = [];
-              cached = [];
-              waiters = [];
-            };
-            metrics = zero_counters;
-            outlet = outlet;
-          };
-          provider = cfg.peer_provider;
-          requests = requests;
-          job = None;
-          end = None;
-          priority = cfg.priority;
-          codec_config = cfg.codec_config;
-          strategy = cfg.strategy;
-        } }
+        ensures { result ≡ fresh cfg requests outlet }
     {
         let Config {
             public_key,
@@ -118,6 +98,20 @@ impl<P: PublicKey, M: Digestible + Codec, S, O, B, Q, T: Strategy<M>> Engine<P, 
         ensures { result.now ≡ self.now.node.outlet }
     {
         &self.node.outlet
+    }
+
+    /// Returns where requests come from.
+    pub fn requests(&self) -> &Q
+        ensures { result.now ≡ self.now.requests }
+    {
+        &self.requests
+    }
+
+    /// Returns the counters.
+    pub fn metrics(&self) -> &Metrics<P>
+        ensures { result.now ≡ self.now.node.metrics }
+    {
+        &self.node.metrics
     }
 
     /// Polls the engine. It takes at most one input: a peer set, or else a request, or else a

@@ -1,5 +1,6 @@
 //! The future of a get.
 ghost use Rattle.std.specs.Prelude.{◌≡◌, IfSome};
+ghost use Rattle.commonware_broadcast.specs.Waited.{get_waited};
 ghost use Rattle.futures.specs.Channel.{completed_source};
 ghost use Rattle.commonware_broadcast.specs.Asked.{GoesBy, get_returns};
 
@@ -8,8 +9,13 @@ use crate::buffered::ingress::returns::Returns;
 use broadcast_core::{Digested, Digestible};
 use futures::Future;
 use futures::channel::oneshot::{Canceled, Receiver};
+use futures::executor::block_on;
 use futures::task::{Context, Poll};
+use std::alloc::AllocGlobal;
+use std::io;
 use std::marker::Model;
+use std::random::RandomSource;
+use std::sync::Wait;
 
 /// A future for the cached message of a digest. Dropping it cancels the request.
 ///
@@ -36,6 +42,25 @@ impl<M: Digestible> Get<M> {
         ensures { result ≡ record { digest = digest; source = completed_source receiver } }
     {
         Get { digest, receiver }
+    }
+
+    /// Blocks the calling thread until the reply is there, and returns what the future gives.
+    ///
+    /// Returns `None` also if there is no memory to wait with; then the request is cancelled.
+    pub fn wait<R: Wait + RandomSource + AllocGlobal>(self, rt: &R) -> Option<Digested<M>>
+        ensures { IfSome result (λ message. GoesBy M.Digest.cmp self.digest message) }
+    {
+        waited(block_on(rt, self))
+    }
+}
+
+// Returns the output of the future, or `None` if it could not be waited for.
+fn waited<M: Digestible>(blocked: io::Result<Option<Digested<M>>>) -> Option<Digested<M>>
+    ensures { result ≡ get_waited blocked }
+{
+    match blocked {
+        Ok(outcome) => outcome,
+        Err(_) => None,
     }
 }
 

@@ -1,15 +1,16 @@
 //! The queue of a mailbox with its counts.
-ghost use Rattle.std.specs.Prelude.{◌≡◌, ◌⊎◌, ◌↔◌, List, true, false, Ok, Err, OnErr};
+ghost use Rattle.std.specs.Prelude.{◌≡◌, ◌⊎◌, ◌↔◌, List, Option, true, false, Ok, Err, OnErr};
 ghost use Rattle.std.specs.NonZero.{non_zero_usize_get};
 ghost use Rattle.commonware_broadcast.specs.declared.buffered.ingress.request.Request.{Request};
 ghost use Rattle.commonware_broadcast.specs.Queue.{IsSound, HasRoom, last_ticket};
 ghost use Rattle.commonware_broadcast.specs.Mailbox.{Enqueues, Takes, RequestsStop, Closes};
-ghost use Rattle.commonware_broadcast.specs.Mailbox.{IsCounted, counts_of};
+ghost use Rattle.commonware_broadcast.specs.Mailbox.{IsCounted, counts_of, taken_of};
 ghost use Rattle.commonware_broadcast.specs.Mailbox.{empty_mailbox, mailbox_after};
 
 use crate::MailboxError;
 use crate::buffered::ingress::queue::Queue;
 use crate::buffered::ingress::queued::{Counts, Queued};
+use crate::buffered::ingress::request::Request;
 use broadcast_core::Closable;
 use std::alloc::Global;
 use std::marker::Model;
@@ -126,6 +127,16 @@ impl<T: Closable + Drop> Inbox<T> {
     /// Removes the oldest request and returns it with its ticket, or `None` if none waits. The
     /// ready list is then filled from the overflow, whose closed requests are skipped.
     pub fn take(&mut self) -> Option<(u64, T)>
+        ensures { (request : Option (Request T)) × (skipped : List (Request T))
+            × Takes T.may_answer self.old request skipped self.new
+            × (result ≡ taken_of request) }
+    {
+        let request = self.take_request()?;
+        Some((request.ticket, request.message))
+    }
+
+    // Takes as `take` does, and keeps the mark of the request.
+    pub(super) fn take_request(&mut self) -> Option<Request<T>>
         ensures { (skipped : List (Request T))
             × Takes T.may_answer self.old result skipped self.new }
     {

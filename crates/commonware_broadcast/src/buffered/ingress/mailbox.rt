@@ -6,14 +6,15 @@ use crate::buffered::ingress::inbox::Inbox;
 use crate::buffered::ingress::message::Message;
 use crate::buffered::ingress::queued::Queued;
 use crate::buffered::ingress::reply::Reply;
+use crate::buffered::ingress::shared::Shared;
 use crate::buffered::ingress::source::Ingress;
 use crate::buffered::ingress::subscription::Subscription;
 use crate::{Broadcaster, Feedback, MailboxError};
-use broadcast_core::{Closable, Digested, Digestible, EncodeSize, PublicKey, Recipients, Write};
+use broadcast_core::{Digested, Digestible, EncodeSize, PublicKey, Recipients, Write};
 use futures::channel::oneshot;
 use std::alloc::{AllocError, Global};
 use std::num::NonZeroUsize;
-use std::sync::{Arc, Mutex, Wait};
+use std::sync::{Arc, Wait};
 
 /// A message of a mailbox's caller, whose reply goes through a channel.
 pub type Incoming<P, M> = Message<
@@ -23,32 +24,30 @@ pub type Incoming<P, M> = Message<
     oneshot::Sender<Option<Reply<M>>>,
 >;
 
-// The inbox that all copies of a mailbox share with their ingress.
-pub(super) type SharedInbox<P, M> = Arc<Mutex<Inbox<Incoming<P, M>>>>;
-
 /// Creates a mailbox whose ready list has `mailbox_size` places, and the ingress that takes what
 /// is queued through it.
 pub fn channel<P, M, R>(
     rt: R,
     alloc: Global,
     mailbox_size: NonZeroUsize,
-) -> Result<(Mailbox<P, M, R>, Ingress<P, M, R>), AllocError>
+) -> Result<(Mailbox<P, M, R>, Ingress<Incoming<P, M>, R>), AllocError>
 where
     P: PublicKey,
     M: Digestible,
     R: Clone + Drop,
 {
-    let inbox = Arc::new(alloc, Mutex::new(Inbox::new(alloc, mailbox_size)))?;
+    let inbox = Arc::new(alloc, Shared::new(Inbox::new(alloc, mailbox_size)))?;
     let ingress = Ingress::new(rt.clone()?, Arc::try_clone(&inbox)?);
     Ok((Mailbox { inbox, alloc, rt }, ingress))
 }
 
 /// The mailbox of a node. Copies of it may be used on any thread.
 ///
-/// A call takes the lock of the inbox once, and makes one call of the inbox under it.
+/// A call takes the lock of the inbox once, makes one call of the inbox under it, and wakes the
+/// task that takes the requests after it has let the lock go.
 #[derive(Drop)]
 pub struct Mailbox<P: PublicKey, M: Digestible, R> {
-    inbox: SharedInbox<P, M>,
+    inbox: Arc<Shared<Incoming<P, M>>>,
     alloc: Global,
     rt: R,
 }
@@ -62,7 +61,8 @@ impl<P: PublicKey, M: Digestible, R: Wait> Mailbox<P, M, R> {
         ensures { IfOk result (λ subscription. subscription.digest ≡ digest) }
     {
         let (responder, receiver) = oneshot::channel(self.alloc)?;
-        enqueue(&self.rt, &self.inbox, Message::subscribe(digest, responder))?;
+        let request = Message::subscribe(digest, responder);
+        let _queued = self.inbox.enqueue(&self.rt, request)?;
         Ok(Subscription::new(digest, receiver))
     }
 
@@ -73,7 +73,8 @@ impl<P: PublicKey, M: Digestible, R: Wait> Mailbox<P, M, R> {
         ensures { IfOk result (λ get. get.digest ≡ digest) }
     {
         let (responder, receiver) = oneshot::channel(self.alloc)?;
-        enqueue(&self.rt, &self.inbox, Message::get(digest, responder))?;
+        let request = Message::get(digest, responder);
+        let _queued = self.inbox.enqueue(&self.rt, request)?;
         Ok(Get::new(digest, receiver))
     }
 }
@@ -110,15 +111,6 @@ where
             recipients,
             message,
         };
-        Queued::answer(enqueue(&self.rt, &self.inbox, request))
+        Queued::answer(self.inbox.enqueue(&self.rt, request))
     }
-}
-
-// Queues the message under the lock.
-fn enqueue<T: Closable + Drop>(
-    rt: &impl Wait,
-    inbox: &Mutex<Inbox<T>>,
-    message: T,
-) -> Result<Queued, MailboxError> {
-    inbox.lock(rt).enqueue(message)
 }

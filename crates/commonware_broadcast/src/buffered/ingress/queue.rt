@@ -110,7 +110,11 @@ impl<T: Closable + Drop> Queue<T> {
         ensures drawn { self.new.next ≤ last_ticket }
     {
         let ticket = self.next;
-        let request = Request { ticket, message };
+        let request = Request {
+            ticket,
+            message,
+            counted: false,
+        };
         if self.ready.push_back(request).is_err() {
             return Err(MailboxError::Memory);
         }
@@ -127,7 +131,11 @@ impl<T: Closable + Drop> Queue<T> {
     {
         let ticket = self.next;
         let before = self.overflow.len();
-        let request = Request { ticket, message };
+        let request = Request {
+            ticket,
+            message,
+            counted: false,
+        };
         if Policy::handle(&mut self.overflow, request).is_err() {
             return Err(MailboxError::Memory);
         }
@@ -141,7 +149,7 @@ impl<T: Closable + Drop> Queue<T> {
 
     /// Removes and returns the oldest request, if there is one, and fills the ready list from the
     /// overflow. Returns also how many closed requests were dropped on the way.
-    pub(super) fn pop(&mut self) -> (Option<(u64, T)>, usize)
+    pub(super) fn pop(&mut self) -> (Option<Request<T>>, usize)
         ensures step { (skipped : List (Request T))
             × Pops T.may_answer self.old result.0 skipped self.new
             × (result.1 ≡ length skipped) }
@@ -150,12 +158,11 @@ impl<T: Closable + Drop> Queue<T> {
         let Some(request) = self.ready.pop_front() else {
             return (None, 0);
         };
-        let Request { ticket, message } = request;
         if self.overflow.is_empty() {
-            return (Some((ticket, message)), 0);
+            return (Some(request), 0);
         }
         let skipped = self.overflow.refill(&mut self.ready, self.size);
-        (Some((ticket, message)), skipped)
+        (Some(request), skipped)
     }
 
     /// Closes the queue and drops the requests that wait. Returns how many they were.

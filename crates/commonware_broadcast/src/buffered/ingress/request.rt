@@ -12,6 +12,8 @@ pub struct Request<T> {
     pub ticket: u64,
     /// The message.
     pub message: T,
+    /// Whether the request was made through a tally.
+    pub counted: bool,
 }
 
 /// A request is closed if its message is.

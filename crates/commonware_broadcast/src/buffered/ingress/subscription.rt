@@ -1,5 +1,6 @@
 //! The future of a subscribe.
 ghost use Rattle.std.specs.Prelude.{◌≡◌, IfOk};
+ghost use Rattle.commonware_broadcast.specs.Waited.{subscription_waited};
 ghost use Rattle.futures.specs.Channel.{completed_source};
 ghost use Rattle.commonware_broadcast.specs.Asked.{GoesBy, subscription_returns};
 
@@ -8,8 +9,13 @@ use crate::buffered::ingress::returns::Returns;
 use broadcast_core::{Digested, Digestible};
 use futures::Future;
 use futures::channel::oneshot::{Canceled, Receiver};
+use futures::executor::block_on;
 use futures::task::{Context, Poll};
+use std::alloc::AllocGlobal;
+use std::io;
 use std::marker::Model;
+use std::random::RandomSource;
+use std::sync::Wait;
 
 /// A future for the message of a digest. Dropping it cancels the request.
 ///
@@ -35,6 +41,27 @@ impl<M: Digestible> Subscription<M> {
         ensures { result ≡ record { digest = digest; source = completed_source receiver } }
     {
         Subscription { digest, receiver }
+    }
+
+    /// Blocks the calling thread until the message is there, and returns what the future gives.
+    ///
+    /// It ends as canceled also if there is no memory to wait with.
+    pub fn wait<R: Wait + RandomSource + AllocGlobal>(self, rt: &R) -> Result<Digested<M>, Canceled>
+        ensures { IfOk result (λ message. GoesBy M.Digest.cmp self.digest message) }
+    {
+        waited(block_on(rt, self))
+    }
+}
+
+// Returns the output of the future, or that it is canceled if it could not be waited for.
+fn waited<M: Digestible>(
+    blocked: io::Result<Result<Digested<M>, Canceled>>,
+) -> Result<Digested<M>, Canceled>
+    ensures { result ≡ subscription_waited blocked }
+{
+    match blocked {
+        Ok(outcome) => outcome,
+        Err(_) => Err(Canceled),
     }
 }
 

@@ -1,7 +1,7 @@
 use Rattle.std.proofs.Common.{ap, arith}
 use Rattle.commonware_broadcast.specs.Mailbox.{count_taken}
 use Rattle.commonware_broadcast.proofs.Refilling.{Pops-length, Pops-next}
-use Rattle.commonware_broadcast.proofs.buffered.ingress.inbox.Inbox.take.Goals as goal
+use Rattle.commonware_broadcast.proofs.buffered.ingress.inbox.Inbox.take_request.Goals as goal
 
 pub overflow_add-self-2 : goal.overflow_add-self-2
 overflow_add-self-2 g c =

@@ -1,0 +1,15 @@
+//! What a worker passes before it digests.
+
+/// What each worker of a strategy passes before it digests.
+pub trait Gate {
+    /// Passes the gate. It may wait until others pass.
+    fn pass(&self);
+}
+
+/// A gate that is passed at once.
+#[derive(Clone, Copy, Debug, PartialEq, Eq)]
+pub struct Open;
+
+impl Gate for Open {
+    fn pass(&self) {}
+}
