@@ -120,6 +120,13 @@ impl<P: PublicKey, M: Digestible + Codec, S, O, B, Q, T: Strategy<M>> Engine<P, 
         &self.node.outlet
     }
 
+    /// Returns the counters.
+    pub fn metrics(&self) -> &Metrics<P>
+        ensures { result.now ≡ self.now.node.metrics }
+    {
+        &self.node.metrics
+    }
+
     /// Polls the engine. It takes at most one input: a peer set, or else a request, or else a
     /// payload. A stop, the end of the peer sets and a failure of the network end it, and every
     /// later poll returns the same.
