@@ -1,7 +1,10 @@
 -- Polls after polls.
-use Rattle.std.proofs.Common.{◌≡◌, ℕ, Bool, List, [], ◌∷◌, ◌++◌, map, Option, refl, sym, ap, ◌∙◌, subst, append_assoc}
+use Rattle.std.proofs.Common.{◌≡◌, ℕ, Bool, List, [], ◌∷◌, ◌++◌, map, Option, Result, refl, sym, ap, ◌∙◌, subst, append_assoc}
 use Rattle.broadcast_core.specs.Setting.{Setting}
+use Rattle.broadcast_core.specs.Content.{Same}
 use Rattle.broadcast_core.specs.Happening.{History}
+use Rattle.broadcast_core.specs.HasContent.{HasContent}
+use Rattle.broadcast_core.specs.declared.codec.CodecError.{CodecError}
 use Rattle.broadcast_core.specs.declared.event.Sent.{Sent}
 use Rattle.commonware_broadcast.specs.declared.buffered.ingress.message.Message.{Message}
 use Rattle.broadcast_engine.specs.declared.buffered.engine.input.Input.{Input}
@@ -11,7 +14,7 @@ use Rattle.broadcast_engine.specs.Replies.{Asker, Replies}
 use Rattle.broadcast_engine.specs.EngineHistory.{happenings}
 use Rattle.broadcast_engine.specs.Polled.{inputs, sets_in, requests_in, payloads_in}
 use Rattle.broadcast_engine.specs.Fetched.{pending_input, payload_inputs}
-use Rattle.broadcast_engine.specs.EngineState.{EngineState, Went}
+use Rattle.broadcast_engine.specs.EngineState.{EngineState, Holds, Went}
 use Rattle.broadcast_engine.proofs.Composing.{Ran-more}
 use Rattle.broadcast_engine.proofs.Looking.{inputs-append}
 
@@ -76,3 +79,20 @@ module _ {P M D S G O N J R B Q C T : Type 0} (s : Setting P M D) (may_answer : 
             ∙ flow-append (holds before) (made one.received) (made more.received) (payloads_in (inputs one.steps)) (payloads_in (inputs more.steps)) (holds one.pending) (holds more.pending) one.flow more.flow
             ∙ ap (λ l. l ++ holds more.pending) (sym (ap payloads_in all ∙ payloads-append (inputs one.steps) (inputs more.steps)));
       }
+
+module _ {P M D S G O N J R B Q C T : Type 0} (same : Same P D) (encoding : M → Option (List ℕ)) (digest_of : M → D) (reading : C → List ℕ → Result M CodecError)
+    (may_answer : Asker S → Bool → Type 0) (outlet_told : O → Replies S G M D → Type 0) (sender_told : N → List (Sent P) → Type 0)
+    (is_of : J → M → Type 0) (receiver_told : R → List (P × List ℕ) → Type 0)
+    (provider_told : B → List (List P) → Type 0) (requests_told : Q → List (Asked (Message P M S G D)) → Type 0) where
+  -- what polls do after every history
+  abbrev pub AlwaysWent : (old new : EngineState P M S O D J B Q C T) (first last : N × R) → Type 0
+  AlwaysWent old new first last = (s : Setting P M D) → s.same ≡ same → s.encoding ≡ encoding → s.priority ≡ old.priority → s.digest_of ≡ digest_of → s.reading ≡ reading old.codec_config
+      → (past : History P M D (Asker S) (Asker G)) → HasContent s past old.node.core → (before : Option (P × M)) → Holds is_of old.end old.job before
+      → Went s may_answer outlet_told sender_told is_of receiver_told provider_told requests_told past before old new first last
+
+  pub AlwaysWent-more : (old mid new : EngineState P M S O D J B Q C T) (first between last : N × R) → AlwaysWent old mid first between
+      → mid.priority ≡ old.priority → mid.codec_config ≡ old.codec_config → AlwaysWent mid new between last → AlwaysWent old new first last
+  AlwaysWent-more old mid new first between last begun priority config more = λ s e enc pri own read past has before held.
+      let one = begun s e enc pri own read past has before held in
+      Went-more s may_answer outlet_told sender_told is_of receiver_told provider_told requests_told past before old mid new first between last one
+      (more s e enc (pri ∙ sym priority) own (read ∙ ap reading (sym config)) (happenings one.steps ++ past) one.ran.content one.pending one.held)

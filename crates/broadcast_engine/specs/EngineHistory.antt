@@ -9,6 +9,7 @@ use Rattle.broadcast_core.specs.declared.event.Cause.{Cause}
 use Rattle.broadcast_core.specs.declared.event.Cause.TheVariants.{Memory, Unencodable}
 use Rattle.broadcast_core.specs.Cache.{message}
 use Rattle.broadcast_core.specs.Waiters.{counted}
+use Rattle.broadcast_engine.specs.declared.buffered.engine.input.EndCause.{EndCause}
 use Rattle.broadcast_engine.specs.declared.buffered.engine.input.Turn.{Turn}
 use Rattle.broadcast_engine.specs.declared.buffered.engine.input.Turn.TheVariants as turn
 use Rattle.commonware_broadcast.specs.declared.buffered.ingress.message.Message.{Message}
@@ -17,6 +18,11 @@ use Rattle.broadcast_engine.specs.declared.buffered.engine.input.Input.{Input}
 use Rattle.broadcast_engine.specs.declared.buffered.engine.input.Input.TheVariants.{Peers, Request, Arrived, Invalid}
 use Rattle.broadcast_core.specs.Handed.{handed_at}
 use Rattle.broadcast_engine.specs.Replies.{Asker, reply_of, Replies}
+
+-- why the engine ended, if the turn tells that
+abbrev pub end_told : Turn → Option EndCause
+end_told (turn.Ended cause) = Some cause
+end_told _ = None
 
 pub data Step (P M D S G : Type 0) : Type 0 where
   -- the waiters that the test names answered closed, and were dropped

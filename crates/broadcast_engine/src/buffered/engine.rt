@@ -1,6 +1,7 @@
 //! The engine of a node.
 mod apply;
 mod broadcast;
+mod driver;
 mod fetch;
 mod handler;
 mod input;
@@ -15,5 +16,6 @@ mod state;
 mod take;
 mod waiter;
 
+pub use driver::drive;
 pub use input::{EndCause, Input, Turn};
 pub use state::Engine;

@@ -1,10 +1,11 @@
 //! One input, applied or refused.
-ghost use Rattle.std.specs.Prelude.{◌≡◌, List};
+ghost use Rattle.std.specs.Prelude.{◌≡◌, List, None};
 ghost use Rattle.broadcast_core.specs.Content.{same_by};
 ghost use Rattle.broadcast_core.specs.Setting.{Setting};
 ghost use Rattle.broadcast_core.specs.Happening.{History};
 ghost use Rattle.broadcast_core.specs.HasContent.{HasContent};
 ghost use Rattle.broadcast_engine.specs.declared.buffered.engine.input.Input.TheVariants as input;
+ghost use Rattle.broadcast_engine.specs.EngineHistory.{end_told};
 ghost use Rattle.broadcast_engine.specs.Replies.{Asker};
 ghost use Rattle.broadcast_engine.specs.Ran.{Applied};
 
@@ -36,11 +37,12 @@ where
     G: Drop,
     O: Outlet<S, G, Reply<M>, Option<Reply<M>>>,
     N: Sender<P>,
-    ensures { (s : Setting P M M.Digest) → s.same ≡ same_by P.cmp M.Digest.cmp
+    ensures applied { (s : Setting P M M.Digest) → s.same ≡ same_by P.cmp M.Digest.cmp
         → s.encoding ≡ M.encoding → s.priority ≡ priority
         → (past : History P M M.Digest (Asker S) (Asker G)) → HasContent s past node.old.core
         → Applied s (λ w b. S.may_answer w.responder b) O.told N.told past input
         result node.old node.new sender.old sender.new }
+    ensures tells_no_end { end_told result ≡ None }
 {
     match input {
         Input::Peers(peers) => {
@@ -74,11 +76,12 @@ where
     G: Drop,
     O: Outlet<S, G, Reply<M>, Option<Reply<M>>>,
     N: Sender<P>,
-    ensures { (s : Setting P M M.Digest) → s.same ≡ same_by P.cmp M.Digest.cmp
+    ensures applied { (s : Setting P M M.Digest) → s.same ≡ same_by P.cmp M.Digest.cmp
         → s.encoding ≡ M.encoding → s.priority ≡ priority
         → (past : History P M M.Digest (Asker S) (Asker G)) → HasContent s past node.old.core
         → Applied s (λ w b. S.may_answer w.responder b) O.told N.told past (input.Request request)
         result node.old node.new sender.old sender.new }
+    ensures tells_no_end { end_told result ≡ None }
 {
     let Request {
         ticket,

@@ -5,7 +5,7 @@ ghost use Rattle.broadcast_core.specs.Setting.{Setting};
 ghost use Rattle.broadcast_core.specs.Happening.{History};
 ghost use Rattle.broadcast_core.specs.HasContent.{HasContent};
 ghost use Rattle.commonware_broadcast.specs.declared.buffered.ingress.message.Message.TheVariants as request;
-ghost use Rattle.broadcast_engine.specs.EngineHistory.{requested};
+ghost use Rattle.broadcast_engine.specs.EngineHistory.{requested, end_told};
 ghost use Rattle.broadcast_engine.specs.Replies.{Asker};
 ghost use Rattle.broadcast_engine.specs.Ran.{Applied};
 
@@ -34,13 +34,14 @@ where
     S: Responder<Reply<M>> + Drop,
     O: Outlet<S, G, Reply<M>, Option<Reply<M>>>,
     N: Sender<P>,
-    ensures { (s : Setting P M M.Digest) → s.same ≡ same_by P.cmp M.Digest.cmp
+    ensures applied { (s : Setting P M M.Digest) → s.same ≡ same_by P.cmp M.Digest.cmp
         → s.encoding ≡ M.encoding → s.priority ≡ priority
         → (past : History P M M.Digest (Asker S) (Asker G)) → HasContent s past node.old.core
         → (ticket : ℕ) (counted : Bool)
         → Applied s (λ w b. S.may_answer w.responder b) O.told N.told past
         (requested ticket counted (request.Broadcast recipients message))
         result node.old node.new sender.old sender.new }
+    ensures tells_no_end { end_told result ≡ None }
 {
     let bytes = match encoded(alloc, &message) {
         Ok(bytes) => bytes,

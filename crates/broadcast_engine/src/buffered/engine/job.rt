@@ -7,6 +7,7 @@ ghost use Rattle.broadcast_core.specs.Setting.{Setting};
 ghost use Rattle.broadcast_core.specs.Happening.{History};
 ghost use Rattle.broadcast_core.specs.HasContent.{HasContent};
 ghost use Rattle.broadcast_engine.specs.declared.buffered.engine.input.Input.TheVariants as input;
+ghost use Rattle.broadcast_engine.specs.EngineHistory.{end_told};
 ghost use Rattle.broadcast_engine.specs.Replies.{Asker};
 ghost use Rattle.broadcast_engine.specs.Ran.{Applied};
 ghost use Rattle.broadcast_engine.specs.Polled.{Started};
@@ -54,6 +55,7 @@ where
         → OnPending result ((j : J) × (slot.new ≡ Some (peer, j)) × J.is_of j m) }
     ensures unchanged_if_pending { OnPending result
         ((node.new ≡ node.old) × (sender.new ≡ sender.old)) }
+    ensures tells_no_end { IfReady result (λ turn. end_told turn ≡ None) }
     ensures armed { OnPending result (IsArmed cx.new) }
     ensures kept { Keeps cx.old cx.new }
 {
@@ -95,6 +97,7 @@ where
         → (past : History P M M.Digest (Asker S) (Asker G)) → HasContent s past node.old.core
         → Started s (λ w b. S.may_answer w.responder b) O.told N.told T.Job.is_of past peer message
         result node.old node.new sender.old sender.new slot.new }
+    ensures tells_no_end { IfReady result (λ turn. end_told turn ≡ None) }
     ensures armed { OnPending result (IsArmed cx.new) }
     ensures kept { Keeps cx.old cx.new }
 {
@@ -125,12 +128,13 @@ where
     G: Drop,
     O: Outlet<S, G, Reply<M>, Option<Reply<M>>>,
     N: Sender<P>,
-    ensures { (s : Setting P M M.Digest) → s.same ≡ same_by P.cmp M.Digest.cmp
+    ensures applied { (s : Setting P M M.Digest) → s.same ≡ same_by P.cmp M.Digest.cmp
         → s.encoding ≡ M.encoding → s.priority ≡ priority
         → (past : History P M M.Digest (Asker S) (Asker G)) → HasContent s past node.old.core
         → Applied s (λ w b. S.may_answer w.responder b) O.told N.told past
         (input.Arrived peer (record { message = message; digest = digest }))
         result node.old node.new sender.old sender.new }
+    ensures tells_no_end { end_told result ≡ None }
 {
     match Digested::precomputed(alloc, message, digest) {
         Ok(message) => apply(node, sender, alloc, priority, Input::Arrived(peer, message)),

@@ -1,12 +1,13 @@
 //! One look at all sources.
-ghost use Rattle.std.specs.Prelude.{◌≡◌, None};
-ghost use Rattle.futures.specs.Poll.{OnPending};
+ghost use Rattle.std.specs.Prelude.{◌≡◌, None, IfOk};
+ghost use Rattle.futures.specs.Poll.{IfReady, OnPending};
 ghost use Rattle.futures.specs.Task.{IsArmed, Keeps};
 ghost use Rattle.broadcast_core.specs.Codec.{whole};
 ghost use Rattle.broadcast_core.specs.Content.{same_by};
 ghost use Rattle.broadcast_core.specs.Setting.{Setting};
 ghost use Rattle.broadcast_core.specs.Happening.{History};
 ghost use Rattle.broadcast_core.specs.HasContent.{HasContent};
+ghost use Rattle.broadcast_engine.specs.EngineHistory.{end_told};
 ghost use Rattle.broadcast_engine.specs.Replies.{Asker};
 ghost use Rattle.broadcast_engine.specs.Looked.{Looked};
 
@@ -57,6 +58,7 @@ where
         → Looked s (λ w b. S.may_answer w.responder b) O.told N.told T.Job.is_of R.told B.told
         Q.told past result node.old node.new sender.old sender.new receiver.old receiver.new
         provider.old provider.new requests.old requests.new slot.new }
+    ensures tells_no_end { IfReady result (λ r. IfOk r (λ turn. end_told turn ≡ None)) }
     ensures armed { OnPending result (IsArmed cx.new) }
     ensures kept { Keeps cx.old cx.new }
 {

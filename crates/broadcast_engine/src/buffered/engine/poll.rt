@@ -1,11 +1,12 @@
 //! One poll.
-ghost use Rattle.std.specs.Prelude.{◌≡◌, List};
-ghost use Rattle.futures.specs.Poll.{OnPending};
+ghost use Rattle.std.specs.Prelude.{◌≡◌, List, None, IfOk};
+ghost use Rattle.futures.specs.Poll.{IfReady, OnPending};
 ghost use Rattle.futures.specs.Task.{IsArmed, Keeps};
 ghost use Rattle.broadcast_core.specs.Content.{same_by};
 ghost use Rattle.broadcast_core.specs.Setting.{Setting};
 ghost use Rattle.broadcast_core.specs.Happening.{History};
 ghost use Rattle.broadcast_core.specs.HasContent.{HasContent};
+ghost use Rattle.broadcast_engine.specs.EngineHistory.{end_told};
 ghost use Rattle.broadcast_engine.specs.Replies.{Asker};
 ghost use Rattle.broadcast_engine.specs.Polled.{Polled};
 
@@ -46,6 +47,7 @@ where
         → Polled s (λ w b. S.may_answer w.responder b) O.told N.told B.told Q.told past result
         node.old node.new sender.old sender.new
         provider.old provider.new requests.old requests.new }
+    ensures tells_no_end { IfReady result (λ r. IfOk r (λ turn. end_told turn ≡ None)) }
     ensures armed { OnPending result (IsArmed cx.new) }
     ensures kept { Keeps cx.old cx.new }
 {

@@ -1,6 +1,6 @@
 //! A payload of a peer.
-ghost use Rattle.std.specs.Prelude.{◌≡◌, List};
-ghost use Rattle.futures.specs.Poll.{OnPending};
+ghost use Rattle.std.specs.Prelude.{◌≡◌, List, None};
+ghost use Rattle.futures.specs.Poll.{IfReady, OnPending};
 ghost use Rattle.futures.specs.Task.{IsArmed, Keeps};
 ghost use Rattle.broadcast_core.specs.Codec.{whole};
 ghost use Rattle.broadcast_core.specs.Content.{same_by};
@@ -9,6 +9,7 @@ ghost use Rattle.broadcast_core.specs.Happening.{History};
 ghost use Rattle.broadcast_core.specs.HasContent.{HasContent};
 ghost use Rattle.broadcast_engine.specs.declared.buffered.engine.input.Input.TheVariants as input;
 ghost use Rattle.broadcast_engine.specs.declared.buffered.engine.input.Turn.TheVariants as turn;
+ghost use Rattle.broadcast_engine.specs.EngineHistory.{end_told};
 ghost use Rattle.broadcast_engine.specs.Replies.{Asker};
 ghost use Rattle.broadcast_engine.specs.Ran.{Applied};
 ghost use Rattle.broadcast_engine.specs.Polled.{Received};
@@ -53,6 +54,7 @@ where
         → (past : History P M M.Digest (Asker S) (Asker G)) → HasContent s past node.old.core
         → Received s (λ w b. S.may_answer w.responder b) O.told N.told T.Job.is_of past
         peer bytes.now result node.old node.new sender.old sender.new slot.new }
+    ensures tells_no_end { IfReady result (λ turn. end_told turn ≡ None) }
     ensures armed { OnPending result (IsArmed cx.new) }
     ensures kept { Keeps cx.old cx.new }
 {
@@ -88,6 +90,7 @@ where
         → (past : History P M M.Digest (Asker S) (Asker G)) → HasContent s past node.old.core
         → Applied s (λ w b. S.may_answer w.responder b) O.told N.told past (input.Invalid error)
         result node.old node.new sender.old sender.new }
+    ensures tells_no_end { end_told result ≡ None }
 {
     match error {
         CodecError::Memory => Turn::Refused(Cause::Memory),

@@ -144,6 +144,8 @@ impl<P: PublicKey, M: Digestible + Codec, S, O, B, Q, T: Strategy<M>> Engine<P, 
             × (network.new ≡ network.old) }
         ensures tells_its_end { (cause : EndCause) → self.new.end ≡ Some cause
             → result ≡ Ready (turn.Ended cause) }
+        ensures ends_as_told { (cause : EndCause) → result ≡ Ready (turn.Ended cause)
+            → self.new.end ≡ Some cause }
         ensures keeps_priority { self.new.priority ≡ self.old.priority }
         ensures keeps_codec_config { self.new.codec_config ≡ self.old.codec_config }
         ensures keeps_strategy { self.new.strategy ≡ self.old.strategy }

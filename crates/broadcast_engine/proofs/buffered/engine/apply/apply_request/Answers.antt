@@ -8,14 +8,14 @@ use Rattle.broadcast_engine.specs.declared.buffered.engine.input.Turn.TheVariant
 use Rattle.broadcast_engine.proofs.Runs.{Applied-silent, Applied-refused, Applied-message}
 use Rattle.broadcast_engine.proofs.buffered.engine.apply.apply_request.Goals as goal
 
-pub returns-in-Broadcast : goal.returns-in-Broadcast
-returns-in-Broadcast g c = λ s e encoding priority past has.
+pub returns-in-Broadcast-clause-applied : goal.returns-in-Broadcast-clause-applied
+returns-in-Broadcast-clause-applied g c = λ s e encoding priority past has.
     let r = c.args.request in
     Applied-message s (λ w b. g.S.Responder.may_answer w.responder b) g.O.Outlet.told g.N.Sender.told past r (Broadcast c.in-Broadcast.recipients c.in-Broadcast.message) _ _ _ _ _ c.in-Broadcast.is
-    (c.handle_broadcast.ensures s e encoding priority past has r.ticket r.counted)
+    (c.handle_broadcast.ensures.applied s e encoding priority past has r.ticket r.counted)
 
-pub returns-in-Ok : goal.returns-in-Ok
-returns-in-Ok g c = λ s e encoding priority past has.
+pub returns-in-Ok-clause-applied : goal.returns-in-Ok-clause-applied
+returns-in-Ok-clause-applied g c = λ s e encoding priority past has.
     let r = c.args.request in
     let steps = c.in-Ok.ensures.steps in
     Applied-message s (λ w b. g.S.Responder.may_answer w.responder b) g.O.Outlet.told g.N.Sender.told past r (Subscribe c.in-Subscribe.digest c.in-Subscribe.responder) _ _ _ _ _ c.in-Subscribe.is
@@ -23,16 +23,16 @@ returns-in-Ok g c = λ s e encoding priority past has.
     (Request (record { ticket = r.ticket; message = Subscribe c.in-Subscribe.digest c.in-Subscribe.responder; counted = r.counted })) steps.0 turn.Subscribe
     c.args.node.now c.handle_subscribe.new.node c.args.sender.now (steps.1 s e past has r.counted) refl refl)
 
-pub returns-in-Err : goal.returns-in-Err
-returns-in-Err g c = λ s e encoding priority past has.
+pub returns-in-Err-clause-applied : goal.returns-in-Err-clause-applied
+returns-in-Err-clause-applied g c = λ s e encoding priority past has.
     let r = c.args.request in
     Applied-message s (λ w b. g.S.Responder.may_answer w.responder b) g.O.Outlet.told g.N.Sender.told past r (Subscribe c.in-Subscribe.digest c.in-Subscribe.responder) _ _ _ _ _ c.in-Subscribe.is
     (Applied-refused s (λ w b. g.S.Responder.may_answer w.responder b) g.O.Outlet.told g.N.Sender.told past
     (Request (record { ticket = r.ticket; message = Subscribe c.in-Subscribe.digest c.in-Subscribe.responder; counted = r.counted })) Memory
     c.args.node.now c.handle_subscribe.new.node c.args.sender.now has c.in-Err.ensures.unchanged_on_error tt)
 
-pub returns-in-Ok-handle_get : goal.returns-in-Ok-handle_get
-returns-in-Ok-handle_get g c = λ s e encoding priority past has.
+pub returns-in-Ok-handle_get-clause-applied : goal.returns-in-Ok-handle_get-clause-applied
+returns-in-Ok-handle_get-clause-applied g c = λ s e encoding priority past has.
     let r = c.args.request in
     let steps = c.in-Ok-handle_get.ensures.steps in
     Applied-message s (λ w b. g.S.Responder.may_answer w.responder b) g.O.Outlet.told g.N.Sender.told past r (Get c.in-Get.digest c.in-Get.responder) _ _ _ _ _ c.in-Get.is
@@ -40,8 +40,8 @@ returns-in-Ok-handle_get g c = λ s e encoding priority past has.
     (Request (record { ticket = r.ticket; message = Get c.in-Get.digest c.in-Get.responder; counted = r.counted })) steps.0 turn.Get
     c.args.node.now c.handle_get.new.node c.args.sender.now (steps.1 s e past has r.counted) refl refl)
 
-pub returns-in-Err-handle_get : goal.returns-in-Err-handle_get
-returns-in-Err-handle_get g c = λ s e encoding priority past has.
+pub returns-in-Err-handle_get-clause-applied : goal.returns-in-Err-handle_get-clause-applied
+returns-in-Err-handle_get-clause-applied g c = λ s e encoding priority past has.
     let r = c.args.request in
     let cached = c.in-Err-handle_get.ensures.fails_only_if_cached in
     Applied-message s (λ w b. g.S.Responder.may_answer w.responder b) g.O.Outlet.told g.N.Sender.told past r (Get c.in-Get.digest c.in-Get.responder) _ _ _ _ _ c.in-Get.is

@@ -5,12 +5,12 @@ use Rattle.broadcast_engine.specs.declared.buffered.engine.input.Input.TheVarian
 use Rattle.broadcast_engine.proofs.Runs.{Applied-refused}
 use Rattle.broadcast_engine.proofs.buffered.engine.job.arrive.Goals as goal
 
-pub returns-in-Ok : goal.returns-in-Ok
-returns-in-Ok g c = λ s e encoding priority past has.
+pub returns-in-Ok-clause-applied : goal.returns-in-Ok-clause-applied
+returns-in-Ok-clause-applied g c = λ s e encoding priority past has.
     subst (λ d. Applied s (λ w b. g.S.Responder.may_answer w.responder b) g.O.Outlet.told g.N.Sender.told past (input.Arrived c.args.peer d)
-    c.apply.result c.args.node.now c.apply.new.node c.args.sender.now c.apply.new.sender) c.in-Ok.ensures (c.apply.ensures s e encoding priority past has)
+    c.apply.result c.args.node.now c.apply.new.node c.args.sender.now c.apply.new.sender) c.in-Ok.ensures (c.apply.ensures.applied s e encoding priority past has)
 
-pub returns-in-Err : goal.returns-in-Err
-returns-in-Err g c = λ s e encoding priority past has.
+pub returns-in-Err-clause-applied : goal.returns-in-Err-clause-applied
+returns-in-Err-clause-applied g c = λ s e encoding priority past has.
     Applied-refused s (λ w b. g.S.Responder.may_answer w.responder b) g.O.Outlet.told g.N.Sender.told past (input.Arrived c.args.peer (record { message = c.args.message; digest = c.args.digest })) Memory
     c.args.node.now c.args.node.now c.args.sender.now has refl tt

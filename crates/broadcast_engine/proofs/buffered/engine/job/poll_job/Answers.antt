@@ -11,4 +11,4 @@ returns-in-Ready-clause-applied g c = λ m of_job s e encoding priority past has
     subst (λ x. Applied s (λ w b. g.S.Responder.may_answer w.responder b) g.O.Outlet.told g.N.Sender.told past (input.Arrived c.args.peer x)
     c.arrive.result c.args.node.now c.arrive.new.node c.args.sender.now c.arrive.new.sender)
     (ap (λ x. record { message = x; digest = c.in-Ready.digest }) first ∙ ap (λ y. record { message = m; digest = y }) second)
-    (c.arrive.ensures s e encoding priority past has)
+    (c.arrive.ensures.applied s e encoding priority past has)
