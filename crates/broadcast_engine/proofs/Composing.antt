@@ -9,7 +9,8 @@ use Rattle.broadcast_core.specs.declared.event.Sent.{Sent}
 use Rattle.broadcast_engine.specs.declared.buffered.engine.node.Node.{Node}
 use Rattle.broadcast_engine.specs.Counters.{Totals, count_of}
 use Rattle.broadcast_engine.specs.Replies.{Asker, Replies}
-use Rattle.broadcast_engine.specs.EngineHistory.{Step, swept, applied, refused, decoded, ended, AreSteps, IsStep, happenings_at, happenings, handed_out_at, handed_out}
+use Rattle.broadcast_engine.specs.EngineHistory.{Step, swept, applied, refused, decoded, uncounted, ended, happenings_at, happenings, handed_out_at, handed_out}
+use Rattle.broadcast_engine.specs.StepLaws.{AreSteps, IsStep}
 use Rattle.broadcast_engine.specs.Counting.{count, counts, count_peer}
 use Rattle.broadcast_engine.specs.Ran.{Ran}
 
@@ -51,7 +52,8 @@ module _ {P M D S G : Type 0} (s : Setting P M D) where
   count_peer-append q (applied input replies ∷ later) earlier n = count_peer-append q later earlier n
   count_peer-append q (refused input cause ∷ later) earlier n = count_peer-append q later earlier n
   count_peer-append q (decoded p ∷ later) earlier n = ap (λ m. if s.same.key p q then counted (m + 1) else m) (count_peer-append q later earlier n)
-  count_peer-append q (ended ∷ later) earlier n = count_peer-append q later earlier n
+  count_peer-append q (uncounted p c ∷ later) earlier n = count_peer-append q later earlier n
+  count_peer-append q (ended cause ∷ later) earlier n = count_peer-append q later earlier n
 
 module _ {P M D S G O N : Type 0} (s : Setting P M D) (may_answer : Asker S → Bool → Type 0)
     (outlet_told : O → Replies S G M D → Type 0) (sender_told : N → List (Sent P) → Type 0) where

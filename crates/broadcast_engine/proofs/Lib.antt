@@ -3,6 +3,7 @@ pub mod Handing
 pub mod EngineSteps
 pub mod Runs
 pub mod Composing
+pub mod Telling
 pub mod Polling
 pub mod Fetching
 pub mod Looking

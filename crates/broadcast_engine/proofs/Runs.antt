@@ -21,7 +21,8 @@ use Rattle.broadcast_engine.specs.declared.buffered.engine.input.Turn.TheVariant
 use Rattle.broadcast_engine.specs.declared.buffered.engine.node.Node.{Node}
 use Rattle.broadcast_engine.specs.Counters.{Counters, count_of}
 use Rattle.broadcast_engine.specs.Replies.{Asker, Replies}
-use Rattle.broadcast_engine.specs.EngineHistory.{Step, applied, refused, happening_of, happenings_at, turn_of, MayRefuse, MayRefuseRequest}
+use Rattle.broadcast_engine.specs.EngineHistory.{Step, applied, refused, happening_of, happenings_at, turns_at}
+use Rattle.broadcast_engine.specs.StepLaws.{MayRefuse, MayRefuseRequest}
 use Rattle.broadcast_engine.specs.Counting.{count_peer}
 use Rattle.broadcast_engine.specs.Ran.{Steps, Ran, Applied}
 
@@ -44,7 +45,7 @@ module _ {P M D S G O N : Type 0} (s : Setting P M D) (may_answer : Asker S → 
 
   -- an input at which nothing is sent
   pub Applied-silent : (input : Input P M S G D) (replies : Replies S G M D) (result : Turn) (old new : Node P M S O D) (sender : N)
-      → Steps s may_answer outlet_told past (applied input replies) old new → turn_of s (applied input replies) past ≡ Some result → sent s (happening_of input) ≡ []
+      → Steps s may_answer outlet_told past (applied input replies) old new → turns_at s (applied input replies) past ≡ result ∷ [] → sent s (happening_of input) ≡ []
       → Applied s may_answer outlet_told sender_told past input result old new sender sender
   Applied-silent input replies result old new sender steps turned none = record {
     step = applied input replies;
@@ -79,7 +80,7 @@ module _ {P M D S G O N : Type 0} (s : Setting P M D) (may_answer : Asker S → 
   Applied-broadcast r c ticket counted bytes priority out replies old new first last steps is encoding flag sends = record {
     step = applied (Request (record { ticket = ticket; message = Broadcast r c; counted = counted })) replies;
     of_input = refl;
-    turned = ap (λ o. Some (turn.Broadcast o)) (sym is);
+    turned = ap (λ o. turn.Broadcast o ∷ []) (sym is);
     ran = Ran-one (applied (Request (record { ticket = ticket; message = Broadcast r c; counted = counted })) replies) old new first last steps (λ q n. refl)
         (λ before h. subst (λ xs. sender_told last (before ++ xs)) (ap (λ f. record { recipients = r; bytes = bytes; priority = f } ∷ []) (sym flag) ∙ ap (sending s r) (sym encoding)) (sends before h));
   }

@@ -3,6 +3,8 @@ pub mod Sources
 pub mod Jobs
 pub mod Replies
 pub mod EngineHistory
+pub mod StepLaws
+pub mod Taken
 pub mod Counting
 pub mod Ran
 pub mod Handing

@@ -12,7 +12,8 @@ ghost use Rattle.broadcast_engine.specs.declared.buffered.engine.input.Turn.TheV
 ghost use Rattle.broadcast_engine.specs.declared.buffered.engine.input.EndCause.{EndCause};
 ghost use Rattle.broadcast_engine.specs.Counters.{zero_counters};
 ghost use Rattle.broadcast_engine.specs.Replies.{Asker};
-ghost use Rattle.broadcast_engine.specs.EngineState.{Went, Holds};
+ghost use Rattle.broadcast_engine.specs.Taken.{Holds};
+ghost use Rattle.broadcast_engine.specs.EngineState.{Turned};
 
 use crate::buffered::config::Config;
 use crate::buffered::engine::handler::drop_waiters;
@@ -144,14 +145,14 @@ impl<P: PublicKey, M: Digestible + Codec, S, O, B, Q, T: Strategy<M>> Engine<P, 
         R: Receiver<P>,
         B: Provider<P>,
         Q: Requests<Message<P, M, S, G>>,
-        ensures went { (s : Setting P M M.Digest) → s.same ≡ same_by P.cmp M.Digest.cmp
+        ensures turned { (s : Setting P M M.Digest) → s.same ≡ same_by P.cmp M.Digest.cmp
             → s.encoding ≡ M.encoding → s.priority ≡ self.old.priority → s.digest_of ≡ M.digest_of
             → s.reading ≡ whole (M.reading self.old.codec_config)
             → (past : History P M M.Digest (Asker S) (Asker G))
             → HasContent s past self.old.node.core → (before : Option (P × M))
             → Holds T.Job.is_of self.old.end self.old.job before
-            → Went s (λ w b. S.may_answer w.responder b) O.told N.told T.Job.is_of R.told B.told
-            Q.told past before self.old self.new network.old network.new }
+            → Turned s (λ w b. S.may_answer w.responder b) O.told N.told T.Job.is_of R.told B.told
+            Q.told past before self.old self.new network.old network.new result }
         ensures same_after_end { (cause : EndCause) → self.old.end ≡ Some cause
             → (result ≡ Ready (turn.Ended cause)) × (self.new ≡ self.old)
             × (network.new ≡ network.old) }
