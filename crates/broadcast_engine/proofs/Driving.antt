@@ -1,5 +1,5 @@
 -- Polls after polls.
-use Rattle.std.proofs.Common.{◌≡◌, ℕ, Bool, List, [], ◌∷◌, ◌++◌, map, Option, Some, None, Result, refl, sym, ap, ◌∙◌, subst, append_assoc}
+use Rattle.std.proofs.Common.{◌≡◌, ℕ, Bool, List, [], ◌∷◌, ◌++◌, Option, Some, None, Result, refl, sym, ap, ◌∙◌, subst, append_assoc}
 use Rattle.futures.specs.declared.task.Poll.{Poll}
 use Rattle.broadcast_core.specs.Setting.{Setting}
 use Rattle.broadcast_core.specs.Content.{Same}
@@ -19,7 +19,8 @@ use Rattle.broadcast_engine.specs.EngineHistory.{happenings, end_told, inputs, r
 use Rattle.broadcast_engine.specs.Taken.{sets_in, requests_in, payloads_in, pending_input, payload_inputs, sender_of, senders_of, Holds}
 use Rattle.broadcast_engine.specs.EngineState.{EngineState, Went, Turned}
 use Rattle.broadcast_engine.specs.Sources.{given}
-use Rattle.broadcast_engine.proofs.Composing.{Ran-more}
+use Rattle.broadcast_engine.proofs.Composing.{AreSteps-append, Ran-more}
+use Rattle.broadcast_engine.proofs.Due.{map-after, all-due}
 use Rattle.broadcast_engine.proofs.Telling.{inputs-append, read_from-append, turns-append, end_of-append}
 
 -- what is not some is none
@@ -37,10 +38,6 @@ no_end (turn.Payload out) h = refl
 no_end (turn.Invalid error) h = refl
 no_end (turn.Refused cause) h = refl
 no_end (turn.Ended cause) h = absurd (h cause refl)
-
-map-after : {A B : Type 0} (f : A → B) (xs ys : List A) → map f (xs ++ ys) ≡ map f xs ++ map f ys
-map-after f [] ys = refl
-map-after f (x ∷ xs) ys = ap (λ l. f x ∷ l) (map-after f xs ys)
 
 module _ {P M D S G : Type 0} where
   sets-append : (is js : List (Input P M S G D)) → sets_in (is ++ js) ≡ sets_in is ++ sets_in js
@@ -94,6 +91,7 @@ module _ {P M D S G O N J R B Q C T : Type 0} (s : Setting P M D) (may_answer : 
       record {
         steps = more.steps ++ one.steps;
         ran = Ran-more s may_answer outlet_told sender_told past one.steps more.steps old.node mid.node new.node first.0 between.0 last.0 one.ran more.ran;
+        due = all-due s past may_answer (more.steps ++ one.steps) (AreSteps-append s may_answer more.steps one.steps past more.ran.lawful one.ran.lawful);
         turned = λ at. turns-append s more.steps one.steps past ∙ ap (λ ts. ts ++ turns s more.steps (happenings one.steps ++ past)) (one.turned at) ∙ ap (λ ts. listed ++ ts) (more.turned (unended at));
         ends = λ at. more.ends (unended at) ∙ sym (end_of-append more.steps one.steps (sym (one.ends at) ∙ unended at));
         sets = λ told h. subst (provider_told new.provider) (append_assoc told (sets_in (inputs one.steps)) (sets_in (inputs more.steps))

@@ -28,7 +28,7 @@ use Rattle.broadcast_engine.specs.declared.buffered.metrics.Status.TheVariants a
 use Rattle.broadcast_engine.specs.Counters.{Counters, added}
 use Rattle.broadcast_engine.specs.Replies.{Asker, got, reply_of, Replies}
 use Rattle.broadcast_engine.specs.EngineHistory.{applied, swept, ended}
-use Rattle.broadcast_engine.specs.Counting.{count_outcome, count_replies}
+use Rattle.broadcast_engine.specs.CountingCalls.{count_outcome, count_replies}
 use Rattle.broadcast_engine.specs.Handing.{Hands, Serves}
 use Rattle.broadcast_engine.specs.Ran.{Steps}
 

@@ -23,6 +23,7 @@ use Rattle.broadcast_engine.specs.Woken.{Woken}
 use Rattle.broadcast_engine.specs.EngineState.{EngineState, Went, Turned}
 use Rattle.broadcast_engine.proofs.Runs.{Ran-one}
 use Rattle.broadcast_engine.proofs.Composing.{Ran-none, Ran-more}
+use Rattle.broadcast_engine.proofs.Due.{all-due}
 use Rattle.broadcast_engine.proofs.Polling.{told-same}
 
 -- an engine that has not ended holds the message of its job
@@ -55,6 +56,7 @@ module _ {P M D S G O N J R B Q C T : Type 0} (s : Setting P M D) (may_answer : 
   Went-still e network listed has held none = record {
     steps = [];
     ran = Ran-none s may_answer outlet_told sender_told past e.node network.0 has;
+    due = refl;
     turned = λ unended. sym (none unended);
     ends = λ unended. unended;
     sets = λ told h. told-same provider_told e.provider told h;
@@ -87,6 +89,7 @@ module _ {P M D S G O N J R B Q C T : Type 0} (s : Setting P M D) (may_answer : 
           went = record {
             steps = one.steps;
             ran = one.ran;
+            due = all-due s past may_answer one.steps one.ran.lawful;
             turned = λ _. one.tells.turned ∙ same;
             ends = λ _. none ∙ sym one.tells.goes_on;
             sets = one.sets;
@@ -120,7 +123,8 @@ module _ {P M D S G O N J R B Q C T : Type 0} (s : Setting P M D) (may_answer : 
           went = record {
             steps = ended cause ∷ one.steps;
             ran = Ran-more s may_answer outlet_told sender_told past one.steps (ended cause ∷ []) old.node mid new.node network.0 network'.0 network'.0 one.ran
-                (Ran-one s may_answer outlet_told sender_told (happenings one.steps ++ past) (ended cause) mid new.node network'.0 network'.0 last (λ q n. refl) (λ sends h. told-same sender_told network'.0 sends h));
+                (Ran-one s may_answer outlet_told sender_told (happenings one.steps ++ past) (ended cause) mid new.node network'.0 network'.0 last tt (λ sends h. told-same sender_told network'.0 sends h));
+            due = all-due s past may_answer (ended cause ∷ one.steps) (last.lawful, one.ran.lawful);
             turned = λ _. ap (λ ts. ts ++ Ended cause ∷ []) (one.tells.turned ∙ ap given_ok is);
             ends = λ _. because;
             sets = λ told h. subst (λ l. provider_told new.provider (told ++ sets_in l)) (sym same) (one.sets told h);

@@ -1,5 +1,5 @@
 -- One poll.
-use Rattle.std.proofs.Common.{◌≡◌, ℕ, ◌+◌, Bool, if◌then◌else◌, List, [], ◌∷◌, ◌++◌, Option, Some, None, Result, true, false, is_ok, refl, sym, ap, ◌∙◌, subst, append-nil}
+use Rattle.std.proofs.Common.{◌≡◌, ℕ, Bool, if◌then◌else◌, List, [], ◌∷◌, ◌++◌, Option, Some, None, Result, true, false, is_ok, refl, sym, ap, ◌∙◌, subst, append-nil}
 use Rattle.futures.specs.Poll.{IfReady, OnPending}
 use Rattle.futures.specs.declared.task.Poll.{Poll}
 use Rattle.futures.specs.declared.task.Poll.TheVariants.{Ready, Pending}
@@ -7,7 +7,6 @@ use Rattle.std.specs.Prelude.{Ok, Err}
 use Rattle.broadcast_core.specs.Setting.{Setting, own_digested}
 use Rattle.broadcast_core.specs.Content.{Same}
 use Rattle.broadcast_core.specs.HasContent.{HasContent}
-use Rattle.broadcast_core.specs.Waiters.{counted}
 use Rattle.broadcast_core.specs.Happening.{History, cleanup}
 use Rattle.broadcast_core.specs.declared.codec.CodecError.{CodecError}
 use Rattle.broadcast_core.specs.declared.event.Cause.TheVariants.{Memory}
@@ -20,7 +19,7 @@ use Rattle.broadcast_engine.specs.declared.buffered.engine.input.Turn.{Turn}
 use Rattle.broadcast_engine.specs.declared.buffered.engine.input.Turn.TheVariants as turn
 use Rattle.broadcast_engine.specs.declared.buffered.engine.node.Node.{Node}
 use Rattle.broadcast_engine.specs.declared.buffered.engine.input.Input.TheVariants as input
-use Rattle.broadcast_engine.specs.Counters.{Counters, count_of}
+use Rattle.broadcast_engine.specs.Counters.{Counters, Totals, raised, count_of, number_at}
 use Rattle.broadcast_engine.specs.Replies.{Asker, Replies}
 use Rattle.broadcast_engine.specs.EngineHistory.{Step, swept, decoded, uncounted, inputs_at}
 use Rattle.broadcast_engine.specs.Sources.{given, given_ok}
@@ -29,6 +28,7 @@ use Rattle.broadcast_engine.specs.Taken.{payload_input, sender_of, sets_in, requ
 use Rattle.broadcast_engine.specs.Polled.{Tells, Polled, Started, Received, Arrives, Comes}
 use Rattle.broadcast_engine.proofs.Runs.{Ran-one}
 use Rattle.broadcast_engine.proofs.Composing.{Ran-more}
+use Rattle.broadcast_engine.proofs.Counting.{raised-none, decoded-counted}
 use Rattle.broadcast_engine.proofs.Telling.{input-at, Tells-input}
 
 -- what is ready meets what follows from what it met
@@ -46,7 +46,7 @@ module _ {P M D S G O N B Q : Type 0} (s : Setting P M D) (may_answer : Asker S 
     (past : History P M D (Asker S) (Asker G)) (old mid : Node P M S O D) (sender : N)
     (test : ℕ → Asker S → Bool) (cleaned : Steps s may_answer outlet_told past (swept test) old mid) where
   cleaning : Ran s may_answer outlet_told sender_told past (swept test ∷ []) old mid sender sender
-  cleaning = Ran-one s may_answer outlet_told sender_told past (swept test) old mid sender sender cleaned (λ q n. refl) (λ before h. told-same sender_told sender before h)
+  cleaning = Ran-one s may_answer outlet_told sender_told past (swept test) old mid sender sender cleaned tt (λ before h. told-same sender_told sender before h)
 
   -- no source gave an input
   pub Polled-idle : (result : Poll (Result Turn EndCause)) (provider provider' : B) (requests requests' : Q) → given_ok result ≡ []
@@ -78,13 +78,13 @@ module _ {P M D S G O N J : Type 0} (s : Setting P M D) (may_answer : Asker S �
     (is_of : J → M → Type 0) (past : History P M D (Asker S) (Asker G)) (p : P) (m : M) where
   -- a payload was decoded, and counted
   pub Ran-decoded : {same : Same P D} (is : s.same ≡ same) (old : Node P M S O D) (counters : Counters P) (sender : N) → HasContent s past old.core
-      → ((q : P) → count_of same.key q counters.peer ≡ (if same.key p q then counted (count_of same.key q old.metrics.peer + 1) else count_of same.key q old.metrics.peer))
+      → ((q : P) → count_of same.key q counters.peer ≡ (if same.key p q then raised (count_of same.key q old.metrics.peer) 1 else count_of same.key q old.metrics.peer))
       → counters.totals ≡ old.metrics.totals → Ran s may_answer outlet_told sender_told past (decoded p ∷ []) old (record old { metrics = counters }) sender sender
   Ran-decoded is old counters sender has one stays = record {
     lawful = (tt, tt);
     content = has;
-    totals = stays;
-    peers = λ q. subst (λ a. count_of a.key q counters.peer ≡ (if a.key p q then counted (count_of a.key q old.metrics.peer + 1) else count_of a.key q old.metrics.peer)) (sym is) (one q);
+    counters = λ c. decoded-counted s past p is old.metrics counters c one stays;
+    waiters = ap (λ (t : Totals). t.waiters) stays;
     replied = λ before h. told-same outlet_told old.outlet before h;
     sends = λ before h. told-same sender_told sender before h;
   }
@@ -97,8 +97,8 @@ module _ {P M D S G O N J : Type 0} (s : Setting P M D) (may_answer : Asker S �
     ran = subst (λ n. Ran s may_answer outlet_told sender_told past (uncounted p (own_digested s m) ∷ []) old n sender sender) (sym same) (record {
       lawful = (tt, tt);
       content = has;
-      totals = refl;
-      peers = λ q. refl;
+      counters = λ c. sym (raised-none (number_at s.same.key c old.metrics));
+      waiters = refl;
       replied = λ before h. told-same outlet_told old.outlet before h;
       sends = λ before h. told-same sender_told sender before h;
     });

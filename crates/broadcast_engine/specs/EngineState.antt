@@ -1,9 +1,10 @@
 -- An engine, and what its polls do.
-use Rattle.std.specs.Prelude.{◌≡◌, ℕ, Bool, List, [], ◌∷◌, ◌++◌, Option, None, Some, ◌⊎◌}
+use Rattle.std.specs.Prelude.{◌≡◌, ℕ, Bool, List, [], ◌∷◌, ◌++◌, map, Option, None, Some, ◌⊎◌}
 use Rattle.std.specs.List.{All}
 use Rattle.futures.specs.declared.task.Poll.{Poll}
 use Rattle.futures.specs.declared.task.Poll.TheVariants.{Ready}
 use Rattle.broadcast_core.specs.Setting.{Setting}
+use Rattle.broadcast_core.specs.Handed.{handed}
 use Rattle.broadcast_core.specs.Happening.{History}
 use Rattle.broadcast_core.specs.declared.event.Sent.{Sent}
 use Rattle.commonware_broadcast.specs.declared.buffered.ingress.message.Message.{Message}
@@ -13,9 +14,9 @@ use Rattle.broadcast_engine.specs.declared.buffered.engine.input.Turn.{Turn}
 use Rattle.broadcast_engine.specs.declared.buffered.engine.input.Turn.TheVariants.{Ended}
 use Rattle.broadcast_engine.specs.declared.buffered.engine.input.Request.{Request}
 use Rattle.broadcast_engine.specs.declared.buffered.engine.node.Node.{Node}
-use Rattle.broadcast_engine.specs.Replies.{Asker, Replies}
+use Rattle.broadcast_engine.specs.Replies.{Asker, Replies, reply_of}
 use Rattle.broadcast_engine.specs.Sources.{given}
-use Rattle.broadcast_engine.specs.EngineHistory.{Step, inputs, read_from, end_of, end_told, turns, IsSweptFirst}
+use Rattle.broadcast_engine.specs.EngineHistory.{Step, happenings, handed_out, inputs, read_from, end_of, end_told, turns, IsSweptFirst}
 use Rattle.broadcast_engine.specs.Ran.{Ran}
 use Rattle.broadcast_engine.specs.Taken.{sets_in, requests_in, payloads_in, payload_inputs, pending_input, senders_of, Holds, TakesNone}
 
@@ -51,6 +52,8 @@ module _ {P M D S G O N J R B Q C T : Type 0} (s : Setting P M D)
     pub steps : List (Step P M D S G)
     pub ran : Ran s may_answer outlet_told sender_told past steps old.node new.node
         old_network.0 new_network.0
+    -- the replies are those that are due at its happenings, in order, each to who asked
+    pub due : map reply_of (handed_out steps) ≡ handed s (happenings steps) past
     -- the turns that were ready are those of the steps, each input and each end having one
     pub turned : old.end ≡ None → turns s steps past ≡ listed
     -- the engine has ended if and only if the newest step is its end

@@ -6,6 +6,7 @@ pub mod EngineHistory
 pub mod StepLaws
 pub mod Taken
 pub mod Counting
+pub mod CountingCalls
 pub mod Ran
 pub mod Handing
 pub mod Polled

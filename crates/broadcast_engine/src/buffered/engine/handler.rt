@@ -11,7 +11,7 @@ ghost use Rattle.broadcast_engine.specs.declared.buffered.engine.input.EndCause.
 ghost use Rattle.broadcast_engine.specs.declared.buffered.engine.input.Input.TheVariants as input;
 ghost use Rattle.broadcast_engine.specs.Replies.{Asker, Replied, Replies};
 ghost use Rattle.broadcast_engine.specs.EngineHistory.{applied, swept, ended};
-ghost use Rattle.broadcast_engine.specs.Counting.{count_outcome};
+ghost use Rattle.broadcast_engine.specs.CountingCalls.{count_outcome};
 ghost use Rattle.broadcast_engine.specs.Ran.{Steps, requested};
 
 use crate::buffered::engine::node::Node;
