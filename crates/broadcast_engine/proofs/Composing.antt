@@ -1,17 +1,20 @@
 -- Steps after steps.
-use Rattle.std.proofs.Common.{◌≡◌, ℕ, ◌+◌, Bool, if◌then◌else◌, List, [], ◌∷◌, ◌++◌, refl, sym, ap, ◌∙◌, subst, append-nil, append_assoc}
+use Rattle.std.proofs.Common.{◌≡◌, ℕ, Bool, List, [], ◌∷◌, ◌++◌, length, refl, sym, ap, ◌∙◌, subst, append-nil, append_assoc}
 use Rattle.broadcast_core.specs.Setting.{Setting}
-use Rattle.broadcast_core.specs.Happening.{History}
+use Rattle.std.specs.List.{count_by}
+use Rattle.broadcast_core.specs.Happening.{History, cleanup}
+use Rattle.broadcast_core.specs.Waiting.{awaited}
 use Rattle.broadcast_core.specs.HasContent.{HasContent}
-use Rattle.broadcast_core.specs.Waiters.{counted}
 use Rattle.broadcast_core.specs.Sent.{sent, sent_at}
 use Rattle.broadcast_core.specs.declared.event.Sent.{Sent}
 use Rattle.broadcast_engine.specs.declared.buffered.engine.node.Node.{Node}
-use Rattle.broadcast_engine.specs.Counters.{Totals, count_of}
+use Rattle.broadcast_engine.specs.Counters.{raised, is_counted_as, number_at}
 use Rattle.broadcast_engine.specs.Replies.{Asker, Replies}
-use Rattle.broadcast_engine.specs.EngineHistory.{Step, swept, applied, refused, decoded, ended, AreSteps, IsStep, happenings_at, happenings, handed_out_at, handed_out}
-use Rattle.broadcast_engine.specs.Counting.{count, counts, count_peer}
+use Rattle.broadcast_engine.specs.EngineHistory.{Step, swept, applied, refused, decoded, uncounted, ended, happenings_at, happenings, handed_out_at, handed_out}
+use Rattle.broadcast_engine.specs.StepLaws.{AreSteps, IsStep}
+use Rattle.broadcast_engine.specs.Counting.{counted_at, counted, gauge}
 use Rattle.broadcast_engine.specs.Ran.{Ran}
+use Rattle.broadcast_engine.proofs.Counting.{raised-none, raised-more, count-append}
 
 module _ {P M D S G : Type 0} where
   happenings-append : (later earlier : List (Step P M D S G)) → happenings (later ++ earlier) ≡ happenings later ++ happenings earlier
@@ -32,26 +35,29 @@ module _ {P M D W V : Type 0} (s : Setting P M D) where
   sent-append (e ∷ newer) older = ap (λ xs. xs ++ sent_at s e) (sent-append newer older) ∙ append_assoc (sent s older) (sent s newer) (sent_at s e)
 
 module _ {P M D S G : Type 0} (s : Setting P M D) where
-  AreSteps-append : (may_answer : Asker S → Bool → Type 0) (later earlier : List (Step P M D S G)) (past : History P M D (Asker S) (Asker G))
+  pub AreSteps-append : (may_answer : Asker S → Bool → Type 0) (later earlier : List (Step P M D S G)) (past : History P M D (Asker S) (Asker G))
       → AreSteps s may_answer later (happenings earlier ++ past) → AreSteps s may_answer earlier past → AreSteps s may_answer (later ++ earlier) past
   AreSteps-append may_answer [] earlier past new old = old
   AreSteps-append may_answer (step ∷ later) earlier past new old =
       (subst (IsStep s may_answer step) (sym (history-append later earlier past)) new.0, AreSteps-append may_answer later earlier past new.1 old)
 
-  counts-append : (later earlier : List (Step P M D S G)) (past : History P M D (Asker S) (Asker G)) (t : Totals)
-      → counts s (later ++ earlier) past t ≡ counts s later (happenings earlier ++ past) (counts s earlier past t)
-  counts-append [] earlier past t = refl
-  counts-append (step ∷ later) earlier past t =
-      ap (λ hs. count s step hs (counts s (later ++ earlier) past t)) (history-append later earlier past)
-      ∙ ap (λ u. count s step (happenings later ++ (happenings earlier ++ past)) u) (counts-append later earlier past t)
+  counted-append : (later earlier : List (Step P M D S G)) (past : History P M D (Asker S) (Asker G))
+      → counted s (later ++ earlier) past ≡ counted s earlier past ++ counted s later (happenings earlier ++ past)
+  counted-append [] earlier past = sym (append-nil (counted s earlier past))
+  counted-append (step ∷ later) earlier past =
+      ap (λ cs. cs ++ counted_at s step (happenings (later ++ earlier) ++ past)) (counted-append later earlier past)
+      ∙ append_assoc (counted s earlier past) (counted s later (happenings earlier ++ past)) (counted_at s step (happenings (later ++ earlier) ++ past))
+      ∙ ap (λ hs. counted s earlier past ++ (counted s later (happenings earlier ++ past) ++ counted_at s step hs)) (history-append later earlier past)
 
-  count_peer-append : (q : P) (later earlier : List (Step P M D S G)) (n : ℕ) → count_peer s q (later ++ earlier) n ≡ count_peer s q later (count_peer s q earlier n)
-  count_peer-append q [] earlier n = refl
-  count_peer-append q (swept test ∷ later) earlier n = count_peer-append q later earlier n
-  count_peer-append q (applied input replies ∷ later) earlier n = count_peer-append q later earlier n
-  count_peer-append q (refused input cause ∷ later) earlier n = count_peer-append q later earlier n
-  count_peer-append q (decoded p ∷ later) earlier n = ap (λ m. if s.same.key p q then counted (m + 1) else m) (count_peer-append q later earlier n)
-  count_peer-append q (ended ∷ later) earlier n = count_peer-append q later earlier n
+  gauge-append : (later earlier : List (Step P M D S G)) (past : History P M D (Asker S) (Asker G)) (n : ℕ)
+      → gauge s (later ++ earlier) past n ≡ gauge s later (happenings earlier ++ past) (gauge s earlier past n)
+  gauge-append [] earlier past n = refl
+  gauge-append (swept test ∷ later) earlier past n = ap (λ hs. length (awaited s (cleanup test ∷ hs))) (history-append later earlier past)
+  gauge-append (applied input replies ∷ later) earlier past n = gauge-append later earlier past n
+  gauge-append (refused input cause ∷ later) earlier past n = gauge-append later earlier past n
+  gauge-append (decoded p ∷ later) earlier past n = gauge-append later earlier past n
+  gauge-append (uncounted p c ∷ later) earlier past n = gauge-append later earlier past n
+  gauge-append (ended cause ∷ later) earlier past n = gauge-append later earlier past n
 
 module _ {P M D S G O N : Type 0} (s : Setting P M D) (may_answer : Asker S → Bool → Type 0)
     (outlet_told : O → Replies S G M D → Type 0) (sender_told : N → List (Sent P) → Type 0) where
@@ -60,8 +66,8 @@ module _ {P M D S G O N : Type 0} (s : Setting P M D) (may_answer : Asker S → 
   Ran-none past node sender has = record {
     lawful = tt;
     content = has;
-    totals = refl;
-    peers = λ q. refl;
+    counters = λ c. sym (raised-none (number_at s.same.key c node.metrics));
+    waiters = refl;
     replied = λ before h. subst (outlet_told node.outlet) (sym (append-nil before)) h;
     sends = λ before h. subst (sender_told sender) (sym (append-nil before)) h;
   }
@@ -74,8 +80,12 @@ module _ {P M D S G O N : Type 0} (s : Setting P M D) (may_answer : Asker S → 
   Ran-more past earlier later old mid new first between last begun more = record {
     lawful = AreSteps-append s may_answer later earlier past more.lawful begun.lawful;
     content = subst (λ hs. HasContent s hs new.core) (sym (history-append later earlier past)) more.content;
-    totals = more.totals ∙ ap (counts s later (happenings earlier ++ past)) begun.totals ∙ sym (counts-append s later earlier past old.metrics.totals);
-    peers = λ q. more.peers q ∙ ap (count_peer s q later) (begun.peers q) ∙ sym (count_peer-append s q later earlier (count_of s.same.key q old.metrics.peer));
+    counters = λ c.
+        let test = is_counted_as s.same.key c in
+        more.counters c ∙ ap (λ n. raised n (count_by test (counted s later (happenings earlier ++ past)))) (begun.counters c)
+        ∙ raised-more (number_at s.same.key c old.metrics) (count_by test (counted s earlier past)) (count_by test (counted s later (happenings earlier ++ past)))
+        ∙ ap (raised (number_at s.same.key c old.metrics)) (sym (ap (count_by test) (counted-append s later earlier past) ∙ count-append test (counted s earlier past) (counted s later (happenings earlier ++ past))));
+    waiters = more.waiters ∙ ap (gauge s later (happenings earlier ++ past)) begun.waiters ∙ sym (gauge-append s later earlier past old.metrics.totals.waiters);
     replied = λ before h. subst (outlet_told new.outlet) (append_assoc before (handed_out earlier) (handed_out later) ∙ ap (λ rs. before ++ rs) (sym (handed_out-append later earlier)))
         (more.replied (before ++ handed_out earlier) (begun.replied before h));
     sends = λ before h. subst (sender_told last) (append_assoc before (sent s (happenings earlier)) (sent s (happenings later))

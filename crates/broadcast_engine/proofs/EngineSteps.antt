@@ -20,6 +20,7 @@ use Rattle.broadcast_core.proofs.Stepping.{HasContent-peers, HasContent-arrival,
 use Rattle.broadcast_core.proofs.AwaitedCount.{awaited-counted}
 use Rattle.broadcast_core.proofs.Handing.{handed_by, outcome-taken, handed-arrival, handed-broadcast, handed-get, handed-subscribe}
 use Rattle.commonware_broadcast.specs.declared.buffered.ingress.message.Message.TheVariants.{Broadcast, Subscribe, Get}
+use Rattle.broadcast_engine.specs.declared.buffered.engine.input.EndCause.{EndCause}
 use Rattle.broadcast_engine.specs.declared.buffered.engine.input.Input.TheVariants.{Peers, Request, Arrived, Invalid}
 use Rattle.broadcast_engine.specs.declared.buffered.engine.node.Node.{Node}
 use Rattle.broadcast_engine.specs.declared.buffered.metrics.Counter.{Counter}
@@ -27,7 +28,7 @@ use Rattle.broadcast_engine.specs.declared.buffered.metrics.Status.TheVariants a
 use Rattle.broadcast_engine.specs.Counters.{Counters, added}
 use Rattle.broadcast_engine.specs.Replies.{Asker, got, reply_of, Replies}
 use Rattle.broadcast_engine.specs.EngineHistory.{applied, swept, ended}
-use Rattle.broadcast_engine.specs.Counting.{count_outcome, count_replies}
+use Rattle.broadcast_engine.specs.CountingCalls.{count_outcome, count_replies}
 use Rattle.broadcast_engine.specs.Handing.{Hands, Serves}
 use Rattle.broadcast_engine.specs.Ran.{Steps}
 
@@ -116,5 +117,5 @@ module _ {P M D S G O : Type 0} {s : Setting P M D} {same : Same P D} (is : s.sa
         },
       )
 
-  pub Steps-ended : (core : Content P M D (Asker S)) → KeepsStore same old.core core → core.waiters ≡ [] → Steps s may_answer told past ended old (record old { core = core })
-  Steps-ended core keeps none = record { lawful = tt; content = HasContent-clear_waiters is lawful has keeps none; counted = refl; replied = silent }
+  pub Steps-ended : (core : Content P M D (Asker S)) → KeepsStore same old.core core → core.waiters ≡ [] → (cause : EndCause) → Steps s may_answer told past (ended cause) old (record old { core = core })
+  Steps-ended core keeps none cause = record { lawful = tt; content = HasContent-clear_waiters is lawful has keeps none; counted = refl; replied = silent }

@@ -13,14 +13,16 @@ use Rattle.broadcast_engine.specs.declared.buffered.engine.input.Input.TheVarian
 use Rattle.broadcast_engine.specs.declared.buffered.engine.input.Turn.{Turn}
 use Rattle.broadcast_engine.specs.declared.buffered.engine.node.Node.{Node}
 use Rattle.broadcast_engine.specs.Replies.{Asker, Replies}
-use Rattle.broadcast_engine.specs.EngineHistory.{Step}
-use Rattle.broadcast_engine.specs.Polled.{Ends, Received, Comes, inputs, inputs_at, payload_input}
-use Rattle.broadcast_engine.specs.Fetched.{Fetched, IsRemote, HoldsJob, goes_on, pending_input, payload_inputs}
+use Rattle.broadcast_engine.specs.Sources.{given, given_ok}
+use Rattle.broadcast_engine.specs.EngineHistory.{Step, inputs}
+use Rattle.broadcast_engine.specs.Taken.{payload_input, payload_inputs, pending_input, sender_of, HoldsJob}
+use Rattle.broadcast_engine.specs.Polled.{Tells, Received, Comes}
+use Rattle.broadcast_engine.specs.Fetched.{Fetched, IsRemote, goes_on}
+use Rattle.broadcast_engine.proofs.Telling.{given-going_on, Tells-none}
 use Rattle.broadcast_engine.proofs.Composing.{Ran-none}
 
-module _ {P M D S G O N J : Type 0} (s : Setting P M D) (may_answer : Asker S → Bool → Type 0)
-    (outlet_told : O → Replies S G M D → Type 0) (sender_told : N → List (Sent P) → Type 0) (is_of : J → M → Type 0) where
-  IsRemote-one : (p : P) (read : Result M CodecError) → IsRemote (payload_input s may_answer outlet_told sender_told is_of p read ∷ [])
+module _ {P M D : Type 0} (s : Setting P M D) where
+  IsRemote-one : {S G : Type 0} (p : P) (read : Result M CodecError) → IsRemote (payload_input s {S = S} {G = G} p read ∷ [])
   IsRemote-one p (Ok m) = record { no_sets = refl; no_requests = refl; all = refl }
   IsRemote-one p (Err e) = record { no_sets = refl; no_requests = refl; all = refl }
 
@@ -29,50 +31,57 @@ module _ {P M D S G O N J R : Type 0} (s : Setting P M D) (may_answer : Asker S 
     (is_of : J → M → Type 0) (receiver_told : R → List (P × List ℕ) → Type 0) (past : History P M D (Asker S) (Asker G)) where
   -- the network gave nothing
   pub Fetched-none : (result : Poll (Result Turn EndCause)) (node : Node P M S O D) (sender : N) (receiver receiver' : R) (slot : Option (P × J)) → HasContent s past node.core
-      → Ends s result [] past → slot ≡ None → ((before : List (P × List ℕ)) → receiver_told receiver before → receiver_told receiver' (before ++ []))
+      → given_ok result ≡ [] → slot ≡ None → ((before : List (P × List ℕ)) → receiver_told receiver before → receiver_told receiver' (before ++ []))
       → Fetched s may_answer outlet_told sender_told is_of receiver_told past result node node sender sender receiver receiver' slot
   Fetched-none result node sender receiver receiver' slot has ends none given = record {
     steps = [];
     ran = Ran-none s may_answer outlet_told sender_told past node sender has;
-    turn = ends;
     remote = record { no_sets = refl; no_requests = refl; all = refl };
     received = [];
     given = given;
     pending = None;
     held = subst (λ x. HoldsJob is_of x None) (sym none) tt;
     flow = refl;
+    tells = Tells-none s past (given_ok result) ends;
   }
 
-  -- what a taken payload is: its turn, and the job that is pending now
-  record Flows (p : P) (bytes : List ℕ) (result : Poll Turn) (steps : List (Step P M D S G)) (slot : Option (P × J)) : Type 0 where
-    turn : Ends s (goes_on result) steps past
+  -- what a taken payload is: its input, or the message of the job that is pending now
+  record Flows (p : P) (bytes : List ℕ) (steps : List (Step P M D S G)) (slot : Option (P × J)) : Type 0 where
     remote : IsRemote (inputs steps)
     pending : Option (P × M)
     held : HoldsJob is_of slot pending
-    flow : payload_inputs s may_answer outlet_told sender_told is_of receiver_told ((p, bytes) ∷ []) ≡ inputs steps ++ pending_input s may_answer outlet_told sender_told is_of receiver_told pending
+    flow : payload_inputs s ((p, bytes) ∷ []) ≡ inputs steps ++ pending_input s pending
 
   flows : (p : P) (bytes : List ℕ) (read : Result M CodecError) → s.reading bytes ≡ read → (result : Poll Turn) (steps : List (Step P M D S G)) (slot : Option (P × J))
-      → Comes s may_answer outlet_told sender_told is_of p read result steps past slot → Flows p bytes result steps slot
-  flows p bytes read is (Ready turn) [] slot c = absurd c
-  flows p bytes read is (Ready turn) (step ∷ steps) slot c = record {
-    turn = (c.0, c.1);
-    remote = subst (λ l. IsRemote l) (sym (ap (λ l. l ++ inputs_at step) c.1 ∙ c.2)) (IsRemote-one s may_answer outlet_told sender_told is_of p read);
+      → Comes s is_of p read result steps slot → Flows p bytes steps slot
+  flows p bytes read is (Ready turn) steps slot c = record {
+    remote = subst (λ l. IsRemote l) (sym c.0) (IsRemote-one s p read);
     pending = None;
-    held = subst (λ x. HoldsJob is_of x None) (sym c.3) tt;
-    flow = ap (λ r. payload_input s may_answer outlet_told sender_told is_of p r ∷ []) is ∙ sym c.2 ∙ ap (λ l. l ++ inputs_at step) (sym c.1) ∙ sym (append-nil (inputs steps ++ inputs_at step));
+    held = subst (λ x. HoldsJob is_of x None) (sym c.1) tt;
+    flow = ap (λ r. payload_input s p r ∷ []) is ∙ sym c.0 ∙ sym (append-nil (inputs steps));
   }
   flows p bytes read is Pending steps slot (m, reads, none, (job, at, of_job)) = record {
-    turn = none;
     remote = subst (λ l. IsRemote l) (sym none) (record { no_sets = refl; no_requests = refl; all = refl });
     pending = Some (p, m);
     held = subst (λ x. HoldsJob is_of x (Some (p, m))) (sym at) (refl, of_job);
-    flow = ap (λ r. payload_input s may_answer outlet_told sender_told is_of p r ∷ []) (is ∙ reads) ∙ ap (λ l. l ++ input.Arrived p (own_digested s m) ∷ []) (sym none);
+    flow = ap (λ r. payload_input s p r ∷ []) (is ∙ reads) ∙ ap (λ l. l ++ input.Arrived p (own_digested s m) ∷ []) (sym none);
   }
 
   pub Fetched-received : (p : P) (bytes : List ℕ) (result : Poll Turn) (old new : Node P M S O D) (first last : N) (receiver receiver' : R) (slot : Option (P × J))
       → Received s may_answer outlet_told sender_told is_of past p bytes result old new first last slot
       → ((before : List (P × List ℕ)) → receiver_told receiver before → receiver_told receiver' (before ++ (p, bytes) ∷ []))
       → Fetched s may_answer outlet_told sender_told is_of receiver_told past (goes_on result) old new first last receiver receiver' slot
-  Fetched-received p bytes result old new first last receiver receiver' slot one given =
+  Fetched-received p bytes result old new first last receiver receiver' slot one gives =
       let f = flows p bytes (s.reading bytes) refl result one.steps slot one.comes in
-      record { steps = one.steps; ran = one.ran; turn = f.turn; remote = f.remote; received = (p, bytes) ∷ []; given = given; pending = f.pending; held = f.held; flow = f.flow }
+      record {
+        steps = one.steps;
+        ran = one.ran;
+        remote = f.remote;
+        received = (p, bytes) ∷ [];
+        given = gives;
+        pending = f.pending;
+        held = f.held;
+        flow = f.flow;
+        tells = subst (λ l. Tells s past one.steps l (sender_of s p (s.reading bytes) ++ [])) (sym (given-going_on result))
+            (subst (λ ps. Tells s past one.steps (given result) ps) (sym (append-nil (sender_of s p (s.reading bytes)))) one.tells);
+      }

@@ -4,7 +4,7 @@ use Rattle.broadcast_core.specs.Carried.{Carried}
 use Rattle.broadcast_core.specs.Handed.{to_subscribe}
 use Rattle.broadcast_engine.specs.Counters.{Totals, Counters}
 use Rattle.broadcast_engine.specs.Replies.{Asker, Replied, subscribed, reply_of, Replies}
-use Rattle.broadcast_engine.specs.Counting.{count_reply, count_replies}
+use Rattle.broadcast_engine.specs.CountingCalls.{count_reply, count_replies}
 use Rattle.broadcast_engine.specs.Handing.{Hands}
 
 module _ {S G A C : Type 0} where

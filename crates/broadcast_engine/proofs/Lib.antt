@@ -1,8 +1,11 @@
 pub mod PeerCounts
+pub mod Counting
 pub mod Handing
 pub mod EngineSteps
 pub mod Runs
 pub mod Composing
+pub mod Telling
+pub mod Due
 pub mod Polling
 pub mod Fetching
 pub mod Looking

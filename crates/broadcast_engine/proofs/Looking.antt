@@ -1,8 +1,7 @@
 -- One look at all sources.
 use Rattle.std.proofs.Common.{◌≡◌, ℕ, Bool, List, [], ◌∷◌, ◌++◌, Option, None, Result, sym, ap, ◌∙◌, subst, append-nil, append_assoc}
-use Rattle.std.specs.Prelude.{Ok, Err}
 use Rattle.futures.specs.declared.task.Poll.{Poll}
-use Rattle.futures.specs.declared.task.Poll.TheVariants.{Ready, Pending}
+use Rattle.futures.specs.declared.task.Poll.TheVariants.{Pending}
 use Rattle.broadcast_core.specs.Setting.{Setting}
 use Rattle.broadcast_core.specs.Happening.{History}
 use Rattle.broadcast_core.specs.declared.event.Sent.{Sent}
@@ -12,30 +11,20 @@ use Rattle.commonware_broadcast.specs.declared.buffered.ingress.request.Request.
 use Rattle.broadcast_engine.specs.declared.buffered.engine.input.Turn.{Turn}
 use Rattle.broadcast_engine.specs.declared.buffered.engine.node.Node.{Node}
 use Rattle.broadcast_engine.specs.Replies.{Asker, Replies}
-use Rattle.broadcast_engine.specs.EngineHistory.{Step, swept, happenings, turn_of}
-use Rattle.broadcast_engine.specs.Polled.{Ends, Polled, inputs, inputs_at, sets_in, requests_in, payloads_in}
-use Rattle.broadcast_engine.specs.Fetched.{Fetched, HoldsJob, pending_input}
+use Rattle.broadcast_engine.specs.Sources.{given_ok}
+use Rattle.broadcast_engine.specs.EngineHistory.{Step, swept, happenings, inputs}
+use Rattle.broadcast_engine.specs.Taken.{sets_in, requests_in, payloads_in, pending_input, senders_of, HoldsJob}
+use Rattle.broadcast_engine.specs.Polled.{Polled}
+use Rattle.broadcast_engine.specs.Fetched.{Fetched}
 use Rattle.broadcast_engine.specs.Looked.{Looked}
-use Rattle.broadcast_engine.proofs.Composing.{Ran-more, history-append}
+use Rattle.broadcast_engine.proofs.Composing.{Ran-more}
+use Rattle.broadcast_engine.proofs.Telling.{inputs-append, silent, Tells-more}
 use Rattle.broadcast_engine.proofs.Polling.{told-same}
 
 module _ {P M D S G : Type 0} where
-  pub inputs-append : (later earlier : List (Step P M D S G)) → inputs (later ++ earlier) ≡ inputs earlier ++ inputs later
-  inputs-append [] earlier = sym (append-nil (inputs earlier))
-  inputs-append (step ∷ later) earlier = ap (λ is. is ++ inputs_at step) (inputs-append later earlier) ∙ append_assoc (inputs earlier) (inputs later) (inputs_at step)
-
   -- the earlier steps have no input
-  pub inputs-after : (later earlier : List (Step P M D S G)) → inputs earlier ≡ [] → inputs (later ++ earlier) ≡ inputs later
+  inputs-after : (later earlier : List (Step P M D S G)) → inputs earlier ≡ [] → inputs (later ++ earlier) ≡ inputs later
   inputs-after later earlier none = inputs-append later earlier ∙ ap (λ is. is ++ inputs later) none
-
-module _ {P M D S G : Type 0} (s : Setting P M D) (past : History P M D (Asker S) (Asker G)) where
-  Ends-after : (result : Poll (Result Turn EndCause)) (later earlier : List (Step P M D S G)) → inputs earlier ≡ []
-      → Ends s result later (happenings earlier ++ past) → Ends s result (later ++ earlier) past
-  Ends-after (Ready (Ok turn)) [] earlier none h = absurd h
-  Ends-after (Ready (Ok turn)) (step ∷ later) earlier none h =
-      (ap (turn_of s step) (history-append later earlier past) ∙ h.0, inputs-after later earlier none ∙ h.1)
-  Ends-after (Ready (Err cause)) later earlier none h = inputs-after later earlier none ∙ h
-  Ends-after Pending later earlier none h = inputs-after later earlier none ∙ h
 
 module _ {P M D S G O N J R B Q : Type 0} (s : Setting P M D) (may_answer : Asker S → Bool → Type 0)
     (outlet_told : O → Replies S G M D → Type 0) (sender_told : N → List (Sent P) → Type 0)
@@ -50,7 +39,6 @@ module _ {P M D S G O N J R B Q : Type 0} (s : Setting P M D) (may_answer : Aske
     steps = one.steps;
     ran = one.ran;
     swept_first = one.swept_first;
-    turn = one.turn;
     sets = one.sets;
     requests = one.requests;
     received = [];
@@ -58,6 +46,7 @@ module _ {P M D S G O N J R B Q : Type 0} (s : Setting P M D) (may_answer : Aske
     pending = None;
     held = subst (λ x. HoldsJob is_of x None) (sym none) tt;
     flow = sym (append-nil (payloads_in (inputs one.steps)) ∙ one.local);
+    tells = one.tells;
   }
 
   -- the others gave nothing, and then the network was looked at
@@ -66,18 +55,18 @@ module _ {P M D S G O N J R B Q : Type 0} (s : Setting P M D) (may_answer : Aske
       → Fetched s may_answer outlet_told sender_told is_of receiver_told (happenings one.steps ++ past) result mid new between last receiver receiver' slot
       → Looked s may_answer outlet_told sender_told is_of receiver_told provider_told requests_told past result old new first last receiver receiver' provider provider' requests requests' slot
   Looked-network result old mid new first between last receiver receiver' provider provider' requests requests' slot one more =
-      let none : inputs one.steps ≡ [] = one.turn in
+      let none : inputs one.steps ≡ [] = silent s one.steps past one.tells.turned in
       let all : inputs (more.steps ++ one.steps) ≡ inputs more.steps = inputs-after more.steps one.steps none in
       record {
         steps = more.steps ++ one.steps;
         ran = Ran-more s may_answer outlet_told sender_told past one.steps more.steps old mid new first between last one.ran more.ran;
         swept_first = (one.swept_first.0, more.steps ++ one.swept_first.1, ap (λ l. more.steps ++ l) one.swept_first.2 ∙ sym (append_assoc more.steps one.swept_first.1 (swept one.swept_first.0 ∷ [])));
-        turn = Ends-after s past result more.steps one.steps none more.turn;
+        tells = Tells-more s past one.steps more.steps [] (given_ok result) [] (senders_of s more.received) one.tells more.tells;
         sets = λ before h. subst (λ l. provider_told provider' (before ++ l)) (ap sets_in none ∙ sym (ap sets_in all ∙ more.remote.no_sets)) (one.sets before h);
         requests = λ before h. subst (λ l. requests_told requests' (before ++ l)) (ap requests_in none ∙ sym (ap requests_in all ∙ more.remote.no_requests)) (one.requests before h);
         received = more.received;
         given = more.given;
         pending = more.pending;
         held = more.held;
-        flow = more.flow ∙ ap (λ l. l ++ pending_input s may_answer outlet_told sender_told is_of receiver_told more.pending) (sym (ap payloads_in all ∙ more.remote.all));
+        flow = more.flow ∙ ap (λ l. l ++ pending_input s more.pending) (sym (ap payloads_in all ∙ more.remote.all));
       }

@@ -1,5 +1,5 @@
 -- One poll.
-use Rattle.std.proofs.Common.{◌≡◌, ℕ, ◌+◌, Bool, if◌then◌else◌, List, [], ◌∷◌, ◌++◌, Option, Some, None, Result, true, false, is_ok, refl, sym, ap, ◌∙◌, subst, append-nil}
+use Rattle.std.proofs.Common.{◌≡◌, ℕ, Bool, if◌then◌else◌, List, [], ◌∷◌, ◌++◌, Option, Some, None, Result, true, false, is_ok, refl, sym, ap, ◌∙◌, subst, append-nil}
 use Rattle.futures.specs.Poll.{IfReady, OnPending}
 use Rattle.futures.specs.declared.task.Poll.{Poll}
 use Rattle.futures.specs.declared.task.Poll.TheVariants.{Ready, Pending}
@@ -7,7 +7,6 @@ use Rattle.std.specs.Prelude.{Ok, Err}
 use Rattle.broadcast_core.specs.Setting.{Setting, own_digested}
 use Rattle.broadcast_core.specs.Content.{Same}
 use Rattle.broadcast_core.specs.HasContent.{HasContent}
-use Rattle.broadcast_core.specs.Waiters.{counted}
 use Rattle.broadcast_core.specs.Happening.{History, cleanup}
 use Rattle.broadcast_core.specs.declared.codec.CodecError.{CodecError}
 use Rattle.broadcast_core.specs.declared.event.Cause.TheVariants.{Memory}
@@ -20,13 +19,17 @@ use Rattle.broadcast_engine.specs.declared.buffered.engine.input.Turn.{Turn}
 use Rattle.broadcast_engine.specs.declared.buffered.engine.input.Turn.TheVariants as turn
 use Rattle.broadcast_engine.specs.declared.buffered.engine.node.Node.{Node}
 use Rattle.broadcast_engine.specs.declared.buffered.engine.input.Input.TheVariants as input
-use Rattle.broadcast_engine.specs.Counters.{Counters, count_of}
+use Rattle.broadcast_engine.specs.Counters.{Counters, Totals, raised, count_of, number_at}
 use Rattle.broadcast_engine.specs.Replies.{Asker, Replies}
-use Rattle.broadcast_engine.specs.EngineHistory.{Step, swept, applied, refused, decoded, ended}
-use Rattle.broadcast_engine.specs.Ran.{Steps, Ran, Applied, IsOf}
-use Rattle.broadcast_engine.specs.Polled.{Polled, Ends, Started, Received, Arrives, Comes, payload_input, inputs_at, sets_in, requests_in, payloads_in}
-use Rattle.broadcast_engine.proofs.Runs.{Ran-one, Applied-refused}
+use Rattle.broadcast_engine.specs.EngineHistory.{Step, swept, decoded, uncounted, inputs_at}
+use Rattle.broadcast_engine.specs.Sources.{given, given_ok}
+use Rattle.broadcast_engine.specs.Ran.{Steps, Ran, Applied}
+use Rattle.broadcast_engine.specs.Taken.{payload_input, sender_of, sets_in, requests_in, payloads_in}
+use Rattle.broadcast_engine.specs.Polled.{Tells, Polled, Started, Received, Arrives, Comes}
+use Rattle.broadcast_engine.proofs.Runs.{Ran-one}
 use Rattle.broadcast_engine.proofs.Composing.{Ran-more}
+use Rattle.broadcast_engine.proofs.Counting.{raised-none, decoded-counted}
+use Rattle.broadcast_engine.proofs.Telling.{input-at, Tells-input}
 
 -- what is ready meets what follows from what it met
 pub IfReady-weaker : {A : Type 0} (r : Poll A) (X Y : A → Type 0) → ((a : A) → X a → Y a) → IfReady r X → IfReady r Y
@@ -37,29 +40,20 @@ IfReady-weaker Pending X Y f h = tt
 pub told-same : {X A : Type 0} (told : X → List A → Type 0) (x : X) (before : List A) → told x before → told x (before ++ [])
 told-same told x before h = subst (told x) (sym (append-nil before)) h
 
-module _ {P M D S G O N : Type 0} (s : Setting P M D) (may_answer : Asker S → Bool → Type 0)
-    (outlet_told : O → Replies S G M D → Type 0) (sender_told : N → List (Sent P) → Type 0) where
-  pub input-at : (input : Input P M S G D) (step : Step P M D S G) → IsOf s may_answer outlet_told sender_told input step → inputs_at step ≡ input ∷ []
-  input-at input (applied given replies) h = ap (λ i. i ∷ []) h
-  input-at input (refused given cause) h = ap (λ i. i ∷ []) h
-  input-at input (swept other) h = absurd h
-  input-at input (decoded p) h = absurd h
-  input-at input ended h = absurd h
-
 module _ {P M D S G O N B Q : Type 0} (s : Setting P M D) (may_answer : Asker S → Bool → Type 0)
     (outlet_told : O → Replies S G M D → Type 0) (sender_told : N → List (Sent P) → Type 0)
     (provider_told : B → List (List P) → Type 0) (requests_told : Q → List (Request (Message P M S G D)) → Type 0)
     (past : History P M D (Asker S) (Asker G)) (old mid : Node P M S O D) (sender : N)
     (test : ℕ → Asker S → Bool) (cleaned : Steps s may_answer outlet_told past (swept test) old mid) where
   cleaning : Ran s may_answer outlet_told sender_told past (swept test ∷ []) old mid sender sender
-  cleaning = Ran-one s may_answer outlet_told sender_told past (swept test) old mid sender sender cleaned (λ q n. refl) (λ before h. told-same sender_told sender before h)
+  cleaning = Ran-one s may_answer outlet_told sender_told past (swept test) old mid sender sender cleaned tt (λ before h. told-same sender_told sender before h)
 
   -- no source gave an input
-  pub Polled-idle : (result : Poll (Result Turn EndCause)) (provider provider' : B) (requests requests' : Q) → Ends s result (swept test ∷ []) past
+  pub Polled-idle : (result : Poll (Result Turn EndCause)) (provider provider' : B) (requests requests' : Q) → given_ok result ≡ []
       → ((before : List (List P)) → provider_told provider before → provider_told provider' (before ++ []))
       → ((before : List (Request (Message P M S G D))) → requests_told requests before → requests_told requests' (before ++ []))
       → Polled s may_answer outlet_told sender_told provider_told requests_told past result old mid sender sender provider provider' requests requests'
-  Polled-idle result provider provider' requests requests' ends sets asked = record { steps = swept test ∷ []; ran = cleaning; local = refl; swept_first = (test, [], refl); turn = ends; sets = sets; requests = asked }
+  Polled-idle result provider provider' requests requests' ends sets asked = record { steps = swept test ∷ []; ran = cleaning; tells = record { turned = sym ends; goes_on = refl; read = refl }; local = refl; swept_first = (test, [], refl); sets = sets; requests = asked }
 
   -- a source gave one, which was applied or refused
   pub Polled-input : (input : Input P M S G D) (turn : Turn) (new : Node P M S O D) (last : N) (provider provider' : B) (requests requests' : Q)
@@ -68,13 +62,13 @@ module _ {P M D S G O N B Q : Type 0} (s : Setting P M D) (may_answer : Asker S 
       → ((before : List (Request (Message P M S G D))) → requests_told requests before → requests_told requests' (before ++ requests_in (input ∷ [])))
       → Polled s may_answer outlet_told sender_told provider_told requests_told past (Ready (Ok turn)) old new sender last provider provider' requests requests'
   Polled-input input turn new last provider provider' requests requests' one kind sets asked =
-      let is : inputs_at one.step ≡ input ∷ [] = input-at s may_answer outlet_told sender_told input one.step one.of_input in
+      let is : inputs_at one.step ≡ input ∷ [] = input-at input one.step one.of_input in
       record {
         steps = one.step ∷ swept test ∷ [];
         ran = Ran-more s may_answer outlet_told sender_told past (swept test ∷ []) (one.step ∷ []) old mid new sender sender last cleaning one.ran;
         local = ap payloads_in is ∙ kind;
         swept_first = (test, one.step ∷ [], refl);
-        turn = (one.turned, refl);
+        tells = Tells-input s past input turn one.step (swept test ∷ []) [] refl refl one.of_input one.turned;
         sets = λ before h. subst (λ is. provider_told provider' (before ++ sets_in is)) (sym is) (sets before h);
         requests = λ before h. subst (λ is. requests_told requests' (before ++ requests_in is)) (sym is) (asked before h);
       }
@@ -84,24 +78,32 @@ module _ {P M D S G O N J : Type 0} (s : Setting P M D) (may_answer : Asker S �
     (is_of : J → M → Type 0) (past : History P M D (Asker S) (Asker G)) (p : P) (m : M) where
   -- a payload was decoded, and counted
   pub Ran-decoded : {same : Same P D} (is : s.same ≡ same) (old : Node P M S O D) (counters : Counters P) (sender : N) → HasContent s past old.core
-      → ((q : P) → count_of same.key q counters.peer ≡ (if same.key p q then counted (count_of same.key q old.metrics.peer + 1) else count_of same.key q old.metrics.peer))
+      → ((q : P) → count_of same.key q counters.peer ≡ (if same.key p q then raised (count_of same.key q old.metrics.peer) 1 else count_of same.key q old.metrics.peer))
       → counters.totals ≡ old.metrics.totals → Ran s may_answer outlet_told sender_told past (decoded p ∷ []) old (record old { metrics = counters }) sender sender
   Ran-decoded is old counters sender has one stays = record {
     lawful = (tt, tt);
     content = has;
-    totals = stays;
-    peers = λ q. subst (λ a. count_of a.key q counters.peer ≡ (if a.key p q then counted (count_of a.key q old.metrics.peer + 1) else count_of a.key q old.metrics.peer)) (sym is) (one q);
+    counters = λ c. decoded-counted s past p is old.metrics counters c one stays;
+    waiters = ap (λ (t : Totals). t.waiters) stays;
     replied = λ before h. told-same outlet_told old.outlet before h;
     sends = λ before h. told-same sender_told sender before h;
   }
 
   -- it was refused before it was counted
-  pub Started-uncounted : (turn : Turn) (old new : Node P M S O D) (first last : N) → Applied s may_answer outlet_told sender_told past (input.Arrived p (own_digested s m)) turn old new first last
-      → Started s may_answer outlet_told sender_told is_of past p m (Ready turn) old new first last None
-  Started-uncounted turn old new first last one = record {
-    steps = one.step ∷ [];
-    ran = one.ran;
-    arrives = (one.turned, refl, input-at s may_answer outlet_told sender_told (input.Arrived p (own_digested s m)) one.step one.of_input, refl);
+  pub Started-uncounted : (old new : Node P M S O D) (sender : N) → HasContent s past old.core → new ≡ old
+      → Started s may_answer outlet_told sender_told is_of past p m (Ready (turn.Refused Memory)) old new sender sender None
+  Started-uncounted old new sender has same = record {
+    steps = uncounted p (own_digested s m) ∷ [];
+    ran = subst (λ n. Ran s may_answer outlet_told sender_told past (uncounted p (own_digested s m) ∷ []) old n sender sender) (sym same) (record {
+      lawful = (tt, tt);
+      content = has;
+      counters = λ c. sym (raised-none (number_at s.same.key c old.metrics));
+      waiters = refl;
+      replied = λ before h. told-same outlet_told old.outlet before h;
+      sends = λ before h. told-same sender_told sender before h;
+    });
+    tells = record { turned = refl; goes_on = refl; read = refl };
+    arrives = (refl, refl);
   }
 
   -- it was applied or refused after that
@@ -111,7 +113,8 @@ module _ {P M D S G O N J : Type 0} (s : Setting P M D) (may_answer : Asker S �
   Started-ready turn old mid new first last slot began one none = record {
     steps = one.step ∷ decoded p ∷ [];
     ran = Ran-more s may_answer outlet_told sender_told past (decoded p ∷ []) (one.step ∷ []) old mid new first first last began one.ran;
-    arrives = (one.turned, refl, input-at s may_answer outlet_told sender_told (input.Arrived p (own_digested s m)) one.step one.of_input, none);
+    tells = Tells-input s past (input.Arrived p (own_digested s m)) turn one.step (decoded p ∷ []) (p ∷ []) refl refl one.of_input one.turned;
+    arrives = (input-at (input.Arrived p (own_digested s m)) one.step one.of_input, none);
   }
 
   -- its job is pending
@@ -122,6 +125,7 @@ module _ {P M D S G O N J : Type 0} (s : Setting P M D) (may_answer : Asker S �
     steps = decoded p ∷ [];
     ran = subst (λ n. Ran s may_answer outlet_told sender_told past (decoded p ∷ []) old n first last) (sym same_node)
         (subst (λ n. Ran s may_answer outlet_told sender_told past (decoded p ∷ []) old mid first n) (sym same_sender) began);
+    tells = record { turned = refl; goes_on = refl; read = refl };
     arrives = (refl, job);
   }
 
@@ -138,16 +142,20 @@ module _ {P M D S G O N J : Type 0} (s : Setting P M D) (may_answer : Asker S �
   Started-polled Pending digest_of own old mid new first last slot began one none job same = Started-pending old mid new first last slot began same.0 same.1 job
 
   comes : (read : Result M CodecError) → read ≡ Ok m → (result : Poll Turn) (steps : List (Step P M D S G)) (slot : Option (P × J))
-      → Arrives s may_answer outlet_told sender_told is_of p m result steps past slot → Comes s may_answer outlet_told sender_told is_of p read result steps past slot
-  comes read is (Ready turn) [] slot a = absurd a
-  comes read is (Ready turn) (step ∷ steps) slot a = (a.0, a.1, a.2 ∙ ap (λ r. payload_input s may_answer outlet_told sender_told is_of p r ∷ []) (sym is), a.3)
+      → Arrives s is_of p m result steps slot → Comes s is_of p read result steps slot
+  comes read is (Ready turn) steps slot a = (a.0 ∙ ap (λ r. payload_input s p r ∷ []) (sym is), a.1)
   comes read is Pending steps slot a = (m, is, a.0, a.1)
 
   -- a payload that reads whole as the message
   pub Received-started : (bytes : List ℕ) (result : Poll Turn) (old new : Node P M S O D) (first last : N) (slot : Option (P × J)) → s.reading bytes ≡ Ok m
       → Started s may_answer outlet_told sender_told is_of past p m result old new first last slot
       → Received s may_answer outlet_told sender_told is_of past p bytes result old new first last slot
-  Received-started bytes result old new first last slot is started = record { steps = started.steps; ran = started.ran; comes = comes (s.reading bytes) is result started.steps slot started.arrives }
+  Received-started bytes result old new first last slot is started = record {
+    steps = started.steps;
+    ran = started.ran;
+    tells = subst (λ r. Tells s past started.steps (given result) (sender_of s p r)) (sym is) started.tells;
+    comes = comes (s.reading bytes) is result started.steps slot started.arrives;
+  }
 
 -- what reads whole reads as some message
 pub some_ok : {M E : Type 0} (r : Result M E) → is_ok r ≡ true → (m : M) × (r ≡ Ok m)
@@ -164,7 +172,8 @@ module _ {P M D S G O N J : Type 0} (s : Setting P M D) (may_answer : Asker S �
   Received-invalid bytes error turn old new first last is one = record {
     steps = one.step ∷ [];
     ran = one.ran;
-    comes = (one.turned, refl, input-at s may_answer outlet_told sender_told (input.Invalid error) one.step one.of_input ∙ ap (λ r. payload_input s may_answer outlet_told sender_told is_of p r ∷ []) (sym is), refl);
+    tells = subst (λ r. Tells s past (one.step ∷ []) (turn ∷ []) (sender_of s p r)) (sym is) (Tells-input s past (input.Invalid error) turn one.step [] [] refl refl one.of_input one.turned);
+    comes = (input-at (input.Invalid error) one.step one.of_input ∙ ap (λ r. payload_input s p r ∷ []) (sym is), refl);
   }
 
   -- a payload that was refused before it was decoded
@@ -175,5 +184,4 @@ module _ {P M D S G O N J : Type 0} (s : Setting P M D) (may_answer : Asker S �
       subst (λ t. Received s may_answer outlet_told sender_told is_of past p bytes (Ready t) old new first last None) (sym same.0)
       (subst (λ n. Received s may_answer outlet_told sender_told is_of past p bytes (Ready (turn.Refused Memory)) old new first n None) (sym same.2)
       (Received-started s may_answer outlet_told sender_told is_of past p read.0 bytes (Ready (turn.Refused Memory)) old new first first None read.1
-      (Started-uncounted s may_answer outlet_told sender_told is_of past p read.0 (turn.Refused Memory) old new first first
-      (Applied-refused s may_answer outlet_told sender_told past (input.Arrived p (own_digested s read.0)) Memory old new first has same.1 tt))))
+      (Started-uncounted s may_answer outlet_told sender_told is_of past p read.0 old new first has same.1)))

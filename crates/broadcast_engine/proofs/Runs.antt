@@ -19,10 +19,11 @@ use Rattle.broadcast_engine.specs.declared.buffered.engine.input.Input.TheVarian
 use Rattle.broadcast_engine.specs.declared.buffered.engine.input.Turn.{Turn}
 use Rattle.broadcast_engine.specs.declared.buffered.engine.input.Turn.TheVariants as turn
 use Rattle.broadcast_engine.specs.declared.buffered.engine.node.Node.{Node}
-use Rattle.broadcast_engine.specs.Counters.{Counters, count_of}
+use Rattle.broadcast_engine.specs.Counters.{Counters, number_at}
 use Rattle.broadcast_engine.specs.Replies.{Asker, Replies}
-use Rattle.broadcast_engine.specs.EngineHistory.{Step, applied, refused, happening_of, happenings_at, turn_of, MayRefuse, MayRefuseRequest}
-use Rattle.broadcast_engine.specs.Counting.{count_peer}
+use Rattle.broadcast_engine.specs.EngineHistory.{Step, applied, refused, happening_of, happenings_at, turns_at}
+use Rattle.broadcast_engine.specs.StepLaws.{MayRefuse, MayRefuseRequest}
+use Rattle.broadcast_engine.proofs.Counting.{IsNotDecoded, step-counted, step-waits}
 use Rattle.broadcast_engine.specs.Ran.{Steps, Ran, Applied}
 
 module _ {P M D S G O N : Type 0} (s : Setting P M D) (may_answer : Asker S → Bool → Type 0)
@@ -30,27 +31,27 @@ module _ {P M D S G O N : Type 0} (s : Setting P M D) (may_answer : Asker S → 
     (past : History P M D (Asker S) (Asker G)) where
   -- one step, and what was sent at it
   pub Ran-one : (step : Step P M D S G) (old new : Node P M S O D) (first last : N) → Steps s may_answer outlet_told past step old new
-      → ((q : P) (n : ℕ) → count_peer s q (step ∷ []) n ≡ n)
+      → IsNotDecoded step
       → ((sends : List (Sent P)) → sender_told first sends → sender_told last (sends ++ sent s (happenings_at step)))
       → Ran s may_answer outlet_told sender_told past (step ∷ []) old new first last
-  Ran-one step old new first last steps peers sends = record {
+  Ran-one step old new first last steps quiet sends = record {
     lawful = (steps.lawful, tt);
     content = subst (λ hs. HasContent s (hs ++ past) new.core) (sym (append-nil (happenings_at step))) steps.content;
-    totals = ap (λ (c : Counters P). c.totals) steps.counted;
-    peers = λ q. ap (λ (c : Counters P). count_of s.same.key q c.peer) steps.counted ∙ sym (peers q (count_of s.same.key q old.metrics.peer));
+    counters = λ c. ap (number_at s.same.key c) steps.counted ∙ step-counted s past step c old.metrics quiet;
+    waiters = ap (λ (m : Counters P). m.totals.waiters) steps.counted ∙ step-waits s past step old.metrics.totals;
     replied = steps.replied;
     sends = λ before h. subst (λ hs. sender_told last (before ++ sent s hs)) (sym (append-nil (happenings_at step))) (sends before h);
   }
 
   -- an input at which nothing is sent
   pub Applied-silent : (input : Input P M S G D) (replies : Replies S G M D) (result : Turn) (old new : Node P M S O D) (sender : N)
-      → Steps s may_answer outlet_told past (applied input replies) old new → turn_of s (applied input replies) past ≡ Some result → sent s (happening_of input) ≡ []
+      → Steps s may_answer outlet_told past (applied input replies) old new → turns_at s (applied input replies) past ≡ result ∷ [] → sent s (happening_of input) ≡ []
       → Applied s may_answer outlet_told sender_told past input result old new sender sender
   Applied-silent input replies result old new sender steps turned none = record {
     step = applied input replies;
     of_input = refl;
     turned = turned;
-    ran = Ran-one (applied input replies) old new sender sender steps (λ q n. refl)
+    ran = Ran-one (applied input replies) old new sender sender steps tt
         (λ before h. subst (λ xs. sender_told sender (before ++ xs)) (sym none) (subst (sender_told sender) (sym (append-nil before)) h));
   }
 
@@ -67,7 +68,7 @@ module _ {P M D S G O N : Type 0} (s : Setting P M D) (may_answer : Asker S → 
           counted = refl;
           replied = λ replies h. subst (outlet_told old.outlet) (sym (append-nil replies)) h;
         }))
-        (λ q n. refl) (λ before h. subst (sender_told sender) (sym (append-nil before)) h);
+        tt (λ before h. subst (sender_told sender) (sym (append-nil before)) h);
   }
 
   pub Applied-broadcast : (r : Recipients P) (c : Carried M D) (ticket : ℕ) (counted : Bool) (bytes : List ℕ) (priority : Bool) (out : Outcome)
@@ -79,8 +80,8 @@ module _ {P M D S G O N : Type 0} (s : Setting P M D) (may_answer : Asker S → 
   Applied-broadcast r c ticket counted bytes priority out replies old new first last steps is encoding flag sends = record {
     step = applied (Request (record { ticket = ticket; message = Broadcast r c; counted = counted })) replies;
     of_input = refl;
-    turned = ap (λ o. Some (turn.Broadcast o)) (sym is);
-    ran = Ran-one (applied (Request (record { ticket = ticket; message = Broadcast r c; counted = counted })) replies) old new first last steps (λ q n. refl)
+    turned = ap (λ o. turn.Broadcast o ∷ []) (sym is);
+    ran = Ran-one (applied (Request (record { ticket = ticket; message = Broadcast r c; counted = counted })) replies) old new first last steps tt
         (λ before h. subst (λ xs. sender_told last (before ++ xs)) (ap (λ f. record { recipients = r; bytes = bytes; priority = f } ∷ []) (sym flag) ∙ ap (sending s r) (sym encoding)) (sends before h));
   }
 

@@ -1,6 +1,6 @@
 -- One poll of an engine that has not ended.
-use Rattle.std.specs.Prelude.{Ok}
-use Rattle.std.proofs.Common.{◌≡◌, ℕ, Bool, List, [], ◌∷◌, ◌++◌, Option, Some, None, Result, refl, sym, ap, ◌∙◌, subst, append-nil}
+use Rattle.std.specs.Prelude.{Ok, Err}
+use Rattle.std.proofs.Common.{inl, inr, ◌≡◌, ℕ, Bool, List, [], ◌∷◌, ◌++◌, Option, Some, None, Result, refl, sym, ap, ◌∙◌, subst, append-nil}
 use Rattle.futures.specs.Poll.{IfReady, OnPending}
 use Rattle.futures.specs.declared.task.Poll.{Poll}
 use Rattle.futures.specs.declared.task.Poll.TheVariants.{Ready, Pending}
@@ -10,18 +10,22 @@ use Rattle.broadcast_core.specs.HasContent.{HasContent}
 use Rattle.broadcast_core.specs.declared.event.Sent.{Sent}
 use Rattle.commonware_broadcast.specs.declared.buffered.ingress.message.Message.{Message}
 use Rattle.broadcast_engine.specs.declared.buffered.engine.input.EndCause.{EndCause}
+use Rattle.broadcast_engine.specs.declared.buffered.engine.input.EndCause.TheVariants.{Stopped}
 use Rattle.broadcast_engine.specs.declared.buffered.engine.input.Input.TheVariants as input
 use Rattle.commonware_broadcast.specs.declared.buffered.ingress.request.Request.{Request}
 use Rattle.broadcast_engine.specs.declared.buffered.engine.input.Turn.{Turn}
 use Rattle.broadcast_engine.specs.declared.buffered.engine.node.Node.{Node}
 use Rattle.broadcast_engine.specs.Replies.{Asker, Replies}
 use Rattle.broadcast_engine.specs.Ran.{Ran, Applied}
-use Rattle.broadcast_engine.specs.Polled.{Ends, inputs_at, sets_in, requests_in, payloads_in}
-use Rattle.broadcast_engine.specs.Fetched.{HoldsJob, goes_on, pending_input}
+use Rattle.broadcast_engine.specs.Sources.{given_ok}
+use Rattle.broadcast_engine.specs.EngineHistory.{inputs_at}
+use Rattle.broadcast_engine.specs.Taken.{sets_in, requests_in, payloads_in, pending_input, HoldsJob}
+use Rattle.broadcast_engine.specs.Fetched.{goes_on}
 use Rattle.broadcast_engine.specs.Looked.{Looked}
 use Rattle.broadcast_engine.specs.Woken.{Woken}
 use Rattle.broadcast_engine.proofs.Composing.{Ran-none}
-use Rattle.broadcast_engine.proofs.Polling.{told-same, input-at}
+use Rattle.broadcast_engine.proofs.Polling.{told-same}
+use Rattle.broadcast_engine.proofs.Telling.{input-at, Tells-none, Tells-input}
 
 module _ {P M D S G O N J R B Q : Type 0} (s : Setting P M D) (may_answer : Asker S → Bool → Type 0)
     (outlet_told : O → Replies S G M D → Type 0) (sender_told : N → List (Sent P) → Type 0)
@@ -35,19 +39,21 @@ module _ {P M D S G O N J R B Q : Type 0} (s : Setting P M D) (may_answer : Aske
 
   -- nothing was looked at
   pub Woken-idle : (before : Option (P × M)) (result : Poll (Result Turn EndCause)) (old new : Node P M S O D) (first last : N) (slot : Option (P × J))
-      → Ran s may_answer outlet_told sender_told past [] old new first last → Ends s result [] past → HoldsJob is_of slot before
+      → Ran s may_answer outlet_told sender_told past [] old new first last → given_ok result ≡ [] → (before ≡ None → result ≡ Ready (Err Stopped)) → HoldsJob is_of slot before
       → Woken s may_answer outlet_told sender_told is_of receiver_told provider_told requests_told past before result old new first last receiver receiver provider provider requests requests' slot
-  Woken-idle before result old new first last slot ran turn held = record {
+  Woken-idle before result old new first last slot ran none stops held = record {
     steps = [];
     ran = ran;
-    turn = turn;
     sets = λ told h. told-same provider_told provider told h;
     requests = λ told h. asked-none told h;
     received = [];
     given = λ told h. told-same receiver_told receiver told h;
     pending = before;
     held = held;
-    flow = append-nil (pending_input s may_answer outlet_told sender_told is_of receiver_told before);
+    flow = append-nil (pending_input s before);
+    tells = Tells-none s past (given_ok result) none;
+    job_alone = λ message is. record { provider = refl; receiver = refl; requests = refl };
+    swept_first = λ is. inl (stops is, record { provider = refl; receiver = refl; requests = refl });
   }
 
   -- the pending job was ready
@@ -55,11 +61,10 @@ module _ {P M D S G O N J R B Q : Type 0} (s : Setting P M D) (may_answer : Aske
       → Applied s may_answer outlet_told sender_told past (input.Arrived p (own_digested s m)) turn old new first last
       → Woken s may_answer outlet_told sender_told is_of receiver_told provider_told requests_told past (Some (q, m)) (Ready (Ok turn)) old new first last receiver receiver provider provider requests requests' slot
   Woken-ready p q m same turn old new first last slot none one =
-      let is : inputs_at one.step ≡ input.Arrived p (own_digested s m) ∷ [] = input-at s may_answer outlet_told sender_told (input.Arrived p (own_digested s m)) one.step one.of_input in
+      let is : inputs_at one.step ≡ input.Arrived p (own_digested s m) ∷ [] = input-at (input.Arrived p (own_digested s m)) one.step one.of_input in
       record {
         steps = one.step ∷ [];
         ran = one.ran;
-        turn = (one.turned, refl);
         sets = λ told h. subst (λ l. provider_told provider (told ++ sets_in l)) (sym is) (told-same provider_told provider told h);
         requests = λ told h. subst (λ l. requests_told requests' (told ++ requests_in l)) (sym is) (asked-none told h);
         received = [];
@@ -67,6 +72,9 @@ module _ {P M D S G O N J R B Q : Type 0} (s : Setting P M D) (may_answer : Aske
         pending = None;
         held = subst (λ x. HoldsJob is_of x None) (sym none) tt;
         flow = ap (λ x. input.Arrived x (own_digested s m) ∷ []) (sym same) ∙ sym (ap payloads_in is) ∙ sym (append-nil (payloads_in (inputs_at one.step)));
+        tells = Tells-input s past (input.Arrived p (own_digested s m)) turn one.step [] [] refl refl one.of_input one.turned;
+        job_alone = λ message at. record { provider = refl; receiver = refl; requests = ap requests_in is };
+        swept_first = λ at. absurd (let no : Some (q, m) ≡ None = at in cc);
       }
 
   -- a job was pending
@@ -85,7 +93,7 @@ module _ {P M D S G O N J R B Q : Type 0} (s : Setting P M D) (may_answer : Aske
       Woken-idle (Some (q, m)) Pending old new first last slot
       (subst (λ n. Ran s may_answer outlet_told sender_told past [] old n first last) (sym same.0)
       (subst (λ n. Ran s may_answer outlet_told sender_told past [] old old first n) (sym same.1) (Ran-none s may_answer outlet_told sender_told past old first has)))
-      refl (subst (λ x. HoldsJob is_of x (Some (q, m))) (sym left.1) (held.0, left.2))
+      refl (λ at. absurd (let no : Some (q, m) ≡ None = at in cc)) (subst (λ x. HoldsJob is_of x (Some (q, m))) (sym left.1) (held.0, left.2))
 
   -- none was pending, and the sources were looked at
   pub Woken-looked : (before : Option (P × M)) → HoldsJob {P = P} {M = M} {J = J} is_of None before → (result : Poll (Result Turn EndCause)) (old new : Node P M S O D) (first last : N) (receiver' : R) (provider' : B) (requests'' : Q) (slot : Option (P × J))
@@ -94,7 +102,6 @@ module _ {P M D S G O N J R B Q : Type 0} (s : Setting P M D) (may_answer : Aske
   Woken-looked None held result old new first last receiver' provider' requests'' slot one = record {
     steps = one.steps;
     ran = one.ran;
-    turn = one.turn;
     sets = one.sets;
     requests = λ told h. one.requests told (tells told h);
     received = one.received;
@@ -102,5 +109,8 @@ module _ {P M D S G O N J R B Q : Type 0} (s : Setting P M D) (may_answer : Aske
     pending = one.pending;
     held = one.held;
     flow = one.flow;
+    tells = one.tells;
+    job_alone = λ message at. absurd (let no : None ≡ Some message = at in cc);
+    swept_first = λ at. inr one.swept_first;
   }
   Woken-looked (Some message) held result old new first last receiver' provider' requests'' slot one = absurd held

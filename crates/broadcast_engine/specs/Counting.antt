@@ -1,11 +1,9 @@
 -- What the steps of an engine count.
-use Rattle.std.specs.Prelude.{ℕ, ◌+◌, true, false, if◌then◌else◌, List, [], ◌∷◌, ◌++◌, map, length, Option, None, Some}
-use Rattle.broadcast_core.specs.Content.{first_places}
+use Rattle.std.specs.Prelude.{ℕ, true, false, List, [], ◌∷◌, ◌++◌, map, length, Option, None, Some}
+use Rattle.std.specs.List.{filter}
 use Rattle.broadcast_core.specs.Setting.{Setting}
 use Rattle.broadcast_core.specs.Happening.{History, cleanup}
-use Rattle.broadcast_core.specs.Waiting.{waiting}
-use Rattle.broadcast_core.specs.HasContent.{named_by}
-use Rattle.broadcast_core.specs.Waiters.{counted}
+use Rattle.broadcast_core.specs.Waiting.{waiting, awaited}
 use Rattle.broadcast_core.specs.Answers.{outcome}
 use Rattle.broadcast_core.specs.declared.outcome.Outcome.{Outcome}
 use Rattle.broadcast_core.specs.declared.outcome.Outcome.TheVariants.{Inserted, Duplicate, Ineligible}
@@ -13,58 +11,50 @@ use Rattle.broadcast_engine.specs.declared.buffered.engine.input.Input.{Input}
 use Rattle.broadcast_engine.specs.declared.buffered.engine.input.Input.TheVariants.{Arrived, Invalid}
 use Rattle.broadcast_engine.specs.declared.buffered.metrics.Status.TheVariants.{Success, Failure, Dropped}
 use Rattle.broadcast_engine.specs.declared.buffered.metrics.Status.TheVariants as status
-use Rattle.broadcast_engine.specs.Counters.{Totals, added}
+use Rattle.broadcast_engine.specs.Counters.{Counted, peer, receive, subscribe, get}
 use Rattle.broadcast_engine.specs.Replies.{Asker, Replied, subscribed, got}
 use Rattle.broadcast_engine.specs.EngineHistory.{Step, swept, applied, decoded, happenings}
 
-module _ {S G A C : Type 0} where
-  -- a reply is counted by whether it was delivered, and a delivered one to a get by whether it
-  -- has a message
-  abbrev pub count_reply : Replied S G A (Option C) → Totals → Totals
-  count_reply (subscribed w a true) t = record t { subscribe = added Success 1 t.subscribe }
-  count_reply (subscribed w a false) t = record t { subscribe = added Dropped 1 t.subscribe }
-  count_reply (got v (Some c) true) t = record t { get = added Success 1 t.get }
-  count_reply (got v None true) t = record t { get = added Failure 1 t.get }
-  count_reply (got v b false) t = record t { get = added Dropped 1 t.get }
-
-  abbrev pub count_replies : List (Replied S G A (Option C)) → Totals → Totals
-  count_replies [] t = t
-  count_replies (h ∷ hs) t = count_replies hs (count_reply h t)
+-- a reply is counted by whether it was delivered, and a delivered one to a get by whether it has
+-- a message
+abbrev pub counted_reply : {P S G A C : Type 0} → Replied S G A (Option C) → Counted P
+counted_reply (subscribed w a true) = subscribe Success
+counted_reply (subscribed w a false) = subscribe Dropped
+counted_reply (got v (Some c) true) = get Success
+counted_reply (got v None true) = get Failure
+counted_reply (got v found false) = get Dropped
 
 -- a message that was received is counted by its outcome
-abbrev pub count_outcome : Outcome → Totals → Totals
-count_outcome Inserted t = record t { receive = added Success 1 t.receive }
-count_outcome Duplicate t = record t { receive = added Dropped 1 t.receive }
-count_outcome Ineligible t = record t { receive = added Dropped 1 t.receive }
+abbrev pub counted_outcome : {P : Type 0} → Outcome → Counted P
+counted_outcome Inserted = receive Success
+counted_outcome Duplicate = receive Dropped
+counted_outcome Ineligible = receive Dropped
 
 module _ {P M D S G : Type 0} (s : Setting P M D) where
-  -- the digests that are awaited after a history
-  abbrev pub awaited : History P M D (Asker S) (Asker G) → List D
-  awaited past = first_places s.same.digest (map (λ w. w.digest) (waiting s past))
+  abbrev pub counted_input : Input P M S G D → History P M D (Asker S) (Asker G)
+      → List (Counted P)
+  counted_input (Arrived p c) past = counted_outcome (outcome s p c.digest past) ∷ []
+  counted_input (Invalid error) past = receive status.Invalid ∷ []
+  counted_input _ past = []
 
-  -- what an input counts, besides replies
-  abbrev pub count_input : Input P M S G D → History P M D (Asker S) (Asker G) → Totals → Totals
-  count_input (Arrived p c) past t = count_outcome (outcome s p c.digest past) t
-  count_input (Invalid error) past t = record t { receive = added status.Invalid 1 t.receive }
-  count_input _ past t = t
+  -- each dropped waiter, each reply, each message that was received, each payload that was decoded;
+  -- an end counts nothing
+  abbrev pub counted_at : Step P M D S G → History P M D (Asker S) (Asker G) → List (Counted P)
+  counted_at (swept test) past =
+      map (λ w. subscribe Dropped) (filter (λ w. test w.place w.waiter) (waiting s past))
+  counted_at (applied input replies) past = map counted_reply replies ++ counted_input input past
+  counted_at (decoded p) past = peer p ∷ []
+  counted_at _ past = []
 
-  -- what a step counts after a history; an end counts nothing
-  abbrev pub count : Step P M D S G → History P M D (Asker S) (Asker G) → Totals → Totals
-  count (swept test) past t = record t {
-    subscribe = added Dropped (named_by test (waiting s past)) t.subscribe;
-    waiters = length (awaited (cleanup test ∷ past));
-  }
-  count (applied input replies) past t = count_input input past (count_replies replies t)
-  count _ past t = t
+  -- what the steps count after a history, the oldest first
+  abbrev pub counted : List (Step P M D S G) → History P M D (Asker S) (Asker G)
+      → List (Counted P)
+  counted [] past = []
+  counted (step ∷ steps) past = counted steps past ++ counted_at step (happenings steps ++ past)
 
-  -- what the steps count
-  abbrev pub counts : List (Step P M D S G) → History P M D (Asker S) (Asker G) → Totals → Totals
-  counts [] past t = t
-  counts (step ∷ steps) past t = count step (happenings steps ++ past) (counts steps past t)
-
-  -- the number of a peer after the steps
-  abbrev pub count_peer : P → List (Step P M D S G) → ℕ → ℕ
-  count_peer q [] n = n
-  count_peer q (decoded p ∷ steps) n =
-      if s.same.key p q then counted (count_peer q steps n + 1) else count_peer q steps n
-  count_peer q (step ∷ steps) n = count_peer q steps n
+  -- the gauge: how many digests were awaited after the last cleanup, or what it was before
+  abbrev pub gauge : List (Step P M D S G) → History P M D (Asker S) (Asker G) → ℕ → ℕ
+  gauge [] past before = before
+  gauge (swept test ∷ steps) past before =
+      length (awaited s (cleanup test ∷ (happenings steps ++ past)))
+  gauge (step ∷ steps) past before = gauge steps past before

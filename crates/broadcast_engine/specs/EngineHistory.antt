@@ -1,28 +1,19 @@
 -- What an engine did: a list of steps, the newest first, and what is read off it.
-use Rattle.std.specs.Prelude.{◌≡◌, ℕ, Bool, true, List, [], ◌∷◌, ◌++◌, map, Option, None, Some, is_some}
+use Rattle.std.specs.Prelude.{◌≡◌, ℕ, Bool, true, List, [], ◌∷◌, ◌++◌, Option, None, Some}
+use Rattle.broadcast_core.specs.Carried.{Carried}
 use Rattle.broadcast_core.specs.Setting.{Setting}
 use Rattle.broadcast_core.specs.Happening.{Happening, History, peers, broadcast, arrival, subscribe, get, cleanup}
-use Rattle.broadcast_core.specs.Waiting.{waiting}
-use Rattle.broadcast_core.specs.HasContent.{AnswersAs}
 use Rattle.broadcast_core.specs.Answers.{outcome}
 use Rattle.broadcast_core.specs.declared.event.Cause.{Cause}
-use Rattle.broadcast_core.specs.declared.event.Cause.TheVariants.{Memory, Unencodable}
-use Rattle.broadcast_core.specs.Cache.{message}
-use Rattle.broadcast_core.specs.Waiters.{counted}
-use Rattle.broadcast_engine.specs.declared.buffered.engine.input.EndCause.{EndCause}
-use Rattle.broadcast_engine.specs.declared.buffered.engine.input.Turn.{Turn}
-use Rattle.broadcast_engine.specs.declared.buffered.engine.input.Turn.TheVariants as turn
+use Rattle.broadcast_core.specs.declared.event.Cause.TheVariants.{Memory}
 use Rattle.commonware_broadcast.specs.declared.buffered.ingress.message.Message.{Message}
 use Rattle.commonware_broadcast.specs.declared.buffered.ingress.message.Message.TheVariants.{Broadcast, Subscribe, Get}
+use Rattle.broadcast_engine.specs.declared.buffered.engine.input.EndCause.{EndCause}
 use Rattle.broadcast_engine.specs.declared.buffered.engine.input.Input.{Input}
 use Rattle.broadcast_engine.specs.declared.buffered.engine.input.Input.TheVariants.{Peers, Request, Arrived, Invalid}
-use Rattle.broadcast_core.specs.Handed.{handed_at}
-use Rattle.broadcast_engine.specs.Replies.{Asker, reply_of, Replies}
-
--- why the engine ended, if the turn tells that
-abbrev pub end_told : Turn → Option EndCause
-end_told (turn.Ended cause) = Some cause
-end_told _ = None
+use Rattle.broadcast_engine.specs.declared.buffered.engine.input.Turn.{Turn}
+use Rattle.broadcast_engine.specs.declared.buffered.engine.input.Turn.TheVariants as turn
+use Rattle.broadcast_engine.specs.Replies.{Asker, Replies}
 
 pub data Step (P M D S G : Type 0) : Type 0 where
   -- the waiters that the test names answered closed, and were dropped
@@ -33,8 +24,10 @@ pub data Step (P M D S G : Type 0) : Type 0 where
   refused : Input P M S G D → Cause → Step P M D S G
   -- a payload of the peer was decoded
   decoded : P → Step P M D S G
-  -- the engine ended, and dropped all waiters
-  ended : Step P M D S G
+  -- a payload of the peer is this message, and was refused for memory before it was counted
+  uncounted : P → Carried M D → Step P M D S G
+  -- the engine ended for this cause, and dropped all waiters
+  ended : EndCause → Step P M D S G
 
 module _ {P M D S G : Type 0} where
   -- a request, under its ticket
@@ -43,11 +36,6 @@ module _ {P M D S G : Type 0} where
   asked ticket (Subscribe d responder) =
       subscribe (record { ticket = ticket; responder = responder }) d
   asked ticket (Get d responder) = get (record { ticket = ticket; responder = responder }) d
-
-  -- a request as an input
-  abbrev pub requested : ℕ → Bool → Message P M S G D → Input P M S G D
-  requested ticket counted message =
-      Request (record { ticket = ticket; message = message; counted = counted })
 
   -- what happens at an input; a payload that is no message is no happening
   abbrev pub happening_of : Input P M S G D → History P M D (Asker S) (Asker G)
@@ -59,23 +47,53 @@ module _ {P M D S G : Type 0} where
   abbrev pub happenings_at : Step P M D S G → History P M D (Asker S) (Asker G)
   happenings_at (swept test) = cleanup test ∷ []
   happenings_at (applied input replies) = happening_of input
-  happenings_at (refused input cause) = []
-  happenings_at (decoded p) = []
-  happenings_at ended = cleanup (λ n w. true) ∷ []
+  happenings_at (ended cause) = cleanup (λ n w. true) ∷ []
+  happenings_at _ = []
 
-  -- the happenings of the steps
+  -- the happenings of the steps, the newest first
   abbrev pub happenings : List (Step P M D S G) → History P M D (Asker S) (Asker G)
   happenings [] = []
   happenings (step ∷ steps) = happenings_at step ++ happenings steps
+
+  abbrev pub inputs_at : Step P M D S G → List (Input P M S G D)
+  inputs_at (applied input replies) = input ∷ []
+  inputs_at (refused input cause) = input ∷ []
+  inputs_at (uncounted p c) = Arrived p c ∷ []
+  inputs_at _ = []
+
+  -- the inputs of the steps, refused ones too, the oldest first
+  abbrev pub inputs : List (Step P M D S G) → List (Input P M S G D)
+  inputs [] = []
+  inputs (step ∷ steps) = inputs steps ++ inputs_at step
 
   abbrev pub handed_out_at : Step P M D S G → Replies S G M D
   handed_out_at (applied input replies) = replies
   handed_out_at _ = []
 
-  -- the replies that were handed out, oldest first
+  -- the replies that were handed out, the oldest first
   abbrev pub handed_out : List (Step P M D S G) → Replies S G M D
   handed_out [] = []
   handed_out (step ∷ steps) = handed_out steps ++ handed_out_at step
+
+  abbrev pub read_from_at : Step P M D S G → List P
+  read_from_at (decoded p) = p ∷ []
+  read_from_at (uncounted p c) = p ∷ []
+  read_from_at _ = []
+
+  -- the senders of the payloads that are messages, counted or not, the oldest first
+  abbrev pub read_from : List (Step P M D S G) → List P
+  read_from [] = []
+  read_from (step ∷ steps) = read_from steps ++ read_from_at step
+
+  -- why the newest step ended the engine, if it did
+  abbrev pub end_of : List (Step P M D S G) → Option EndCause
+  end_of (ended cause ∷ steps) = Some cause
+  end_of _ = None
+
+  -- the oldest step is a cleanup of the waiters that answered closed
+  abbrev pub IsSweptFirst : List (Step P M D S G) → Type 0
+  IsSweptFirst steps = (test : ℕ → Asker S → Bool) × (later : List (Step P M D S G))
+      × (steps ≡ later ++ swept test ∷ [])
 
 module _ {P M D S G : Type 0} (s : Setting P M D) where
   abbrev pub turn_of_request : Message P M S G D → History P M D (Asker S) (Asker G) → Turn
@@ -83,58 +101,25 @@ module _ {P M D S G : Type 0} (s : Setting P M D) where
   turn_of_request (Subscribe d responder) past = turn.Subscribe
   turn_of_request (Get d responder) past = turn.Get
 
-  abbrev pub IsEncodable : Message P M S G D → Type 0
-  IsEncodable (Broadcast r c) = is_some (s.encoding c.message) ≡ true
-  IsEncodable _ = Unit {0}
+  abbrev pub turn_of_input : Input P M S G D → History P M D (Asker S) (Asker G) → Turn
+  turn_of_input (Peers ps) past = turn.Peers
+  turn_of_input (Request request) past = turn_of_request request.message past
+  turn_of_input (Arrived p c) past = turn.Payload (outcome s p c.digest past)
+  turn_of_input (Invalid error) past = turn.Invalid error
 
-  -- a broadcast is refused if it has no encoding, and any request that takes memory may be
-  -- refused for that
-  abbrev pub MayRefuseRequest : Message P M S G D → Cause → History P M D (Asker S) (Asker G)
-      → Type 0
-  MayRefuseRequest (Broadcast r c) Unencodable past = s.encoding c.message ≡ None
-  MayRefuseRequest (Broadcast r c) Memory past = is_some (s.encoding c.message) ≡ true
-  MayRefuseRequest (Subscribe d responder) Memory past = Unit {0}
-  MayRefuseRequest (Get d responder) Memory past = is_some (message s d past) ≡ true
-  MayRefuseRequest _ cause past = ⊥
+  abbrev pub turns_at : Step P M D S G → History P M D (Asker S) (Asker G) → List Turn
+  turns_at (applied input replies) past = turn_of_input input past ∷ []
+  turns_at (refused input cause) past = turn.Refused cause ∷ []
+  turns_at (uncounted p c) past = turn.Refused Memory ∷ []
+  turns_at (ended cause) past = turn.Ended cause ∷ []
+  turns_at _ past = []
 
-  -- the result of a turn
-  abbrev pub turn_of : Step P M D S G → History P M D (Asker S) (Asker G) → Option Turn
-  turn_of (applied (Peers ps) replies) past = Some turn.Peers
-  turn_of (applied (Request request) replies) past = Some (turn_of_request request.message past)
-  turn_of (applied (Arrived p c) replies) past = Some (turn.Payload (outcome s p c.digest past))
-  turn_of (applied (Invalid error) replies) past = Some (turn.Invalid error)
-  turn_of (refused input cause) past = Some (turn.Refused cause)
-  turn_of _ past = None
+  -- the turns of the steps after a history, the oldest first
+  abbrev pub turns : List (Step P M D S G) → History P M D (Asker S) (Asker G) → List Turn
+  turns [] past = []
+  turns (step ∷ steps) past = turns steps past ++ turns_at step (happenings steps ++ past)
 
-  -- why an input may be refused after a history
-  abbrev pub MayRefuse : Input P M S G D → Cause → History P M D (Asker S) (Asker G) → Type 0
-  MayRefuse (Request request) cause past = MayRefuseRequest request.message cause past
-  MayRefuse (Arrived p c) Memory past = Unit {0}
-  MayRefuse _ cause past = ⊥
-
-  -- the replies at an input are those that are due
-  abbrev pub AreDue : History P M D (Asker S) (Asker G) → Replies S G M D
-      → History P M D (Asker S) (Asker G) → Type 0
-  AreDue [] replies past = replies ≡ []
-  AreDue (e ∷ es) replies past = map reply_of replies ≡ handed_at s e past
-
-  -- a broadcast that was applied has an encoding
-  abbrev pub HasEncoding : Input P M S G D → Type 0
-  HasEncoding (Request request) = IsEncodable request.message
-  HasEncoding _ = Unit {0}
-
-  -- a step may follow a history
-  abbrev pub IsStep : (Asker S → Bool → Type 0) → Step P M D S G
-      → History P M D (Asker S) (Asker G) → Type 0
-  IsStep may_answer (swept test) past = AnswersAs may_answer test (waiting s past)
-  IsStep may_answer (applied input replies) past = AreDue (happening_of input) replies past
-      × HasEncoding input
-  IsStep may_answer (refused input cause) past = MayRefuse input cause past
-  IsStep may_answer _ past = Unit {0}
-
-  -- each step may follow those before it
-  abbrev pub AreSteps : (Asker S → Bool → Type 0) → List (Step P M D S G)
-      → History P M D (Asker S) (Asker G) → Type 0
-  AreSteps may_answer [] past = Unit {0}
-  AreSteps may_answer (step ∷ steps) past = IsStep may_answer step (happenings steps ++ past)
-      × AreSteps may_answer steps past
+-- why the engine ended, if the turn tells that
+abbrev pub end_told : Turn → Option EndCause
+end_told (turn.Ended cause) = Some cause
+end_told _ = None

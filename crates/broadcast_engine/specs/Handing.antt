@@ -7,7 +7,7 @@ use Rattle.broadcast_engine.specs.declared.buffered.engine.node.Node.{Node}
 use Rattle.broadcast_engine.specs.Counters.{Counters}
 use Rattle.broadcast_core.specs.Handed.{to_subscribe}
 use Rattle.broadcast_engine.specs.Replies.{Replied, reply_of, Replies}
-use Rattle.broadcast_engine.specs.Counting.{count_replies}
+use Rattle.broadcast_engine.specs.CountingCalls.{count_replies}
 
 module _ {P S G A C O : Type 0} (told : O → List (Replied S G A (Option C)) → Type 0) where
   pub record Hands (old : O) (old_counters : Counters P)

@@ -4,7 +4,10 @@ pub mod Jobs
 pub mod Workers
 pub mod Replies
 pub mod EngineHistory
+pub mod StepLaws
+pub mod Taken
 pub mod Counting
+pub mod CountingCalls
 pub mod Ran
 pub mod Handing
 pub mod Polled

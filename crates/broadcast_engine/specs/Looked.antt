@@ -10,10 +10,11 @@ use Rattle.commonware_broadcast.specs.declared.buffered.ingress.request.Request.
 use Rattle.broadcast_engine.specs.declared.buffered.engine.input.Turn.{Turn}
 use Rattle.broadcast_engine.specs.declared.buffered.engine.node.Node.{Node}
 use Rattle.broadcast_engine.specs.Replies.{Asker, Replies}
-use Rattle.broadcast_engine.specs.EngineHistory.{Step}
+use Rattle.broadcast_engine.specs.Sources.{given_ok}
+use Rattle.broadcast_engine.specs.EngineHistory.{Step, inputs, IsSweptFirst}
 use Rattle.broadcast_engine.specs.Ran.{Ran}
-use Rattle.broadcast_engine.specs.Polled.{Ends, IsSweptFirst, inputs, sets_in, requests_in, payloads_in}
-use Rattle.broadcast_engine.specs.Fetched.{HoldsJob, pending_input, payload_inputs}
+use Rattle.broadcast_engine.specs.Taken.{sets_in, requests_in, payloads_in, payload_inputs, pending_input, senders_of, HoldsJob}
+use Rattle.broadcast_engine.specs.Polled.{Tells}
 
 module _ {P M D S G O N J R B Q : Type 0} (s : Setting P M D) (may_answer : Asker S → Bool → Type 0)
     (outlet_told : O → Replies S G M D → Type 0) (sender_told : N → List (Sent P) → Type 0)
@@ -29,7 +30,6 @@ module _ {P M D S G O N J R B Q : Type 0} (s : Setting P M D) (may_answer : Aske
     pub steps : List (Step P M D S G)
     pub ran : Ran s may_answer outlet_told sender_told past steps old new old_sender new_sender
     pub swept_first : IsSweptFirst steps
-    pub turn : Ends s result steps past
     -- the peer sets, the requests and the payloads of its inputs are those that were given, in
     -- order, the message of the job that is pending now last
     pub sets : (before : List (List P)) → provider_told old_provider before
@@ -41,6 +41,5 @@ module _ {P M D S G O N J R B Q : Type 0} (s : Setting P M D) (may_answer : Aske
         → receiver_told new_receiver (before ++ received)
     pub pending : Option (P × M)
     pub held : HoldsJob is_of slot pending
-    pub flow : payload_inputs s may_answer outlet_told sender_told is_of receiver_told received
-        ≡ payloads_in (inputs steps)
-        ++ pending_input s may_answer outlet_told sender_told is_of receiver_told pending
+    pub flow : payload_inputs s received ≡ payloads_in (inputs steps) ++ pending_input s pending
+    pub tells : Tells s past steps (given_ok result) (senders_of s received)

@@ -1,17 +1,33 @@
 -- What the steps of an engine leave.
-use Rattle.std.specs.Prelude.{◌≡◌, Bool, List, [], ◌∷◌, ◌++◌, Some}
+use Rattle.std.specs.Prelude.{◌≡◌, ℕ, Bool, List, [], ◌∷◌, ◌++◌}
+use Rattle.std.specs.List.{count_by}
 use Rattle.broadcast_core.specs.Setting.{Setting}
 use Rattle.broadcast_core.specs.Happening.{History}
 use Rattle.broadcast_core.specs.HasContent.{HasContent}
 use Rattle.broadcast_core.specs.Sent.{sent}
 use Rattle.broadcast_core.specs.declared.event.Sent.{Sent}
+use Rattle.commonware_broadcast.specs.declared.buffered.ingress.message.Message.{Message}
 use Rattle.broadcast_engine.specs.declared.buffered.engine.input.Input.{Input}
+use Rattle.broadcast_engine.specs.declared.buffered.engine.input.Input.TheVariants.{Request}
 use Rattle.broadcast_engine.specs.declared.buffered.engine.input.Turn.{Turn}
 use Rattle.broadcast_engine.specs.declared.buffered.engine.node.Node.{Node}
-use Rattle.broadcast_engine.specs.Counters.{count_of}
+use Rattle.broadcast_engine.specs.Counters.{Counted, raised, is_counted_as, number_at}
 use Rattle.broadcast_engine.specs.Replies.{Asker, Replies}
-use Rattle.broadcast_engine.specs.EngineHistory.{Step, applied, refused, IsStep, AreSteps, happenings_at, happenings, handed_out_at, handed_out, turn_of}
-use Rattle.broadcast_engine.specs.Counting.{count, counts, count_peer}
+use Rattle.broadcast_engine.specs.EngineHistory.{Step, applied, refused, happenings_at, happenings, handed_out_at, handed_out, turns_at}
+use Rattle.broadcast_engine.specs.StepLaws.{IsStep, AreSteps}
+use Rattle.broadcast_engine.specs.Counting.{counted, gauge}
+use Rattle.broadcast_engine.specs.CountingCalls.{count}
+
+-- a request as an input
+abbrev pub requested : {P M D S G : Type 0} → ℕ → Bool → Message P M S G D → Input P M S G D
+requested ticket counted message =
+    Request (record { ticket = ticket; message = message; counted = counted })
+
+-- the step of an input: it was applied, or refused
+abbrev pub IsOf : {P M D S G : Type 0} → Input P M S G D → Step P M D S G → Type 0
+IsOf input (applied given replies) = given ≡ input
+IsOf input (refused given cause) = given ≡ input
+IsOf input _ = ⊥
 
 module _ {P M D S G O : Type 0} (s : Setting P M D) (may_answer : Asker S → Bool → Type 0)
     (outlet_told : O → Replies S G M D → Type 0) where
@@ -32,26 +48,23 @@ module _ {P M D S G O : Type 0} (s : Setting P M D) (may_answer : Asker S → Bo
       pub lawful : AreSteps s may_answer steps past
       -- the core has what the happenings give
       pub content : HasContent s (happenings steps ++ past) new.core
-      -- the counters count the steps
-      pub totals : new.metrics.totals ≡ counts s steps past old.metrics.totals
-      pub peers : (p : P) → count_of s.same.key p new.metrics.peer
-          ≡ count_peer s p steps (count_of s.same.key p old.metrics.peer)
+      -- each counter was raised by the number of what it counts
+      pub counters : (c : Counted P) → number_at s.same.key c new.metrics ≡ raised
+          (number_at s.same.key c old.metrics)
+          (count_by (is_counted_as s.same.key c) (counted s steps past))
+      -- the gauge has the number of digests that were awaited after the last cleanup
+      pub waiters : new.metrics.totals.waiters
+          ≡ gauge s steps past old.metrics.totals.waiters
       -- the outlet was handed the replies, and the sender the broadcasts
       pub replied : (replies : Replies S G M D) → outlet_told old.outlet replies
           → outlet_told new.outlet (replies ++ handed_out steps)
       pub sends : (sends : List (Sent P)) → sender_told old_sender sends
           → sender_told new_sender (sends ++ sent s (happenings steps))
 
-    -- the step of an input: it was applied, or refused
-    abbrev pub IsOf : Input P M S G D → Step P M D S G → Type 0
-    IsOf input (applied given replies) = given ≡ input
-    IsOf input (refused given cause) = given ≡ input
-    IsOf input _ = ⊥
-
     -- an input was applied or refused, with this turn
     pub record Applied (past : History P M D (Asker S) (Asker G)) (input : Input P M S G D)
         (turn : Turn) (old new : Node P M S O D) (old_sender new_sender : N) : Type 0 where
       pub step : Step P M D S G
       pub of_input : IsOf input step
-      pub turned : turn_of s step past ≡ Some turn
+      pub turned : turns_at s step past ≡ turn ∷ []
       pub ran : Ran past (step ∷ []) old new old_sender new_sender

@@ -1,19 +1,22 @@
 -- What one poll of an engine that has not ended does.
-use Rattle.std.specs.Prelude.{◌≡◌, ℕ, Bool, List, ◌++◌, Option, Result}
+use Rattle.std.specs.Prelude.{◌≡◌, ℕ, Bool, List, ◌++◌, Option, None, Some, Result, Err, ◌⊎◌}
 use Rattle.futures.specs.declared.task.Poll.{Poll}
+use Rattle.futures.specs.declared.task.Poll.TheVariants.{Ready}
 use Rattle.broadcast_core.specs.Setting.{Setting}
 use Rattle.broadcast_core.specs.Happening.{History}
 use Rattle.broadcast_core.specs.declared.event.Sent.{Sent}
 use Rattle.commonware_broadcast.specs.declared.buffered.ingress.message.Message.{Message}
 use Rattle.broadcast_engine.specs.declared.buffered.engine.input.EndCause.{EndCause}
+use Rattle.broadcast_engine.specs.declared.buffered.engine.input.EndCause.TheVariants.{Stopped}
 use Rattle.commonware_broadcast.specs.declared.buffered.ingress.request.Request.{Request}
 use Rattle.broadcast_engine.specs.declared.buffered.engine.input.Turn.{Turn}
 use Rattle.broadcast_engine.specs.declared.buffered.engine.node.Node.{Node}
 use Rattle.broadcast_engine.specs.Replies.{Asker, Replies}
-use Rattle.broadcast_engine.specs.EngineHistory.{Step}
+use Rattle.broadcast_engine.specs.Sources.{given_ok}
+use Rattle.broadcast_engine.specs.EngineHistory.{Step, inputs, IsSweptFirst}
 use Rattle.broadcast_engine.specs.Ran.{Ran}
-use Rattle.broadcast_engine.specs.Polled.{Ends, inputs, sets_in, requests_in, payloads_in}
-use Rattle.broadcast_engine.specs.Fetched.{HoldsJob, pending_input, payload_inputs}
+use Rattle.broadcast_engine.specs.Taken.{sets_in, requests_in, payloads_in, payload_inputs, pending_input, senders_of, HoldsJob, TakesNone}
+use Rattle.broadcast_engine.specs.Polled.{Tells}
 
 module _ {P M D S G O N J R B Q : Type 0} (s : Setting P M D) (may_answer : Asker S → Bool → Type 0)
     (outlet_told : O → Replies S G M D → Type 0) (sender_told : N → List (Sent P) → Type 0)
@@ -27,7 +30,6 @@ module _ {P M D S G O N J R B Q : Type 0} (s : Setting P M D) (may_answer : Aske
       (slot : Option (P × J)) : Type 0 where
     pub steps : List (Step P M D S G)
     pub ran : Ran s may_answer outlet_told sender_told past steps old new old_sender new_sender
-    pub turn : Ends s result steps past
     -- the peer sets and the requests of its inputs are those that were given, in order
     pub sets : (told : List (List P)) → provider_told old_provider told
         → provider_told new_provider (told ++ sets_in (inputs steps))
@@ -40,7 +42,13 @@ module _ {P M D S G O N J R B Q : Type 0} (s : Setting P M D) (may_answer : Aske
         → receiver_told new_receiver (told ++ received)
     pub pending : Option (P × M)
     pub held : HoldsJob is_of slot pending
-    pub flow : pending_input s may_answer outlet_told sender_told is_of receiver_told before
-        ++ payload_inputs s may_answer outlet_told sender_told is_of receiver_told received
-        ≡ payloads_in (inputs steps)
-        ++ pending_input s may_answer outlet_told sender_told is_of receiver_told pending
+    pub flow : pending_input s before ++ payload_inputs s received
+        ≡ payloads_in (inputs steps) ++ pending_input s pending
+    pub tells : Tells s past steps (given_ok result) (senders_of s received)
+    -- while a job is pending nothing is taken from a source, and else, unless the engine is told
+    -- to stop, a cleanup comes first
+    pub job_alone : (message : P × M) → before ≡ Some message
+        → TakesNone old_receiver new_receiver old_provider new_provider steps
+    pub swept_first : before ≡ None → ((result ≡ Ready (Err Stopped))
+        × TakesNone old_receiver new_receiver old_provider new_provider steps)
+        ⊎ IsSweptFirst steps

@@ -6,6 +6,7 @@ mod fetch;
 mod handler;
 mod input;
 mod job;
+mod laws;
 mod look;
 mod node;
 mod open;
@@ -18,4 +19,5 @@ mod waiter;
 
 pub use driver::drive;
 pub use input::{EndCause, Input, Turn};
+pub use laws::new_engine_law;
 pub use state::Engine;

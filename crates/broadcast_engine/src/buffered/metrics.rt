@@ -3,8 +3,7 @@
 //! Every counter saturates at `u64::MAX`.
 ghost use Rattle.std.specs.Prelude.{◌≡◌, ℕ, ◌+◌, if◌then◌else◌, OnOk, OnErr};
 ghost use Rattle.std.specs.Ordering.{eq_by_cmp};
-ghost use Rattle.broadcast_core.specs.Waiters.{counted};
-ghost use Rattle.broadcast_engine.specs.Counters.{no_counts, zero_counters, number_of, added, count_of};
+ghost use Rattle.broadcast_engine.specs.Counters.{no_counts, zero_counters, number_of, raised, added, count_of};
 
 use broadcast_core::PublicKey;
 use std::alloc::{AllocError, Global};
@@ -164,7 +163,7 @@ impl<P: PublicKey> Metrics<P> {
     pub fn count_peer(&mut self, peer: &P) -> Result<(), AllocError>
         ensures counts_one { OnOk result ((q : P) → let same = eq_by_cmp P.cmp in
             count_of same q self.new.peer
-            ≡ (if same peer.now q then counted (count_of same q self.old.peer + 1)
+            ≡ (if same peer.now q then raised (count_of same q self.old.peer) 1
             else count_of same q self.old.peer)) }
         ensures totals_stay { self.new.totals ≡ self.old.totals }
         ensures unchanged_on_error { OnErr result (self.new ≡ self.old) }
@@ -218,7 +217,7 @@ impl<P: PublicKey> Metrics<P> {
 fn count_key<K: PublicKey>(numbers: &mut BTreeMap<K, u64>, key: &K) -> Result<(), AllocError>
     ensures ok { OnOk result ((q : K) → let same = eq_by_cmp K.cmp in
         count_of same q numbers.new.entries
-        ≡ (if same key.now q then counted (count_of same q numbers.old.entries + 1)
+        ≡ (if same key.now q then raised (count_of same q numbers.old.entries) 1
         else count_of same q numbers.old.entries)) }
     ensures err { OnErr result (numbers.new.entries ≡ numbers.old.entries) }
 {

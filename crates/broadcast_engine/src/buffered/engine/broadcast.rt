@@ -5,9 +5,9 @@ ghost use Rattle.broadcast_core.specs.Setting.{Setting};
 ghost use Rattle.broadcast_core.specs.Happening.{History};
 ghost use Rattle.broadcast_core.specs.HasContent.{HasContent};
 ghost use Rattle.commonware_broadcast.specs.declared.buffered.ingress.message.Message.TheVariants as request;
-ghost use Rattle.broadcast_engine.specs.EngineHistory.{requested, end_told};
+ghost use Rattle.broadcast_engine.specs.EngineHistory.{end_told};
 ghost use Rattle.broadcast_engine.specs.Replies.{Asker};
-ghost use Rattle.broadcast_engine.specs.Ran.{Applied};
+ghost use Rattle.broadcast_engine.specs.Ran.{Applied, requested};
 
 use crate::buffered::engine::input::Turn;
 use crate::buffered::engine::node::Node;

@@ -10,7 +10,8 @@ ghost use Rattle.broadcast_core.specs.HasContent.{HasContent};
 ghost use Rattle.broadcast_engine.specs.declared.buffered.engine.input.Turn.TheVariants as turn;
 ghost use Rattle.broadcast_engine.specs.declared.buffered.engine.input.EndCause.{EndCause};
 ghost use Rattle.broadcast_engine.specs.Replies.{Asker};
-ghost use Rattle.broadcast_engine.specs.EngineState.{Went, Holds};
+ghost use Rattle.broadcast_engine.specs.Taken.{Holds};
+ghost use Rattle.broadcast_engine.specs.EngineState.{TellsEnd, Went};
 
 use crate::buffered::engine::input::Turn;
 use crate::buffered::engine::state::Engine;
@@ -52,8 +53,14 @@ where
         → HasContent s past engine.old.node.core → (before : Option (P × M))
         → Holds T.Job.is_of engine.old.end engine.old.job before
         → Went s (λ w b. S.may_answer w.responder b) O.told N.told T.Job.is_of R.told B.told
-        Q.told past before engine.old engine.new network.old network.new) }
+        Q.told past before engine.old engine.new network.old network.new turns.items) }
     ensures at_most_limit { IfOk result (λ turns. length turns.items ≤ limit) }
+    ensures ends_with_last_turn { IfOk result (λ turns.
+        0 < limit → TellsEnd engine.new.end turns.items) }
+    ensures armed_if_short { IfOk result (λ turns. length turns.items < limit
+        → engine.new.end ≡ None → IsArmed cx.new) }
+    ensures same_after_end { (cause : EndCause) → engine.old.end ≡ Some cause
+        → (engine.new ≡ engine.old) × (network.new ≡ network.old) }
     ensures unchanged_on_error { OnErr result ((engine.new ≡ engine.old)
         × (network.new ≡ network.old) × (cx.new ≡ cx.old)) }
     ensures keeps_priority { engine.new.priority ≡ engine.old.priority }

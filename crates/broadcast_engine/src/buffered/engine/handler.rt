@@ -7,11 +7,12 @@ ghost use Rattle.broadcast_core.specs.Happening.{History};
 ghost use Rattle.broadcast_core.specs.HasContent.{HasContent};
 ghost use Rattle.broadcast_core.specs.Answers.{outcome};
 ghost use Rattle.commonware_broadcast.specs.declared.buffered.ingress.message.Message.TheVariants as request;
+ghost use Rattle.broadcast_engine.specs.declared.buffered.engine.input.EndCause.{EndCause};
 ghost use Rattle.broadcast_engine.specs.declared.buffered.engine.input.Input.TheVariants as input;
 ghost use Rattle.broadcast_engine.specs.Replies.{Asker, Replied, Replies};
-ghost use Rattle.broadcast_engine.specs.EngineHistory.{applied, swept, ended, requested};
-ghost use Rattle.broadcast_engine.specs.Counting.{count_outcome};
-ghost use Rattle.broadcast_engine.specs.Ran.{Steps};
+ghost use Rattle.broadcast_engine.specs.EngineHistory.{applied, swept, ended};
+ghost use Rattle.broadcast_engine.specs.CountingCalls.{count_outcome};
+ghost use Rattle.broadcast_engine.specs.Ran.{Steps, requested};
 
 use crate::buffered::engine::node::Node;
 use crate::buffered::engine::reply::{respond_get, respond_subscribe};
@@ -169,7 +170,8 @@ where
     O: Outlet<S, G, Reply<M>, Option<Reply<M>>>,
     ensures { (s : Setting P M M.Digest) → s.same ≡ same_by P.cmp M.Digest.cmp
         → (past : History P M M.Digest (Asker S) (Asker G)) → HasContent s past node.old.core
-        → Steps s (λ w b. S.may_answer w.responder b) O.told past ended node.old node.new }
+        → (cause : EndCause)
+        → Steps s (λ w b. S.may_answer w.responder b) O.told past (ended cause) node.old node.new }
 {
     node.core.clear_waiters();
 }

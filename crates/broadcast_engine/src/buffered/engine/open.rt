@@ -1,6 +1,6 @@
 //! One poll of an engine that has not ended.
 ghost use Rattle.std.specs.Prelude.{◌≡◌, Option, None, IfOk};
-ghost use Rattle.broadcast_engine.specs.Fetched.{HoldsJob};
+ghost use Rattle.broadcast_engine.specs.Taken.{HoldsJob};
 ghost use Rattle.futures.specs.Poll.{IfReady, OnPending};
 ghost use Rattle.futures.specs.Task.{IsArmed, Keeps};
 ghost use Rattle.broadcast_core.specs.Codec.{whole};

@@ -11,12 +11,16 @@ ghost use Rattle.broadcast_core.specs.HasContent.{HasContent};
 ghost use Rattle.broadcast_engine.specs.declared.buffered.engine.input.Turn.TheVariants as turn;
 ghost use Rattle.broadcast_engine.specs.declared.buffered.engine.input.EndCause.{EndCause};
 ghost use Rattle.broadcast_engine.specs.Replies.{Asker};
-ghost use Rattle.broadcast_engine.specs.EngineState.{Went, Holds};
+ghost use Rattle.broadcast_engine.specs.EngineHistory.{end_told};
+ghost use Rattle.broadcast_engine.specs.Ran.{Applied};
+ghost use Rattle.broadcast_engine.specs.Taken.{Holds};
+ghost use Rattle.broadcast_engine.specs.EngineState.{Turned};
 ghost use Rattle.broadcast_engine.specs.Fresh.{fresh};
 
 use crate::buffered::config::Config;
+use crate::buffered::engine::apply::apply;
 use crate::buffered::engine::handler::drop_waiters;
-use crate::buffered::engine::input::{EndCause, Turn};
+use crate::buffered::engine::input::{EndCause, Input, Turn};
 use crate::buffered::engine::node::Node;
 use crate::buffered::engine::open::poll_open;
 use crate::buffered::metrics::Metrics;
@@ -114,6 +118,47 @@ impl<P: PublicKey, M: Digestible + Codec, S, O, B, Q, T: Strategy<M>> Engine<P, 
         &self.node.metrics
     }
 
+    /// Applies one input. After an end the input is dropped, and the turn is that end.
+    ///
+    /// `Input::Invalid` is for the errors of a payload that is no message, which `CodecError::Memory`
+    /// is not.
+    pub fn apply<G, N>(&mut self, alloc: Global, input: Input<P, M, S, G>, sender: &mut N) -> Turn
+    where
+        S: Responder<Reply<M>> + Drop,
+        G: Drop,
+        O: Outlet<S, G, Reply<M>, Option<Reply<M>>>,
+        N: Sender<P>,
+        ensures applied { self.old.end ≡ None
+            → (s : Setting P M M.Digest) → s.same ≡ same_by P.cmp M.Digest.cmp
+            → s.encoding ≡ M.encoding → s.priority ≡ self.old.priority
+            → (past : History P M M.Digest (Asker S) (Asker G))
+            → HasContent s past self.old.node.core
+            → Applied s (λ w b. S.may_answer w.responder b) O.told N.told past input result
+            self.old.node self.new.node sender.old sender.new }
+        ensures same_after_end { (cause : EndCause) → self.old.end ≡ Some cause
+            → (result ≡ turn.Ended cause) × (self.new ≡ self.old) × (sender.new ≡ sender.old) }
+        ensures tells_no_end { self.old.end ≡ None → end_told result ≡ None }
+        ensures keeps_all_else { self.new ≡ record self.old { node = self.new.node } }
+    {
+        match self.end {
+            Some(cause) => Turn::Ended(cause),
+            None => apply(&mut self.node, sender, alloc, self.priority, input),
+        }
+    }
+
+    /// Does what an end does: closes the requests, and drops all waiters.
+    pub fn close<G>(mut self)
+    where
+        S: Drop,
+        O: Drop,
+        B: Drop,
+        Q: Requests<Message<P, M, S, G>> + Drop,
+        T: Drop,
+        M::Cfg: Drop,
+    {
+        self.requests.close();
+    }
+
     /// Polls the engine. It takes at most one input: a peer set, or else a request, or else a
     /// payload. A stop, the end of the peer sets and a failure of the network end it, and every
     /// later poll returns the same.
@@ -131,14 +176,14 @@ impl<P: PublicKey, M: Digestible + Codec, S, O, B, Q, T: Strategy<M>> Engine<P, 
         R: Receiver<P>,
         B: Provider<P>,
         Q: Requests<Message<P, M, S, G>>,
-        ensures went { (s : Setting P M M.Digest) → s.same ≡ same_by P.cmp M.Digest.cmp
+        ensures turned { (s : Setting P M M.Digest) → s.same ≡ same_by P.cmp M.Digest.cmp
             → s.encoding ≡ M.encoding → s.priority ≡ self.old.priority → s.digest_of ≡ M.digest_of
             → s.reading ≡ whole (M.reading self.old.codec_config)
             → (past : History P M M.Digest (Asker S) (Asker G))
             → HasContent s past self.old.node.core → (before : Option (P × M))
             → Holds T.Job.is_of self.old.end self.old.job before
-            → Went s (λ w b. S.may_answer w.responder b) O.told N.told T.Job.is_of R.told B.told
-            Q.told past before self.old self.new network.old network.new }
+            → Turned s (λ w b. S.may_answer w.responder b) O.told N.told T.Job.is_of R.told B.told
+            Q.told past before self.old self.new network.old network.new result }
         ensures same_after_end { (cause : EndCause) → self.old.end ≡ Some cause
             → (result ≡ Ready (turn.Ended cause)) × (self.new ≡ self.old)
             × (network.new ≡ network.old) }

@@ -1,4 +1,4 @@
-use Rattle.std.proofs.Common.{[], Some, refl, sym, ap}
+use Rattle.std.proofs.Common.{[], ◌∷◌, refl, sym, ap}
 use Rattle.broadcast_core.proofs.Lawful.{same_by-lawful}
 use Rattle.broadcast_core.specs.declared.event.Cause.TheVariants.{Memory}
 use Rattle.broadcast_engine.specs.declared.buffered.engine.input.Input.TheVariants.{Peers, Arrived, Invalid}
@@ -20,7 +20,7 @@ returns-in-Ok-clause-applied g c = λ s e encoding priority past has.
     let steps = c.in-Ok.ensures.steps in
     let step = steps.1 s e past has in
     rw c.in-Arrived.is (Applied-silent s (λ w b. g.S.Responder.may_answer w.responder b) g.O.Outlet.told g.N.Sender.told past (Arrived c.in-Arrived.peer c.in-Arrived.message) steps.0 (turn.Payload c.in-Ok.outcome)
-    c.args.node.now c.handle_arrival.new.node c.args.sender.now step.1 (ap (λ o. Some (turn.Payload o)) (sym step.0)) refl)
+    c.args.node.now c.handle_arrival.new.node c.args.sender.now step.1 (ap (λ o. turn.Payload o ∷ []) (sym step.0)) refl)
 
 pub returns-in-Arrived-clause-applied : goal.returns-in-Arrived-clause-applied
 returns-in-Arrived-clause-applied g c = λ s e encoding priority past has.

@@ -12,10 +12,8 @@ use Rattle.broadcast_engine.proofs.buffered.engine.job.start_job.Goals as goal
 
 pub returns-in_default-clause-started : goal.returns-in_default-clause-started
 returns-in_default-clause-started g c = λ s e encoding priority own past has.
-    let node = c.args.node.now in
-    Started-uncounted s (λ w b. g.S.Responder.may_answer w.responder b) g.O.Outlet.told g.N.Sender.told g.T.Job.Job.is_of past c.args.peer c.args.message (turn.Refused Memory) node _ c.args.sender.now c.args.sender.now
-    (Applied-refused s (λ w b. g.S.Responder.may_answer w.responder b) g.O.Outlet.told g.N.Sender.told past (input.Arrived c.args.peer (own_digested s c.args.message)) Memory node _ c.args.sender.now has
-    (ap (λ (k : Counters g.row.P.Denot). record c.args.node.now { metrics = k }) c.in_default.ensures.unchanged_on_error) tt)
+    Started-uncounted s (λ w b. g.S.Responder.may_answer w.responder b) g.O.Outlet.told g.N.Sender.told g.T.Job.Job.is_of past c.args.peer c.args.message c.args.node.now _ c.args.sender.now has
+    (ap (λ (k : Counters g.row.P.Denot). record c.args.node.now { metrics = k }) c.in_default.ensures.unchanged_on_error)
 
 pub returns-in-Ok-start-clause-started : goal.returns-in-Ok-start-clause-started
 returns-in-Ok-start-clause-started g c = λ s e encoding priority own past has.

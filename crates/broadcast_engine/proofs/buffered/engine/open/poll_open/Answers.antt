@@ -4,7 +4,7 @@ use Rattle.broadcast_engine.specs.declared.buffered.engine.input.EndCause.TheVar
 use Rattle.broadcast_engine.specs.declared.buffered.engine.input.Input.TheVariants as input
 use Rattle.broadcast_engine.specs.declared.buffered.engine.input.Turn.{Turn}
 use Rattle.broadcast_engine.specs.Ran.{Applied}
-use Rattle.broadcast_engine.specs.Fetched.{HoldsJob}
+use Rattle.broadcast_engine.specs.Taken.{HoldsJob}
 use Rattle.broadcast_engine.proofs.Composing.{Ran-none}
 use Rattle.broadcast_engine.proofs.Polling.{IfReady-weaker}
 use Rattle.broadcast_engine.proofs.Waking.{Woken-idle, Woken-job, Woken-looked}
@@ -15,7 +15,7 @@ returns-then-stopped-clause-woken g c = λ s e encoding priority own reading pas
     Woken-idle s (λ w b. g.S.Responder.may_answer w.responder b) g.O.Outlet.told g.N.Sender.told g.T.Job.Job.is_of g.R.Receiver.told g.B.Provider.told g.Q.Requests.told past
     c.args.receiver.now c.args.provider.now c.args.requests.now c.stopped.new.self c.if-stopped.ensures.tells before (Ready (Err Stopped))
     c.args.node.now c.args.node.now c.args.sender.now c.args.sender.now c.args.slot.now
-    (Ran-none s (λ w b. g.S.Responder.may_answer w.responder b) g.O.Outlet.told g.N.Sender.told past c.args.node.now c.args.sender.now has) refl held
+    (Ran-none s (λ w b. g.S.Responder.may_answer w.responder b) g.O.Outlet.told g.N.Sender.told past c.args.node.now c.args.sender.now has) refl (λ at. refl) held
 
 pub returns-in-Some-clause-woken : goal.returns-in-Some-clause-woken
 returns-in-Some-clause-woken g c = λ s e encoding priority own reading past has before held.

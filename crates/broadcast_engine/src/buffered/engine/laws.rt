@@ -1,0 +1,22 @@
+//! The law of a new engine.
+ghost use Rattle.std.specs.Prelude.{◌≡◌, []};
+ghost use Rattle.broadcast_core.specs.Content.{Content};
+ghost use Rattle.broadcast_core.specs.Setting.{Setting};
+ghost use Rattle.broadcast_core.specs.HasContent.{HasContent};
+ghost use Rattle.broadcast_engine.specs.Replies.{Asker};
+
+use broadcast_core::{Digestible, PublicKey};
+
+/// Proves that a new engine, as `Engine::over` creates it, has the content of the empty history.
+pub fn new_engine_law<P: PublicKey, M: Digestible, S, G>()
+    ensures { (s : Setting P M M.Digest)
+        → (core : Content P M M.Digest (Asker S))
+        → core ≡ record {
+          own = s.own;
+          deque_size = s.deque_size;
+          primary = [];
+          lists = [];
+          cached = [];
+          waiters = [];
+        } → HasContent {V = Asker G} s [] core }
+{}
