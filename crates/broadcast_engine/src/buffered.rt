@@ -7,3 +7,16 @@ pub mod network;
 pub mod outlet;
 pub mod requests;
 pub mod strategy;
+
+pub use commonware_broadcast::buffered::{
+    Counts, Fixed, Get, Inbox, Incoming, Ingress, Mailbox, Message, Overflow, Pending, Policy,
+    Queued, Reply, Request, Responder, Stopper, Subscription, channel, ticket_law,
+};
+pub use config::Config;
+pub use engine::{EndCause, Engine, Input, Turn};
+pub use front::MailboxEngine;
+pub use metrics::{Counter, Metrics, Sequencer, Status};
+pub use network::{NetworkFailed, Provider, Receiver, Sender};
+pub use outlet::{Direct, Outlet};
+pub use requests::Requests;
+pub use strategy::{Done, Job, Sequential, Strategy};
