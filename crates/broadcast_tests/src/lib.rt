@@ -1,7 +1,7 @@
-//! Tests of the mailbox and of the program `replay`.
+//! Tests of the mailbox and of the programs over their streams.
 #![tactic(auto)]
 
 #[cfg(test)]
 mod mailbox;
 #[cfg(test)]
-mod replay_streams;
+mod streams;

@@ -1,14 +1,17 @@
-//! The program `replay` over streams that fail or move few bytes, and through inboxes of all kinds.
+//! The programs over streams that fail or move few bytes, and `replay` through inboxes of all kinds.
 mod rows;
+mod world_rows;
 
 use commonware_broadcast::buffered::{Fixed, Inbox, Message};
 use replay_lib::{Request, play_through};
-use rows::{Row, Stream, Through, rows};
-use std::alloc::{AllocError, Global};
+use rows::{Program, Row, Stream, Through, replay_rows};
+use std::alloc::Global;
 use std::io::{self, ErrorKind, Read, Write};
 use std::num::NonZeroUsize;
+use std::process::Abort;
 use std::sync::{Mutex, Wait};
 use std::test::Fail;
+use world_rows::world_rows;
 
 /// How a stream behaves.
 #[derive(Clone, Copy)]
@@ -117,25 +120,36 @@ impl Row {
         came.len() == len && all.starts_with(came)
     }
 
-    fn has_passed(&self, rt: &impl Wait, inbox: &Mutex<Inbox<Request>>) -> bool {
-        let counts = inbox.lock(rt).counts();
-        [counts.accepted, counts.taken, counts.waiting] == self.passed
+    fn source(&self, calls: usize) -> Source {
+        Source {
+            rest: self.input,
+            manner: self.manner(Stream::Input, calls),
+        }
     }
 
-    /// Returns whether the run in which `calls` calls of the stream succeed is that of the row.
-    fn is_played<H: Wait + AllocGlobal>(
+    /// Returns whether a run with this status and these bytes is that of the row.
+    fn has_ended(&self, calls: usize, status: u8, output: &[u8], fault: &[u8]) -> bool {
+        status == self.status
+            && self.has_come(Stream::Output, calls, output, self.output)
+            && self.has_come(Stream::Error, calls, fault, self.fault)
+    }
+
+    fn has_passed(&self, rt: &impl Wait, inbox: &Mutex<Inbox<Request>>, passed: [u64; 3]) -> bool {
+        let counts = inbox.lock(rt).counts();
+        [counts.accepted, counts.taken, counts.waiting] == passed
+    }
+
+    fn is_replayed<H: Wait + AllocGlobal>(
         &self,
         rt: &H,
         words: &[String],
         calls: usize,
-    ) -> Result<bool, AllocError> {
-        let inbox = Mutex::new(inbox(rt.alloc(), self.through));
+        inbox: Inbox<Request>,
+        passed: [u64; 3],
+    ) -> bool {
+        let inbox = Mutex::new(inbox);
         let mut output = Vec::new(rt.alloc());
         let mut fault = Vec::new(rt.alloc());
-        let source = Source {
-            rest: self.input,
-            manner: self.manner(Stream::Input, calls),
-        };
         let out = Sink {
             held: &mut output,
             manner: self.manner(Stream::Output, calls),
@@ -144,34 +158,64 @@ impl Row {
             held: &mut fault,
             manner: self.manner(Stream::Error, calls),
         };
-        let status = play_through(rt, &inbox, words, source, out, err);
-        Ok(
-            status == self.status
-                && self.has_come(Stream::Output, calls, &output, self.output)
-                && self.has_come(Stream::Error, calls, &fault, self.fault)
-                && self.has_passed(rt, &inbox),
-        )
+        let status = play_through(rt, &inbox, words, self.source(calls), out, err);
+        self.has_ended(calls, status, &output, &fault) && self.has_passed(rt, &inbox, passed)
+    }
+
+    fn is_stepped<H: AllocGlobal>(&self, rt: &H, words: &[String], calls: usize) -> bool {
+        let mut output = Vec::new(rt.alloc());
+        let mut fault = Vec::new(rt.alloc());
+        let out = Sink {
+            held: &mut output,
+            manner: self.manner(Stream::Output, calls),
+        };
+        let err = Sink {
+            held: &mut fault,
+            manner: self.manner(Stream::Error, calls),
+        };
+        let status = world_lib::play(rt, words, self.source(calls), out, err);
+        self.has_ended(calls, status, &output, &fault)
+    }
+
+    /// Returns whether the run in which `calls` calls of the stream succeed is that of the row.
+    fn is_played<H: Wait + AllocGlobal>(&self, rt: &H, words: &[String], calls: usize) -> bool {
+        match self.program {
+            Program::World => self.is_stepped(rt, words, calls),
+            Program::Replay(through, passed) => {
+                self.is_replayed(rt, words, calls, inbox(rt.alloc(), through), passed)
+            }
+        }
     }
 
     /// Returns whether each run is that of the row.
-    fn holds<H: Wait + AllocGlobal>(&self, rt: &H) -> Result<bool, AllocError> {
-        let alloc = rt.alloc();
-        let words = [String::from_str(alloc, "1")?, String::from_str(alloc, "2")?];
+    fn holds<H: Wait + AllocGlobal>(&self, rt: &H, words: &[String]) -> bool {
         for run in 0..self.runs {
-            let calls = self.calls.saturating_add(run);
-            if !self.is_played(rt, &words, calls)? {
-                return Ok(false);
+            if !self.is_played(rt, words, self.calls.saturating_add(run)) {
+                return false;
             }
         }
-        Ok(true)
+        true
     }
 }
 
-#[test]
-fn faults_of_streams_and_inboxes_are_told(rt: HostRuntime) -> Result<(), Fail> {
-    for row in rows() {
-        let holds = row.holds(&rt)?;
+fn hold<H: Wait + Abort + AllocGlobal>(rt: &H, words: &[&str], rows: &[Row]) -> Result<(), Fail> {
+    let mut owned = Vec::new(rt.alloc());
+    for word in words {
+        owned.push(String::from_str(rt.alloc(), word)?)?;
+    }
+    for row in rows {
+        let holds = row.holds(rt, &owned);
         assert!(rt; holds, "{}", row.name);
     }
     Ok(())
+}
+
+#[test]
+fn replay_tells_faults_of_streams_and_inboxes(rt: HostRuntime) -> Result<(), Fail> {
+    hold(&rt, &["1", "2"], replay_rows())
+}
+
+#[test]
+fn world_tells_faults_of_streams(rt: HostRuntime) -> Result<(), Fail> {
+    hold(&rt, &["2", "1,2", "9"], world_rows())
 }

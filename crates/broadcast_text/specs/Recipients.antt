@@ -1,6 +1,9 @@
 -- How recipients are spelled.
 use Rattle.std.specs.Prelude.{List, ℕ, [], ◌∷◌, ◌++◌, ◌≡◌, ◌<◌, ◌^◌, All, codes, length, map}
 use Rattle.std.specs.Fmt.{decimal}
+use Rattle.std.specs.List.{list_any}
+use Rattle.std.specs.List.Sorted.{IsStrictlySortedBy}
+use Rattle.std.specs.Ordering.{eq_by_cmp, nat_cmp}
 use Rattle.broadcast_core.specs.declared.ordered.Recipients.{Recipients}
 use Rattle.broadcast_core.specs.declared.ordered.Recipients.TheVariants as recipients
 use Rattle.broadcast_text.specs.Words.{words_of}
@@ -33,3 +36,8 @@ keys_of (recipients.Some keys) = keys
 -- each of them is a number of 64 bits
 abbrev pub AreNumbers : List ℕ → Type 0
 AreNumbers numbers = All (λ n. n < 2 ^ 64) numbers
+
+-- the set has the keys, sorted, each of them once
+pub record IsSetOf (keys set : List ℕ) : Type 0 where
+  pub members : (key : ℕ) → list_any (eq_by_cmp nat_cmp key) set ≡ list_any (eq_by_cmp nat_cmp key) keys
+  pub rises : IsStrictlySortedBy nat_cmp set

@@ -1,9 +1,6 @@
 -- What the lines of an event file mean.
 use Rattle.std.specs.Prelude.{List, ℕ, [], ◌∷◌, ◌≡◌, ◌<◌, ◌^◌, codes, map}
 use Rattle.std.specs.Fmt.{decimal}
-use Rattle.std.specs.List.{list_any}
-use Rattle.std.specs.List.Sorted.{IsStrictlySortedBy}
-use Rattle.std.specs.Ordering.{eq_by_cmp, nat_cmp}
 use Rattle.sha2.specs.Sha256.{sha256}
 use Rattle.hex.specs.Hex.{IsBytes}
 use Rattle.broadcast_core.specs.TestMessage.{Parts}
@@ -11,7 +8,7 @@ use Rattle.broadcast_core.specs.declared.ordered.Recipients.{Recipients}
 use Rattle.broadcast_core.specs.declared.event.Event.{Event}
 use Rattle.broadcast_core.specs.declared.event.Event.TheVariants.{Peers, Broadcast, Payload, Subscribe, Get, Cleanup}
 use Rattle.broadcast_text.specs.Words.{byte_list_word}
-use Rattle.broadcast_text.specs.Recipients.{IsRecipients, AreNumbers, keys_of}
+use Rattle.broadcast_text.specs.Recipients.{IsRecipients, IsSetOf, AreNumbers, keys_of}
 use Rattle.broadcast_text.specs.Message.{Spelled, AreBytes, message_words, message_of}
 use Rattle.replay_lib.specs.declared.line.Kind.{Kind}
 use Rattle.replay_lib.specs.declared.line.Kind.TheVariants as kinds
@@ -54,11 +51,6 @@ HasRest words (cleanup tickets) = words ≡ map decimal tickets
 -- the words are those of the line
 abbrev pub HasWords : List (List ℕ) → Line → Type 0
 HasWords words line = (rest : List (List ℕ)) × (words ≡ kind_word (kind_of line) ∷ rest) × HasRest rest line
-
--- the set has the keys, sorted, each of them once
-pub record IsSetOf (keys set : List ℕ) : Type 0 where
-  pub members : (key : ℕ) → list_any (eq_by_cmp nat_cmp key) set ≡ list_any (eq_by_cmp nat_cmp key) keys
-  pub rises : IsStrictlySortedBy nat_cmp set
 
 -- the event of a line
 abbrev pub IsEventOf : Line → Event ℕ Parts (List ℕ) → Type 0

@@ -1,4 +1,4 @@
-//! Runs of the program `replay`, and what comes of them.
+//! Runs of the programs, and what comes of them.
 use std::io::ErrorKind;
 
 /// The standard streams.
@@ -23,7 +23,16 @@ pub enum Through {
     Shared,
 }
 
-/// Runs with the arguments 1 and 2 in which one stream succeeds in some calls, and then fails.
+/// A program with its arguments.
+#[derive(Clone, Copy)]
+pub enum Program {
+    /// `replay 1 2` through the inbox, with the requests accepted, taken and waiting afterwards.
+    Replay(Through, [u64; 3]),
+    /// `world 2 1,2 9`.
+    World,
+}
+
+/// Runs in which one stream succeeds in some calls, and then fails.
 pub struct Row {
     /// What the runs show.
     pub name: &'static str,
@@ -37,8 +46,8 @@ pub struct Row {
     pub calls: usize,
     /// The number of runs, each with one call more that succeeds.
     pub runs: usize,
-    /// The inbox.
-    pub through: Through,
+    /// The program.
+    pub program: Program,
     /// The standard input.
     pub input: &'static [u8],
     /// The standard output if all of it goes through.
@@ -47,8 +56,6 @@ pub struct Row {
     pub fault: &'static [u8],
     /// The exit status.
     pub status: u8,
-    /// The requests accepted, taken and waiting.
-    pub passed: [u64; 3],
 }
 
 const FAULTY: &[u8] = b"peer 1\npeers 1\nbroadcast all - 61\n";
@@ -71,12 +78,11 @@ static ROWS: [Row; 13] = [
         failure: ErrorKind::Other,
         calls: 0,
         runs: 8,
-        through: Through::Open,
+        program: Program::Replay(Through::Open, [0, 0, 0]),
         input: FAULTY,
         output: b"",
         fault: b"read failed\n",
         status: 3,
-        passed: [0, 0, 0],
     },
     Row {
         name: "a faulty line is told",
@@ -85,12 +91,11 @@ static ROWS: [Row; 13] = [
         failure: ErrorKind::Other,
         calls: 8,
         runs: 2,
-        through: Through::Open,
+        program: Program::Replay(Through::Open, [0, 0, 0]),
         input: FAULTY,
         output: b"",
         fault: b"line 1: syntax\n",
         status: 2,
-        passed: [0, 0, 0],
     },
     Row {
         name: "an interrupted read is tried again",
@@ -99,12 +104,11 @@ static ROWS: [Row; 13] = [
         failure: ErrorKind::Interrupted,
         calls: 0,
         runs: 4,
-        through: Through::Open,
+        program: Program::Replay(Through::Open, [0, 0, 0]),
         input: FAULTY,
         output: b"",
         fault: b"line 1: syntax\n",
         status: 2,
-        passed: [0, 0, 0],
     },
     Row {
         name: "input comes a byte at a time",
@@ -113,12 +117,11 @@ static ROWS: [Row; 13] = [
         failure: ErrorKind::Other,
         calls: usize::MAX,
         runs: 1,
-        through: Through::Open,
+        program: Program::Replay(Through::Open, [1, 1, 0]),
         input: EVENTS,
         output: ANSWERS,
         fault: b"",
         status: 0,
-        passed: [1, 1, 0],
     },
     Row {
         name: "a failed write ends the run",
@@ -127,12 +130,11 @@ static ROWS: [Row; 13] = [
         failure: ErrorKind::Other,
         calls: 0,
         runs: 8,
-        through: Through::Open,
+        program: Program::Replay(Through::Open, [1, 1, 0]),
         input: EVENTS,
         output: ANSWERS,
         fault: b"write failed\n",
         status: 3,
-        passed: [1, 1, 0],
     },
     Row {
         name: "output goes in pieces",
@@ -141,12 +143,11 @@ static ROWS: [Row; 13] = [
         failure: ErrorKind::Other,
         calls: 8,
         runs: 2,
-        through: Through::Open,
+        program: Program::Replay(Through::Open, [1, 1, 0]),
         input: EVENTS,
         output: ANSWERS,
         fault: b"",
         status: 0,
-        passed: [1, 1, 0],
     },
     Row {
         name: "a write of no bytes fails",
@@ -155,12 +156,11 @@ static ROWS: [Row; 13] = [
         failure: ErrorKind::Other,
         calls: usize::MAX,
         runs: 1,
-        through: Through::Open,
+        program: Program::Replay(Through::Open, [1, 1, 0]),
         input: EVENTS,
         output: ANSWERS,
         fault: b"write failed\n",
         status: 3,
-        passed: [1, 1, 0],
     },
     Row {
         name: "a fault that cannot be told is ignored",
@@ -169,12 +169,11 @@ static ROWS: [Row; 13] = [
         failure: ErrorKind::Other,
         calls: 0,
         runs: 16,
-        through: Through::Open,
+        program: Program::Replay(Through::Open, [0, 0, 0]),
         input: FAULTY,
         output: b"",
         fault: b"line 1: syntax\n",
         status: 2,
-        passed: [0, 0, 0],
     },
     Row {
         name: "each broadcast passes the inbox",
@@ -183,12 +182,11 @@ static ROWS: [Row; 13] = [
         failure: ErrorKind::Other,
         calls: usize::MAX,
         runs: 1,
-        through: Through::Open,
+        program: Program::Replay(Through::Open, [2, 2, 0]),
         input: TWO,
         output: TWO_ANSWERS,
         fault: b"",
         status: 0,
-        passed: [2, 2, 0],
     },
     Row {
         name: "a closed inbox goes before a failed write",
@@ -197,12 +195,11 @@ static ROWS: [Row; 13] = [
         failure: ErrorKind::Other,
         calls: 0,
         runs: 1,
-        through: Through::Closed,
+        program: Program::Replay(Through::Closed, [0, 0, 0]),
         input: EVENTS,
         output: b"",
         fault: b"mailbox failed\n",
         status: 3,
-        passed: [0, 0, 0],
     },
     Row {
         name: "a faulty line goes before a closed inbox",
@@ -211,12 +208,11 @@ static ROWS: [Row; 13] = [
         failure: ErrorKind::Other,
         calls: usize::MAX,
         runs: 1,
-        through: Through::Closed,
+        program: Program::Replay(Through::Closed, [0, 0, 0]),
         input: b"broadcast all - 61\npeer 1\n",
         output: b"",
         fault: b"line 2: syntax\n",
         status: 2,
-        passed: [0, 0, 0],
     },
     Row {
         name: "a closed inbox is no fault without a broadcast",
@@ -225,12 +221,11 @@ static ROWS: [Row; 13] = [
         failure: ErrorKind::Other,
         calls: usize::MAX,
         runs: 1,
-        through: Through::Closed,
+        program: Program::Replay(Through::Closed, [0, 0, 0]),
         input: b"peers 1\n",
         output: b"ok\ncached 0\nawaited 0\n",
         fault: b"",
         status: 0,
-        passed: [0, 0, 0],
     },
     Row {
         name: "a request of others is no broadcast",
@@ -239,16 +234,15 @@ static ROWS: [Row; 13] = [
         failure: ErrorKind::Other,
         calls: usize::MAX,
         runs: 1,
-        through: Through::Shared,
+        program: Program::Replay(Through::Shared, [1, 0, 1]),
         input: EVENTS,
         output: b"",
         fault: b"mailbox failed\n",
         status: 3,
-        passed: [1, 0, 1],
     },
 ];
 
-/// Returns the rows.
-pub fn rows() -> &'static [Row] {
+/// Returns the rows of `replay`.
+pub fn replay_rows() -> &'static [Row] {
     &ROWS
 }
