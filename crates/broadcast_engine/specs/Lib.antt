@@ -13,4 +13,5 @@ pub mod Polled
 pub mod Fetched
 pub mod Looked
 pub mod Woken
+pub mod Order
 pub mod EngineState
