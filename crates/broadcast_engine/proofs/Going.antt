@@ -1,8 +1,8 @@
 -- Polls of an engine.
-use Rattle.std.specs.Prelude.{Ok, Err}
+use Rattle.std.specs.Prelude.{Err}
 use Rattle.std.proofs.Common.{inl, inr, ◌≡◌, ℕ, Bool, List, [], ◌∷◌, ◌++◌, Option, Some, None, Result, refl, sym, ap, ◌∙◌, subst, append-nil}
 use Rattle.futures.specs.declared.task.Poll.{Poll}
-use Rattle.futures.specs.declared.task.Poll.TheVariants.{Ready, Pending}
+use Rattle.futures.specs.declared.task.Poll.TheVariants.{Ready}
 use Rattle.broadcast_core.specs.Setting.{Setting}
 use Rattle.broadcast_core.specs.Happening.{History}
 use Rattle.broadcast_core.specs.HasContent.{HasContent}
@@ -21,6 +21,7 @@ use Rattle.broadcast_engine.specs.Ran.{Steps}
 use Rattle.broadcast_engine.specs.Taken.{sets_in, requests_in, payloads_in, pending_input, HoldsJob, Holds, TakesNone}
 use Rattle.broadcast_engine.specs.Woken.{Woken}
 use Rattle.broadcast_engine.specs.EngineState.{EngineState, Went, Turned}
+use Rattle.broadcast_engine.specs.Order.{as_turn}
 use Rattle.broadcast_engine.proofs.Runs.{Ran-one}
 use Rattle.broadcast_engine.proofs.Composing.{Ran-none, Ran-more}
 use Rattle.broadcast_engine.proofs.Due.{all-due}
@@ -38,12 +39,6 @@ Holds-none is_of job (Some m) h none = absurd (let no = subst (λ j. HoldsJob is
 Holds-some : {P M J : Type 0} (is_of : J → M → Type 0) (job : Option (P × J)) (held : P × J) (message : Option (P × M)) → HoldsJob is_of job message → job ≡ Some held → (m : P × M) × (message ≡ Some m)
 Holds-some is_of job held None h at = absurd (let no = subst (λ j. HoldsJob is_of j None) at h in no)
 Holds-some is_of job held (Some m) h at = (m, refl)
-
--- how an end is told
-abbrev told_so : Poll (Result Turn EndCause) → Poll Turn
-told_so (Ready (Ok turn)) = Ready turn
-told_so (Ready (Err cause)) = Ready (Ended cause)
-told_so Pending = Pending
 
 module _ {P M D S G O N J R B Q C T : Type 0} (s : Setting P M D) (may_answer : Asker S → Bool → Type 0)
     (outlet_told : O → Replies S G M D → Type 0) (sender_told : N → List (Sent P) → Type 0)
@@ -138,7 +133,7 @@ module _ {P M D S G O N J R B Q C T : Type 0} (s : Setting P M D) (may_answer : 
           };
           job_alone = λ job at. let m = Holds-some is_of old.job job before holds at in none_taken (one.job_alone m.0 m.1);
           swept_first = λ _ at. elim (one.swept_first (Holds-none is_of old.job before holds at)) [
-            | inl stops ↦ inl (ap told_so (sym is ∙ stops.0), none_taken stops.1)
+            | inl stops ↦ inl (ap as_turn (sym is ∙ stops.0), none_taken stops.1)
             | inr sweeps ↦ inr (sweeps.0, ended cause ∷ sweeps.1, ap (λ l. ended cause ∷ l) sweeps.2)
           ];
         }

@@ -14,5 +14,6 @@ pub mod Polled
 pub mod Fetched
 pub mod Looked
 pub mod Woken
+pub mod Order
 pub mod EngineState
 pub mod Fresh

@@ -8,6 +8,7 @@ mod input;
 mod job;
 mod laws;
 mod look;
+mod next;
 mod node;
 mod open;
 mod poll;

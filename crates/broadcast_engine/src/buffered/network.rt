@@ -1,5 +1,5 @@
 //! The peers and the network of an engine.
-ghost use Rattle.std.specs.Prelude.{ℕ, List, [], ◌∷◌, ◌++◌};
+ghost use Rattle.std.specs.Prelude.{⊤, ℕ, List, [], ◌∷◌, ◌++◌};
 ghost use Rattle.futures.specs.Poll.{OnPending};
 ghost use Rattle.futures.specs.Task.{IsArmed, Keeps};
 ghost use Rattle.broadcast_core.specs.declared.event.Sent.{Sent};
@@ -19,10 +19,14 @@ pub trait Provider<P: PublicKey> {
     /// Whether this may be the list of the sets that were given, oldest first.
     ghost told: { Self → List (List P) → Type 0 };
 
+    /// Whether the provider may have no set to give.
+    ghost quiet: { Self → Type 0 } = { λ _. ⊤ };
+
     /// Returns the next set of primary peers, or `None` once there are no more.
     fn poll_update(&mut self, cx: &mut Context<'_>) -> Poll<Option<Set<P>>>
         ensures tells { (sets : List (List P))
             → told self.old sets → told self.new (sets ++ given_some result) }
+        ensures quiet { OnPending result (quiet self.old) }
         ensures armed { OnPending result (IsArmed cx.new) }
         ensures kept { Keeps cx.old cx.new };
 }

@@ -4,7 +4,9 @@ ghost use Rattle.broadcast_core.specs.Content.{same_by};
 ghost use Rattle.broadcast_core.specs.Setting.{Setting};
 ghost use Rattle.broadcast_core.specs.Happening.{History};
 ghost use Rattle.broadcast_core.specs.HasContent.{HasContent};
+ghost use Rattle.broadcast_engine.specs.declared.buffered.engine.input.Input.TheVariants.{Peers};
 ghost use Rattle.broadcast_engine.specs.declared.buffered.engine.input.Input.TheVariants as input;
+ghost use Rattle.broadcast_engine.specs.declared.buffered.engine.input.Turn.TheVariants as turn;
 ghost use Rattle.broadcast_engine.specs.EngineHistory.{end_told};
 ghost use Rattle.broadcast_engine.specs.Replies.{Asker};
 ghost use Rattle.broadcast_engine.specs.Ran.{Applied};
@@ -43,6 +45,7 @@ where
         → Applied s (λ w b. S.may_answer w.responder b) O.told N.told past input
         result node.old node.new sender.old sender.new }
     ensures tells_no_end { end_told result ≡ None }
+    ensures of_peers { (ps : List P) → input ≡ Peers ps → result ≡ turn.Peers }
 {
     match input {
         Input::Peers(peers) => {

@@ -60,7 +60,8 @@ where
     ensures armed_if_short { IfOk result (λ turns. length turns.items < limit
         → engine.new.end ≡ None → IsArmed cx.new) }
     ensures same_after_end { (cause : EndCause) → engine.old.end ≡ Some cause
-        → (engine.new ≡ engine.old) × (network.new ≡ network.old) }
+        → (engine.new ≡ engine.old) × (network.new ≡ network.old)
+        × IfOk result (λ turns. 0 < limit → turns.items ≡ turn.Ended cause ∷ []) }
     ensures unchanged_on_error { OnErr result ((engine.new ≡ engine.old)
         × (network.new ≡ network.old) × (cx.new ≡ cx.old)) }
     ensures keeps_priority { engine.new.priority ≡ engine.old.priority }

@@ -8,11 +8,13 @@ ghost use Rattle.broadcast_core.specs.Happening.{History};
 ghost use Rattle.broadcast_core.specs.HasContent.{HasContent};
 ghost use Rattle.broadcast_engine.specs.EngineHistory.{end_told};
 ghost use Rattle.broadcast_engine.specs.Replies.{Asker};
+ghost use Rattle.broadcast_engine.specs.Order.{UnlessPeers, as_turn};
 ghost use Rattle.broadcast_engine.specs.Polled.{Polled};
 
 use crate::buffered::engine::apply::apply;
 use crate::buffered::engine::handler::cleanup_waiters;
-use crate::buffered::engine::input::{EndCause, Input, Turn};
+use crate::buffered::engine::input::{EndCause, Turn};
+use crate::buffered::engine::next::next_input;
 use crate::buffered::engine::node::Node;
 use crate::buffered::network::{Provider, Sender};
 use crate::buffered::outlet::Outlet;
@@ -48,20 +50,14 @@ where
         node.old node.new sender.old sender.new
         provider.old provider.new requests.old requests.new }
     ensures tells_no_end { IfReady result (λ r. IfOk r (λ turn. end_told turn ≡ None)) }
+    ensures peers_first { UnlessPeers (as_turn result) (B.quiet provider.old) }
     ensures armed { OnPending result (IsArmed cx.new) }
     ensures kept { Keeps cx.old cx.new }
 {
     cleanup_waiters(node);
-    match provider.poll_update(cx) {
-        Poll::Ready(Some(peers)) => {
-            Poll::Ready(Ok(apply(node, sender, alloc, priority, Input::Peers(peers))))
-        }
-        Poll::Ready(None) => Poll::Ready(Err(EndCause::PeersClosed)),
-        Poll::Pending => match requests.poll_next(cx) {
-            Poll::Ready(request) => {
-                Poll::Ready(Ok(apply(node, sender, alloc, priority, Input::Request(request))))
-            }
-            Poll::Pending => Poll::Pending,
-        },
+    match next_input(provider, requests, cx) {
+        Poll::Ready(Ok(input)) => Poll::Ready(Ok(apply(node, sender, alloc, priority, input))),
+        Poll::Ready(Err(cause)) => Poll::Ready(Err(cause)),
+        Poll::Pending => Poll::Pending,
     }
 }

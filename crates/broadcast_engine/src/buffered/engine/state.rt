@@ -11,6 +11,7 @@ ghost use Rattle.broadcast_core.specs.HasContent.{HasContent};
 ghost use Rattle.broadcast_engine.specs.declared.buffered.engine.input.Turn.TheVariants as turn;
 ghost use Rattle.broadcast_engine.specs.declared.buffered.engine.input.EndCause.{EndCause};
 ghost use Rattle.broadcast_engine.specs.Replies.{Asker};
+ghost use Rattle.broadcast_engine.specs.Order.{UnlessPeers};
 ghost use Rattle.broadcast_engine.specs.EngineHistory.{end_told};
 ghost use Rattle.broadcast_engine.specs.Ran.{Applied};
 ghost use Rattle.broadcast_engine.specs.Taken.{Holds};
@@ -184,6 +185,8 @@ impl<P: PublicKey, M: Digestible + Codec, S, O, B, Q, T: Strategy<M>> Engine<P, 
             → Holds T.Job.is_of self.old.end self.old.job before
             → Turned s (λ w b. S.may_answer w.responder b) O.told N.told T.Job.is_of R.told B.told
             Q.told past before self.old self.new network.old network.new result }
+        ensures peers_first { self.old.end ≡ None → self.old.job ≡ None
+            → UnlessPeers result (B.quiet self.old.provider) }
         ensures same_after_end { (cause : EndCause) → self.old.end ≡ Some cause
             → (result ≡ Ready (turn.Ended cause)) × (self.new ≡ self.old)
             × (network.new ≡ network.old) }

@@ -1,0 +1,28 @@
+-- What an engine takes before it looks at other sources.
+use Rattle.std.specs.Prelude.{Result, Ok, Err, ⊤}
+use Rattle.futures.specs.declared.task.Poll.{Poll}
+use Rattle.futures.specs.declared.task.Poll.TheVariants.{Ready, Pending}
+use Rattle.broadcast_engine.specs.declared.buffered.engine.input.EndCause.{EndCause}
+use Rattle.broadcast_engine.specs.declared.buffered.engine.input.Input.{Input}
+use Rattle.broadcast_engine.specs.declared.buffered.engine.input.Input.TheVariants as input
+use Rattle.broadcast_engine.specs.declared.buffered.engine.input.Turn.{Turn}
+use Rattle.broadcast_engine.specs.declared.buffered.engine.input.Turn.TheVariants as turn
+
+-- unless the turn is that of a peer set or of an end, this holds
+abbrev pub UnlessPeers : Poll Turn → Type 0 → Type 0
+UnlessPeers (Ready turn.Peers) holds = ⊤
+UnlessPeers (Ready (turn.Ended cause)) holds = ⊤
+UnlessPeers _ holds = holds
+
+-- the same of an input that was taken
+abbrev pub UnlessPeerSet : {P M S G D : Type 0} → Poll (Result (Input P M S G D) EndCause)
+    → Type 0 → Type 0
+UnlessPeerSet (Ready (Ok (input.Peers ps))) holds = ⊤
+UnlessPeerSet (Ready (Err cause)) holds = ⊤
+UnlessPeerSet _ holds = holds
+
+-- the turn of a poll that tells an end apart
+abbrev pub as_turn : Poll (Result Turn EndCause) → Poll Turn
+as_turn (Ready (Ok turn)) = Ready turn
+as_turn (Ready (Err cause)) = Ready (turn.Ended cause)
+as_turn Pending = Pending

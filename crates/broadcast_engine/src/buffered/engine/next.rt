@@ -1,0 +1,47 @@
+//! The next input of the node's own sources.
+ghost use Rattle.std.specs.Prelude.{◌≡◌, List, [], ◌∷◌, ◌++◌, IfOk};
+ghost use Rattle.futures.specs.Poll.{IfReady, OnPending};
+ghost use Rattle.futures.specs.Task.{IsArmed, Keeps};
+ghost use Rattle.commonware_broadcast.specs.declared.buffered.ingress.message.Message.{Message};
+ghost use Rattle.broadcast_engine.specs.declared.buffered.engine.input.Request.{Request};
+ghost use Rattle.broadcast_engine.specs.Sources.{given_ok};
+ghost use Rattle.broadcast_engine.specs.Taken.{sets_in, requests_in, payloads_in};
+ghost use Rattle.broadcast_engine.specs.Order.{UnlessPeerSet};
+
+use crate::buffered::engine::input::{EndCause, Input};
+use crate::buffered::network::Provider;
+use crate::buffered::requests::Requests;
+use broadcast_core::{Digestible, PublicKey};
+use commonware_broadcast::buffered::Message;
+use futures::task::{Context, Poll};
+
+/// Returns the next peer set, or else the next request.
+pub(super) fn next_input<P, M, S, G, B, Q>(
+    provider: &mut B,
+    requests: &mut Q,
+    cx: &mut Context<'_>,
+) -> Poll<Result<Input<P, M, S, G>, EndCause>>
+where
+    P: PublicKey,
+    M: Digestible,
+    B: Provider<P>,
+    Q: Requests<Message<P, M, S, G>>,
+    ensures sets { (before : List (List P)) → B.told provider.old before
+        → B.told provider.new (before ++ sets_in (given_ok result)) }
+    ensures requests { (before : List (Request (Message P M S G M.Digest)))
+        → Q.told requests.old before
+        → Q.told requests.new (before ++ requests_in (given_ok result)) }
+    ensures no_payload { payloads_in (given_ok result) ≡ [] }
+    ensures peers_first { UnlessPeerSet result (B.quiet provider.old) }
+    ensures armed { OnPending result (IsArmed cx.new) }
+    ensures kept { Keeps cx.old cx.new }
+{
+    match provider.poll_update(cx) {
+        Poll::Ready(Some(peers)) => Poll::Ready(Ok(Input::Peers(peers))),
+        Poll::Ready(None) => Poll::Ready(Err(EndCause::PeersClosed)),
+        Poll::Pending => match requests.poll_next(cx) {
+            Poll::Ready(request) => Poll::Ready(Ok(Input::Request(request))),
+            Poll::Pending => Poll::Pending,
+        },
+    }
+}
