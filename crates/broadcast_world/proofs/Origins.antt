@@ -63,7 +63,7 @@ module _ {P : Type 0} (same : P → P → Bool) (laws : IsEquivalence same) wher
   All-self [] = tt
   All-self (p ∷ ps) = (rw (laws.refl p) refl, All-weaker (λ q. list_any (same q) ps ≡ true) (λ q. list_any (same q) (p ∷ ps) ≡ true) ps (λ q h. rw h (or_right (same q p))) (All-self ps))
 
-  any-equal : (p q : P) (ps : List P) → same p q ≡ true → list_any (same p) ps ≡ list_any (same q) ps
+  pub any-equal : (p q : P) (ps : List P) → same p q ≡ true → list_any (same p) ps ≡ list_any (same q) ps
   any-equal p q [] h = refl
   any-equal p q (x ∷ ps) h = rw (laws.congr p q x h, any-equal p q ps h) refl
 

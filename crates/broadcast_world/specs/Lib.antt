@@ -4,3 +4,4 @@ pub mod World
 pub mod Steps
 pub mod Made
 pub mod Broadcasts
+pub mod TwoRuns

@@ -11,8 +11,11 @@ mod packet;
 mod run;
 mod state;
 mod step;
+mod two_runs;
 
 pub use error::WorldError;
+pub use made::shares_key;
 pub use run::run_world;
 pub use state::World;
 pub use step::{Step, WorldAnswer, WorldLog};
+pub use two_runs::{Comparison, compare, without_hostile};

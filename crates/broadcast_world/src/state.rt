@@ -1,5 +1,6 @@
 //! A world.
 ghost use Rattle.std.specs.Prelude.{◌≡◌, true, false, [], length, IfOk, Err};
+ghost use Rattle.std.specs.Arc.{arc_value};
 ghost use Rattle.std.specs.List.{list_any, slice_get};
 ghost use Rattle.std.specs.Option.{option_copied};
 ghost use Rattle.std.specs.Ordering.{eq_by_cmp};
@@ -13,14 +14,15 @@ use crate::made::{cores_for, shares_key};
 use crate::packet::Packet;
 use crate::step::{Step, WorldAnswer};
 use broadcast_core::{Core, PublicKey, RangeCfg, Set, TestMessage};
-use std::alloc::Global;
+use std::alloc::{AllocError, Global};
 use std::marker::Model;
+use std::sync::Arc;
 
 /// Nodes, hostile keys, and the packets sent so far.
 #[derive(Drop)]
 pub struct World<P: PublicKey> {
-    nodes: Set<P>,
-    hostile: Set<P>,
+    nodes: Arc<Set<P>>,
+    hostile: Arc<Set<P>>,
     deque_size: usize,
     range: RangeCfg,
     cores: Vec<Core<P, TestMessage, u64>>,
@@ -29,14 +31,15 @@ pub struct World<P: PublicKey> {
 
 impl<P: PublicKey> Model for World<P> {
     ghost use Rattle.std.specs.Prelude.{◌≡◌, length};
+    ghost use Rattle.std.specs.Arc.{arc_value};
     ghost use Rattle.broadcast_world.specs.Scene.{State};
 
     ghost Value = { State P };
 
     ghost view = { λ it. record {
       scene = record {
-        nodes = it.nodes;
-        hostile = it.hostile;
+        nodes = arc_value it.nodes;
+        hostile = arc_value it.hostile;
         deque_size = it.deque_size;
         range = it.range;
       };
@@ -44,7 +47,7 @@ impl<P: PublicKey> Model for World<P> {
       packets = it.packets.items;
     } };
 
-    ghost invariant = { λ it. length it.cores.items ≡ length it.nodes };
+    ghost invariant = { λ it. length it.cores.items ≡ length (arc_value it.nodes) };
 }
 
 impl<P: PublicKey> World<P> {
@@ -79,8 +82,27 @@ impl<P: PublicKey> World<P> {
         if shares_key(&nodes, &hostile) {
             return Err(WorldError::SharedKey);
         }
-        let nodes = Set::from_iter_dedup(nodes)?;
-        let hostile = Set::from_iter_dedup(hostile)?;
+        let nodes = set_of(alloc, nodes)?;
+        let hostile = set_of(alloc, hostile)?;
+        Ok(World::over(alloc, nodes, hostile, deque_size, range)?)
+    }
+
+    /// Creates a world over these keys in which nothing has happened.
+    fn over(
+        alloc: Global,
+        nodes: Arc<Set<P>>,
+        hostile: Arc<Set<P>>,
+        deque_size: usize,
+        range: RangeCfg,
+    ) -> Result<Self, AllocError>
+        ensures scene { IfOk result (λ world. world.scene ≡ record {
+          nodes = arc_value nodes;
+          hostile = arc_value hostile;
+          deque_size = deque_size;
+          range = range;
+        }) }
+        ensures empty { IfOk result (λ world. HasWorld P.cmp [] world) }
+    {
         let cores = cores_for(alloc, nodes.as_slice(), deque_size)?;
         Ok(World {
             nodes,
@@ -90,6 +112,16 @@ impl<P: PublicKey> World<P> {
             cores,
             packets: Vec::new(alloc),
         })
+    }
+
+    /// Creates a world with the same keys in which nothing has happened.
+    pub(crate) fn anew(&self, alloc: Global) -> Result<Self, AllocError>
+        ensures scene { IfOk result (λ world. world.scene ≡ self.now.scene) }
+        ensures empty { IfOk result (λ world. HasWorld P.cmp [] world) }
+    {
+        let nodes = Arc::try_clone(&self.nodes)?;
+        let hostile = Arc::try_clone(&self.hostile)?;
+        World::over(alloc, nodes, hostile, self.deque_size, self.range)
     }
 
     /// Returns the keys of the nodes.
@@ -103,8 +135,9 @@ impl<P: PublicKey> World<P> {
     pub fn core(&self, key: &P) -> Option<&Core<P, TestMessage, u64>>
         ensures { option_copied result ≡ content_of P.cmp self.now key.now }
     {
-        let _sorted = self.nodes.as_slice();
-        match self.nodes.position(key) {
+        let nodes: &Set<P> = &self.nodes;
+        let _sorted = nodes.as_slice();
+        match nodes.position(key) {
             None => None,
             Some(place) => core_at(&self.cores, place),
         }
@@ -115,17 +148,28 @@ impl<P: PublicKey> World<P> {
         ensures { (log : Log P) → HasWorld P.cmp log self.old
             → TakesStep P.cmp log step.now result self.old self.new }
     {
-        let World {
+        let nodes: &Set<P> = &self.nodes;
+        let hostile: &Set<P> = &self.hostile;
+        let _sorted = nodes.as_slice();
+        apply(
+            alloc,
             nodes,
             hostile,
-            deque_size: _,
-            range,
-            cores,
-            packets,
-        } = self;
-        let _sorted = nodes.as_slice();
-        apply(alloc, nodes, hostile, range, cores, packets, step)
+            &self.range,
+            &mut self.cores,
+            &mut self.packets,
+            step,
+        )
     }
+}
+
+/// Returns the set of the keys, to be shared.
+fn set_of<P: PublicKey>(alloc: Global, keys: Vec<P>) -> Result<Arc<Set<P>>, AllocError>
+    ensures { IfOk result (λ set. (q : P) → list_any (eq_by_cmp P.cmp q) (arc_value set)
+        ≡ list_any (eq_by_cmp P.cmp q) keys.items) }
+{
+    let keys = Set::from_iter_dedup(keys)?;
+    Ok(Arc::new(alloc, keys)?)
 }
 
 /// Returns the core at the place.

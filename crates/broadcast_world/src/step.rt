@@ -1,4 +1,7 @@
 //! Steps of a world, and their answers.
+ghost use Rattle.std.specs.Prelude.{◌≡◌};
+ghost use Rattle.broadcast_world.specs.TwoRuns.{is_hostile};
+
 use broadcast_core::{Answer, Digested, Items, PublicKey, Recipients, Set, TestMessage};
 
 /// A step of a world.
@@ -25,6 +28,15 @@ pub enum Step<P: PublicKey> {
         /// The bytes.
         bytes: Items<u8>,
     },
+}
+
+impl<P: PublicKey> Step<P> {
+    /// Returns whether the step is a send of a hostile key.
+    pub fn is_hostile(&self) -> bool
+        ensures { result ≡ is_hostile self.now }
+    {
+        matches!(self, Step::Hostile { .. })
+    }
 }
 
 /// The answer to a step of a world.
