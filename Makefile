@@ -1,9 +1,10 @@
 # `make example` runs the program on an example; `make test` is the merge gate.
-# `make rows`, `make growths` and `make bench` want the programs built, as `make test` leaves them.
+# `make rows`, `make growths`, `make devices` and `make bench` want the programs built, as `make test`
+# leaves them.
 EVENTS ?= examples/two-peers.events
 REPLAY := crates/replay/out/replay
 
-.PHONY: example test rows growths bench
+.PHONY: example test rows growths devices bench
 
 # `rt run` proves and builds the program, and prints how; the example is then run by itself.
 example:
@@ -21,6 +22,10 @@ rows:
 growths:
 	@echo "growths: refusing each growth of a program's heap in turn"
 	@scripts/growths
+
+devices:
+	@echo "devices: letting each read and write of a program go wrong in turn"
+	@scripts/devices
 
 bench:
 	@echo "bench: timing replay beside a plain Rust program"

@@ -354,39 +354,36 @@ def judge_mailbox(lines, calls):
         lines.expect(inbox.counts())
 
 
+# The parts of the output: the first line, the judge of the lines after it, and what that is given.
+PARTS = [
+    ("core", judge_core, [2, CORE]),
+    ("core without places", judge_core, [0, CORE_WITHOUT_PLACES]),
+    ("run", judge_run, [RUN]),
+    ("overflow", judge_overflow, [OVERFLOW]),
+    ("inbox", judge_inbox, [INBOX]),
+    ("mailbox", judge_mailbox, [MAILBOX]),
+]
+
+
 class Judge:
     """Judges the runs of the program."""
 
     def fault(self, ran, refused):
         """What is wrong with the run, or `None`."""
-        number = 0
-        if refused is not None:
-            number = max(0, min(ran.growths, refused.last or ran.growths) - refused.first + 1)
         # The first growth is the buffer of the output.
-        if number and refused.first == 1 and (ran.stdout, ran.status) == (b"", 3):
+        is_first = refused is not None and refused.first == 1
+        if ran.refused and is_first and (ran.stdout, ran.status) == (b"", 3):
             return None
         if ran.status != 0 or ran.stderr:
             return f"the status is {ran.status}, and standard error {ran.stderr[:80]!r}"
         lines = Lines(ran.stdout)
         try:
-            self.judge(lines)
+            for heading, judge, given in PARTS:
+                lines.expect(heading)
+                judge(lines, *given)
+            lines.end()
         except Wrong as wrong:
             return str(wrong)
-        if lines.refusals > number:
-            return f"{lines.refusals} refusals are told, and {number} growths were refused"
+        if lines.refusals > ran.refused:
+            return f"{lines.refusals} refusals are told, and {ran.refused} growths were refused"
         return None
-
-    def judge(self, lines):
-        lines.expect("core")
-        judge_core(lines, 2, CORE)
-        lines.expect("core without places")
-        judge_core(lines, 0, CORE_WITHOUT_PLACES)
-        lines.expect("run")
-        judge_run(lines, RUN)
-        lines.expect("overflow")
-        judge_overflow(lines, OVERFLOW)
-        lines.expect("inbox")
-        judge_inbox(lines, INBOX)
-        lines.expect("mailbox")
-        judge_mailbox(lines, MAILBOX)
-        lines.end()

@@ -2,6 +2,7 @@
 
 import os
 import subprocess
+import sys
 from dataclasses import dataclass
 from pathlib import Path
 
@@ -11,6 +12,8 @@ EXAMPLES = TOP / "examples"
 # A program as LLVM builds it, and as Rattle's own compiler does.
 SUFFIXES = ("", ".by-rattle")
 STREAMS = ("stdin", "stdout", "stderr")
+# Wrong runs of one row that are printed.
+SHOWN = 3
 # Seconds after which a run is given up.
 LIMIT = 60
 
@@ -51,6 +54,10 @@ class Row:
         )
 
 
+def programs_with_rows():
+    return sorted(folder.name for folder in ROWS.iterdir() if folder.is_dir())
+
+
 def rows_of(program):
     return [Row.read(folder) for folder in sorted((ROWS / program).iterdir())]
 
@@ -60,7 +67,49 @@ def builds_of(program):
 
 
 def is_built(executable):
-    return executable.is_file() and os.access(executable, os.X_OK)
+    if executable.is_file() and os.access(executable, os.X_OK):
+        return True
+    print(f"{shown(executable)}: it is not built; `rt ci` builds it")
+    return False
+
+
+def shown(executable):
+    return executable.relative_to(TOP) if executable.is_relative_to(TOP) else executable
+
+
+def chosen(words, programs, usage):
+    """The programs with their executables that the words of a command name: all, or one."""
+    match words:
+        case []:
+            return [(program, build) for program in programs for build in builds_of(program)]
+        case [program, executable] if program in programs:
+            return [(program, Path(executable).resolve())]
+        case _:
+            sys.exit(usage)
+
+
+@dataclass
+class Tally:
+    """How much passed and failed."""
+
+    passed: int = 0
+    failed: int = 0
+
+    def add(self, passed, failed):
+        self.passed += passed
+        self.failed += failed
+
+    def add_row(self, executable, name, judged):
+        """Counts a row by its runs, each with what is wrong with it or `None`."""
+        wrong = [it for it in judged if it[1] is not None]
+        for run, fault in wrong[:SHOWN]:
+            print(f"{shown(executable)}: {name}: {run}: {fault}")
+        self.add(not wrong, bool(wrong))
+
+    def end(self, name):
+        """Prints the last line of a command. Returns its exit status."""
+        print(f"{name}: {self.passed} passed, {self.failed} failed")
+        return 1 if self.failed else 0
 
 
 def run_row(executable, row):

@@ -1,35 +1,22 @@
 """What `replay OWN SIZE [MAX]` must print, computed from docs/REPLAY.md alone.
 
 This is written apart from the program, in another language and with other structures: it keeps no
-counts, and finds what is cached by looking at the lists. The judge of refused growths stands on it.
+counts, and finds what is cached by looking at the lists. The judges of refusals stand on it.
 """
 
 import hashlib
 from dataclasses import dataclass, field
 
 GREATEST = 2**64 - 1
-USAGE = "usage: replay OWN SIZE [MAX]\n"
+USAGE = "usage: replay OWN SIZE [MAX]"
 
 
 class Syntax(Exception):
     """A word or a line that is not of the stated form."""
 
 
-class SyntaxAt(Exception):
-    """The number of the first line that is no event, from 1 on."""
-
-
-class Usage(Exception):
-    """Arguments that are not of the stated form."""
-
-
-@dataclass(frozen=True)
-class Outcome:
-    """What a run leaves: standard output, standard error and the exit status."""
-
-    stdout: bytes
-    stderr: bytes
-    status: int
+class Fault(Exception):
+    """The line on standard error if nothing runs. The status is 2."""
 
 
 @dataclass(frozen=True)
@@ -111,9 +98,9 @@ def arguments(words):
     try:
         numbers = [number(word) for word in words]
     except Syntax:
-        raise Usage from None
+        raise Fault(USAGE) from None
     if len(numbers) not in (2, 3):
-        raise Usage
+        raise Fault(USAGE)
     return numbers if len(numbers) == 3 else [*numbers, GREATEST]
 
 
@@ -250,31 +237,23 @@ class Run:
         return [*self.answers, *self.core.report(), *self.sent]
 
 
-def parse(words, data):
-    """The arguments as numbers, and the events. Raises `Usage` or `SyntaxAt`."""
-    settings = arguments(words)
-    events = []
+def read(line_of, data):
+    """What each line says. Raises `Fault` with the first that says nothing."""
+    said = []
     for line in lines_of(data):
         try:
-            events.append(event(line))
+            said.append(line_of(line))
         except Syntax:
-            raise SyntaxAt(len(events) + 1) from None
-    return settings, events
+            raise Fault(f"line {len(said) + 1}: syntax") from None
+    return said
 
 
-def text(lines):
-    return "".join(f"{line}\n" for line in lines).encode()
+def parse(words, data):
+    """The arguments as numbers, and the events. Raises `Fault`."""
+    settings = arguments(words)
+    return settings, read(event, data)
 
 
-def outcome(words, data):
-    """The outcome of a run with ample memory."""
-    try:
-        settings, events = parse(words, data)
-    except Usage:
-        return Outcome(b"", USAGE.encode(), 2)
-    except SyntaxAt as fault:
-        return Outcome(b"", f"line {fault}: syntax\n".encode(), 2)
-    run = Run(*settings)
-    for given in events:
-        run.step(given)
-    return Outcome(text(run.output()), b"", 0)
+def parts(events):
+    """The lists of events whose runs are printed, each with the lines before it."""
+    return [([], events)]

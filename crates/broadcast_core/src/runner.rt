@@ -1,5 +1,6 @@
 //! A run of a list of events.
-ghost use Rattle.std.specs.Prelude.{IfOk};
+ghost use Rattle.std.specs.Prelude.{◌≡◌, ◌+◌, ◌<◌, ◌≤◌, ◌++◌, vec_len, vec_capacity, IfOk};
+ghost use Rattle.std.specs.Option.{option_to_list};
 ghost use Rattle.broadcast_core.specs.Codec.{whole};
 ghost use Rattle.broadcast_core.specs.Content.{same_by};
 ghost use Rattle.broadcast_core.specs.Setting.{setting};
@@ -10,7 +11,7 @@ pub mod apply;
 use crate::buffer::Core;
 use crate::codec::Codec;
 use crate::digested::Digestible;
-use crate::event::{Event, Run};
+use crate::event::{Event, Run, Sent};
 use crate::items::Items;
 use crate::ordered::PublicKey;
 use apply::apply;
@@ -41,9 +42,7 @@ pub fn run<P: PublicKey, M: Digestible + Codec>(
     let mut core = Core::new(alloc, own, deque_size);
     for event in events {
         let (answer, sending) = apply(alloc, &mut core, priority, cfg, event);
-        if let Some(sending) = sending {
-            sent.push_reserved(sending);
-        }
+        push_sent(&mut sent, sending);
         answers.push_reserved(answer);
     }
     Ok(Run {
@@ -51,4 +50,16 @@ pub fn run<P: PublicKey, M: Digestible + Codec>(
         answers: Items::from_vec(answers),
         sent: Items::from_vec(sent),
     })
+}
+
+/// Appends what an event sends, if it sends anything. There is room for it.
+fn push_sent<P: Drop>(sent: &mut Vec<Sent<P>>, sending: Option<Sent<P>>)
+    requires { vec_len sent.old < vec_capacity sent.old }
+    ensures items { sent.new.items ≡ sent.old.items ++ option_to_list sending }
+    ensures len { vec_len sent.new ≤ vec_len sent.old + 1 }
+    ensures capacity { vec_capacity sent.new ≡ vec_capacity sent.old }
+{
+    if let Some(sending) = sending {
+        sent.push_reserved(sending);
+    }
 }

@@ -2,10 +2,11 @@
 ghost use Rattle.std.specs.Prelude.{◌≡◌};
 
 use crate::material::{digest_of, message, prepare, set_of};
+use crate::printer::Printer;
 use crate::show::{content_of, word_of, write_core};
 use broadcast_core::{Closable, Core, Digested, Set, Subscribed, Taken, TestMessage, Ticketed};
 use std::alloc::{AllocError, Global};
-use std::io::{self, Write};
+use std::io::Write;
 
 /// A waiter whose field is what `is_closed` returns.
 #[derive(Clone, Copy, Debug)]
@@ -107,36 +108,35 @@ fn calls_without_places() -> &'static [Call] {
 }
 
 /// Makes the calls, and writes what they return and leave.
-pub fn show<W: Write>(alloc: Global, out: &mut W) -> io::Result<()> {
-    writeln!(out, "core")?;
-    show_calls(alloc, out, 2, calls())?;
-    writeln!(out, "core without places")?;
-    show_calls(alloc, out, 0, calls_without_places())
+pub fn show<W: Write>(alloc: Global, out: &mut Printer<W>) {
+    out.line("core");
+    show_calls(alloc, out, 2, calls());
+    out.line("core without places");
+    show_calls(alloc, out, 0, calls_without_places());
 }
 
 fn show_calls<W: Write>(
     alloc: Global,
-    out: &mut W,
+    out: &mut Printer<W>,
     deque_size: usize,
     calls: &'static [Call],
-) -> io::Result<()> {
+) {
     match prepare(alloc, calls, |call: Call| ready_of(alloc, call)) {
         Ok(ready) => make_calls(alloc, out, Core::new(alloc, 1, deque_size), ready),
-        Err(_) => writeln!(out, "unprepared"),
+        Err(_) => out.line("unprepared"),
     }
 }
 
 fn make_calls<W: Write>(
     alloc: Global,
-    out: &mut W,
+    out: &mut Printer<W>,
     mut core: TestCore,
     ready: Vec<Ready>,
-) -> io::Result<()> {
+) {
     for call in ready {
-        make(out, &mut core, call)?;
-        write_core(alloc, out, &core)?;
+        make(out, &mut core, call);
+        write_core(alloc, out, &core);
     }
-    Ok(())
 }
 
 fn ready_of(alloc: Global, call: Call) -> Result<Ready, AllocError> {
@@ -157,58 +157,61 @@ fn take_of(alloc: Global, key: u64, content: u8, digest: u8) -> Result<Ready, Al
 }
 
 /// Makes the call, and writes what it returns.
-fn make<W: Write>(out: &mut W, core: &mut TestCore, call: Ready) -> io::Result<()> {
+fn make<W: Write>(out: &mut Printer<W>, core: &mut TestCore, call: Ready) {
     match call {
         Ready::Peers(set) => {
             core.update_primary_peers(set);
-            writeln!(out, "peers")
+            out.line("peers");
         }
         Ready::Take(key, message) => write_taken(out, "take", core.take(&key, &message)),
         Ready::TakeOwn(message) => write_taken(out, "take_own", core.take_own(&message)),
         Ready::Subscribe(waiter, digest) => subscribe(out, core, waiter, digest),
-        Ready::Cleanup(gone) => writeln!(out, "cleanup removed {}", core.cleanup(gone)),
-        Ready::CleanupBy => writeln!(out, "cleanup_by removed {}", core.cleanup_by()),
+        Ready::Cleanup(gone) => write_removed(out, "cleanup", core.cleanup(gone)),
+        Ready::CleanupBy => write_removed(out, "cleanup_by", core.cleanup_by()),
     }
+}
+
+fn write_removed<W: Write>(out: &mut Printer<W>, call: &str, count: u64) {
+    out.text(call);
+    out.counted(" removed", count);
+    out.line("");
 }
 
 fn write_taken<W: Write>(
-    out: &mut W,
+    out: &mut Printer<W>,
     call: &str,
     taken: Result<Taken<Waiter>, AllocError>,
-) -> io::Result<()> {
+) {
+    out.text(call);
     match taken {
         Ok(taken) => {
-            write!(out, "{call} {}", word_of(taken.outcome))?;
-            write_served(out, taken.served.as_slice())
+            out.text(" ");
+            out.text(word_of(taken.outcome));
+            write_served(out, taken.served.as_slice());
         }
-        Err(_) => writeln!(out, "{call} memory"),
+        Err(_) => out.line(" memory"),
     }
 }
 
-fn write_served<W: Write>(out: &mut W, served: &[Waiter]) -> io::Result<()> {
+fn write_served<W: Write>(out: &mut Printer<W>, served: &[Waiter]) {
     for waiter in served {
-        write!(out, " {}", waiter.ticket)?;
+        out.counted("", waiter.ticket);
     }
-    writeln!(out)
+    out.line("");
 }
 
 /// Subscribes, and writes the answer, with the waiter that comes back.
-fn subscribe<W: Write>(
-    out: &mut W,
-    core: &mut TestCore,
-    waiter: Waiter,
-    digest: u8,
-) -> io::Result<()> {
+fn subscribe<W: Write>(out: &mut Printer<W>, core: &mut TestCore, waiter: Waiter, digest: u8) {
     match core.subscribe(digest_of(digest), waiter) {
-        Ok(Subscribed::Waiting) => writeln!(out, "subscribe waiting"),
+        Ok(Subscribed::Waiting) => out.line("subscribe waiting"),
         Ok(Subscribed::Answered(back, message)) => {
-            writeln!(
-                out,
-                "subscribe answered {} {}",
-                back.ticket,
-                content_of(&message)
-            )
+            out.counted("subscribe answered", back.ticket);
+            out.counted("", content_of(&message));
+            out.line("");
         }
-        Err((back, _)) => writeln!(out, "subscribe memory {}", back.ticket),
+        Err((back, _)) => {
+            out.counted("subscribe memory", back.ticket);
+            out.line("");
+        }
     }
 }

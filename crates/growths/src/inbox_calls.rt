@@ -1,10 +1,11 @@
 //! Calls of an inbox.
 use crate::material::prepare;
+use crate::printer::Printer;
 use crate::requests::{Ask, Plain, request_of, write_counts, write_request, write_taken};
 use commonware_broadcast::MailboxError;
 use commonware_broadcast::buffered::{Inbox, Queued};
 use std::alloc::{AllocError, Global};
-use std::io::{self, Write};
+use std::io::Write;
 use std::num::NonZeroUsize;
 
 /// A call.
@@ -60,20 +61,19 @@ fn calls() -> &'static [Call] {
 }
 
 /// Makes the calls, and writes what they return, and where the requests went.
-pub fn show<W: Write>(alloc: Global, out: &mut W) -> io::Result<()> {
-    writeln!(out, "inbox")?;
+pub fn show<W: Write>(alloc: Global, out: &mut Printer<W>) {
+    out.line("inbox");
     match prepare(alloc, calls(), |call: Call| ready_of(alloc, call)) {
         Ok(ready) => make_calls(out, Inbox::new(alloc, NonZeroUsize::MIN), ready),
-        Err(_) => writeln!(out, "unprepared"),
+        Err(_) => out.line("unprepared"),
     }
 }
 
-fn make_calls<W: Write>(out: &mut W, mut inbox: Inbox<Plain>, ready: Vec<Ready>) -> io::Result<()> {
+fn make_calls<W: Write>(out: &mut Printer<W>, mut inbox: Inbox<Plain>, ready: Vec<Ready>) {
     for call in ready {
-        make(out, &mut inbox, call)?;
-        write_counts(out, inbox.counts())?;
+        make(out, &mut inbox, call);
+        write_counts(out, inbox.counts());
     }
-    Ok(())
 }
 
 fn ready_of(alloc: Global, call: Call) -> Result<Ready, AllocError> {
@@ -86,27 +86,40 @@ fn ready_of(alloc: Global, call: Call) -> Result<Ready, AllocError> {
 }
 
 /// Makes the call, and writes what it returns.
-fn make<W: Write>(out: &mut W, inbox: &mut Inbox<Plain>, call: Ready) -> io::Result<()> {
+fn make<W: Write>(out: &mut Printer<W>, inbox: &mut Inbox<Plain>, call: Ready) {
     match call {
         Ready::Enqueue(request) => enqueue(out, inbox, request),
         Ready::Take => write_taken(out, inbox.take()),
         Ready::RequestStop => {
             inbox.request_stop();
-            writeln!(out, "request_stop {}", inbox.stop_requested())
+            let requested = inbox.stop_requested();
+            out.line(if requested {
+                "request_stop true"
+            } else {
+                "request_stop false"
+            });
         }
-        Ready::Close => writeln!(out, "close {}", inbox.close()),
+        Ready::Close => {
+            out.counted("close", inbox.close());
+            out.line("");
+        }
     }
 }
 
-fn enqueue<W: Write>(out: &mut W, inbox: &mut Inbox<Plain>, request: Plain) -> io::Result<()> {
-    write!(out, "enqueue")?;
-    write_request(out, &request)?;
-    match inbox.enqueue(request) {
-        Ok(Queued::Ready(ticket)) => writeln!(out, " ready {ticket}"),
-        Ok(Queued::Overflow(ticket)) => writeln!(out, " overflow {ticket}"),
-        Ok(Queued::Skipped(ticket)) => writeln!(out, " skipped {ticket}"),
-        Ok(Queued::Closed) => writeln!(out, " closed"),
-        Err(MailboxError::Memory) => writeln!(out, " memory"),
-        Err(MailboxError::Exhausted) => writeln!(out, " exhausted"),
+fn enqueue<W: Write>(out: &mut Printer<W>, inbox: &mut Inbox<Plain>, request: Plain) {
+    out.text("enqueue");
+    write_request(out, &request);
+    write_queued(out, inbox.enqueue(request));
+}
+
+fn write_queued<W: Write>(out: &mut Printer<W>, queued: Result<Queued, MailboxError>) {
+    match queued {
+        Ok(Queued::Ready(ticket)) => out.counted(" ready", ticket),
+        Ok(Queued::Overflow(ticket)) => out.counted(" overflow", ticket),
+        Ok(Queued::Skipped(ticket)) => out.counted(" skipped", ticket),
+        Ok(Queued::Closed) => out.text(" closed"),
+        Err(MailboxError::Memory) => out.text(" memory"),
+        Err(MailboxError::Exhausted) => out.text(" exhausted"),
     }
+    out.line("");
 }

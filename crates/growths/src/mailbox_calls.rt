@@ -1,11 +1,12 @@
 //! Calls of a mailbox.
 use crate::material::{digest_of, message, prepare};
+use crate::printer::Printer;
 use crate::requests::{write_counts, write_taken};
 use broadcast_core::{Digested, Recipients, TestMessage};
 use commonware_broadcast::buffered::{Get, Incoming, Ingress, Mailbox, Subscription, channel};
 use commonware_broadcast::{Broadcaster, Feedback, MailboxError};
 use std::alloc::{AllocError, Global};
-use std::io::{self, Write};
+use std::io::Write;
 use std::num::NonZeroUsize;
 use std::sync::Wait;
 
@@ -74,18 +75,18 @@ struct Held {
 pub fn show<R: Wait + Clone + Send + Drop + 'static, W: Write>(
     rt: &R,
     alloc: Global,
-    out: &mut W,
-) -> io::Result<()> {
-    writeln!(out, "mailbox")?;
+    out: &mut Printer<W>,
+) {
+    out.line("mailbox");
     let Ok(ready) = prepare(alloc, calls(), |call: Call| ready_of(alloc, call)) else {
-        return writeln!(out, "unprepared");
+        return out.line("unprepared");
     };
     let Ok(mut held) = places(alloc) else {
-        return writeln!(out, "unprepared");
+        return out.line("unprepared");
     };
     match ends(rt, alloc) {
         Ok((mailbox, ingress)) => make_calls(out, &mailbox, &ingress, &mut held, ready),
-        Err(_) => writeln!(out, "unprepared"),
+        Err(_) => out.line("unprepared"),
     }
 }
 
@@ -117,44 +118,50 @@ fn places(alloc: Global) -> Result<Held, AllocError> {
 }
 
 fn make_calls<R: Wait + Clone + Send + Drop + 'static, W: Write>(
-    out: &mut W,
+    out: &mut Printer<W>,
     mailbox: &TestMailbox<R>,
     ingress: &TestIngress<R>,
     held: &mut Held,
     ready: Vec<Ready>,
-) -> io::Result<()> {
+) {
     for call in ready {
-        make(out, mailbox, ingress, held, call)?;
-        write_counts(out, ingress.counts())?;
+        make(out, mailbox, ingress, held, call);
+        write_counts(out, ingress.counts());
     }
-    Ok(())
 }
 
 /// Makes the call, and writes what it returns.
 fn make<R: Wait + Clone + Send + Drop + 'static, W: Write>(
-    out: &mut W,
+    out: &mut Printer<W>,
     mailbox: &TestMailbox<R>,
     ingress: &TestIngress<R>,
     held: &mut Held,
     call: Ready,
-) -> io::Result<()> {
+) {
     match call {
         Ready::Broadcast(message) => {
-            let feedback = mailbox.broadcast(Recipients::All, message);
-            writeln!(out, "broadcast {}", word_of(feedback))
+            write_told(
+                out,
+                "broadcast ",
+                mailbox.broadcast(Recipients::All, message),
+            );
         }
         Ready::Subscribe(content) => {
-            let queued = subscribe(mailbox, held, content);
-            writeln!(out, "subscribe {}", word_of(queued))
+            write_told(out, "subscribe ", subscribe(mailbox, held, content));
         }
-        Ready::Get(content) => {
-            let queued = get(mailbox, held, content);
-            writeln!(out, "get {}", word_of(queued))
-        }
+        Ready::Get(content) => write_told(out, "get ", get(mailbox, held, content)),
         Ready::Clone => write_clone(out, mailbox.clone()),
         Ready::Take => write_taken(out, ingress.take()),
-        Ready::Close => writeln!(out, "close {}", ingress.close()),
+        Ready::Close => {
+            out.counted("close", ingress.close());
+            out.line("");
+        }
     }
+}
+
+fn write_told<W: Write>(out: &mut Printer<W>, call: &str, told: Result<Feedback, MailboxError>) {
+    out.text(call);
+    out.line(word_of(told));
 }
 
 fn subscribe<R: Wait>(
@@ -188,12 +195,9 @@ fn word_of(returned: Result<Feedback, MailboxError>) -> &'static str {
     }
 }
 
-fn write_clone<R: Drop, W: Write>(
-    out: &mut W,
-    copy: Result<TestMailbox<R>, AllocError>,
-) -> io::Result<()> {
+fn write_clone<R: Drop, W: Write>(out: &mut Printer<W>, copy: Result<TestMailbox<R>, AllocError>) {
     match copy {
-        Ok(_) => writeln!(out, "clone"),
-        Err(_) => writeln!(out, "clone memory"),
+        Ok(_) => out.line("clone"),
+        Err(_) => out.line("clone memory"),
     }
 }

@@ -9,12 +9,14 @@ mod inbox_calls;
 mod mailbox_calls;
 mod material;
 mod overflow_calls;
+mod printer;
 mod requests;
 mod run_calls;
 mod show;
 
+use printer::Printer;
 use std::alloc::Global;
-use std::io::{self, BufWriter, Write};
+use std::io::{BufWriter, Write};
 use std::process::ExitCode;
 use std::sync::Wait;
 
@@ -23,23 +25,26 @@ const BUFFER_LEN: usize = 64 * 1024;
 
 fn main(rt: HostRuntime) -> ExitCode {
     let alloc = rt.alloc();
-    let Ok(mut out) = BufWriter::with_capacity(alloc, BUFFER_LEN, rt.stdout()) else {
+    let Ok(out) = BufWriter::with_capacity(alloc, BUFFER_LEN, rt.stdout()) else {
         return ExitCode::from(3);
     };
-    if make_calls(&rt, alloc, &mut out).is_err() || out.flush().is_err() {
-        return ExitCode::from(3);
+    let mut out = Printer::new(out);
+    make_calls(&rt, alloc, &mut out);
+    if out.end() {
+        ExitCode::SUCCESS
+    } else {
+        ExitCode::from(3)
     }
-    ExitCode::SUCCESS
 }
 
 fn make_calls<R: Wait + Clone + Send + 'static, W: Write>(
     rt: &R,
     alloc: Global,
-    out: &mut W,
-) -> io::Result<()> {
-    core_calls::show(alloc, out)?;
-    run_calls::show(alloc, out)?;
-    overflow_calls::show(alloc, out)?;
-    inbox_calls::show(alloc, out)?;
-    mailbox_calls::show(rt, alloc, out)
+    out: &mut Printer<W>,
+) {
+    core_calls::show(alloc, out);
+    run_calls::show(alloc, out);
+    overflow_calls::show(alloc, out);
+    inbox_calls::show(alloc, out);
+    mailbox_calls::show(rt, alloc, out);
 }

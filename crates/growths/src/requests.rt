@@ -1,9 +1,10 @@
 //! Requests, and what shows them.
 use crate::material::{digest_of, message};
+use crate::printer::Printer;
 use broadcast_core::{Recipients, TestMessage};
 use commonware_broadcast::buffered::{Counts, Fixed, Message};
 use std::alloc::{AllocError, Global};
-use std::io::{self, Write};
+use std::io::Write;
 
 /// The contents whose digests are shown.
 const CONTENTS: u8 = 10;
@@ -43,30 +44,30 @@ fn broadcast(alloc: Global, content: u8) -> Result<Plain, AllocError> {
 
 /// Writes a request that was taken with its ticket.
 pub fn write_taken<W: Write, S: Drop, G: Drop>(
-    out: &mut W,
+    out: &mut Printer<W>,
     taken: Option<(u64, Message<u64, TestMessage, S, G>)>,
-) -> io::Result<()> {
+) {
     match taken {
         Some((ticket, request)) => {
-            write!(out, "take {ticket}")?;
-            write_request(out, &request)?;
-            writeln!(out)
+            out.counted("take", ticket);
+            write_request(out, &request);
+            out.line("");
         }
-        None => writeln!(out, "take none"),
+        None => out.line("take none"),
     }
 }
 
 /// Writes what the request asks.
 pub fn write_request<W: Write, S, G>(
-    out: &mut W,
+    out: &mut Printer<W>,
     request: &Message<u64, TestMessage, S, G>,
-) -> io::Result<()> {
+) {
     let (word, digest) = match request {
-        Message::Broadcast { message, .. } => ("broadcast", message.digest()),
-        Message::Subscribe { digest, .. } => ("subscribe", *digest),
-        Message::Get { digest, .. } => ("get", *digest),
+        Message::Broadcast { message, .. } => (" broadcast", message.digest()),
+        Message::Subscribe { digest, .. } => (" subscribe", *digest),
+        Message::Get { digest, .. } => (" get", *digest),
     };
-    write!(out, " {word} {}", content_with(&digest))
+    out.counted(word, u64::from(content_with(&digest)));
 }
 
 /// Returns the content whose digest this is.
@@ -80,17 +81,11 @@ fn content_with(digest: &[u8; 32]) -> u8 {
 }
 
 /// Writes where the requests of an inbox went.
-pub fn write_counts<W: Write>(out: &mut W, counts: Counts) -> io::Result<()> {
-    let Counts {
-        accepted,
-        taken,
-        skipped,
-        waiting,
-        given_up,
-    } = counts;
-    write!(
-        out,
-        "  accepted {accepted} taken {taken} skipped {skipped} "
-    )?;
-    writeln!(out, "waiting {waiting} given_up {given_up}")
+pub fn write_counts<W: Write>(out: &mut Printer<W>, counts: Counts) {
+    out.counted("  accepted", counts.accepted);
+    out.counted(" taken", counts.taken);
+    out.counted(" skipped", counts.skipped);
+    out.counted(" waiting", counts.waiting);
+    out.counted(" given_up", counts.given_up);
+    out.line("");
 }

@@ -1,11 +1,12 @@
 //! Runs of lists of events.
 use crate::material::{digest_of, message, prepare, set_of};
+use crate::printer::Printer;
 use crate::show::{content_of, word_of, write_core};
 use broadcast_core::{
     Answer, Cause, CodecError, Event, Items, RangeCfg, Recipients, Run, Sent, TestMessage, run,
 };
 use std::alloc::{AllocError, Global};
-use std::io::{self, Write};
+use std::io::Write;
 
 /// An event. A content is a byte.
 #[derive(Clone, Copy)]
@@ -56,29 +57,27 @@ fn steps() -> &'static [Step] {
 }
 
 /// Runs the events, and writes what the run returns and leaves.
-pub fn show<W: Write>(alloc: Global, out: &mut W) -> io::Result<()> {
-    writeln!(out, "run")?;
+pub fn show<W: Write>(alloc: Global, out: &mut Printer<W>) {
+    out.line("run");
     match prepare(alloc, steps(), |step: Step| event_of(alloc, step)) {
         Ok(events) => run_events(alloc, out, events),
-        Err(_) => writeln!(out, "unprepared"),
+        Err(_) => out.line("unprepared"),
     }
 }
 
-fn run_events<W: Write>(
-    alloc: Global,
-    out: &mut W,
-    events: Vec<Event<u64, TestMessage>>,
-) -> io::Result<()> {
+fn run_events<W: Write>(alloc: Global, out: &mut Printer<W>, events: Vec<Event<u64, TestMessage>>) {
     match run(alloc, 1, 2, false, &RangeCfg::new(0, 3), events) {
         Ok(run) => write_run(alloc, out, &run),
-        Err(_) => writeln!(out, "run memory"),
+        Err(_) => out.line("run memory"),
     }
 }
 
-fn write_run<W: Write>(alloc: Global, out: &mut W, run: &Run<u64, TestMessage>) -> io::Result<()> {
-    write_answers(out, run.answers.as_slice())?;
-    write_core(alloc, out, &run.core)?;
-    write_sends(out, run.sent.as_slice())
+fn write_run<W: Write>(alloc: Global, out: &mut Printer<W>, run: &Run<u64, TestMessage>) {
+    for answer in run.answers.as_slice() {
+        write_answer(out, answer);
+    }
+    write_core(alloc, out, &run.core);
+    write_sends(out, run.sent.as_slice());
 }
 
 fn event_of(alloc: Global, step: Step) -> Result<Event<u64, TestMessage>, AllocError> {
@@ -115,64 +114,56 @@ fn cleanup_of(alloc: Global, gone: &[u64]) -> Result<Event<u64, TestMessage>, Al
     Ok(Event::Cleanup(Items::from_vec(gone)))
 }
 
-fn write_answers<W: Write>(out: &mut W, answers: &[Answer<TestMessage>]) -> io::Result<()> {
-    for answer in answers {
-        write_answer(out, answer)?;
-    }
-    Ok(())
-}
-
-fn write_answer<W: Write>(out: &mut W, answer: &Answer<TestMessage>) -> io::Result<()> {
+fn write_answer<W: Write>(out: &mut Printer<W>, answer: &Answer<TestMessage>) {
     match answer {
-        Answer::Peers => writeln!(out, "peers"),
+        Answer::Peers => out.text("peers"),
         Answer::Taken {
             outcome,
             served,
             message,
         } => {
-            write!(out, "{} {}", word_of(*outcome), content_of(message))?;
-            write_tickets(out, served.as_slice())
+            out.counted(word_of(*outcome), content_of(message));
+            write_tickets(out, served.as_slice());
         }
         Answer::Invalid(refusal) => write_refusal(out, *refusal),
-        Answer::Waiting => writeln!(out, "waiting"),
+        Answer::Waiting => out.text("waiting"),
         Answer::Answered(message) | Answer::Got(Some(message)) => {
-            writeln!(out, "found {}", content_of(message))
+            out.counted("found", content_of(message));
         }
-        Answer::Got(None) => writeln!(out, "none"),
-        Answer::Removed(count) => writeln!(out, "removed {count}"),
-        Answer::Refused(Cause::Memory) => writeln!(out, "memory"),
-        Answer::Refused(Cause::Unencodable) => writeln!(out, "unencodable"),
+        Answer::Got(None) => out.text("none"),
+        Answer::Removed(count) => out.counted("removed", *count),
+        Answer::Refused(Cause::Memory) => out.text("memory"),
+        Answer::Refused(Cause::Unencodable) => out.text("unencodable"),
     }
+    out.line("");
 }
 
-fn write_tickets<W: Write>(out: &mut W, tickets: &[u64]) -> io::Result<()> {
+fn write_tickets<W: Write>(out: &mut Printer<W>, tickets: &[u64]) {
     for ticket in tickets {
-        write!(out, " {ticket}")?;
+        out.counted("", *ticket);
     }
-    writeln!(out)
 }
 
-fn write_refusal<W: Write>(out: &mut W, refusal: CodecError) -> io::Result<()> {
+fn write_refusal<W: Write>(out: &mut Printer<W>, refusal: CodecError) {
     match refusal {
-        CodecError::EndOfBuffer => writeln!(out, "invalid EndOfBuffer"),
-        CodecError::InvalidLength(length) => writeln!(out, "invalid InvalidLength {length}"),
-        CodecError::ExtraData(count) => writeln!(out, "invalid ExtraData {count}"),
-        CodecError::Unencodable => writeln!(out, "invalid Unencodable"),
-        CodecError::Memory => writeln!(out, "invalid Memory"),
+        CodecError::EndOfBuffer => out.text("invalid EndOfBuffer"),
+        CodecError::InvalidLength(length) => out.counted("invalid InvalidLength", length as u64),
+        CodecError::ExtraData(count) => out.counted("invalid ExtraData", count as u64),
+        CodecError::Unencodable => out.text("invalid Unencodable"),
+        CodecError::Memory => out.text("invalid Memory"),
     }
 }
 
-fn write_sends<W: Write>(out: &mut W, sends: &[Sent<u64>]) -> io::Result<()> {
+fn write_sends<W: Write>(out: &mut Printer<W>, sends: &[Sent<u64>]) {
     for sent in sends {
-        write!(out, "sent")?;
-        write_bytes(out, sent.bytes.as_slice())?;
+        out.text("sent");
+        write_bytes(out, sent.bytes.as_slice());
+        out.line("");
     }
-    Ok(())
 }
 
-fn write_bytes<W: Write>(out: &mut W, bytes: &[u8]) -> io::Result<()> {
+fn write_bytes<W: Write>(out: &mut Printer<W>, bytes: &[u8]) {
     for byte in bytes {
-        write!(out, " {byte}")?;
+        out.counted("", u64::from(*byte));
     }
-    writeln!(out)
 }

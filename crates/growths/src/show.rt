@@ -1,8 +1,9 @@
 //! What a core holds, as a line.
 use crate::material::digest_of;
+use crate::printer::Printer;
 use broadcast_core::{Core, Digested, Outcome, TestMessage};
 use std::alloc::Global;
-use std::io::{self, Write};
+use std::io::Write;
 
 /// The keys whose lists are shown.
 const KEYS: u64 = 4;
@@ -14,72 +15,74 @@ const CONTENTS: u8 = 10;
 type TestCore<T> = Core<u64, TestMessage, T>;
 
 /// Writes the lists, the cached messages and how many wait.
-pub fn write_core<W: Write, T: Drop>(
-    alloc: Global,
-    out: &mut W,
-    core: &TestCore<T>,
-) -> io::Result<()> {
-    write!(out, "  lists")?;
+pub fn write_core<W: Write, T: Drop>(alloc: Global, out: &mut Printer<W>, core: &TestCore<T>) {
+    out.text("  lists");
     for key in 0..KEYS {
-        write_list(alloc, out, core, key)?;
+        write_list(alloc, out, core, key);
     }
-    write!(out, " cached {}:", core.cached_len())?;
-    write_cached(out, core)?;
-    write!(out, " awaited {}:", core.awaited())?;
-    write_waiting(out, core)?;
-    writeln!(out)
+    out.counted(" cached", core.cached_len() as u64);
+    write_cached(out, core);
+    out.counted(" awaited", core.awaited() as u64);
+    write_waiting(out, core);
+    out.line("");
 }
 
 /// Writes the contents of a list, or a question mark if it could not be allocated.
 fn write_list<W: Write, T: Drop>(
     alloc: Global,
-    out: &mut W,
+    out: &mut Printer<W>,
     core: &TestCore<T>,
     key: u64,
-) -> io::Result<()> {
-    write!(out, " {key}[")?;
+) {
+    out.counted("", key);
+    out.text("[");
     match core.list(alloc, &key) {
-        Ok(digests) => write_contents(out, core, &digests)?,
-        Err(_) => write!(out, " ?")?,
+        Ok(digests) => write_contents(out, core, &digests),
+        Err(_) => out.text(" ?"),
     }
-    write!(out, " ]")
+    out.text(" ]");
 }
 
 fn write_contents<W: Write, T: Drop>(
-    out: &mut W,
+    out: &mut Printer<W>,
     core: &TestCore<T>,
     digests: &[[u8; 32]],
-) -> io::Result<()> {
+) {
     for digest in digests {
         if let Some(message) = core.get(digest) {
-            write!(out, " {}", content_of(message))?;
+            out.counted("", content_of(message));
         }
     }
-    Ok(())
 }
 
-fn write_cached<W: Write, T: Drop>(out: &mut W, core: &TestCore<T>) -> io::Result<()> {
+/// Writes the contents whose digests are cached, each with that of its cached message.
+fn write_cached<W: Write, T: Drop>(out: &mut Printer<W>, core: &TestCore<T>) {
+    out.text(":");
     for content in 0..CONTENTS {
         if let Some(message) = core.get(&digest_of(content)) {
-            write!(out, " {content}={}", content_of(message))?;
+            out.counted("", u64::from(content));
+            out.text("=");
+            out.number(content_of(message));
         }
     }
-    Ok(())
 }
 
-fn write_waiting<W: Write, T: Drop>(out: &mut W, core: &TestCore<T>) -> io::Result<()> {
+/// Writes the contents whose digests are awaited, each with the number of its waiters.
+fn write_waiting<W: Write, T: Drop>(out: &mut Printer<W>, core: &TestCore<T>) {
+    out.text(":");
     for content in 0..CONTENTS {
         let waiting = core.waiting(&digest_of(content));
         if waiting > 0 {
-            write!(out, " {content}x{waiting}")?;
+            out.counted("", u64::from(content));
+            out.text("x");
+            out.number(waiting as u64);
         }
     }
-    Ok(())
 }
 
 /// Returns the byte that is the content of the message.
-pub fn content_of(message: &Digested<TestMessage>) -> u8 {
-    message.inner().content.first().copied().unwrap_or(u8::MAX)
+pub fn content_of(message: &Digested<TestMessage>) -> u64 {
+    u64::from(message.inner().content.first().copied().unwrap_or(u8::MAX))
 }
 
 /// Returns the word for the outcome.

@@ -1,6 +1,8 @@
 //! A mailbox: callers ask on one end, and whoever takes the requests replies on the other.
 use anyhow::Error;
-use commonware_broadcast::buffered::{Incoming, Ingress, Message, Reply, Responder, channel};
+use commonware_broadcast::buffered::{
+    Incoming, Ingress, Mailbox, Message, Reply, Responder, channel,
+};
 use commonware_broadcast::{Broadcaster, Digested, Feedback, Recipients, TestMessage};
 use futures::executor::block_on;
 use std::alloc::{AllocError, AllocGlobal};
@@ -16,14 +18,38 @@ where
 {
     let (mailbox, ingress) = channel(rt.clone()?, rt.alloc(), NonZeroUsize::MIN)?;
     let told = mailbox.broadcast(Recipients::All, message.clone()?)?;
+    let (got, arrived) = wait_for(rt, &mailbox, &ingress, message)?;
+    Ok((told, got, arrived))
+}
+
+/// Returns whether a get and a subscription receive a message.
+fn wait_for<R>(
+    rt: &R,
+    mailbox: &Mailbox<u64, TestMessage, R>,
+    ingress: &Ingress<u64, TestMessage, R>,
+    message: &Digested<TestMessage>,
+) -> Result<(bool, bool), Error>
+where
+    R: Wait + RandomSource + AllocGlobal,
+{
     let get = mailbox.get(message.digest())?;
     let subscription = mailbox.subscribe(message.digest())?;
-    for _ in 0..3 {
-        serve_one(&ingress, message)?;
-    }
+    serve(ingress, message, 3)?;
     let got = block_on(rt, get)?.is_some();
     let arrived = block_on(rt, subscription)?.is_ok();
-    Ok((told, got, arrived))
+    Ok((got, arrived))
+}
+
+/// Takes `count` requests, and replies to them.
+fn serve<R: Wait>(
+    ingress: &Ingress<u64, TestMessage, R>,
+    message: &Digested<TestMessage>,
+    count: u64,
+) -> Result<(), AllocError> {
+    for _ in 0..count {
+        serve_one(ingress, message)?;
+    }
+    Ok(())
 }
 
 /// Takes the oldest request, and replies to it.

@@ -1,11 +1,9 @@
-use Rattle.std.proofs.Common.{◌≡◌, [], ◌++◌, length, arith, refl, sym, ap, ◌∙◌, append-nil, length-append}
-use Rattle.std.specs.Prelude.{◌+◌, ◌≤◌, vec_len, vec_capacity}
+use Rattle.std.proofs.Common.{◌≡◌, [], length, arith, refl, sym, ap, ◌∙◌, length-append}
 use Rattle.std.specs.Option.{option_to_list}
 use Rattle.std.specs.Vec.Iter.{into_iter_items}
 use Rattle.broadcast_core.proofs.Lawful.{same_by-lawful}
 use Rattle.broadcast_core.proofs.Running.{HasRun-none, HasRun-same, HasRun-follows, one_come, none_left}
 use Rattle.broadcast_core.proofs.runner.run.Goals as goal
-use Rattle.broadcast_core.proofs.runner.run.Goals.{in-Some-sending, in_default}
 
 pub loop-event-init : goal.loop-event-init
 loop-event-init g c =
@@ -28,27 +26,18 @@ loop-event-preserved g c =
     let steps = c.in-Some.ensures.steps in
     let gives = c.into_iter-event-iterator.ensures.into_iter_gives in
     let applied = c.apply-answer.result in
-    let sent_is : c.match-sending.sent.items ≡ at.sent.items ++ option_to_list applied.1 =
-    elim c.match-sending.branch [
-      | in-Some-sending w ↦ ap (λ v. v.items) w.sent-is ∙ w.push_reserved.ensures.items ∙ ap (λ o. at.sent.items ++ option_to_list o) (sym w.in-Some-sending.is)
-      | in_default w ↦ ap (λ v. v.items) w.sent-is ∙ sym (append-nil at.sent.items) ∙ ap (λ o. at.sent.items ++ option_to_list o) (sym w.in_default.is)
-    ] in
-    let answers_push = c.push_reserved-in-loop-event.ensures in
-    let sent_fit : vec_len c.match-sending.sent + length (into_iter_items c.next.new.self) ≤ vec_capacity c.match-sending.sent =
-    elim c.match-sending.branch [
-      | in-Some-sending w ↦ omega (arith, ap (λ v. vec_len v) w.sent-is, ap (λ v. vec_capacity v) w.sent-is, w.push_reserved.ensures.len, w.push_reserved.ensures.capacity, ap length steps.0, at.invariant.sent_fit)
-      | in_default w ↦ omega (arith, ap (λ v. vec_len v) w.sent-is, ap (λ v. vec_capacity v) w.sent-is, ap length steps.0, at.invariant.sent_fit)
-    ] in
+    let answers_push = c.push_reserved.ensures in
+    let sent_push = c.push_sent.ensures in
     record {
       rest = one_come at.yielded e (into_iter_items at.event-iterator) (into_iter_items c.next.new.self) _ steps.0 at.invariant.rest;
       left = omega (arith, ap length steps.0, steps.1, at.invariant.left);
       answers_fit = omega (arith, answers_push.len, answers_push.capacity, ap length steps.0, at.invariant.answers_fit);
-      sent_fit = sent_fit;
+      sent_fit = omega (arith, sent_push.len, sent_push.capacity, ap length steps.0, at.invariant.sent_fit);
       has_run = HasRun-same _ _ _ _ _ _ _ _
           (HasRun-follows _ lawful at.yielded at.answers.items at.sent.items at.core c.apply-answer.new.core e applied.0 (option_to_list applied.1)
           (omega (arith, ap length at.invariant.rest, length-append at.yielded (into_iter_items at.event-iterator), ap length gives.0, gives.1, gives.2, c.args.events.ok))
           at.invariant.has_run c.apply-answer.ensures)
-          refl answers_push.items sent_is;
+          refl answers_push.items sent_push.items;
     }
 
 pub returns : goal.returns

@@ -1,0 +1,48 @@
+//! Text on its way out.
+use std::io::Write;
+
+/// Prints to a stream, and remembers whether a write failed.
+#[derive(Drop)]
+pub struct Printer<W: Write> {
+    out: W,
+    failed: bool,
+}
+
+impl<W: Write> Printer<W> {
+    /// Creates a printer to the stream.
+    pub fn new(out: W) -> Self {
+        Printer { out, failed: false }
+    }
+
+    /// Prints the text.
+    pub fn text(&mut self, text: &str) {
+        if self.out.write_all(text.as_bytes()).is_err() {
+            self.failed = true;
+        }
+    }
+
+    /// Prints the text and ends the line.
+    pub fn line(&mut self, text: &str) {
+        self.text(text);
+        self.text("\n");
+    }
+
+    /// Prints the number.
+    pub fn number(&mut self, number: u64) {
+        if write!(self.out, "{number}").is_err() {
+            self.failed = true;
+        }
+    }
+
+    /// Prints the word and a number behind a space.
+    pub fn counted(&mut self, word: &str, number: u64) {
+        self.text(word);
+        self.text(" ");
+        self.number(number);
+    }
+
+    /// Flushes the stream. Returns whether all was written.
+    pub fn end(&mut self) -> bool {
+        self.out.flush().is_ok() && !self.failed
+    }
+}

@@ -1,0 +1,58 @@
+"""Judges a run of a program of which a read or a write went wrong, or a stream is a bad device."""
+
+READ_FAILED = b"read failed\n"
+WRITE_FAILED = b"write failed\n"
+# The streams that are a bad device, by their numbers.
+INPUT, OUTPUT, ERROR = range(3)
+
+
+class Judge:
+    """Judges the runs of one row by what the row must give."""
+
+    def __init__(self, row):
+        self.right = row
+
+    def fault(self, ran, failed):
+        """What is wrong with a run with this read or write, or `None`."""
+        if failed is None or failed.failure != "fails":
+            return self.difference(ran, self.right.stdout, self.right.stderr, self.right.status)
+        if failed.call == "read":
+            return self.difference(ran, b"", READ_FAILED, 3)
+        if self.right.status == 0:
+            return self.difference(ran, self.beginning(ran.stdout), WRITE_FAILED, 3)
+        # What fails is standard error, so the status alone tells of the fault.
+        is_beginning = self.right.stderr.startswith(ran.stderr)
+        stderr = ran.stderr if is_beginning else self.right.stderr
+        return self.difference(ran, b"", stderr, self.right.status)
+
+    def device_fault(self, ran, stream):
+        """What is wrong with a run whose stream is a bad device, or `None`."""
+        stdout, stderr, status = self.right.stdout, self.right.stderr, self.right.status
+        # Faults of the arguments come before the first read.
+        if stream == INPUT and (status == 0 or stderr.startswith(b"line ")):
+            stdout, stderr, status = b"", READ_FAILED, 3
+        if stream == OUTPUT and status == 0:
+            stdout, stderr, status = b"", WRITE_FAILED, 3
+        if stream == ERROR:
+            stderr = b""
+        return self.difference(ran, stdout, stderr, status)
+
+    def beginning(self, stdout):
+        """The output if it is a beginning of the right one, also all of it, or else no output.
+
+        What a failed write leaves in the buffer is written once more as the program ends.
+        """
+        return stdout if self.right.stdout.startswith(stdout) else b""
+
+    def difference(self, ran, *right):
+        left = (ran.stdout, ran.stderr, ran.status)
+        if left == right:
+            return None
+        parts = zip(("standard output", "standard error", "the status"), left, right)
+        name, got, expected = next(part for part in parts if part[1] != part[2])
+        return f"{name} is {shortened(got)}, not {shortened(expected)}"
+
+
+def shortened(value):
+    text = repr(value)
+    return text if len(text) < 80 else f"{text[:60]}.. of {len(value)} bytes"

@@ -1,0 +1,165 @@
+// Counts what a program asks of the system, and refuses some of it.
+//
+// Stands before the C library, as LD_PRELOAD=.../refuse.so PROGRAM, with the variables:
+//
+//   REFUSED_GROWTHS  N-M refuses the Nth growth of the heap, from 1 on, to the Mth; N- all from the
+//                    Nth on
+//   REFUSED_SEED     each of these is refused with probability one half, drawn from this number
+//   FAILED_READ      N: the Nth read of standard input, from 1 on, goes wrong
+//   FAILED_WRITE     N: the Nth write to standard output or standard error goes wrong
+//   FAILURE          how it goes wrong: it fails, is interrupted, or is short and moves one byte
+//   MOST_BYTES       the most bytes that such a read or write moves
+//   COUNTS_FILE      an existing file of 32 bytes, which gets the numbers of growths, of refused
+//                    growths, of reads and of writes, also of a program that aborts
+//
+// A growth is a request for a new block, or for more bytes than a block was requested with. A block
+// keeps its size and its distance from the C library's block in the 16 bytes before it.
+#define _GNU_SOURCE
+#include <errno.h>
+#include <fcntl.h>
+#include <stdint.h>
+#include <stdlib.h>
+#include <string.h>
+#include <sys/mman.h>
+#include <sys/syscall.h>
+#include <unistd.h>
+
+// The C library's own functions, under the names that stay once ours stand before them.
+extern void *__libc_malloc(size_t);
+extern void *__libc_memalign(size_t, size_t);
+extern void __libc_free(void *);
+
+typedef struct {
+    size_t size, distance;
+} head;
+
+typedef struct {
+    uint64_t growths, refused, reads, writes;
+} counts;
+
+static counts *seen, unseen;
+static uint64_t first = UINT64_MAX, last = UINT64_MAX, seed;
+static uint64_t failed_read, failed_write, most_bytes = UINT64_MAX;
+static const char *failure;
+
+static void set(uint64_t *number, const char *name) {
+    const char *word = getenv(name);
+    if (word) *number = strtoull(word, 0, 10);
+}
+
+static void begin(void) {
+    if (seen) return;
+    seen = &unseen;
+    const char *range = getenv("REFUSED_GROWTHS");
+    if (range) {
+        char *rest;
+        first = strtoull(range, &rest, 10);
+        if (rest[1]) last = strtoull(rest + 1, 0, 10);
+    }
+    set(&seed, "REFUSED_SEED");
+    set(&failed_read, "FAILED_READ");
+    set(&failed_write, "FAILED_WRITE");
+    set(&most_bytes, "MOST_BYTES");
+    failure = getenv("FAILURE");
+    const char *path = getenv("COUNTS_FILE");
+    int file = path ? open(path, O_RDWR | O_CLOEXEC) : -1;
+    if (file < 0) return;
+    void *shared = mmap(0, sizeof *seen, PROT_READ | PROT_WRITE, MAP_SHARED, file, 0);
+    if (shared != MAP_FAILED) seen = shared;
+    close(file);
+}
+
+// Whether a growth of this number is refused with this seed; none counts as always.
+static int falls(uint64_t number) {
+    if (!seed) return 1;
+    uint64_t mixed = seed * 0x9e3779b97f4a7c15 + number * 0xd1b54a32d192ed03;
+    mixed = (mixed ^ mixed >> 30) * 0xbf58476d1ce4e5b9;
+    mixed = (mixed ^ mixed >> 27) * 0x94d049bb133111eb;
+    return (mixed ^ mixed >> 31) & 1;
+}
+
+static int is_refused(void) {
+    begin();
+    uint64_t number = __atomic_add_fetch(&seen->growths, 1, __ATOMIC_SEQ_CST);
+    int refused = first <= number && number <= last && falls(number);
+    __atomic_add_fetch(&seen->refused, refused, __ATOMIC_SEQ_CST);
+    return refused;
+}
+
+static void *block(size_t size, size_t align) {
+    size_t distance = align < sizeof(head) ? sizeof(head) : align;
+    if (is_refused() || size > SIZE_MAX / 2 || distance > SIZE_MAX / 4) return 0;
+    char *whole = align <= sizeof(head) ? __libc_malloc(size + distance)
+                                        : __libc_memalign(align, size + distance);
+    if (!whole) return 0;
+    head *own = (head *)(whole + distance) - 1;
+    *own = (head){size, distance};
+    return own + 1;
+}
+
+static void *or_errno(void *given) {
+    if (!given) errno = ENOMEM;
+    return given;
+}
+
+void *malloc(size_t size) { return or_errno(block(size, sizeof(head))); }
+
+void *calloc(size_t count, size_t size) {
+    size_t bytes;
+    if (__builtin_mul_overflow(count, size, &bytes)) return or_errno(0);
+    void *given = malloc(bytes);
+    return given ? memset(given, 0, bytes) : 0;
+}
+
+void free(void *given) {
+    if (given) __libc_free((char *)given - ((head *)given)[-1].distance);
+}
+
+void *realloc(void *given, size_t size) {
+    if (!given) return malloc(size);
+    head *own = (head *)given - 1;
+    if (size <= own->size) {
+        own->size = size;
+        return given;
+    }
+    void *moved = malloc(size);
+    if (!moved) return 0;
+    memcpy(moved, given, own->size);
+    free(given);
+    return moved;
+}
+
+void *aligned_alloc(size_t align, size_t size) { return or_errno(block(size, align)); }
+
+void *memalign(size_t align, size_t size) { return or_errno(block(size, align)); }
+
+int posix_memalign(void **given, size_t align, size_t size) {
+    void *found = block(size, align);
+    if (!found) return ENOMEM;
+    *given = found;
+    return 0;
+}
+
+// Makes a read or a write, which goes wrong if it is the failing one.
+static ssize_t move(long call, int is_failing, int file, const void *bytes, size_t count) {
+    if (is_failing && *failure != 's') {
+        errno = *failure == 'i' ? EINTR : EIO;
+        return -1;
+    }
+    size_t most = is_failing ? 1 : most_bytes;
+    return syscall(call, file, bytes, count < most ? count : most);
+}
+
+ssize_t read(int file, void *to, size_t count) {
+    begin();
+    if (file == STDIN_FILENO)
+        return move(SYS_read, ++seen->reads == failed_read, file, to, count);
+    return syscall(SYS_read, file, to, count);
+}
+
+ssize_t write(int file, const void *from, size_t count) {
+    begin();
+    if (file == STDOUT_FILENO || file == STDERR_FILENO)
+        return move(SYS_write, ++seen->writes == failed_write, file, from, count);
+    return syscall(SYS_write, file, from, count);
+}
