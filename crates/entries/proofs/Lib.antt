@@ -6,3 +6,4 @@ pub mod Relinking
 pub mod Runs
 pub mod Stores
 pub mod Walking
+pub mod Tables
