@@ -4,6 +4,8 @@ use Rattle.std.specs.Prelude.{is_some, OnOk, OnErr}
 use Rattle.std.specs.Cmp.{IsEquivalence, IsTotalOrder, eq_by_cmp_equiv}
 use Rattle.std.specs.Ordering.{eq_by_cmp, is_eq, match_ordering}
 use Rattle.std.specs.BTreeMap.{BTreeMap, insert_entry}
+use Rattle.std.specs.Option.{option_map}
+use Rattle.std.proofs.lemmas.Map.Made.{lookup-map_values}
 use Rattle.std.specs.Map.{lookup, remove_entry, set_value}
 use Rattle.std.specs.declared.cmp.Ordering.{Ordering}
 use Rattle.std.specs.declared.cmp.Ordering.TheVariants.{Less, Equal, Greater}
@@ -28,6 +30,9 @@ empty_list [] e = refl
 empty_list (x ∷ xs) e = absurd cc
 
 module _ {K D T : Type 0} where
+  pub lookup-messages : (test : D → Bool) (items : List (D × Placed K T)) → lookup test (messages_of items) ≡ option_map (λ i. i.message) (lookup test items)
+  lookup-messages test items = lookup-map_values (λ i. i.message) test items
+
   -- a write that keeps the message keeps all messages
   pub messages_written : (test : D → Bool) (items : List (D × Placed K T)) (was now : Placed K T) → lookup test items ≡ Some was → now.message ≡ was.message → messages_of (set_value test items now) ≡ messages_of items
   messages_written test [] was now there same = refl
@@ -57,6 +62,21 @@ module _ {K D T : Type 0} where
       at Less m n us p q = refl
       at Equal m n us p q = refl
       at Greater m n us p q = ap (λ k. (e.0, e.1.message) ∷ k) (p ∙ q)
+
+module _ {K D T : Type 0} {digest : D → D → Bool} (equal : IsEquivalence digest) (es fs gs : List (D × Placed K T)) (d : D) (now : Placed K T) where
+  -- the messages after one left
+  pub fewer_left : ((e : D) → lookup (digest e) fs ≡ cond (digest d e) (Some now) (lookup (digest e) es)) → ((e : D) → lookup (digest e) gs ≡ cond (digest d e) None (lookup (digest e) fs))
+      → (e : D) (x : T) → lookup (digest e) (messages_of gs) ≡ Some x → lookup (digest e) (messages_of es) ≡ Some x
+  fewer_left written left e x found = by_test (digest d e)
+      (λ here.
+      let none : lookup (digest e) gs ≡ None = left e ∙ ap (λ b. cond b None (lookup (digest e) fs)) here in
+      let no : None ≡ Some x = sym (ap (option_map (λ i. i.message)) none) ∙ sym (lookup-messages (digest e) gs) ∙ found in absurd (cc))
+      (λ apart.
+      let new : lookup (digest e) gs ≡ lookup (digest e) es = left e ∙ ap (λ b. cond b None (lookup (digest e) fs)) apart ∙ written e ∙ ap (λ b. cond b (Some now) (lookup (digest e) es)) apart in
+      lookup-messages (digest e) es ∙ sym (ap (option_map (λ i. i.message)) new) ∙ sym (lookup-messages (digest e) gs) ∙ found)
+
+  pub gone_left : ((e : D) → lookup (digest e) gs ≡ cond (digest d e) None (lookup (digest e) fs)) → lookup (digest d) gs ≡ None
+  gone_left left = left d ∙ ap (λ b. cond b None (lookup (digest d) fs)) (equal.refl d)
 
 module _ {K D T : Type 0} {digest : D → D → Bool} (key : K → K → Bool) (equal : IsEquivalence digest) (es : List (D × Placed K T)) (d : D) (p : K) where
   -- a write at a digest that has a message, where the places change at one key
@@ -107,6 +127,10 @@ module _ {K D T : Type 0} {digest : D → D → Bool} (key : K → K → Bool) (
       same_none : (b : Bool) (o : Option ℕ) → o ≡ None → None ≡ cond b None o
       same_none true o h = refl
       same_none false o h = sym h
+
+pub put_message : {K T : Type 0} (b : Bool) (item : Placed K T) (m : T) (o : Option (Placed K T)) → item.message ≡ m → option_map (λ i. i.message) (cond b (Some item) o) ≡ cond b (Some m) (option_map (λ i. i.message) o)
+put_message true item m o same = ap Some same
+put_message false item m o same = refl
 
 pub one_place : {K : Type 0} (p : K) (i : ℕ) (places : List (K × ℕ)) → places ≡ (p, i) ∷ [] → places ≡ [] → ⊥
 one_place p i [] is none = cc

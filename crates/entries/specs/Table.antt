@@ -43,4 +43,7 @@ module _ {K D T : Type 0} (digest : D → D → Bool) (key : K → K → Bool) w
   -- the place of the key leaves the digest, and its message with its last place
   pub record Leaves (d : D) (p : K) (old new : List (D × Placed K T)) : Type 0 where
     pub places : SetsPlace d p None old new
-    pub messages : (messages_of new ≡ messages_of old) ⊎ (messages_of new ≡ remove_entry (digest d) (messages_of old))
+    pub messages : (messages_of new ≡ messages_of old)
+        ⊎ ((messages_of new ≡ remove_entry (digest d) (messages_of old)) × (lookup (digest d) new ≡ None))
+    pub fewer : (e : D) (x : T) → lookup (digest e) (messages_of new) ≡ Some x
+        → lookup (digest e) (messages_of old) ≡ Some x

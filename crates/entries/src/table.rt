@@ -89,6 +89,8 @@ impl<K: Ord + Drop, D: Ord + Drop, T: Drop> Table<K, D, T> {
         requires { lookup (eq_by_cmp D.cmp digest) self.old ≡ None }
         ensures messages { OnOk result (messages_of self.new
             ≡ insert_entry D.cmp (messages_of self.old) digest message) }
+        ensures looked_up { OnOk result ((e : D) → lookup (eq_by_cmp D.cmp e) (messages_of self.new)
+            ≡ (if eq_by_cmp D.cmp digest e then Some message else lookup (eq_by_cmp D.cmp e) (messages_of self.old))) }
         ensures places { OnOk result (SetsPlace (eq_by_cmp D.cmp) (eq_by_cmp K.cmp) digest peer (Some place) self.old self.new) }
         ensures err { OnErr result (self.new ≡ self.old) }
         ensures placed { IsPlaced (eq_by_cmp D.cmp) (eq_by_cmp K.cmp) self.new }
