@@ -10,6 +10,8 @@ pub mod Storing
 pub mod Keeping
 pub mod WaitersLemmas
 pub mod Taking
+pub mod Placing
+pub mod Indexing
 pub mod CachedCount
 pub mod Listing
 pub mod Concerning
