@@ -1,5 +1,5 @@
 -- What changes of a list and of the table make of how they agree.
-use Rattle.std.proofs.Common.{◌≡◌, ℕ, Bool, true, false, ◌&&◌, ◌||◌, cond, List, [], ◌∷◌, ◌++◌, length, Option, Some, None, refl, sym, ap, ◌∙◌, subst, append-nil}
+use Rattle.std.proofs.Common.{◌≡◌, ℕ, Bool, true, false, ◌&&◌, ◌||◌, cond, List, [], ◌∷◌, ◌++◌, Option, Some, None, refl, sym, ap, ◌∙◌, subst, append-nil}
 use Rattle.std.specs.Prelude.{is_some, unwrap_or}
 use Rattle.std.specs.List.{IsDistinct}
 use Rattle.std.specs.Map.{lookup}
@@ -7,13 +7,13 @@ use Rattle.std.specs.Cmp.{IsEquivalence}
 use Rattle.entries.specs.Linked.{Node, IsApart}
 use Rattle.entries.specs.Placed.{Placed}
 use Rattle.entries.specs.Store.{digests_of, items_at, moved, Puts}
-use Rattle.entries.specs.Table.{messages_of, place_at, IsPlaced, IsSame, SetsPlace}
+use Rattle.entries.specs.Table.{messages_of, place_at, IsPlaced, SetsPlace}
 use Rattle.entries.proofs.Stores.{found_same, moved-parts}
 use Rattle.broadcast_core.specs.Carried.{Carried}
 use Rattle.broadcast_core.specs.Content.{Same, among, without}
 use Rattle.broadcast_core.specs.Indexed.{place_of, IsIndexed}
 use Rattle.broadcast_core.proofs.Distinct.{by_test, or_false, list_any-append, or_none, among-equal, among-last, IsDistinct-init, IsDistinct-front, IsDistinct-moved}
-use Rattle.broadcast_core.proofs.Placing.{digests-append, among-place, place-none, place-beside, place-first, place-later, place-moved, found, digests-moved, moved-is, Found}
+use Rattle.broadcast_core.proofs.Placing.{digests-append, among-place, place-none, place-beside, place-first, place-later, place-moved, found, digests-moved}
 
 pub cond_true : {A : Type 0} (b : Bool) (x y : A) → b ≡ true → cond b x y ≡ x
 cond_true true x y e = refl

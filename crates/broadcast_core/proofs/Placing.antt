@@ -1,11 +1,11 @@
 -- Places of digests among nodes.
-use Rattle.std.proofs.Common.{◌≡◌, ℕ, Bool, true, false, not, ◌||◌, cond, List, [], ◌∷◌, ◌++◌, map, length, Option, Some, None, refl, sym, ap, ◌∙◌}
+use Rattle.std.proofs.Common.{◌≡◌, ℕ, suc, Bool, true, false, ◌||◌, cond, List, [], ◌∷◌, ◌++◌, length, Option, Some, None, refl, sym, ap, ◌∙◌, subst}
 use Rattle.std.specs.Prelude.{is_some, unwrap_or}
 use Rattle.std.specs.Option.{option_map}
-use Rattle.std.specs.List.{list_any, filter, IsDistinct}
-use Rattle.std.specs.Map.{lookup}
+use Rattle.std.specs.List.{IsDistinct}
+use Rattle.std.specs.Map.{lookup, keys_of}
 use Rattle.std.specs.Cmp.{IsEquivalence}
-use Rattle.std.proofs.lemmas.Map.Made.{lookup-map_values}
+use Rattle.std.proofs.lemmas.Map.Made.{lookup-map_values, keys_of-map_values}
 use Rattle.entries.specs.Linked.{Node, IsApart}
 use Rattle.entries.specs.Store.{digests_of, items_at, moved}
 use Rattle.entries.proofs.Stores.{moved-parts}
@@ -25,12 +25,26 @@ items_at-digests {D = D} key q lists = ap (λ (o : Option (List D)). unwrap_or o
     within None = refl
     within (Some ns) = refl
 
+digests-length : {D : Type 0} (ms : List (Node D)) → length (digests_of ms) ≡ length ms
+digests-length [] = refl
+digests-length (m ∷ ms) = ap suc (digests-length ms)
+
+pub length-digests : {P D : Type 0} (key : P → P → Bool) (q : P) (lists : List (P × List (Node D))) → length (items_at key q (digest_lists lists)) ≡ length (items_at key q lists)
+length-digests key q lists = ap length (items_at-digests key q lists) ∙ digests-length (items_at key q lists)
+
 pub is_some-digests : {P D : Type 0} (key : P → P → Bool) (q : P) (lists : List (P × List (Node D))) → is_some (lookup (key q) (digest_lists lists)) ≡ is_some (lookup (key q) lists)
 is_some-digests {D = D} key q lists = ap is_some (lookup-map_values digests_of (key q) lists) ∙ some_map (lookup (key q) lists)
   where
     some_map : (o : Option (List (Node D))) → is_some (option_map digests_of o) ≡ is_some o
     some_map None = refl
     some_map (Some ns) = refl
+
+pub no-digests : {D : Type 0} (ns : List (Node D)) → digests_of ns ≡ [] → ns ≡ []
+no-digests [] h = refl
+no-digests (n ∷ ns) h = cc
+
+pub distinct-digests : {P D : Type 0} (key : P → P → Bool) (lists : List (P × List (Node D))) → IsDistinct key (keys_of lists) → IsDistinct key (keys_of (digest_lists lists))
+distinct-digests key lists h = subst (IsDistinct key) (sym (keys_of-map_values digests_of lists)) h
 
 cond_true : {A : Type 0} (b : Bool) (x y : A) → b ≡ true → cond b x y ≡ x
 cond_true true x y e = refl

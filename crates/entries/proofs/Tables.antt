@@ -1,16 +1,16 @@
 -- What changes at one digest make of a table.
-use Rattle.std.proofs.Common.{Bool, true, false, cond, ◌&&◌, ◌≡◌, ℕ, ◌⊎◌, inl, inr, List, [], ◌∷◌, map, length, Option, Some, None, refl, sym, ap, ◌∙◌, Result, Ok, Err}
+use Rattle.std.proofs.Common.{Bool, true, false, cond, ◌&&◌, ◌≡◌, ℕ, List, [], ◌∷◌, length, Option, Some, None, refl, sym, ap, ◌∙◌, Result, Ok, Err}
 use Rattle.std.specs.Prelude.{is_some, OnOk, OnErr}
-use Rattle.std.specs.Cmp.{IsEquivalence, IsTotalOrder, eq_by_cmp_equiv}
-use Rattle.std.specs.Ordering.{eq_by_cmp, is_eq, match_ordering}
-use Rattle.std.specs.BTreeMap.{BTreeMap, insert_entry}
+use Rattle.std.specs.Cmp.{IsEquivalence}
+use Rattle.std.specs.Ordering.{match_ordering}
+use Rattle.std.specs.BTreeMap.{insert_entry}
 use Rattle.std.specs.Option.{option_map}
 use Rattle.std.proofs.lemmas.Map.Made.{lookup-map_values}
 use Rattle.std.specs.Map.{lookup, remove_entry, set_value}
 use Rattle.std.specs.declared.cmp.Ordering.{Ordering}
 use Rattle.std.specs.declared.cmp.Ordering.TheVariants.{Less, Equal, Greater}
 use Rattle.entries.specs.Placed.{Placed}
-use Rattle.entries.specs.Table.{messages_of, place_in, place_at, IsPlaced, IsSame, SetsPlace, Leaves}
+use Rattle.entries.specs.Table.{messages_of, place_in, place_at, IsPlaced, IsSame, SetsPlace}
 use Rattle.entries.proofs.Stores.{found_same}
 
 by_test : {P : Type 0} (b : Bool) → (b ≡ true → P) → (b ≡ false → P) → P
@@ -152,7 +152,6 @@ first_place laws [] some = absurd (some refl)
 first_place {key = key} laws (e ∷ es) some = (e.0, e.1, ap (λ b. cond b (Some e.1) (lookup (key e.0) es)) (laws.refl e.0))
 
 module _ {K D T : Type 0} {digest : D → D → Bool} {key : K → K → Bool} (laws : IsEquivalence key) where
-
   -- each message has a place after a write at one digest that leaves it a place
   pub placed_written : IsEquivalence digest → (es fs : List (D × Placed K T)) (d : D) (now : Placed K T) → IsPlaced digest key es → ((e : D) → lookup (digest e) fs ≡ cond (digest d e) (Some now) (lookup (digest e) es))
       → (now.places ≡ [] → ⊥) → IsPlaced digest key fs

@@ -79,13 +79,7 @@ impl<K: Ord + Drop, D: Ord + Drop, T: Drop> Table<K, D, T> {
     /// Caches the message of a digest that has none, with a place.
     ///
     /// On an allocation failure nothing changes.
-    pub fn insert(
-        &mut self,
-        digest: D,
-        message: T,
-        peer: K,
-        place: usize,
-    ) -> Result<(), AllocError>
+    pub fn insert(&mut self, digest: D, message: T, peer: K, place: usize) -> Result<(), AllocError>
         requires { lookup (eq_by_cmp D.cmp digest) self.old ≡ None }
         ensures messages { OnOk result (messages_of self.new
             ≡ insert_entry D.cmp (messages_of self.old) digest message) }

@@ -13,9 +13,11 @@ returns-then-remove-clause-left g c =
     record {
       places = places_left (eq_by_cmp g.K.Ord.cmp) (eq_by_cmp_equiv g.met.D.Ord.total) c.args.items.now.entries c.args.digest.now c.args.peer.now (c.get_mut.follows.lender c.remove.new.self).entries c.remove-then-remove.new.self.entries c.in-Some.item.now c.remove.new.self
           there (w.3 (rw there refl)).0 c.remove.ensures.places c.if-remove.ensures.empty c.remove-then-remove.ensures.updates.0;
-      messages = inr (ap messages_of c.remove-then-remove.ensures.entries ∙ messages_removed (eq_by_cmp g.D.Ord.cmp c.args.digest.now) (c.get_mut.follows.lender c.remove.new.self).entries
-          ∙ ap (remove_entry (eq_by_cmp g.D.Ord.cmp c.args.digest.now)) (ap messages_of w.0 ∙ messages_written (eq_by_cmp g.D.Ord.cmp c.args.digest.now) c.args.items.now.entries c.in-Some.item.now c.remove.new.self there c.remove.ensures.message),
-          gone_left (eq_by_cmp_equiv g.met.D.Ord.total) c.args.items.now.entries (c.get_mut.follows.lender c.remove.new.self).entries c.remove-then-remove.new.self.entries c.args.digest.now c.remove.new.self c.remove-then-remove.ensures.updates.0);
+      messages = inr (
+        ap messages_of c.remove-then-remove.ensures.entries ∙ messages_removed (eq_by_cmp g.D.Ord.cmp c.args.digest.now) (c.get_mut.follows.lender c.remove.new.self).entries
+            ∙ ap (remove_entry (eq_by_cmp g.D.Ord.cmp c.args.digest.now)) (ap messages_of w.0 ∙ messages_written (eq_by_cmp g.D.Ord.cmp c.args.digest.now) c.args.items.now.entries c.in-Some.item.now c.remove.new.self there c.remove.ensures.message),
+        gone_left (eq_by_cmp_equiv g.met.D.Ord.total) c.args.items.now.entries (c.get_mut.follows.lender c.remove.new.self).entries c.remove-then-remove.new.self.entries c.args.digest.now c.remove.new.self c.remove-then-remove.ensures.updates.0,
+      );
       fewer = fewer_left (eq_by_cmp_equiv g.met.D.Ord.total) c.args.items.now.entries (c.get_mut.follows.lender c.remove.new.self).entries c.remove-then-remove.new.self.entries c.args.digest.now c.remove.new.self
           (w.3 (rw there refl)).0 c.remove-then-remove.ensures.updates.0;
     }

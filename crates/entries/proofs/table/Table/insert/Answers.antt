@@ -1,10 +1,10 @@
-use Rattle.std.proofs.Common.{◌≡◌, cond, List, [], ◌∷◌, ℕ, sym, ap, ◌∙◌, refl, Some, None}
+use Rattle.std.proofs.Common.{cond, sym, ap, ◌∙◌, Some, None}
 use Rattle.std.specs.Map.{lookup}
 use Rattle.std.specs.BTreeMap.{insert_entry}
 use Rattle.std.specs.Option.{option_map}
 use Rattle.std.specs.Ordering.{eq_by_cmp}
 use Rattle.std.specs.Cmp.{eq_by_cmp_equiv}
-use Rattle.entries.specs.Table.{IsPlaced, messages_of}
+use Rattle.entries.specs.Table.{messages_of}
 use Rattle.entries.proofs.Tables.{placed_written, places_inserted, messages_inserted, one_place, lookup-messages, put_message}
 use Rattle.entries.proofs.table.Table.insert.Goals as goal
 
