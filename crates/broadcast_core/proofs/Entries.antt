@@ -1,23 +1,13 @@
 -- Entries of maps, after changes at one key.
-use Rattle.std.proofs.Common.{◌≡◌, Bool, true, false, cond, List, [], ◌∷◌, Option, Some, None, refl, sym, ap, ◌∙◌, arith}
-use Rattle.std.specs.Prelude.{is_some, unwrap_or, ◌||◌}
-use Rattle.std.specs.Option.{option_map}
-use Rattle.std.specs.List.{IsDistinct}
-use Rattle.std.specs.List.Sorted.{IsStrictlySortedBy}
-use Rattle.std.specs.Map.{lookup, set_value, remove_entry, keys_of}
+use Rattle.std.proofs.Common.{◌≡◌, Bool, true, cond, List, [], ◌∷◌, Option, Some, None, refl, sym, ap, ◌∙◌}
+use Rattle.std.specs.Map.{lookup, set_value, remove_entry}
 use Rattle.std.specs.BTreeMap.{insert_entry, is_at}
-use Rattle.std.specs.Cmp.{IsTotalOrder, IsEquivalence, eq_by_cmp_equiv}
-use Rattle.std.specs.Ordering.{eq_by_cmp}
+use Rattle.std.specs.Cmp.{IsTotalOrder, IsEquivalence}
 use Rattle.std.specs.declared.cmp.Ordering.{Ordering}
 use Rattle.std.specs.declared.cmp.Ordering.TheVariants.{Less, Equal, Greater}
 use Rattle.std.specs.Ordering.{is_eq}
 use Rattle.std.proofs.lemmas.Cmp.{tied_itself}
-use Rattle.std.proofs.lemmas.Map.{lookup-set_value}
-use Rattle.std.proofs.lemmas.Map.Keys.{IsDistinct-from_sorted}
-use Rattle.std.proofs.lemmas.Map.Entries.{sum_by-set_value, sum_by-insert_entry}
-use Rattle.broadcast_core.specs.Content.{items_at}
-use Rattle.broadcast_core.specs.Stored.{PutsDeque}
-use Rattle.broadcast_core.proofs.Distinct.{by_test, or_right}
+use Rattle.broadcast_core.proofs.Distinct.{by_test}
 
 by_order : {G : Type 0} (r s : Ordering) → s ≡ r → (s ≡ Less → G) → (s ≡ Equal → G) → (s ≡ Greater → G) → G
 by_order Less s e l m n = l e
@@ -54,54 +44,11 @@ remove_entry-insert_entry {R = R} o k v (e ∷ es) h = by_order (R k e.0) (R k e
     (λ more. let rest : lookup (is_at (R k)) es ≡ None = sym (ap (λ r. cond (is_eq r) (Some e.1) (lookup (is_at (R k)) es)) more) ∙ h in
     rw (more, more) (ap (λ fs. e ∷ fs) (remove_entry-insert_entry o k v es rest)))
 
-put_at : {D : Type 0} (b : Bool) (ds : List D) (o : Option (List D)) → unwrap_or (cond b (Some ds) o) [] ≡ cond b ds (unwrap_or o [])
-put_at true ds o = refl
-put_at false ds o = refl
+-- equal keys find the same
+pub lookup-equal : {D X : Type 0} {same : D → D → Bool} (laws : IsEquivalence same) (d e : D) (es : List (D × X)) → same d e ≡ true → lookup (same e) es ≡ lookup (same d) es
+lookup-equal {same = same} laws d e es h = lookup-same (same e) (same d) es (λ x. sym (laws.congr d e x h))
 
-had_or_put : {D : Type 0} (b : Bool) (ds : List D) (o : Option (List D)) → is_some (cond b (Some ds) o) ≡ true → (b || is_some o) ≡ true
-had_or_put true ds o h = refl
-had_or_put false ds o h = h
-
-module _ {P D : Type 0} {R : P → P → Ordering} (o : IsTotalOrder R) where
-  -- a deque that was there is written anew
-  pub PutsDeque-written : (p : P) (old new : List D) (es fs : List (P × List D)) → lookup (eq_by_cmp R p) es ≡ Some old
-      → fs ≡ set_value (eq_by_cmp R p) es new → IsStrictlySortedBy R (keys_of fs) → PutsDeque (eq_by_cmp R) p new es fs
-  PutsDeque-written p old new es fs was is sorted =
-      let at : (q : P) → lookup (eq_by_cmp R q) fs ≡ cond (eq_by_cmp R p q) (Some new) (lookup (eq_by_cmp R q) es) =
-      λ q. rw is (lookup-set_value (eq_by_cmp_equiv o) (eq_by_cmp R p) (λ x y h. (eq_by_cmp_equiv o).congr p x y h) q new es (rw was refl)) in
-      record {
-        lists = λ q. ap (λ r. unwrap_or r []) (at q) ∙ put_at (eq_by_cmp R p q) new (lookup (eq_by_cmp R q) es);
-        keys = λ q h. had_or_put (eq_by_cmp R p q) new (lookup (eq_by_cmp R q) es) (ap is_some (sym (at q)) ∙ h);
-        added_up = λ weight nothing. rw (is, was) (sum_by-set_value weight (eq_by_cmp R p) es old new was);
-        distinct = IsDistinct-from_sorted R (keys_of fs) sorted;
-      }
-
-  -- a deque that was not there is put in, under an equal key
-  pub PutsDeque-inserted : (p k : P) (new : List D) (es fs : List (P × List D)) → eq_by_cmp R p k ≡ true → lookup (eq_by_cmp R k) es ≡ None
-      → fs ≡ insert_entry R es k new → ((q : P) → lookup (eq_by_cmp R q) fs ≡ cond (eq_by_cmp R k q) (Some new) (lookup (eq_by_cmp R q) es))
-      → IsStrictlySortedBy R (keys_of es) → IsStrictlySortedBy R (keys_of fs) → PutsDeque (eq_by_cmp R) p new es fs
-  PutsDeque-inserted p k new es fs equal none is at sorted sorted_new =
-      let laws = eq_by_cmp_equiv o in
-      let at_p : (q : P) → lookup (eq_by_cmp R q) fs ≡ cond (eq_by_cmp R p q) (Some new) (lookup (eq_by_cmp R q) es) =
-      λ q. at q ∙ ap (λ b. cond b (Some new) (lookup (eq_by_cmp R q) es)) (sym (laws.congr p k q equal)) in
-      let missing : lookup (eq_by_cmp R p) es ≡ None = lookup-same (eq_by_cmp R p) (eq_by_cmp R k) es (λ x. laws.congr p k x equal) ∙ none in
-      record {
-        lists = λ q. ap (λ r. unwrap_or r []) (at_p q) ∙ put_at (eq_by_cmp R p q) new (lookup (eq_by_cmp R q) es);
-        keys = λ q h. had_or_put (eq_by_cmp R p q) new (lookup (eq_by_cmp R q) es) (ap is_some (sym (at_p q)) ∙ h);
-        added_up = λ weight nothing.
-            let sums = sum_by-insert_entry weight o es k new sorted in
-            let no_weight : unwrap_or (option_map weight (lookup (is_at (R k)) es)) 0 ≡ 0 = rw none refl in
-            rw (is, missing) (omega (arith, sums, no_weight, nothing));
-        distinct = IsDistinct-from_sorted R (keys_of fs) sorted_new;
-      }
-
--- a deque that stays
-pub PutsDeque-kept : {P D : Type 0} {same : P → P → Bool} (laws : IsEquivalence same) (p : P) (es : List (P × List D)) → IsDistinct same (keys_of es) → PutsDeque same p (items_at same p es) es es
-PutsDeque-kept {same = same} laws p es distinct = record {
-  lists = λ q. by_test (same p q)
-      (λ h. rw h (ap (λ r. unwrap_or r []) (lookup-same (same q) (same p) es (λ x. sym (laws.congr p q x h)))))
-      (λ h. rw h refl);
-  keys = λ q h. ap (λ b. same p q || b) h ∙ or_right (same p q);
-  added_up = λ weight nothing. refl;
-  distinct = distinct;
-}
+-- what is not some value is none
+pub none_from_not_some : {X : Type 0} (o : Option X) → ((x : X) → o ≡ Some x → ⊥) → o ≡ None
+none_from_not_some None h = refl
+none_from_not_some (Some x) h = absurd (h x refl)

@@ -17,7 +17,7 @@ use Rattle.broadcast_core.specs.declared.ordered.Recipients.{Recipients}
 use Rattle.broadcast_core.specs.declared.outcome.Subscribed.{Subscribed}
 use Rattle.broadcast_core.specs.declared.outcome.Subscribed.TheVariants as subscribed
 use Rattle.broadcast_core.proofs.Distinct.{by_test}
-use Rattle.broadcast_core.proofs.References.{lookup-equal}
+use Rattle.broadcast_core.proofs.Entries.{lookup-equal}
 use Rattle.broadcast_core.proofs.Lawful.{IsLawful}
 use Rattle.broadcast_core.proofs.Choice.{Choice, choose}
 use Rattle.broadcast_core.proofs.Following.{message-some, message-none, message-other, HasStore, HasStore-content, HasContent-store, HasStore-empty, HasStore-peers, HasStore-taken, HasStore-other}

@@ -1,50 +1,25 @@
 -- What the changes of a cache make of a core's content.
-use Rattle.std.proofs.Common.{◌≡◌, ℕ, Bool, true, false, ◌||◌, cond, List, [], ◌∷◌, take, Option, Some, None, refl, sym, ap, ◌∙◌, arith}
-use Rattle.std.specs.Prelude.{is_some, MatchBool}
+use Rattle.std.proofs.Common.{◌≡◌, ℕ, Bool, true, false, not, ◌&&◌, ◌||◌, cond, List, [], ◌∷◌, take, Option, Some, None, refl, sym, ap, ◌∙◌, arith}
+use Rattle.std.specs.Prelude.{is_some, unwrap_or, MatchBool}
 use Rattle.std.specs.List.{list_any, IsDistinct}
 use Rattle.std.specs.Map.{lookup, keys_of}
 use Rattle.std.specs.Cmp.{IsEquivalence}
-use Rattle.std.proofs.lemmas.Map.Entries.{none_past_head}
 use Rattle.std.proofs.lemmas.List.{length-take}
-use Rattle.std.proofs.lemmas.Map.{lookup-none}
-use Rattle.std.proofs.lemmas.Map.Keys.{IsDistinct-tail}
 use Rattle.broadcast_core.specs.Carried.{Carried}
 use Rattle.broadcast_core.specs.Content.{Content, Same, among, without, items_at}
 use Rattle.broadcast_core.specs.Changes.{Takes, TakesPeers}
-use Rattle.broadcast_core.specs.Stored.{Stored, Stores, Keeps, IsCore, is_stored}
+use Rattle.broadcast_core.specs.Stored.{Stored, Stores, Drops, IsCore, is_stored}
 use Rattle.broadcast_core.proofs.Distinct.{by_test, same_truth, or_right, among-equal, among-without_other}
-use Rattle.broadcast_core.proofs.References.{lookup-equal}
-use Rattle.broadcast_core.proofs.Counting.{stored-at}
+use Rattle.broadcast_core.proofs.Caching.{stored-at, holder}
+use Rattle.broadcast_core.proofs.Indexing.{nodes-equal}
 use Rattle.broadcast_core.proofs.Listing.{none-taken}
 
 module _ {P D : Type 0} (same : Same P D) (laws : IsEquivalence same.key) where
-  -- some key whose deque has the digest
-  pub record HasHolder (d : D) (lists : List (P × List D)) : Type 0 where
-    pub key : P
-    pub there : is_some (lookup (same.key key) lists) ≡ true
-    pub listed : among same.digest d (items_at same.key key lists) ≡ true
-
-  holder-first : (d : D) (e : P × List D) (es : List (P × List D)) → among same.digest d e.1 ≡ true → HasHolder d (e ∷ es)
-  holder-first d e es h = record { key = e.0; there = rw (laws.refl e.0) refl; listed = rw (laws.refl e.0) h }
-
-  holder-later : (d : D) (e : P × List D) (es : List (P × List D)) → IsDistinct same.key (keys_of (e ∷ es)) → HasHolder d es → HasHolder d (e ∷ es)
-  holder-later d e es distinct r =
-      let apart : same.key r.key e.0 ≡ false = by_test (same.key r.key e.0)
-      (λ t. absurd (let none : is_some (lookup (same.key r.key) es) ≡ false = ap is_some (lookup-none (same.key r.key) es (none_past_head laws r.key e es distinct t)) in let some = r.there in cc))
-      (λ t. t) in
-      record { key = r.key; there = rw apart r.there; listed = rw apart r.listed }
-
-  holder : (d : D) (lists : List (P × List D)) → IsDistinct same.key (keys_of lists) → is_stored same d lists ≡ true → HasHolder d lists
-  holder d [] distinct h = absurd cc
-  holder d (e ∷ es) distinct h = by_test (among same.digest d e.1)
-      (λ t. holder-first d e es t)
-      (λ t. holder-later d e es distinct (holder d es (IsDistinct-tail same.key e.0 (keys_of es) distinct) (let rest : is_stored same d es ≡ true = sym (ap (λ b. b || is_stored same d es) t) ∙ h in rest)))
-
   on-primary : (p : P) (d : D) (lists : List (P × List D)) (primary : List P) → among same.digest d (items_at same.key p lists) ≡ true → list_any (same.key p) primary ≡ true
       → list_any (λ q. among same.digest d (items_at same.key q lists)) primary ≡ true
   on-primary p d lists [] h there = absurd cc
   on-primary p d lists (q ∷ qs) h there = by_test (same.key p q)
-      (λ t. let here : among same.digest d (items_at same.key q lists) ≡ true = rw (lookup-equal laws p q lists t) h in rw here refl)
+      (λ t. let here : among same.digest d (items_at same.key q lists) ≡ true = ap (among same.digest d) (nodes-equal laws lists p q t) ∙ h in rw here refl)
       (λ t. let rest : list_any (same.key p) qs ≡ true = sym (ap (λ b. b || list_any (same.key p) qs) t) ∙ there in
       ap (λ b. among same.digest d (items_at same.key q lists) || b) (on-primary p d lists qs h rest) ∙ or_right (among same.digest d (items_at same.key q lists)))
 
@@ -58,7 +33,7 @@ module _ {P D : Type 0} (same : Same P D) (laws : IsEquivalence same.key) where
   pub stored-listed : {M W : Type 0} {waiters : List (D × List W)} (size : ℕ) (primary : List P) (stored : Stored P M D) → IsCore same size primary stored waiters → (d : D)
       → is_stored same d stored.lists ≡ list_any (λ q. among same.digest d (items_at same.key q stored.lists)) primary
   stored-listed size primary stored core d = same_truth _ _
-      (λ h. let r = holder d stored.lists core.distinct h in on-primary r.key d stored.lists primary r.listed (core.primary_only r.key r.there))
+      (λ h. let r = holder same laws d stored.lists core.distinct h in on-primary r.key d stored.lists primary r.listed (core.primary_only r.key r.there))
       (λ h. from-primary d stored.lists primary h)
 
 none_from_no_some : {X : Type 0} (o : Option X) → is_some o ≡ false → o ≡ None
@@ -67,6 +42,13 @@ none_from_no_some (Some x) h = absurd cc
 
 abbrev pub content : {P M D W : Type 0} → P → ℕ → List P → Stored P M D → List (D × List W) → Content P M D W
 content own size primary stored waiters = record { own = own; deque_size = size; primary = primary; lists = stored.lists; cached = stored.messages; waiters = waiters }
+
+-- only these keys keep their lists, and messages whose digest is on no list are dropped
+pub record Keeps {P M D : Type 0} (same : Same P D) (peers : List P) (old new : Stored P M D) : Type 0 where
+  pub lists : (q : P) → items_at same.key q new.lists ≡ cond (list_any (same.key q) peers) (items_at same.key q old.lists) []
+  pub keys : (q : P) → is_some (lookup (same.key q) new.lists) ≡ true → list_any (same.key q) peers ≡ true
+  pub distinct : IsDistinct same.key (keys_of new.lists)
+  pub messages : (d : D) → lookup (same.digest d) new.messages ≡ cond (is_stored same d new.lists) (lookup (same.digest d) old.messages) None
 
 module _ {P M D W : Type 0} (same : Same P D) (key_laws : IsEquivalence same.key) (size : ℕ) where
   module _ (laws : IsEquivalence same.digest) (p : P) (x : Carried M D) (primary : List P) (old new : Stored P M D) (w0 w1 : List (D × List W))
@@ -135,7 +117,7 @@ module _ {P M D W : Type 0} (same : Same P D) (key_laws : IsEquivalence same.key
         deque_size = refl;
         primary = refl;
         lists = λ q. by_test (same.key p q)
-            (λ h. rw (h, ineligible, lookup-equal key_laws p q old.lists h) refl)
+            (λ h. rw (h, ineligible, nodes-equal key_laws old.lists p q h) refl)
             (λ h. rw h refl);
         cached = λ d. rw (← stored-listed same key_laws size primary old core d) (by_test (is_stored same d old.lists)
             (λ h. rw h refl)
@@ -151,6 +133,33 @@ module _ {P M D W : Type 0} (same : Same P D) (key_laws : IsEquivalence same.key
         → Takes same p x (content own size primary old w0) (content own size primary new w1)
     Takes-taken own true is h = Takes-stored (sym is) h own
     Takes-taken own false is h = Takes-ineligible (sym is) h own
+
+  -- where only primary keys have lists, those that leave are all but those that stay
+  pub kept : (peers primary : List P) (old new : Stored P M D) (waiters : List (D × List W)) → IsCore same size primary old waiters → Drops same primary peers old new → Keeps same peers old new
+  kept peers primary old new waiters core drops = record {
+    lists = λ q. drops.lists q ∙ by_test (list_any (same.key q) peers)
+        (λ h. rw h (off (list_any (same.key q) primary) (items_at same.key q old.lists)))
+        (λ h. rw h (by_test (list_any (same.key q) primary)
+        (λ k. rw k refl)
+        (λ k. rw k (ap (λ (o : Option (List D)). unwrap_or o []) (none_from_no_some (lookup (same.key q) old.lists) (not_some q k))))));
+    keys = λ q there. let left = drops.keys q there in stays (list_any (same.key q) primary) (list_any (same.key q) peers) (core.primary_only q left.1) left.0;
+    distinct = drops.distinct;
+    messages = drops.messages;
+  }
+    where
+      off : (b : Bool) (ds : List D) → cond (b && false) [] ds ≡ ds
+      off true ds = refl
+      off false ds = refl
+
+      stays : (a b : Bool) → a ≡ true → (a && not b) ≡ false → b ≡ true
+      stays true true h k = refl
+      stays true false h k = absurd cc
+      stays false b h k = absurd cc
+
+      not_some : (q : P) → list_any (same.key q) primary ≡ false → is_some (lookup (same.key q) old.lists) ≡ false
+      not_some q k = by_test (is_some (lookup (same.key q) old.lists))
+          (λ t. let no : false ≡ true = sym k ∙ core.primary_only q t in absurd (cc))
+          (λ t. t)
 
   module _ (peers primary : List P) (old new : Stored P M D) (waiters : List (D × List W)) (core : IsCore same size primary old waiters) (keeps : Keeps same peers old new) where
     was_stored : (d : D) → is_stored same d new.lists ≡ true → is_stored same d old.lists ≡ true

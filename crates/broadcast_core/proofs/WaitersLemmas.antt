@@ -17,7 +17,7 @@ use Rattle.std.proofs.lemmas.Map.Keys.{IsDistinct-from_sorted, IsDistinct-head, 
 use Rattle.broadcast_core.specs.Content.{items_at}
 use Rattle.broadcast_core.specs.Waiters.{NoneEmpty, AreAwaited, waiting_in, is_gone, gone_from, DropsClosed}
 use Rattle.broadcast_core.proofs.Distinct.{by_test}
-use Rattle.broadcast_core.proofs.References.{lookup-equal}
+use Rattle.broadcast_core.proofs.Entries.{lookup-equal}
 
 list_from : {X : Type 0} (b : Bool) (left o : Option (List X)) → unwrap_or (cond b left o) [] ≡ cond b (unwrap_or left []) (unwrap_or o [])
 list_from true left o = refl

@@ -21,3 +21,4 @@ pub mod HasRun
 pub mod Changes
 pub mod Stored
 pub mod Waiters
+pub mod Indexed

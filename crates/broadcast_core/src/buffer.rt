@@ -9,11 +9,7 @@ ghost use Rattle.std.specs.Ordering.{eq_by_cmp};
 ghost use Rattle.broadcast_core.specs.Content.{same_by};
 
 mod cache;
-mod cached;
-mod counting;
-mod deque;
-mod deques;
-mod items;
+mod filling;
 mod state;
 mod waiters;
 
@@ -154,7 +150,9 @@ impl<P: PublicKey, M: Digestible, W: Drop> Core<P, M, W> {
     pub fn update_primary_peers(&mut self, peers: Set<P>)
         ensures { TakesPeers (same_by P.cmp M.Digest.cmp) peers self.old self.new }
     {
-        self.state.cache.retain_peers(peers.as_slice());
+        self.state
+            .cache
+            .retain_peers(self.state.primary.as_slice(), peers.as_slice());
         self.state.primary = peers;
     }
 

@@ -2,7 +2,7 @@ use Rattle.std.proofs.Common.{◌∙◌, slice_index_or}
 use Rattle.std.specs.Cmp.{eq_by_cmp_equiv}
 use Rattle.std.proofs.lemmas.List.Folds.{list_any_at}
 use Rattle.broadcast_core.specs.Content.{same_by, items_at}
-use Rattle.broadcast_core.proofs.Counting.{stored-at}
+use Rattle.broadcast_core.proofs.Caching.{stored-at}
 use Rattle.broadcast_core.proofs.buffer.Core.list.Goals as goal
 
 pub returns-clause-cached : goal.returns-clause-cached

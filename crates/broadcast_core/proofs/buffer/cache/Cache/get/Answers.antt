@@ -1,19 +1,16 @@
-use Rattle.std.proofs.Common.{sym, ap, ◌∙◌, Some}
-use Rattle.std.specs.Option.{option_map}
+use Rattle.std.proofs.Common.{◌≡◌, Option, Some, None, Bor, refl, sym, ◌∙◌}
+use Rattle.std.specs.Prelude.{IfSome}
+use Rattle.std.specs.Option.{option_copied}
 use Rattle.std.specs.Ordering.{eq_by_cmp}
-use Rattle.broadcast_core.proofs.Storing.{lookup-messages}
+use Rattle.entries.proofs.Tables.{lookup-messages}
 use Rattle.broadcast_core.proofs.buffer.cache.Cache.get.Goals as goal
 
-pub returns-in-Some : goal.returns-in-Some
-returns-in-Some g c = record {
-  message = rw (← c.self.view_is) (ap Some c.message.ensures ∙ ap (option_map (λ i. i.message)) c.in-Some.ensures.value
-      ∙ sym (lookup-messages (eq_by_cmp g.M.Digest.Ord.cmp) c.args.digest.now c.self.inside.items.entries));
-  named = rw c.message.ensures ((c.self.invariant.counted.held c.args.digest.now c.in-Some.item.now (sym c.in-Some.ensures.value)).1);
-}
+named_is : {X : Type 0} {P : X → Type 0} (r : Option (Bor X)) → ((x : X) → option_copied r ≡ Some x → P x) → IfSome r (λ m. P m.now)
+named_is None h = tt
+named_is (Some m) h = h m.now refl
 
-pub returns-in-None : goal.returns-in-None
-returns-in-None g c = record {
-  message = rw (← c.self.view_is) (ap (option_map (λ i. i.message)) c.in-None.ensures.value
-      ∙ sym (lookup-messages (eq_by_cmp g.M.Digest.Ord.cmp) c.args.digest.now c.self.inside.items.entries));
-  named = tt;
-}
+pub returns-clause-message : goal.returns-clause-message
+returns-clause-message g c = rw (← c.self.view_is) (c.get.ensures ∙ sym (lookup-messages (eq_by_cmp g.M.Digest.Ord.cmp c.args.digest.now) c.self.inside.table))
+
+pub returns-clause-named : goal.returns-clause-named
+returns-clause-named g c = named_is c.get.result (λ x there. c.self.invariant.named c.args.digest.now x (lookup-messages (eq_by_cmp g.M.Digest.Ord.cmp c.args.digest.now) c.self.inside.table ∙ sym c.get.ensures ∙ there))

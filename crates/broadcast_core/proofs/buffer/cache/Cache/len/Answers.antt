@@ -1,12 +1,9 @@
 use Rattle.std.proofs.Common.{sym, subst}
 use Rattle.std.specs.List.{IsDistinct}
 use Rattle.std.specs.Ordering.{eq_by_cmp}
-use Rattle.std.proofs.lemmas.Map.Keys.{IsDistinct-from_sorted}
 use Rattle.std.proofs.lemmas.Map.Made.{keys_of-map_values}
-use Rattle.std.specs.Map.{keys_of}
 use Rattle.broadcast_core.proofs.buffer.cache.Cache.len.Goals as goal
 
 pub returns-clause-distinct : goal.returns-clause-distinct
 returns-clause-distinct g c =
-    rw (← c.self.view_is) (subst (IsDistinct (eq_by_cmp g.M.Digest.Ord.cmp)) (sym (keys_of-map_values (λ i. i.message) c.self.inside.items.entries))
-    (IsDistinct-from_sorted g.M.Digest.Ord.cmp (keys_of c.self.inside.items.entries) c.len.ensures.ordered))
+    rw (← c.self.view_is) (subst (IsDistinct (eq_by_cmp g.M.Digest.Ord.cmp)) (sym (keys_of-map_values (λ i. i.message) c.self.inside.table)) c.len.ensures.distinct)

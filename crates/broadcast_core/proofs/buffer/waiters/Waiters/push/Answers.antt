@@ -4,7 +4,7 @@ use Rattle.std.specs.Ordering.{eq_by_cmp}
 use Rattle.std.specs.Map.{lookup, set_value}
 use Rattle.std.specs.Option.{option_copied_mut}
 use Rattle.broadcast_core.proofs.Entries.{set_value-same}
-use Rattle.broadcast_core.proofs.Deques.{none_from_not_some}
+use Rattle.broadcast_core.proofs.Entries.{none_from_not_some}
 use Rattle.broadcast_core.proofs.WaitersLemmas.{AreAwaited-written, AreAwaited-first, lists-pushed, lists-first, some_pushed}
 use Rattle.broadcast_core.proofs.buffer.waiters.Waiters.push.Goals as goal
 use Rattle.broadcast_core.proofs.buffer.waiters.Waiters.push.Goals.{in-Ok, in-Err}

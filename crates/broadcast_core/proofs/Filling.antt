@@ -1,0 +1,171 @@
+-- A message that is taken: what the lists and the table are then.
+use Rattle.std.proofs.Common.{◌≡◌, ℕ, suc, ◌≤◌, ◌<◌, Bool, true, false, ◌||◌, inl, inr, List, [], ◌∷◌, ◌++◌, length, take, Option, Some, None, refl, sym, ap, ◌∙◌, subst, arith, length-append}
+use Rattle.std.specs.Prelude.{is_some}
+use Rattle.std.specs.Option.{option_map}
+use Rattle.std.specs.List.{IsDistinct}
+use Rattle.std.specs.Map.{lookup, keys_of, remove_entry}
+use Rattle.std.specs.BTreeMap.{insert_entry}
+use Rattle.std.specs.Ordering.{eq_by_cmp}
+use Rattle.std.specs.Cmp.{IsEquivalence, IsTotalOrder, eq_by_cmp_equiv}
+use Rattle.std.specs.declared.cmp.Ordering.{Ordering}
+use Rattle.std.proofs.lemmas.List.{take_all, nil_from_length}
+use Rattle.entries.specs.Linked.{Node, IsApart}
+use Rattle.entries.specs.Placed.{Placed}
+use Rattle.entries.specs.Store.{digests_of, items_at, moved, Puts}
+use Rattle.entries.specs.Table.{messages_of, place_in, place_at, IsPlaced, Leaves}
+use Rattle.entries.proofs.Stores.{found_same}
+use Rattle.entries.proofs.Tables.{lookup-messages}
+use Rattle.broadcast_core.specs.Carried.{Carried}
+use Rattle.broadcast_core.specs.Content.{Same, among, without}
+use Rattle.broadcast_core.specs.Indexed.{digest_lists, IsIndexed, stored_of, Origin, Holds}
+use Rattle.broadcast_core.specs.Stored.{Stores}
+use Rattle.broadcast_core.proofs.Distinct.{by_test, or_right, length-moved, without-absent}
+use Rattle.broadcast_core.proofs.Entries.{remove_entry-insert_entry}
+use Rattle.broadcast_core.proofs.Placing.{items_at-digests, digests-append}
+use Rattle.broadcast_core.proofs.Indexing.{cond_true, cond_false, nodes-equal, sets-beside, sets-other, sets-here, moved-digests, among-stands, among-nowhere, IsIndexed-moved, IsIndexed-added, IsIndexed-replaced, moved-replaced}
+use Rattle.broadcast_core.proofs.Caching.{named-origin, Stores-made}
+
+take-front : {X : Type 0} (n : ℕ) (xs ys : List X) → n ≡ length xs → take n (xs ++ ys) ≡ xs
+take-front n xs ys is = rw is (front xs)
+  where
+    front : (zs : List _) → take (length zs) (zs ++ ys) ≡ zs
+    front [] = refl
+    front (z ∷ zs) = ap (λ (l : List _). z ∷ l) (front zs)
+
+abbrev by_order : {P D : Type 0} → (P → P → Bool) → (D → D → Ordering) → Same P D
+by_order key R = record { key = key; digest = eq_by_cmp R }
+
+has_item : {P X : Type 0} (o : Option (Placed P X)) → is_some (option_map (λ it. it.message) o) ≡ true → is_some o ≡ true
+has_item None h = cc
+has_item (Some it) h = refl
+
+-- places of equal keys
+place-same : {P D X : Type 0} (digest : D → D → Bool) {key : P → P → Bool} (laws : IsEquivalence key) (p q : P) (o : Option (Placed P X)) → key p q ≡ true → place_in digest key q o ≡ place_in digest key p o
+place-same digest laws p q None h = refl
+place-same digest laws p q (Some item) h = sym (found_same laws item.places p q h)
+
+module _ {P M D : Type 0} (same : Same P D) (key_laws : IsEquivalence same.key) (laws : IsEquivalence same.digest) where
+  module _ (p : P) (x : Carried M D) (size : ℕ) (lists new_lists : List (P × List (Node D))) (items : List (D × Placed P (Carried M D))) (was : IsIndexed same lists items)
+      (distinct : IsDistinct same.key (keys_of (digest_lists lists))) (new_distinct : IsDistinct same.key (keys_of (digest_lists new_lists))) where
+    abbrev ns : List (Node D)
+    ns = items_at same.key p lists
+
+    abbrev ds : List D
+    ds = items_at same.key p (digest_lists lists)
+
+    ds-is : ds ≡ digests_of ns
+    ds-is = items_at-digests same.key p lists
+
+    len-is : length ds ≡ length ns
+    len-is = ap length ds-is ∙ len ns
+      where
+        len : (ms : List (Node D)) → length (digests_of ms) ≡ length ms
+        len [] = refl
+        len (m ∷ ms) = ap suc (len ms)
+
+    -- a digest that is on the list
+    pub Stores-moved : (i : ℕ) → IsApart ns → place_at same.digest same.key items x.digest p ≡ Some i → Puts same.key p (moved i x.digest ns) lists new_lists → length ds ≤ size
+        → IsIndexed same new_lists items × Stores same p x size (stored_of lists items) (stored_of new_lists items)
+    Stores-moved i apart there puts fits =
+        let now = IsIndexed-moved same key_laws laws p lists new_lists items was x.digest i apart there puts in
+        let there_ds : among same.digest x.digest ds ≡ true = ap (among same.digest x.digest) ds-is ∙ among-stands same key_laws laws p lists new_lists items was x.digest i apart there in
+        let is : digests_of (moved i x.digest ns) ≡ x.digest ∷ without same.digest x.digest ds =
+        moved-digests same key_laws laws p lists new_lists items was x.digest i apart there ∙ sym (ap (λ l. x.digest ∷ without same.digest x.digest l) ds-is) in (
+          now,
+          Stores-made same key_laws laws p x size lists new_lists items items was now distinct new_distinct (moved i x.digest ns) puts
+              (is ∙ sym (take_all size (x.digest ∷ without same.digest x.digest ds) (omega (arith, fits, length-moved laws x.digest ds there_ds))))
+              (λ d y h. inl h),
+        )
+
+    -- a list of which nothing is kept
+    pub Stores-nowhere : size ≡ 0 → length ds ≤ size → new_lists ≡ lists → Stores same p x size (stored_of lists items) (stored_of new_lists items)
+    Stores-nowhere zero fits stays =
+        let none : ns ≡ [] = nil_from_length ns (omega (arith, zero, fits, len-is)) in
+        let now = subst (λ l. IsIndexed same l items) (sym stays) was in
+        Stores-made same key_laws laws p x size lists new_lists items items was now distinct new_distinct []
+        (record {
+          lists = λ q. ap (items_at same.key q) stays ∙ by_test (same.key p q)
+              (λ h. nodes-equal key_laws lists p q h ∙ none ∙ sym (cond_true (same.key p q) [] (items_at same.key q lists) h))
+              (λ h. sym (cond_false (same.key p q) [] (items_at same.key q lists) h));
+          keys = λ q h. ap (λ b. same.key p q || b) (ap (λ l. is_some (lookup (same.key q) l)) (sym stays) ∙ h) ∙ or_right (same.key p q);
+        })
+        (rw zero refl)
+        (λ d y h. inl h)
+
+    module _ (none : place_at same.digest same.key items x.digest p ≡ None) where
+      nowhere : among same.digest x.digest ds ≡ false
+      nowhere = ap (among same.digest x.digest) ds-is ∙ among-nowhere same key_laws laws p lists new_lists items was x.digest 0 none
+
+      -- a digest that is not on a list that is not full
+      pub Stores-added : (R : D → D → Ordering) (i : ℕ) (new_items : List (D × Placed P (Carried M D))) → Holds same R p x i items new_items → IsPlaced same.digest same.key new_items → Puts same.key p ((i, x.digest) ∷ ns) lists new_lists → length ns < size
+          → IsIndexed same new_lists new_items × Stores same p x size (stored_of lists items) (stored_of new_lists new_items)
+      Stores-added R i new_items holds placed puts fits =
+          let now = IsIndexed-added same key_laws laws p lists new_lists items was x.digest i none new_items holds.places puts
+          (named-origin same key_laws laws x (messages_of items) (messages_of new_items) was.named holds.origin) placed in (
+            now,
+            Stores-made same key_laws laws p x size lists new_lists items new_items was now distinct new_distinct ((i, x.digest) ∷ ns) puts
+                (ap (λ l. x.digest ∷ l) (sym ds-is ∙ sym (without-absent laws x.digest ds nowhere))
+                ∙ sym (take_all size (x.digest ∷ without same.digest x.digest ds) (omega (arith, fits, len-is, ap length (without-absent laws x.digest ds nowhere)))))
+                holds.origin,
+          )
+
+      -- a digest that is not on a full list
+      pub Stores-replaced : (R : D → D → Ordering) (i : ℕ) (mid new_items : List (D × Placed P (Carried M D))) (newer : List (Node D)) (stale : D) → ns ≡ newer ++ (i, stale) ∷ [] → IsApart ns → length ns ≡ size
+          → Holds same R p x i items mid → Leaves same.digest same.key stale p mid new_items → IsPlaced same.digest same.key new_items → Puts same.key p (moved i x.digest ns) lists new_lists
+          → IsIndexed same new_lists new_items × Stores same p x size (stored_of lists items) (stored_of new_lists new_items)
+      Stores-replaced R i mid new_items newer stale last apart full holds leaves placed puts =
+          let origin : Origin same x (messages_of items) (messages_of new_items) = λ d y h. holds.origin d y (leaves.fewer d y h) in
+          let now = IsIndexed-replaced same key_laws laws p lists new_lists items was x.digest i none newer stale last mid new_items apart holds.places leaves.places puts
+          (named-origin same key_laws laws x (messages_of items) (messages_of new_items) was.named origin) placed in
+          let split : ds ≡ digests_of newer ++ stale ∷ [] = ds-is ∙ ap digests_of last ∙ digests-append newer ((i, stale) ∷ []) in
+          let cut : take size (x.digest ∷ without same.digest x.digest ds) ≡ x.digest ∷ digests_of newer =
+          ap (λ l. take size (x.digest ∷ l)) (without-absent laws x.digest ds nowhere ∙ split)
+          ∙ take-front size (x.digest ∷ digests_of newer) (stale ∷ []) (omega (arith, full, len-is, ap length split, length-append (digests_of newer) (stale ∷ []))) in (
+            now,
+            Stores-made same key_laws laws p x size lists new_lists items new_items was now distinct new_distinct (moved i x.digest ns) puts
+                (ap digests_of (moved-replaced same key_laws laws p lists new_lists items was x.digest i none newer stale last apart) ∙ sym cut)
+                origin,
+          )
+
+module _ {P M D : Type 0} {key : P → P → Bool} {R : D → D → Ordering} (key_laws : IsEquivalence key) (order : IsTotalOrder R) where
+  module _ (p : P) (x : Carried M D) (i : ℕ) (items mid new_items : List (D × Placed P (Carried M D)))
+      (none : place_at (eq_by_cmp R) key items x.digest p ≡ None) (holds : Holds (by_order key R) R p x i items mid)
+      (leaves : Leaves (eq_by_cmp R) key x.digest p mid new_items) where
+    -- what was held and left is as it was
+    pub places-undone : (e : D) (q : P) → place_at (eq_by_cmp R) key new_items e q ≡ place_at (eq_by_cmp R) key items e q
+    places-undone e q = by_test ((eq_by_cmp R) x.digest e)
+        (λ h. by_test (key p q)
+        (λ k. sets-here (by_order key R) key_laws (eq_by_cmp_equiv order) x.digest p None mid new_items leaves.places e q h k
+        ∙ sym (place-same (eq_by_cmp R) key_laws p q (lookup ((eq_by_cmp R) e) items) k ∙ ap (place_in (eq_by_cmp R) key p) (sym (found_same (eq_by_cmp_equiv order) items x.digest e h)) ∙ none))
+        (λ k. sets-other (by_order key R) key_laws (eq_by_cmp_equiv order) x.digest p None mid new_items leaves.places e q k ∙ sets-other (by_order key R) key_laws (eq_by_cmp_equiv order) x.digest p (Some i) items mid holds.places e q k))
+        (λ h. sets-beside (by_order key R) key_laws (eq_by_cmp_equiv order) x.digest p None mid new_items leaves.places e q h ∙ sets-beside (by_order key R) key_laws (eq_by_cmp_equiv order) x.digest p (Some i) items mid holds.places e q h)
+
+    no_place : (q : P) (j : ℕ) → place_at (eq_by_cmp R) key new_items x.digest q ≡ Some j → lookup ((eq_by_cmp R) x.digest) items ≡ None → ⊥
+    no_place q j there absent =
+        let gone : None ≡ Some j = sym (ap (place_in (eq_by_cmp R) key q) absent) ∙ sym (places-undone x.digest q) ∙ there in cc
+
+    undone : (b : Bool) → is_some (lookup ((eq_by_cmp R) x.digest) items) ≡ b → IsPlaced (eq_by_cmp R) key items → IsPlaced (eq_by_cmp R) key new_items → messages_of new_items ≡ messages_of items
+    undone true is placed new_placed =
+        let kept : messages_of mid ≡ messages_of items = holds.messages ∙ rw is refl in
+        elim leaves.messages [
+          | inl stays ↦ stays ∙ kept
+          | inr gone ↦
+              let f = placed x.digest is in
+              let no : None ≡ Some f.1 = sym (ap (place_in (eq_by_cmp R) key f.0) gone.1) ∙ places-undone x.digest f.0 ∙ f.2 in absurd (cc)
+        ]
+    undone false is placed new_placed =
+        let put : messages_of mid ≡ insert_entry R (messages_of items) x.digest x = holds.messages ∙ rw is refl in
+        let absent : lookup ((eq_by_cmp R) x.digest) items ≡ None = none_is (lookup ((eq_by_cmp R) x.digest) items) is in
+        elim leaves.messages [
+          | inl stays ↦
+              let there : is_some (lookup ((eq_by_cmp R) x.digest) new_items) ≡ true = has_item (lookup ((eq_by_cmp R) x.digest) new_items) (sym (ap is_some (lookup-messages ((eq_by_cmp R) x.digest) new_items)) ∙ ap (λ l. is_some (lookup ((eq_by_cmp R) x.digest) l)) stays ∙ holds.cached) in
+              let f = new_placed x.digest there in absurd (no_place f.0 f.1 f.2 absent)
+          | inr gone ↦ gone.0 ∙ ap (remove_entry ((eq_by_cmp R) x.digest)) put ∙ remove_entry-insert_entry order x.digest x (messages_of items) (lookup-messages ((eq_by_cmp R) x.digest) items ∙ ap (option_map (λ it. it.message)) absent)
+        ]
+      where
+        none_is : (o : Option (Placed P (Carried M D))) → is_some o ≡ false → o ≡ None
+        none_is None h = refl
+        none_is (Some it) h = cc
+
+    pub messages-undone : IsPlaced (eq_by_cmp R) key items → IsPlaced (eq_by_cmp R) key new_items → messages_of new_items ≡ messages_of items
+    messages-undone placed new_placed = undone (is_some (lookup ((eq_by_cmp R) x.digest) items)) refl placed new_placed

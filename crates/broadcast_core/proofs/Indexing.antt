@@ -1,0 +1,180 @@
+-- What changes of a list and of the table make of how they agree.
+use Rattle.std.proofs.Common.{◌≡◌, ℕ, Bool, true, false, ◌&&◌, ◌||◌, cond, List, [], ◌∷◌, ◌++◌, Option, Some, None, refl, sym, ap, ◌∙◌, subst, append-nil}
+use Rattle.std.specs.Prelude.{is_some, unwrap_or}
+use Rattle.std.specs.List.{IsDistinct}
+use Rattle.std.specs.Map.{lookup}
+use Rattle.std.specs.Cmp.{IsEquivalence}
+use Rattle.entries.specs.Linked.{Node, IsApart}
+use Rattle.entries.specs.Placed.{Placed}
+use Rattle.entries.specs.Store.{digests_of, items_at, moved, Puts}
+use Rattle.entries.specs.Table.{messages_of, place_at, IsPlaced, SetsPlace}
+use Rattle.entries.proofs.Stores.{found_same, moved-parts}
+use Rattle.broadcast_core.specs.Carried.{Carried}
+use Rattle.broadcast_core.specs.Content.{Same, among, without}
+use Rattle.broadcast_core.specs.Indexed.{place_of, IsIndexed}
+use Rattle.broadcast_core.proofs.Distinct.{by_test, or_false, list_any-append, or_none, among-equal, among-last, IsDistinct-init, IsDistinct-front, IsDistinct-moved}
+use Rattle.broadcast_core.proofs.Placing.{digests-append, among-place, place-none, place-beside, place-first, place-later, place-moved, found, digests-moved}
+
+pub cond_true : {A : Type 0} (b : Bool) (x y : A) → b ≡ true → cond b x y ≡ x
+cond_true true x y e = refl
+cond_true false x y e = cc
+
+pub cond_false : {A : Type 0} (b : Bool) (x y : A) → b ≡ false → cond b x y ≡ y
+cond_false true x y e = cc
+cond_false false x y e = refl
+
+both_true : (a b : Bool) → a ≡ true → b ≡ true → (a && b) ≡ true
+both_true true b p q = q
+both_true false b p q = p
+
+first_false : (a b : Bool) → a ≡ false → (a && b) ≡ false
+first_false true b p = absurd cc
+first_false false b p = refl
+
+second_false : (a b : Bool) → b ≡ false → (a && b) ≡ false
+second_false true b q = q
+second_false false b q = refl
+
+-- the nodes of equal keys
+pub nodes-equal : {P X : Type 0} {key : P → P → Bool} (laws : IsEquivalence key) (lists : List (P × List X)) (p q : P) → key p q ≡ true → items_at key q lists ≡ items_at key p lists
+nodes-equal {X = X} laws lists p q h = ap (λ (o : Option (List X)). unwrap_or o []) (sym (found_same laws lists p q h))
+
+module _ {P M D : Type 0} (same : Same P D) (key_laws : IsEquivalence same.key) (laws : IsEquivalence same.digest) where
+  module _ (d : D) (p : P) (place : Option ℕ) (old new : List (D × Placed P (Carried M D))) (sets : SetsPlace same.digest same.key d p place old new) (e : D) (q : P) where
+    pub sets-here : same.digest d e ≡ true → same.key p q ≡ true → place_at same.digest same.key new e q ≡ place
+    sets-here h k = sets e q ∙ cond_true (same.digest d e && same.key p q) place (place_at same.digest same.key old e q) (both_true _ _ h k)
+
+    pub sets-beside : same.digest d e ≡ false → place_at same.digest same.key new e q ≡ place_at same.digest same.key old e q
+    sets-beside h = sets e q ∙ cond_false (same.digest d e && same.key p q) place (place_at same.digest same.key old e q) (first_false _ _ h)
+
+    pub sets-other : same.key p q ≡ false → place_at same.digest same.key new e q ≡ place_at same.digest same.key old e q
+    sets-other h = sets e q ∙ cond_false (same.digest d e && same.key p q) place (place_at same.digest same.key old e q) (second_false _ _ h)
+
+  abbrev Named : List (D × Placed P (Carried M D)) → Type 0
+  Named items = (d : D) (x : Carried M D) → lookup (same.digest d) (messages_of items) ≡ Some x → same.digest d x.digest ≡ true
+
+  module _ (p : P) (lists new_lists : List (P × List (Node D))) (items : List (D × Placed P (Carried M D))) (was : IsIndexed same lists items) where
+    abbrev ns : List (Node D)
+    ns = items_at same.key p lists
+
+    -- what the table has at a key that equals p
+    at-key : (e : D) (q : P) → same.key p q ≡ true → place_at same.digest same.key items e q ≡ place_of same.digest e ns
+    at-key e q h = was.finds e q ∙ ap (place_of same.digest e) (nodes-equal key_laws lists p q h)
+
+    indexed : (ms : List (Node D)) (new_items : List (D × Placed P (Carried M D))) → Puts same.key p ms lists new_lists
+        → ((e : D) (q : P) → same.key p q ≡ false → place_at same.digest same.key new_items e q ≡ place_at same.digest same.key items e q)
+        → ((e : D) (q : P) → same.key p q ≡ true → place_at same.digest same.key new_items e q ≡ place_of same.digest e ms)
+        → IsDistinct same.digest (digests_of ms) → Named new_items → IsPlaced same.digest same.key new_items → IsIndexed same new_lists new_items
+    indexed ms new_items puts other here distinct named placed = record {
+      finds = λ e q. by_test (same.key p q)
+          (λ h. here e q h ∙ sym (ap (place_of same.digest e) (puts.lists q ∙ cond_true (same.key p q) ms (items_at same.key q lists) h)))
+          (λ h. other e q h ∙ was.finds e q ∙ sym (ap (place_of same.digest e) (puts.lists q ∙ cond_false (same.key p q) ms (items_at same.key q lists) h)));
+      distinct = λ q. by_test (same.key p q)
+          (λ h. subst (λ l. IsDistinct same.digest (digests_of l)) (sym (puts.lists q ∙ cond_true (same.key p q) ms (items_at same.key q lists) h)) distinct)
+          (λ h. subst (λ l. IsDistinct same.digest (digests_of l)) (sym (puts.lists q ∙ cond_false (same.key p q) ms (items_at same.key q lists) h)) (was.distinct q));
+      named = named;
+      placed = placed;
+    }
+
+    -- a digest of the list moves to its front
+    module _ (d : D) (i : ℕ) (apart : IsApart ns) (there : place_at same.digest same.key items d p ≡ Some i) where
+      stands : place_of same.digest d ns ≡ Some i
+      stands = sym (was.finds d p) ∙ there
+
+      pub moved-digests : digests_of (moved i d ns) ≡ d ∷ without same.digest d (digests_of ns)
+      moved-digests = digests-moved laws d i ns apart (was.distinct p) (found laws d i ns stands)
+
+      pub among-stands : among same.digest d (digests_of ns) ≡ true
+      among-stands = among-place laws d ns ∙ ap is_some stands
+
+      pub IsIndexed-moved : Puts same.key p (moved i d ns) lists new_lists → IsIndexed same new_lists items
+      IsIndexed-moved puts = indexed (moved i d ns) items puts
+          (λ e q h. refl)
+          (λ e q h. at-key e q h ∙ sym (place-moved laws e d i ns apart stands))
+          (subst (IsDistinct same.digest) (sym moved-digests) (IsDistinct-moved laws d (digests_of ns) (was.distinct p)))
+          was.named was.placed
+
+    -- a digest that was nowhere goes in front
+    module _ (d : D) (i : ℕ) (none : place_at same.digest same.key items d p ≡ None) where
+      pub among-nowhere : among same.digest d (digests_of ns) ≡ false
+      among-nowhere = among-place laws d ns ∙ ap is_some (sym (was.finds d p) ∙ none)
+
+      pub IsIndexed-added : (new_items : List (D × Placed P (Carried M D))) → SetsPlace same.digest same.key d p (Some i) items new_items → Puts same.key p ((i, d) ∷ ns) lists new_lists
+          → Named new_items → IsPlaced same.digest same.key new_items → IsIndexed same new_lists new_items
+      IsIndexed-added new_items sets puts named placed = indexed ((i, d) ∷ ns) new_items puts
+          (λ e q h. sets-other d p (Some i) items new_items sets e q h)
+          (λ e q h. by_test (same.digest d e)
+          (λ t. sets-here d p (Some i) items new_items sets e q t h ∙ sym (place-first laws e (i, d) ns (laws.symm e d ∙ t)))
+          (λ t. sets-beside d p (Some i) items new_items sets e q t ∙ at-key e q h ∙ sym (place-later laws e (i, d) ns (laws.symm e d ∙ t))))
+          (IsDistinct-front laws d (digests_of ns) among-nowhere (was.distinct p))
+          named placed
+
+      module _ (newer : List (Node D)) (stale : D) (last : ns ≡ newer ++ (i, stale) ∷ []) where
+        parts : (among same.digest d (digests_of newer) ≡ false) × (same.digest d stale ≡ false)
+        parts =
+            let whole : among same.digest d (digests_of newer ++ stale ∷ []) ≡ false = ap (among same.digest d) (sym (ap digests_of last ∙ digests-append newer ((i, stale) ∷ []))) ∙ among-nowhere in
+            let both = or_false (among same.digest d (digests_of newer)) (same.digest d stale || false) (sym (list_any-append (same.digest d) (digests_of newer) (stale ∷ [])) ∙ whole) in
+            (both.0, sym (or_none (same.digest d stale)) ∙ both.1)
+
+        split : IsDistinct same.digest (digests_of newer ++ stale ∷ [])
+        split = subst (IsDistinct same.digest) (ap digests_of last ∙ digests-append newer ((i, stale) ∷ [])) (was.distinct p)
+
+        pub moved-replaced : IsApart ns → moved i d ns ≡ (i, d) ∷ newer
+        moved-replaced apart =
+            ap (moved i d) last ∙ moved-parts i d stale newer [] (rw last at apart) ∙ ap (λ (l : List (Node D)). (i, d) ∷ l) (append-nil newer)
+
+        pub IsIndexed-replaced : (mid new_items : List (D × Placed P (Carried M D))) → IsApart ns → SetsPlace same.digest same.key d p (Some i) items mid → SetsPlace same.digest same.key stale p None mid new_items
+            → Puts same.key p (moved i d ns) lists new_lists → Named new_items → IsPlaced same.digest same.key new_items → IsIndexed same new_lists new_items
+        IsIndexed-replaced mid new_items apart sets drops puts named placed =
+            let is = moved-replaced apart in
+            indexed ((i, d) ∷ newer) new_items (subst (λ l. Puts same.key p l lists new_lists) is puts)
+            (λ e q h. sets-other stale p None mid new_items drops e q h ∙ sets-other d p (Some i) items mid sets e q h)
+            (λ e q h. by_test (same.digest stale e)
+            (λ t.
+            let apart_e : same.digest e d ≡ false = sym (laws.congr stale e d t) ∙ laws.symm stale d ∙ parts.1 in
+            sets-here stale p None mid new_items drops e q t h ∙ sym (place-later laws e (i, d) newer apart_e ∙ place-none laws e newer (sym (among-equal laws stale e (digests_of newer) t) ∙ among-last laws (digests_of newer) stale split)))
+            (λ t. sets-beside stale p None mid new_items drops e q t ∙ by_test (same.digest d e)
+            (λ u. sets-here d p (Some i) items mid sets e q u h ∙ sym (place-first laws e (i, d) newer (laws.symm e d ∙ u)))
+            (λ u. sets-beside d p (Some i) items mid sets e q u ∙ at-key e q h ∙ ap (place_of same.digest e) last
+            ∙ place-beside laws e newer (i, stale) [] (laws.symm e stale ∙ t) ∙ ap (place_of same.digest e) (append-nil newer)
+            ∙ sym (place-later laws e (i, d) newer (laws.symm e d ∙ u)))))
+            (IsDistinct-front laws d (digests_of newer) parts.0 (IsDistinct-init laws (digests_of newer) stale split))
+            named placed
+
+    -- the oldest digest leaves
+    pub IsIndexed-evicted : (stale : D) (i : ℕ) (rest : List (Node D)) (new_items : List (D × Placed P (Carried M D))) → ns ≡ rest ++ (i, stale) ∷ [] → SetsPlace same.digest same.key stale p None items new_items
+        → Puts same.key p rest lists new_lists → Named new_items → IsPlaced same.digest same.key new_items → IsIndexed same new_lists new_items
+    IsIndexed-evicted stale i rest new_items last drops puts named placed =
+        let split : IsDistinct same.digest (digests_of rest ++ stale ∷ []) = subst (IsDistinct same.digest) (ap digests_of last ∙ digests-append rest ((i, stale) ∷ [])) (was.distinct p) in
+        indexed rest new_items puts
+        (λ e q h. sets-other stale p None items new_items drops e q h)
+        (λ e q h. by_test (same.digest stale e)
+        (λ t. sets-here stale p None items new_items drops e q t h ∙ sym (place-none laws e rest (sym (among-equal laws stale e (digests_of rest) t) ∙ among-last laws (digests_of rest) stale split)))
+        (λ t. sets-beside stale p None items new_items drops e q t ∙ at-key e q h ∙ ap (place_of same.digest e) last
+        ∙ place-beside laws e rest (i, stale) [] (laws.symm e stale ∙ t) ∙ ap (place_of same.digest e) (append-nil rest)))
+        (IsDistinct-init laws (digests_of rest) stale split)
+        named placed
+
+  -- the same places and messages
+  pub IsIndexed-same : (lists : List (P × List (Node D))) (items new_items : List (D × Placed P (Carried M D))) → IsIndexed same lists items → messages_of new_items ≡ messages_of items
+      → ((e : D) (q : P) → place_at same.digest same.key new_items e q ≡ place_at same.digest same.key items e q) → IsPlaced same.digest same.key new_items → IsIndexed same lists new_items
+  IsIndexed-same lists items new_items was messages places placed = record {
+    finds = λ e q. places e q ∙ was.finds e q;
+    distinct = was.distinct;
+    named = λ e x h. was.named e x (ap (lookup (same.digest e)) (sym messages) ∙ h);
+    placed = placed;
+  }
+
+  -- the list of a key is gone, and it was empty
+  pub IsIndexed-closed : (p : P) (lists new_lists : List (P × List (Node D))) (items : List (D × Placed P (Carried M D))) → IsIndexed same lists items → items_at same.key p lists ≡ []
+      → ((q : P) → items_at same.key q new_lists ≡ cond (same.key p q) [] (items_at same.key q lists)) → IsIndexed same new_lists items
+  IsIndexed-closed p lists new_lists items was empty at =
+      let stays : (q : P) → items_at same.key q new_lists ≡ items_at same.key q lists = λ q. at q ∙ by_test (same.key p q)
+      (λ h. cond_true (same.key p q) [] (items_at same.key q lists) h ∙ sym (nodes-equal key_laws lists p q h ∙ empty))
+      (λ h. cond_false (same.key p q) [] (items_at same.key q lists) h) in
+      record {
+        finds = λ e q. was.finds e q ∙ sym (ap (place_of same.digest e) (stays q));
+        distinct = λ q. subst (λ l. IsDistinct same.digest (digests_of l)) (sym (stays q)) (was.distinct q);
+        named = was.named;
+        placed = was.placed;
+      }

@@ -1,0 +1,18 @@
+use Rattle.std.proofs.Common.{ℕ, [], refl, arith}
+use Rattle.std.specs.List.{IsDistinct}
+use Rattle.broadcast_core.specs.Content.{Same, same_by}
+use Rattle.broadcast_core.specs.Stored.{IsCore}
+use Rattle.broadcast_core.proofs.buffer.Core.new.Goals as goal
+
+empty : {P M D W : Type 0} (same : Same P D) (size : ℕ) → IsCore same {M = M} {W = W} size [] (record { lists = []; messages = [] }) []
+unfolding IsDistinct
+empty same size = record {
+  bounded = λ p. omega arith;
+  primary_only = λ p h. cc;
+  distinct = tt;
+  messages = λ d. refl;
+  unawaited = λ d h. refl;
+}
+
+pub invariant_of-result : goal.invariant_of-result
+invariant_of-result g c = rw (c.default.ensures, c.new.ensures, c.new-2.ensures) (empty (same_by g.P.Ord.cmp g.M.Digest.Ord.cmp) c.args.deque_size)

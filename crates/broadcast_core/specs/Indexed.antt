@@ -1,0 +1,68 @@
+-- How the lists of places and the table of messages agree.
+use Rattle.std.specs.Prelude.{◌≡◌, ℕ, Bool, true, false, if◌then◌else◌, List, [], ◌∷◌, map, Option, Some, None, is_some, ◌⊎◌}
+use Rattle.std.specs.List.{IsDistinct}
+use Rattle.std.specs.Map.{lookup}
+use Rattle.entries.specs.Linked.{Node}
+use Rattle.entries.specs.Placed.{Placed}
+use Rattle.entries.specs.Store.{digests_of, items_at}
+use Rattle.entries.specs.Table.{messages_of, place_at, IsPlaced, SetsPlace}
+use Rattle.broadcast_core.specs.Carried.{Carried}
+use Rattle.std.specs.BTreeMap.{insert_entry}
+use Rattle.std.specs.declared.cmp.Ordering.{Ordering}
+use Rattle.broadcast_core.specs.Content.{Same}
+use Rattle.broadcast_core.specs.Stored.{Stored}
+
+-- the place of the digest among nodes
+abbrev pub place_of : {D : Type 0} → (D → D → Bool) → D → List (Node D) → Option ℕ
+place_of same d [] = None
+place_of same d (n ∷ ns) = if same d n.1 then Some n.0 else place_of same d ns
+
+-- the lists of digests
+abbrev pub digest_lists : {P D : Type 0} → List (P × List (Node D)) → List (P × List D)
+digest_lists lists = map (λ e. (e.0, digests_of e.1)) lists
+
+-- the table finds the place of each digest on a list, and no other; the digests of a list differ;
+-- a message goes by its own digest, and has a place
+pub record IsIndexed {P M D : Type 0} (same : Same P D) (lists : List (P × List (Node D)))
+    (items : List (D × Placed P (Carried M D))) : Type 0 where
+  pub finds : (d : D) (p : P) → place_at same.digest same.key items d p
+      ≡ place_of same.digest d (items_at same.key p lists)
+  pub distinct : (p : P) → IsDistinct same.digest (digests_of (items_at same.key p lists))
+  pub named : (d : D) (x : Carried M D) → lookup (same.digest d) (messages_of items) ≡ Some x
+      → same.digest d x.digest ≡ true
+  pub placed : IsPlaced same.digest same.key items
+
+-- the content of lists of places and a table
+abbrev pub stored_of : {P M D : Type 0} → List (P × List (Node D))
+    → List (D × Placed P (Carried M D)) → Stored P M D
+stored_of lists items = record { lists = digest_lists lists; messages = messages_of items }
+
+module _ {P M D : Type 0} (same : Same P D) where
+  -- each message was there, or is the one that is taken, which was not there
+  abbrev pub Origin : Carried M D → List (D × Carried M D) → List (D × Carried M D) → Type 0
+  Origin x old new = (d : D) (y : Carried M D) → lookup (same.digest d) new ≡ Some y
+      → (lookup (same.digest d) old ≡ Some y)
+      ⊎ ((lookup (same.digest d) old ≡ None) × (y ≡ x) × (same.digest x.digest d ≡ true))
+
+  -- each message was there
+  abbrev pub Fewer : List (D × Carried M D) → List (D × Carried M D) → Type 0
+  Fewer old new = (d : D) (y : Carried M D) → lookup (same.digest d) new ≡ Some y
+      → lookup (same.digest d) old ≡ Some y
+
+  -- the message is cached, where it was not, and has a place of the key
+  pub record Holds (cmp : D → D → Ordering) (p : P) (x : Carried M D) (place : ℕ)
+      (old new : List (D × Placed P (Carried M D))) : Type 0 where
+    pub places : SetsPlace same.digest same.key x.digest p (Some place) old new
+    pub messages : messages_of new ≡ (if is_some (lookup (same.digest x.digest) old)
+        then messages_of old else insert_entry cmp (messages_of old) x.digest x)
+    pub cached : is_some (lookup (same.digest x.digest) (messages_of new)) ≡ true
+    pub origin : Origin x (messages_of old) (messages_of new)
+
+  -- the key has no list any more, and the others stay
+  pub record Clears (p : P) (old_lists new_lists : List (P × List (Node D)))
+      (old new : List (D × Placed P (Carried M D))) : Type 0 where
+    pub lists : (q : P) → items_at same.key q new_lists
+        ≡ (if same.key p q then [] else items_at same.key q old_lists)
+    pub keys : (q : P) → is_some (lookup (same.key q) new_lists) ≡ true
+        → (same.key p q ≡ false) × (is_some (lookup (same.key q) old_lists) ≡ true)
+    pub fewer : Fewer (messages_of old) (messages_of new)

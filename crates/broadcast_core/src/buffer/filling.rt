@@ -1,0 +1,226 @@
+//! The lists and the table of messages, kept in step.
+ghost use Rattle.std.specs.Prelude.{◌≡◌, ◌≤◌, ◌<◌, ◌++◌, ◌∷◌, false, true, not, length, is_some, None, [], IfOk, OnOk, OnErr, IsOk, MatchBool};
+ghost use Rattle.std.specs.Map.{lookup, keys_of};
+ghost use Rattle.std.specs.List.{IsDistinct};
+ghost use Rattle.std.specs.List.Sorted.{IsStrictlySortedBy};
+ghost use Rattle.std.specs.Ordering.{eq_by_cmp};
+ghost use Rattle.entries.specs.Linked.{IsApart};
+ghost use Rattle.entries.specs.Store.{IsOldest};
+ghost use Rattle.entries.specs.Table.{place_at, IsPlaced, IsSame};
+ghost use Rattle.broadcast_core.specs.Content.{same_by, among, items_at};
+ghost use Rattle.broadcast_core.specs.Indexed.{IsIndexed, Clears, Holds, stored_of, digest_lists};
+ghost use Rattle.broadcast_core.specs.Stored.{Stores, Drops};
+
+use crate::digested::{Digested, Digestible};
+use crate::ordered::{PublicKey, place_of};
+use entries::{Entries, Found, Table};
+use std::alloc::AllocError;
+
+/// Puts the digest in front of the list of `peer`. Returns whether it is new there.
+pub fn take<P: PublicKey, M: Digestible>(
+    lists: &mut Entries<P, M::Digest>,
+    table: &mut Table<P, M::Digest, Digested<M>>,
+    peer: &P,
+    message: &Digested<M>,
+    deque_size: usize,
+) -> Result<bool, AllocError>
+    requires indexed { IsIndexed (same_by P.cmp M.Digest.cmp) lists.old.lists table.old }
+    requires fits { length (items_at (eq_by_cmp P.cmp) peer.now (digest_lists lists.old.lists)) ≤ deque_size }
+    ensures indexed { IsIndexed (same_by P.cmp M.Digest.cmp) lists.new.lists table.new }
+    ensures new { let same = same_by P.cmp M.Digest.cmp in
+        let ds = items_at same.key peer.now (digest_lists lists.old.lists) in
+        IfOk result (λ new. new ≡ not (among same.digest message.now.digest ds)) }
+    ensures ok { OnOk result (Stores (same_by P.cmp M.Digest.cmp) peer.now message.now deque_size
+        (stored_of lists.old.lists table.old) (stored_of lists.new.lists table.new)) }
+    ensures err { OnErr result (stored_of lists.new.lists table.new ≡ stored_of lists.old.lists table.old) }
+    ensures succeeds_on_duplicate { among (eq_by_cmp M.Digest.cmp) message.now.digest
+        (items_at (eq_by_cmp P.cmp) peer.now (digest_lists lists.old.lists)) ≡ true → IsOk result }
+    ensures succeeds_at_size_zero { deque_size ≡ 0 → IsOk result }
+{
+    match table.find(&message.digest(), peer) {
+        Found::At(place) => {
+            renew(lists, table, peer, message, place, deque_size);
+            Ok(false)
+        }
+        Found::Elsewhere => insert(lists, table, peer, message, deque_size, true),
+        Found::Nowhere => insert(lists, table, peer, message, deque_size, false),
+    }
+}
+
+/// Moves a digest to the front of the list of `peer`.
+fn renew<P: PublicKey, M: Digestible>(
+    lists: &mut Entries<P, M::Digest>,
+    table: &Table<P, M::Digest, Digested<M>>,
+    peer: &P,
+    message: &Digested<M>,
+    place: usize,
+    deque_size: usize,
+)
+    requires indexed { IsIndexed (same_by P.cmp M.Digest.cmp) lists.old.lists table.now }
+    requires there { place_at (eq_by_cmp M.Digest.cmp) (eq_by_cmp P.cmp) table.now message.now.digest peer.now ≡ Some place }
+    requires fits { length (items_at (eq_by_cmp P.cmp) peer.now (digest_lists lists.old.lists)) ≤ deque_size }
+    ensures indexed { IsIndexed (same_by P.cmp M.Digest.cmp) lists.new.lists table.now }
+    ensures stores { Stores (same_by P.cmp M.Digest.cmp) peer.now message.now deque_size
+        (stored_of lists.old.lists table.now) (stored_of lists.new.lists table.now) }
+{
+    // No two lists have one key: so says `len`.
+    let _old = lists.len();
+    let digest = message.digest();
+    lists.promote(peer, place, digest);
+    let _new = lists.len();
+}
+
+/// Puts a digest that is not on the list of `peer` in front of it, and drops the oldest digest of
+/// a full list. Returns `true`.
+fn insert<P: PublicKey, M: Digestible>(
+    lists: &mut Entries<P, M::Digest>,
+    table: &mut Table<P, M::Digest, Digested<M>>,
+    peer: &P,
+    message: &Digested<M>,
+    deque_size: usize,
+    is_cached: bool,
+) -> Result<bool, AllocError>
+    requires indexed { IsIndexed (same_by P.cmp M.Digest.cmp) lists.old.lists table.old }
+    requires absent { place_at (eq_by_cmp M.Digest.cmp) (eq_by_cmp P.cmp) table.old message.now.digest peer.now ≡ None }
+    requires cached { is_cached ≡ is_some (lookup (eq_by_cmp M.Digest.cmp message.now.digest) table.old) }
+    requires fits { length (items_at (eq_by_cmp P.cmp) peer.now (digest_lists lists.old.lists)) ≤ deque_size }
+    ensures indexed { IsIndexed (same_by P.cmp M.Digest.cmp) lists.new.lists table.new }
+    ensures ok { OnOk result (Stores (same_by P.cmp M.Digest.cmp) peer.now message.now deque_size
+        (stored_of lists.old.lists table.old) (stored_of lists.new.lists table.new)) }
+    ensures err { OnErr result (stored_of lists.new.lists table.new ≡ stored_of lists.old.lists table.old) }
+    ensures new { IfOk result (λ new. new ≡ true) }
+    ensures succeeds_at_size_zero { deque_size ≡ 0 → IsOk result }
+{
+    if deque_size == 0 {
+        // No two lists have one key: so says `len`.
+        let _lists = lists.len();
+        return Ok(true);
+    }
+    match lists.oldest_beyond(peer, deque_size) {
+        Some((place, stale)) => replace(
+            lists, table, peer, message, deque_size, is_cached, place, stale,
+        )?,
+        None => add(lists, table, peer, message, deque_size, is_cached)?,
+    }
+    Ok(true)
+}
+
+/// Puts a digest in front of the list of `peer`, which is not full.
+fn add<P: PublicKey, M: Digestible>(
+    lists: &mut Entries<P, M::Digest>,
+    table: &mut Table<P, M::Digest, Digested<M>>,
+    peer: &P,
+    message: &Digested<M>,
+    deque_size: usize,
+    is_cached: bool,
+) -> Result<(), AllocError>
+    requires indexed { IsIndexed (same_by P.cmp M.Digest.cmp) lists.old.lists table.old }
+    requires absent { place_at (eq_by_cmp M.Digest.cmp) (eq_by_cmp P.cmp) table.old message.now.digest peer.now ≡ None }
+    requires cached { is_cached ≡ is_some (lookup (eq_by_cmp M.Digest.cmp message.now.digest) table.old) }
+    requires shorter { length (items_at (eq_by_cmp P.cmp) peer.now lists.old.lists) < deque_size }
+    ensures indexed { IsIndexed (same_by P.cmp M.Digest.cmp) lists.new.lists table.new }
+    ensures ok { OnOk result (Stores (same_by P.cmp M.Digest.cmp) peer.now message.now deque_size
+        (stored_of lists.old.lists table.old) (stored_of lists.new.lists table.new)) }
+    ensures err { OnErr result (stored_of lists.new.lists table.new ≡ stored_of lists.old.lists table.old) }
+{
+    let _old = lists.len();
+    hold(table, peer, message, lists.vacant(), is_cached)?;
+    if let Err(refused) = lists.insert(peer, message.digest()) {
+        table.remove(&message.digest(), peer);
+        return Err(refused);
+    }
+    // No two lists have one key: so says `len`.
+    let _new = lists.len();
+    Ok(())
+}
+
+/// Puts a digest in the place of the oldest one of `peer`, and in front of its list.
+fn replace<P: PublicKey, M: Digestible>(
+    lists: &mut Entries<P, M::Digest>,
+    table: &mut Table<P, M::Digest, Digested<M>>,
+    peer: &P,
+    message: &Digested<M>,
+    deque_size: usize,
+    is_cached: bool,
+    place: usize,
+    stale: M::Digest,
+) -> Result<(), AllocError>
+    requires indexed { IsIndexed (same_by P.cmp M.Digest.cmp) lists.old.lists table.old }
+    requires absent { place_at (eq_by_cmp M.Digest.cmp) (eq_by_cmp P.cmp) table.old message.now.digest peer.now ≡ None }
+    requires cached { is_cached ≡ is_some (lookup (eq_by_cmp M.Digest.cmp message.now.digest) table.old) }
+    requires full { length (items_at (eq_by_cmp P.cmp) peer.now lists.old.lists) ≡ deque_size }
+    requires oldest { IsOldest (place, stale) (items_at (eq_by_cmp P.cmp) peer.now lists.old.lists) }
+    ensures indexed { IsIndexed (same_by P.cmp M.Digest.cmp) lists.new.lists table.new }
+    ensures ok { OnOk result (Stores (same_by P.cmp M.Digest.cmp) peer.now message.now deque_size
+        (stored_of lists.old.lists table.old) (stored_of lists.new.lists table.new)) }
+    ensures err { OnErr result (stored_of lists.new.lists table.new ≡ stored_of lists.old.lists table.old) }
+{
+    let _old = lists.len();
+    hold(table, peer, message, place, is_cached)?;
+    table.remove(&stale, peer);
+    lists.promote(peer, place, message.digest());
+    // No two lists have one key: so says `len`.
+    let _new = lists.len();
+    Ok(())
+}
+
+/// Caches a message with a place of `peer`.
+fn hold<P: PublicKey, M: Digestible>(
+    table: &mut Table<P, M::Digest, Digested<M>>,
+    peer: &P,
+    message: &Digested<M>,
+    place: usize,
+    is_cached: bool,
+) -> Result<(), AllocError>
+    requires placed { IsPlaced (eq_by_cmp M.Digest.cmp) (eq_by_cmp P.cmp) table.old }
+    requires cached { is_cached ≡ is_some (lookup (eq_by_cmp M.Digest.cmp message.now.digest) table.old) }
+    ensures ok { OnOk result (Holds (same_by P.cmp M.Digest.cmp) M.Digest.cmp peer.now message.now place table.old table.new) }
+    ensures err { OnErr result (IsSame (eq_by_cmp M.Digest.cmp) (eq_by_cmp P.cmp) table.old table.new) }
+    ensures placed { IsPlaced (eq_by_cmp M.Digest.cmp) (eq_by_cmp P.cmp) table.new }
+{
+    let owner = peer.clone()?;
+    if is_cached {
+        return table.join(&message.digest(), owner, place);
+    }
+    let shared = message.clone()?;
+    table.insert(message.digest(), shared, owner, place)
+}
+
+/// Drops the lists of those peers of `was` that are not among `peers`, which are sorted.
+pub fn retain<P: PublicKey, M: Digestible>(
+    lists: &mut Entries<P, M::Digest>,
+    table: &mut Table<P, M::Digest, Digested<M>>,
+    was: &[P],
+    peers: &[P],
+)
+    requires rises { IsStrictlySortedBy P.cmp peers.now }
+    requires indexed { IsIndexed (same_by P.cmp M.Digest.cmp) lists.old.lists table.old }
+    ensures indexed { IsIndexed (same_by P.cmp M.Digest.cmp) lists.new.lists table.new }
+    ensures drops { Drops (same_by P.cmp M.Digest.cmp) was.now peers.now
+        (stored_of lists.old.lists table.old) (stored_of lists.new.lists table.new) }
+{
+    let _old = lists.len();
+    for peer in was {
+        if place_of(peers, peer).is_none() {
+            remove(lists, table, peer);
+        }
+    }
+    // No two lists have one key: so says `len`.
+    let _new = lists.len();
+}
+
+/// Drops the list of `peer`.
+fn remove<P: PublicKey, M: Digestible>(
+    lists: &mut Entries<P, M::Digest>,
+    table: &mut Table<P, M::Digest, Digested<M>>,
+    peer: &P,
+)
+    requires { IsIndexed (same_by P.cmp M.Digest.cmp) lists.old.lists table.old }
+    ensures indexed { IsIndexed (same_by P.cmp M.Digest.cmp) lists.new.lists table.new }
+    ensures clears { Clears (same_by P.cmp M.Digest.cmp) peer.now lists.old.lists lists.new.lists table.old table.new }
+{
+    while let Some(stale) = lists.evict(peer) {
+        table.remove(&stale, peer);
+    }
+    lists.remove(peer);
+}

@@ -1,0 +1,200 @@
+-- What changes at one digest make of a table.
+use Rattle.std.proofs.Common.{Bool, true, false, cond, ◌&&◌, ◌≡◌, ℕ, List, [], ◌∷◌, length, Option, Some, None, refl, sym, ap, ◌∙◌, Result, Ok, Err}
+use Rattle.std.specs.Prelude.{is_some, OnOk, OnErr}
+use Rattle.std.specs.Cmp.{IsEquivalence}
+use Rattle.std.specs.Ordering.{match_ordering}
+use Rattle.std.specs.BTreeMap.{insert_entry}
+use Rattle.std.specs.Option.{option_map}
+use Rattle.std.proofs.lemmas.Map.Made.{lookup-map_values}
+use Rattle.std.specs.Map.{lookup, remove_entry, set_value}
+use Rattle.std.specs.declared.cmp.Ordering.{Ordering}
+use Rattle.std.specs.declared.cmp.Ordering.TheVariants.{Less, Equal, Greater}
+use Rattle.entries.specs.Placed.{Placed}
+use Rattle.entries.specs.Table.{messages_of, place_in, place_at, IsPlaced, IsSame, SetsPlace}
+use Rattle.entries.proofs.Stores.{found_same}
+
+by_test : {P : Type 0} (b : Bool) → (b ≡ true → P) → (b ≡ false → P) → P
+by_test true at_true at_false = at_true refl
+by_test false at_true at_false = at_false refl
+
+at_both : {X : Type 0} (a b : Bool) (w o : Option X) → a ≡ true → cond (a && b) w o ≡ cond b w o
+at_both true b w o e = refl
+at_both false b w o e = cc
+
+at_other : {X : Type 0} (a b : Bool) (w o : Option X) → a ≡ false → cond (a && b) w o ≡ o
+at_other true b w o e = cc
+at_other false b w o e = refl
+
+pub empty_list : {X : Type 0} (xs : List X) → length xs ≡ 0 → xs ≡ []
+empty_list [] e = refl
+empty_list (x ∷ xs) e = absurd cc
+
+module _ {K D T : Type 0} where
+  pub lookup-messages : (test : D → Bool) (items : List (D × Placed K T)) → lookup test (messages_of items) ≡ option_map (λ i. i.message) (lookup test items)
+  lookup-messages test items = lookup-map_values (λ i. i.message) test items
+
+  -- a write that keeps the message keeps all messages
+  pub messages_written : (test : D → Bool) (items : List (D × Placed K T)) (was now : Placed K T) → lookup test items ≡ Some was → now.message ≡ was.message → messages_of (set_value test items now) ≡ messages_of items
+  messages_written test [] was now there same = refl
+  messages_written test (e ∷ es) was now there same = by_test (test e.0)
+      (λ t. let one : e.1 ≡ was = (let h : Some e.1 ≡ Some was = sym (ap (λ b. cond b (Some e.1) (lookup test es)) t) ∙ there in cc) in
+      rw t (ap (λ m. (e.0, m) ∷ messages_of es) (same ∙ ap (λ (x : Placed K T). x.message) (sym one))))
+      (λ t. let rest : lookup test es ≡ Some was = sym (ap (λ b. cond b (Some e.1) (lookup test es)) t) ∙ there in
+      rw t (ap (λ l. (e.0, e.1.message) ∷ l) (messages_written test es was now rest same)))
+
+  -- what is taken out, is taken out of the messages
+  pub messages_removed : (test : D → Bool) (items : List (D × Placed K T)) → messages_of (remove_entry test items) ≡ remove_entry test (messages_of items)
+  messages_removed test [] = refl
+  messages_removed test (e ∷ es) =
+      both (test e.0) (messages_of es) (e.0, e.1.message) (messages_of (remove_entry test es)) (remove_entry test (messages_of es)) es e (remove_entry test es) refl refl (messages_removed test es)
+    where
+      both : (b : Bool) (l : List (D × T)) (x : D × T) (m n : List (D × T)) (us : List (D × Placed K T)) (u : D × Placed K T) (vs : List (D × Placed K T)) → messages_of us ≡ l → messages_of vs ≡ m → m ≡ n → messages_of (cond b us (u ∷ vs)) ≡ cond b l ((u.0, u.1.message) ∷ n)
+      both true l x m n us u vs p q r = p
+      both false l x m n us u vs p q r = ap (λ k. (u.0, u.1.message) ∷ k) (q ∙ r)
+
+  -- what is put in, is put into the messages
+  pub messages_inserted : (R : D → D → Ordering) (items : List (D × Placed K T)) (d : D) (item : Placed K T) → messages_of (insert_entry R items d item) ≡ insert_entry R (messages_of items) d item.message
+  messages_inserted R [] d item = refl
+  messages_inserted R (e ∷ es) d item = at (R d e.0) (messages_of (insert_entry R es d item)) (insert_entry R (messages_of es) d item.message) (insert_entry R es d item) refl (messages_inserted R es d item)
+    where
+      at : (r : Ordering) (m n : List (D × T)) (us : List (D × Placed K T)) → messages_of us ≡ m → m ≡ n
+          → messages_of (match_ordering r ((d, item) ∷ e ∷ es) ((e.0, item) ∷ es) (e ∷ us)) ≡ match_ordering r ((d, item.message) ∷ (e.0, e.1.message) ∷ messages_of es) ((e.0, item.message) ∷ messages_of es) ((e.0, e.1.message) ∷ n)
+      at Less m n us p q = refl
+      at Equal m n us p q = refl
+      at Greater m n us p q = ap (λ k. (e.0, e.1.message) ∷ k) (p ∙ q)
+
+module _ {K D T : Type 0} {digest : D → D → Bool} (equal : IsEquivalence digest) (es fs gs : List (D × Placed K T)) (d : D) (now : Placed K T) where
+  -- the messages after one left
+  pub fewer_left : ((e : D) → lookup (digest e) fs ≡ cond (digest d e) (Some now) (lookup (digest e) es)) → ((e : D) → lookup (digest e) gs ≡ cond (digest d e) None (lookup (digest e) fs))
+      → (e : D) (x : T) → lookup (digest e) (messages_of gs) ≡ Some x → lookup (digest e) (messages_of es) ≡ Some x
+  fewer_left written left e x found = by_test (digest d e)
+      (λ here.
+      let none : lookup (digest e) gs ≡ None = left e ∙ ap (λ b. cond b None (lookup (digest e) fs)) here in
+      let no : None ≡ Some x = sym (ap (option_map (λ i. i.message)) none) ∙ sym (lookup-messages (digest e) gs) ∙ found in absurd (cc))
+      (λ apart.
+      let new : lookup (digest e) gs ≡ lookup (digest e) es = left e ∙ ap (λ b. cond b None (lookup (digest e) fs)) apart ∙ written e ∙ ap (λ b. cond b (Some now) (lookup (digest e) es)) apart in
+      lookup-messages (digest e) es ∙ sym (ap (option_map (λ i. i.message)) new) ∙ sym (lookup-messages (digest e) gs) ∙ found)
+
+  pub gone_left : ((e : D) → lookup (digest e) gs ≡ cond (digest d e) None (lookup (digest e) fs)) → lookup (digest d) gs ≡ None
+  gone_left left = left d ∙ ap (λ b. cond b None (lookup (digest d) fs)) (equal.refl d)
+
+module _ {K D T : Type 0} {digest : D → D → Bool} (key : K → K → Bool) (equal : IsEquivalence digest) (es : List (D × Placed K T)) (d : D) (p : K) where
+  -- a write at a digest that has a message, where the places change at one key
+  pub places_written : (fs : List (D × Placed K T)) (was now : Placed K T) (place : Option ℕ) → lookup (digest d) es ≡ Some was → ((e : D) → lookup (digest e) fs ≡ cond (digest d e) (Some now) (lookup (digest e) es))
+      → ((q : K) → lookup (key q) now.places ≡ cond (key p q) place (lookup (key q) was.places)) → SetsPlace digest key d p place es fs
+  places_written fs was now place there written changed e q = by_test (digest d e)
+      (λ here.
+      let new : lookup (digest e) fs ≡ Some now = written e ∙ ap (λ b. cond b (Some now) (lookup (digest e) es)) here in
+      let old : lookup (digest e) es ≡ Some was = sym (found_same equal es d e here) ∙ there in
+      ap (place_in digest key q) new ∙ changed q ∙ ap (λ o. cond (key p q) place (place_in digest key q o)) (sym old) ∙ sym (at_both (digest d e) (key p q) place (place_at digest key es e q) here))
+      (λ apart.
+      let new : lookup (digest e) fs ≡ lookup (digest e) es = written e ∙ ap (λ b. cond b (Some now) (lookup (digest e) es)) apart in
+      ap (place_in digest key q) new ∙ sym (at_other (digest d e) (key p q) place (place_at digest key es e q) apart))
+
+  -- a digest that has no message gets one, with one place
+  pub places_inserted : (fs : List (D × Placed K T)) (now : Placed K T) (i : ℕ) → lookup (digest d) es ≡ None → ((e : D) → lookup (digest e) fs ≡ cond (digest d e) (Some now) (lookup (digest e) es))
+      → ((q : K) → lookup (key q) now.places ≡ cond (key p q) (Some i) None) → SetsPlace digest key d p (Some i) es fs
+  places_inserted fs now i none written places e q = by_test (digest d e)
+      (λ here.
+      let new : lookup (digest e) fs ≡ Some now = written e ∙ ap (λ b. cond b (Some now) (lookup (digest e) es)) here in
+      let old : lookup (digest e) es ≡ None = sym (found_same equal es d e here) ∙ none in
+      ap (place_in digest key q) new ∙ places q ∙ ap (λ o. cond (key p q) (Some i) (place_in digest key q o)) (sym old) ∙ sym (at_both (digest d e) (key p q) (Some i) (place_at digest key es e q) here))
+      (λ apart.
+      let new : lookup (digest e) fs ≡ lookup (digest e) es = written e ∙ ap (λ b. cond b (Some now) (lookup (digest e) es)) apart in
+      ap (place_in digest key q) new ∙ sym (at_other (digest d e) (key p q) (Some i) (place_at digest key es e q) apart))
+
+  -- the message leaves with its last place
+  pub places_left : (fs gs : List (D × Placed K T)) (was now : Placed K T) → lookup (digest d) es ≡ Some was → ((e : D) → lookup (digest e) fs ≡ cond (digest d e) (Some now) (lookup (digest e) es))
+      → ((q : K) → lookup (key q) now.places ≡ cond (key p q) None (lookup (key q) was.places))
+      → now.places ≡ [] → ((e : D) → lookup (digest e) gs ≡ cond (digest d e) None (lookup (digest e) fs)) → SetsPlace digest key d p None es gs
+  places_left fs gs was now there written removed empty left e q = by_test (digest d e)
+      (λ here.
+      let new : lookup (digest e) gs ≡ None = left e ∙ ap (λ b. cond b None (lookup (digest e) fs)) here in
+      let old : lookup (digest e) es ≡ Some was = sym (found_same equal es d e here) ∙ there in
+      ap (place_in digest key q) new ∙ sym (ap (λ (l : List (K × ℕ)). lookup (key q) l) empty) ∙ removed q ∙ ap (λ o. cond (key p q) None (place_in digest key q o)) (sym old) ∙ sym (at_both (digest d e) (key p q) None (place_at digest key es e q) here))
+      (λ apart.
+      let new : lookup (digest e) gs ≡ lookup (digest e) es = left e ∙ ap (λ b. cond b None (lookup (digest e) fs)) apart ∙ written e ∙ ap (λ b. cond b (Some now) (lookup (digest e) es)) apart in
+      ap (place_in digest key q) new ∙ sym (at_other (digest d e) (key p q) None (place_at digest key es e q) apart))
+
+  -- nothing is there to leave
+  pub places_none : lookup (digest d) es ≡ None → SetsPlace digest key d p None es es
+  places_none none e q = by_test (digest d e)
+      (λ here.
+      let old : lookup (digest e) es ≡ None = sym (found_same equal es d e here) ∙ none in
+      ap (place_in digest key q) old ∙ same_none (key p q) (place_in digest key q (lookup (digest e) es)) (ap (place_in digest key q) old) ∙ sym (at_both (digest d e) (key p q) None (place_at digest key es e q) here))
+      (λ apart. sym (at_other (digest d e) (key p q) None (place_at digest key es e q) apart))
+    where
+      same_none : (b : Bool) (o : Option ℕ) → o ≡ None → None ≡ cond b None o
+      same_none true o h = refl
+      same_none false o h = sym h
+
+pub put_message : {K T : Type 0} (b : Bool) (item : Placed K T) (m : T) (o : Option (Placed K T)) → item.message ≡ m → option_map (λ i. i.message) (cond b (Some item) o) ≡ cond b (Some m) (option_map (λ i. i.message) o)
+put_message true item m o same = ap Some same
+put_message false item m o same = refl
+
+pub one_place : {K : Type 0} (p : K) (i : ℕ) (places : List (K × ℕ)) → places ≡ (p, i) ∷ [] → places ≡ [] → ⊥
+one_place p i [] is none = cc
+one_place p i (e ∷ es) is none = cc
+
+some_left : {K : Type 0} (test : K → Bool) (i : ℕ) (places : List (K × ℕ)) → lookup test places ≡ Some i → places ≡ [] → ⊥
+some_left test i [] found none = cc
+some_left test i (e ∷ es) found none = cc
+
+-- what a message has that has a place
+has_some : {K D T : Type 0} (digest : D → D → Bool) (key : K → K → Bool) (es : List (D × Placed K T)) (d : D) (was : Placed K T) → IsPlaced digest key es → lookup (digest d) es ≡ Some was → was.places ≡ [] → ⊥
+has_some digest key es d was placed there =
+    let f = placed d (ap is_some there) in
+    some_left (key f.0) f.1 was.places (sym (ap (place_in digest key f.0) there) ∙ f.2)
+
+-- places that are not empty have a key
+first_place : {K : Type 0} {key : K → K → Bool} (laws : IsEquivalence key) (places : List (K × ℕ)) → (places ≡ [] → ⊥) → (p : K) × (i : ℕ) × (lookup (key p) places ≡ Some i)
+first_place laws [] some = absurd (some refl)
+first_place {key = key} laws (e ∷ es) some = (e.0, e.1, ap (λ b. cond b (Some e.1) (lookup (key e.0) es)) (laws.refl e.0))
+
+module _ {K D T : Type 0} {digest : D → D → Bool} {key : K → K → Bool} (laws : IsEquivalence key) where
+  -- each message has a place after a write at one digest that leaves it a place
+  pub placed_written : IsEquivalence digest → (es fs : List (D × Placed K T)) (d : D) (now : Placed K T) → IsPlaced digest key es → ((e : D) → lookup (digest e) fs ≡ cond (digest d e) (Some now) (lookup (digest e) es))
+      → (now.places ≡ [] → ⊥) → IsPlaced digest key fs
+  placed_written _ es fs d now placed written some e there = by_test (digest d e)
+      (λ here.
+      let new : lookup (digest e) fs ≡ Some now = written e ∙ ap (λ b. cond b (Some now) (lookup (digest e) es)) here in
+      let f = first_place laws now.places some in (f.0, f.1, ap (place_in digest key f.0) new ∙ f.2))
+      (λ apart.
+      let new : lookup (digest e) fs ≡ lookup (digest e) es = written e ∙ ap (λ b. cond b (Some now) (lookup (digest e) es)) apart in
+      let was = placed e (ap is_some (sym new) ∙ there) in (was.0, was.1, ap (place_in digest key was.0) new ∙ was.2))
+
+  -- each message has a place after one left
+  pub placed_left : IsEquivalence digest → (es fs gs : List (D × Placed K T)) (d : D) (now : Placed K T) → IsPlaced digest key es → ((e : D) → lookup (digest e) fs ≡ cond (digest d e) (Some now) (lookup (digest e) es))
+      → ((e : D) → lookup (digest e) gs ≡ cond (digest d e) None (lookup (digest e) fs)) → IsPlaced digest key gs
+  placed_left _ es fs gs d now placed written left e there = by_test (digest d e)
+      (λ here. let no : false ≡ true = sym (ap is_some (left e ∙ ap (λ b. cond b None (lookup (digest e) fs)) here)) ∙ there in absurd (cc))
+      (λ apart.
+      let new : lookup (digest e) gs ≡ lookup (digest e) es = left e ∙ ap (λ b. cond b None (lookup (digest e) fs)) apart ∙ written e ∙ ap (λ b. cond b (Some now) (lookup (digest e) es)) apart in
+      let was = placed e (ap is_some (sym new) ∙ there) in (was.0, was.1, ap (place_in digest key was.0) new ∙ was.2))
+
+  -- what a message that gets a place makes of the table
+  pub joined : {E : Type 0} (equal : IsEquivalence digest) (es fs : List (D × Placed K T)) (d : D) (p : K) (i : ℕ) (was now : Placed K T) (r : Result (Unit {0}) E) → IsPlaced digest key es → lookup (digest d) es ≡ Some was
+      → fs ≡ set_value (digest d) es now → ((e : D) → lookup (digest e) fs ≡ cond (digest d e) (Some now) (lookup (digest e) es)) → now.message ≡ was.message
+      → OnOk r ((q : K) → lookup (key q) now.places ≡ cond (key p q) (Some i) (lookup (key q) was.places)) → OnErr r (now ≡ was)
+      → IsPlaced digest key fs × (messages_of fs ≡ messages_of es) × OnOk r (SetsPlace digest key d p (Some i) es fs) × OnErr r (IsSame digest key es fs)
+  joined equal es fs d p i was now (Ok u) placed there is written same places kept = (
+    placed_written equal es fs d now placed written (some_left (key p) i now.places (places p ∙ ap (λ b. cond b (Some i) (lookup (key p) was.places)) (laws.refl p))),
+    rw is (messages_written (digest d) es was now there same),
+    places_written key equal es d p fs was now (Some i) there written places,
+    tt,
+  )
+  joined equal es fs d p i was now (Err u) placed there is written same places kept =
+      let messages : messages_of fs ≡ messages_of es = rw is (messages_written (digest d) es was now there same) in (
+        placed_written equal es fs d now placed written (rw kept (has_some digest key es d was placed there)),
+        messages,
+        tt,
+        record {
+          messages = messages;
+          places = λ e q. by_test (digest d e)
+              (λ here.
+              let new : lookup (digest e) fs ≡ Some now = written e ∙ ap (λ b. cond b (Some now) (lookup (digest e) es)) here in
+              let old : lookup (digest e) es ≡ Some was = sym (found_same equal es d e here) ∙ there in
+              ap (place_in digest key q) (new ∙ ap Some kept ∙ sym old))
+              (λ apart. ap (place_in digest key q) (written e ∙ ap (λ b. cond b (Some now) (lookup (digest e) es)) apart));
+        },
+      )

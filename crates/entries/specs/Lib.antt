@@ -1,0 +1,4 @@
+pub mod Linked
+pub mod Placed
+pub mod Store
+pub mod Table

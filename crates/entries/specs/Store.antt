@@ -1,0 +1,79 @@
+-- The lists of all keys in one heap of places.
+use Rattle.std.specs.Prelude.{◌≡◌, ◌==◌, ℕ, Bool, true, false, not, ◌||◌, if◌then◌else◌, List, [], ◌∷◌, ◌++◌, map, Option, Some, is_some, unwrap_or}
+use Rattle.std.specs.List.{filter, list_any}
+use Rattle.std.specs.Map.{lookup}
+use Rattle.entries.specs.declared.entry.Entry.{Entry}
+use Rattle.entries.specs.declared.entry.Chain.{Chain}
+use Rattle.entries.specs.Linked.{Node, walk, IsChain}
+
+-- the list that a map has at the key, or none
+abbrev pub items_at : {K X : Type 0} → (K → K → Bool) → K → List (K × List X) → List X
+items_at same k es = unwrap_or (lookup (same k) es) []
+
+-- the nodes of each key, the newest first, and the place of the next insert
+pub record Listed (K D : Type 0) : Type 0 where
+  pub lists : List (K × List (Node D))
+  pub vacant : ℕ
+
+module _ {D : Type 0} where
+  -- the digests of nodes
+  abbrev pub digests_of : List (Node D) → List D
+  digests_of ns = map (λ n. n.1) ns
+
+  -- whether the place is one of theirs
+  abbrev pub has_place : ℕ → List (Node D) → Bool
+  has_place place ns = list_any (λ n. n.0 == place) ns
+
+  -- the nodes at other places
+  abbrev pub elsewhere : ℕ → List (Node D) → List (Node D)
+  elsewhere place ns = filter (λ n. not (n.0 == place)) ns
+
+  -- the node of the place goes in front, with another digest
+  abbrev pub moved : ℕ → D → List (Node D) → List (Node D)
+  moved place digest ns = if has_place place ns then (place, digest) ∷ elsewhere place ns else ns
+
+  -- the node is the oldest
+  pub record IsOldest (n : Node D) (ns : List (Node D)) : Type 0 where
+    pub newer : List (Node D)
+    pub last : ns ≡ newer ++ n ∷ []
+
+module _ {K D : Type 0} where
+  -- the nodes of a chain
+  abbrev pub nodes : (ℕ → Option (Entry K D)) → Chain → List (Node D)
+  nodes h c = walk h c.len c.newest
+
+  -- the nodes of all keys
+  abbrev pub lists_of : (ℕ → Option (Entry K D)) → List (K × Chain) → List (K × List (Node D))
+  lists_of h es = map (λ e. (e.0, nodes h e.1)) es
+
+  -- the key's list is another, and the others stay
+  pub record Puts (same : K → K → Bool) (p : K) (ns : List (Node D)) (old new : List (K × List (Node D))) : Type 0 where
+    pub lists : (q : K) → items_at same q new ≡ (if same p q then ns else items_at same q old)
+    pub keys : (q : K) → is_some (lookup (same q) new) ≡ true → (same p q || is_some (lookup (same q) old)) ≡ true
+
+  -- the oldest digest leaves the key's list
+  pub record Evicts (same : K → K → Bool) (p : K) (stale : D) (old new : List (K × List (Node D))) : Type 0 where
+    pub place : ℕ
+    pub rest : List (Node D)
+    pub last : items_at same p old ≡ rest ++ (place, stale) ∷ []
+    pub put : Puts same p rest old new
+
+  -- the key has no list any more, and the others stay
+  pub record Removes (same : K → K → Bool) (p : K) (old new : List (K × List (Node D))) : Type 0 where
+    pub lists : (q : K) → items_at same q new ≡ (if same p q then [] else items_at same q old)
+    pub keys : (q : K) → is_some (lookup (same q) new) ≡ true → (same p q ≡ false) × (is_some (lookup (same q) old) ≡ true)
+
+  -- each key's chain is in the heap, and each entry is on the chain of its peer
+  pub record IsStore (same : K → K → Bool) (h : ℕ → Option (Entry K D)) (es : List (K × Chain)) : Type 0 where
+    pub chains : (p : K) (c : Chain) → lookup (same p) es ≡ Some c → IsChain (same p) h c (nodes h c)
+    pub rooted : (j : ℕ) (e : Entry K D) → h j ≡ Some e → is_some (lookup (same e.peer) es) ≡ true
+
+  -- an entry of the peer's stands at the place
+  pub record IsPlaceOf (same : K → K → Bool) (h : ℕ → Option (Entry K D)) (p : K) (place : ℕ) : Type 0 where
+    pub entry : Entry K D
+    pub there : h place ≡ Some entry
+    pub owned : same p entry.peer ≡ true
+
+  -- no entry of the peer's stands at the place
+  abbrev pub IsNoPlaceOf : (K → K → Bool) → (ℕ → Option (Entry K D)) → K → ℕ → Type 0
+  IsNoPlaceOf same h p place = (e : Entry K D) → h place ≡ Some e → same p e.peer ≡ false

@@ -1,0 +1,76 @@
+//! The chains of peers in one store of places.
+ghost use Rattle.std.specs.Prelude.{◌≡◌, ℕ, Bool, true, Some, None, List, [], ◌∷◌, ◌++◌, ◌+◌, ◌^◌, ◌<◌, OnErr, OnOk, IfOk, IfSome, IfNone};
+ghost use Rattle.slab.specs.Slab.{get, HasRoomFor};
+ghost use Rattle.entries.specs.Linked.{IsOn, Admits, Promotes, Pushes, Pops, Frees, IsOwned, HasNodes, SameValues};
+
+use crate::entry::{Chain, Entry};
+use crate::links::{link_front, unlink};
+use slab::Slab;
+use std::alloc::AllocError;
+
+/// Moves a place to the front of its chain, with another digest. Takes no memory.
+pub fn promote<K, D: Drop>(
+    places: &mut Slab<Entry<K, D>>,
+    chain: &mut Chain,
+    place: usize,
+    digest: D,
+)
+    requires { IsOn (get places.old) chain.old place }
+    ensures { Promotes (get places.old) (get places.new) chain.old chain.new place digest }
+{
+    unlink(places, chain, place);
+    link_front(places, chain, place, digest);
+}
+
+/// Puts a digest in front of a peer's chain. Without memory all stays.
+pub fn push_front<K: Drop, D: Copy>(
+    places: &mut Slab<Entry<K, D>>,
+    chain: &mut Chain,
+    peer: K,
+    digest: D,
+) -> Result<usize, AllocError>
+    requires { IsOwned (get places.old) chain.old peer }
+    ensures place { IfOk result (λ place. place ≡ places.old.vacant_key) }
+    ensures ok { IfOk result (λ place. Pushes (get places.old) (get places.new) chain.old chain.new peer place digest) }
+    ensures err { OnErr result ((chain.new ≡ chain.old) × SameValues (get places.old) (get places.new)
+        × (places.new.vacant_key ≡ places.old.vacant_key)) }
+{
+    if chain.len == usize::MAX {
+        return Err(AllocError);
+    }
+    let entry = Entry {
+        peer,
+        digest,
+        newer: None,
+        older: None,
+    };
+    let place = match places.insert(entry) {
+        Ok(place) => place,
+        Err(_) => return Err(AllocError),
+    };
+    link_front(places, chain, place, digest);
+    Ok(place)
+}
+
+/// Takes the oldest place out of a chain, and frees it. Takes no memory.
+pub fn pop_oldest<K: Drop, D>(places: &mut Slab<Entry<K, D>>, chain: &mut Chain) -> Option<D>
+    requires { HasNodes (get places.old) chain.old }
+    ensures { Pops (get places.old) (get places.new) chain.old chain.new result }
+{
+    match chain.oldest {
+        None => None,
+        Some(place) => {
+            unlink(places, chain, place);
+            let Entry { digest, .. } = places.remove(place);
+            Some(digest)
+        }
+    }
+}
+
+/// Frees all places of a chain. Takes no memory.
+pub fn free<K: Drop, D: Drop>(places: &mut Slab<Entry<K, D>>, mut chain: Chain)
+    requires { HasNodes (get places.old) chain }
+    ensures { Frees (get places.old) (get places.new) chain }
+{
+    while let Some(_) = pop_oldest(places, &mut chain) {}
+}

@@ -1,0 +1,15 @@
+//! Lists of digests by key, the newest first, linked in one vector of places, and the messages of
+//! their digests.
+#![tactic(auto)]
+
+pub mod chain;
+pub mod entry;
+pub mod found;
+pub mod item;
+pub mod links;
+pub mod store;
+pub mod table;
+
+pub use found::Found;
+pub use store::Entries;
+pub use table::Table;

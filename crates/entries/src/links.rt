@@ -1,0 +1,87 @@
+//! The links of a chain.
+ghost use Rattle.std.specs.Prelude.{◌≡◌, ℕ, Some, ◌+◌, ◌^◌, ◌<◌, IsSome};
+ghost use Rattle.slab.specs.Slab.{get, ContainsKey};
+ghost use Rattle.entries.specs.Linked.{Relinks, with_newer, with_older, as_newest, pick as picked, IsOn, Unlinks, Admits, Links};
+
+use crate::entry::{Chain, Entry};
+use slab::Slab;
+
+/// Sets the newer link of the entry that a link leads to.
+pub fn set_newer<K, D>(places: &mut Slab<Entry<K, D>>, at: Option<usize>, newer: Option<usize>)
+    requires { (j : ℕ) → at ≡ Some j → ContainsKey places.old j }
+    ensures { Relinks (get places.old) (get places.new) at (with_newer newer) }
+{
+    if let Some(at) = at {
+        places[at].newer = newer;
+    }
+}
+
+/// Sets the older link of the entry that a link leads to.
+pub fn set_older<K, D>(places: &mut Slab<Entry<K, D>>, at: Option<usize>, older: Option<usize>)
+    requires { (j : ℕ) → at ≡ Some j → ContainsKey places.old j }
+    ensures { Relinks (get places.old) (get places.new) at (with_older older) }
+{
+    if let Some(at) = at {
+        places[at].older = older;
+    }
+}
+
+/// One link where there is a neighbour, and another where there is none.
+fn pick(neighbour: Option<usize>, there: Option<usize>, otherwise: Option<usize>) -> Option<usize>
+    ensures { result ≡ picked neighbour there otherwise }
+{
+    match neighbour {
+        None => otherwise,
+        Some(_) => there,
+    }
+}
+
+/// Makes an entry the newest, with another digest.
+fn set_newest<K, D: Drop>(
+    places: &mut Slab<Entry<K, D>>,
+    place: usize,
+    digest: D,
+    older: Option<usize>,
+)
+    requires { ContainsKey places.old place }
+    ensures { Relinks (get places.old) (get places.new) (Some place) (as_newest digest older) }
+{
+    let entry = &mut places[place];
+    entry.digest = digest;
+    entry.newer = None;
+    entry.older = older;
+}
+
+/// Takes a place out of its chain. It keeps its entry.
+pub fn unlink<K, D>(places: &mut Slab<Entry<K, D>>, chain: &mut Chain, place: usize)
+    requires { IsOn (get places.old) chain.old place }
+    ensures unlinked { Unlinks (get places.old) (get places.new) chain.old chain.new place }
+    ensures fits { chain.new.len + 1 < 2 ^ 64 }
+{
+    let entry = &places[place];
+    let newer = entry.newer;
+    let older = entry.older;
+    set_older(places, newer, older);
+    set_newer(places, older, newer);
+    chain.newest = pick(newer, chain.newest, older);
+    chain.oldest = pick(older, chain.oldest, newer);
+    chain.len -= 1;
+}
+
+/// Puts a place in front of a chain.
+pub fn link_front<K, D: Drop>(
+    places: &mut Slab<Entry<K, D>>,
+    chain: &mut Chain,
+    place: usize,
+    digest: D,
+)
+    requires free { Admits (get places.old) chain.old place }
+    requires fits { chain.old.len + 1 < 2 ^ 64 }
+    ensures { Links (get places.old) (get places.new) chain.old chain.new place digest }
+{
+    set_newest(places, place, digest, chain.newest);
+    set_newer(places, chain.newest, Some(place));
+    chain.oldest = pick(chain.oldest, chain.oldest, Some(place));
+    chain.newest = Some(place);
+    chain.len += 1;
+}

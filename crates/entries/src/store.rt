@@ -1,0 +1,324 @@
+//! The lists of all keys.
+ghost use Rattle.std.specs.Prelude.{◌≡◌, ◌+◌, ◌^◌, ◌<◌, ◌≤◌, ◌∷◌, ◌⊎◌, ◌++◌, true, false, is_some, length, OnOk, OnErr, IfOk, IsOk, MatchOption, MatchBool, Some, None, []};
+ghost use Rattle.std.specs.Ordering.{eq_by_cmp};
+ghost use Rattle.std.specs.List.{IsDistinct};
+ghost use Rattle.std.specs.Map.{lookup, keys_of};
+ghost use Rattle.std.specs.Option.{option_copied};
+ghost use Rattle.slab.specs.Slab.{get, SameValues};
+ghost use Rattle.entries.specs.Linked.{IsApart, HasNodes, entry_at};
+ghost use Rattle.entries.specs.Store.{IsStore, IsPlaceOf, IsNoPlaceOf, IsOldest, Puts, Evicts, Removes, nodes, lists_of, items_at, moved, digests_of};
+
+use crate::chain;
+use crate::entry::{Chain, Entry};
+use slab::Slab;
+use std::alloc::{AllocError, Global};
+use std::collections::BTreeMap;
+use std::marker::Model;
+
+/// The digests of each key, the newest first.
+#[derive(Drop)]
+pub struct Entries<K: Ord + Drop, D: Copy> {
+    places: Slab<Entry<K, D>>,
+    chains: BTreeMap<K, Chain>,
+}
+
+impl<K: Ord + Drop, D: Copy> Model for Entries<K, D> {
+    ghost use Rattle.std.specs.Ordering.{eq_by_cmp};
+    ghost use Rattle.slab.specs.Slab.{get};
+    ghost use Rattle.entries.specs.Store.{Listed, lists_of, IsStore};
+
+    ghost Value = { Listed K D };
+
+    ghost view = { λ it. record {
+      lists = lists_of (get it.places) it.chains.entries;
+      vacant = it.places.vacant_key;
+    } };
+
+    ghost invariant = { λ it. IsStore (eq_by_cmp K.cmp) (get it.places) it.chains.entries };
+}
+
+impl<K: Ord + Drop, D: Copy> Entries<K, D> {
+    /// Creates empty lists. Does not allocate.
+    pub fn new(alloc: Global) -> Self
+        ensures { result ≡ record { lists = []; vacant = 0 } }
+    {
+        Entries {
+            places: Slab::new(alloc),
+            chains: BTreeMap::new(alloc),
+        }
+    }
+
+    /// Returns the number of keys that have a list.
+    pub fn len(&self) -> usize
+        ensures len { result ≡ length self.now.lists }
+        ensures distinct { IsDistinct (eq_by_cmp K.cmp) (keys_of self.now.lists) }
+    {
+        self.chains.len()
+    }
+
+    /// Returns the place of the next insert.
+    pub fn vacant(&self) -> usize
+        ensures { result ≡ self.now.vacant }
+    {
+        self.places.vacant_key()
+    }
+
+    /// Returns the place and the digest of the oldest entry of `peer` if its list has `size` entries.
+    pub fn oldest_beyond(&self, peer: &K, size: usize) -> Option<(usize, D)>
+        ensures { let ns = items_at (eq_by_cmp K.cmp) peer.now self.now.lists in
+            MatchOption result ((length ns < size) ⊎ (ns ≡ [])) (λ n. (size ≤ length ns) × IsOldest n ns) }
+    {
+        match self.chains.get(peer) {
+            Some(chain) => oldest_of(&self.places, chain, size),
+            None => None,
+        }
+    }
+
+    /// Moves the entry at `place` to the front of the list of `peer`, with another digest. Does
+    /// nothing if the list has no such entry. Does not allocate.
+    pub fn promote(&mut self, peer: &K, place: usize, digest: D)
+        ensures moved { let same = eq_by_cmp K.cmp in
+            Puts same peer.now (moved place digest (items_at same peer.now self.old.lists)) self.old.lists self.new.lists }
+        ensures apart { IsApart (items_at (eq_by_cmp K.cmp) peer.now self.old.lists) }
+    {
+        if is_place_of(&self.places, peer, place) {
+            renew(&mut self.places, &mut self.chains, peer, place, digest);
+        }
+    }
+
+    /// Puts a digest in front of the list of `peer`, and returns its place.
+    ///
+    /// On an allocation failure nothing changes.
+    pub fn insert(&mut self, peer: &K, digest: D) -> Result<usize, AllocError>
+    where
+        K: Clone,
+        requires { (key copy : K) → K.is_clone key copy → eq_by_cmp K.cmp key copy ≡ true }
+        ensures place { IfOk result (λ place. place ≡ self.old.vacant) }
+        ensures ok { let same = eq_by_cmp K.cmp in
+            IfOk result (λ place. Puts same peer.now ((place, digest) ∷ items_at same peer.now self.old.lists) self.old.lists self.new.lists) }
+        ensures err { OnErr result (self.new ≡ self.old) }
+    {
+        let owner = peer.clone()?;
+        add(&mut self.places, &mut self.chains, peer, owner, digest)
+    }
+
+    /// Removes the oldest digest of `peer`, and returns it. Does not allocate.
+    pub fn evict(&mut self, peer: &K) -> Option<D>
+        ensures { let same = eq_by_cmp K.cmp in
+            MatchOption result
+            ((items_at same peer.now self.old.lists ≡ []) × (self.new.lists ≡ self.old.lists))
+            (λ stale. Evicts same peer.now stale self.old.lists self.new.lists) }
+    {
+        evict(&mut self.places, &mut self.chains, peer)
+    }
+
+    /// Removes the list of `peer`. Does not allocate.
+    pub fn remove(&mut self, peer: &K)
+        ensures { Removes (eq_by_cmp K.cmp) peer.now self.old.lists self.new.lists }
+    {
+        close(&mut self.places, &mut self.chains, peer);
+    }
+
+    /// Returns the digests of `peer`, the newest first. No digests are returned without an
+    /// allocation.
+    pub fn list(&self, alloc: Global, peer: &K) -> Result<Vec<D>, AllocError>
+        ensures digests { IfOk result (λ digests. digests.items
+            ≡ digests_of (items_at (eq_by_cmp K.cmp) peer.now self.now.lists)) }
+        ensures succeeds_on_empty { items_at (eq_by_cmp K.cmp) peer.now self.now.lists ≡ [] → IsOk result }
+    {
+        match self.chains.get(peer) {
+            Some(chain) => collect(alloc, &self.places, chain),
+            None => Ok(Vec::new(alloc)),
+        }
+    }
+}
+
+/// Returns whether an entry of `peer` stands at `place`.
+fn is_place_of<K: Ord, D>(places: &Slab<Entry<K, D>>, peer: &K, place: usize) -> bool
+    ensures { MatchBool result (IsPlaceOf (eq_by_cmp K.cmp) (get places.now) peer.now place)
+        (IsNoPlaceOf (eq_by_cmp K.cmp) (get places.now) peer.now place) }
+{
+    match places.get(place) {
+        Some(entry) => peer.cmp(&entry.peer).is_eq(),
+        None => false,
+    }
+}
+
+/// Returns the oldest node of a chain that has `size` nodes.
+fn oldest_of<K, D: Copy>(
+    places: &Slab<Entry<K, D>>,
+    chain: &Chain,
+    size: usize,
+) -> Option<(usize, D)>
+    requires { HasNodes (get places.now) chain.now }
+    ensures { let ns = nodes (get places.now) chain.now in
+        MatchOption result ((length ns < size) ⊎ (ns ≡ [])) (λ n. (size ≤ length ns) × IsOldest n ns) }
+{
+    if chain.len < size {
+        return None;
+    }
+    match chain.oldest {
+        Some(place) => match places.get(place) {
+            Some(entry) => Some((place, entry.digest)),
+            None => None,
+        },
+        None => None,
+    }
+}
+
+/// Moves a place of a key to the front of its list, with another digest.
+fn renew<K: Ord, D: Drop>(
+    places: &mut Slab<Entry<K, D>>,
+    chains: &mut BTreeMap<K, Chain>,
+    peer: &K,
+    place: usize,
+    digest: D,
+)
+    requires store { IsStore (eq_by_cmp K.cmp) (get places.old) chains.old.entries }
+    requires there { IsPlaceOf (eq_by_cmp K.cmp) (get places.old) peer.now place }
+    ensures store { IsStore (eq_by_cmp K.cmp) (get places.new) chains.new.entries }
+    ensures lists { let same = eq_by_cmp K.cmp in
+        let old = lists_of (get places.old) chains.old.entries in
+        Puts same peer.now (moved place digest (items_at same peer.now old)) old (lists_of (get places.new) chains.new.entries) }
+{
+    match chains.get_mut(peer) {
+        Some(chain) => chain::promote(places, chain, place, digest),
+        None => {}
+    }
+}
+
+/// Takes the oldest digest of a key's list, if there is one.
+fn evict<K: Ord + Drop, D>(
+    places: &mut Slab<Entry<K, D>>,
+    chains: &mut BTreeMap<K, Chain>,
+    peer: &K,
+) -> Option<D>
+    requires { IsStore (eq_by_cmp K.cmp) (get places.old) chains.old.entries }
+    ensures store { IsStore (eq_by_cmp K.cmp) (get places.new) chains.new.entries }
+    ensures lists { let old = lists_of (get places.old) chains.old.entries in
+        let new = lists_of (get places.new) chains.new.entries in
+        MatchOption result
+        ((items_at (eq_by_cmp K.cmp) peer.now old ≡ []) × (new ≡ old))
+        (λ stale. Evicts (eq_by_cmp K.cmp) peer.now stale old new) }
+{
+    match chains.get_mut(peer) {
+        Some(chain) => chain::pop_oldest(places, chain),
+        None => None,
+    }
+}
+
+/// Puts a digest in front of a key's list, and returns its place.
+fn add<K: Ord + Clone + Drop, D: Copy>(
+    places: &mut Slab<Entry<K, D>>,
+    chains: &mut BTreeMap<K, Chain>,
+    peer: &K,
+    owner: K,
+    digest: D,
+) -> Result<usize, AllocError>
+    requires store { IsStore (eq_by_cmp K.cmp) (get places.old) chains.old.entries }
+    requires copies { (key copy : K) → K.is_clone key copy → eq_by_cmp K.cmp key copy ≡ true }
+    requires owned { eq_by_cmp K.cmp peer.now owner ≡ true }
+    ensures store { IsStore (eq_by_cmp K.cmp) (get places.new) chains.new.entries }
+    ensures place { IfOk result (λ place. place ≡ places.old.vacant_key) }
+    ensures ok { let same = eq_by_cmp K.cmp in
+        let old = lists_of (get places.old) chains.old.entries in
+        IfOk result (λ place. Puts same peer.now ((place, digest) ∷ items_at same peer.now old)
+        old (lists_of (get places.new) chains.new.entries)) }
+    ensures err { OnErr result ((lists_of (get places.new) chains.new.entries ≡ lists_of (get places.old) chains.old.entries)
+        × (places.new.vacant_key ≡ places.old.vacant_key)) }
+{
+    match chains.get_mut(peer) {
+        Some(chain) => chain::push_front(places, chain, owner, digest),
+        None => add_first(places, chains, peer, owner, digest),
+    }
+}
+
+/// Puts the first digest on the list of a key that has none.
+fn add_first<K: Ord + Clone + Drop, D: Copy>(
+    places: &mut Slab<Entry<K, D>>,
+    chains: &mut BTreeMap<K, Chain>,
+    peer: &K,
+    owner: K,
+    digest: D,
+) -> Result<usize, AllocError>
+    requires store { IsStore (eq_by_cmp K.cmp) (get places.old) chains.old.entries }
+    requires absent { lookup (eq_by_cmp K.cmp peer.now) chains.old.entries ≡ None }
+    requires copies { (key copy : K) → K.is_clone key copy → eq_by_cmp K.cmp key copy ≡ true }
+    requires owned { eq_by_cmp K.cmp peer.now owner ≡ true }
+    ensures store { IsStore (eq_by_cmp K.cmp) (get places.new) chains.new.entries }
+    ensures place { IfOk result (λ place. place ≡ places.old.vacant_key) }
+    ensures ok { let same = eq_by_cmp K.cmp in
+        let old = lists_of (get places.old) chains.old.entries in
+        IfOk result (λ place. Puts same peer.now ((place, digest) ∷ [])
+        old (lists_of (get places.new) chains.new.entries)) }
+    ensures err { OnErr result ((lists_of (get places.new) chains.new.entries ≡ lists_of (get places.old) chains.old.entries)
+        × (places.new.vacant_key ≡ places.old.vacant_key)) }
+{
+    places.reserve(1)?;
+    let place = places.vacant_key();
+    let chain = Chain {
+        newest: Some(place),
+        oldest: Some(place),
+        len: 1,
+    };
+    chains.insert(peer.clone()?, chain)?;
+    Ok(places.insert_reserved(Entry {
+        peer: owner,
+        digest,
+        newer: None,
+        older: None,
+    }))
+}
+
+/// Frees all places of a key.
+fn close<K: Ord + Drop, D: Drop>(
+    places: &mut Slab<Entry<K, D>>,
+    chains: &mut BTreeMap<K, Chain>,
+    peer: &K,
+)
+    requires { IsStore (eq_by_cmp K.cmp) (get places.old) chains.old.entries }
+    ensures store { IsStore (eq_by_cmp K.cmp) (get places.new) chains.new.entries }
+    ensures lists { Removes (eq_by_cmp K.cmp) peer.now
+        (lists_of (get places.old) chains.old.entries) (lists_of (get places.new) chains.new.entries) }
+{
+    match chains.remove(peer) {
+        Some(chain) => chain::free(places, chain),
+        None => {}
+    }
+}
+
+/// Returns the digests of a chain.
+fn collect<K, D: Copy>(
+    alloc: Global,
+    places: &Slab<Entry<K, D>>,
+    chain: &Chain,
+) -> Result<Vec<D>, AllocError>
+    requires { chain.now.len ≡ length (nodes (get places.now) chain.now) }
+    ensures digests { IfOk result (λ digests. digests.items ≡ digests_of (nodes (get places.now) chain.now)) }
+    ensures succeeds_on_empty { nodes (get places.now) chain.now ≡ [] → IsOk result }
+{
+    if chain.len == 0 {
+        return Ok(Vec::new(alloc));
+    }
+    let mut digests = Vec::with_capacity(alloc, chain.len)?;
+    let mut at = chain.newest;
+    let mut left = chain.len;
+    while left > 0 {
+        left -= 1;
+        if let Some(entry) = stands_at(places, at) {
+            digests.push(entry.digest)?;
+            at = entry.older;
+        }
+    }
+    Ok(digests)
+}
+
+/// Returns the entry that a link leads to.
+fn stands_at<K, D>(places: &Slab<Entry<K, D>>, at: Option<usize>) -> Option<&Entry<K, D>>
+    ensures { option_copied result ≡ entry_at (get places.now) at }
+{
+    match at {
+        Some(at) => places.get(at),
+        None => None,
+    }
+}
