@@ -13,3 +13,4 @@ pub mod Looked
 pub mod Woken
 pub mod EngineState
 pub mod Fresh
+pub mod Parts

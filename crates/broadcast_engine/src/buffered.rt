@@ -7,6 +7,7 @@ pub mod metrics;
 pub mod network;
 pub mod outlet;
 pub mod requests;
+pub mod started;
 pub mod strategy;
 pub mod threaded;
 pub mod worker;

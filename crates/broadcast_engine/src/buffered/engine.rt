@@ -8,12 +8,16 @@ mod job;
 mod look;
 mod node;
 mod open;
+mod parts;
 mod poll;
 mod receive;
 mod reply;
+mod running;
 mod state;
 mod take;
+mod thread;
 mod waiter;
 
 pub use input::{EndCause, Input, Turn};
 pub use state::Engine;
+pub use thread::{Ready, Report, StartError, make_ready, run, spawn};
