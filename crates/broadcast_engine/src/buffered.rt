@@ -11,3 +11,22 @@ pub mod started;
 pub mod strategy;
 pub mod threaded;
 pub mod worker;
+
+pub use commonware_broadcast::buffered::{
+    Counts, Fixed, Get, Inbox, Incoming, Ingress, Mailbox, Message, Overflow, Pending, Policy,
+    Queued, Reply, Request, Responder, Stopper, Subscription, channel, ticket_law,
+};
+pub use config::Config;
+pub use engine::{
+    EndCause, Engine, Input, Ready, Report, StartError, Turn, make_ready, run, spawn,
+};
+pub use front::MailboxEngine;
+pub use gate::{Gate, Open};
+pub use metrics::{Counter, Metrics, Sequencer, Status};
+pub use network::{NetworkFailed, Provider, Receiver, Sender};
+pub use outlet::{Direct, Outlet};
+pub use requests::Requests;
+pub use started::Handle;
+pub use strategy::{Done, Job, Sequential, Strategy};
+pub use threaded::{Threaded, Working};
+pub use worker::{DigestOf, Work, Worker};

@@ -1,0 +1,47 @@
+//! The futures of gets and subscribes.
+use super::message::Letter;
+use broadcast_core::Digestible;
+use commonware_broadcast::buffered::{Get, Subscription};
+use futures::executor::block_on;
+use futures::future::poll_immediate;
+use std::alloc::AllocGlobal;
+use std::io;
+use std::random::RandomSource;
+use std::sync::Wait;
+
+/// A future, until it is ready or dropped.
+#[derive(Drop)]
+pub enum Asked<M: Digestible> {
+    Get(Get<M>),
+    Subscription(Subscription<M>),
+    Dropped,
+}
+
+/// What a future gives.
+#[derive(Clone, Copy, Debug, PartialEq, Eq)]
+pub enum Given {
+    /// It is still pending.
+    Waits,
+    /// It ended without a message.
+    Nothing,
+    /// A message with this letter.
+    Letter(u8),
+}
+
+impl<M: Letter> Asked<M> {
+    /// Returns what the future gives.
+    pub fn given<R: Wait + RandomSource + AllocGlobal>(&mut self, rt: &R) -> io::Result<Given> {
+        let polled = match self {
+            Asked::Get(get) => block_on(rt, poll_immediate(get))?,
+            Asked::Subscription(subscription) => {
+                block_on(rt, poll_immediate(subscription))?.map(|output| output.ok())
+            }
+            Asked::Dropped => Some(None),
+        };
+        Ok(match polled {
+            None => Given::Waits,
+            Some(None) => Given::Nothing,
+            Some(Some(message)) => Given::Letter(message.inner().letter()),
+        })
+    }
+}

@@ -1,0 +1,99 @@
+//! A strategy whose jobs are pending for a number of polls.
+ghost use Rattle.std.specs.Prelude.{◌≡◌};
+ghost use Rattle.futures.specs.Task.{IsArmed, Keeps};
+ghost use Rattle.futures.specs.declared.task.Poll.TheVariants.{Pending};
+
+use broadcast_core::Digestible;
+use broadcast_engine::buffered::strategy::{Job, Strategy};
+use futures::task::{Context, Poll, Source, Waker};
+use std::alloc::{AllocError, Global};
+use std::cell::Cell;
+use std::rc::Rc;
+
+/// How often jobs are still pending, and who waits for them.
+#[derive(Drop)]
+pub struct Gate {
+    polls: Cell<u64>,
+    waker: Cell<Option<Waker>>,
+    source: Source,
+}
+
+impl Gate {
+    /// Creates a gate that is open.
+    pub fn new(alloc: Global) -> Result<Rc<Gate>, AllocError> {
+        Ok(Rc::new(
+            alloc,
+            Gate {
+                polls: Cell::new(0),
+                waker: Cell::new(None),
+                source: Source::new(),
+            },
+        )?)
+    }
+
+    /// Lets jobs be pending this many times, and wakes who waits if that is none.
+    pub fn hold(&self, polls: u64) {
+        self.polls.set(polls);
+        if polls == 0 {
+            self.waker.set(None);
+        }
+    }
+
+    /// Returns whether a job is still pending, and counts its poll.
+    fn is_shut(&self) -> bool {
+        let left = self.polls.get();
+        self.polls.set(left.saturating_sub(1));
+        left > 0
+    }
+
+    fn wait<T>(&self, cx: &mut Context<'_>) -> Poll<T>
+        ensures pending { result ≡ Pending }
+        ensures armed { IsArmed cx.new }
+        ensures kept { Keeps cx.old cx.new }
+    {
+        let mut slot = self.waker.replace(None);
+        let polled = cx.register(&self.source, &mut slot);
+        self.waker.set(slot);
+        polled
+    }
+}
+
+/// Starts jobs that pass the gate.
+#[derive(Drop)]
+pub struct Gated(pub Rc<Gate>);
+
+/// A job that passes the gate.
+#[derive(Drop)]
+pub struct GatedJob<M: Digestible> {
+    gate: Rc<Gate>,
+    message: Option<(M, M::Digest)>,
+}
+
+impl<M: Digestible> Strategy<M> for Gated {
+    type Job = GatedJob<M>;
+
+    fn start(&self, message: M) -> Result<GatedJob<M>, AllocError> {
+        let gate = self.0.clone()?;
+        let digest = message.digest();
+        Ok(GatedJob {
+            gate,
+            message: Some((message, digest)),
+        })
+    }
+}
+
+impl<M: Digestible> Job<M> for GatedJob<M> {
+    ghost use Rattle.broadcast_engine.specs.Jobs.{HoldsDigested};
+
+    ghost is_of = { λ job m. HoldsDigested M.digest_of m job.message };
+
+    fn poll(&mut self, cx: &mut Context<'_>) -> Poll<(M, M::Digest)> {
+        if self.gate.is_shut() {
+            return self.gate.wait(cx);
+        }
+        match self.message.take() {
+            Some(message) => Poll::Ready(message),
+            None => cx.yield_now(),
+        }
+    }
+}

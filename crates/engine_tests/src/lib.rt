@@ -1,0 +1,27 @@
+//! Tests of the engine over scripted sources and a network in memory.
+#![tactic(auto)]
+
+#[cfg(test)]
+mod act;
+#[cfg(test)]
+mod asked;
+#[cfg(test)]
+mod job;
+#[cfg(test)]
+mod message;
+#[cfg(test)]
+mod net;
+#[cfg(test)]
+mod network;
+#[cfg(test)]
+mod node;
+#[cfg(test)]
+mod order;
+#[cfg(test)]
+mod passing;
+#[cfg(test)]
+mod peers;
+#[cfg(test)]
+mod scenarios;
+#[cfg(test)]
+mod wakes;
