@@ -17,3 +17,4 @@ pub mod Woken
 pub mod Order
 pub mod EngineState
 pub mod Fresh
+pub mod Parts

@@ -7,6 +7,7 @@ pub mod metrics;
 pub mod network;
 pub mod outlet;
 pub mod requests;
+pub mod started;
 pub mod strategy;
 pub mod threaded;
 pub mod worker;
@@ -16,13 +17,17 @@ pub use commonware_broadcast::buffered::{
     Queued, Reply, Request, Responder, Stopper, Subscription, channel, ticket_law,
 };
 pub use config::Config;
-pub use engine::{EndCause, Engine, Input, Turn, drive, new_engine_law};
+pub use engine::{
+    EndCause, Engine, Input, Ready, Report, StartError, Turn, drive, make_ready, new_engine_law, run,
+    spawn,
+};
 pub use front::MailboxEngine;
 pub use gate::{Gate, Open};
 pub use metrics::{Counter, Metrics, Sequencer, Status};
 pub use network::{NetworkFailed, Provider, Receiver, Sender};
 pub use outlet::{Direct, Outlet};
 pub use requests::Requests;
+pub use started::Handle;
 pub use strategy::{Done, Job, Sequential, Strategy};
 pub use threaded::{Threaded, Working};
-pub use worker::{Work, Worker};
+pub use worker::{DigestOf, Work, Worker};

@@ -45,4 +45,6 @@ pub enum EndCause {
     PeersClosed,
     /// The receiver failed.
     NetworkFailed,
+    /// The engine was started, and its thread could not wait for the next input.
+    WaitFailed,
 }

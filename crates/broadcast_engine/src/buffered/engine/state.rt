@@ -38,14 +38,14 @@ use std::marker::Model;
 /// An engine: it applies requests, peer sets and payloads to the cache of a node, one at a poll.
 #[derive(Drop)]
 pub struct Engine<P: PublicKey, M: Digestible + Codec, S, O, B, Q, T: Strategy<M>> {
-    node: Node<P, M, S, O>,
-    provider: B,
-    requests: Q,
-    job: Option<(P, T::Job)>,
-    end: Option<EndCause>,
-    priority: bool,
-    codec_config: M::Cfg,
-    strategy: T,
+    pub(super) node: Node<P, M, S, O>,
+    pub(super) provider: B,
+    pub(super) requests: Q,
+    pub(super) job: Option<(P, T::Job)>,
+    pub(super) end: Option<EndCause>,
+    pub(super) priority: bool,
+    pub(super) codec_config: M::Cfg,
+    pub(super) strategy: T,
 }
 
 impl<P: PublicKey, M: Digestible + Codec, S, O, B, Q, T: Strategy<M>> Model

@@ -1,0 +1,164 @@
+//! An engine that runs in a thread of its own.
+ghost use Rattle.std.specs.Prelude.{◌≡◌};
+
+use crate::buffered::engine::input::EndCause;
+use crate::buffered::engine::parts::Parts;
+use crate::buffered::engine::running::{finish_job, run_to_end};
+use crate::buffered::engine::state::Engine;
+use crate::buffered::metrics::Metrics;
+use crate::buffered::network::{Provider, Receiver, Sender};
+use crate::buffered::outlet::Outlet;
+use crate::buffered::requests::Requests;
+use crate::buffered::strategy::Strategy;
+use broadcast_core::{Codec, Digestible, PublicKey};
+use commonware_broadcast::buffered::{Message, Reply, Responder, Stopper};
+use std::alloc::{AllocError, AllocGlobal};
+use std::random::RandomSource;
+use std::sync::Wait;
+use std::thread;
+use std::thread::{JoinHandle, Threads};
+use thiserror::Error;
+
+/// Why an engine was not started. It is given up then, and its mailbox is closed.
+#[derive(Clone, Copy, Debug, PartialEq, Eq, Error)]
+pub enum StartError {
+    /// An allocation failed.
+    #[error("out of memory")]
+    Memory,
+    /// No thread could be started.
+    #[error("no thread could be started")]
+    Spawn,
+}
+
+/// What a started engine leaves.
+#[derive(Drop)]
+pub struct Report<P: PublicKey> {
+    cause: EndCause,
+    metrics: Metrics<P>,
+}
+
+impl<P: PublicKey> Report<P> {
+    /// Returns why the engine ended.
+    pub fn cause(&self) -> EndCause
+        ensures { result ≡ self.now.cause }
+    {
+        self.cause
+    }
+
+    /// Returns the counters.
+    pub fn metrics(&self) -> &Metrics<P>
+        ensures { result.now ≡ self.now.metrics }
+    {
+        &self.metrics
+    }
+}
+
+/// An engine without a job, with its network, which may move to the thread that runs it.
+#[derive(Drop)]
+pub struct Ready<P: PublicKey, M: Digestible, S, O, B, Q, C, T, N, V, R> {
+    parts: Parts<P, M, S, O, B, Q, C, T>,
+    network: (N, V),
+    rt: R,
+}
+
+/// Makes an engine ready for its thread: a job that is pending is finished, since a job may not
+/// move to another thread. After an error the engine has ended, and its requests are closed.
+pub fn make_ready<P, M, S, G, O, B, Q, T, N, V, R>(
+    rt: &R,
+    engine: Engine<P, M, S, O, B, Q, T>,
+    network: (N, V),
+) -> Result<Ready<P, M, S, O, B, Q, M::Cfg, T, N, V, R>, StartError>
+where
+    P: PublicKey,
+    M: Digestible + Codec,
+    M::Cfg: Drop,
+    S: Responder<Reply<M>> + Drop,
+    G: Drop,
+    O: Outlet<S, G, Reply<M>, Option<Reply<M>>> + Drop,
+    B: Provider<P> + Drop,
+    Q: Requests<Message<P, M, S, G>> + Drop,
+    T: Strategy<M> + Drop,
+    N: Sender<P> + Drop,
+    V: Receiver<P> + Drop,
+    R: Wait + RandomSource + AllocGlobal + Clone + Drop,
+{
+    let mut engine = engine;
+    let mut network = network;
+    let own: Result<R, AllocError> = rt.clone();
+    let finished = finish_job::<P, M, S, G, O, B, Q, T, N, V, R>(rt, &mut engine, &mut network);
+    match (own, finished) {
+        (Ok(rt), Ok(())) => Ok(Ready {
+            parts: engine.into_parts(),
+            network,
+            rt,
+        }),
+        _ => {
+            engine.give_up::<G>(EndCause::WaitFailed);
+            Err(StartError::Memory)
+        }
+    }
+}
+
+/// Runs the engine until it ends. Returns what it leaves.
+pub fn run<P, M, S, G, O, B, Q, T, N, V, R>(
+    ready: Ready<P, M, S, O, B, Q, M::Cfg, T, N, V, R>,
+) -> Report<P>
+where
+    P: PublicKey,
+    M: Digestible + Codec,
+    M::Cfg: Drop,
+    S: Responder<Reply<M>> + Drop,
+    G: Drop,
+    O: Outlet<S, G, Reply<M>, Option<Reply<M>>> + Drop,
+    B: Provider<P> + Drop,
+    Q: Requests<Message<P, M, S, G>> + Drop,
+    T: Strategy<M> + Drop,
+    N: Sender<P> + Drop,
+    V: Receiver<P> + Drop,
+    R: Wait + RandomSource + AllocGlobal + Drop,
+{
+    let Ready { parts, network, rt } = ready;
+    let mut engine = Engine::from_parts(parts);
+    let mut network = network;
+    let cause = match run_to_end::<P, M, S, G, O, B, Q, T, N, V, R>(
+        &rt,
+        &mut engine,
+        &mut network,
+    ) {
+        Ok(cause) => cause,
+        Err(_) => {
+            engine.give_up::<G>(EndCause::WaitFailed);
+            EndCause::WaitFailed
+        }
+    };
+    let parts = engine.into_parts();
+    Report {
+        cause,
+        metrics: parts.node.metrics,
+    }
+}
+
+/// Starts a thread that does `work`, the run of an engine whose mailbox has this stopper. If no
+/// thread can be started, the engine is stopped and ends at once, on the calling thread.
+pub fn spawn<A, F, I, R>(
+    rt: &R,
+    work: F,
+    stopper: &Stopper<I, R>,
+) -> Result<JoinHandle<A>, StartError>
+where
+    A: Send + Drop + 'static,
+    F: FnOnce() -> A + Send + 'static,
+    R: Threads + Wait,
+    requires { F.pre work }
+{
+    match thread::spawn(rt, work) {
+        Ok(thread) => Ok(thread),
+        Err(refused) => {
+            // A stop is looked at first, so this run ends the engine at once.
+            stopper.request_stop();
+            let work = refused.value;
+            drop(work());
+            Err(StartError::Spawn)
+        }
+    }
+}

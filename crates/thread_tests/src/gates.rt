@@ -1,0 +1,93 @@
+//! Two workers that must meet at their gate.
+use broadcast_core::{Digestible, TestMessage};
+use broadcast_engine::buffered::gate::Gate;
+use broadcast_engine::buffered::strategy::{Job, Strategy};
+use broadcast_engine::buffered::threaded::Threaded;
+use broadcast_engine::buffered::worker::{Work, Worker};
+use futures::executor::block_on;
+use futures::future::poll_fn;
+use futures::task::{Context, Poll};
+use std::alloc::{AllocError, AllocGlobal, Global};
+use std::random::RandomSource;
+use std::sync::atomic::{AtomicU64, Ordering};
+use std::sync::{Arc, Wait};
+use std::test::Fail;
+use std::thread::{self, Threads};
+
+/// How often a worker looks for the other.
+const LOOKS: u64 = 10_000;
+
+/// A gate that counts who entered, and who saw two enter.
+#[derive(Drop)]
+struct Meeting {
+    entered: AtomicU64,
+    met: AtomicU64,
+}
+
+impl Gate for Meeting {
+    fn pass(&self) {
+        self.entered.fetch_add(1, Ordering::SeqCst);
+        for _ in 0..LOOKS {
+            if self.entered.load(Ordering::SeqCst) >= 2 {
+                self.met.fetch_add(1, Ordering::SeqCst);
+                return;
+            }
+            thread::yield_now();
+        }
+    }
+}
+
+impl<R: Threads> Work<Meeting, R> for TestMessage {
+    type Worker = Worker<TestMessage>;
+
+    ghost use Rattle.broadcast_engine.specs.Workers.{IsWorkerOf};
+
+    ghost is_of = { IsWorkerOf Self.digest_of };
+
+    fn start(
+        self,
+        rt: &R,
+        alloc: Global,
+        gate: Arc<Meeting>,
+    ) -> Result<Worker<TestMessage>, AllocError> {
+        Worker::start(rt, alloc, gate, self)
+    }
+
+    fn poll(worker: &mut Worker<TestMessage>, cx: &mut Context<'_>) -> Poll<()> {
+        worker.poll(cx)
+    }
+
+    fn join(worker: Worker<TestMessage>, rt: &R) -> (TestMessage, [u8; 32]) {
+        worker.join(rt)
+    }
+}
+
+/// Starts two jobs before it waits for one. Returns how many workers saw the other, and whether
+/// each job gave the digest of its message.
+fn meet<R>(rt: &R) -> Result<(u64, bool), Fail>
+where
+    R: Threads + Wait + RandomSource + AllocGlobal + Clone + Drop,
+{
+    let gate = Arc::new(
+        rt.alloc(),
+        Meeting {
+            entered: AtomicU64::new(0),
+            met: AtomicU64::new(0),
+        },
+    )?;
+    let strategy = Threaded::new(rt.clone()?, rt.alloc(), Arc::try_clone(&gate)?);
+    let first = TestMessage::shared(rt.alloc(), vec![in rt.alloc(); 1u8]?)?;
+    let second = TestMessage::shared(rt.alloc(), vec![in rt.alloc(); 2u8]?)?;
+    let wanted = (first.digest(), second.digest());
+    let mut one = strategy.start(first)?;
+    let mut two = strategy.start(second)?;
+    let (_, left) = block_on(rt, poll_fn(|cx| one.poll(cx)))?;
+    let (_, right) = block_on(rt, poll_fn(|cx| two.poll(cx)))?;
+    Ok((gate.met.load(Ordering::SeqCst), (left, right) == wanted))
+}
+
+#[test]
+fn threaded_uses_another_thread(rt: HostRuntime) -> Result<(), Fail> {
+    assert_eq!(rt; meet(&rt)?, (2, true));
+    Ok(())
+}
