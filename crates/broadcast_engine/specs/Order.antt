@@ -1,5 +1,5 @@
 -- What an engine takes before it looks at other sources.
-use Rattle.std.specs.Prelude.{Result, Ok, Err, ⊤}
+use Rattle.std.specs.Prelude.{◌≡◌, Bool, true, false, Result, Ok, Err, ⊤}
 use Rattle.futures.specs.declared.task.Poll.{Poll}
 use Rattle.futures.specs.declared.task.Poll.TheVariants.{Ready, Pending}
 use Rattle.broadcast_engine.specs.declared.buffered.engine.input.EndCause.{EndCause}
@@ -14,7 +14,18 @@ UnlessPeers (Ready turn.Peers) holds = ⊤
 UnlessPeers (Ready (turn.Ended cause)) holds = ⊤
 UnlessPeers _ holds = holds
 
--- the same of an input that was taken
+-- whether the turn is that of a payload that was applied
+abbrev pub of_network : Turn → Bool
+of_network (turn.Payload out) = true
+of_network (turn.Invalid error) = true
+of_network _ = false
+
+-- if the turn is that of a payload, or there is none, this holds
+abbrev pub IfNetwork : Poll Turn → Type 0 → Type 0
+IfNetwork (Ready turn) holds = of_network turn ≡ true → holds
+IfNetwork Pending holds = holds
+
+-- unless the input is a peer set, or there is an end, this holds
 abbrev pub UnlessPeerSet : {P M S G D : Type 0} → Poll (Result (Input P M S G D) EndCause)
     → Type 0 → Type 0
 UnlessPeerSet (Ready (Ok (input.Peers ps))) holds = ⊤

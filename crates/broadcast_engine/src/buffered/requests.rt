@@ -15,17 +15,22 @@ pub trait Requests<T> {
     /// Whether this may be the list of the requests that were given, oldest first.
     ghost told: { Self → List (Request T) → Type 0 };
 
+    /// Whether there may be no request to give.
+    ghost quiet: { Self → Type 0 } = { λ _. ⊤ };
+
     /// Returns whether the engine is to stop. If not, the task is woken once it is.
     fn stopped(&mut self, cx: &mut Context<'_>) -> bool
         ensures tells { (requests : List (Request T))
             → told self.old requests → told self.new requests }
         ensures armed { result ≡ false → IsArmed cx.new }
+        ensures quiet { quiet self.new → quiet self.old }
         ensures kept { Keeps cx.old cx.new };
 
     /// Returns the next request.
     fn poll_next(&mut self, cx: &mut Context<'_>) -> Poll<Request<T>>
         ensures tells { (requests : List (Request T))
             → told self.old requests → told self.new (requests ++ given result) }
+        ensures quiet { OnPending result (quiet self.old) }
         ensures armed { OnPending result (IsArmed cx.new) }
         ensures kept { Keeps cx.old cx.new };
 

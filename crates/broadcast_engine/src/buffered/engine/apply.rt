@@ -1,5 +1,5 @@
 //! One input, applied or refused.
-ghost use Rattle.std.specs.Prelude.{◌≡◌, List, None};
+ghost use Rattle.std.specs.Prelude.{◌≡◌, List, [], ◌∷◌, None, false};
 ghost use Rattle.broadcast_core.specs.Content.{same_by};
 ghost use Rattle.broadcast_core.specs.Setting.{Setting};
 ghost use Rattle.broadcast_core.specs.Happening.{History};
@@ -9,6 +9,8 @@ ghost use Rattle.broadcast_engine.specs.declared.buffered.engine.input.Input.The
 ghost use Rattle.broadcast_engine.specs.declared.buffered.engine.input.Turn.TheVariants as turn;
 ghost use Rattle.broadcast_engine.specs.EngineHistory.{end_told};
 ghost use Rattle.broadcast_engine.specs.Replies.{Asker};
+ghost use Rattle.broadcast_engine.specs.Order.{of_network};
+ghost use Rattle.broadcast_engine.specs.Taken.{payloads_in};
 ghost use Rattle.broadcast_engine.specs.Ran.{Applied};
 
 use crate::buffered::engine::broadcast::handle_broadcast;
@@ -46,6 +48,7 @@ where
         result node.old node.new sender.old sender.new }
     ensures tells_no_end { end_told result ≡ None }
     ensures of_peers { (ps : List P) → input ≡ Peers ps → result ≡ turn.Peers }
+    ensures of_request { payloads_in (input ∷ []) ≡ [] → of_network result ≡ false }
 {
     match input {
         Input::Peers(peers) => {
@@ -85,6 +88,7 @@ where
         → Applied s (λ w b. S.may_answer w.responder b) O.told N.told past (input.Request request)
         result node.old node.new sender.old sender.new }
     ensures tells_no_end { end_told result ≡ None }
+    ensures of_request { of_network result ≡ false }
 {
     let Request {
         ticket,

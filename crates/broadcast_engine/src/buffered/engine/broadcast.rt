@@ -1,5 +1,5 @@
 //! Messages of the node itself.
-ghost use Rattle.std.specs.Prelude.{◌≡◌, ℕ, List, Bool, true, Some, None, is_some, IfOk, Err, ◌↔◌};
+ghost use Rattle.std.specs.Prelude.{◌≡◌, ℕ, List, Bool, true, false, Some, None, is_some, IfOk, Err, ◌↔◌};
 ghost use Rattle.broadcast_core.specs.Content.{same_by};
 ghost use Rattle.broadcast_core.specs.Setting.{Setting};
 ghost use Rattle.broadcast_core.specs.Happening.{History};
@@ -7,6 +7,7 @@ ghost use Rattle.broadcast_core.specs.HasContent.{HasContent};
 ghost use Rattle.commonware_broadcast.specs.declared.buffered.ingress.message.Message.TheVariants as request;
 ghost use Rattle.broadcast_engine.specs.EngineHistory.{end_told};
 ghost use Rattle.broadcast_engine.specs.Replies.{Asker};
+ghost use Rattle.broadcast_engine.specs.Order.{of_network};
 ghost use Rattle.broadcast_engine.specs.Ran.{Applied, requested};
 
 use crate::buffered::engine::input::Turn;
@@ -42,6 +43,7 @@ where
         (requested ticket counted (request.Broadcast recipients message))
         result node.old node.new sender.old sender.new }
     ensures tells_no_end { end_told result ≡ None }
+    ensures of_request { of_network result ≡ false }
 {
     let bytes = match encoded(alloc, &message) {
         Ok(bytes) => bytes,

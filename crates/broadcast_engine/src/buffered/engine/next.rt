@@ -33,6 +33,7 @@ where
         → Q.told requests.new (before ++ requests_in (given_ok result)) }
     ensures no_payload { payloads_in (given_ok result) ≡ [] }
     ensures peers_first { UnlessPeerSet result (B.quiet provider.old) }
+    ensures requests_first { OnPending result (Q.quiet requests.old) }
     ensures armed { OnPending result (IsArmed cx.new) }
     ensures kept { Keeps cx.old cx.new }
 {

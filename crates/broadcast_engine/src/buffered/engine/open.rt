@@ -10,7 +10,7 @@ ghost use Rattle.broadcast_core.specs.Happening.{History};
 ghost use Rattle.broadcast_core.specs.HasContent.{HasContent};
 ghost use Rattle.broadcast_engine.specs.EngineHistory.{end_told};
 ghost use Rattle.broadcast_engine.specs.Replies.{Asker};
-ghost use Rattle.broadcast_engine.specs.Order.{UnlessPeers, as_turn};
+ghost use Rattle.broadcast_engine.specs.Order.{UnlessPeers, IfNetwork, as_turn};
 ghost use Rattle.broadcast_engine.specs.Woken.{Woken};
 
 use crate::buffered::engine::fetch::going_on;
@@ -63,6 +63,7 @@ where
         receiver.old receiver.new provider.old provider.new requests.old requests.new slot.new }
     ensures tells_no_end { IfReady result (λ r. IfOk r (λ turn. end_told turn ≡ None)) }
     ensures peers_first { slot.old ≡ None → UnlessPeers (as_turn result) (B.quiet provider.old) }
+    ensures requests_first { slot.old ≡ None → IfNetwork (as_turn result) (Q.quiet requests.old) }
     ensures armed { OnPending result (IsArmed cx.new) }
     ensures kept { Keeps cx.old cx.new }
 {

@@ -8,7 +8,7 @@ ghost use Rattle.broadcast_core.specs.Happening.{History};
 ghost use Rattle.broadcast_core.specs.HasContent.{HasContent};
 ghost use Rattle.broadcast_engine.specs.EngineHistory.{end_told};
 ghost use Rattle.broadcast_engine.specs.Replies.{Asker};
-ghost use Rattle.broadcast_engine.specs.Order.{UnlessPeers, as_turn};
+ghost use Rattle.broadcast_engine.specs.Order.{UnlessPeers, IfNetwork, as_turn};
 ghost use Rattle.broadcast_engine.specs.Polled.{Polled};
 
 use crate::buffered::engine::apply::apply;
@@ -51,6 +51,7 @@ where
         provider.old provider.new requests.old requests.new }
     ensures tells_no_end { IfReady result (λ r. IfOk r (λ turn. end_told turn ≡ None)) }
     ensures peers_first { UnlessPeers (as_turn result) (B.quiet provider.old) }
+    ensures requests_first { IfNetwork (as_turn result) (Q.quiet requests.old) }
     ensures armed { OnPending result (IsArmed cx.new) }
     ensures kept { Keeps cx.old cx.new }
 {

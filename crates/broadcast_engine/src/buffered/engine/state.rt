@@ -11,7 +11,7 @@ ghost use Rattle.broadcast_core.specs.HasContent.{HasContent};
 ghost use Rattle.broadcast_engine.specs.declared.buffered.engine.input.Turn.TheVariants as turn;
 ghost use Rattle.broadcast_engine.specs.declared.buffered.engine.input.EndCause.{EndCause};
 ghost use Rattle.broadcast_engine.specs.Replies.{Asker};
-ghost use Rattle.broadcast_engine.specs.Order.{UnlessPeers};
+ghost use Rattle.broadcast_engine.specs.Order.{UnlessPeers, IfNetwork};
 ghost use Rattle.broadcast_engine.specs.EngineHistory.{end_told};
 ghost use Rattle.broadcast_engine.specs.Ran.{Applied};
 ghost use Rattle.broadcast_engine.specs.Taken.{Holds};
@@ -187,6 +187,8 @@ impl<P: PublicKey, M: Digestible + Codec, S, O, B, Q, T: Strategy<M>> Engine<P, 
             Q.told past before self.old self.new network.old network.new result }
         ensures peers_first { self.old.end ≡ None → self.old.job ≡ None
             → UnlessPeers result (B.quiet self.old.provider) }
+        ensures requests_first { self.old.end ≡ None → self.old.job ≡ None
+            → IfNetwork result (Q.quiet self.old.requests) }
         ensures same_after_end { (cause : EndCause) → self.old.end ≡ Some cause
             → (result ≡ Ready (turn.Ended cause)) × (self.new ≡ self.old)
             × (network.new ≡ network.old) }
