@@ -1,13 +1,14 @@
 //! What is done to the nodes of a scenario, and what must come of it.
-use super::asked::{Asked, Given};
-use super::message::{Letter, To, payload, recipients};
-use super::net::Net;
-use super::node::{Metric, Sizes};
-use broadcast_core::{Items, RangeCfg, Sent, TestMessage};
-use broadcast_engine::buffered::engine::Turn;
+use super::asked::Given;
+use super::message::{Letter, To};
+use super::world::{Metric, Sizes, World};
+use broadcast_core::{RangeCfg, TestMessage};
+use broadcast_engine::buffered::Turn;
 use commonware_broadcast::Feedback;
-use std::alloc::{AllocGlobal, Global};
+use std::alloc::AllocGlobal;
+use std::io;
 use std::num::NonZeroUsize;
+use std::process::Abort;
 use std::random::RandomSource;
 use std::sync::Wait;
 use std::test::Fail;
@@ -67,192 +68,55 @@ pub enum Act {
 pub struct Row {
     pub name: &'static str,
     pub nodes: u64,
-    /// The size of each mailbox, if it is not 0, and of each list.
+    /// The size of each mailbox, and of each list.
     pub sizes: (usize, usize),
     pub acts: &'static [Act],
 }
 
+/// Makes the actions of each scenario. Fails at the first that does not go as it should.
+pub fn all_go<R>(rt: &R, rows: &'static [Row]) -> Result<(), Fail>
+where
+    R: Wait + Abort + RandomSource + AllocGlobal + Clone + Send + Drop + 'static,
+{
+    for row in rows {
+        let wrong = row.first_wrong(rt)?;
+        assert!(rt; wrong.is_none(), "{}: {wrong:?}", row.name);
+    }
+    Ok(())
+}
+
 impl Row {
     /// Returns the place of the first action that does not go as it should.
-    pub fn first_wrong<M, R>(
-        &self,
-        rt: &R,
-        alloc: Global,
-        codec_config: M::Cfg,
-    ) -> Result<Option<usize>, Fail>
+    fn first_wrong<R>(&self, rt: &R) -> io::Result<Option<usize>>
     where
-        M: Letter,
-        M::Cfg: Copy + Drop,
         R: Wait + RandomSource + AllocGlobal + Clone + Send + Drop + 'static,
     {
-        let (mailbox, deque) = self.sizes;
-        let mailbox = NonZeroUsize::new(mailbox).unwrap_or(NonZeroUsize::MIN);
-        let sizes = Sizes { mailbox, deque };
-        let mut net: Net<M, R> = Net::new(rt, alloc, self.nodes, sizes, codec_config)?;
-        for (place, act) in self.acts.iter().enumerate() {
-            if !net.goes(rt, alloc, *act)? {
-                return Ok(Some(place));
-            }
-        }
-        Ok(None)
+        let sizes = Sizes {
+            nodes: self.nodes,
+            mailbox: NonZeroUsize::new(self.sizes.0).unwrap_or(NonZeroUsize::MIN),
+            deque: self.sizes.1,
+        };
+        first_wrong::<TestMessage, R>(rt, sizes, RangeCfg::any(), self.acts)
     }
 }
 
-/// Returns the place of the first action of the row that does not go as it should.
-pub fn wrong_place<R>(rt: &R, alloc: Global, row: &Row) -> Result<Option<usize>, Fail>
-where
-    R: Wait + RandomSource + AllocGlobal + Clone + Send + Drop + 'static,
-{
-    row.first_wrong::<TestMessage, R>(rt, alloc, RangeCfg::any())
-}
-
-impl<M, R> Net<M, R>
+/// Returns the place of the first action that does not go as it should.
+fn first_wrong<M, R>(
+    rt: &R,
+    sizes: Sizes,
+    codec_config: M::Cfg,
+    acts: &[Act],
+) -> io::Result<Option<usize>>
 where
     M: Letter,
-    M::Cfg: Drop,
+    M::Cfg: Copy + Drop,
     R: Wait + RandomSource + AllocGlobal + Clone + Send + Drop + 'static,
 {
-    /// Does what the action says. Returns whether it goes as it should.
-    fn goes(&mut self, rt: &R, alloc: Global, act: Act) -> Result<bool, Fail> {
-        match act {
-            Act::Gives(number, given) => self.gives(rt, number, given),
-            Act::Hang(number) => Ok(self.hang(number)),
-            Act::Finds(key, letter, found) => self.finds(rt, alloc, Act::Get(key, letter), found),
-            Act::Hears(key, letter, heard) => {
-                self.finds(rt, alloc, Act::Subscribe(key, letter), heard)
-            }
-            Act::AllTrack(keys) => self.all_track(alloc, keys),
-            Act::Run => self.run(alloc).map(|()| true),
-            Act::Lose(number) => {
-                self.lose = number;
-                Ok(true)
-            }
-            Act::Subscribe(..) | Act::Get(..) => self.ask(alloc, act).map(|()| true),
-            Act::Sends(key, place, to, letter) => self.sent(alloc, (key, place), to, letter),
-            _ => self.goes_at(alloc, act),
+    let mut world: World<M, R> = World::new(rt, rt.alloc(), sizes, codec_config)?;
+    for (place, act) in acts.iter().enumerate() {
+        if !world.goes(rt, rt.alloc(), *act)? {
+            return Ok(Some(place));
         }
     }
-
-    /// Does what the action on one node says. Returns whether it goes as it should.
-    fn goes_at(&mut self, alloc: Global, act: Act) -> Result<bool, Fail> {
-        match act {
-            Act::Broadcast(key, to, letter) => {
-                Ok(
-                    self.node(key)?
-                        .broadcast(alloc, to, letter, letter)?
-                        .accepted(),
-                )
-            }
-            Act::BroadcastAs(key, to, letter, name) => {
-                Ok(
-                    self.node(key)?
-                        .broadcast(alloc, to, letter, name)?
-                        .accepted(),
-                )
-            }
-            Act::Poll(key, turn) => Ok(self.node(key)?.poll(alloc) == turn),
-            Act::Counts(key, metric, number) => Ok(self.node(key)?.count(metric) == number),
-            Act::Woken(key, woken) => Ok(self.node(key)?.is_woken() == woken),
-            Act::Told(key, feedback) => {
-                Ok(self.node(key)?.broadcast(alloc, To::All, b'z', b'z')? == feedback)
-            }
-            _ => self.feed(alloc, act).map(|()| true),
-        }
-    }
-
-    /// Feeds the sources of one node.
-    fn feed(&mut self, alloc: Global, act: Act) -> Result<(), Fail> {
-        match act {
-            Act::Track(key, keys) => self.node(key)?.track(alloc, keys)?,
-            Act::EndPeers(key) => self.node(key)?.end_peers(),
-            Act::Payload(key, from, bytes) => self.hand(alloc, key, from, bytes)?,
-            Act::Comes(key, from, letter) => {
-                let bytes = payload::<M>(alloc, letter)?;
-                self.hand(alloc, key, from, bytes.as_slice())?;
-            }
-            _ => self.disturb(act)?,
-        }
-        Ok(())
-    }
-
-    /// Stops, holds or fails what one node needs.
-    fn disturb(&mut self, act: Act) -> Result<(), Fail> {
-        match act {
-            Act::Fails(key) => self.node(key)?.network.1.fail(),
-            Act::Holds(key, polls) => self.node(key)?.hold(polls),
-            Act::Stop(key) => self.node(key)?.stop(),
-            _ => return Err(Fail::from("no such action")),
-        }
-        Ok(())
-    }
-
-    /// Hands the node a payload of the peer.
-    fn hand(&mut self, alloc: Global, key: u64, from: u64, bytes: &[u8]) -> Result<(), Fail> {
-        let payload = Vec::from_slice(alloc, bytes)?;
-        self.node(key)?.network.1.give(from, payload)?;
-        Ok(())
-    }
-
-    /// Makes a get or a subscribe, whose future gets the next number.
-    fn ask(&mut self, alloc: Global, act: Act) -> Result<(), Fail> {
-        let asked = match act {
-            Act::Subscribe(key, letter) => self.node(key)?.subscribe(alloc, letter)?,
-            Act::Get(key, letter) => self.node(key)?.get(alloc, letter)?,
-            _ => Asked::Dropped,
-        };
-        self.asked.push(asked)?;
-        Ok(())
-    }
-
-    /// Returns whether the future of the number gives this.
-    fn gives(&mut self, rt: &R, number: usize, given: Given) -> Result<bool, Fail> {
-        let asked = self.asked.get_mut(number).ok_or("no such future")?;
-        Ok(asked.given(rt)? == given)
-    }
-
-    /// Drops the future of the number.
-    fn hang(&mut self, number: usize) -> bool {
-        match self.asked.get_mut(number) {
-            Some(asked) => {
-                *asked = Asked::Dropped;
-                true
-            }
-            None => false,
-        }
-    }
-
-    /// Asks, lets all nodes run, and returns whether a message came or not. The future is dropped.
-    fn finds(&mut self, rt: &R, alloc: Global, act: Act, found: bool) -> Result<bool, Fail> {
-        self.ask(alloc, act)?;
-        self.run(alloc)?;
-        let mut asked = self.asked.pop().ok_or("no such future")?;
-        let is_letter = matches!(&asked.given(rt)?, Given::Letter(_));
-        Ok(is_letter == found)
-    }
-
-    /// Gives all nodes the peer set, and lets them run.
-    fn all_track(&mut self, alloc: Global, keys: &[u64]) -> Result<bool, Fail> {
-        for node in &self.nodes {
-            node.track(alloc, keys)?;
-        }
-        self.run(alloc)?;
-        Ok(true)
-    }
-
-    /// Returns whether the node sent this message at the place.
-    fn sent(
-        &mut self,
-        alloc: Global,
-        place: (u64, usize),
-        to: To,
-        letter: u8,
-    ) -> Result<bool, Fail> {
-        let wanted = Sent {
-            recipients: recipients(alloc, to)?,
-            bytes: Items::from_vec(payload::<M>(alloc, letter)?),
-            priority: place.0 % 2 == 0,
-        };
-        let sent = &self.node(place.0)?.network.0.sent;
-        Ok(sent.get(place.1) == Some(&wanted))
-    }
+    Ok(None)
 }

@@ -5,7 +5,6 @@ use commonware_broadcast::buffered::{Get, Subscription};
 use futures::executor::block_on;
 use futures::future::poll_immediate;
 use std::alloc::AllocGlobal;
-use std::io;
 use std::random::RandomSource;
 use std::sync::Wait;
 
@@ -30,18 +29,19 @@ pub enum Given {
 
 impl<M: Letter> Asked<M> {
     /// Returns what the future gives.
-    pub fn given<R: Wait + RandomSource + AllocGlobal>(&mut self, rt: &R) -> io::Result<Given> {
+    pub fn given<R: Wait + RandomSource + AllocGlobal>(&mut self, rt: &R) -> Given {
         let polled = match self {
-            Asked::Get(get) => block_on(rt, poll_immediate(get))?,
+            Asked::Get(get) => block_on(rt, poll_immediate(get)).unwrap_or(Some(None)),
             Asked::Subscription(subscription) => {
-                block_on(rt, poll_immediate(subscription))?.map(|output| output.ok())
+                let polled = block_on(rt, poll_immediate(subscription));
+                polled.unwrap_or(None).map(|output| output.ok())
             }
             Asked::Dropped => Some(None),
         };
-        Ok(match polled {
+        match polled {
             None => Given::Waits,
             Some(None) => Given::Nothing,
             Some(Some(message)) => Given::Letter(message.inner().letter()),
-        })
+        }
     }
 }

@@ -6,15 +6,15 @@ mod act;
 #[cfg(test)]
 mod asked;
 #[cfg(test)]
+mod callers;
+#[cfg(test)]
+mod feeds;
+#[cfg(test)]
 mod job;
 #[cfg(test)]
 mod message;
 #[cfg(test)]
-mod net;
-#[cfg(test)]
 mod network;
-#[cfg(test)]
-mod node;
 #[cfg(test)]
 mod order;
 #[cfg(test)]
@@ -25,3 +25,7 @@ mod peers;
 mod scenarios;
 #[cfg(test)]
 mod wakes;
+#[cfg(test)]
+mod wires;
+#[cfg(test)]
+mod world;

@@ -1,7 +1,5 @@
 //! Messages and recipients by short names.
-use broadcast_core::{
-    Codec, CodecError, Digested, Digestible, Items, Recipients, Set, TestMessage, Write,
-};
+use broadcast_core::{Codec, Digested, Digestible, Items, Recipients, Set, TestMessage, Write};
 use std::alloc::{AllocError, Global};
 
 /// Recipients.
@@ -60,13 +58,13 @@ pub fn digested<M: Letter>(
 }
 
 /// Returns the encoding of the message of the letter.
-pub fn payload<M: Letter>(alloc: Global, letter: u8) -> Result<Vec<u8>, CodecError> {
+pub fn payload<M: Letter>(alloc: Global, letter: u8) -> Result<Vec<u8>, AllocError> {
     let mut bytes = Vec::new(alloc);
-    let Ok(message) = M::of(alloc, letter) else {
-        return Err(CodecError::Memory);
-    };
-    message.write(&mut bytes)?;
-    Ok(bytes)
+    let message = M::of(alloc, letter)?;
+    match message.write(&mut bytes) {
+        Ok(()) => Ok(bytes),
+        Err(_) => Err(AllocError),
+    }
 }
 
 /// Returns the set of the keys.

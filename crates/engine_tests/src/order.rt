@@ -1,11 +1,10 @@
 //! The order of turns, what is counted, and how an engine ends.
-use super::act::{Act, Row, wrong_place};
+use super::act::{Act, Row, all_go};
 use super::asked::Given;
 use super::message::To;
-use super::node::Metric;
+use super::world::Metric;
 use broadcast_core::Outcome;
-use broadcast_engine::buffered::engine::{EndCause, Turn};
-use broadcast_engine::buffered::metrics::Status;
+use broadcast_engine::buffered::{EndCause, Status, Turn};
 use commonware_broadcast::Feedback;
 use std::test::Fail;
 
@@ -209,9 +208,5 @@ fn rows() -> &'static [Row] {
 
 #[test]
 fn turns_come_in_order_and_are_counted(rt: HostRuntime) -> Result<(), Fail> {
-    for row in rows() {
-        let wrong = wrong_place(&rt, rt.alloc(), row)?;
-        assert!(rt; wrong.is_none(), "{}: {wrong:?}", row.name);
-    }
-    Ok(())
+    all_go(&rt, rows())
 }

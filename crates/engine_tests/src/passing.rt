@@ -1,5 +1,5 @@
 //! What a mailbox was given reaches the network and its own callers.
-use super::act::{Act, Row, wrong_place};
+use super::act::{Act, Row, all_go};
 use super::asked::Given;
 use super::message::To;
 use std::test::Fail;
@@ -34,9 +34,5 @@ fn rows() -> &'static [Row] {
 
 #[test]
 fn mailbox_passes_on_what_it_was_given(rt: HostRuntime) -> Result<(), Fail> {
-    for row in rows() {
-        let wrong = wrong_place(&rt, rt.alloc(), row)?;
-        assert!(rt; wrong.is_none(), "{}: {wrong:?}", row.name);
-    }
-    Ok(())
+    all_go(&rt, rows())
 }

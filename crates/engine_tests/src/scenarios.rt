@@ -1,9 +1,9 @@
 //! The scenarios of the Rust crate that need no running thread, under their names there.
-use super::act::{Act, Row, wrong_place};
+use super::act::{Act, Row, all_go};
 use super::asked::Given;
 use super::message::To;
-use super::node::Metric;
-use broadcast_engine::buffered::metrics::Status;
+use super::world::Metric;
+use broadcast_engine::buffered::Status;
 use std::test::Fail;
 
 static ROWS: [Row; 17] = [
@@ -297,9 +297,5 @@ fn rows() -> &'static [Row] {
 
 #[test]
 fn nodes_do_what_the_rust_crate_does(rt: HostRuntime) -> Result<(), Fail> {
-    for row in rows() {
-        let wrong = wrong_place(&rt, rt.alloc(), row)?;
-        assert!(rt; wrong.is_none(), "{}: {wrong:?}", row.name);
-    }
-    Ok(())
+    all_go(&rt, rows())
 }

@@ -1,8 +1,8 @@
 //! A pending engine is woken by each source that it waits for.
-use super::act::{Act, Row, wrong_place};
+use super::act::{Act, Row, all_go};
 use super::message::To;
 use broadcast_core::Outcome;
-use broadcast_engine::buffered::engine::{EndCause, Turn};
+use broadcast_engine::buffered::{EndCause, Turn};
 use std::test::Fail;
 
 static ROWS: [Row; 4] = [
@@ -119,9 +119,5 @@ fn rows() -> &'static [Row] {
 
 #[test]
 fn each_source_wakes_a_pending_engine(rt: HostRuntime) -> Result<(), Fail> {
-    for row in rows() {
-        let wrong = wrong_place(&rt, rt.alloc(), row)?;
-        assert!(rt; wrong.is_none(), "{}: {wrong:?}", row.name);
-    }
-    Ok(())
+    all_go(&rt, rows())
 }

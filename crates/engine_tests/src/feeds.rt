@@ -1,0 +1,69 @@
+//! The providers and the jobs of nodes with the keys from 1.
+use super::job::Gate;
+use super::message::peers;
+use super::peers::Feed;
+use super::wires::place;
+use std::alloc::{AllocError, Global};
+use std::rc::Rc;
+
+/// What feeds one node.
+#[derive(Drop)]
+pub struct Source {
+    pub feed: Rc<Feed>,
+    pub gate: Rc<Gate>,
+}
+
+impl Source {
+    /// Creates what feeds one node.
+    pub fn new(alloc: Global) -> Result<Self, AllocError> {
+        let feed = Feed::new(alloc)?;
+        let gate = Gate::new(alloc)?;
+        Ok(Source { feed, gate })
+    }
+}
+
+/// What feeds each node, in the order of the keys.
+#[derive(Drop)]
+pub struct Feeds(pub Vec<Source>);
+
+impl Feeds {
+    /// Gives the node a peer set. Returns whether there is such a node.
+    pub fn track(&self, alloc: Global, key: u64, keys: &[u64]) -> Result<bool, AllocError> {
+        let peers = peers(alloc, keys)?;
+        let Some(source) = self.0.get(place(key)) else {
+            return Ok(false);
+        };
+        source.feed.give(peers);
+        Ok(true)
+    }
+
+    /// Gives all nodes the peer set.
+    pub fn track_all(&self, alloc: Global, keys: &[u64]) -> Result<(), AllocError> {
+        for source in &self.0 {
+            source.feed.give(peers(alloc, keys)?);
+        }
+        Ok(())
+    }
+
+    /// Gives the node no more peer sets. Returns whether there is such a node.
+    pub fn end_peers(&self, key: u64) -> bool {
+        match self.0.get(place(key)) {
+            Some(source) => {
+                source.feed.end();
+                true
+            }
+            None => false,
+        }
+    }
+
+    /// Lets the node's jobs be pending this many times. Returns whether there is such a node.
+    pub fn hold(&self, key: u64, polls: u64) -> bool {
+        match self.0.get(place(key)) {
+            Some(source) => {
+                source.gate.hold(polls);
+                true
+            }
+            None => false,
+        }
+    }
+}
