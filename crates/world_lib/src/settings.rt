@@ -68,12 +68,7 @@ impl Settings {
     }
 
     /// Returns the settings of a size, nodes and hostile keys.
-    fn read(
-        alloc: Global,
-        size: &[u8],
-        nodes: &[u8],
-        hostile: &[u8],
-    ) -> Result<Settings, LineError>
+    fn read(alloc: Global, size: &[u8], nodes: &[u8], hostile: &[u8]) -> Result<Settings, LineError>
         ensures size { IfOk result (λ it. size.now ≡ decimal it.deque_size) }
         ensures nodes { IfOk result (λ it. IsKeys nodes.now it.nodes) }
         ensures hostile { IfOk result (λ it. IsHostile hostile.now it.hostile) }
