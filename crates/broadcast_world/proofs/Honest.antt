@@ -1,18 +1,17 @@
 -- What hostile steps leave as it is.
-use Rattle.std.proofs.Common.{◌≡◌, ℕ, Bool, true, false, not, ◌||◌, List, [], ◌∷◌, ◌++◌, map, filter, Option, Some, None, Result, Ok, Err, ◌⊎◌, inl, inr, refl, sym, ap, ◌∙◌, subst, append-nil}
+use Rattle.std.proofs.Common.{◌≡◌, ℕ, Bool, true, false, List, [], ◌∷◌, ◌++◌, map, Option, Some, None, Result, Ok, Err, ◌⊎◌, inl, inr, refl, sym, ap, ◌∙◌, subst, append-nil}
 use Rattle.std.specs.List.{list_any}
 use Rattle.std.specs.Option.{option_map}
-use Rattle.std.specs.Prelude.{IsTrue}
 use Rattle.std.specs.Cmp.{IsEquivalence, IsTotalOrder, eq_by_cmp_equiv}
 use Rattle.std.specs.Ordering.{eq_by_cmp}
 use Rattle.std.specs.declared.cmp.Ordering.{Ordering}
 use Rattle.broadcast_core.proofs.Distinct.{by_test, or_false}
 use Rattle.broadcast_core.proofs.Concerning.{list-same}
 use Rattle.broadcast_core.specs.Carried.{Carried}
-use Rattle.broadcast_core.specs.Concerns.{Concern, peer_set, digest, concerns}
+use Rattle.broadcast_core.specs.Concerns.{peer_set, digest, concerns}
 use Rattle.broadcast_core.specs.Setting.{own_digested}
 use Rattle.broadcast_core.specs.Happening.{broadcast, taken, arrival}
-use Rattle.broadcast_core.specs.Lists.{digest_under, list}
+use Rattle.broadcast_core.specs.Lists.{digest_under}
 use Rattle.broadcast_core.specs.Codec.{whole}
 use Rattle.broadcast_core.specs.TestMessage.{Parts, encoding_of, read_message}
 use Rattle.broadcast_core.specs.Log.{after, arrived, is_refused}
@@ -24,9 +23,9 @@ use Rattle.broadcast_core.specs.declared.event.Event.TheVariants as event
 use Rattle.broadcast_core.specs.declared.event.Answer.{Answer}
 use Rattle.broadcast_world.specs.Packet.{Packet}
 use Rattle.broadcast_world.specs.Scene.{Scene, State}
-use Rattle.broadcast_world.specs.World.{Log, log_of, NodeEvent, NodeHistory, NodeMayAnswer, IsAnswer, AreAnswered, MayAnswer, accepted, at, event_at, event_of, history, history_with, made_by, node, packets, packets_by, unless_refused}
+use Rattle.broadcast_world.specs.World.{Log, log_of, NodeEvent, NodeHistory, NodeMayAnswer, IsAnswer, AreAnswered, MayAnswer, accepted, at, event_of, history, history_with, made_by, node, packets, unless_refused}
 use Rattle.broadcast_world.specs.Steps.{HasWorld, TakesSteps}
-use Rattle.broadcast_world.specs.TwoRuns.{IsRun, is_hostile, without_hostile, refused_for_memory, NoneRefused, IsMoment, Corresponds, HasHonestLists}
+use Rattle.broadcast_world.specs.TwoRuns.{IsRun, is_hostile, without_hostile, refused_for_memory, NoneRefused, Corresponds, HasHonestLists}
 use Rattle.broadcast_world.proofs.Origins.{any-equal}
 use Rattle.broadcast_world.specs.declared.step.Step.{Step}
 use Rattle.broadcast_world.specs.declared.step.Step.TheVariants.{Peers, Broadcast, Subscribe, Get, Cleanup, Deliver, Hostile}

@@ -1,4 +1,5 @@
-//! The program `world`: takes the steps of a file in a world of nodes, and prints their answers.
+//! The program `world`: takes the steps of a file in a world of nodes, with and without its hostile
+//! ones, and prints their answers.
 #![tactic(auto)]
 
 mod line;
@@ -6,11 +7,12 @@ mod report;
 mod settings;
 mod steps;
 
+use broadcast_core::RangeCfg;
 use broadcast_text::fault::Fault;
-use broadcast_world::{World, WorldLog, run_world};
-use report::{lists_of, write_report};
-use settings::parse_world;
+use broadcast_world::{Comparison, Step, compare};
+use report::{part_of, write_part};
 pub use settings::read_arguments;
+use settings::{Settings, world_fault};
 use std::alloc::Global;
 use std::io::{BufWriter, Read, Write};
 use steps::read_steps;
@@ -40,27 +42,40 @@ fn simulate<R: Read + Drop, W: Write + Drop>(
     reader: R,
     out: W,
 ) -> Result<(), Fault> {
-    let mut world = parse_world(alloc, words)?;
+    let settings = Settings::parse(alloc, words)?;
+    if settings.share_key() {
+        return Err(Fault::SharedKey);
+    }
     let steps = read_steps(alloc, reader)?;
-    let log = run_world(alloc, &mut world, &steps)?;
-    print(alloc, &world, &log, out)
+    print(alloc, &run_both(alloc, settings, &steps)?, out)
+}
+
+/// Runs the steps with and without the hostile ones.
+fn run_both(
+    alloc: Global,
+    settings: Settings,
+    steps: &[Step<u64>],
+) -> Result<Comparison<u64>, Fault> {
+    let Settings {
+        deque_size,
+        nodes,
+        hostile,
+    } = settings;
+    let (nodes, hostile) = (nodes.into_vec(), hostile.into_vec());
+    let range = RangeCfg::any();
+    compare(alloc, nodes, hostile, deque_size, range, steps).map_err(world_fault)
 }
 
 /// Prints the report. All allocations come before the first line, so that a refused one prints
 /// nothing.
-fn print<W: Write + Drop>(
-    alloc: Global,
-    world: &World<u64>,
-    log: &WorldLog,
-    out: W,
-) -> Result<(), Fault> {
-    let lists = lists_of(alloc, world)?;
+fn print<W: Write + Drop>(alloc: Global, both: &Comparison<u64>, out: W) -> Result<(), Fault> {
+    let with = part_of(alloc, "with", &both.with_log, &both.with_world)?;
+    let without = part_of(alloc, "without", &both.without_log, &both.without_world)?;
     let Ok(mut out) = BufWriter::with_capacity(alloc, BUFFER_LEN, out) else {
         return Err(Fault::Memory);
     };
-    let written = write_report(&mut out, log.answers.as_slice(), &lists);
-    if written.is_err() || out.flush().is_err() {
+    if write_part(&mut out, &with).is_err() || write_part(&mut out, &without).is_err() {
         return Err(Fault::Write);
     }
-    Ok(())
+    out.flush().map_err(|_| Fault::Write)
 }

@@ -2,20 +2,42 @@
 use broadcast_core::{Core, TestMessage};
 use broadcast_text::answer::write_answer;
 use broadcast_text::byte_list::write_spaced;
-use broadcast_world::{World, WorldAnswer};
+use broadcast_world::{World, WorldAnswer, WorldLog};
 use std::alloc::{AllocError, Global};
 use std::io::{self, Write};
 
 /// The messages of a node's list for a peer, newest first.
 #[derive(Drop)]
-pub struct NodeList<'a> {
+struct NodeList<'a> {
     node: u64,
     peer: u64,
     messages: Vec<&'a TestMessage>,
 }
 
+/// What is printed of one run.
+#[derive(Drop)]
+pub struct Part<'a> {
+    title: &'static str,
+    answers: &'a [WorldAnswer],
+    lists: Vec<NodeList<'a>>,
+}
+
+/// Returns what is printed of the run under the title.
+pub fn part_of<'a>(
+    alloc: Global,
+    title: &'static str,
+    log: &'a WorldLog,
+    world: &'a World<u64>,
+) -> Result<Part<'a>, AllocError> {
+    Ok(Part {
+        title,
+        answers: log.answers.as_slice(),
+        lists: lists_of(alloc, world)?,
+    })
+}
+
 /// Returns the lists that are not empty, in ascending order of nodes and then of peers.
-pub fn lists_of<'a>(alloc: Global, world: &'a World<u64>) -> Result<Vec<NodeList<'a>>, AllocError> {
+fn lists_of<'a>(alloc: Global, world: &'a World<u64>) -> Result<Vec<NodeList<'a>>, AllocError> {
     let mut lists = Vec::new(alloc);
     for node in world.nodes().as_slice() {
         if let Some(core) = world.core(node) {
@@ -75,17 +97,13 @@ fn messages_of<'a>(
     Ok(messages)
 }
 
-/// Writes the answers and the lists.
-pub fn write_report<W: Write>(
-    out: &mut W,
-    answers: &[WorldAnswer],
-    lists: &[NodeList<'_>],
-) -> io::Result<()> {
-    out.write_all(b"with\n")?;
-    for answer in answers {
+/// Writes the title, the answers and the lists.
+pub fn write_part<W: Write>(out: &mut W, part: &Part<'_>) -> io::Result<()> {
+    writeln!(out, "{}", part.title)?;
+    for answer in part.answers {
         write_step(out, answer)?;
     }
-    for list in lists {
+    for list in &part.lists {
         write_list(out, list)?;
     }
     Ok(())

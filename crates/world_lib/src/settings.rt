@@ -1,38 +1,106 @@
 //! The arguments of the program.
-ghost use Rattle.std.specs.Prelude.{◌≡◌};
+ghost use Rattle.std.specs.Prelude.{◌≡◌, ◌<◌, ◌^◌, ℕ, List, IfOk, IfErr, map, string_bytes};
+ghost use Rattle.std.specs.Fmt.{decimal};
+ghost use Rattle.std.specs.Ordering.{nat_cmp};
+ghost use Rattle.broadcast_text.specs.Recipients.{AreNumbers, IsKeys};
+ghost use Rattle.broadcast_world.specs.Made.{shares_key};
+ghost use Rattle.world_lib.specs.Arguments.{Arguments, HasArguments, IsHostile};
 
-use broadcast_core::RangeCfg;
+use broadcast_core::Items;
 use broadcast_text::fault::Fault;
 use broadcast_text::line_error::LineError;
 use broadcast_text::recipients::parse_keys;
 use broadcast_text::words::expect_number;
-use broadcast_world::{World, WorldError};
+use broadcast_world::{WorldError, shares_key};
 use std::alloc::Global;
 use std::env;
 use std::io::ErrorKind;
+use std::marker::Model;
 use std::rt::Env;
 
 /// The usage line.
 pub const USAGE: &str = "usage: world SIZE NODES HOSTILE";
 
-/// Returns a world of the words `SIZE NODES HOSTILE`.
-///
-/// # Errors
-///
-/// Fails with [`Fault::Usage`] for any other words, with [`Fault::SharedKey`] if a key is twice a
-/// node, or a node and hostile, and with [`Fault::Memory`] if an allocation fails.
-pub fn parse_world(alloc: Global, words: &[String]) -> Result<World<u64>, Fault> {
-    let [size, nodes, hostile] = words else {
-        return Err(Fault::Usage(USAGE));
-    };
-    let deque_size = expect_number(size.as_bytes()).map_err(argument_fault)? as usize;
-    let nodes = parse_keys(alloc, nodes.as_bytes()).map_err(argument_fault)?;
-    let hostile = parse_hostile(alloc, hostile.as_bytes()).map_err(argument_fault)?;
-    World::new(alloc, nodes, hostile, deque_size, RangeCfg::any()).map_err(world_fault)
+/// The settings of a run.
+#[derive(Drop)]
+pub struct Settings {
+    /// The greatest number of digests in a list.
+    pub deque_size: usize,
+    /// The keys of the nodes.
+    pub nodes: Items<u64>,
+    /// The hostile keys.
+    pub hostile: Items<u64>,
+}
+
+impl Model for Settings {
+    ghost use Rattle.world_lib.specs.Arguments.{Arguments};
+
+    ghost Value = { Arguments };
+
+    ghost view = { λ it. record {
+      deque_size = it.deque_size;
+      nodes = it.nodes;
+      hostile = it.hostile;
+    } };
+}
+
+impl Settings {
+    /// Returns the settings of the words `SIZE NODES HOSTILE`.
+    ///
+    /// # Errors
+    ///
+    /// Fails with [`Fault::Usage`] for any other words, and with [`Fault::Memory`] if an allocation
+    /// fails.
+    pub fn parse(alloc: Global, words: &[String]) -> Result<Settings, Fault>
+        ensures spelled_so { IfOk result (HasArguments (map string_bytes words.now)) }
+        ensures reads_all_arguments { (it : Arguments) → it.deque_size < 2 ^ 64
+            → AreNumbers it.nodes → AreNumbers it.hostile
+            → HasArguments (map string_bytes words.now) it
+            → IfErr result (λ fault. fault ≡ Fault.Memory) }
+    {
+        let [size, nodes, hostile] = words else {
+            return Err(Fault::Usage(USAGE));
+        };
+        match Settings::read(alloc, size.as_bytes(), nodes.as_bytes(), hostile.as_bytes()) {
+            Ok(settings) => Ok(settings),
+            Err(error) => Err(argument_fault(error)),
+        }
+    }
+
+    /// Returns the settings of a size, nodes and hostile keys.
+    fn read(alloc: Global, size: &[u8], nodes: &[u8], hostile: &[u8]) -> Result<Settings, LineError>
+        ensures size { IfOk result (λ it. size.now ≡ decimal it.deque_size) }
+        ensures nodes { IfOk result (λ it. IsKeys nodes.now it.nodes) }
+        ensures hostile { IfOk result (λ it. IsHostile hostile.now it.hostile) }
+        ensures reads_all_arguments { (it : Arguments) → it.deque_size < 2 ^ 64
+            → AreNumbers it.nodes → AreNumbers it.hostile → size.now ≡ decimal it.deque_size
+            → IsKeys nodes.now it.nodes → IsHostile hostile.now it.hostile
+            → IfErr result (λ e. e ≡ LineError.Memory) }
+    {
+        let deque_size = expect_number(size)? as usize;
+        let nodes = parse_keys(alloc, nodes)?;
+        let hostile = parse_hostile(alloc, hostile)?;
+        Ok(Settings {
+            deque_size,
+            nodes: Items::from_vec(nodes),
+            hostile: Items::from_vec(hostile),
+        })
+    }
+
+    /// Returns whether a key is twice a node, or a node and hostile. Does not allocate.
+    pub fn share_key(&self) -> bool
+        ensures { result ≡ shares_key nat_cmp self.now.nodes self.now.hostile }
+    {
+        shares_key(self.nodes.as_slice(), self.hostile.as_slice())
+    }
 }
 
 /// Returns the keys with commas between, or none for `-`.
-fn parse_hostile(alloc: Global, word: &[u8]) -> Result<Vec<u64>, LineError> {
+fn parse_hostile(alloc: Global, word: &[u8]) -> Result<Vec<u64>, LineError>
+    ensures spelled_so { IfOk result (λ keys. IsHostile word.now keys.items) }
+    ensures reads_all_keys { (keys : List ℕ) → AreNumbers keys → IsHostile word.now keys
+        → IfErr result (λ e. e ≡ LineError.Memory) }
+{
     if word == b"-".as_slice() {
         return Ok(Vec::new(alloc));
     }
@@ -49,8 +117,8 @@ fn argument_fault(error: LineError) -> Fault
     }
 }
 
-/// Returns the fault of a world that was not made.
-fn world_fault(error: WorldError) -> Fault
+/// Returns the fault of worlds that were not made.
+pub fn world_fault(error: WorldError) -> Fault
     ensures shared_key { error ≡ WorldError.SharedKey → result ≡ Fault.SharedKey }
     ensures allocation_failed { error ≡ WorldError.Memory → result ≡ Fault.Memory }
 {

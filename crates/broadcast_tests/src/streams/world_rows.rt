@@ -6,7 +6,8 @@ const FAULTY: &[u8] = b"peer 1 2\nbroadcast 1 all - 61\ndeliver 0\n";
 
 const STEPS: &[u8] = b"peers 2 1 2\nbroadcast 1 all - 61\ndeliver 0\nget 2 1 61\ndeliver 1\n";
 
-const ANSWERS: &[u8] = b"with\nok\nineligible\ninserted\nfound - 61\nnosuch\nnode 2 list 1 61\n";
+const ANSWERS: &[u8] = b"with\nok\nineligible\ninserted\nfound - 61\nnosuch\nnode 2 list 1 61\n\
+    without\nok\nineligible\ninserted\nfound - 61\nnosuch\nnode 2 list 1 61\n";
 
 static ROWS: [Row; 8] = [
     Row {
@@ -67,7 +68,7 @@ static ROWS: [Row; 8] = [
         step: 10,
         failure: ErrorKind::Other,
         calls: 0,
-        runs: 7,
+        runs: 13,
         program: Program::World,
         input: STEPS,
         output: ANSWERS,
@@ -79,7 +80,7 @@ static ROWS: [Row; 8] = [
         stream: Stream::Output,
         step: 10,
         failure: ErrorKind::Other,
-        calls: 7,
+        calls: 13,
         runs: 2,
         program: Program::World,
         input: STEPS,

@@ -1,4 +1,4 @@
-use Rattle.std.proofs.Common.{◌≡◌, [], sym, ◌∙◌, subst}
+use Rattle.std.proofs.Common.{[], sym, ◌∙◌, subst}
 use Rattle.broadcast_world.specs.World.{log_of, AreAnswered}
 use Rattle.broadcast_world.specs.TwoRuns.{without_hostile}
 use Rattle.broadcast_world.proofs.Honest.{HasHonestLists-from, IsRun-from}

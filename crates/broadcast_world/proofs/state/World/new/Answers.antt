@@ -1,12 +1,10 @@
-use Rattle.std.proofs.Common.{length, sym, ap, ◌∙◌, subst}
+use Rattle.std.proofs.Common.{sym, ap, ◌∙◌}
 use Rattle.std.specs.List.{list_any}
 use Rattle.std.specs.Cmp.{eq_by_cmp_equiv}
 use Rattle.std.specs.Ordering.{eq_by_cmp}
 use Rattle.broadcast_core.proofs.Distinct.{or_false}
-use Rattle.broadcast_world.specs.Scene.{Scene}
-use Rattle.broadcast_world.specs.Made.{AreEmpty, shares_key}
-use Rattle.broadcast_world.proofs.Places.{AllZip-length, keys-apart}
-use Rattle.broadcast_world.proofs.OneNode.{contents-empty}
+use Rattle.broadcast_world.specs.Made.{shares_key}
+use Rattle.broadcast_world.proofs.Places.{keys-apart}
 use Rattle.broadcast_world.proofs.state.World.new.Goals as goal
 
 pub returns-clause-apart : goal.returns-clause-apart
