@@ -1,7 +1,7 @@
 use Rattle.std.proofs.Common.{sym, ap, ◌∙◌}
 use Rattle.std.specs.Cmp.{eq_by_cmp_equiv}
 use Rattle.std.specs.Option.{option_copied_mut}
-use Rattle.broadcast_core.proofs.Deques.{none_from_not_some}
+use Rattle.broadcast_core.proofs.Entries.{none_from_not_some}
 use Rattle.broadcast_engine.proofs.PeerCounts.{counted-first}
 use Rattle.broadcast_engine.proofs.buffered.metrics.count_key.Goals as goal
 
