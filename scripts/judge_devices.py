@@ -12,9 +12,16 @@ class Judge:
     def __init__(self, row):
         self.right = row
 
+    def ample_fault(self, ran):
+        """What is wrong with a run in which nothing goes wrong, or `None`."""
+        # A call that is not seen would never go wrong.
+        if not ran.writes or not (ran.reads or self.right.status):
+            return f"{ran.reads} reads and {ran.writes} writes are seen"
+        return self.difference(ran, self.right.stdout, self.right.stderr, self.right.status)
+
     def fault(self, ran, failed):
         """What is wrong with a run with this read or write, or `None`."""
-        if failed is None or failed.failure != "fails":
+        if failed.failure != "fails":
             return self.difference(ran, self.right.stdout, self.right.stderr, self.right.status)
         if failed.call == "read":
             return self.difference(ran, b"", READ_FAILED, 3)

@@ -140,16 +140,13 @@ fn make<R: Wait + Clone + Send + Drop + 'static, W: Write>(
 ) {
     match call {
         Ready::Broadcast(message) => {
-            write_told(
-                out,
-                "broadcast ",
-                mailbox.broadcast(Recipients::All, message),
-            );
+            let told = mailbox.broadcast(Recipients::All, message);
+            write_told(out, "broadcast", told);
         }
         Ready::Subscribe(content) => {
-            write_told(out, "subscribe ", subscribe(mailbox, held, content));
+            write_told(out, "subscribe", subscribe(mailbox, held, content));
         }
-        Ready::Get(content) => write_told(out, "get ", get(mailbox, held, content)),
+        Ready::Get(content) => write_told(out, "get", get(mailbox, held, content)),
         Ready::Clone => write_clone(out, mailbox.clone()),
         Ready::Take => write_taken(out, ingress.take()),
         Ready::Close => {
@@ -161,6 +158,7 @@ fn make<R: Wait + Clone + Send + Drop + 'static, W: Write>(
 
 fn write_told<W: Write>(out: &mut Printer<W>, call: &str, told: Result<Feedback, MailboxError>) {
     out.text(call);
+    out.text(" ");
     out.line(word_of(told));
 }
 
