@@ -1,7 +1,12 @@
 //! A started engine.
-use crate::buffered::engine::Report;
-use broadcast_core::{Digestible, PublicKey};
+use crate::buffered::engine::{Report, StartError, make_ready, run, spawn};
+use crate::buffered::front::MailboxEngine;
+use crate::buffered::network::{Provider, Receiver, Sender};
+use crate::buffered::strategy::Strategy;
+use broadcast_core::{Codec, Digestible, PublicKey};
 use commonware_broadcast::buffered::{Incoming, Stopper};
+use std::alloc::AllocGlobal;
+use std::random::RandomSource;
 use std::sync::Wait;
 use std::thread::{JoinHandle, Threads};
 
@@ -29,5 +34,35 @@ impl<P: PublicKey, M: Digestible, R: Threads + Wait + Drop> Handle<P, M, R> {
         let report = thread.join(rt);
         drop(stopper);
         report
+    }
+}
+
+impl<M, B, R, T> MailboxEngine<u64, M, B, T, R>
+where
+    M: Digestible + Codec + Send + Sync + 'static,
+    M::Digest: 'static,
+    M::Cfg: Send + Drop + 'static,
+    B: Provider<u64> + Send + Drop + 'static,
+    R: Threads + Wait + RandomSource + AllocGlobal + Clone + Send + Sync + Drop + 'static,
+    T: Strategy<M> + Send + Drop + 'static,
+{
+    /// Starts the engine in a thread of its own, where it runs until it ends. A job that is pending
+    /// is finished before.
+    ///
+    /// After an error the engine is given up, and its mailbox is closed.
+    pub fn start<N, V>(self, rt: &R, network: (N, V)) -> Result<Handle<u64, M, R>, StartError>
+    where
+        T::Job: Send + 'static,
+        N: Sender<u64> + Send + Drop + 'static,
+        V: Receiver<u64> + Send + Drop + 'static,
+    {
+        let Ok(stopper) = self.requests().stopper() else {
+            self.requests().close();
+            return Err(StartError::Memory);
+        };
+        let ready = make_ready(rt, self, network)?;
+        let work = move || run(ready);
+        let thread = spawn(rt, work, &stopper)?;
+        Ok(Handle { stopper, thread })
     }
 }
