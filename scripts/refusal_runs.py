@@ -1,13 +1,18 @@
 """Runs of a built program that is refused some growths of its heap, some reads or some writes."""
 
+import functools
+import multiprocessing
 import os
 import random
 import signal
 import struct
 import subprocess
 import tempfile
+from concurrent.futures import ProcessPoolExecutor
 from dataclasses import dataclass
 from pathlib import Path
+
+from programs import Tally, is_built
 
 HERE = Path(__file__).resolve().parent
 # Growths that are refused together, where a run refuses more than one and not all.
@@ -158,3 +163,22 @@ class Harness:
         stdout, stderr = (os.pread(it, os.fstat(it).st_size, 0) for it in self.streams)
         counts = struct.unpack("4Q", self.counts.read_bytes())
         return Ran(stdout, stderr, os.waitstatus_to_exitcode(ended), *counts)
+
+
+def tally_of(try_build, build):
+    """What one build of a program gives."""
+    program, executable = build
+    tally = Tally()
+    if is_built(executable):
+        with Harness() as harness:
+            try_build(program, executable, harness, tally)
+    else:
+        tally.add(0, 1)
+    return tally
+
+
+def try_all(try_build, builds, tally):
+    """Tries the builds side by side, each in a process of its own."""
+    with ProcessPoolExecutor(mp_context=multiprocessing.get_context("fork")) as pool:
+        for it in pool.map(functools.partial(tally_of, try_build), builds):
+            tally.add(it.passed, it.failed)
