@@ -11,7 +11,9 @@ use Rattle.broadcast_core.specs.Carried.{Carried}
 use Rattle.broadcast_core.specs.Concerns.{peer_set, digest, concerns}
 use Rattle.broadcast_core.specs.Setting.{own_digested}
 use Rattle.broadcast_core.specs.Happening.{broadcast, taken, arrival}
-use Rattle.broadcast_core.specs.Lists.{digest_under}
+use Rattle.broadcast_core.specs.Content.{among}
+use Rattle.broadcast_core.specs.Peers.{primary}
+use Rattle.broadcast_core.specs.Lists.{digest_under, list}
 use Rattle.broadcast_core.specs.Codec.{whole}
 use Rattle.broadcast_core.specs.TestMessage.{Parts, encoding_of, read_message}
 use Rattle.broadcast_core.specs.Log.{after, arrived, is_refused}
@@ -25,7 +27,7 @@ use Rattle.broadcast_world.specs.Packet.{Packet}
 use Rattle.broadcast_world.specs.Scene.{Scene, State}
 use Rattle.broadcast_world.specs.World.{Log, log_of, NodeEvent, NodeHistory, NodeMayAnswer, IsAnswer, AreAnswered, MayAnswer, accepted, at, event_of, history, history_with, made_by, node, packets, unless_refused}
 use Rattle.broadcast_world.specs.Steps.{HasWorld, TakesSteps}
-use Rattle.broadcast_world.specs.TwoRuns.{IsRun, is_hostile, without_hostile, refused_for_memory, NoneRefused, Corresponds, HasHonestLists}
+use Rattle.broadcast_world.specs.TwoRuns.{IsRun, is_hostile, without_hostile, refused_for_memory, NoneRefused, Corresponds, HasCleanDigests, HasHonestLists}
 use Rattle.broadcast_world.proofs.Origins.{any-equal}
 use Rattle.broadcast_world.specs.declared.step.Step.{Step}
 use Rattle.broadcast_world.specs.declared.step.Step.TheVariants.{Peers, Broadcast, Subscribe, Get, Cleanup, Deliver, Hostile}
@@ -90,6 +92,30 @@ module _ {P : Type 0} (cmp : P → P → Ordering) (w : Scene P) (n : P) where
   arrived_other p from (Ok m) past h = rw h refl
   arrived_other p from (Err why) past h = refl
 
+  -- nor does what it makes of the primary keys
+  arrived_primary : (from : P) (r : Result Parts CodecError) (past other : NodeHistory P) → primary (at cmp w n) past ≡ primary (at cmp w n) other
+      → primary (at cmp w n) (arrived (at cmp w n) from r past) ≡ primary (at cmp w n) (arrived (at cmp w n) from r other)
+  arrived_primary from (Ok m) past other h = h
+  arrived_primary from (Err why) past other h = h
+
+  after_primary : (e : NodeEvent P) (past other : NodeHistory P) → primary (at cmp w n) past ≡ primary (at cmp w n) other
+      → primary (at cmp w n) (after (at cmp w n) e past) ≡ primary (at cmp w n) (after (at cmp w n) e other)
+  after_primary (event.Peers ps) past other h = refl
+  after_primary (event.Broadcast r c) past other h = h
+  after_primary (event.Payload from b) past other h = arrived_primary from (whole (read_message w.range) b) past other h
+  after_primary (event.Subscribe k d) past other h = h
+  after_primary (event.Get k d) past other h = h
+  after_primary (event.Cleanup gone) past other h = h
+
+  arrived_same : (from : P) (r : Result Parts CodecError) (past : NodeHistory P) → primary (at cmp w n) (arrived (at cmp w n) from r past) ≡ primary (at cmp w n) past
+  arrived_same from (Ok m) past = refl
+  arrived_same from (Err why) past = refl
+
+-- tests that agree where another fails
+any-where : {X : Type 0} (other f g : X → Bool) (xs : List X) → list_any other xs ≡ false → ((x : X) → other x ≡ false → f x ≡ g x) → list_any f xs ≡ list_any g xs
+any-where other f g [] none h = refl
+any-where other f g (x ∷ xs) none h = let both = or_false (other x) (list_any other xs) none in rw (h x both.0, any-where other f g xs both.1 h) refl
+
 -- a key that is in a list differs from one that is not
 differs : {P : Type 0} (same : P → P → Bool) (laws : IsEquivalence same) (p q : P) (keys : List P) → list_any (same p) keys ≡ false → list_any (same q) keys ≡ true → same p q ≡ false
 differs same laws p q keys none some = by_test (same p q)
@@ -100,6 +126,7 @@ module _ {P : Type 0} (cmp : P → P → Ordering) (total : IsTotalOrder cmp) (w
   -- the packets of two logs are the same, and what concerns a key that is not hostile
   record SameSoFar (now clean : Log P) : Type 0 where
     packets : packets cmp w now ≡ packets cmp w clean
+    primary : (n : P) → primary (at cmp w n) (history cmp w n now) ≡ primary (at cmp w n) (history cmp w n clean)
     concerns : (n p : P) → list_any (eq_by_cmp cmp p) w.hostile ≡ false → concerns (at cmp w n) p (history cmp w n now) ≡ concerns (at cmp w n) p (history cmp w n clean)
 
   -- no event, or a payload of a hostile key
@@ -137,11 +164,18 @@ module _ {P : Type 0} (cmp : P → P → Ordering) (total : IsTotalOrder cmp) (w
       (λ t. rw t (arrived_other cmp w n p it.1 (whole (read_message w.range) it.2) past (differs (eq_by_cmp cmp) (eq_by_cmp_equiv total) p it.1 w.hostile h it.4)))
       (λ t. rw t refl)
 
+  attack_primary : (e : Option (P × NodeEvent P)) → IsAttack e → (n : P) (past : NodeHistory P) → primary (at cmp w n) (history_with cmp w n e past) ≡ primary (at cmp w n) past
+  attack_primary e (inl none) n past = ap (λ o. primary (at cmp w n) (history_with cmp w n o past)) none
+  attack_primary e (inr it) n past = ap (λ o. primary (at cmp w n) (history_with cmp w n o past)) it.3 ∙ by_test (eq_by_cmp cmp n it.0)
+      (λ t. rw t (arrived_same cmp w n it.1 (whole (read_message w.range) it.2) past))
+      (λ t. rw t refl)
+
   hostile_step : (x : Step P × WorldAnswer) (now clean : Log P) → is_hostile x.0 ≡ true → SameSoFar now clean → SameSoFar (x ∷ now) clean
   hostile_step x now clean h same =
       let it = attack_accepted x.1 (event_of cmp w x.0 (packets cmp w now)) (attack x.0 (packets cmp w now) h) in
       record {
         packets = ap (λ ps. packets cmp w now ++ ps) (attack_packets (accepted cmp w x now) it) ∙ append-nil (packets cmp w now) ∙ same.packets;
+        primary = λ n. attack_primary (accepted cmp w x now) it n (history cmp w n now) ∙ same.primary n;
         concerns = λ n p none. attack_concerns (accepted cmp w x now) it n p (history cmp w n now) none ∙ same.concerns n p none;
       }
 
@@ -162,6 +196,13 @@ module _ {P : Type 0} (cmp : P → P → Ordering) (total : IsTotalOrder cmp) (w
       (λ t. rw t (after_concerns cmp w n p e.1 past other h))
       (λ t. rw t h)
 
+  primary_with : (n : P) (e : Option (P × NodeEvent P)) (past other : NodeHistory P) → primary (at cmp w n) past ≡ primary (at cmp w n) other
+      → primary (at cmp w n) (history_with cmp w n e past) ≡ primary (at cmp w n) (history_with cmp w n e other)
+  primary_with n None past other h = h
+  primary_with n (Some e) past other h = by_test (eq_by_cmp cmp n e.0)
+      (λ t. rw t (after_primary cmp w n e.1 past other h))
+      (λ t. rw t h)
+
   honest_step : (x y : Step P × WorldAnswer) (now clean : Log P) → x.0 ≡ y.0 → MayAnswer cmp w x now → MayAnswer cmp w y clean → refused_for_memory x.1 ≡ false → refused_for_memory y.1 ≡ false
       → SameSoFar now clean → SameSoFar (x ∷ now) (y ∷ clean)
   honest_step x y now clean is may may_y none none_y same =
@@ -171,6 +212,7 @@ module _ {P : Type 0} (cmp : P → P → Ordering) (total : IsTotalOrder cmp) (w
       ∙ ap (unless_refused cmp w y.1) (sym one) in
       record {
         packets = ap (λ ps. ps ++ made_by cmp w (accepted cmp w x now)) same.packets ∙ ap (λ e. packets cmp w clean ++ made_by cmp w e) both;
+        primary = λ n. ap (λ e. primary (at cmp w n) (history_with cmp w n e (history cmp w n now))) both ∙ primary_with n (accepted cmp w y clean) (history cmp w n now) (history cmp w n clean) (same.primary n);
         concerns = λ n p h. ap (λ e. concerns (at cmp w n) p (history_with cmp w n e (history cmp w n now))) both ∙ concerns_with n p (accepted cmp w y clean) (history cmp w n now) (history cmp w n clean) (same.concerns n p h);
       }
 
@@ -191,7 +233,7 @@ module _ {P : Type 0} (cmp : P → P → Ordering) (total : IsTotalOrder cmp) (w
       (so_far clean may_clean.1 both_clean.1 rest)
 
   same_so_far : (now clean : Log P) → AreAnswered cmp w now [] → AreAnswered cmp w clean [] → NoneRefused now → NoneRefused clean → Corresponds now clean → SameSoFar now clean
-  same_so_far [] [] may may_clean none none_clean is = record { packets = refl; concerns = λ n p h. refl }
+  same_so_far [] [] may may_clean none none_clean is = record { packets = refl; primary = λ n. refl; concerns = λ n p h. refl }
   same_so_far [] (y ∷ clean) may may_clean none none_clean is = absurd (let no = is in cc)
   same_so_far (x ∷ now) clean may may_clean none none_clean is =
       let both = or_false (refused_for_memory x.1) (list_any (λ z. refused_for_memory z.1) now) none in
@@ -225,3 +267,14 @@ HasHonestLists-from cmp total w log clean_log may may_clean = λ now clean momen
     (answered-until cmp w moment.0 now (subst (λ l. AreAnswered cmp w l []) moment.1 may))
     (answered-until cmp w clean_moment.0 clean (subst (λ l. AreAnswered cmp w l []) clean_moment.1 may_clean)) none none_clean is in
     list-same (at cmp w n) (at cmp w n) refl refl p p (history cmp w n clean) (history cmp w n now) (so_far.concerns n p h)
+
+pub HasCleanDigests-from : {P : Type 0} (cmp : P → P → Ordering) (total : IsTotalOrder cmp) (w : Scene P) (log clean_log : Log P) → AreAnswered cmp w log [] → AreAnswered cmp w clean_log []
+    → HasCleanDigests cmp w log clean_log
+HasCleanDigests-from cmp total w log clean_log may may_clean = λ now clean moment clean_moment is none none_clean n admits d.
+    let so_far = same_so_far cmp total w now clean
+    (answered-until cmp w moment.0 now (subst (λ l. AreAnswered cmp w l []) moment.1 may))
+    (answered-until cmp w clean_moment.0 clean (subst (λ l. AreAnswered cmp w l []) clean_moment.1 may_clean)) none none_clean is in
+    let s = at cmp w n in
+    any-where (λ p. list_any (eq_by_cmp cmp p) w.hostile) (λ p. among s.same.digest d (list s p (history cmp w n now))) (λ p. among s.same.digest d (list s p (history cmp w n clean)))
+    (primary s (history cmp w n now)) admits (λ p h. ap (among s.same.digest d) (list-same s s refl refl p p (history cmp w n clean) (history cmp w n now) (so_far.concerns n p h)))
+    ∙ ap (list_any (λ p. among s.same.digest d (list s p (history cmp w n clean)))) (so_far.primary n)

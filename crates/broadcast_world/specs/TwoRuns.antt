@@ -1,9 +1,11 @@
 -- Two runs: that of all steps, and the clean one, of the steps without the hostile ones.
-use Rattle.std.specs.Prelude.{◌≡◌, Bool, true, false, not, List, [], ◌++◌, length, map}
+use Rattle.std.specs.Prelude.{◌≡◌, ℕ, Bool, true, false, not, List, [], ◌++◌, length, map}
 use Rattle.std.specs.List.{filter, list_any}
 use Rattle.std.specs.Ordering.{eq_by_cmp}
 use Rattle.std.specs.declared.cmp.Ordering.{Ordering}
+use Rattle.broadcast_core.specs.Peers.{primary}
 use Rattle.broadcast_core.specs.Lists.{list}
+use Rattle.broadcast_core.specs.Cache.{is_listed}
 use Rattle.broadcast_core.specs.declared.event.Cause.TheVariants.{Memory}
 use Rattle.broadcast_core.specs.declared.event.Answer.TheVariants.{Refused}
 use Rattle.broadcast_world.specs.Scene.{Scene, State}
@@ -45,6 +47,16 @@ module _ {P : Type 0} (cmp : P → P → Ordering) where
     pub one_each : length answers ≡ length steps
     pub answered : AreAnswered cmp last.scene (log_of steps answers) []
     pub world : HasWorld cmp (log_of steps answers) last
+
+  -- at corresponding moments, until which neither run was refused for memory, a node with no
+  -- primary key that is hostile caches the digests that it caches in the clean run
+  abbrev pub HasCleanDigests : Scene P → Log P → Log P → Type 0
+  HasCleanDigests w log clean_log = (now clean : Log P) → IsMoment now log
+      → IsMoment clean clean_log → Corresponds now clean → NoneRefused now → NoneRefused clean
+      → (n : P) → list_any (λ p. list_any (eq_by_cmp cmp p) w.hostile)
+      (primary (at cmp w n) (history cmp w n now)) ≡ false
+      → (d : List ℕ) → is_listed (at cmp w n) d (history cmp w n now)
+      ≡ is_listed (at cmp w n) d (history cmp w n clean)
 
   -- at corresponding moments, until which neither run was refused for memory, each node's list for
   -- each key that is not hostile is that of the clean run

@@ -5,7 +5,7 @@ ghost use Rattle.std.specs.Ordering.{eq_by_cmp};
 ghost use Rattle.broadcast_world.specs.Made.{shares_key};
 ghost use Rattle.broadcast_world.specs.World.{Log, log_of};
 ghost use Rattle.broadcast_world.specs.Steps.{HasWorld, TakesSteps};
-ghost use Rattle.broadcast_world.specs.TwoRuns.{HasHonestLists, IsRun, without_hostile};
+ghost use Rattle.broadcast_world.specs.TwoRuns.{HasCleanDigests, HasHonestLists, IsRun, without_hostile};
 
 use crate::error::WorldError;
 use crate::run::run_world;
@@ -90,6 +90,9 @@ pub fn compare<P: PublicKey>(
     ensures without_run { IfOk result (λ both.
         IsRun P.cmp (without_hostile steps.now) both.without_log.answers both.without_world) }
     ensures honest_lists { IfOk result (λ both. HasHonestLists P.cmp both.with_world.scene
+        (log_of steps.now both.with_log.answers)
+        (log_of (without_hostile steps.now) both.without_log.answers)) }
+    ensures clean_digests { IfOk result (λ both. HasCleanDigests P.cmp both.with_world.scene
         (log_of steps.now both.with_log.answers)
         (log_of (without_hostile steps.now) both.without_log.answers)) }
 {
