@@ -5,7 +5,7 @@ use super::world::{Metric, Sizes, World};
 use broadcast_core::{RangeCfg, TestMessage};
 use broadcast_engine::buffered::Turn;
 use commonware_broadcast::Feedback;
-use std::alloc::AllocGlobal;
+use std::alloc::{AllocError, AllocGlobal};
 use std::io;
 use std::num::NonZeroUsize;
 use std::process::Abort;
@@ -113,6 +113,20 @@ where
     R: Wait + RandomSource + AllocGlobal + Clone + Send + Drop + 'static,
 {
     let mut world: World<M, R> = World::new(rt, rt.alloc(), sizes, codec_config)?;
+    Ok(wrong_place(rt, &mut world, acts)?)
+}
+
+/// Makes the actions, and returns the place of the first that does not go as it should.
+fn wrong_place<M, R>(
+    rt: &R,
+    world: &mut World<M, R>,
+    acts: &[Act],
+) -> Result<Option<usize>, AllocError>
+where
+    M: Letter,
+    M::Cfg: Copy + Drop,
+    R: Wait + RandomSource + AllocGlobal + Clone + Send + Drop + 'static,
+{
     for (place, act) in acts.iter().enumerate() {
         if !world.goes(rt, rt.alloc(), *act)? {
             return Ok(Some(place));

@@ -67,29 +67,44 @@ where
             feeds: Feeds(Vec::new(alloc)),
             wires: Wires::new(alloc, sizes.nodes)?,
         };
-        for key in 1..=sizes.nodes {
-            world.add(rt, alloc, key, sizes, codec_config)?;
-        }
+        world.add_all(rt, alloc, sizes, codec_config)?;
         Ok(world)
     }
 
-    /// Adds the node of the key. Its messages are sent as priority if its key is even.
+    /// Adds the nodes.
+    fn add_all(
+        &mut self,
+        rt: &R,
+        alloc: Global,
+        sizes: Sizes,
+        codec_config: M::Cfg,
+    ) -> io::Result<()> {
+        for key in 1..=sizes.nodes {
+            let source = Source::new(alloc)?;
+            let cfg = config(key, sizes, codec_config, &source)?;
+            self.feeds.0.push(source)?;
+            self.add(rt, alloc, cfg)?;
+        }
+        Ok(())
+    }
+
+    /// Adds a node. Its messages are sent as priority if its key is even.
     fn add(
         &mut self,
         rt: &R,
         alloc: Global,
-        key: u64,
-        sizes: Sizes,
-        codec_config: M::Cfg,
+        cfg: Config<u64, M::Cfg, Peers, Gated>,
     ) -> io::Result<()> {
-        let source = Source::new(alloc)?;
-        let cfg = config(key, sizes, codec_config, &source)?;
         let (engine, mailbox) = Engine::new(rt.clone()?, alloc, cfg)?;
         let stopper = engine.requests().stopper()?;
+        self.callers.callers.push(Caller { mailbox, stopper })?;
+        self.put(rt, engine)
+    }
+
+    /// Puts the engine behind the others, with a task of its own.
+    fn put(&mut self, rt: &R, engine: MailboxEngine<u64, M, Peers, Gated, R>) -> io::Result<()> {
         let task = Solo::new(rt, Doorbell::spinning())?;
         self.engines.push(Polled { engine, task })?;
-        self.callers.callers.push(Caller { mailbox, stopper })?;
-        self.feeds.0.push(source)?;
         Ok(())
     }
 
@@ -128,10 +143,7 @@ where
             Act::Poll(key, turn) => Ok(self.poll(alloc, place(key)) == turn),
             Act::Counts(key, metric, number) => Ok(self.count(place(key), metric) == Some(number)),
             Act::Woken(key, woken) => Ok(self.is_woken(place(key)) == Some(woken)),
-            Act::Finds(key, letter, found) => self.finds(rt, alloc, Act::Get(key, letter), found),
-            Act::Hears(key, letter, heard) => {
-                self.finds(rt, alloc, Act::Subscribe(key, letter), heard)
-            }
+            Act::Finds(..) | Act::Hears(..) => self.finds(rt, alloc, act),
             Act::AllTrack(keys) => {
                 self.feeds.track_all(alloc, keys)?;
                 self.run(alloc)
@@ -158,8 +170,13 @@ where
     }
 
     /// Asks, lets all nodes run, and returns whether a message came or not. The future is dropped.
-    fn finds(&mut self, rt: &R, alloc: Global, act: Act, found: bool) -> Result<bool, AllocError> {
-        let asked = self.callers.ask(alloc, act)?;
+    fn finds(&mut self, rt: &R, alloc: Global, act: Act) -> Result<bool, AllocError> {
+        let (asks, found) = match act {
+            Act::Finds(key, letter, found) => (Act::Get(key, letter), found),
+            Act::Hears(key, letter, heard) => (Act::Subscribe(key, letter), heard),
+            _ => (act, false),
+        };
+        let asked = self.callers.ask(alloc, asks)?;
         let ran = self.run(alloc)?;
         Ok(asked && ran && self.callers.hears(rt) == found)
     }

@@ -2,7 +2,9 @@
 #![tactic(auto)]
 
 mod cache;
+mod engines;
 mod mailbox;
+mod memory;
 mod note;
 
 use anyhow::Error;
@@ -17,5 +19,9 @@ fn main(rt: HostRuntime) -> Result<(), Error> {
     let message = TestMessage::shared(alloc, Vec::from_slice(alloc, b"hello")?)?;
     let asked = mailbox::ask(&rt, &Digested::compute(alloc, message)?)?;
     println!(rt; "mailbox: {asked:?}")?;
+    let (heard, second, third) = engines::three_test_nodes(&rt)?;
+    println!(rt; "engines: {heard:?}")?;
+    println!(rt; "node 2: {second:?}")?;
+    println!(rt; "node 3: {third:?}")?;
     Ok(())
 }
