@@ -48,7 +48,8 @@ def parse(words, data):
 
 def parts(steps):
     """The lists of steps that are taken in a world of their own, with the lines before each."""
-    return [(["with"], steps)]
+    clean = [given for given in steps if given[0] != "hostile"]
+    return [(["with"], steps), (["without"], clean)]
 
 
 class Run:

@@ -24,6 +24,8 @@ pub(super) fn next_input<P, M, S, G, B, Q>(
 where
     P: PublicKey,
     M: Digestible,
+    S: Drop,
+    G: Drop,
     B: Provider<P>,
     Q: Requests<Message<P, M, S, G>>,
     ensures sets { (before : List (List P)) → B.told provider.old before

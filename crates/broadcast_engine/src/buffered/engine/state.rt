@@ -121,8 +121,7 @@ impl<P: PublicKey, M: Digestible + Codec, S, O, B, Q, T: Strategy<M>> Engine<P, 
 
     /// Applies one input. After an end the input is dropped, and the turn is that end.
     ///
-    /// `Input::Invalid` is for the errors of a payload that is no message, which `CodecError::Memory`
-    /// is not.
+    /// `Input::Invalid` is for a payload that is no message, so not for `CodecError::Memory`.
     pub fn apply<G, N>(&mut self, alloc: Global, input: Input<P, M, S, G>, sender: &mut N) -> Turn
     where
         S: Responder<Reply<M>> + Drop,
