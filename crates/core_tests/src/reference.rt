@@ -62,7 +62,7 @@ fn cleanup(alloc: Global, rng: &mut Pcg32) -> Result<Happening, AllocError> {
 fn events(alloc: Global, seed: u64) -> Result<Vec<Happening>, AllocError> {
     let mut rng = Pcg32::new(seed, 54);
     let mut events = Vec::new(alloc);
-    for _ in 0..rng.next_u32() % 64 {
+    for _ in 0..200 {
         events.push(event(alloc, &mut rng)?)?;
     }
     Ok(events)
@@ -163,7 +163,7 @@ fn sizes() -> &'static [usize] {
 
 /// Returns the seed of the first run that is another.
 fn fault(alloc: Global, size: usize, seen: &mut Seen) -> Result<Option<u64>, AllocError> {
-    for seed in 0..150 {
+    for seed in 0..170 {
         if !is_same(alloc, size, seed, seen)? {
             return Ok(Some(seed));
         }
