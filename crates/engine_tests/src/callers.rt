@@ -4,23 +4,16 @@ use super::asked::{Asked, Given};
 use super::message::{Letter, To, digest, digested, recipients};
 use super::wires::place;
 use broadcast_core::Digestible;
-use commonware_broadcast::buffered::{Incoming, Mailbox, Stopper};
+use commonware_broadcast::buffered::Mailbox;
 use commonware_broadcast::{Broadcaster, Feedback, MailboxError};
 use std::alloc::{AllocError, AllocGlobal, Global};
 use std::random::RandomSource;
 use std::sync::Wait;
 
-/// The mailbox of a node, and what stops it.
-#[derive(Drop)]
-pub struct Caller<M: Digestible, R> {
-    pub mailbox: Mailbox<u64, M, R>,
-    pub stopper: Stopper<Incoming<u64, M>, R>,
-}
-
 /// The callers of each node, in the order of the keys, and their futures.
 #[derive(Drop)]
 pub struct Callers<M: Digestible, R> {
-    pub callers: Vec<Caller<M, R>>,
+    pub mailboxes: Vec<Mailbox<u64, M, R>>,
     pub asked: Vec<Asked<M>>,
 }
 
@@ -40,8 +33,8 @@ where
     ) -> Result<Option<Feedback>, AllocError> {
         let message = digested::<M>(alloc, letters.0, letters.1)?;
         let recipients = recipients(alloc, to)?;
-        match self.callers.get(place(key)) {
-            Some(caller) => Ok(caller.mailbox.broadcast(recipients, message).ok()),
+        match self.mailboxes.get(place(key)) {
+            Some(mailbox) => Ok(mailbox.broadcast(recipients, message).ok()),
             None => Ok(None),
         }
     }
@@ -52,10 +45,10 @@ where
             return Ok(false);
         };
         let digest = digest::<M>(alloc, letter)?;
-        let Some(caller) = self.callers.get(place(key)) else {
+        let Some(mailbox) = self.mailboxes.get(place(key)) else {
             return Ok(false);
         };
-        let Ok(asked) = asked(&caller.mailbox, act, digest) else {
+        let Ok(asked) = asked(mailbox, act, digest) else {
             return Ok(false);
         };
         self.asked.push(asked)?;
@@ -83,17 +76,6 @@ where
         match self.asked.get_mut(number) {
             Some(asked) => {
                 *asked = Asked::Dropped;
-                true
-            }
-            None => false,
-        }
-    }
-
-    /// Asks the node to stop. Returns whether there is such a node.
-    pub fn stop(&self, key: u64) -> bool {
-        match self.callers.get(place(key)) {
-            Some(caller) => {
-                caller.stopper.request_stop();
                 true
             }
             None => false,

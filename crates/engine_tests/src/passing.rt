@@ -5,7 +5,7 @@ use super::message::To;
 use std::test::Fail;
 
 static ROWS: [Row; 1] = [Row {
-    name: "recipients, message and digest of a broadcast, and the digest and the caller of a request",
+    name: "broadcasts to others by another digest, and requests by it",
     nodes: 2,
     sizes: (1024, 10),
     acts: &[

@@ -26,7 +26,7 @@ pub struct Feed {
 }
 
 impl Feed {
-    /// Creates a feed that gives nothing as yet.
+    /// Creates an empty feed.
     pub fn new(alloc: Global) -> Result<Rc<Feed>, AllocError> {
         Ok(Rc::new(
             alloc,

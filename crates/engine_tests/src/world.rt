@@ -1,6 +1,6 @@
 //! Engines over a network in memory, which one thread drives.
 use super::act::Act;
-use super::callers::{Caller, Callers};
+use super::callers::Callers;
 use super::feeds::{Feeds, Source};
 use super::job::Gated;
 use super::message::{Letter, To};
@@ -61,7 +61,7 @@ where
         let mut world = World {
             engines: Vec::new(alloc),
             callers: Callers {
-                callers: Vec::new(alloc),
+                mailboxes: Vec::new(alloc),
                 asked: Vec::new(alloc),
             },
             feeds: Feeds(Vec::new(alloc)),
@@ -95,16 +95,10 @@ where
         alloc: Global,
         cfg: Config<u64, M::Cfg, Peers, Gated>,
     ) -> io::Result<()> {
-        let (engine, mailbox) = Engine::new(rt.clone()?, alloc, cfg)?;
-        let stopper = engine.requests().stopper()?;
-        self.callers.callers.push(Caller { mailbox, stopper })?;
-        self.put(rt, engine)
-    }
-
-    /// Puts the engine behind the others, with a task of its own.
-    fn put(&mut self, rt: &R, engine: MailboxEngine<u64, M, Peers, Gated, R>) -> io::Result<()> {
         let task = Solo::new(rt, Doorbell::spinning())?;
+        let (engine, mailbox) = Engine::new(rt.clone()?, alloc, cfg)?;
         self.engines.push(Polled { engine, task })?;
+        self.callers.mailboxes.push(mailbox)?;
         Ok(())
     }
 
@@ -143,6 +137,7 @@ where
             Act::Poll(key, turn) => Ok(self.poll(alloc, place(key)) == turn),
             Act::Counts(key, metric, number) => Ok(self.count(place(key), metric) == Some(number)),
             Act::Woken(key, woken) => Ok(self.is_woken(place(key)) == Some(woken)),
+            Act::Stop(key) => self.stop(place(key)),
             Act::Finds(..) | Act::Hears(..) => self.finds(rt, alloc, act),
             Act::AllTrack(keys) => {
                 self.feeds.track_all(alloc, keys)?;
@@ -167,6 +162,15 @@ where
     /// Returns whether the engine at the place was woken since its last poll.
     fn is_woken(&self, at: usize) -> Option<bool> {
         Some(is_woken(&self.engines.get(at)?.task))
+    }
+
+    /// Asks the engine at the place to stop. Returns whether there is one.
+    fn stop(&self, at: usize) -> Result<bool, AllocError> {
+        let Some(polled) = self.engines.get(at) else {
+            return Ok(false);
+        };
+        polled.engine.requests().stopper()?.request_stop();
+        Ok(true)
     }
 
     /// Asks, lets all nodes run, and returns whether a message came or not. The future is dropped.
@@ -270,7 +274,6 @@ where
         Act::Subscribe(..) | Act::Get(..) => callers.ask(alloc, act),
         Act::Gives(number, given) => Ok(callers.gives(rt, number, given)),
         Act::Hang(number) => Ok(callers.hang(number)),
-        Act::Stop(key) => Ok(callers.stop(key)),
         _ => feeds_one::<M>(wires, feeds, alloc, act),
     }
 }

@@ -47,21 +47,11 @@ where
         Ok(nodes)
     }
 
-    /// Adds the node of the key. All three nodes are primary.
+    /// Adds the node of the key.
     fn add(&mut self, rt: &R, key: u64, codec_config: M::Cfg) -> Result<(), Error> {
-        let alloc = rt.alloc();
-        let peers = Set::from_iter_dedup(vec![in alloc; 1, 2, 3]?)?;
-        let cfg = Config {
-            public_key: key,
-            mailbox_size: NonZeroUsize::MIN,
-            deque_size: 1,
-            priority: false,
-            codec_config,
-            peer_provider: OneSet::new(peers),
-            strategy: Sequential,
-        };
-        let (engine, mailbox) = Engine::new(rt.clone()?, alloc, cfg)?;
+        let cfg = config(rt.alloc(), key, codec_config)?;
         let task = Solo::new(rt, Doorbell::spinning())?;
+        let (engine, mailbox) = Engine::new(rt.clone()?, rt.alloc(), cfg)?;
         self.nodes.push(Node { engine, task })?;
         self.mailboxes.push(mailbox)?;
         Ok(())
@@ -86,6 +76,24 @@ where
         }
         ready
     }
+}
+
+/// Creates the configuration of a node. All three nodes are primary.
+fn config<C: Drop>(
+    alloc: Global,
+    key: u64,
+    codec_config: C,
+) -> Result<Config<u64, C, OneSet, Sequential>, AllocError> {
+    let peers = Set::from_iter_dedup(Vec::from_slice(alloc, &[1, 2, 3])?)?;
+    Ok(Config {
+        public_key: key,
+        mailbox_size: NonZeroUsize::MIN,
+        deque_size: 1,
+        priority: false,
+        codec_config,
+        peer_provider: OneSet::new(peers),
+        strategy: Sequential,
+    })
 }
 
 impl<M: Digestible + Codec, R: Wait + Drop> Node<M, R> {
@@ -143,15 +151,21 @@ where
         second: Digested<M>,
     ) -> Result<Heard, Error> {
         let (earlier, later) = (first.digest(), second.digest());
-        let subscription = self.mailbox(3)?.subscribe(earlier)?;
-        self.broadcast(rt, first)?;
-        let subscribe = block_on(rt, subscription)?.is_ok();
+        let subscribe = self.hears(rt, first)?;
         self.broadcast(rt, second)?;
         Ok(Heard {
             subscribe,
             first: self.finds(rt, earlier)?,
             second: self.finds(rt, later)?,
         })
+    }
+
+    /// Lets node 3 subscribe to the message before node 1 broadcasts it. Returns whether the
+    /// subscribe is served.
+    fn hears(&mut self, rt: &R, message: Digested<M>) -> Result<bool, Error> {
+        let subscription = self.mailbox(3)?.subscribe(message.digest())?;
+        self.broadcast(rt, message)?;
+        Ok(block_on(rt, subscription)?.is_ok())
     }
 
     /// Returns the mailbox of the node.
