@@ -1,4 +1,7 @@
 //! Two workers that must meet at their gate.
+ghost use Rattle.std.specs.Prelude.{IfOk};
+ghost use Rattle.broadcast_engine.specs.Workers.{IsWorkerOf};
+
 use broadcast_core::{Digestible, TestMessage};
 use broadcast_engine::buffered::gate::Gate;
 use broadcast_engine::buffered::strategy::{Job, Strategy};
@@ -40,8 +43,6 @@ impl Gate for Meeting {
 impl<R: Threads> Work<Meeting, R> for TestMessage {
     type Worker = Worker<TestMessage>;
 
-    ghost use Rattle.broadcast_engine.specs.Workers.{IsWorkerOf};
-
     ghost is_of = { IsWorkerOf Self.digest_of };
 
     fn start(
@@ -49,7 +50,10 @@ impl<R: Threads> Work<Meeting, R> for TestMessage {
         rt: &R,
         alloc: Global,
         gate: Arc<Meeting>,
-    ) -> Result<Worker<TestMessage>, AllocError> {
+    ) -> Result<Worker<TestMessage>, AllocError>
+        ensures { IfOk result
+            (λ worker. IsWorkerOf ⟦<TestMessage as Digestible>⟧.digest_of worker self) }
+    {
         Worker::start(rt, alloc, gate, self)
     }
 

@@ -3,7 +3,3 @@
 
 #[cfg(test)]
 mod gates;
-#[cfg(test)]
-mod nodes;
-#[cfg(test)]
-mod shutdown;
