@@ -18,8 +18,8 @@ pub use commonware_broadcast::buffered::{
 };
 pub use config::Config;
 pub use engine::{
-    EndCause, Engine, Input, Ready, Report, StartError, Turn, drive, make_ready, new_engine_law, run,
-    spawn,
+    EndCause, Engine, Input, Ready, Report, StartError, Turn, drive, make_ready, new_engine_law,
+    run, spawn,
 };
 pub use front::MailboxEngine;
 pub use gate::{Gate, Open};

@@ -1,4 +1,5 @@
-//! The programs over streams that fail or move few bytes, and `replay` through inboxes of all kinds.
+//! The programs over streams that fail or move few bytes, and `replay` through inboxes of all
+//! kinds.
 mod rows;
 mod world_rows;
 

@@ -70,7 +70,7 @@ pub struct Outbound<R> {
     pub key: u64,
     /// The mail of the other nodes.
     pub others: Vec<Arc<Mail>>,
-    /// How many payloads were lost, for want of memory.
+    /// How many payloads were lost to allocation failures.
     pub lost: u64,
     /// The right to wait for the locks.
     pub rt: R,

@@ -77,7 +77,7 @@ module _ {K D : Type 0} where
   entry_at h None = None
   entry_at h (Some i) = h i
 
-  -- the nodes from this link on, at most so many
+  -- the first nodes from this link on
   abbrev pub walk : (ℕ → Option (Entry K D)) → ℕ → Option ℕ → List (Node D)
   walk h zero at = []
   walk h (suc n) None = []

@@ -1,14 +1,16 @@
 //! The chains of peers in one store of places.
-ghost use Rattle.std.specs.Prelude.{◌≡◌, ℕ, Bool, true, Some, None, List, [], ◌∷◌, ◌++◌, ◌+◌, ◌^◌, ◌<◌, OnErr, OnOk, IfOk, IfSome, IfNone};
+ghost use Rattle.std.specs.Prelude.{◌≡◌, ℕ, Bool, true, Some, None, List, [], ◌∷◌, ◌++◌, ◌+◌, ◌^◌};
+ghost use Rattle.std.specs.Prelude.{◌<◌, OnErr, OnOk, IfOk, IfSome, IfNone};
 ghost use Rattle.slab.specs.Slab.{get, HasRoomFor};
-ghost use Rattle.entries.specs.Linked.{IsOn, Admits, Promotes, Pushes, Pops, Frees, IsOwned, HasNodes, SameValues};
+ghost use Rattle.entries.specs.Linked.{IsOn, Admits, Promotes, Pushes, Pops, Frees, IsOwned};
+ghost use Rattle.entries.specs.Linked.{HasNodes, SameValues};
 
 use crate::entry::{Chain, Entry};
 use crate::links::{link_front, unlink};
 use slab::Slab;
 use std::alloc::AllocError;
 
-/// Moves a place to the front of its chain, with another digest. Takes no memory.
+/// Moves a place to the front of its chain, with another digest. Does not allocate.
 pub fn promote<K, D: Drop>(
     places: &mut Slab<Entry<K, D>>,
     chain: &mut Chain,
@@ -31,8 +33,10 @@ pub fn push_front<K: Drop, D: Copy>(
 ) -> Result<usize, AllocError>
     requires { IsOwned (get places.old) chain.old peer }
     ensures place { IfOk result (λ place. place ≡ places.old.vacant_key) }
-    ensures ok { IfOk result (λ place. Pushes (get places.old) (get places.new) chain.old chain.new peer place digest) }
-    ensures err { OnErr result ((chain.new ≡ chain.old) × SameValues (get places.old) (get places.new)
+    ensures ok { IfOk result (λ place. Pushes (get places.old)
+        (get places.new) chain.old chain.new peer place digest) }
+    ensures err { OnErr result ((chain.new ≡ chain.old) × SameValues (get places.old)
+        (get places.new)
         × (places.new.vacant_key ≡ places.old.vacant_key)) }
 {
     if chain.len == usize::MAX {
@@ -52,7 +56,7 @@ pub fn push_front<K: Drop, D: Copy>(
     Ok(place)
 }
 
-/// Takes the oldest place out of a chain, and frees it. Takes no memory.
+/// Takes the oldest place out of a chain, and frees it. Does not allocate.
 pub fn pop_oldest<K: Drop, D>(places: &mut Slab<Entry<K, D>>, chain: &mut Chain) -> Option<D>
     requires { HasNodes (get places.old) chain.old }
     ensures { Pops (get places.old) (get places.new) chain.old chain.new result }
@@ -67,7 +71,7 @@ pub fn pop_oldest<K: Drop, D>(places: &mut Slab<Entry<K, D>>, chain: &mut Chain)
     }
 }
 
-/// Frees all places of a chain. Takes no memory.
+/// Frees all places of a chain. Does not allocate.
 pub fn free<K: Drop, D: Drop>(places: &mut Slab<Entry<K, D>>, mut chain: Chain)
     requires { HasNodes (get places.old) chain }
     ensures { Frees (get places.old) (get places.new) chain }

@@ -1,5 +1,6 @@
 //! A message with the places of its entries.
-ghost use Rattle.std.specs.Prelude.{◌≡◌, true, [], ◌∷◌, Some, None, MatchBool, OnOk, OnErr, IfOk, if◌then◌else◌};
+ghost use Rattle.std.specs.Prelude.{◌≡◌, true, [], ◌∷◌, Some, None, MatchBool, OnOk, OnErr, IfOk};
+ghost use Rattle.std.specs.Prelude.{if◌then◌else◌};
 ghost use Rattle.std.specs.Map.{lookup};
 ghost use Rattle.std.specs.Ordering.{eq_by_cmp};
 
@@ -51,7 +52,8 @@ impl<K: Ord + Drop, T: Drop> Item<K, T> {
     pub fn insert(&mut self, peer: K, place: usize) -> Result<(), AllocError>
         ensures message { self.new.message ≡ self.old.message }
         ensures places { OnOk result ((q : K) → lookup (eq_by_cmp K.cmp q) self.new.places
-            ≡ (if eq_by_cmp K.cmp peer q then Some place else lookup (eq_by_cmp K.cmp q) self.old.places)) }
+            ≡ (if eq_by_cmp K.cmp peer q then Some place else lookup
+            (eq_by_cmp K.cmp q) self.old.places)) }
         ensures err { OnErr result (self.new ≡ self.old) }
     {
         self.places.insert(peer, place)?;
@@ -62,7 +64,8 @@ impl<K: Ord + Drop, T: Drop> Item<K, T> {
     pub fn remove(&mut self, peer: &K) -> bool
         ensures message { self.new.message ≡ self.old.message }
         ensures places { (q : K) → lookup (eq_by_cmp K.cmp q) self.new.places
-            ≡ (if eq_by_cmp K.cmp peer.now q then None else lookup (eq_by_cmp K.cmp q) self.old.places) }
+            ≡ (if eq_by_cmp K.cmp peer.now q then None else lookup
+            (eq_by_cmp K.cmp q) self.old.places) }
         ensures empty { MatchBool result (self.new.places ≡ []) (self.new.places ≡ [] → ⊥) }
     {
         self.places.remove(peer);

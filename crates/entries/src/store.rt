@@ -1,12 +1,15 @@
 //! The lists of all keys.
-ghost use Rattle.std.specs.Prelude.{◌≡◌, ◌+◌, ◌^◌, ◌<◌, ◌≤◌, ◌∷◌, ◌⊎◌, ◌++◌, true, false, is_some, length, OnOk, OnErr, IfOk, IsOk, MatchOption, MatchBool, Some, None, []};
+ghost use Rattle.std.specs.Prelude.{◌≡◌, ◌+◌, ◌^◌, ◌<◌, ◌≤◌, ◌∷◌, ◌⊎◌, ◌++◌, true, false, is_some};
+ghost use Rattle.std.specs.Prelude.{length, OnOk, OnErr, IfOk, IsOk, MatchOption, MatchBool, Some};
+ghost use Rattle.std.specs.Prelude.{None, []};
 ghost use Rattle.std.specs.Ordering.{eq_by_cmp};
 ghost use Rattle.std.specs.List.{IsDistinct};
 ghost use Rattle.std.specs.Map.{lookup, keys_of};
 ghost use Rattle.std.specs.Option.{option_copied};
 ghost use Rattle.slab.specs.Slab.{get, SameValues};
 ghost use Rattle.entries.specs.Linked.{IsApart, HasNodes, entry_at};
-ghost use Rattle.entries.specs.Store.{IsStore, IsPlaceOf, IsNoPlaceOf, IsOldest, Puts, Evicts, Removes, nodes, lists_of, items_at, moved, digests_of};
+ghost use Rattle.entries.specs.Store.{IsStore, IsPlaceOf, IsNoPlaceOf, IsOldest, Puts, Evicts};
+ghost use Rattle.entries.specs.Store.{Removes, nodes, lists_of, items_at, moved, digests_of};
 
 use crate::chain;
 use crate::entry::{Chain, Entry};
@@ -63,10 +66,12 @@ impl<K: Ord + Drop, D: Copy> Entries<K, D> {
         self.places.vacant_key()
     }
 
-    /// Returns the place and the digest of the oldest entry of `peer` if its list has `size` entries.
+    /// Returns the place and the digest of the oldest entry of `peer` if its list has `size`
+    /// entries.
     pub fn oldest_beyond(&self, peer: &K, size: usize) -> Option<(usize, D)>
         ensures { let ns = items_at (eq_by_cmp K.cmp) peer.now self.now.lists in
-            MatchOption result ((length ns < size) ⊎ (ns ≡ [])) (λ n. (size ≤ length ns) × IsOldest n ns) }
+            MatchOption result ((length ns < size) ⊎ (ns ≡ [])) (λ n. (size ≤ length ns)
+            × IsOldest n ns) }
     {
         match self.chains.get(peer) {
             Some(chain) => oldest_of(&self.places, chain, size),
@@ -78,7 +83,8 @@ impl<K: Ord + Drop, D: Copy> Entries<K, D> {
     /// nothing if the list has no such entry. Does not allocate.
     pub fn promote(&mut self, peer: &K, place: usize, digest: D)
         ensures moved { let same = eq_by_cmp K.cmp in
-            Puts same peer.now (moved place digest (items_at same peer.now self.old.lists)) self.old.lists self.new.lists }
+            Puts same peer.now (moved place digest
+            (items_at same peer.now self.old.lists)) self.old.lists self.new.lists }
         ensures apart { IsApart (items_at (eq_by_cmp K.cmp) peer.now self.old.lists) }
     {
         if is_place_of(&self.places, peer, place) {
@@ -95,7 +101,9 @@ impl<K: Ord + Drop, D: Copy> Entries<K, D> {
         requires { (key copy : K) → K.is_clone key copy → eq_by_cmp K.cmp key copy ≡ true }
         ensures place { IfOk result (λ place. place ≡ self.old.vacant) }
         ensures ok { let same = eq_by_cmp K.cmp in
-            IfOk result (λ place. Puts same peer.now ((place, digest) ∷ items_at same peer.now self.old.lists) self.old.lists self.new.lists) }
+            IfOk result (λ place. Puts same peer.now
+            ((place, digest) ∷ items_at same peer.now self.old.lists) self.old.lists
+            self.new.lists) }
         ensures err { OnErr result (self.new ≡ self.old) }
     {
         let owner = peer.clone()?;
@@ -124,7 +132,8 @@ impl<K: Ord + Drop, D: Copy> Entries<K, D> {
     pub fn list(&self, alloc: Global, peer: &K) -> Result<Vec<D>, AllocError>
         ensures digests { IfOk result (λ digests. digests.items
             ≡ digests_of (items_at (eq_by_cmp K.cmp) peer.now self.now.lists)) }
-        ensures succeeds_on_empty { items_at (eq_by_cmp K.cmp) peer.now self.now.lists ≡ [] → IsOk result }
+        ensures succeeds_on_empty { items_at (eq_by_cmp K.cmp) peer.now self.now.lists ≡ []
+            → IsOk result }
     {
         match self.chains.get(peer) {
             Some(chain) => collect(alloc, &self.places, chain),
@@ -152,7 +161,8 @@ fn oldest_of<K, D: Copy>(
 ) -> Option<(usize, D)>
     requires { HasNodes (get places.now) chain.now }
     ensures { let ns = nodes (get places.now) chain.now in
-        MatchOption result ((length ns < size) ⊎ (ns ≡ [])) (λ n. (size ≤ length ns) × IsOldest n ns) }
+        MatchOption result ((length ns < size) ⊎ (ns ≡ [])) (λ n. (size ≤ length ns)
+        × IsOldest n ns) }
 {
     if chain.len < size {
         return None;
@@ -179,7 +189,8 @@ fn renew<K: Ord, D: Drop>(
     ensures store { IsStore (eq_by_cmp K.cmp) (get places.new) chains.new.entries }
     ensures lists { let same = eq_by_cmp K.cmp in
         let old = lists_of (get places.old) chains.old.entries in
-        Puts same peer.now (moved place digest (items_at same peer.now old)) old (lists_of (get places.new) chains.new.entries) }
+        Puts same peer.now (moved place digest (items_at same peer.now old)) old (lists_of
+        (get places.new) chains.new.entries) }
 {
     match chains.get_mut(peer) {
         Some(chain) => chain::promote(places, chain, place, digest),
@@ -224,7 +235,8 @@ fn add<K: Ord + Clone + Drop, D: Copy>(
         let old = lists_of (get places.old) chains.old.entries in
         IfOk result (λ place. Puts same peer.now ((place, digest) ∷ items_at same peer.now old)
         old (lists_of (get places.new) chains.new.entries)) }
-    ensures err { OnErr result ((lists_of (get places.new) chains.new.entries ≡ lists_of (get places.old) chains.old.entries)
+    ensures err { OnErr result ((lists_of (get places.new) chains.new.entries ≡ lists_of
+        (get places.old) chains.old.entries)
         × (places.new.vacant_key ≡ places.old.vacant_key)) }
 {
     match chains.get_mut(peer) {
@@ -251,7 +263,8 @@ fn add_first<K: Ord + Clone + Drop, D: Copy>(
         let old = lists_of (get places.old) chains.old.entries in
         IfOk result (λ place. Puts same peer.now ((place, digest) ∷ [])
         old (lists_of (get places.new) chains.new.entries)) }
-    ensures err { OnErr result ((lists_of (get places.new) chains.new.entries ≡ lists_of (get places.old) chains.old.entries)
+    ensures err { OnErr result ((lists_of (get places.new) chains.new.entries ≡ lists_of
+        (get places.old) chains.old.entries)
         × (places.new.vacant_key ≡ places.old.vacant_key)) }
 {
     places.reserve(1)?;
@@ -279,7 +292,8 @@ fn close<K: Ord + Drop, D: Drop>(
     requires { IsStore (eq_by_cmp K.cmp) (get places.old) chains.old.entries }
     ensures store { IsStore (eq_by_cmp K.cmp) (get places.new) chains.new.entries }
     ensures lists { Removes (eq_by_cmp K.cmp) peer.now
-        (lists_of (get places.old) chains.old.entries) (lists_of (get places.new) chains.new.entries) }
+        (lists_of (get places.old) chains.old.entries) (lists_of
+        (get places.new) chains.new.entries) }
 {
     match chains.remove(peer) {
         Some(chain) => chain::free(places, chain),
@@ -294,7 +308,8 @@ fn collect<K, D: Copy>(
     chain: &Chain,
 ) -> Result<Vec<D>, AllocError>
     requires { chain.now.len ≡ length (nodes (get places.now) chain.now) }
-    ensures digests { IfOk result (λ digests. digests.items ≡ digests_of (nodes (get places.now) chain.now)) }
+    ensures digests { IfOk result (λ digests. digests.items ≡ digests_of (nodes
+        (get places.now) chain.now)) }
     ensures succeeds_on_empty { nodes (get places.now) chain.now ≡ [] → IsOk result }
 {
     if chain.len == 0 {

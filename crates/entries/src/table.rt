@@ -1,11 +1,13 @@
 //! The messages by digest.
-ghost use Rattle.std.specs.Prelude.{◌≡◌, true, false, length, is_some, Some, None, [], OnOk, OnErr, if◌then◌else◌};
+ghost use Rattle.std.specs.Prelude.{◌≡◌, true, false, length, is_some, Some, None, [], OnOk, OnErr};
+ghost use Rattle.std.specs.Prelude.{if◌then◌else◌};
 ghost use Rattle.std.specs.Option.{option_copied, option_map};
 ghost use Rattle.std.specs.List.{IsDistinct};
 ghost use Rattle.std.specs.Map.{lookup, keys_of};
 ghost use Rattle.std.specs.BTreeMap.{insert_entry};
 ghost use Rattle.std.specs.Ordering.{eq_by_cmp};
-ghost use Rattle.entries.specs.Table.{messages_of, place_at, IsPlaced, IsFound, IsSame, SetsPlace, Leaves};
+ghost use Rattle.entries.specs.Table.{messages_of, place_at, IsPlaced, IsFound, IsSame, SetsPlace};
+ghost use Rattle.entries.specs.Table.{Leaves};
 
 use crate::found::Found;
 use crate::item::Item;
@@ -84,8 +86,10 @@ impl<K: Ord + Drop, D: Ord + Drop, T: Drop> Table<K, D, T> {
         ensures messages { OnOk result (messages_of self.new
             ≡ insert_entry D.cmp (messages_of self.old) digest message) }
         ensures looked_up { OnOk result ((e : D) → lookup (eq_by_cmp D.cmp e) (messages_of self.new)
-            ≡ (if eq_by_cmp D.cmp digest e then Some message else lookup (eq_by_cmp D.cmp e) (messages_of self.old))) }
-        ensures places { OnOk result (SetsPlace (eq_by_cmp D.cmp) (eq_by_cmp K.cmp) digest peer (Some place) self.old self.new) }
+            ≡ (if eq_by_cmp D.cmp digest e then Some message else lookup (eq_by_cmp D.cmp e)
+            (messages_of self.old))) }
+        ensures places { OnOk result (SetsPlace (eq_by_cmp D.cmp) (eq_by_cmp K.cmp) digest peer
+            (Some place) self.old self.new) }
         ensures err { OnErr result (self.new ≡ self.old) }
         ensures placed { IsPlaced (eq_by_cmp D.cmp) (eq_by_cmp K.cmp) self.new }
     {
@@ -100,7 +104,8 @@ impl<K: Ord + Drop, D: Ord + Drop, T: Drop> Table<K, D, T> {
     pub fn join(&mut self, digest: &D, peer: K, place: usize) -> Result<(), AllocError>
         requires { is_some (lookup (eq_by_cmp D.cmp digest.now) self.old) ≡ true }
         ensures messages { messages_of self.new ≡ messages_of self.old }
-        ensures places { OnOk result (SetsPlace (eq_by_cmp D.cmp) (eq_by_cmp K.cmp) digest.now peer (Some place) self.old self.new) }
+        ensures places { OnOk result (SetsPlace (eq_by_cmp D.cmp)
+            (eq_by_cmp K.cmp) digest.now peer (Some place) self.old self.new) }
         ensures err { OnErr result (IsSame (eq_by_cmp D.cmp) (eq_by_cmp K.cmp) self.old self.new) }
         ensures placed { IsPlaced (eq_by_cmp D.cmp) (eq_by_cmp K.cmp) self.new }
     {
@@ -110,7 +115,8 @@ impl<K: Ord + Drop, D: Ord + Drop, T: Drop> Table<K, D, T> {
     /// Removes the place of `peer` from the message of `digest`, and the message with its last
     /// place. Does not allocate.
     pub fn remove(&mut self, digest: &D, peer: &K)
-        ensures left { Leaves (eq_by_cmp D.cmp) (eq_by_cmp K.cmp) digest.now peer.now self.old self.new }
+        ensures left { Leaves (eq_by_cmp D.cmp)
+            (eq_by_cmp K.cmp) digest.now peer.now self.old self.new }
         ensures placed { IsPlaced (eq_by_cmp D.cmp) (eq_by_cmp K.cmp) self.new }
     {
         leave(&mut self.items, digest, peer);
@@ -128,8 +134,10 @@ fn join<K: Ord + Drop, D: Ord + Drop, T: Drop>(
     requires there { is_some (lookup (eq_by_cmp D.cmp digest.now) items.old.entries) ≡ true }
     ensures placed { IsPlaced (eq_by_cmp D.cmp) (eq_by_cmp K.cmp) items.new.entries }
     ensures messages { messages_of items.new.entries ≡ messages_of items.old.entries }
-    ensures places { OnOk result (SetsPlace (eq_by_cmp D.cmp) (eq_by_cmp K.cmp) digest.now peer (Some place) items.old.entries items.new.entries) }
-    ensures err { OnErr result (IsSame (eq_by_cmp D.cmp) (eq_by_cmp K.cmp) items.old.entries items.new.entries) }
+    ensures places { OnOk result (SetsPlace (eq_by_cmp D.cmp) (eq_by_cmp K.cmp) digest.now peer
+        (Some place) items.old.entries items.new.entries) }
+    ensures err { OnErr result (IsSame (eq_by_cmp D.cmp)
+        (eq_by_cmp K.cmp) items.old.entries items.new.entries) }
 {
     match items.get_mut(digest) {
         Some(item) => item.insert(peer, place),
@@ -144,7 +152,8 @@ fn leave<K: Ord + Drop, D: Ord + Drop, T: Drop>(
     peer: &K,
 )
     requires { IsPlaced (eq_by_cmp D.cmp) (eq_by_cmp K.cmp) items.old.entries }
-    ensures left { Leaves (eq_by_cmp D.cmp) (eq_by_cmp K.cmp) digest.now peer.now items.old.entries items.new.entries }
+    ensures left { Leaves (eq_by_cmp D.cmp)
+        (eq_by_cmp K.cmp) digest.now peer.now items.old.entries items.new.entries }
     ensures placed { IsPlaced (eq_by_cmp D.cmp) (eq_by_cmp K.cmp) items.new.entries }
 {
     match items.get_mut(digest) {

@@ -4,7 +4,9 @@ ghost use Rattle.broadcast_core.specs.declared.ordered.Recipients.{Recipients as
 ghost use Rattle.broadcast_text.specs.Words.{words_of};
 ghost use Rattle.broadcast_text.specs.Message.{Spelled};
 ghost use Rattle.broadcast_text.specs.declared.line_error.LineError.TheVariants.{Syntax, Memory};
-ghost use Rattle.world_lib.specs.Line.{Line, peers, broadcast, subscribe, get, cleanup, deliver, hostile, kind_word, kind_of, HasWords, HasRest, IsStepOf, Fits};
+ghost use Rattle.world_lib.specs.Line.{Line, peers, broadcast, subscribe, get, cleanup, deliver};
+ghost use Rattle.world_lib.specs.Line.{hostile, kind_word, kind_of, HasWords, HasRest, IsStepOf};
+ghost use Rattle.world_lib.specs.Line.{Fits};
 
 use broadcast_core::{Items, Set};
 use broadcast_text::byte_list::parse_byte_list;
@@ -103,8 +105,10 @@ fn parse_peers(alloc: Global, mut words: Words<'_>) -> Result<Step<u64>, LineErr
 /// Returns the broadcast of the recipients and the message.
 fn parse_broadcast(alloc: Global, mut words: Words<'_>) -> Result<Step<u64>, LineError>
     ensures step_of_line { IfOk result (λ step. (node : ℕ) × (named : Named ℕ) × (message : Spelled)
-        × HasRest words.entry (broadcast node named message) × IsStepOf (broadcast node named message) step) }
-    ensures reads_each_line { (node : ℕ) (named : Named ℕ) (message : Spelled) → Fits (broadcast node named message)
+        × HasRest words.entry (broadcast node named message) × IsStepOf
+        (broadcast node named message) step) }
+    ensures reads_each_line { (node : ℕ) (named : Named ℕ) (message : Spelled) → Fits
+        (broadcast node named message)
         → HasRest words.entry (broadcast node named message) → IfErr result (λ e. e ≡ Memory) }
 {
     let node = expect_number(words.expect()?)?;
@@ -116,8 +120,10 @@ fn parse_broadcast(alloc: Global, mut words: Words<'_>) -> Result<Step<u64>, Lin
 /// Returns the subscribe of the ticket and the digest of the content.
 fn parse_subscribe(alloc: Global, mut words: Words<'_>) -> Result<Step<u64>, LineError>
     ensures step_of_line { IfOk result (λ step. (node : ℕ) × (ticket : ℕ) × (content : List ℕ)
-        × HasRest words.entry (subscribe node ticket content) × IsStepOf (subscribe node ticket content) step) }
-    ensures reads_each_line { (node : ℕ) (ticket : ℕ) (content : List ℕ) → Fits (subscribe node ticket content)
+        × HasRest words.entry (subscribe node ticket content) × IsStepOf
+        (subscribe node ticket content) step) }
+    ensures reads_each_line { (node : ℕ) (ticket : ℕ) (content : List ℕ) → Fits
+        (subscribe node ticket content)
         → HasRest words.entry (subscribe node ticket content) → IfErr result (λ e. e ≡ Memory) }
 {
     let node = expect_number(words.expect()?)?;
@@ -129,7 +135,8 @@ fn parse_subscribe(alloc: Global, mut words: Words<'_>) -> Result<Step<u64>, Lin
 fn parse_get(alloc: Global, mut words: Words<'_>) -> Result<Step<u64>, LineError>
     ensures step_of_line { IfOk result (λ step. (node : ℕ) × (ticket : ℕ) × (content : List ℕ)
         × HasRest words.entry (get node ticket content) × IsStepOf (get node ticket content) step) }
-    ensures reads_each_line { (node : ℕ) (ticket : ℕ) (content : List ℕ) → Fits (get node ticket content)
+    ensures reads_each_line { (node : ℕ) (ticket : ℕ) (content : List ℕ) → Fits
+        (get node ticket content)
         → HasRest words.entry (get node ticket content) → IfErr result (λ e. e ≡ Memory) }
 {
     let node = expect_number(words.expect()?)?;

@@ -1,5 +1,6 @@
 //! The lists and the table of messages, kept in step.
-ghost use Rattle.std.specs.Prelude.{◌≡◌, ◌≤◌, ◌<◌, ◌++◌, ◌∷◌, false, true, not, length, is_some, None, [], IfOk, OnOk, OnErr, IsOk, MatchBool};
+ghost use Rattle.std.specs.Prelude.{◌≡◌, ◌≤◌, ◌<◌, ◌++◌, ◌∷◌, false, true, not, length, is_some};
+ghost use Rattle.std.specs.Prelude.{None, [], IfOk, OnOk, OnErr, IsOk, MatchBool};
 ghost use Rattle.std.specs.Map.{lookup, keys_of};
 ghost use Rattle.std.specs.List.{IsDistinct};
 ghost use Rattle.std.specs.List.Sorted.{IsStrictlySortedBy};
@@ -25,14 +26,16 @@ pub fn take<P: PublicKey, M: Digestible>(
     deque_size: usize,
 ) -> Result<bool, AllocError>
     requires indexed { IsIndexed (same_by P.cmp M.Digest.cmp) lists.old.lists table.old }
-    requires fits { length (items_at (eq_by_cmp P.cmp) peer.now (digest_lists lists.old.lists)) ≤ deque_size }
+    requires fits { length (items_at (eq_by_cmp P.cmp) peer.now (digest_lists lists.old.lists))
+        ≤ deque_size }
     ensures indexed { IsIndexed (same_by P.cmp M.Digest.cmp) lists.new.lists table.new }
     ensures new { let same = same_by P.cmp M.Digest.cmp in
         let ds = items_at same.key peer.now (digest_lists lists.old.lists) in
         IfOk result (λ new. new ≡ not (among same.digest message.now.digest ds)) }
     ensures ok { OnOk result (Stores (same_by P.cmp M.Digest.cmp) peer.now message.now deque_size
         (stored_of lists.old.lists table.old) (stored_of lists.new.lists table.new)) }
-    ensures err { OnErr result (stored_of lists.new.lists table.new ≡ stored_of lists.old.lists table.old) }
+    ensures err { OnErr result (stored_of lists.new.lists table.new
+        ≡ stored_of lists.old.lists table.old) }
     ensures succeeds_on_duplicate { among (eq_by_cmp M.Digest.cmp) message.now.digest
         (items_at (eq_by_cmp P.cmp) peer.now (digest_lists lists.old.lists)) ≡ true → IsOk result }
     ensures succeeds_at_size_zero { deque_size ≡ 0 → IsOk result }
@@ -57,8 +60,10 @@ fn renew<P: PublicKey, M: Digestible>(
     deque_size: usize,
 )
     requires indexed { IsIndexed (same_by P.cmp M.Digest.cmp) lists.old.lists table.now }
-    requires there { place_at (eq_by_cmp M.Digest.cmp) (eq_by_cmp P.cmp) table.now message.now.digest peer.now ≡ Some place }
-    requires fits { length (items_at (eq_by_cmp P.cmp) peer.now (digest_lists lists.old.lists)) ≤ deque_size }
+    requires there { place_at (eq_by_cmp M.Digest.cmp)
+        (eq_by_cmp P.cmp) table.now message.now.digest peer.now ≡ Some place }
+    requires fits { length (items_at (eq_by_cmp P.cmp) peer.now (digest_lists lists.old.lists))
+        ≤ deque_size }
     ensures indexed { IsIndexed (same_by P.cmp M.Digest.cmp) lists.new.lists table.now }
     ensures stores { Stores (same_by P.cmp M.Digest.cmp) peer.now message.now deque_size
         (stored_of lists.old.lists table.now) (stored_of lists.new.lists table.now) }
@@ -81,13 +86,17 @@ fn insert<P: PublicKey, M: Digestible>(
     is_cached: bool,
 ) -> Result<bool, AllocError>
     requires indexed { IsIndexed (same_by P.cmp M.Digest.cmp) lists.old.lists table.old }
-    requires absent { place_at (eq_by_cmp M.Digest.cmp) (eq_by_cmp P.cmp) table.old message.now.digest peer.now ≡ None }
-    requires cached { is_cached ≡ is_some (lookup (eq_by_cmp M.Digest.cmp message.now.digest) table.old) }
-    requires fits { length (items_at (eq_by_cmp P.cmp) peer.now (digest_lists lists.old.lists)) ≤ deque_size }
+    requires absent { place_at (eq_by_cmp M.Digest.cmp)
+        (eq_by_cmp P.cmp) table.old message.now.digest peer.now ≡ None }
+    requires cached { is_cached ≡ is_some (lookup
+        (eq_by_cmp M.Digest.cmp message.now.digest) table.old) }
+    requires fits { length (items_at (eq_by_cmp P.cmp) peer.now (digest_lists lists.old.lists))
+        ≤ deque_size }
     ensures indexed { IsIndexed (same_by P.cmp M.Digest.cmp) lists.new.lists table.new }
     ensures ok { OnOk result (Stores (same_by P.cmp M.Digest.cmp) peer.now message.now deque_size
         (stored_of lists.old.lists table.old) (stored_of lists.new.lists table.new)) }
-    ensures err { OnErr result (stored_of lists.new.lists table.new ≡ stored_of lists.old.lists table.old) }
+    ensures err { OnErr result (stored_of lists.new.lists table.new
+        ≡ stored_of lists.old.lists table.old) }
     ensures new { IfOk result (λ new. new ≡ true) }
     ensures succeeds_at_size_zero { deque_size ≡ 0 → IsOk result }
 {
@@ -115,13 +124,16 @@ fn add<P: PublicKey, M: Digestible>(
     is_cached: bool,
 ) -> Result<(), AllocError>
     requires indexed { IsIndexed (same_by P.cmp M.Digest.cmp) lists.old.lists table.old }
-    requires absent { place_at (eq_by_cmp M.Digest.cmp) (eq_by_cmp P.cmp) table.old message.now.digest peer.now ≡ None }
-    requires cached { is_cached ≡ is_some (lookup (eq_by_cmp M.Digest.cmp message.now.digest) table.old) }
+    requires absent { place_at (eq_by_cmp M.Digest.cmp)
+        (eq_by_cmp P.cmp) table.old message.now.digest peer.now ≡ None }
+    requires cached { is_cached ≡ is_some (lookup
+        (eq_by_cmp M.Digest.cmp message.now.digest) table.old) }
     requires shorter { length (items_at (eq_by_cmp P.cmp) peer.now lists.old.lists) < deque_size }
     ensures indexed { IsIndexed (same_by P.cmp M.Digest.cmp) lists.new.lists table.new }
     ensures ok { OnOk result (Stores (same_by P.cmp M.Digest.cmp) peer.now message.now deque_size
         (stored_of lists.old.lists table.old) (stored_of lists.new.lists table.new)) }
-    ensures err { OnErr result (stored_of lists.new.lists table.new ≡ stored_of lists.old.lists table.old) }
+    ensures err { OnErr result (stored_of lists.new.lists table.new
+        ≡ stored_of lists.old.lists table.old) }
 {
     let _old = lists.len();
     hold(table, peer, message, lists.vacant(), is_cached)?;
@@ -146,14 +158,18 @@ fn replace<P: PublicKey, M: Digestible>(
     stale: M::Digest,
 ) -> Result<(), AllocError>
     requires indexed { IsIndexed (same_by P.cmp M.Digest.cmp) lists.old.lists table.old }
-    requires absent { place_at (eq_by_cmp M.Digest.cmp) (eq_by_cmp P.cmp) table.old message.now.digest peer.now ≡ None }
-    requires cached { is_cached ≡ is_some (lookup (eq_by_cmp M.Digest.cmp message.now.digest) table.old) }
+    requires absent { place_at (eq_by_cmp M.Digest.cmp)
+        (eq_by_cmp P.cmp) table.old message.now.digest peer.now ≡ None }
+    requires cached { is_cached ≡ is_some (lookup
+        (eq_by_cmp M.Digest.cmp message.now.digest) table.old) }
     requires full { length (items_at (eq_by_cmp P.cmp) peer.now lists.old.lists) ≡ deque_size }
-    requires oldest { IsOldest (place, stale) (items_at (eq_by_cmp P.cmp) peer.now lists.old.lists) }
+    requires oldest { IsOldest (place, stale) (items_at
+        (eq_by_cmp P.cmp) peer.now lists.old.lists) }
     ensures indexed { IsIndexed (same_by P.cmp M.Digest.cmp) lists.new.lists table.new }
     ensures ok { OnOk result (Stores (same_by P.cmp M.Digest.cmp) peer.now message.now deque_size
         (stored_of lists.old.lists table.old) (stored_of lists.new.lists table.new)) }
-    ensures err { OnErr result (stored_of lists.new.lists table.new ≡ stored_of lists.old.lists table.old) }
+    ensures err { OnErr result (stored_of lists.new.lists table.new
+        ≡ stored_of lists.old.lists table.old) }
 {
     let _old = lists.len();
     hold(table, peer, message, place, is_cached)?;
@@ -173,9 +189,12 @@ fn hold<P: PublicKey, M: Digestible>(
     is_cached: bool,
 ) -> Result<(), AllocError>
     requires placed { IsPlaced (eq_by_cmp M.Digest.cmp) (eq_by_cmp P.cmp) table.old }
-    requires cached { is_cached ≡ is_some (lookup (eq_by_cmp M.Digest.cmp message.now.digest) table.old) }
-    ensures ok { OnOk result (Holds (same_by P.cmp M.Digest.cmp) M.Digest.cmp peer.now message.now place table.old table.new) }
-    ensures err { OnErr result (IsSame (eq_by_cmp M.Digest.cmp) (eq_by_cmp P.cmp) table.old table.new) }
+    requires cached { is_cached ≡ is_some (lookup
+        (eq_by_cmp M.Digest.cmp message.now.digest) table.old) }
+    ensures ok { OnOk result (Holds (same_by P.cmp M.Digest.cmp) M.Digest.cmp peer.now
+        message.now place table.old table.new) }
+    ensures err { OnErr result (IsSame (eq_by_cmp M.Digest.cmp)
+        (eq_by_cmp P.cmp) table.old table.new) }
     ensures placed { IsPlaced (eq_by_cmp M.Digest.cmp) (eq_by_cmp P.cmp) table.new }
 {
     let owner = peer.clone()?;
@@ -217,7 +236,8 @@ fn remove<P: PublicKey, M: Digestible>(
 )
     requires { IsIndexed (same_by P.cmp M.Digest.cmp) lists.old.lists table.old }
     ensures indexed { IsIndexed (same_by P.cmp M.Digest.cmp) lists.new.lists table.new }
-    ensures clears { Clears (same_by P.cmp M.Digest.cmp) peer.now lists.old.lists lists.new.lists table.old table.new }
+    ensures clears { Clears (same_by P.cmp M.Digest.cmp) peer.now lists.old.lists lists.new.lists
+        table.old table.new }
 {
     while let Some(stale) = lists.evict(peer) {
         table.remove(&stale, peer);
