@@ -3,7 +3,7 @@ ghost use Rattle.std.specs.Prelude.{◌≡◌, List, [], ◌∷◌, ◌++◌, If
 ghost use Rattle.futures.specs.Poll.{IfReady, OnPending};
 ghost use Rattle.futures.specs.Task.{IsArmed, Keeps};
 ghost use Rattle.commonware_broadcast.specs.declared.buffered.ingress.message.Message.{Message};
-ghost use Rattle.broadcast_engine.specs.declared.buffered.engine.input.Request.{Request};
+ghost use Rattle.commonware_broadcast.specs.declared.buffered.ingress.request.Request.{Request};
 ghost use Rattle.broadcast_engine.specs.Sources.{given_ok};
 ghost use Rattle.broadcast_engine.specs.Taken.{sets_in, requests_in, payloads_in};
 ghost use Rattle.broadcast_engine.specs.Order.{UnlessPeerSet};
