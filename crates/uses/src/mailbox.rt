@@ -26,7 +26,7 @@ where
 fn wait_for<R>(
     rt: &R,
     mailbox: &Mailbox<u64, TestMessage, R>,
-    ingress: &Ingress<u64, TestMessage, R>,
+    ingress: &Ingress<Incoming<u64, TestMessage>, R>,
     message: &Digested<TestMessage>,
 ) -> Result<(bool, bool), Error>
 where
@@ -42,7 +42,7 @@ where
 
 /// Takes `count` requests, and replies to them.
 fn serve<R: Wait>(
-    ingress: &Ingress<u64, TestMessage, R>,
+    ingress: &Ingress<Incoming<u64, TestMessage>, R>,
     message: &Digested<TestMessage>,
     count: u64,
 ) -> Result<(), AllocError> {
