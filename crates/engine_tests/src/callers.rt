@@ -31,18 +31,14 @@ where
 
     /// Broadcasts a message. Returns whether its caller is told what it should be.
     pub fn broadcasts(&self, alloc: Global, act: Act) -> Result<bool, AllocError> {
-        match act {
-            Act::Broadcast(key, to, letter) => {
-                Ok(accepted(self.told(alloc, key, to, (letter, letter))?))
-            }
-            Act::BroadcastAs(key, to, letter, goes_by) => {
-                Ok(accepted(self.told(alloc, key, to, (letter, goes_by))?))
-            }
-            Act::Told(key, feedback) => {
-                Ok(self.told(alloc, key, To::All, (b'z', b'z'))? == Some(feedback))
-            }
-            _ => Ok(false),
-        }
+        let (key, to, letter, goes_by) = match act {
+            Act::Broadcast(key, to, letter) => (key, to, letter, letter),
+            Act::BroadcastAs(key, to, letter, goes_by) => (key, to, letter, goes_by),
+            Act::Told(key, _) => (key, To::All, b'z', b'z'),
+            _ => return Ok(false),
+        };
+        let told = self.told(alloc, key, to, (letter, goes_by))?;
+        Ok(is_told(act, told))
     }
 
     /// Broadcasts the message of the letter, by the digest of another's. Returns what its caller is
@@ -115,9 +111,12 @@ where
     }
 }
 
-/// Returns whether a broadcast was accepted.
-fn accepted(told: Option<Feedback>) -> bool {
-    told.is_some_and(|feedback| feedback.accepted())
+/// Returns whether the caller is told what it should be.
+fn is_told(act: Act, told: Option<Feedback>) -> bool {
+    match act {
+        Act::Told(_, feedback) => told == Some(feedback),
+        _ => told.is_some_and(|feedback| feedback.accepted()),
+    }
 }
 
 /// Makes the get or the subscribe.

@@ -83,11 +83,7 @@ where
     }
 
     /// Adds a node.
-    fn add(
-        &mut self,
-        rt: &R,
-        cfg: Config<u64, M::Cfg, Peers, Gated>,
-    ) -> Result<(), AllocError> {
+    fn add(&mut self, rt: &R, cfg: Config<u64, M::Cfg, Peers, Gated>) -> Result<(), AllocError> {
         let (engine, mailbox) = start(rt, cfg)?;
         self.callers.mailboxes.push(mailbox)?;
         self.engines.push(engine)?;
@@ -190,13 +186,7 @@ where
     }
 
     /// Asks, lets all nodes run, and returns whether a message came or not. The future is dropped.
-    fn finds(
-        &mut self,
-        rt: &R,
-        alloc: Global,
-        asks: Act,
-        found: bool,
-    ) -> Result<bool, AllocError> {
+    fn finds(&mut self, rt: &R, alloc: Global, asks: Act, found: bool) -> Result<bool, AllocError> {
         let asked = self.callers.ask(alloc, asks)?;
         let ran = self.run(alloc)?;
         Ok(asked && ran && self.callers.hears(rt) == found)
