@@ -50,6 +50,8 @@ pub enum Act {
     Holds(u64, u64),
     /// A stop is requested.
     Stop(u64),
+    /// The engine with the greatest key is closed.
+    CloseLast,
     /// The engine is polled once: this is its turn, or it is pending.
     Poll(u64, Option<Turn>),
     /// All nodes run until they are pending.
@@ -112,8 +114,25 @@ where
     M::Cfg: Copy + Drop,
     R: Wait + RandomSource + AllocGlobal + Clone + Send + Drop + 'static,
 {
-    let mut world: World<M, R> = World::new(rt, rt.alloc(), sizes, codec_config)?;
-    Ok(wrong_place(rt, &mut world, acts)?)
+    let mut world: World<M, R> = World::new(rt.alloc());
+    play(rt, &mut world, sizes, codec_config, acts)
+}
+
+/// Adds the nodes, and makes the actions.
+fn play<M, R>(
+    rt: &R,
+    world: &mut World<M, R>,
+    sizes: Sizes,
+    codec_config: M::Cfg,
+    acts: &[Act],
+) -> io::Result<Option<usize>>
+where
+    M: Letter,
+    M::Cfg: Copy + Drop,
+    R: Wait + RandomSource + AllocGlobal + Clone + Send + Drop + 'static,
+{
+    world.add_all(rt, sizes, codec_config)?;
+    Ok(wrong_place(rt, world, acts)?)
 }
 
 /// Makes the actions, and returns the place of the first that does not go as it should.

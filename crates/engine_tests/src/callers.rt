@@ -3,7 +3,7 @@ use super::act::Act;
 use super::asked::{Asked, Given};
 use super::message::{Letter, To, digest, digested, recipients};
 use super::wires::place;
-use broadcast_core::Digestible;
+use broadcast_core::{Digested, Digestible, Recipients};
 use commonware_broadcast::buffered::Mailbox;
 use commonware_broadcast::{Broadcaster, Feedback, MailboxError};
 use std::alloc::{AllocError, AllocGlobal, Global};
@@ -22,20 +22,44 @@ where
     M: Letter,
     R: Wait + RandomSource + AllocGlobal + Clone + Send + 'static,
 {
+    pub fn new(alloc: Global) -> Self {
+        Callers {
+            mailboxes: Vec::new(alloc),
+            asked: Vec::new(alloc),
+        }
+    }
+
+    /// Broadcasts a message. Returns whether its caller is told what it should be.
+    pub fn broadcasts(&self, alloc: Global, act: Act) -> Result<bool, AllocError> {
+        let (key, to, letter, goes_by) = match act {
+            Act::Broadcast(key, to, letter) => (key, to, letter, letter),
+            Act::BroadcastAs(key, to, letter, goes_by) => (key, to, letter, goes_by),
+            Act::Told(key, _) => (key, To::All, b'z', b'z'),
+            _ => return Ok(false),
+        };
+        let told = self.told(alloc, key, to, (letter, goes_by))?;
+        Ok(is_told(act, told))
+    }
+
     /// Broadcasts the message of the letter, by the digest of another's. Returns what its caller is
     /// told, or nothing if it is refused.
-    pub fn told(
+    fn told(
         &self,
         alloc: Global,
         key: u64,
         to: To,
         letters: (u8, u8),
     ) -> Result<Option<Feedback>, AllocError> {
-        let message = digested::<M>(alloc, letters.0, letters.1)?;
         let recipients = recipients(alloc, to)?;
+        let message = digested::<M>(alloc, letters.0, letters.1)?;
+        Ok(self.tell(key, recipients, message))
+    }
+
+    /// Broadcasts the message. Returns what its caller is told, or nothing if it is refused.
+    fn tell(&self, key: u64, to: Recipients<u64>, message: Digested<M>) -> Option<Feedback> {
         match self.mailboxes.get(place(key)) {
-            Some(mailbox) => Ok(mailbox.broadcast(recipients, message).ok()),
-            None => Ok(None),
+            Some(mailbox) => mailbox.broadcast(to, message).ok(),
+            None => None,
         }
     }
 
@@ -45,14 +69,18 @@ where
             return Ok(false);
         };
         let digest = digest::<M>(alloc, letter)?;
+        Ok(self.ask_for(key, act, digest))
+    }
+
+    /// Makes the get or the subscribe. Returns whether it is queued.
+    fn ask_for(&mut self, key: u64, act: Act, digest: M::Digest) -> bool {
         let Some(mailbox) = self.mailboxes.get(place(key)) else {
-            return Ok(false);
+            return false;
         };
-        let Ok(asked) = asked(mailbox, act, digest) else {
-            return Ok(false);
-        };
-        self.asked.push(asked)?;
-        Ok(true)
+        match asked(mailbox, act, digest) {
+            Ok(asked) => self.asked.push(asked).is_ok(),
+            Err(_) => false,
+        }
     }
 
     /// Returns whether the future of the number gives this.
@@ -80,6 +108,14 @@ where
             }
             None => false,
         }
+    }
+}
+
+/// Returns whether the caller is told what it should be.
+fn is_told(act: Act, told: Option<Feedback>) -> bool {
+    match act {
+        Act::Told(_, feedback) => told == Some(feedback),
+        _ => told.is_some_and(|feedback| feedback.accepted()),
     }
 }
 

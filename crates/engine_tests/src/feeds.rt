@@ -1,8 +1,10 @@
 //! The providers and the jobs of nodes with the keys from 1.
-use super::job::Gate;
+use super::job::{Gate, Gated};
 use super::message::peers;
-use super::peers::Feed;
+use super::peers::{Feed, Peers};
 use super::wires::place;
+use super::world::Sizes;
+use broadcast_engine::buffered::Config;
 use std::alloc::{AllocError, Global};
 use std::rc::Rc;
 
@@ -17,8 +19,10 @@ impl Source {
     /// Creates what feeds one node.
     pub fn new(alloc: Global) -> Result<Self, AllocError> {
         let feed = Feed::new(alloc)?;
-        let gate = Gate::new(alloc)?;
-        Ok(Source { feed, gate })
+        Ok(Source {
+            feed,
+            gate: Gate::new(alloc)?,
+        })
     }
 }
 
@@ -27,6 +31,40 @@ impl Source {
 pub struct Feeds(pub Vec<Source>);
 
 impl Feeds {
+    /// Adds what feeds one more node.
+    pub fn add(&mut self, alloc: Global) -> Result<(), AllocError> {
+        self.0.push(Source::new(alloc)?)?;
+        Ok(())
+    }
+
+    /// Returns the configuration of the node. Its messages are sent as priority if its key is even.
+    pub fn config<C: Drop>(
+        &self,
+        key: u64,
+        sizes: Sizes,
+        codec_config: C,
+    ) -> Result<Config<u64, C, Peers, Gated>, AllocError> {
+        let (peer_provider, strategy) = self.ends(key)?;
+        Ok(Config {
+            public_key: key,
+            mailbox_size: sizes.mailbox,
+            deque_size: sizes.deque,
+            priority: key % 2 == 0,
+            codec_config,
+            peer_provider,
+            strategy,
+        })
+    }
+
+    /// Returns the ends that an engine takes.
+    fn ends(&self, key: u64) -> Result<(Peers, Gated), AllocError> {
+        let Some(source) = self.0.get(place(key)) else {
+            return Err(AllocError);
+        };
+        let peers = Peers(source.feed.clone()?);
+        Ok((peers, Gated(source.gate.clone()?)))
+    }
+
     /// Gives the node a peer set. Returns whether there is such a node.
     pub fn track(&self, alloc: Global, key: u64, keys: &[u64]) -> Result<bool, AllocError> {
         let peers = peers(alloc, keys)?;

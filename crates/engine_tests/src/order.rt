@@ -8,7 +8,7 @@ use broadcast_engine::buffered::{EndCause, Status, Turn};
 use commonware_broadcast::Feedback;
 use std::test::Fail;
 
-static ROWS: [Row; 9] = [
+static ROWS: [Row; 10] = [
     Row {
         name: "a peer set comes before a request, and a request before a payload",
         nodes: 1,
@@ -198,6 +198,24 @@ static ROWS: [Row; 9] = [
             Act::Poll(1, Some(Turn::Ended(EndCause::Stopped))),
             Act::Counts(1, Metric::Peer(5), 1),
             Act::Counts(1, Metric::Receive(Status::Success), 0),
+        ],
+    },
+    Row {
+        name: "a closed engine leaves its mailbox closed",
+        nodes: 1,
+        sizes: (1024, 10),
+        acts: &[
+            Act::Subscribe(1, b'a'),
+            Act::Run,
+            Act::Get(1, b'b'),
+            Act::Gives(0, Given::Waits),
+            Act::Gives(1, Given::Waits),
+            Act::CloseLast,
+            Act::Gives(0, Given::Nothing),
+            Act::Gives(1, Given::Nothing),
+            Act::Told(1, Feedback::Closed),
+            Act::Get(1, b'b'),
+            Act::Gives(2, Given::Nothing),
         ],
     },
 ];

@@ -18,13 +18,18 @@ pub fn place(key: u64) -> usize {
 }
 
 impl Wires {
-    /// Creates the ends of the nodes.
-    pub fn new(alloc: Global, number: u64) -> Result<Self, AllocError> {
-        let mut ends = Vec::new(alloc);
-        for _ in 0..number {
-            ends.push((Outbound::new(alloc), Inbound::new(alloc)))?;
+    /// Creates a network without nodes.
+    pub fn new(alloc: Global) -> Self {
+        Wires {
+            ends: Vec::new(alloc),
+            lose: 0,
         }
-        Ok(Wires { ends, lose: 0 })
+    }
+
+    /// Adds the ends of one more node.
+    pub fn add(&mut self, alloc: Global) -> Result<(), AllocError> {
+        self.ends.push((Outbound::new(alloc), Inbound::new(alloc)))?;
+        Ok(())
     }
 
     /// Hands the node a payload of the peer. Returns whether there is such a node.

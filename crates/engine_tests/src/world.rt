@@ -1,14 +1,15 @@
 //! Engines over a network in memory, which one thread drives.
 use super::act::Act;
 use super::callers::Callers;
-use super::feeds::{Feeds, Source};
+use super::feeds::Feeds;
 use super::job::Gated;
-use super::message::{Letter, To};
+use super::message::{Letter, payload};
 use super::network::{Inbound, Outbound};
 use super::peers::Peers;
 use super::wires::{Wires, place};
 use broadcast_core::{Codec, Digestible};
 use broadcast_engine::buffered::{Config, Engine, MailboxEngine, Metrics, Status, Turn};
+use commonware_broadcast::buffered::Mailbox;
 use futures::task::{Doorbell, Poll, Solo};
 use std::alloc::{AllocError, AllocGlobal, Global};
 use std::io;
@@ -34,17 +35,14 @@ pub enum Metric {
     Waiters,
 }
 
-/// An engine, and the task that polls it.
-#[derive(Drop)]
-struct Polled<M: Digestible + Codec, R: Wait> {
-    engine: MailboxEngine<u64, M, Peers, Gated, R>,
-    task: Solo,
-}
+/// The engine of a node.
+type Node<M, R> = MailboxEngine<u64, M, Peers, Gated, R>;
 
 /// Nodes with the keys from 1.
 #[derive(Drop)]
 pub struct World<M: Digestible + Codec, R: Wait> {
-    engines: Vec<Polled<M, R>>,
+    engines: Vec<Node<M, R>>,
+    tasks: Vec<Solo>,
     callers: Callers<M, R>,
     feeds: Feeds,
     wires: Wires,
@@ -56,55 +54,45 @@ where
     M::Cfg: Copy + Drop,
     R: Wait + RandomSource + AllocGlobal + Clone + Send + Drop + 'static,
 {
-    /// Creates the nodes.
-    pub fn new(rt: &R, alloc: Global, sizes: Sizes, codec_config: M::Cfg) -> io::Result<Self> {
-        let mut world = World {
+    /// Creates a world without nodes.
+    pub fn new(alloc: Global) -> Self {
+        World {
             engines: Vec::new(alloc),
-            callers: Callers {
-                mailboxes: Vec::new(alloc),
-                asked: Vec::new(alloc),
-            },
+            tasks: Vec::new(alloc),
+            callers: Callers::new(alloc),
             feeds: Feeds(Vec::new(alloc)),
-            wires: Wires::new(alloc, sizes.nodes)?,
-        };
-        world.add_all(rt, alloc, sizes, codec_config)?;
-        Ok(world)
+            wires: Wires::new(alloc),
+        }
     }
 
     /// Adds the nodes.
-    fn add_all(
-        &mut self,
-        rt: &R,
-        alloc: Global,
-        sizes: Sizes,
-        codec_config: M::Cfg,
-    ) -> io::Result<()> {
+    pub fn add_all(&mut self, rt: &R, sizes: Sizes, codec_config: M::Cfg) -> io::Result<()> {
         for key in 1..=sizes.nodes {
-            let source = Source::new(alloc)?;
-            let cfg = config(key, sizes, codec_config, &source)?;
-            self.feeds.0.push(source)?;
-            self.add(rt, alloc, cfg)?;
+            self.add_sources(rt, rt.alloc())?;
+            let cfg = self.feeds.config(key, sizes, codec_config)?;
+            self.add(rt, cfg)?;
         }
         Ok(())
     }
 
-    /// Adds a node. Its messages are sent as priority if its key is even.
-    fn add(
-        &mut self,
-        rt: &R,
-        alloc: Global,
-        cfg: Config<u64, M::Cfg, Peers, Gated>,
-    ) -> io::Result<()> {
-        let task = Solo::new(rt, Doorbell::spinning())?;
-        let (engine, mailbox) = Engine::new(rt.clone()?, alloc, cfg)?;
-        self.engines.push(Polled { engine, task })?;
+    /// Adds what a node is fed by.
+    fn add_sources(&mut self, rt: &R, alloc: Global) -> io::Result<()> {
+        self.tasks.push(Solo::new(rt, Doorbell::spinning())?)?;
+        self.feeds.add(alloc)?;
+        Ok(self.wires.add(alloc)?)
+    }
+
+    /// Adds a node.
+    fn add(&mut self, rt: &R, cfg: Config<u64, M::Cfg, Peers, Gated>) -> Result<(), AllocError> {
+        let (engine, mailbox) = start(rt, cfg)?;
         self.callers.mailboxes.push(mailbox)?;
+        self.engines.push(engine)?;
         Ok(())
     }
 
     /// Polls each engine, and delivers what they send, until all are pending. Returns whether they
     /// come to that.
-    pub fn run(&mut self, alloc: Global) -> Result<bool, AllocError> {
+    fn run(&mut self, alloc: Global) -> Result<bool, AllocError> {
         for _ in 0..100 {
             if !self.poll_all(alloc) {
                 return Ok(true);
@@ -125,86 +113,136 @@ where
 
     /// Polls the engine at the place once. Returns the turn, if it is ready.
     fn poll(&mut self, alloc: Global, at: usize) -> Option<Turn> {
-        let polled = self.engines.get_mut(at)?;
+        let engine = self.engines.get_mut(at)?;
+        let task = self.tasks.get_mut(at)?;
         let network = self.wires.ends.get_mut(at)?;
-        polled.poll(alloc, network)
+        poll(engine, task, alloc, network)
     }
 
     /// Does what the action says. Returns whether it goes as it should.
     pub fn goes(&mut self, rt: &R, alloc: Global, act: Act) -> Result<bool, AllocError> {
         match act {
             Act::Run => self.run(alloc),
-            Act::Poll(key, turn) => Ok(self.poll(alloc, place(key)) == turn),
-            Act::Counts(key, metric, number) => Ok(self.count(place(key), metric) == Some(number)),
-            Act::Woken(key, woken) => Ok(self.is_woken(place(key)) == Some(woken)),
-            Act::Stop(key) => self.stop(place(key)),
-            Act::Finds(..) | Act::Hears(..) => self.finds(rt, alloc, act),
-            Act::AllTrack(keys) => {
-                self.feeds.track_all(alloc, keys)?;
-                self.run(alloc)
+            Act::AllTrack(keys) => self.track_all(alloc, keys),
+            Act::Finds(key, letter, found) => self.finds(rt, alloc, Act::Get(key, letter), found),
+            Act::Hears(key, letter, heard) => {
+                self.finds(rt, alloc, Act::Subscribe(key, letter), heard)
             }
-            _ => goes_outside(
-                &mut self.callers,
-                &mut self.wires,
-                &self.feeds,
-                rt,
-                alloc,
-                act,
-            ),
+            Act::Poll(key, turn) => Ok(self.poll(alloc, place(key)) == turn),
+            Act::Woken(key, woken) => Ok(self.is_woken(place(key)) == Some(woken)),
+            _ => self.goes_inside(rt, alloc, act),
         }
+    }
+
+    /// Does what the action says of one part of the world. Returns whether it goes as it should.
+    fn goes_inside(&mut self, rt: &R, alloc: Global, act: Act) -> Result<bool, AllocError> {
+        match act {
+            Act::Counts(key, metric, number) => Ok(self.count(place(key), metric) == Some(number)),
+            Act::Stop(key) => Ok(self.stop(place(key))),
+            Act::CloseLast => Ok(self.close_last()),
+            Act::Broadcast(..) | Act::BroadcastAs(..) | Act::Told(..) => {
+                self.callers.broadcasts(alloc, act)
+            }
+            Act::Subscribe(..) | Act::Get(..) => self.callers.ask(alloc, act),
+            Act::Gives(number, given) => Ok(self.callers.gives(rt, number, given)),
+            Act::Hang(number) => Ok(self.callers.hang(number)),
+            _ => feeds_one::<M>(&mut self.wires, &self.feeds, alloc, act),
+        }
+    }
+
+    /// Gives all nodes the peer set, and lets them run.
+    fn track_all(&mut self, alloc: Global, keys: &[u64]) -> Result<bool, AllocError> {
+        self.feeds.track_all(alloc, keys)?;
+        self.run(alloc)
     }
 
     /// Returns the counter of the engine at the place.
     fn count(&self, at: usize, metric: Metric) -> Option<u64> {
-        Some(count(self.engines.get(at)?.engine.metrics(), metric))
+        Some(count(self.engines.get(at)?.metrics(), metric))
     }
 
     /// Returns whether the engine at the place was woken since its last poll.
     fn is_woken(&self, at: usize) -> Option<bool> {
-        Some(is_woken(&self.engines.get(at)?.task))
+        Some(is_woken(self.tasks.get(at)?))
     }
 
     /// Asks the engine at the place to stop. Returns whether there is one.
-    fn stop(&self, at: usize) -> Result<bool, AllocError> {
-        let Some(polled) = self.engines.get(at) else {
-            return Ok(false);
-        };
-        polled.engine.requests().stopper()?.request_stop();
-        Ok(true)
+    fn stop(&self, at: usize) -> bool {
+        match self.engines.get(at) {
+            Some(engine) => stop(engine),
+            None => false,
+        }
+    }
+
+    /// Closes the engine with the greatest key. Returns whether there is one.
+    fn close_last(&mut self) -> bool {
+        match self.engines.pop() {
+            Some(engine) => {
+                engine.close();
+                true
+            }
+            None => false,
+        }
     }
 
     /// Asks, lets all nodes run, and returns whether a message came or not. The future is dropped.
-    fn finds(&mut self, rt: &R, alloc: Global, act: Act) -> Result<bool, AllocError> {
-        let (asks, found) = match act {
-            Act::Finds(key, letter, found) => (Act::Get(key, letter), found),
-            Act::Hears(key, letter, heard) => (Act::Subscribe(key, letter), heard),
-            _ => (act, false),
-        };
+    fn finds(&mut self, rt: &R, alloc: Global, asks: Act, found: bool) -> Result<bool, AllocError> {
         let asked = self.callers.ask(alloc, asks)?;
         let ran = self.run(alloc)?;
         Ok(asked && ran && self.callers.hears(rt) == found)
     }
 }
 
-impl<M, R> Polled<M, R>
+/// Starts an engine.
+fn start<M, R>(
+    rt: &R,
+    cfg: Config<u64, M::Cfg, Peers, Gated>,
+) -> Result<(Node<M, R>, Mailbox<u64, M, R>), AllocError>
+where
+    M: Letter,
+    M::Cfg: Drop,
+    R: Wait + AllocGlobal + Clone + Drop,
+{
+    Engine::new(rt.clone()?, rt.alloc(), cfg)
+}
+
+/// Polls the engine once. Returns the turn, if it is ready.
+fn poll<M, R>(
+    engine: &mut Node<M, R>,
+    task: &mut Solo,
+    alloc: Global,
+    network: &mut (Outbound, Inbound),
+) -> Option<Turn>
 where
     M: Letter,
     R: Wait + Drop,
 {
-    /// Polls the engine once. Returns the turn, if it is ready.
-    fn poll(&mut self, alloc: Global, network: &mut (Outbound, Inbound)) -> Option<Turn> {
-        let mut cx = self.task.begin();
-        match self.engine.poll(alloc, &mut cx, network) {
-            Poll::Ready(turn) => {
-                let _: Poll<()> = cx.yield_now();
-                cx.park();
-                Some(turn)
-            }
-            Poll::Pending => {
-                cx.park();
-                None
-            }
+    let mut cx = task.begin();
+    match engine.poll(alloc, &mut cx, network) {
+        Poll::Ready(turn) => {
+            let _: Poll<()> = cx.yield_now();
+            cx.park();
+            Some(turn)
         }
+        Poll::Pending => {
+            cx.park();
+            None
+        }
+    }
+}
+
+/// Asks the engine to stop. Returns whether there is memory to ask.
+fn stop<M, R>(engine: &Node<M, R>) -> bool
+where
+    M: Letter,
+    R: Wait + Clone + Drop,
+{
+    match engine.requests().stopper() {
+        Ok(stopper) => {
+            stopper.request_stop();
+            true
+        }
+        Err(_) => false,
     }
 }
 
@@ -230,70 +268,6 @@ fn count(metrics: &Metrics<u64>, metric: Metric) -> u64 {
     }
 }
 
-/// The configuration of a node.
-fn config<C: Drop>(
-    key: u64,
-    sizes: Sizes,
-    codec_config: C,
-    source: &Source,
-) -> Result<Config<u64, C, Peers, Gated>, AllocError> {
-    let peer_provider = Peers(source.feed.clone()?);
-    let strategy = Gated(source.gate.clone()?);
-    Ok(Config {
-        public_key: key,
-        mailbox_size: sizes.mailbox,
-        deque_size: sizes.deque,
-        priority: key % 2 == 0,
-        codec_config,
-        peer_provider,
-        strategy,
-    })
-}
-
-/// Does what the action says of callers and sources. Returns whether it goes as it should.
-fn goes_outside<M, R>(
-    callers: &mut Callers<M, R>,
-    wires: &mut Wires,
-    feeds: &Feeds,
-    rt: &R,
-    alloc: Global,
-    act: Act,
-) -> Result<bool, AllocError>
-where
-    M: Letter,
-    R: Wait + RandomSource + AllocGlobal + Clone + Send + 'static,
-{
-    match act {
-        Act::Broadcast(key, to, name) => accepts(callers, alloc, key, to, (name, name)),
-        Act::BroadcastAs(key, to, name, goes_by) => {
-            accepts(callers, alloc, key, to, (name, goes_by))
-        }
-        Act::Told(key, feedback) => {
-            Ok(callers.told(alloc, key, To::All, (b'z', b'z'))? == Some(feedback))
-        }
-        Act::Subscribe(..) | Act::Get(..) => callers.ask(alloc, act),
-        Act::Gives(number, given) => Ok(callers.gives(rt, number, given)),
-        Act::Hang(number) => Ok(callers.hang(number)),
-        _ => feeds_one::<M>(wires, feeds, alloc, act),
-    }
-}
-
-/// Broadcasts the message. Returns whether it is accepted.
-fn accepts<M, R>(
-    callers: &Callers<M, R>,
-    alloc: Global,
-    key: u64,
-    to: To,
-    letters: (u8, u8),
-) -> Result<bool, AllocError>
-where
-    M: Letter,
-    R: Wait + RandomSource + AllocGlobal + Clone + Send + 'static,
-{
-    let told = callers.told(alloc, key, to, letters)?;
-    Ok(told.is_some_and(|feedback| feedback.accepted()))
-}
-
 /// Does what the action says of the sources. Returns whether it goes as it should.
 fn feeds_one<M: Letter>(
     wires: &mut Wires,
@@ -307,7 +281,7 @@ fn feeds_one<M: Letter>(
         Act::Holds(key, polls) => Ok(feeds.hold(key, polls)),
         Act::Payload(key, from, bytes) => wires.hand(alloc, key, from, bytes),
         Act::Comes(key, from, letter) => {
-            let bytes = super::message::payload::<M>(alloc, letter)?;
+            let bytes = payload::<M>(alloc, letter)?;
             wires.hand(alloc, key, from, bytes.as_slice())
         }
         Act::Sends(key, at, to, letter) => wires.sent::<M>(alloc, key, at, to, letter),
