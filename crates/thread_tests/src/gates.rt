@@ -17,8 +17,8 @@ use std::sync::{Arc, Wait};
 use std::test::Fail;
 use std::thread::{self, Threads};
 
-/// How often a worker looks for the other.
-const LOOKS: u64 = 10_000;
+/// How often a worker looks for the other. A busy machine may start its thread late.
+const LOOKS: u64 = 10_000_000;
 
 /// A gate that counts who entered, and who saw two enter.
 #[derive(Drop)]

@@ -3,3 +3,7 @@
 
 #[cfg(test)]
 mod gates;
+#[cfg(test)]
+mod nodes;
+#[cfg(test)]
+mod shutdown;
