@@ -162,7 +162,7 @@ fn counts_with(waiting: u64) -> Counts {
 }
 
 /// Returns whether the next request is that of the call, with this ticket.
-fn is_next<R: Wait>(ingress: &Ingress<u64, Note, R>, ticket: u64, call: Call) -> bool {
+fn is_next<R: Wait>(ingress: &Ingress<Incoming<u64, Note>, R>, ticket: u64, call: Call) -> bool {
     match ingress.take() {
         Some((drawn, request)) => drawn == ticket && is_request_of(&request, call),
         None => false,
