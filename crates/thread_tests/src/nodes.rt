@@ -9,7 +9,7 @@ use std::sync::{Arc, Wait};
 use std::test::Fail;
 use std::thread::Threads;
 
-/// Starts the node of key 1. It has no peers and no payloads as yet.
+/// Starts the node of key 1. It has no peers and no payloads yet.
 pub fn start<M, R>(rt: &R) -> Result<Node<M, R>, Fail>
 where
     M: Letter,
