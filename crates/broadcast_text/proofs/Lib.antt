@@ -3,3 +3,4 @@ pub mod Numbers
 pub mod Written
 pub mod Splits
 pub mod Naming
+pub mod Shown

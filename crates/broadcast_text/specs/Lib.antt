@@ -3,3 +3,4 @@ pub mod Recipients
 pub mod Message
 pub mod FaultText
 pub mod Printed
+pub mod Lists

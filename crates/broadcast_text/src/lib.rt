@@ -7,5 +7,6 @@ pub mod fault;
 pub mod line_error;
 pub mod lines;
 pub mod message;
+pub mod peer_list;
 pub mod recipients;
 pub mod words;

@@ -9,11 +9,12 @@ mod settings;
 
 use broadcast_core::{Event, Run, TestMessage, run};
 use broadcast_text::fault::Fault;
+use broadcast_text::peer_list::lists_of;
 use commonware_broadcast::buffered::Inbox;
 use events::read_events;
 pub use loopback::Request;
 use loopback::loop_back;
-use report::{lists_of, write_report};
+use report::write_report;
 pub use settings::read_arguments;
 use settings::{Settings, USAGE};
 use std::alloc::{AllocError, Global};

@@ -10,7 +10,7 @@ mod steps;
 use broadcast_core::RangeCfg;
 use broadcast_text::fault::Fault;
 use broadcast_world::{Comparison, Step, compare};
-use report::{part_of, write_part};
+use report::{nodes_of, write_part};
 pub use settings::read_arguments;
 use settings::{Settings, world_fault};
 use std::alloc::Global;
@@ -69,12 +69,14 @@ fn run_both(
 /// Prints the report. All allocations come before the first line, so that a refused one prints
 /// nothing.
 fn print<W: Write + Drop>(alloc: Global, both: &Comparison<u64>, out: W) -> Result<(), Fault> {
-    let with = part_of(alloc, "with", &both.with_log, &both.with_world)?;
-    let without = part_of(alloc, "without", &both.without_log, &both.without_world)?;
+    let with = nodes_of(alloc, &both.with_world)?;
+    let without = nodes_of(alloc, &both.without_world)?;
     let Ok(mut out) = BufWriter::with_capacity(alloc, BUFFER_LEN, out) else {
         return Err(Fault::Memory);
     };
-    if write_part(&mut out, &with).is_err() || write_part(&mut out, &without).is_err() {
+    if write_part(&mut out, "with", &both.with_log, &with).is_err()
+        || write_part(&mut out, "without", &both.without_log, &without).is_err()
+    {
         return Err(Fault::Write);
     }
     out.flush().map_err(|_| Fault::Write)

@@ -1,127 +1,132 @@
 //! What the program prints.
+ghost use Rattle.std.specs.Prelude.{◌≡◌, IfOk, OnOk};
+ghost use Rattle.std.specs.List.{flat_map};
+ghost use Rattle.std.specs.Option.{option_copied};
+ghost use Rattle.std.specs.Io.KnownBytes.{Appends};
+ghost use Rattle.world_lib.specs.Report.{lists_in, nodes_shown, step_line, node_line, node_lines, part_text};
+
 use broadcast_core::{Core, TestMessage};
 use broadcast_text::answer::write_answer;
-use broadcast_text::byte_list::write_spaced;
+use broadcast_text::peer_list::{PeerList, lists_of, write_list};
 use broadcast_world::{World, WorldAnswer, WorldLog};
 use std::alloc::{AllocError, Global};
 use std::io::{self, Write};
+use std::marker::Model;
 
-/// The messages of a node's list for a peer, newest first.
+/// The lists of a node.
 #[derive(Drop)]
-struct NodeList<'a> {
+pub struct NodeLists<'a> {
     node: u64,
-    peer: u64,
-    messages: Vec<&'a TestMessage>,
+    lists: Vec<PeerList<'a>>,
 }
 
-/// What is printed of one run.
-#[derive(Drop)]
-pub struct Part<'a> {
-    title: &'static str,
-    answers: &'a [WorldAnswer],
-    lists: Vec<NodeList<'a>>,
+/// The node and its lists.
+impl<'a> Model for NodeLists<'a> {
+    ghost use Rattle.std.specs.Prelude.{ℕ, List};
+
+    ghost Value = { ℕ × List (ℕ × List (List ℕ)) };
+
+    ghost view = { λ it. (it.node, it.lists.items) };
 }
 
-/// Returns what is printed of the run under the title.
-pub fn part_of<'a>(
-    alloc: Global,
-    title: &'static str,
-    log: &'a WorldLog,
-    world: &'a World<u64>,
-) -> Result<Part<'a>, AllocError> {
-    Ok(Part {
-        title,
-        answers: log.answers.as_slice(),
-        lists: lists_of(alloc, world)?,
-    })
-}
-
-/// Returns the lists that are not empty, in ascending order of nodes and then of peers.
-fn lists_of<'a>(alloc: Global, world: &'a World<u64>) -> Result<Vec<NodeList<'a>>, AllocError> {
-    let mut lists = Vec::new(alloc);
+/// Returns the lists of each node that are not empty, in ascending order of nodes and then of
+/// peers.
+pub fn nodes_of<'a>(alloc: Global, world: &'a World<u64>) -> Result<Vec<NodeLists<'a>>, AllocError>
+    ensures { IfOk result (λ nodes. nodes.items ≡ nodes_shown world.now) }
+{
+    let mut nodes = Vec::with_capacity(alloc, world.nodes().len())?;
     for node in world.nodes().as_slice() {
-        if let Some(core) = world.core(node) {
-            push_lists(&mut lists, alloc, *node, core)?;
-        }
+        let lists = lists_in(alloc, world.core(node))?;
+        nodes.push(NodeLists { node: *node, lists })?;
     }
-    Ok(lists)
+    Ok(nodes)
 }
 
-/// Appends the lists of the node.
-fn push_lists<'a>(
-    lists: &mut Vec<NodeList<'a>>,
+/// Returns the lists of the node that are not empty.
+fn lists_in<'a>(
     alloc: Global,
-    node: u64,
-    core: &'a Core<u64, TestMessage, u64>,
-) -> Result<(), AllocError> {
-    // Only primary peers have lists.
-    for peer in core.primary().as_slice() {
-        push_list(lists, alloc, node, core, peer)?;
+    core: Option<&'a Core<u64, TestMessage, u64>>,
+) -> Result<Vec<PeerList<'a>>, AllocError>
+    ensures { IfOk result (λ lists. lists.items ≡ lists_in (option_copied core.entry)) }
+{
+    match core {
+        None => Ok(Vec::new(alloc)),
+        Some(core) => lists_of(alloc, core),
     }
-    Ok(())
-}
-
-/// Appends the node's list for the peer if it is not empty.
-fn push_list<'a>(
-    lists: &mut Vec<NodeList<'a>>,
-    alloc: Global,
-    node: u64,
-    core: &'a Core<u64, TestMessage, u64>,
-    peer: &u64,
-) -> Result<(), AllocError> {
-    let messages = messages_of(alloc, core, peer)?;
-    if !messages.is_empty() {
-        lists.push(NodeList {
-            node,
-            peer: *peer,
-            messages,
-        })?;
-    }
-    Ok(())
-}
-
-/// Returns the messages of the peer's list, newest first.
-fn messages_of<'a>(
-    alloc: Global,
-    core: &'a Core<u64, TestMessage, u64>,
-    peer: &u64,
-) -> Result<Vec<&'a TestMessage>, AllocError> {
-    let digests = core.list(alloc, peer)?;
-    let mut messages = Vec::with_capacity(alloc, digests.len())?;
-    for digest in &digests {
-        // Each listed digest is cached.
-        if let Some(message) = core.get(digest) {
-            messages.push(message.inner())?;
-        }
-    }
-    Ok(messages)
 }
 
 /// Writes the title, the answers and the lists.
-pub fn write_part<W: Write>(out: &mut W, part: &Part<'_>) -> io::Result<()> {
-    writeln!(out, "{}", part.title)?;
-    for answer in part.answers {
+pub fn write_part<W: Write>(
+    out: &mut W,
+    title: &str,
+    log: &WorldLog,
+    nodes: &[NodeLists<'_>],
+) -> io::Result<()>
+    ensures { OnOk result (Appends (W.contents out.old) (W.contents out.new)
+        (part_text title.now log.now.answers nodes.now)) }
+{
+    writeln!(out, "{title}")?;
+    write_steps(out, log.answers.as_slice())?;
+    write_nodes(out, nodes)
+}
+
+/// Writes the line of each step.
+fn write_steps<W: Write>(out: &mut W, answers: &[WorldAnswer]) -> io::Result<()>
+    ensures { OnOk result (Appends (W.contents out.old) (W.contents out.new)
+        (flat_map step_line answers.now)) }
+{
+    for answer in answers {
         write_step(out, answer)?;
-    }
-    for list in &part.lists {
-        write_list(out, list)?;
     }
     Ok(())
 }
 
 /// Writes the line of a step.
-fn write_step<W: Write>(out: &mut W, answer: &WorldAnswer) -> io::Result<()> {
+fn write_step<W: Write>(out: &mut W, answer: &WorldAnswer) -> io::Result<()>
+    ensures { OnOk result (Appends (W.contents out.old) (W.contents out.new)
+        (step_line answer.now)) }
+{
     match answer {
         WorldAnswer::Given(answer) => write_answer(out, answer),
         WorldAnswer::NoSuch => out.write_all(b"nosuch\n"),
     }
 }
 
-/// Writes the line of a list.
-fn write_list<W: Write>(out: &mut W, list: &NodeList<'_>) -> io::Result<()> {
-    write!(out, "node {} list {}", list.node, list.peer)?;
-    for message in &list.messages {
-        write_spaced(out, &message.content)?;
+/// Writes the lines of each node.
+fn write_nodes<W: Write>(out: &mut W, nodes: &[NodeLists<'_>]) -> io::Result<()>
+    ensures { OnOk result (Appends (W.contents out.old) (W.contents out.new)
+        (flat_map node_lines nodes.now)) }
+{
+    for node in nodes {
+        write_node(out, node)?;
     }
-    out.write_all(b"\n")
+    Ok(())
+}
+
+/// Writes the lines of a node.
+fn write_node<W: Write>(out: &mut W, node: &NodeLists<'_>) -> io::Result<()>
+    ensures { OnOk result (Appends (W.contents out.old) (W.contents out.new)
+        (node_lines node.now)) }
+{
+    write_lists(out, node.node, &node.lists)
+}
+
+/// Writes the line of each list of the node.
+fn write_lists<W: Write>(out: &mut W, node: u64, lists: &[PeerList<'_>]) -> io::Result<()>
+    ensures { OnOk result (Appends (W.contents out.old) (W.contents out.new)
+        (flat_map (node_line node) lists.now)) }
+{
+    for list in lists {
+        write_node_list(out, node, list)?;
+    }
+    Ok(())
+}
+
+/// Writes the line of a list of the node.
+fn write_node_list<W: Write>(out: &mut W, node: u64, list: &PeerList<'_>) -> io::Result<()>
+    ensures { OnOk result (Appends (W.contents out.old) (W.contents out.new)
+        (node_line node list.now)) }
+{
+    write!(out, "node {node} ")?;
+    write_list(out, list)
 }

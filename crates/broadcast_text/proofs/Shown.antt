@@ -4,7 +4,7 @@ use Rattle.std.proofs.lemmas.List.{map-append, take_more}
 use Rattle.std.specs.Option.{option_copied}
 use Rattle.broadcast_core.specs.Carried.{Carried}
 use Rattle.broadcast_core.specs.TestMessage.{Parts}
-use Rattle.replay_lib.specs.Report.{content_of}
+use Rattle.broadcast_text.specs.Lists.{content_of}
 
 -- the content of a message behind references
 pub content_there : (found : Option (Bor (Carried Parts (List ℕ)))) (it : Bor (Carried Parts (List ℕ))) (cached : Option (Carried Parts (List ℕ))) (message : Bor Parts)

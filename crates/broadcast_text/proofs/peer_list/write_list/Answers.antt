@@ -1,7 +1,7 @@
 use Rattle.std.proofs.Common.{ap, ◌∙◌, map, subst, OnOk}
 use Rattle.std.specs.Io.KnownBytes.{Appends}
-use Rattle.replay_lib.specs.Report.{list_line}
-use Rattle.replay_lib.proofs.report.write_list.Goals as goal
+use Rattle.broadcast_text.specs.Lists.{list_line}
+use Rattle.broadcast_text.proofs.peer_list.write_list.Goals as goal
 
 pub returns : goal.returns
 returns g c =

@@ -3,9 +3,9 @@ use Rattle.std.specs.Option.{option_copied}
 use Rattle.std.proofs.lemmas.List.{take_all}
 use Rattle.broadcast_core.specs.Content.{Content, message_at}
 use Rattle.broadcast_core.specs.TestMessage.{Parts}
-use Rattle.replay_lib.specs.Report.{same, content_of}
-use Rattle.replay_lib.proofs.Shown.{content_there, shown_more}
-use Rattle.replay_lib.proofs.report.messages_of.Goals as goal
+use Rattle.broadcast_text.specs.Lists.{same, content_of}
+use Rattle.broadcast_text.proofs.Shown.{content_there, shown_more}
+use Rattle.broadcast_text.proofs.peer_list.messages_of.Goals as goal
 
 -- a reference is there where what it stands for is
 is_some-behind : {T : Type 0} (o : Option (Bor T)) → is_some (option_copied o) ≡ true → IsSome o
