@@ -1,5 +1,5 @@
 //! A script of requests.
-ghost use Rattle.std.specs.Prelude.{◌≡◌, false};
+ghost use Rattle.std.specs.Prelude.{◌≡◌, Some, false};
 ghost use Rattle.futures.specs.Task.{IsArmed, Keeps};
 ghost use Rattle.broadcast_engine.specs.Scripts.{HasGiven, IsQuiet};
 ghost use Rattle.broadcast_engine.specs.Sources.{given};
@@ -44,6 +44,8 @@ impl<T> Requests<T> for ScriptedRequests<T> {
     ghost told = { λ it requests. HasGiven given it.script requests };
 
     ghost quiet = { λ it. IsQuiet it.script };
+
+    ghost stops = { λ it. it.stops_after ≡ Some 0 };
 
     fn stopped(&mut self, cx: &mut Context<'_>) -> bool {
         match self.stops_after {
