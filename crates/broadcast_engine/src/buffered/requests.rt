@@ -1,5 +1,5 @@
 //! Where an engine's requests come from.
-ghost use Rattle.std.specs.Prelude.{◌≡◌, ⊤, ℕ, List, ◌++◌, false};
+ghost use Rattle.std.specs.Prelude.{◌≡◌, ⊤, ℕ, List, ◌++◌, true, false};
 ghost use Rattle.futures.specs.Poll.{OnPending};
 ghost use Rattle.futures.specs.Task.{IsArmed, Keeps};
 ghost use Rattle.broadcast_engine.specs.Sources.{given};
@@ -18,8 +18,12 @@ pub trait Requests<T> {
     /// Whether there may be no request to give.
     ghost quiet: { Self → Type 0 } = { λ _. ⊤ };
 
+    /// Whether a stop was asked for. A source that does not tell has none here.
+    ghost stops: { Self → Type 0 } = { λ _. ⊥ };
+
     /// Returns whether the engine is to stop. If not, the task is woken once it is.
     fn stopped(&mut self, cx: &mut Context<'_>) -> bool
+        ensures stops { stops self.old → result ≡ true }
         ensures tells { (requests : List (Request T))
             → told self.old requests → told self.new requests }
         ensures armed { result ≡ false → IsArmed cx.new }

@@ -1,8 +1,9 @@
 //! One poll of an engine that has not ended.
-ghost use Rattle.std.specs.Prelude.{◌≡◌, Option, None, IfOk};
+ghost use Rattle.std.specs.Prelude.{◌≡◌, Option, None, Err, IfOk};
 ghost use Rattle.broadcast_engine.specs.Taken.{HoldsJob};
 ghost use Rattle.futures.specs.Poll.{IfReady, OnPending};
 ghost use Rattle.futures.specs.Task.{IsArmed, Keeps};
+ghost use Rattle.futures.specs.declared.task.Poll.TheVariants.{Ready};
 ghost use Rattle.broadcast_core.specs.Codec.{whole};
 ghost use Rattle.broadcast_core.specs.Content.{same_by};
 ghost use Rattle.broadcast_core.specs.Setting.{Setting};
@@ -62,6 +63,7 @@ where
         Q.told past before result node.old node.new sender.old sender.new
         receiver.old receiver.new provider.old provider.new requests.old requests.new slot.new }
     ensures tells_no_end { IfReady result (λ r. IfOk r (λ turn. end_told turn ≡ None)) }
+    ensures stop_first { Q.stops requests.old → result ≡ Ready (Err EndCause.Stopped) }
     ensures peers_first { slot.old ≡ None → UnlessPeers (as_turn result) (B.quiet provider.old) }
     ensures requests_first { slot.old ≡ None → IfNetwork (as_turn result) (Q.quiet requests.old) }
     ensures armed { OnPending result (IsArmed cx.new) }

@@ -105,6 +105,13 @@ impl<P: PublicKey, M: Digestible + Codec, S, O, B, Q, T: Strategy<M>> Engine<P, 
         &self.node.outlet
     }
 
+    /// Returns what gives the primary peers.
+    pub fn provider(&self) -> &B
+        ensures { result.now ≡ self.now.provider }
+    {
+        &self.provider
+    }
+
     /// Returns where requests come from.
     pub fn requests(&self) -> &Q
         ensures { result.now ≡ self.now.requests }
@@ -184,6 +191,8 @@ impl<P: PublicKey, M: Digestible + Codec, S, O, B, Q, T: Strategy<M>> Engine<P, 
             → Holds T.Job.is_of self.old.end self.old.job before
             → Turned s (λ w b. S.may_answer w.responder b) O.told N.told T.Job.is_of R.told B.told
             Q.told past before self.old self.new network.old network.new result }
+        ensures stop_first { self.old.end ≡ None → Q.stops self.old.requests
+            → result ≡ Ready (turn.Ended EndCause.Stopped) }
         ensures peers_first { self.old.end ≡ None → self.old.job ≡ None
             → UnlessPeers result (B.quiet self.old.provider) }
         ensures requests_first { self.old.end ≡ None → self.old.job ≡ None
