@@ -18,3 +18,5 @@ pub mod Order
 pub mod EngineState
 pub mod Fresh
 pub mod Parts
+pub mod Scripts
+pub mod Recorded

@@ -2,6 +2,7 @@
 #![tactic(auto)]
 
 pub mod buffered;
+pub mod mocks;
 
 // The mailbox and the cache, so that a caller depends on this crate alone.
 pub use commonware_broadcast::{

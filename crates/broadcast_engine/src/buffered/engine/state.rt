@@ -105,6 +105,13 @@ impl<P: PublicKey, M: Digestible + Codec, S, O, B, Q, T: Strategy<M>> Engine<P, 
         &self.node.outlet
     }
 
+    /// Returns what gives the primary peers.
+    pub fn provider(&self) -> &B
+        ensures { result.now ≡ self.now.provider }
+    {
+        &self.provider
+    }
+
     /// Returns where requests come from.
     pub fn requests(&self) -> &Q
         ensures { result.now ≡ self.now.requests }
