@@ -12,6 +12,10 @@ COMMITMENTS = ("-", "01")
 KINDS = ("peers", *["broadcast"] * 4, *["subscribe"] * 2, "get", "get", "cleanup")
 # Recipients, of which 4 is no node.
 RECIPIENTS = ("all", "all", "to:2", "to:3,1,3,4")
+# Contents, and digests by their contents, of the calls of the libraries.
+BYTES = ("5", "6")
+CLOSED = ("", "", "closed")
+SIZES = ("1", "1", "2")
 # What each list of steps begins with.
 WORLD = ["peers 1 1 2 9", "peers 2 1 2 9", "broadcast 1 all - 61", "broadcast 2 to:1 01 62"]
 
@@ -84,3 +88,59 @@ def of_world():
     """Names, arguments and inputs of `world`."""
     for name, size, stdin in lists(2, WORLD, 6, step):
         yield name, [size, b"1,2", b"9"], stdin
+
+
+def core_call(rng):
+    """A call of a core. Key 3 is often not primary."""
+    kind = rng.choice(("peers", *["take"] * 4, "take_own", *["subscribe"] * 3, "cleanup"))
+    if kind == "peers":
+        return with_words(kind, keys(rng))
+    if kind == "take":
+        return with_words(kind, rng.choice(KEYS), rng.choice(BYTES), rng.choice(BYTES))
+    if kind == "take_own":
+        return with_words(kind, rng.choice(BYTES), rng.choice(BYTES))
+    if kind == "subscribe":
+        return with_words(kind, rng.choice(TICKETS), rng.choice(BYTES), rng.choice(CLOSED))
+    return rng.choice(("cleanup_by", with_words(kind, *rng.sample(TICKETS, 1))))
+
+
+def request(rng, closed=CLOSED):
+    """A request, of which a subscribe or a get may have a closed responder."""
+    kind = rng.choice(("broadcast", "subscribe", "get"))
+    return with_words(kind, rng.choice(BYTES), rng.choice(closed) if kind != "broadcast" else "")
+
+
+def inbox_call(rng):
+    kinds = ("take", "take", "request_stop", *[""] * 7)
+    return rng.choice(kinds) or request(rng)
+
+
+def mailbox_call(rng):
+    kinds = ("take", "take", "clone", "drop", *[""] * 6)
+    return rng.choice(kinds) or request(rng, ("",))
+
+
+def with_close(rng, lines):
+    """The lines, after which some lists are closed, and go on."""
+    return [*lines[:-2], "close", *lines[-2:]] if rng.randrange(4) == 0 else lines
+
+
+# Of each kind of list its first line, the further ones and how many of them are drawn.
+CALLS = {
+    "core": (lambda rng: f"core {rng.randrange(3)}", ["peers 1 2"], core_call, 8),
+    "overflow": (lambda _: "overflow", [], request, 9),
+    "inbox": (lambda rng: f"inbox {rng.choice(SIZES)}", [], inbox_call, 12),
+    "mailbox": (lambda rng: f"mailbox {rng.choice(SIZES)}", [], mailbox_call, 9),
+}
+
+
+def of_calls():
+    """Names and inputs of `growths`."""
+    rng = random.Random(3)
+    for kind, (heading, first, call, count) in CALLS.items():
+        for number in range(LISTS):
+            lines = [heading(rng), *first, *(call(rng) for _ in range(count))]
+            if kind in ("inbox", "mailbox"):
+                lines = with_close(rng, lines)
+            stdin = "".join(f"{line}\n" for line in lines).encode()
+            yield f"generated {kind} {number}", stdin

@@ -47,23 +47,23 @@ class Refused:
         return {"REFUSED_GROWTHS": f"{self.first}-{self.last or ''}", **seed}
 
 
-def alone(count):
-    return [Refused(first, first) for first in range(1, count + 1)]
+def alone(count, before=0):
+    return [Refused(first, first) for first in range(before + 1, count + 1)]
 
 
 def windows(count):
     return [Refused(first, first + WINDOW - 1) for first in range(1, count + 1)]
 
 
-def to_the_end(count):
-    return [Refused(first, None) for first in range(1, count + 1)]
+def to_the_end(count, before=0):
+    return [Refused(first, None) for first in range(before + 1, count + 1)]
 
 
-def by_chance(count, seeds):
-    """For each seed about one half of the growths of a stretch that begins after the first."""
+def by_chance(count, seeds, before=1):
+    """For each seed about one half of the growths of a stretch that begins after so many."""
     for seed in range(1, seeds + 1):
         rng = random.Random(seed)
-        first = rng.randint(2, max(2, count))
+        first = rng.randint(before + 1, max(before + 1, count))
         yield Refused(first, first + rng.randrange(STRETCH), seed)
 
 

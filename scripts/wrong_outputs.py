@@ -11,42 +11,56 @@ from refusal_runs import Failed, Ran, Refused
 REFUSED = Refused(20, 20)
 
 ARGS = [b"1", b"2"]
-EVENTS = b"peers 5\nsubscribe 7 61\npayload 5 000000000000000161\nget 1 62\ncleanup 9\n"
+EVENTS = (
+    b"peers 5\nsubscribe 7 61\npayload 5 000000000000000161\nget 1 62\ncleanup 9\npayload 5 ff\n"
+)
 # What is wrong, and with it standard output, standard error and the status.
 OF_REPLAY = [
     (
         "a refused payload serves its waiter",
-        b"ok\nwaiting\nrefused memory\nnone\nremoved 0\ncached 0\nawaited 0\n",
+        b"ok\nwaiting\nrefused memory\nnone\nremoved 0\ninvalid EndOfBuffer\ncached 0\nawaited 0\n",
         b"",
         0,
     ),
     (
         "a refused payload leaves its digest on a list",
-        b"ok\nwaiting\nrefused memory\nnone\nremoved 0\nlist 5 61\ncached 0\nawaited 1\n",
+        b"ok\nwaiting\nrefused memory\nnone\nremoved 0\n"
+        b"invalid EndOfBuffer\nlist 5 61\ncached 0\nawaited 1\n",
         b"",
         0,
     ),
     (
         "a refused subscribe waits",
-        b"ok\nrefused memory\ninserted 7\nnone\nremoved 0\nlist 5 61\ncached 1\nawaited 0\n",
+        b"ok\nrefused memory\ninserted 7\nnone\nremoved 0\n"
+        b"invalid EndOfBuffer\nlist 5 61\ncached 1\nawaited 0\n",
         b"",
         0,
     ),
     (
         "a get of a digest that is not listed is refused",
-        b"ok\nwaiting\ninserted 7\nrefused memory\nremoved 0\nlist 5 61\ncached 1\nawaited 0\n",
+        b"ok\nwaiting\ninserted 7\nrefused memory\nremoved 0\n"
+        b"invalid EndOfBuffer\nlist 5 61\ncached 1\nawaited 0\n",
         b"",
         0,
     ),
     (
         "a cleanup is refused",
-        b"ok\nwaiting\ninserted 7\nnone\nrefused memory\nlist 5 61\ncached 1\nawaited 0\n",
+        b"ok\nwaiting\ninserted 7\nnone\nrefused memory\n"
+        b"invalid EndOfBuffer\nlist 5 61\ncached 1\nawaited 0\n",
+        b"",
+        0,
+    ),
+    (
+        "a payload that does not decode is refused",
+        b"ok\nwaiting\ninserted 7\nnone\nremoved 0\nrefused memory\n"
+        b"list 5 61\ncached 1\nawaited 0\n",
         b"",
         0,
     ),
     (
         "one growth refuses two events",
-        b"ok\nrefused memory\nrefused memory\nnone\nremoved 0\ncached 0\nawaited 0\n",
+        b"ok\nrefused memory\nrefused memory\nnone\nremoved 0\n"
+        b"invalid EndOfBuffer\ncached 0\nawaited 0\n",
         b"",
         0,
     ),
@@ -92,50 +106,53 @@ OF_WORLD = [
     ("more follows the end", b"with\nok\nwaiting\nrefused memory\nnosuch\nnosuch\nend\n", b"", 0),
 ]
 
-# What is wrong, and with it lines of the right output of `growths` and those in their place.
-OF_GROWTHS = [
-    (
-        "a refused taking serves its waiters",
-        "take inserted 1 2\n  lists 0[ ] 1[ ] 2[ 5 ] 3[ ] cached 1: 5=5 awaited 1: 6x1\n",
-        "take memory\n  lists 0[ ] 1[ ] 2[ ] 3[ ] cached 0: awaited 1: 6x1\n",
-    ),
-    (
-        "a refused taking leaves its digest on a list",
-        "take inserted 1 2\n  lists 0[ ] 1[ ] 2[ 5 ] 3[ ] cached 1: 5=5 awaited 1: 6x1\n",
-        "take memory\n  lists 0[ ] 1[ ] 2[ 5 ] 3[ ] cached 1: 5=5 awaited 2: 5x2 6x1\n",
-    ),
-    (
-        "a refused subscribe loses its waiter",
-        "subscribe waiting\n",
-        "subscribe memory 0\n",
-    ),
-    (
-        "a refused subscribe waits",
-        "subscribe waiting\n",
-        "subscribe memory 1\n",
-    ),
-    ("a taking of a listed digest is refused", "take duplicate\n", "take memory\n"),
-    ("a taking under a key that is not primary is refused", "take ineligible\n", "take memory\n"),
-    ("a peer set is refused", "peers\n", "memory\n"),
-    ("a refused payload asks for memory", "invalid EndOfBuffer\n", "memory\n"),
-    ("a refused request stays in the overflow", "handle get 2 ok 1\n", "handle get 2 memory 1\n"),
-    ("a closed request asks for memory", "handle get 3 ok 1\n", "handle get 3 memory 1\n"),
-    (
-        "a refused enqueue draws a ticket",
-        "enqueue get 3 overflow 2\n  accepted 3 taken 0 skipped 1 waiting 2 given_up 0\n",
-        "enqueue get 3 memory\n  accepted 3 taken 0 skipped 1 waiting 1 given_up 0\n",
-    ),
-    (
-        "a closed inbox asks for memory",
-        "enqueue broadcast 4 closed\n",
-        "enqueue broadcast 4 memory\n",
-    ),
-    (
-        "a refused get of a mailbox is queued",
-        "get ok\n  accepted 2 taken 0 skipped 0 waiting 2 given_up 0\n",
-        "get memory\n  accepted 2 taken 0 skipped 0 waiting 2 given_up 0\n",
-    ),
-]
+# By list of calls: what is wrong, and with it lines of the right output and those in their place.
+OF_GROWTHS = {
+    "core": [
+        (
+            "a refused taking serves its waiters",
+            "take inserted 1 2\n  lists 0[ ] 1[ ] 2[ 5 ] 3[ ] cached 1: 5=5 awaited 1: 6x1\n",
+            "take memory\n  lists 0[ ] 1[ ] 2[ ] 3[ ] cached 0: awaited 1: 6x1\n",
+        ),
+        (
+            "a refused taking leaves its digest on a list",
+            "take inserted 1 2\n  lists 0[ ] 1[ ] 2[ 5 ] 3[ ] cached 1: 5=5 awaited 1: 6x1\n",
+            "take memory\n  lists 0[ ] 1[ ] 2[ 5 ] 3[ ] cached 1: 5=5 awaited 2: 5x2 6x1\n",
+        ),
+        ("a refused subscribe loses its waiter", "subscribe waiting\n", "subscribe memory 0\n"),
+        ("a refused subscribe waits", "subscribe waiting\n", "subscribe memory 1\n"),
+        ("a taking of a listed digest is refused", "take duplicate\n", "take memory\n"),
+        ("a taking under another key is refused", "take ineligible\n", "take memory\n"),
+        ("a peer set is refused", "peers\n", "memory\n"),
+    ],
+    "overflow": [
+        (
+            "a refused request stays in the overflow",
+            "handle get 2 ok 1\n",
+            "handle get 2 memory 1\n",
+        ),
+        ("a closed request asks for memory", "handle get 3 ok 1\n", "handle get 3 memory 1\n"),
+    ],
+    "inbox": [
+        (
+            "a refused enqueue draws a ticket",
+            "enqueue get 3 overflow 2\n  accepted 3 taken 0 skipped 1 waiting 2 given_up 0\n",
+            "enqueue get 3 memory\n  accepted 3 taken 0 skipped 1 waiting 1 given_up 0\n",
+        ),
+        (
+            "a closed inbox asks for memory",
+            "enqueue broadcast 4 closed\n",
+            "enqueue broadcast 4 memory\n",
+        ),
+    ],
+    "mailbox": [
+        (
+            "a refused get is queued",
+            "get ok\n  accepted 2 taken 0 skipped 0 waiting 2 given_up 0\n",
+            "get memory\n  accepted 2 taken 0 skipped 0 waiting 2 given_up 0\n",
+        ),
+    ],
+}
 
 
 # What is wrong with a run of the events above, what fails, and what comes of it.
@@ -208,21 +225,73 @@ def unseen_of_devices():
             yield name
 
 
-def unseen_of_growths(ample):
-    """The wrong outputs, made of this right one, that the judge of `growths` does not find."""
-    judge = judge_growths.Judge()
-    for name, lines, wrong in OF_GROWTHS:
+def unseen_of_calls(judge, ample, name):
+    """The wrong outputs, made of this right one, that the judge of a list does not find."""
+    for what, lines, wrong in OF_GROWTHS.get(name, []):
         before, found, after = ample.stdout.decode().partition(lines)
         changed = Ran((before + wrong + after).encode(), b"", 0, refused=1)
         fault = judge.fault(changed, REFUSED)
         first, last = before.count("\n") + 1, (before + wrong).count("\n") + 1
         if not found or not fault or not is_about(fault, first, last):
-            yield name
+            yield what
+
+
+def refusal_of(part, words, line):
+    """What stands in place of the line if the call is refused, or `None` where that is right."""
+    first = line.split(" ")[0]
+    if part == "core":
+        if line == "subscribe waiting":
+            return f"subscribe memory {words[1]}"
+        return f"{first} memory" if first in ("take", "take_own") else None
+    if part == "overflow":
+        return line.replace(" ok ", " memory ") if first == "handle" else None
+    if part == "inbox":
+        return " ".join([*line.split(" ")[:3], "memory"]) if first == "enqueue" else None
+    return f"{first} memory" if first in ("broadcast", "subscribe", "get") else None
+
+
+def effects_of(part, calls, lines):
+    """Outputs in which a call is refused and has its effect, with the number of its line.
+
+    A taking has its effect whole, on its waiters alone or on its list alone.
+    """
+    step = 1 if part == "overflow" else 2
+    is_closed = False
+    for at, words in zip(range(0, len(lines), step), calls):
+        is_closed = is_closed or words[0] == "close"
+        refusal = refusal_of(part, words, lines[at])
+        # After a close a subscribe and a get have no effect but their channels.
+        if refusal is None or (part == "mailbox" and is_closed and words[0] != "broadcast"):
+            continue
+        changed = [*lines[:at], refusal, *lines[at + 1 :]]
+        yield at + 1, changed
+        if refusal in ("take memory", "take_own memory") and at > 0:
+            before, after = (lines[it].split(" awaited ") for it in (at - 1, at + 1))
+            for kept, awaited in ((before[0], after[1]), (after[0], before[1])):
+                state = f"{kept} awaited {awaited}"
+                if state != lines[at - 1]:
+                    yield at + 1, [*changed[: at + 1], state, *lines[at + 2 :]]
+
+
+def unseen_of_effects(judge, ample):
+    """The lines that the judge does not find if they are refused and have their effect."""
+    lines = ample.stdout.decode().split("\n")
+    for at, changed in effects_of(judge.part, judge.calls, lines):
+        fault = judge.fault(Ran("\n".join(changed).encode(), b"", 0, refused=1), REFUSED)
+        if not fault or not is_about(fault, at, at + 1):
+            yield f"line {at}, {lines[at - 1]}, is refused and has an effect"
 
 
 def is_about(fault, first, last):
     """Whether the fault names one of these lines."""
     return any(fault.startswith(f"line {line} ") for line in range(first, last + 1))
+
+
+def count_calls(name, judge, ample, tally):
+    """Counts the wrong outputs of a list of calls, made of the right output."""
+    count(unseen_of_calls(judge, ample, name), len(OF_GROWTHS.get(name, [])), tally)
+    unseen = list(unseen_of_effects(judge, ample))
+    count(unseen[:1], 1, tally)
 
 
 def count(unseen, number, tally):

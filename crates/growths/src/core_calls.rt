@@ -1,16 +1,19 @@
 //! Calls of a core.
 ghost use Rattle.std.specs.Prelude.{◌≡◌};
 
-use crate::material::{digest_of, message, prepare, set_of};
+use crate::calls::{Call, byte, is_closed, number};
+use crate::material::{digest_of, message};
 use crate::printer::Printer;
 use crate::show::{content_of, word_of, write_core};
 use broadcast_core::{Closable, Core, Digested, Set, Subscribed, Taken, TestMessage, Ticketed};
+use broadcast_text::line_error::LineError;
+use broadcast_text::words::{Words, parse_numbers};
 use std::alloc::{AllocError, Global};
 use std::io::Write;
 
 /// A waiter whose field is what `is_closed` returns.
 #[derive(Clone, Copy, Debug)]
-struct Waiter {
+pub struct Waiter {
     ticket: u64,
     closed: bool,
 }
@@ -34,126 +37,62 @@ impl Closable for Waiter {
 /// A core over these waiters.
 type TestCore = Core<u64, TestMessage, Waiter>;
 
-/// A call. A message has a content, and goes by the digest of a content.
-#[derive(Clone, Copy)]
-enum Call {
-    Peers(&'static [u64]),
-    Take(u64, u8, u8),
-    TakeOwn(u8, u8),
-    Subscribe(u64, u8, bool),
-    Cleanup(&'static [u64]),
-    CleanupBy,
-}
-
 /// A call with what it is given.
 #[derive(Drop)]
-enum Ready {
+pub enum Ready {
     Peers(Set<u64>),
     Take(u64, Digested<TestMessage>),
     TakeOwn(Digested<TestMessage>),
     Subscribe(Waiter, u8),
-    Cleanup(&'static [u64]),
+    Cleanup(Vec<u64>),
     CleanupBy,
 }
 
-/// The calls of a core with lists of two digests: lists begin, grow, move, lose their oldest and
-/// are dropped, and waiters wait, are served and go.
-static CALLS: [Call; 30] = [
-    Call::Take(2, 5, 5),
-    Call::Subscribe(1, 5, false),
-    Call::Peers(&[2, 1, 2]),
-    Call::Subscribe(2, 5, false),
-    Call::Subscribe(3, 6, true),
-    Call::Take(2, 5, 5),
-    Call::Take(2, 5, 5),
-    Call::Take(3, 5, 5),
-    Call::TakeOwn(5, 5),
-    Call::TakeOwn(4, 6),
-    Call::Subscribe(4, 5, false),
-    Call::Subscribe(5, 9, false),
-    Call::Subscribe(6, 9, true),
-    Call::Subscribe(7, 8, false),
-    Call::CleanupBy,
-    Call::Cleanup(&[5, 99, 5]),
-    Call::Cleanup(&[5]),
-    Call::Take(2, 7, 7),
-    Call::Take(2, 8, 8),
-    Call::Take(2, 7, 7),
-    Call::Subscribe(8, 4, false),
-    Call::Peers(&[1, 3]),
-    Call::Take(2, 4, 4),
-    Call::Take(3, 6, 6),
-    Call::TakeOwn(3, 3),
-    Call::TakeOwn(2, 2),
-    Call::Peers(&[]),
-    Call::Take(3, 6, 6),
-    Call::Peers(&[0]),
-    Call::Take(0, 6, 6),
-];
-
-/// The calls of a core without places.
-static CALLS_WITHOUT_PLACES: [Call; 4] = [
-    Call::Peers(&[1, 2]),
-    Call::Subscribe(1, 5, false),
-    Call::Take(2, 5, 5),
-    Call::TakeOwn(5, 5),
-];
-
-fn calls() -> &'static [Call] {
-    &CALLS
-}
-
-fn calls_without_places() -> &'static [Call] {
-    &CALLS_WITHOUT_PLACES
-}
-
-/// Makes the calls, and writes what they return and leave.
-pub fn show<W: Write>(alloc: Global, out: &mut Printer<W>) {
-    out.line("core");
-    show_calls(alloc, out, 2, calls());
-    out.line("core without places");
-    show_calls(alloc, out, 0, calls_without_places());
-}
-
-fn show_calls<W: Write>(
-    alloc: Global,
-    out: &mut Printer<W>,
-    deque_size: usize,
-    calls: &'static [Call],
-) {
-    match prepare(alloc, calls, |call: Call| ready_of(alloc, call)) {
-        Ok(ready) => make_calls(alloc, out, Core::new(alloc, 1, deque_size), ready),
-        Err(_) => out.line("unprepared"),
+impl Call for Ready {
+    fn parse(alloc: Global, name: &[u8], words: Words<'_>) -> Result<Ready, LineError> {
+        match name {
+            b"peers" => Ok(Ready::Peers(set_of(alloc, words)?)),
+            b"take" => parse_take(alloc, words),
+            b"take_own" => Ok(Ready::TakeOwn(parse_message(alloc, words)?)),
+            b"subscribe" => parse_subscribe(words),
+            b"cleanup" => Ok(Ready::Cleanup(parse_numbers(alloc, words)?)),
+            b"cleanup_by" => Ok(Ready::CleanupBy),
+            _ => Err(LineError::Syntax),
+        }
     }
 }
 
-fn make_calls<W: Write>(
-    alloc: Global,
-    out: &mut Printer<W>,
-    mut core: TestCore,
-    ready: Vec<Ready>,
-) {
-    for call in ready {
+fn set_of(alloc: Global, words: Words<'_>) -> Result<Set<u64>, LineError> {
+    Ok(Set::from_iter_dedup(parse_numbers(alloc, words)?)?)
+}
+
+fn parse_take(alloc: Global, mut words: Words<'_>) -> Result<Ready, LineError> {
+    let key = number(&mut words)?;
+    Ok(Ready::Take(key, parse_message(alloc, words)?))
+}
+
+/// Returns the message of a content under the digest of another.
+fn parse_message(alloc: Global, mut words: Words<'_>) -> Result<Digested<TestMessage>, LineError> {
+    let content = byte(&mut words)?;
+    let digest = byte(&mut words)?;
+    Ok(message(alloc, content, digest)?)
+}
+
+fn parse_subscribe(mut words: Words<'_>) -> Result<Ready, LineError> {
+    let ticket = number(&mut words)?;
+    let digest = byte(&mut words)?;
+    let closed = is_closed(words)?;
+    Ok(Ready::Subscribe(Waiter { ticket, closed }, digest))
+}
+
+/// Makes the calls of a core whose lists have at most `deque_size` digests, and writes what they
+/// return and leave.
+pub fn show<W: Write>(alloc: Global, out: &mut Printer<W>, deque_size: usize, calls: Vec<Ready>) {
+    let mut core = Core::new(alloc, 1, deque_size);
+    for call in calls {
         make(out, &mut core, call);
         write_core(alloc, out, &core);
     }
-}
-
-fn ready_of(alloc: Global, call: Call) -> Result<Ready, AllocError> {
-    match call {
-        Call::Peers(keys) => Ok(Ready::Peers(set_of(alloc, keys)?)),
-        Call::Take(key, content, digest) => take_of(alloc, key, content, digest),
-        Call::TakeOwn(content, digest) => Ok(Ready::TakeOwn(message(alloc, content, digest)?)),
-        Call::Subscribe(ticket, digest, closed) => {
-            Ok(Ready::Subscribe(Waiter { ticket, closed }, digest))
-        }
-        Call::Cleanup(gone) => Ok(Ready::Cleanup(gone)),
-        Call::CleanupBy => Ok(Ready::CleanupBy),
-    }
-}
-
-fn take_of(alloc: Global, key: u64, content: u8, digest: u8) -> Result<Ready, AllocError> {
-    Ok(Ready::Take(key, message(alloc, content, digest)?))
 }
 
 /// Makes the call, and writes what it returns.
@@ -166,7 +105,7 @@ fn make<W: Write>(out: &mut Printer<W>, core: &mut TestCore, call: Ready) {
         Ready::Take(key, message) => write_taken(out, "take", core.take(&key, &message)),
         Ready::TakeOwn(message) => write_taken(out, "take_own", core.take_own(&message)),
         Ready::Subscribe(waiter, digest) => subscribe(out, core, waiter, digest),
-        Ready::Cleanup(gone) => write_removed(out, "cleanup", core.cleanup(gone)),
+        Ready::Cleanup(gone) => write_removed(out, "cleanup", core.cleanup(&gone)),
         Ready::CleanupBy => write_removed(out, "cleanup_by", core.cleanup_by()),
     }
 }

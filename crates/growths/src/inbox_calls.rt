@@ -1,87 +1,47 @@
 //! Calls of an inbox.
-use crate::material::prepare;
+use crate::calls::Call;
 use crate::printer::Printer;
-use crate::requests::{Ask, Plain, request_of, write_counts, write_request, write_taken};
+use crate::requests::{Plain, parse_request, write_counts, write_request, write_taken};
+use broadcast_text::line_error::LineError;
+use broadcast_text::words::Words;
 use commonware_broadcast::MailboxError;
 use commonware_broadcast::buffered::{Inbox, Queued};
-use std::alloc::{AllocError, Global};
+use std::alloc::Global;
 use std::io::Write;
 use std::num::NonZeroUsize;
 
-/// A call.
-#[derive(Clone, Copy)]
-enum Call {
-    Enqueue(Ask),
-    Take,
-    RequestStop,
-    Close,
-}
-
 /// A call with what it is given.
 #[derive(Drop)]
-enum Ready {
+pub enum Ready {
     Enqueue(Plain),
     Take,
     RequestStop,
     Close,
 }
 
-/// The calls of an inbox whose ready list has one place.
-static CALLS: [Call; 26] = [
-    Call::Take,
-    Call::Enqueue(Ask::Subscribe(1, true)),
-    Call::Enqueue(Ask::Get(2, true)),
-    Call::Enqueue(Ask::Get(3, false)),
-    Call::Enqueue(Ask::Broadcast(4)),
-    Call::Take,
-    Call::Enqueue(Ask::Subscribe(5, false)),
-    Call::Enqueue(Ask::Get(6, false)),
-    Call::Enqueue(Ask::Subscribe(7, true)),
-    Call::RequestStop,
-    Call::Enqueue(Ask::Broadcast(8)),
-    Call::Enqueue(Ask::Get(9, false)),
-    Call::Take,
-    Call::Take,
-    Call::Enqueue(Ask::Broadcast(1)),
-    Call::Take,
-    Call::Take,
-    Call::Take,
-    Call::Take,
-    Call::Take,
-    Call::Enqueue(Ask::Broadcast(2)),
-    Call::Enqueue(Ask::Get(3, false)),
-    Call::Close,
-    Call::Enqueue(Ask::Broadcast(4)),
-    Call::Enqueue(Ask::Get(5, true)),
-    Call::Take,
-];
-
-fn calls() -> &'static [Call] {
-    &CALLS
-}
-
-/// Makes the calls, and writes what they return, and where the requests went.
-pub fn show<W: Write>(alloc: Global, out: &mut Printer<W>) {
-    out.line("inbox");
-    match prepare(alloc, calls(), |call: Call| ready_of(alloc, call)) {
-        Ok(ready) => make_calls(out, Inbox::new(alloc, NonZeroUsize::MIN), ready),
-        Err(_) => out.line("unprepared"),
+impl Call for Ready {
+    fn parse(alloc: Global, name: &[u8], words: Words<'_>) -> Result<Ready, LineError> {
+        match name {
+            b"take" => Ok(Ready::Take),
+            b"request_stop" => Ok(Ready::RequestStop),
+            b"close" => Ok(Ready::Close),
+            _ => Ok(Ready::Enqueue(parse_request(alloc, name, words)?)),
+        }
     }
 }
 
-fn make_calls<W: Write>(out: &mut Printer<W>, mut inbox: Inbox<Plain>, ready: Vec<Ready>) {
-    for call in ready {
+/// Makes the calls of an inbox whose ready list has so many places, and writes what they return,
+/// and where the requests went.
+pub fn show<W: Write>(
+    alloc: Global,
+    out: &mut Printer<W>,
+    places: NonZeroUsize,
+    calls: Vec<Ready>,
+) {
+    let mut inbox = Inbox::new(alloc, places);
+    for call in calls {
         make(out, &mut inbox, call);
         write_counts(out, inbox.counts());
-    }
-}
-
-fn ready_of(alloc: Global, call: Call) -> Result<Ready, AllocError> {
-    match call {
-        Call::Enqueue(ask) => Ok(Ready::Enqueue(request_of(alloc, ask)?)),
-        Call::Take => Ok(Ready::Take),
-        Call::RequestStop => Ok(Ready::RequestStop),
-        Call::Close => Ok(Ready::Close),
     }
 }
 

@@ -1,8 +1,11 @@
 //! Calls of a mailbox.
-use crate::material::{digest_of, message, prepare};
+use crate::calls::{Call, byte};
+use crate::material::{digest_of, message};
 use crate::printer::Printer;
 use crate::requests::{write_counts, write_taken};
 use broadcast_core::{Digested, Recipients, TestMessage};
+use broadcast_text::line_error::LineError;
+use broadcast_text::words::Words;
 use commonware_broadcast::buffered::{Get, Incoming, Ingress, Mailbox, Subscription, channel};
 use commonware_broadcast::{Broadcaster, Feedback, MailboxError};
 use std::alloc::{AllocError, Global};
@@ -10,52 +13,39 @@ use std::io::Write;
 use std::num::NonZeroUsize;
 use std::sync::Wait;
 
-/// A call. A content is a byte.
-#[derive(Clone, Copy)]
-enum Call {
-    Broadcast(u8),
-    Subscribe(u8),
-    Get(u8),
-    Clone,
-    Take,
-    Close,
-}
-
-/// A call with what it is given.
+/// A call with what it is given. A content is a byte.
 #[derive(Drop)]
-enum Ready {
+pub enum Ready {
     Broadcast(Digested<TestMessage>),
     Subscribe(u8),
     Get(u8),
     Clone,
+    Drop,
     Take,
     Close,
 }
 
-/// The calls of a mailbox whose ready list has one place.
-static CALLS: [Call; 18] = [
-    Call::Subscribe(1),
-    Call::Get(2),
-    Call::Broadcast(3),
-    Call::Take,
-    Call::Clone,
-    Call::Get(4),
-    Call::Subscribe(5),
-    Call::Take,
-    Call::Take,
-    Call::Broadcast(6),
-    Call::Take,
-    Call::Take,
-    Call::Subscribe(7),
-    Call::Get(8),
-    Call::Close,
-    Call::Broadcast(9),
-    Call::Subscribe(1),
-    Call::Take,
-];
+impl Call for Ready {
+    fn parse(alloc: Global, name: &[u8], mut words: Words<'_>) -> Result<Ready, LineError> {
+        match name {
+            b"broadcast" => Ok(Ready::Broadcast(parse_broadcast(alloc, words)?)),
+            b"subscribe" => Ok(Ready::Subscribe(byte(&mut words)?)),
+            b"get" => Ok(Ready::Get(byte(&mut words)?)),
+            b"clone" => Ok(Ready::Clone),
+            b"drop" => Ok(Ready::Drop),
+            b"take" => Ok(Ready::Take),
+            b"close" => Ok(Ready::Close),
+            _ => Err(LineError::Syntax),
+        }
+    }
+}
 
-fn calls() -> &'static [Call] {
-    &CALLS
+fn parse_broadcast(
+    alloc: Global,
+    mut words: Words<'_>,
+) -> Result<Digested<TestMessage>, LineError> {
+    let content = byte(&mut words)?;
+    Ok(message(alloc, content, content)?)
 }
 
 /// A mailbox of test messages.
@@ -71,46 +61,32 @@ struct Held {
     gets: Vec<Get<TestMessage>>,
 }
 
-/// Makes the calls, and writes what they return, and where the requests went.
+/// Makes the calls of a mailbox whose ready list has so many places, and writes what they return,
+/// and where the requests went.
 pub fn show<R: Wait + Clone + Send + Drop + 'static, W: Write>(
     rt: &R,
     alloc: Global,
     out: &mut Printer<W>,
-) {
-    out.line("mailbox");
-    let Ok(ready) = prepare(alloc, calls(), |call: Call| ready_of(alloc, call)) else {
-        return out.line("unprepared");
-    };
-    let Ok(mut held) = places(alloc) else {
-        return out.line("unprepared");
-    };
-    match ends(rt, alloc) {
-        Ok((mailbox, ingress)) => make_calls(out, &mailbox, &ingress, &mut held, ready),
-        Err(_) => out.line("unprepared"),
-    }
-}
-
-fn ready_of(alloc: Global, call: Call) -> Result<Ready, AllocError> {
-    match call {
-        Call::Broadcast(content) => Ok(Ready::Broadcast(message(alloc, content, content)?)),
-        Call::Subscribe(content) => Ok(Ready::Subscribe(content)),
-        Call::Get(content) => Ok(Ready::Get(content)),
-        Call::Clone => Ok(Ready::Clone),
-        Call::Take => Ok(Ready::Take),
-        Call::Close => Ok(Ready::Close),
-    }
+    places: NonZeroUsize,
+    calls: Vec<Ready>,
+) -> Result<(), AllocError> {
+    let mut held = held_for(alloc, calls.len())?;
+    let (mailbox, ingress) = ends(rt, alloc, places)?;
+    make_calls(out, &mailbox, &ingress, &mut held, calls);
+    Ok(())
 }
 
 fn ends<R: Wait + Clone + Drop>(
     rt: &R,
     alloc: Global,
+    places: NonZeroUsize,
 ) -> Result<(TestMailbox<R>, TestIngress<R>), AllocError> {
-    channel(rt.clone()?, alloc, NonZeroUsize::MIN)
+    channel(rt.clone()?, alloc, places)
 }
 
-fn places(alloc: Global) -> Result<Held, AllocError> {
-    let subscriptions = Vec::with_capacity(alloc, calls().len())?;
-    let gets = Vec::with_capacity(alloc, calls().len())?;
+fn held_for(alloc: Global, count: usize) -> Result<Held, AllocError> {
+    let subscriptions = Vec::with_capacity(alloc, count)?;
+    let gets = Vec::with_capacity(alloc, count)?;
     Ok(Held {
         subscriptions,
         gets,
@@ -122,9 +98,9 @@ fn make_calls<R: Wait + Clone + Send + Drop + 'static, W: Write>(
     mailbox: &TestMailbox<R>,
     ingress: &TestIngress<R>,
     held: &mut Held,
-    ready: Vec<Ready>,
+    calls: Vec<Ready>,
 ) {
-    for call in ready {
+    for call in calls {
         make(out, mailbox, ingress, held, call);
         write_counts(out, ingress.counts());
     }
@@ -148,6 +124,11 @@ fn make<R: Wait + Clone + Send + Drop + 'static, W: Write>(
         }
         Ready::Get(content) => write_told(out, "get", get(mailbox, held, content)),
         Ready::Clone => write_clone(out, mailbox.clone()),
+        Ready::Drop => {
+            held.subscriptions.clear();
+            held.gets.clear();
+            out.line("drop");
+        }
         Ready::Take => write_taken(out, ingress.take()),
         Ready::Close => {
             out.counted("close", ingress.close());

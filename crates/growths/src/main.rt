@@ -1,9 +1,23 @@
-//! Makes the calls of the libraries over fixed lists, and prints after each what it returned and
-//! what is left. The gate runs it with growths of its heap refused, and judges what it prints.
+//! Makes the calls of the libraries that standard input lists, and prints after each what it
+//! returned and what is left. The gate runs it with growths of its heap refused, and judges what it
+//! prints.
 //!
-//! What the calls of a list are given is made before the first of them. Printing does not allocate.
+//! The first line names what is called, and its size: `core SIZE`, `overflow`, `inbox SIZE` or
+//! `mailbox SIZE`. Each further line is a call. A content is a byte, and stands for its digest where
+//! one is asked for.
+//!
+//! | Of | Lines |
+//! |---|---|
+//! | `core` | `peers KEY..`, `take KEY CONTENT DIGEST`, `take_own CONTENT DIGEST`, `subscribe TICKET DIGEST [closed]`, `cleanup TICKET..`, `cleanup_by` |
+//! | `overflow` | `broadcast CONTENT`, `subscribe DIGEST [closed]`, `get DIGEST [closed]` |
+//! | `inbox` | the same, `take`, `request_stop`, `close` |
+//! | `mailbox` | `broadcast CONTENT`, `subscribe DIGEST`, `get DIGEST`, `clone`, `drop`, `take`, `close` |
+//!
+//! What the calls are given is made before the first of them. If that fails, the program ends with a
+//! fault and prints nothing. Printing does not allocate.
 #![tactic(auto)]
 
+mod calls;
 mod core_calls;
 mod inbox_calls;
 mod mailbox_calls;
@@ -11,12 +25,13 @@ mod material;
 mod overflow_calls;
 mod printer;
 mod requests;
-mod run_calls;
 mod show;
 
+use broadcast_text::fault::Fault;
+use broadcast_text::lines::Lines;
+use calls::{Part, read_calls, read_part};
 use printer::Printer;
-use std::alloc::Global;
-use std::io::{BufWriter, Write};
+use std::io::{BufWriter, Read, Write};
 use std::process::ExitCode;
 use std::sync::Wait;
 
@@ -24,27 +39,41 @@ use std::sync::Wait;
 const BUFFER_LEN: usize = 64 * 1024;
 
 fn main(rt: HostRuntime) -> ExitCode {
-    let alloc = rt.alloc();
-    let Ok(out) = BufWriter::with_capacity(alloc, BUFFER_LEN, rt.stdout()) else {
-        return ExitCode::from(3);
+    let status = match play(&rt, rt.stdin(), rt.stdout()) {
+        Ok(()) => 0,
+        Err(fault) => fault.report(rt.stderr()),
     };
-    let mut out = Printer::new(out);
-    make_calls(&rt, alloc, &mut out);
-    if out.end() {
-        ExitCode::SUCCESS
-    } else {
-        ExitCode::from(3)
-    }
+    ExitCode::from(status)
 }
 
-fn make_calls<R: Wait + Clone + Send + 'static, W: Write>(
-    rt: &R,
-    alloc: Global,
+/// Reads the calls, makes them, and prints what comes of it.
+fn play<H: Wait + Clone + Send + Drop + AllocGlobal + 'static, R: Read + Drop, W: Write + Drop>(
+    rt: &H,
+    reader: R,
+    out: W,
+) -> Result<(), Fault> {
+    let Ok(out) = BufWriter::with_capacity(rt.alloc(), BUFFER_LEN, out) else {
+        return Err(Fault::Memory);
+    };
+    let mut out = Printer::new(out);
+    let mut lines = Lines::new(rt.alloc(), reader)?;
+    make_calls(rt, &mut lines, &mut out)?;
+    if out.end() { Ok(()) } else { Err(Fault::Write) }
+}
+
+fn make_calls<H: Wait + Clone + Send + Drop + AllocGlobal + 'static, R: Read + Drop, W: Write>(
+    rt: &H,
+    lines: &mut Lines<R>,
     out: &mut Printer<W>,
-) {
-    core_calls::show(alloc, out);
-    run_calls::show(alloc, out);
-    overflow_calls::show(alloc, out);
-    inbox_calls::show(alloc, out);
-    mailbox_calls::show(rt, alloc, out);
+) -> Result<(), Fault> {
+    let alloc = rt.alloc();
+    match read_part(lines)? {
+        Part::Core(size) => core_calls::show(alloc, out, size, read_calls(alloc, lines)?),
+        Part::Overflow => overflow_calls::show(alloc, out, read_calls(alloc, lines)?)?,
+        Part::Inbox(size) => inbox_calls::show(alloc, out, size, read_calls(alloc, lines)?),
+        Part::Mailbox(size) => {
+            mailbox_calls::show(rt, alloc, out, size, read_calls(alloc, lines)?)?;
+        }
+    }
+    Ok(())
 }

@@ -1,5 +1,5 @@
 //! What the calls are given.
-use broadcast_core::{Digested, Set, TestMessage};
+use broadcast_core::{Digested, TestMessage};
 use sha2::{Digest, Sha256};
 use std::alloc::{AllocError, Global};
 
@@ -17,24 +17,4 @@ pub fn message(
     let content = Vec::from_slice(alloc, &[content])?;
     let message = TestMessage::new(Vec::new(alloc), content);
     Digested::precomputed(alloc, message, digest_of(digest))
-}
-
-/// Creates a set of the keys.
-pub fn set_of(alloc: Global, keys: &[u64]) -> Result<Set<u64>, AllocError> {
-    Set::from_iter_dedup(Vec::from_slice(alloc, keys)?)
-}
-
-/// Makes what each call of a list is given.
-pub fn prepare<C: Copy, T: Drop, F: FnMut(C) -> Result<T, AllocError>>(
-    alloc: Global,
-    calls: &[C],
-    mut make: F,
-) -> Result<Vec<T>, AllocError>
-    requires { F.IsAlwaysCallable make }
-{
-    let mut made = Vec::with_capacity(alloc, calls.len())?;
-    for call in calls {
-        made.push(make(*call)?)?;
-    }
-    Ok(made)
 }

@@ -1,53 +1,44 @@
 //! Calls of an overflow.
-use crate::material::prepare;
+use crate::calls::Call;
 use crate::printer::Printer;
-use crate::requests::{Ask, Plain, request_of, write_request};
+use crate::requests::{Plain, parse_request, write_request};
+use broadcast_text::line_error::LineError;
+use broadcast_text::words::Words;
 use commonware_broadcast::buffered::{Overflow, Pending, Policy};
-use std::alloc::Global;
+use std::alloc::{AllocError, Global};
 use std::io::Write;
 
-/// The requests that find no room, in order.
-static ASKS: [Ask; 12] = [
-    Ask::Subscribe(1, true),
-    Ask::Get(2, false),
-    Ask::Get(3, true),
-    Ask::Broadcast(4),
-    Ask::Subscribe(5, false),
-    Ask::Get(6, true),
-    Ask::Get(7, false),
-    Ask::Broadcast(8),
-    Ask::Subscribe(9, false),
-    Ask::Subscribe(1, true),
-    Ask::Get(2, false),
-    Ask::Subscribe(3, false),
-];
+/// A request that finds no room.
+#[derive(Drop)]
+pub struct Ready(Plain);
 
-fn asks() -> &'static [Ask] {
-    &ASKS
+impl Call for Ready {
+    fn parse(alloc: Global, name: &[u8], words: Words<'_>) -> Result<Ready, LineError> {
+        Ok(Ready(parse_request(alloc, name, words)?))
+    }
 }
 
 /// Puts the requests into an overflow, and writes how many wait. Drains it in the end, and writes
 /// what it offers.
-pub fn show<W: Write>(alloc: Global, out: &mut Printer<W>) {
-    out.line("overflow");
-    let Ok(mut drained) = Vec::with_capacity(alloc, asks().len()) else {
-        return out.line("unprepared");
-    };
-    match prepare(alloc, asks(), |ask: Ask| request_of(alloc, ask)) {
-        Ok(requests) => fill_and_drain(alloc, out, requests, &mut drained),
-        Err(_) => out.line("unprepared"),
-    }
+pub fn show<W: Write>(
+    alloc: Global,
+    out: &mut Printer<W>,
+    calls: Vec<Ready>,
+) -> Result<(), AllocError> {
+    let mut drained = Vec::with_capacity(alloc, calls.len())?;
+    fill_and_drain(alloc, out, calls, &mut drained);
+    Ok(())
 }
 
 fn fill_and_drain<W: Write>(
     alloc: Global,
     out: &mut Printer<W>,
-    requests: Vec<Plain>,
+    calls: Vec<Ready>,
     drained: &mut Vec<Plain>,
 ) {
     let mut pending: Pending<Plain> = Pending::default(alloc);
-    for request in requests {
-        handle(out, &mut pending, request);
+    for call in calls {
+        handle(out, &mut pending, call.0);
     }
     drain(&mut pending, drained);
     write_drained(out, drained, pending.is_empty());

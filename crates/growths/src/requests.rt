@@ -1,9 +1,12 @@
 //! Requests, and what shows them.
+use crate::calls::{byte, is_closed};
 use crate::material::{digest_of, message};
 use crate::printer::Printer;
 use broadcast_core::{Recipients, TestMessage};
+use broadcast_text::line_error::LineError;
+use broadcast_text::words::Words;
 use commonware_broadcast::buffered::{Counts, Fixed, Message};
-use std::alloc::{AllocError, Global};
+use std::alloc::Global;
 use std::io::Write;
 
 /// The contents whose digests are shown.
@@ -12,29 +15,19 @@ const CONTENTS: u8 = 10;
 /// A request over responders whose field is what `is_closed` returns.
 pub type Plain = Message<u64, TestMessage, Fixed, Fixed>;
 
-/// What a request asks. A content is a byte, and a responder may be closed.
-#[derive(Clone, Copy)]
-pub enum Ask {
-    /// Broadcasts a message of this content to all.
-    Broadcast(u8),
-    /// Requests the message of this content, now or when it arrives.
-    Subscribe(u8, bool),
-    /// Requests the cached message of this content.
-    Get(u8, bool),
-}
-
-/// Creates the request.
-pub fn request_of(alloc: Global, ask: Ask) -> Result<Plain, AllocError> {
-    match ask {
-        Ask::Broadcast(content) => broadcast(alloc, content),
-        Ask::Subscribe(content, closed) => {
-            Ok(Message::subscribe(digest_of(content), Fixed { closed }))
-        }
-        Ask::Get(content, closed) => Ok(Message::get(digest_of(content), Fixed { closed })),
+/// Returns the request of this name with what the words after it say.
+pub fn parse_request(alloc: Global, name: &[u8], mut words: Words<'_>) -> Result<Plain, LineError> {
+    let content = byte(&mut words)?;
+    let closed = is_closed(words)?;
+    match name {
+        b"broadcast" => broadcast(alloc, content),
+        b"subscribe" => Ok(Message::subscribe(digest_of(content), Fixed { closed })),
+        b"get" => Ok(Message::get(digest_of(content), Fixed { closed })),
+        _ => Err(LineError::Syntax),
     }
 }
 
-fn broadcast(alloc: Global, content: u8) -> Result<Plain, AllocError> {
+fn broadcast(alloc: Global, content: u8) -> Result<Plain, LineError> {
     let message = message(alloc, content, content)?;
     Ok(Message::Broadcast {
         recipients: Recipients::All,
