@@ -1,19 +1,21 @@
 -- What hostile steps leave as it is.
-use Rattle.std.proofs.Common.{◌≡◌, ℕ, Bool, true, false, List, [], ◌∷◌, ◌++◌, map, Option, Some, None, Result, Ok, Err, ◌⊎◌, inl, inr, refl, sym, ap, ◌∙◌, subst, append-nil}
-use Rattle.std.specs.List.{list_any}
+use Rattle.std.proofs.Common.{◌≡◌, ℕ, ◌*◌, ◌≤◌, Bool, true, false, ◌||◌, List, [], ◌∷◌, ◌++◌, length, map, filter, Option, Some, None, Result, Ok, Err, inl, inr, refl, sym, ap, ◌∙◌, subst, arith, append-nil, append_assoc}
+use Rattle.std.specs.Prelude.{◌==◌}
+use Rattle.std.specs.List.{AllByRecursion, find, list_any, slice_get}
+use Rattle.std.proofs.lemmas.List.{length-append, length-map, map-append}
 use Rattle.std.specs.Option.{option_map}
 use Rattle.std.specs.Cmp.{IsEquivalence, IsTotalOrder, eq_by_cmp_equiv}
 use Rattle.std.specs.Ordering.{eq_by_cmp}
 use Rattle.std.specs.declared.cmp.Ordering.{Ordering}
-use Rattle.broadcast_core.proofs.Distinct.{by_test, or_false}
-use Rattle.broadcast_core.proofs.Concerning.{list-same}
+use Rattle.broadcast_core.proofs.Distinct.{by_test, or_false, or_none, or_right}
 use Rattle.broadcast_core.specs.Carried.{Carried}
-use Rattle.broadcast_core.specs.Concerns.{peer_set, digest, concerns}
+use Rattle.sha2.specs.Sha256.{sha256}
 use Rattle.broadcast_core.specs.Setting.{own_digested}
-use Rattle.broadcast_core.specs.Happening.{broadcast, taken, arrival}
+use Rattle.broadcast_core.specs.Happening.{peers, broadcast, arrival, subscribe, get, cleanup}
 use Rattle.broadcast_core.specs.Content.{among}
 use Rattle.broadcast_core.specs.Peers.{primary}
-use Rattle.broadcast_core.specs.Lists.{digest_under, list}
+use Rattle.broadcast_core.specs.Lists.{list}
+use Rattle.broadcast_core.specs.Cache.{is_listed, message}
 use Rattle.broadcast_core.specs.Codec.{whole}
 use Rattle.broadcast_core.specs.TestMessage.{Parts, encoding_of, read_message}
 use Rattle.broadcast_core.specs.Log.{after, arrived, is_refused}
@@ -25,10 +27,13 @@ use Rattle.broadcast_core.specs.declared.event.Event.TheVariants as event
 use Rattle.broadcast_core.specs.declared.event.Answer.{Answer}
 use Rattle.broadcast_world.specs.Packet.{Packet}
 use Rattle.broadcast_world.specs.Scene.{Scene, State}
-use Rattle.broadcast_world.specs.World.{Log, log_of, NodeEvent, NodeHistory, NodeMayAnswer, IsAnswer, AreAnswered, MayAnswer, accepted, at, event_of, history, history_with, made_by, node, packets, unless_refused}
+use Rattle.broadcast_world.specs.World.{Log, log_of, NodeEvent, NodeHistory, NodeMayAnswer, IsAnswer, AreAnswered, MayAnswer, accepted, addressed, at, delivery, event_of, packets_by, packets_to, history, history_with, made_by, node, packets, unless_refused}
 use Rattle.broadcast_world.specs.Steps.{HasWorld, TakesSteps}
-use Rattle.broadcast_world.specs.TwoRuns.{IsRun, is_hostile, without_hostile, refused_for_memory, NoneRefused, Corresponds, HasCleanDigests, HasHonestLists}
-use Rattle.broadcast_world.proofs.Origins.{any-equal}
+use Rattle.broadcast_world.specs.TwoRuns.{AreMoments, IsMoment, IsRun, is_hostile, without_hostile, refused_for_memory, NoneRefused, Corresponds, HasCleanCaches, HasCleanDigests, HasFewMoreDigests, HasHonestLists, admits}
+use Rattle.broadcast_world.specs.Requests.{happened}
+use Rattle.broadcast_world.specs.SameAnswers.{hands}
+use Rattle.broadcast_world.proofs.Origins.{All-append, any-equal, at_place, found-passes}
+use Rattle.broadcast_world.proofs.Merging.{Merged, both, attack, all, kept, attacked, all-append, attacked-append, kept-append, list-merged, listed-merged, listed-same, lists_of, lists_of-few, message-same}
 use Rattle.broadcast_world.specs.declared.step.Step.{Step}
 use Rattle.broadcast_world.specs.declared.step.Step.TheVariants.{Peers, Broadcast, Subscribe, Get, Cleanup, Deliver, Hostile}
 use Rattle.broadcast_world.specs.declared.step.WorldAnswer.{WorldAnswer}
@@ -72,175 +77,6 @@ module _ {P : Type 0} (cmp : P → P → Ordering) (w : Scene P) (n : P) where
     | inr memory ↦ absurd (let no = sym (ap (λ b. refused_for_memory (Given b)) memory.0) ∙ none in cc)
   ]
 
-  -- what an event adds to what concerns a key does not depend on the history
-  arrived_concerns : (p from : P) (r : Result Parts CodecError) (past other : NodeHistory P) → concerns (at cmp w n) p past ≡ concerns (at cmp w n) p other
-      → concerns (at cmp w n) p (arrived (at cmp w n) from r past) ≡ concerns (at cmp w n) p (arrived (at cmp w n) from r other)
-  arrived_concerns p from (Ok m) past other h = ap (λ cs. map digest (digest_under (at cmp w n) p (taken {W = ℕ} {V = ℕ} (at cmp w n) (arrival from (own_digested (at cmp w n) m)))) ++ cs) h
-  arrived_concerns p from (Err why) past other h = h
-
-  after_concerns : (p : P) (e : NodeEvent P) (past other : NodeHistory P) → concerns (at cmp w n) p past ≡ concerns (at cmp w n) p other
-      → concerns (at cmp w n) p (after (at cmp w n) e past) ≡ concerns (at cmp w n) p (after (at cmp w n) e other)
-  after_concerns p (event.Peers ps) past other h = ap (λ cs. peer_set (list_any (eq_by_cmp cmp p) ps) ∷ cs) h
-  after_concerns p (event.Broadcast r c) past other h = ap (λ cs. map digest (digest_under (at cmp w n) p (taken {W = ℕ} {V = ℕ} (at cmp w n) (broadcast r c))) ++ cs) h
-  after_concerns p (event.Payload from b) past other h = arrived_concerns p from (whole (read_message w.range) b) past other h
-  after_concerns p (event.Subscribe k d) past other h = h
-  after_concerns p (event.Get k d) past other h = h
-  after_concerns p (event.Cleanup gone) past other h = h
-
-  -- a payload of another key does not concern it
-  arrived_other : (p from : P) (r : Result Parts CodecError) (past : NodeHistory P) → eq_by_cmp cmp p from ≡ false → concerns (at cmp w n) p (arrived (at cmp w n) from r past) ≡ concerns (at cmp w n) p past
-  arrived_other p from (Ok m) past h = rw h refl
-  arrived_other p from (Err why) past h = refl
-
-  -- nor does what it makes of the primary keys
-  arrived_primary : (from : P) (r : Result Parts CodecError) (past other : NodeHistory P) → primary (at cmp w n) past ≡ primary (at cmp w n) other
-      → primary (at cmp w n) (arrived (at cmp w n) from r past) ≡ primary (at cmp w n) (arrived (at cmp w n) from r other)
-  arrived_primary from (Ok m) past other h = h
-  arrived_primary from (Err why) past other h = h
-
-  after_primary : (e : NodeEvent P) (past other : NodeHistory P) → primary (at cmp w n) past ≡ primary (at cmp w n) other
-      → primary (at cmp w n) (after (at cmp w n) e past) ≡ primary (at cmp w n) (after (at cmp w n) e other)
-  after_primary (event.Peers ps) past other h = refl
-  after_primary (event.Broadcast r c) past other h = h
-  after_primary (event.Payload from b) past other h = arrived_primary from (whole (read_message w.range) b) past other h
-  after_primary (event.Subscribe k d) past other h = h
-  after_primary (event.Get k d) past other h = h
-  after_primary (event.Cleanup gone) past other h = h
-
-  arrived_same : (from : P) (r : Result Parts CodecError) (past : NodeHistory P) → primary (at cmp w n) (arrived (at cmp w n) from r past) ≡ primary (at cmp w n) past
-  arrived_same from (Ok m) past = refl
-  arrived_same from (Err why) past = refl
-
--- tests that agree where another fails
-any-where : {X : Type 0} (other f g : X → Bool) (xs : List X) → list_any other xs ≡ false → ((x : X) → other x ≡ false → f x ≡ g x) → list_any f xs ≡ list_any g xs
-any-where other f g [] none h = refl
-any-where other f g (x ∷ xs) none h = let both = or_false (other x) (list_any other xs) none in rw (h x both.0, any-where other f g xs both.1 h) refl
-
--- a key that is in a list differs from one that is not
-differs : {P : Type 0} (same : P → P → Bool) (laws : IsEquivalence same) (p q : P) (keys : List P) → list_any (same p) keys ≡ false → list_any (same q) keys ≡ true → same p q ≡ false
-differs same laws p q keys none some = by_test (same p q)
-    (λ t. absurd (let no = sym none ∙ any-equal same laws p q keys t ∙ some in cc))
-    (λ t. t)
-
-module _ {P : Type 0} (cmp : P → P → Ordering) (total : IsTotalOrder cmp) (w : Scene P) where
-  -- the packets of two logs are the same, and what concerns a key that is not hostile
-  record SameSoFar (now clean : Log P) : Type 0 where
-    packets : packets cmp w now ≡ packets cmp w clean
-    primary : (n : P) → primary (at cmp w n) (history cmp w n now) ≡ primary (at cmp w n) (history cmp w n clean)
-    concerns : (n p : P) → list_any (eq_by_cmp cmp p) w.hostile ≡ false → concerns (at cmp w n) p (history cmp w n now) ≡ concerns (at cmp w n) p (history cmp w n clean)
-
-  -- no event, or a payload of a hostile key
-  abbrev IsAttack : Option (P × NodeEvent P) → Type 0
-  IsAttack e = (e ≡ None) ⊎ ((n from : P) × (bytes : List ℕ) × (e ≡ Some (n, event.Payload from bytes)) × (list_any (eq_by_cmp cmp from) w.hostile ≡ true))
-
-  attack_at : (from : P) (bytes : List ℕ) (o : Option P) → list_any (eq_by_cmp cmp from) w.hostile ≡ true → IsAttack (option_map (λ n. (n, event.Payload from bytes)) o)
-  attack_at from bytes None h = inl refl
-  attack_at from bytes (Some n) h = inr (n, from, bytes, refl, h)
-
-  attack_accepted : (a : WorldAnswer) (e : Option (P × NodeEvent P)) → IsAttack e → IsAttack (unless_refused cmp w a e)
-  attack_accepted NoSuch e h = h
-  attack_accepted (Given a) e h = by_test (is_refused a) (λ t. rw t (inl refl)) (λ t. rw t h)
-
-  attack : (step : Step P) (sent : List (Packet P)) → is_hostile step ≡ true → IsAttack (event_of cmp w step sent)
-  attack (Peers n ps) sent h = absurd (let no = h in cc)
-  attack (Broadcast n r c) sent h = absurd (let no = h in cc)
-  attack (Subscribe n t d) sent h = absurd (let no = h in cc)
-  attack (Get n t d) sent h = absurd (let no = h in cc)
-  attack (Cleanup n gone) sent h = absurd (let no = h in cc)
-  attack (Deliver k) sent h = absurd (let no = h in cc)
-  attack (Hostile from to bytes) sent h = by_test (list_any (eq_by_cmp cmp from) w.hostile)
-      (λ t. rw t (attack_at from bytes (node cmp w to) t))
-      (λ t. rw t (inl refl))
-
-  -- a hostile step makes no packet, and concerns no other key
-  attack_packets : (e : Option (P × NodeEvent P)) → IsAttack e → made_by cmp w e ≡ []
-  attack_packets e (inl none) = ap (made_by cmp w) none
-  attack_packets e (inr it) = ap (made_by cmp w) it.3
-
-  attack_concerns : (e : Option (P × NodeEvent P)) → IsAttack e → (n p : P) (past : NodeHistory P) → list_any (eq_by_cmp cmp p) w.hostile ≡ false
-      → concerns (at cmp w n) p (history_with cmp w n e past) ≡ concerns (at cmp w n) p past
-  attack_concerns e (inl none) n p past h = ap (λ o. concerns (at cmp w n) p (history_with cmp w n o past)) none
-  attack_concerns e (inr it) n p past h = ap (λ o. concerns (at cmp w n) p (history_with cmp w n o past)) it.3 ∙ by_test (eq_by_cmp cmp n it.0)
-      (λ t. rw t (arrived_other cmp w n p it.1 (whole (read_message w.range) it.2) past (differs (eq_by_cmp cmp) (eq_by_cmp_equiv total) p it.1 w.hostile h it.4)))
-      (λ t. rw t refl)
-
-  attack_primary : (e : Option (P × NodeEvent P)) → IsAttack e → (n : P) (past : NodeHistory P) → primary (at cmp w n) (history_with cmp w n e past) ≡ primary (at cmp w n) past
-  attack_primary e (inl none) n past = ap (λ o. primary (at cmp w n) (history_with cmp w n o past)) none
-  attack_primary e (inr it) n past = ap (λ o. primary (at cmp w n) (history_with cmp w n o past)) it.3 ∙ by_test (eq_by_cmp cmp n it.0)
-      (λ t. rw t (arrived_same cmp w n it.1 (whole (read_message w.range) it.2) past))
-      (λ t. rw t refl)
-
-  hostile_step : (x : Step P × WorldAnswer) (now clean : Log P) → is_hostile x.0 ≡ true → SameSoFar now clean → SameSoFar (x ∷ now) clean
-  hostile_step x now clean h same =
-      let it = attack_accepted x.1 (event_of cmp w x.0 (packets cmp w now)) (attack x.0 (packets cmp w now) h) in
-      record {
-        packets = ap (λ ps. packets cmp w now ++ ps) (attack_packets (accepted cmp w x now) it) ∙ append-nil (packets cmp w now) ∙ same.packets;
-        primary = λ n. attack_primary (accepted cmp w x now) it n (history cmp w n now) ∙ same.primary n;
-        concerns = λ n p none. attack_concerns (accepted cmp w x now) it n p (history cmp w n now) none ∙ same.concerns n p none;
-      }
-
-  -- one event, accepted or refused alike
-  accepted_same : (e : Option (P × NodeEvent P)) (a b : WorldAnswer) (now clean : Log P) → IsAnswer cmp w e a now → IsAnswer cmp w e b clean → refused_for_memory a ≡ false → refused_for_memory b ≡ false
-      → unless_refused cmp w a e ≡ unless_refused cmp w b e
-  accepted_same None a b now clean may may_b none none_b = rw (may, may_b) refl
-  accepted_same (Some e) NoSuch b now clean may may_b none none_b = absurd may
-  accepted_same (Some e) (Given a) NoSuch now clean may may_b none none_b = absurd may_b
-  accepted_same (Some e) (Given a) (Given b) now clean may may_b none none_b =
-      let one : is_refused a ≡ is_refused b = given_refused cmp w e.0 e.1 (history cmp w e.0 now) a may none ∙ sym (given_refused cmp w e.0 e.1 (history cmp w e.0 clean) b may_b none_b) in
-      rw one refl
-
-  concerns_with : (n p : P) (e : Option (P × NodeEvent P)) (past other : NodeHistory P) → concerns (at cmp w n) p past ≡ concerns (at cmp w n) p other
-      → concerns (at cmp w n) p (history_with cmp w n e past) ≡ concerns (at cmp w n) p (history_with cmp w n e other)
-  concerns_with n p None past other h = h
-  concerns_with n p (Some e) past other h = by_test (eq_by_cmp cmp n e.0)
-      (λ t. rw t (after_concerns cmp w n p e.1 past other h))
-      (λ t. rw t h)
-
-  primary_with : (n : P) (e : Option (P × NodeEvent P)) (past other : NodeHistory P) → primary (at cmp w n) past ≡ primary (at cmp w n) other
-      → primary (at cmp w n) (history_with cmp w n e past) ≡ primary (at cmp w n) (history_with cmp w n e other)
-  primary_with n None past other h = h
-  primary_with n (Some e) past other h = by_test (eq_by_cmp cmp n e.0)
-      (λ t. rw t (after_primary cmp w n e.1 past other h))
-      (λ t. rw t h)
-
-  honest_step : (x y : Step P × WorldAnswer) (now clean : Log P) → x.0 ≡ y.0 → MayAnswer cmp w x now → MayAnswer cmp w y clean → refused_for_memory x.1 ≡ false → refused_for_memory y.1 ≡ false
-      → SameSoFar now clean → SameSoFar (x ∷ now) (y ∷ clean)
-  honest_step x y now clean is may may_y none none_y same =
-      let one : event_of cmp w y.0 (packets cmp w clean) ≡ event_of cmp w x.0 (packets cmp w now) = ap (λ s. event_of cmp w s (packets cmp w clean)) (sym is) ∙ ap (event_of cmp w x.0) (sym same.packets) in
-      let both : accepted cmp w x now ≡ accepted cmp w y clean =
-      accepted_same (event_of cmp w x.0 (packets cmp w now)) x.1 y.1 now clean may (subst (λ e. IsAnswer cmp w e y.1 clean) one may_y) none none_y
-      ∙ ap (unless_refused cmp w y.1) (sym one) in
-      record {
-        packets = ap (λ ps. ps ++ made_by cmp w (accepted cmp w x now)) same.packets ∙ ap (λ e. packets cmp w clean ++ made_by cmp w e) both;
-        primary = λ n. ap (λ e. primary (at cmp w n) (history_with cmp w n e (history cmp w n now))) both ∙ primary_with n (accepted cmp w y clean) (history cmp w n now) (history cmp w n clean) (same.primary n);
-        concerns = λ n p h. ap (λ e. concerns (at cmp w n) p (history_with cmp w n e (history cmp w n now))) both ∙ concerns_with n p (accepted cmp w y clean) (history cmp w n now) (history cmp w n clean) (same.concerns n p h);
-      }
-
-  answered-last : (x : Step P × WorldAnswer) (log : Log P) → AreAnswered cmp w (x ∷ log) [] → MayAnswer cmp w x log
-  answered-last x log may = subst (λ l. MayAnswer cmp w x l) (append-nil log) may.0
-
-  -- a step that is not hostile is the last of both runs
-  same_honest : (x : Step P × WorldAnswer) (now clean : Log P) → AreAnswered cmp w (x ∷ now) [] → AreAnswered cmp w clean [] → NoneRefused (x ∷ now) → NoneRefused clean
-      → map (λ y. y.0) clean ≡ x.0 ∷ without_hostile (map (λ y. y.0) now)
-      → ((before : Log P) → AreAnswered cmp w before [] → NoneRefused before → Corresponds now before → SameSoFar now before) → SameSoFar (x ∷ now) clean
-  same_honest x now [] may may_clean none none_clean is so_far = absurd (let no = is in cc)
-  same_honest x now (y ∷ clean) may may_clean none none_clean is so_far =
-      let first : y.0 ≡ x.0 = cc in
-      let rest : map (λ z. z.0) clean ≡ without_hostile (map (λ z. z.0) now) = cc in
-      let both = or_false (refused_for_memory x.1) (list_any (λ z. refused_for_memory z.1) now) none in
-      let both_clean = or_false (refused_for_memory y.1) (list_any (λ z. refused_for_memory z.1) clean) none_clean in
-      honest_step x y now clean (sym first) (answered-last x now may) (answered-last y clean may_clean) both.0 both_clean.0
-      (so_far clean may_clean.1 both_clean.1 rest)
-
-  same_so_far : (now clean : Log P) → AreAnswered cmp w now [] → AreAnswered cmp w clean [] → NoneRefused now → NoneRefused clean → Corresponds now clean → SameSoFar now clean
-  same_so_far [] [] may may_clean none none_clean is = record { packets = refl; primary = λ n. refl; concerns = λ n p h. refl }
-  same_so_far [] (y ∷ clean) may may_clean none none_clean is = absurd (let no = is in cc)
-  same_so_far (x ∷ now) clean may may_clean none none_clean is =
-      let both = or_false (refused_for_memory x.1) (list_any (λ z. refused_for_memory z.1) now) none in
-      by_test (is_hostile x.0)
-      (λ t. hostile_step x now clean t (same_so_far now clean may.1 may_clean both.1 none_clean (rw t at is)))
-      (λ t. same_honest x now clean may may_clean none none_clean (rw t at is) (λ before answered unrefused corresponds. same_so_far now before may.1 answered both.1 unrefused corresponds))
-
 pub without_hostile-append : {P : Type 0} (steps more : List (Step P)) → without_hostile (steps ++ more) ≡ without_hostile steps ++ without_hostile more
 without_hostile-append [] more = refl
 without_hostile-append (s ∷ steps) more = by_test (is_hostile s)
@@ -260,21 +96,354 @@ answered-until : {P : Type 0} (cmp : P → P → Ordering) (w : Scene P) (later 
 answered-until cmp w [] now may = may
 answered-until cmp w (x ∷ later) now may = answered-until cmp w later now may.1
 
-pub HasHonestLists-from : {P : Type 0} (cmp : P → P → Ordering) (total : IsTotalOrder cmp) (w : Scene P) (log clean_log : Log P) → AreAnswered cmp w log [] → AreAnswered cmp w clean_log []
-    → HasHonestLists cmp w log clean_log
-HasHonestLists-from cmp total w log clean_log may may_clean = λ now clean moment clean_moment is none none_clean n p h.
-    let so_far = same_so_far cmp total w now clean
-    (answered-until cmp w moment.0 now (subst (λ l. AreAnswered cmp w l []) moment.1 may))
-    (answered-until cmp w clean_moment.0 clean (subst (λ l. AreAnswered cmp w l []) clean_moment.1 may_clean)) none none_clean is in
-    list-same (at cmp w n) (at cmp w n) refl refl p p (history cmp w n clean) (history cmp w n now) (so_far.concerns n p h)
+-- no node has a hostile key
+abbrev pub KeysApart : {P : Type 0} → (P → P → Ordering) → Scene P → Type 0
+KeysApart {P} cmp w = (q : P) → list_any (eq_by_cmp cmp q) w.nodes ≡ true → list_any (eq_by_cmp cmp q) w.hostile ≡ false
 
-pub HasCleanDigests-from : {P : Type 0} (cmp : P → P → Ordering) (total : IsTotalOrder cmp) (w : Scene P) (log clean_log : Log P) → AreAnswered cmp w log [] → AreAnswered cmp w clean_log []
-    → HasCleanDigests cmp w log clean_log
-HasCleanDigests-from cmp total w log clean_log may may_clean = λ now clean moment clean_moment is none none_clean n admits d.
-    let so_far = same_so_far cmp total w now clean
-    (answered-until cmp w moment.0 now (subst (λ l. AreAnswered cmp w l []) moment.1 may))
-    (answered-until cmp w clean_moment.0 clean (subst (λ l. AreAnswered cmp w l []) clean_moment.1 may_clean)) none none_clean is in
-    let s = at cmp w n in
-    any-where (λ p. list_any (eq_by_cmp cmp p) w.hostile) (λ p. among s.same.digest d (list s p (history cmp w n now))) (λ p. among s.same.digest d (list s p (history cmp w n clean)))
-    (primary s (history cmp w n now)) admits (λ p h. ap (among s.same.digest d) (list-same s s refl refl p p (history cmp w n clean) (history cmp w n now) (so_far.concerns n p h)))
-    ∙ ap (list_any (λ p. among s.same.digest d (list s p (history cmp w n clean)))) (so_far.primary n)
+-- x is the first element that passes, so it is an element
+found-in : {P : Type 0} (same : P → P → Bool) (laws : IsEquivalence same) (test : P → Bool) (ps : List P) (x : P) → find test ps ≡ Some x → list_any (same x) ps ≡ true
+found-in same laws test [] x h = absurd (let no = h in cc)
+found-in same laws test (y ∷ ys) x h = by_test (test y)
+    (λ t. let is : y ≡ x = (let k = rw t at h in cc) in rw (ap (same x) is ∙ laws.refl x) refl)
+    (λ t. ap (λ b. same x y || b) (found-in same laws test ys x (rw t at h)) ∙ or_right (same x y))
+
+module _ {P : Type 0} (cmp : P → P → Ordering) (total : IsTotalOrder cmp) (w : Scene P) where
+  laws : IsEquivalence (eq_by_cmp cmp)
+  laws = eq_by_cmp_equiv total
+
+  abbrev pub hostile : P → Bool
+  hostile p = list_any (eq_by_cmp cmp p) w.hostile
+
+  pub hostile-alike : (p q : P) → eq_by_cmp cmp p q ≡ true → hostile p ≡ hostile q
+  hostile-alike p q h = any-equal (eq_by_cmp cmp) laws p q w.hostile h
+
+  abbrev pub Items : P → Type 0
+  Items n = List (Merged ℕ ℕ (at cmp w n) hostile)
+
+  -- what a hostile step makes of a node's history: nothing, or the arrival of a hostile key
+  record Attacks (n : P) (step : Step P) (e : Option (P × NodeEvent P)) : Type 0 where
+    items : Items n
+    now : all items ≡ history_with cmp w n e []
+    clean : kept items ≡ []
+    handed : (d : List ℕ) → attacked d items ≡ true → hands cmp w n d step ≡ true
+
+  attacks-none : (n : P) (step : Step P) → Attacks n step None
+  attacks-none n step = record { items = []; now = refl; clean = refl; handed = λ d h. absurd (let no = h in cc) }
+
+  attacks-read : (n from to : P) (bytes : List ℕ) (r : Result Parts CodecError) → hostile from ≡ true → eq_by_cmp cmp n to ≡ true → whole (read_message w.range) bytes ≡ r
+      → (items : Items n) × (all items ≡ arrived (at cmp w n) from r []) × (kept items ≡ []) × ((d : List ℕ) → attacked d items ≡ true → hands cmp w n d (Hostile from to bytes) ≡ true)
+  attacks-read n from to bytes (Ok m) h is read = (attack from (own_digested (at cmp w n) m) h ∷ [], refl, refl, λ d k. rw (h, is, read) (sym (or_none ((at cmp w n).same.digest d (sha256 m.content))) ∙ k))
+  attacks-read n from to bytes (Err why) h is read = ([], refl, refl, λ d k. absurd (let no = k in cc))
+
+  -- a key that names a node of an equal key
+  names-same : (n to m : P) → node cmp w to ≡ Some m → eq_by_cmp cmp n m ≡ true → eq_by_cmp cmp n to ≡ true
+  names-same n to m is t = laws.symm n to ∙ laws.congr to m n (found-passes (eq_by_cmp cmp to) w.nodes m is) ∙ laws.symm m n ∙ t
+
+  attacks-at : (n from to : P) (bytes : List ℕ) (o : Option P) → hostile from ≡ true → node cmp w to ≡ o → Attacks n (Hostile from to bytes) (option_map (λ m. (m, event.Payload from bytes)) o)
+  attacks-at n from to bytes None h is = attacks-none n (Hostile from to bytes)
+  attacks-at n from to bytes (Some m) h is = by_test (eq_by_cmp cmp n m)
+      (λ t. let read = attacks-read n from to bytes (whole (read_message w.range) bytes) h (names-same n to m is t) refl in
+      record { items = read.0; now = rw t read.1; clean = read.2; handed = read.3 })
+      (λ t. record { items = []; now = rw t refl; clean = refl; handed = λ d k. absurd (let no = k in cc) })
+
+  attacks-accepted : (n : P) (step : Step P) (a : WorldAnswer) (e : Option (P × NodeEvent P)) → Attacks n step e → Attacks n step (unless_refused cmp w a e)
+  attacks-accepted n step NoSuch e h = h
+  attacks-accepted n step (Given a) e h = by_test (is_refused a) (λ t. rw t (attacks-none n step)) (λ t. rw t h)
+
+  attacks : (n : P) (step : Step P) (sent : List (Packet P)) → is_hostile step ≡ true → Attacks n step (event_of cmp w step sent)
+  attacks n (Peers k ps) sent h = absurd (let no = h in cc)
+  attacks n (Broadcast k r c) sent h = absurd (let no = h in cc)
+  attacks n (Subscribe k t d) sent h = absurd (let no = h in cc)
+  attacks n (Get k t d) sent h = absurd (let no = h in cc)
+  attacks n (Cleanup k gone) sent h = absurd (let no = h in cc)
+  attacks n (Deliver k) sent h = absurd (let no = h in cc)
+  attacks n (Hostile from to bytes) sent h = by_test (hostile from)
+      (λ t. rw t (attacks-at n from to bytes (node cmp w to) t refl))
+      (λ t. rw t (attacks-none n (Hostile from to bytes)))
+
+  -- the event is at a node, and no payload of a hostile key
+  abbrev IsHonestFrom : NodeEvent P → Type 0
+  IsHonestFrom (event.Payload p b) = hostile p ≡ false
+  IsHonestFrom _ = Unit {0}
+
+  abbrev IsHonestAt : Option (P × NodeEvent P) → Type 0
+  IsHonestAt None = Unit {0}
+  IsHonestAt (Some e) = (hostile e.0 ≡ false) × IsHonestFrom e.1
+
+  honest-accepted : (a : WorldAnswer) (e : Option (P × NodeEvent P)) → IsHonestAt e → IsHonestAt (unless_refused cmp w a e)
+  honest-accepted NoSuch e h = h
+  honest-accepted (Given a) e h = by_test (is_refused a) (λ t. rw t tt) (λ t. rw t h)
+
+  sends-to : (n : P) (ps : List P) (o : Option (List ℕ)) → hostile n ≡ false → AllByRecursion (λ p. hostile p.sender ≡ false) (packets_to cmp w n ps o)
+  sends-to n ps None h = tt
+  sends-to n [] (Some bytes) h = tt
+  sends-to n (p ∷ ps) (Some bytes) h = (h, sends-to n ps (Some bytes) h)
+
+  sends-from : (n : P) (e : NodeEvent P) → hostile n ≡ false → AllByRecursion (λ p. hostile p.sender ≡ false) (packets_by cmp w n e)
+  sends-from n (event.Broadcast r c) h = sends-to n (addressed cmp w n r) (encoding_of c.message) h
+  sends-from n (event.Peers ps) h = tt
+  sends-from n (event.Payload p b) h = tt
+  sends-from n (event.Subscribe t d) h = tt
+  sends-from n (event.Get t d) h = tt
+  sends-from n (event.Cleanup gone) h = tt
+
+  honest-sends : (e : Option (P × NodeEvent P)) → IsHonestAt e → AllByRecursion (λ p. hostile p.sender ≡ false) (made_by cmp w e)
+  honest-sends None h = tt
+  honest-sends (Some e) h = sends-from e.0 e.1 h.0
+
+  -- what it makes of a node's history, it makes of both
+  record Adds (n : P) (e : Option (P × NodeEvent P)) : Type 0 where
+    items : Items n
+    now : all items ≡ history_with cmp w n e []
+    clean : kept items ≡ history_with cmp w n e []
+    none : (d : List ℕ) → attacked d items ≡ false
+
+  adds-read : (n from : P) (r : Result Parts CodecError) → hostile from ≡ false
+      → (items : Items n) × (all items ≡ arrived (at cmp w n) from r []) × (kept items ≡ arrived (at cmp w n) from r []) × ((d : List ℕ) → attacked d items ≡ false)
+  adds-read n from (Ok m) h = (both (arrival from (own_digested (at cmp w n) m)) h ∷ [], refl, refl, λ d. refl)
+  adds-read n from (Err why) h = ([], refl, refl, λ d. refl)
+
+  adds-event : (n : P) (e : NodeEvent P) → hostile n ≡ false → IsHonestFrom e
+      → (items : Items n) × (all items ≡ after (at cmp w n) e []) × (kept items ≡ after (at cmp w n) e []) × ((d : List ℕ) → attacked d items ≡ false)
+  adds-event n (event.Peers ps) h from = (both (peers ps) tt ∷ [], refl, refl, λ d. refl)
+  adds-event n (event.Broadcast r c) h from = (both (broadcast r c) h ∷ [], refl, refl, λ d. refl)
+  adds-event n (event.Payload p b) h from = adds-read n p (whole (read_message w.range) b) from
+  adds-event n (event.Subscribe t d) h from = (both (subscribe t d) tt ∷ [], refl, refl, λ d. refl)
+  adds-event n (event.Get t d) h from = (both (get t d) tt ∷ [], refl, refl, λ d. refl)
+  adds-event n (event.Cleanup gone) h from = (both (cleanup (λ i k. list_any (λ x. k == x) gone)) (λ i j k. refl) ∷ [], refl, refl, λ d. refl)
+
+  adds : (n : P) (e : Option (P × NodeEvent P)) → IsHonestAt e → Adds n e
+  adds n None h = record { items = []; now = refl; clean = refl; none = λ d. refl }
+  adds n (Some e) h = by_test (eq_by_cmp cmp n e.0)
+      (λ t. let it = adds-event n e.1 (hostile-alike n e.0 t ∙ h.0) h.1 in
+      record { items = it.0; now = rw t it.1; clean = rw t it.2; none = it.3 })
+      (λ t. record { items = []; now = rw t refl; clean = rw t refl; none = λ d. refl })
+
+  -- a hostile step sends no packet
+  sends-none : (to : Option P) (from : P) (bytes : List ℕ) → made_by cmp w (option_map (λ n. (n, event.Payload from bytes)) to) ≡ []
+  sends-none None from bytes = refl
+  sends-none (Some n) from bytes = refl
+
+  sends-unless : (a : WorldAnswer) (e : Option (P × NodeEvent P)) → made_by cmp w e ≡ [] → made_by cmp w (unless_refused cmp w a e) ≡ []
+  sends-unless NoSuch e h = h
+  sends-unless (Given a) e h = by_test (is_refused a) (λ t. rw t refl) (λ t. rw t h)
+
+  attack-sends : (step : Step P) (sent : List (Packet P)) → is_hostile step ≡ true → made_by cmp w (event_of cmp w step sent) ≡ []
+  attack-sends (Peers k ps) sent h = absurd (let no = h in cc)
+  attack-sends (Broadcast k r c) sent h = absurd (let no = h in cc)
+  attack-sends (Subscribe k t d) sent h = absurd (let no = h in cc)
+  attack-sends (Get k t d) sent h = absurd (let no = h in cc)
+  attack-sends (Cleanup k gone) sent h = absurd (let no = h in cc)
+  attack-sends (Deliver k) sent h = absurd (let no = h in cc)
+  attack-sends (Hostile from to bytes) sent h = by_test (hostile from)
+      (λ t. rw t (sends-none (node cmp w to) from bytes))
+      (λ t. rw t refl)
+
+  -- what happens later comes in front of the history
+  after-append : (n : P) (e : NodeEvent P) (past : NodeHistory P) → after (at cmp w n) e past ≡ after (at cmp w n) e [] ++ past
+  after-append n (event.Peers ps) past = refl
+  after-append n (event.Broadcast r c) past = refl
+  after-append n (event.Payload p b) past = elim (whole (read_message w.range) b) as (λ r. arrived (at cmp w n) p r past ≡ arrived (at cmp w n) p r [] ++ past) [ Ok m ↦ refl | Err why ↦ refl ]
+  after-append n (event.Subscribe t d) past = refl
+  after-append n (event.Get t d) past = refl
+  after-append n (event.Cleanup gone) past = refl
+
+  with-append : (n : P) (e : Option (P × NodeEvent P)) (past : NodeHistory P) → history_with cmp w n e past ≡ history_with cmp w n e [] ++ past
+  with-append n None past = refl
+  with-append n (Some e) past = by_test (eq_by_cmp cmp n e.0) (λ t. rw t (after-append n e.1 past)) (λ t. rw t refl)
+
+  pub history-append : (n : P) (newer older : Log P) → history cmp w n (newer ++ older) ≡ happened cmp w n newer older ++ history cmp w n older
+  history-append n [] older = refl
+  history-append n (x ∷ newer) older =
+      let new = history_with cmp w n (accepted cmp w x (newer ++ older)) [] in
+      with-append n (accepted cmp w x (newer ++ older)) (history cmp w n (newer ++ older)) ∙ ap (λ es. new ++ es) (history-append n newer older)
+      ∙ sym (append_assoc new (happened cmp w n newer older) (history cmp w n older))
+
+  -- one event, accepted or refused alike
+  accepted_same : (e : Option (P × NodeEvent P)) (a b : WorldAnswer) (now clean : Log P) → IsAnswer cmp w e a now → IsAnswer cmp w e b clean → refused_for_memory a ≡ false → refused_for_memory b ≡ false
+      → unless_refused cmp w a e ≡ unless_refused cmp w b e
+  accepted_same None a b now clean may may_b none none_b = rw (may, may_b) refl
+  accepted_same (Some e) NoSuch b now clean may may_b none none_b = absurd may
+  accepted_same (Some e) (Given a) NoSuch now clean may may_b none none_b = absurd may_b
+  accepted_same (Some e) (Given a) (Given b) now clean may may_b none none_b =
+      let one : is_refused a ≡ is_refused b = given_refused cmp w e.0 e.1 (history cmp w e.0 now) a may none ∙ sym (given_refused cmp w e.0 e.1 (history cmp w e.0 clean) b may_b none_b) in
+      rw one refl
+
+  pub answered-last : (x : Step P × WorldAnswer) (log : Log P) → AreAnswered cmp w (x ∷ log) [] → MayAnswer cmp w x log
+  answered-last x log may = subst (λ l. MayAnswer cmp w x l) (append-nil log) may.0
+
+  -- what happens at a node since older moments, in both runs
+  pub record Merges (older clean : Log P) (n : P) (newer newer_clean : Log P) : Type 0 where
+    pub items : Items n
+    pub now : all items ≡ happened cmp w n newer older
+    pub kept : kept items ≡ happened cmp w n newer_clean clean
+    pub handed : (d : List ℕ) → attacked d items ≡ true → list_any (λ x. hands cmp w n d x.0) newer ≡ true
+
+  pub record SameSince (older clean newer newer_clean : Log P) : Type 0 where
+    pub packets : packets cmp w (newer ++ older) ≡ packets cmp w (newer_clean ++ clean)
+    pub merges : (n : P) → Merges older clean n newer newer_clean
+
+  hostile-next : (older clean : Log P) (x : Step P × WorldAnswer) (newer newer_clean : Log P) → is_hostile x.0 ≡ true → SameSince older clean newer newer_clean → SameSince older clean (x ∷ newer) newer_clean
+  hostile-next older clean x newer newer_clean h same =
+      let sent = packets cmp w (newer ++ older) in
+      let e = accepted cmp w x (newer ++ older) in
+      record {
+        packets = ap (λ ps. sent ++ ps) (sends-unless x.1 (event_of cmp w x.0 sent) (attack-sends x.0 sent h)) ∙ append-nil sent ∙ same.packets;
+        merges = λ n.
+            let was = same.merges n in
+            let it = attacks-accepted n x.0 x.1 (event_of cmp w x.0 sent) (attacks n x.0 sent h) in
+            record {
+              items = it.items ++ was.items;
+              now = all-append it.items was.items ∙ ap (λ es. es ++ all was.items) it.now ∙ ap (λ es. history_with cmp w n e [] ++ es) was.now;
+              kept = kept-append it.items was.items ∙ ap (λ es. es ++ kept was.items) it.clean ∙ was.kept;
+              handed = λ d t. let split = sym (attacked-append d it.items was.items) ∙ t in by_test (attacked d it.items)
+                  (λ u. rw (it.handed d u) refl)
+                  (λ u. ap (λ b. hands cmp w n d x.0 || b) (was.handed d (rw u at split)) ∙ or_right (hands cmp w n d x.0));
+            };
+      }
+
+  module _ (keys_apart : KeysApart cmp w) where
+    honest-at : (p : P) (e : NodeEvent P) (o : Option P) → node cmp w p ≡ o → IsHonestFrom e → IsHonestAt (option_map (λ n. (n, e)) o)
+    honest-at p e None is h = tt
+    honest-at p e (Some n) is h = (keys_apart n (found-in (eq_by_cmp cmp) laws (eq_by_cmp cmp p) w.nodes n is), h)
+
+    honest-delivery : (sent : List (Packet P)) (k : ℕ) (o : Option (Packet P)) → slice_get sent k ≡ o → AllByRecursion (λ p. hostile p.sender ≡ false) sent → IsHonestAt (delivery cmp w o)
+    honest-delivery sent k None is from = tt
+    honest-delivery sent k (Some p) is from = honest-at p.addressee (event.Payload p.sender p.bytes) (node cmp w p.addressee) refl (at_place (λ q. hostile q.sender ≡ false) sent k p is from)
+
+    honest-event : (step : Step P) (sent : List (Packet P)) → is_hostile step ≡ false → AllByRecursion (λ p. hostile p.sender ≡ false) sent → IsHonestAt (event_of cmp w step sent)
+    honest-event (Peers k ps) sent h from = honest-at k (event.Peers ps) (node cmp w k) refl tt
+    honest-event (Broadcast k r c) sent h from = honest-at k (event.Broadcast r c) (node cmp w k) refl tt
+    honest-event (Subscribe k t d) sent h from = honest-at k (event.Subscribe t d) (node cmp w k) refl tt
+    honest-event (Get k t d) sent h from = honest-at k (event.Get t d) (node cmp w k) refl tt
+    honest-event (Cleanup k gone) sent h from = honest-at k (event.Cleanup gone) (node cmp w k) refl tt
+    honest-event (Deliver k) sent h from = honest-delivery sent k (slice_get sent k) refl from
+    honest-event (Hostile from to bytes) sent h senders = absurd (let no = h in cc)
+
+    -- no packet is of a hostile key
+    senders : (log : Log P) → AllByRecursion (λ p. hostile p.sender ≡ false) (packets cmp w log)
+    senders [] = tt
+    senders (x ∷ log) =
+        let sent = packets cmp w log in
+        All-append (λ p. hostile p.sender ≡ false) sent (made_by cmp w (accepted cmp w x log)) (senders log)
+        (by_test (is_hostile x.0)
+        (λ t. rw (sends-unless x.1 (event_of cmp w x.0 sent) (attack-sends x.0 sent t)) tt)
+        (λ t. honest-sends (accepted cmp w x log) (honest-accepted x.1 (event_of cmp w x.0 sent) (honest-event x.0 sent t (senders log)))))
+
+    honest-next : (older clean : Log P) (x y : Step P × WorldAnswer) (newer newer_clean : Log P) → is_hostile x.0 ≡ false → x.0 ≡ y.0 → MayAnswer cmp w x (newer ++ older) → MayAnswer cmp w y (newer_clean ++ clean)
+        → refused_for_memory x.1 ≡ false → refused_for_memory y.1 ≡ false
+        → SameSince older clean newer newer_clean → SameSince older clean (x ∷ newer) (y ∷ newer_clean)
+    honest-next older clean x y newer newer_clean h is may may_y none none_y same =
+        let now = newer ++ older in
+        let now_clean = newer_clean ++ clean in
+        let one : event_of cmp w y.0 (packets cmp w now_clean) ≡ event_of cmp w x.0 (packets cmp w now) = ap (λ s. event_of cmp w s (packets cmp w now_clean)) (sym is) ∙ ap (event_of cmp w x.0) (sym same.packets) in
+        let alike : accepted cmp w x now ≡ accepted cmp w y now_clean =
+        accepted_same (event_of cmp w x.0 (packets cmp w now)) x.1 y.1 now now_clean may (subst (λ e. IsAnswer cmp w e y.1 now_clean) one may_y) none none_y
+        ∙ ap (unless_refused cmp w y.1) (sym one) in
+        record {
+          packets = ap (λ ps. ps ++ made_by cmp w (accepted cmp w x now)) same.packets ∙ ap (λ e. packets cmp w now_clean ++ made_by cmp w e) alike;
+          merges = λ n.
+              let was = same.merges n in
+              let it = adds n (accepted cmp w x now) (honest-accepted x.1 (event_of cmp w x.0 (packets cmp w now)) (honest-event x.0 (packets cmp w now) h (senders now))) in
+              record {
+                items = it.items ++ was.items;
+                now = all-append it.items was.items ∙ ap (λ es. es ++ all was.items) it.now ∙ ap (λ es. history_with cmp w n (accepted cmp w x now) [] ++ es) was.now;
+                kept = kept-append it.items was.items ∙ ap (λ es. es ++ kept was.items) (it.clean ∙ ap (λ e. history_with cmp w n e []) alike) ∙ ap (λ es. history_with cmp w n (accepted cmp w y now_clean) [] ++ es) was.kept;
+                handed = λ d t. let split = sym (attacked-append d it.items was.items) ∙ t in ap (λ b. hands cmp w n d x.0 || b) (was.handed d (rw (it.none d) at split)) ∙ or_right (hands cmp w n d x.0);
+              };
+        }
+
+    -- a step that is not hostile is the newest of both runs
+    same-honest : (older clean : Log P) (x : Step P × WorldAnswer) (newer newer_clean : Log P) → Corresponds older clean → is_hostile x.0 ≡ false
+        → AreAnswered cmp w (x ∷ newer ++ older) [] → AreAnswered cmp w (newer_clean ++ clean) [] → NoneRefused (x ∷ newer ++ older) → NoneRefused (newer_clean ++ clean)
+        → map (λ y. y.0) (newer_clean ++ clean) ≡ x.0 ∷ without_hostile (map (λ y. y.0) (newer ++ older))
+        → ((before : Log P) → AreAnswered cmp w (before ++ clean) [] → NoneRefused (before ++ clean) → Corresponds (newer ++ older) (before ++ clean) → SameSince older clean newer before)
+        → SameSince older clean (x ∷ newer) newer_clean
+    same-honest older clean x newer [] base h may may_clean none none_clean is so_far = absurd (omega (
+      arith,
+      ap (λ ss. length ss) base,
+      ap (λ ss. length ss) is,
+      length-append (without_hostile (map (λ y. y.0) newer)) (without_hostile (map (λ y. y.0) older)),
+      ap (λ ss. length (without_hostile ss)) (map-append (λ y. y.0) newer older),
+      ap (λ ss. length ss) (without_hostile-append (map (λ y. y.0) newer) (map (λ y. y.0) older)),
+    ))
+    same-honest older clean x newer (y ∷ newer_clean) base h may may_clean none none_clean is so_far =
+        let first : y.0 ≡ x.0 = cc in
+        let rest : map (λ z. z.0) (newer_clean ++ clean) ≡ without_hostile (map (λ z. z.0) (newer ++ older)) = cc in
+        let unrefused = or_false (refused_for_memory x.1) (list_any (λ z. refused_for_memory z.1) (newer ++ older)) none in
+        let unrefused_clean = or_false (refused_for_memory y.1) (list_any (λ z. refused_for_memory z.1) (newer_clean ++ clean)) none_clean in
+        honest-next older clean x y newer newer_clean h (sym first) (answered-last x (newer ++ older) may) (answered-last y (newer_clean ++ clean) may_clean) unrefused.0 unrefused_clean.0
+        (so_far newer_clean may_clean.1 unrefused_clean.1 rest)
+
+    pub same-since : (older clean : Log P) → packets cmp w older ≡ packets cmp w clean → Corresponds older clean → (newer newer_clean : Log P)
+        → AreAnswered cmp w (newer ++ older) [] → AreAnswered cmp w (newer_clean ++ clean) [] → NoneRefused (newer ++ older) → NoneRefused (newer_clean ++ clean) → Corresponds (newer ++ older) (newer_clean ++ clean)
+        → SameSince older clean newer newer_clean
+    same-since older clean sent base [] [] may may_clean none none_clean is = record { packets = sent; merges = λ n. record { items = []; now = refl; kept = refl; handed = λ d h. absurd (let no = h in cc) } }
+    same-since older clean sent base [] (y ∷ newer_clean) may may_clean none none_clean is =
+        absurd (omega (arith, ap (λ ss. length ss) (is ∙ sym base), length-map newer_clean (λ z. z.0), length-map clean (λ z. z.0), length-map (newer_clean ++ clean) (λ z. z.0), length-append newer_clean clean))
+    same-since older clean sent base (x ∷ newer) newer_clean may may_clean none none_clean is =
+        let unrefused = or_false (refused_for_memory x.1) (list_any (λ z. refused_for_memory z.1) (newer ++ older)) none in
+        by_test (is_hostile x.0)
+        (λ t. hostile-next older clean x newer newer_clean t (same-since older clean sent base newer newer_clean may.1 may_clean unrefused.1 none_clean (rw t at is)))
+        (λ t. same-honest older clean x newer newer_clean base t may may_clean none none_clean (rw t at is)
+        (λ before answered unrefused_before corresponds. same-since older clean sent base newer before may.1 answered unrefused.1 unrefused_before corresponds))
+
+    -- both histories at corresponding moments
+    pub record SameAt (now clean : Log P) (n : P) : Type 0 where
+      pub items : Items n
+      pub first : all items ≡ history cmp w n now
+      pub second : kept items ≡ history cmp w n clean
+      pub handed : (d : List ℕ) → attacked d items ≡ true → list_any (λ x. hands cmp w n d x.0) now ≡ true
+
+    happened-all : (n : P) (log : Log P) → happened cmp w n log [] ≡ history cmp w n log
+    happened-all n log = sym (append-nil (happened cmp w n log [])) ∙ sym (history-append n log []) ∙ ap (history cmp w n) (append-nil log)
+
+    module _ (log clean_log : Log P) (may : AreAnswered cmp w log []) (may_clean : AreAnswered cmp w clean_log []) where
+      pub until : (now : Log P) → IsMoment now log → AreAnswered cmp w now []
+      until now moment = answered-until cmp w moment.0 now (subst (λ l. AreAnswered cmp w l []) moment.1 may)
+
+      pub until_clean : (now : Log P) → IsMoment now clean_log → AreAnswered cmp w now []
+      until_clean now moment = answered-until cmp w moment.0 now (subst (λ l. AreAnswered cmp w l []) moment.1 may_clean)
+
+      from-new : (now clean : Log P) → AreMoments log clean_log now clean → SameSince [] [] now clean
+      from-new now clean are = same-since [] [] refl refl now clean
+          (rw (append-nil now) (until now are.reached)) (rw (append-nil clean) (until_clean clean are.clean_reached))
+          (rw (append-nil now) are.unrefused) (rw (append-nil clean) are.unrefused_clean) (rw (append-nil now, append-nil clean) are.same_steps)
+
+      pub packets-at : (now clean : Log P) → AreMoments log clean_log now clean → packets cmp w now ≡ packets cmp w clean
+      packets-at now clean are = ap (packets cmp w) (sym (append-nil now)) ∙ (from-new now clean are).packets ∙ ap (packets cmp w) (append-nil clean)
+
+      pub same-at : (now clean : Log P) → AreMoments log clean_log now clean → (n : P) → SameAt now clean n
+      same-at now clean are n =
+          let it = (from-new now clean are).merges n in
+          record { items = it.items; first = it.now ∙ happened-all n now; second = it.kept ∙ happened-all n clean; handed = it.handed }
+
+      pub same-after : (asked newer clean newer_clean : Log P) → AreMoments log clean_log asked clean → AreMoments log clean_log (newer ++ asked) (newer_clean ++ clean) → (n : P) → Merges asked clean n newer newer_clean
+      same-after asked newer clean newer_clean at_first at_last n = (same-since asked clean (packets-at asked clean at_first) at_first.same_steps newer newer_clean
+          (until (newer ++ asked) at_last.reached) (until_clean (newer_clean ++ clean) at_last.clean_reached) at_last.unrefused at_last.unrefused_clean at_last.same_steps).merges n
+
+      pub HasHonestLists-from : HasHonestLists cmp w log clean_log
+      HasHonestLists-from = λ now clean are n p h.
+          let it = same-at now clean are n in
+          ap (list (at cmp w n) p) (sym it.first) ∙ list-merged ℕ ℕ (at cmp w n) hostile hostile-alike p it.items h ∙ ap (list (at cmp w n) p) it.second
+
+      pub HasCleanDigests-from : HasCleanDigests cmp w log clean_log
+      HasCleanDigests-from = λ now clean are n admits d.
+          let it = same-at now clean are n in
+          ap (is_listed (at cmp w n) d) (sym it.first) ∙ listed-same ℕ ℕ (at cmp w n) hostile hostile-alike d it.items (ap (λ es. list_any hostile (primary (at cmp w n) es)) it.first ∙ admits) ∙ ap (is_listed (at cmp w n) d) it.second
+
+      pub HasFewMoreDigests-from : HasFewMoreDigests cmp w log clean_log
+      HasFewMoreDigests-from = λ now clean are n.
+          let it = same-at now clean are n in
+          let s = at cmp w n in
+          let more = lists_of ℕ ℕ s hostile hostile-alike (filter hostile (primary s (all it.items))) (all it.items) in
+          record {
+            more = more;
+            few = subst (λ es. length more ≤ w.deque_size * length (filter hostile (primary s es))) it.first (lists_of-few ℕ ℕ s hostile hostile-alike (filter hostile (primary s (all it.items))) (all it.items));
+            cached = λ d. ap (is_listed s d) (sym it.first) ∙ listed-merged ℕ ℕ s hostile hostile-alike d it.items ∙ ap (λ es. is_listed s d es || among s.same.digest d more) it.second;
+          }
+
+      pub HasCleanCaches-from : HasCleanCaches cmp w log clean_log
+      HasCleanCaches-from = λ now clean are n admitted d.
+          let it = same-at now clean are n in
+          ap (message (at cmp w n) d) (sym it.first) ∙ message-same ℕ ℕ (at cmp w n) hostile hostile-alike d it.items (ap (list_any (admits cmp w)) it.first ∙ admitted) ∙ ap (message (at cmp w n) d) it.second

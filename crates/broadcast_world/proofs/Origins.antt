@@ -41,7 +41,7 @@ In-right x xs ys h test t = list_any-append test xs ys ∙ ap (λ b. list_any te
 In-front : {X : Type 0} (x : X) (ys : List X) → In x ((x ∷ []) ++ ys)
 In-front x ys test t = rw t refl
 
-All-append : {X : Type 0} (Q : X → Type 0) (xs ys : List X) → AllByRecursion Q xs → AllByRecursion Q ys → AllByRecursion Q (xs ++ ys)
+pub All-append : {X : Type 0} (Q : X → Type 0) (xs ys : List X) → AllByRecursion Q xs → AllByRecursion Q ys → AllByRecursion Q (xs ++ ys)
 All-append Q [] ys h k = k
 All-append Q (x ∷ xs) ys h k = (h.0, All-append Q xs ys h.1 k)
 
@@ -53,7 +53,7 @@ All-map : {X Y : Type 0} (Q : Y → Type 0) (f : X → Y) (xs : List X) → AllB
 All-map Q f [] h = tt
 All-map Q f (x ∷ xs) h = (h.0, All-map Q f xs h.1)
 
-at_place : {X : Type 0} (Q : X → Type 0) (xs : List X) (i : ℕ) (x : X) → slice_get xs i ≡ Some x → AllByRecursion Q xs → Q x
+pub at_place : {X : Type 0} (Q : X → Type 0) (xs : List X) (i : ℕ) (x : X) → slice_get xs i ≡ Some x → AllByRecursion Q xs → Q x
 at_place Q [] i x h all = absurd (let no = h in cc)
 at_place Q (y ∷ ys) zero x h all = let is : y ≡ x = cc in rw (sym is) all.0
 at_place Q (y ∷ ys) (suc i) x h all = at_place Q ys i x h all.1
@@ -67,18 +67,18 @@ module _ {P : Type 0} (same : P → P → Bool) (laws : IsEquivalence same) wher
   any-equal p q [] h = refl
   any-equal p q (x ∷ ps) h = rw (laws.congr p q x h, any-equal p q ps h) refl
 
-found-passes : {X : Type 0} (test : X → Bool) (xs : List X) (x : X) → find test xs ≡ Some x → test x ≡ true
+pub found-passes : {X : Type 0} (test : X → Bool) (xs : List X) (x : X) → find test xs ≡ Some x → test x ≡ true
 found-passes test [] x h = absurd (let no = h in cc)
 found-passes test (y ∷ ys) x h = by_test (test y)
     (λ t. let is : y ≡ x = (let k = rw t at h in cc) in ap test (sym is) ∙ t)
     (λ t. found-passes test ys x (rw t at h))
 
-any_take : {X : Type 0} (test : X → Bool) (n : ℕ) (xs : List X) → list_any test (take n xs) ≡ true → list_any test xs ≡ true
+pub any_take : {X : Type 0} (test : X → Bool) (n : ℕ) (xs : List X) → list_any test (take n xs) ≡ true → list_any test xs ≡ true
 any_take test zero xs h = absurd (let no = h in cc)
 any_take test (suc n) [] h = h
 any_take test (suc n) (x ∷ xs) h = by_test (test x) (λ t. rw t refl) (λ t. rw t (any_take test n xs (rw t at h)))
 
-any_filter : {X : Type 0} (test kept : X → Bool) (xs : List X) → list_any test (filter kept xs) ≡ true → list_any test xs ≡ true
+pub any_filter : {X : Type 0} (test kept : X → Bool) (xs : List X) → list_any test (filter kept xs) ≡ true → list_any test xs ≡ true
 any_filter test kept [] h = h
 any_filter test kept (x ∷ xs) h = by_test (test x)
     (λ t. rw t refl)
@@ -86,7 +86,7 @@ any_filter test kept (x ∷ xs) h = by_test (test x)
     (λ u. let more = rw u at h in any_filter test kept xs (rw t at more))
     (λ u. any_filter test kept xs (rw u at h))))
 
-any_first : {X : Type 0} (same : X → X → Bool) (test : X → Bool) (xs : List X) → list_any test (first_places same xs) ≡ true → list_any test xs ≡ true
+pub any_first : {X : Type 0} (same : X → X → Bool) (test : X → Bool) (xs : List X) → list_any test (first_places same xs) ≡ true → list_any test xs ≡ true
 any_first same test [] h = h
 any_first same test (x ∷ xs) h = by_test (test x)
     (λ t. rw t refl)
@@ -178,11 +178,11 @@ module _ {P : Type 0} (cmp : P → P → Ordering) (total : IsTotalOrder cmp) (w
   came-later n x log (get t d) h = tt
   came-later n x log (cleanup test) h = tt
 
-  event-is : (o : Option P) (e : NodeEvent P) (x : P × NodeEvent P) → option_map (λ n. (n, e)) o ≡ Some x → (o ≡ Some x.0) × (e ≡ x.1)
+  pub event-is : (o : Option P) (e : NodeEvent P) (x : P × NodeEvent P) → option_map (λ n. (n, e)) o ≡ Some x → (o ≡ Some x.0) × (e ≡ x.1)
   event-is None e x h = absurd (let no = h in cc)
   event-is (Some n) e x h = let is : (n, e) ≡ x = cc in (ap (λ y. Some y.0) is, ap (λ y. y.1) is)
 
-  accepted-is : (a : WorldAnswer) (e : Option (P × NodeEvent P)) (x : P × NodeEvent P) → unless_refused cmp w a e ≡ Some x → e ≡ Some x
+  pub accepted-is : (a : WorldAnswer) (e : Option (P × NodeEvent P)) (x : P × NodeEvent P) → unless_refused cmp w a e ≡ Some x → e ≡ Some x
   accepted-is NoSuch e x h = h
   accepted-is (Given a) e x h = by_test (is_refused a) (λ t. absurd (let no = rw t at h in cc)) (λ t. rw t at h)
 
@@ -254,7 +254,7 @@ module _ {P : Type 0} (cmp : P → P → Ordering) (total : IsTotalOrder cmp) (w
       (λ p b m load read. origin-later n x log p m (payload-origin n p b m log x.0 e (accepted-is x.1 (event_of cmp w x.0 (packets cmp w log)) e is) load t read)) all))
       (λ t. rw t all)
 
-  history-came : (n : P) (log : Log P) → AllByRecursion (Came n log) (history cmp w n log)
+  pub history-came : (n : P) (log : Log P) → AllByRecursion (Came n log) (history cmp w n log)
   history-came n [] = tt
   history-came n (x ∷ log) = came-with n x log (accepted cmp w x log) (history cmp w n log) refl
       (All-weaker (Came n log) (Came n (x ∷ log)) (history cmp w n log) (came-later n x log) (history-came n log))

@@ -5,3 +5,5 @@ pub mod Steps
 pub mod Made
 pub mod Broadcasts
 pub mod TwoRuns
+pub mod Requests
+pub mod SameAnswers

@@ -5,7 +5,20 @@ ghost use Rattle.std.specs.Ordering.{eq_by_cmp};
 ghost use Rattle.broadcast_world.specs.Made.{shares_key};
 ghost use Rattle.broadcast_world.specs.World.{Log, log_of};
 ghost use Rattle.broadcast_world.specs.Steps.{HasWorld, TakesSteps};
-ghost use Rattle.broadcast_world.specs.TwoRuns.{HasCleanDigests, HasHonestLists, IsRun, without_hostile};
+ghost use Rattle.broadcast_world.specs.TwoRuns.{
+  HasCleanCaches,
+  HasCleanDigests,
+  HasFewMoreDigests,
+  HasHonestLists,
+  IsRun,
+  without_hostile,
+};
+ghost use Rattle.broadcast_world.specs.SameAnswers.{
+  AddsHostileAnswers,
+  HasCleanGets,
+  KeepsAnswers,
+  WaitsInBoth,
+};
 
 use crate::error::WorldError;
 use crate::run::run_world;
@@ -59,6 +72,12 @@ fn push_honest<'a, P: PublicKey>(
 /// Runs the steps in two new worlds with the same keys: all of them in one, and those that are not
 /// hostile in the other.
 ///
+/// The clauses after `without_run` compare both runs after the same steps, hostile ones not counted,
+/// as long as no step was refused for memory. Hostile steps change no list of another key. They lose
+/// no answer and make none later; those that they add are to requests for what they sent. A node
+/// caches at most `deque_size` digests more for each of its hostile primary keys. One whose peer sets
+/// never held a hostile key has the same cache, and its gets have the same answers.
+///
 /// `SharedKey` is judged first, and does not allocate.
 pub fn compare<P: PublicKey>(
     alloc: Global,
@@ -93,6 +112,24 @@ pub fn compare<P: PublicKey>(
         (log_of steps.now both.with_log.answers)
         (log_of (without_hostile steps.now) both.without_log.answers)) }
     ensures clean_digests { IfOk result (λ both. HasCleanDigests P.cmp both.with_world.scene
+        (log_of steps.now both.with_log.answers)
+        (log_of (without_hostile steps.now) both.without_log.answers)) }
+    ensures few_more_digests { IfOk result (λ both. HasFewMoreDigests P.cmp both.with_world.scene
+        (log_of steps.now both.with_log.answers)
+        (log_of (without_hostile steps.now) both.without_log.answers)) }
+    ensures clean_caches { IfOk result (λ both. HasCleanCaches P.cmp both.with_world.scene
+        (log_of steps.now both.with_log.answers)
+        (log_of (without_hostile steps.now) both.without_log.answers)) }
+    ensures clean_gets { IfOk result (λ both. HasCleanGets P.cmp both.with_world.scene
+        (log_of steps.now both.with_log.answers)
+        (log_of (without_hostile steps.now) both.without_log.answers)) }
+    ensures answers_kept { IfOk result (λ both. KeepsAnswers P.cmp both.with_world.scene
+        (log_of steps.now both.with_log.answers)
+        (log_of (without_hostile steps.now) both.without_log.answers)) }
+    ensures waits_in_both { IfOk result (λ both. WaitsInBoth P.cmp both.with_world.scene
+        (log_of steps.now both.with_log.answers)
+        (log_of (without_hostile steps.now) both.without_log.answers)) }
+    ensures added_answers { IfOk result (λ both. AddsHostileAnswers P.cmp both.with_world.scene
         (log_of steps.now both.with_log.answers)
         (log_of (without_hostile steps.now) both.without_log.answers)) }
 {

@@ -1,7 +1,7 @@
-use Rattle.std.proofs.Common.{[], sym, ◌∙◌, subst}
-use Rattle.broadcast_world.specs.World.{log_of, AreAnswered}
+use Rattle.std.proofs.Common.{[]}
 use Rattle.broadcast_world.specs.TwoRuns.{without_hostile}
-use Rattle.broadcast_world.proofs.Honest.{HasCleanDigests-from, HasHonestLists-from, IsRun-from}
+use Rattle.broadcast_world.proofs.Honest.{IsRun-from}
+use Rattle.broadcast_world.proofs.Requests.{Laws-from}
 use Rattle.broadcast_world.proofs.two_runs.compare.Goals as goal
 
 pub returns-clause-with_run : goal.returns-clause-with_run
@@ -14,24 +14,56 @@ returns-clause-without_run g c =
 
 pub returns-clause-honest_lists : goal.returns-clause-honest_lists
 returns-clause-honest_lists g c =
-    let cmp = g.P.Ord.cmp in
-    let with = c.in_ok-with_log.ensures.ok [] c.in_ok-with_world.ensures.empty in
-    let without = c.in_ok-without_log.ensures.ok [] c.in_ok-without_world.ensures.empty in
-    let scene = c.in_ok-without_world.ensures.scene ∙ sym with.scene in
-    let clean = log_of (without_hostile c.args.steps.now) c.in_ok-without_log.without_log.answers in
-    HasHonestLists-from cmp (g.met.P.Ord g.world.𝓛 g.world.𝓜 g.world.𝓡 (λ s x. x, λ x. x, λ x. x, λ x. x)).total _
-    (log_of c.args.steps.now c.in_ok-with_log.with_log.answers) clean
-    (returns-clause-with_run g c).answered
-    (subst (λ w. AreAnswered cmp w clean []) scene without.answered)
+    (Laws-from g.P.Ord.cmp (g.met.P.Ord g.world.𝓛 g.world.𝓜 g.world.𝓡 (λ s x. x, λ x. x, λ x. x, λ x. x)).total
+    c.args.steps.now (without_hostile c.args.steps.now) c.in_ok-with_log.with_log.answers c.in_ok-without_log.without_log.answers _ _ _ _
+    (c.in_ok-with_log.ensures.ok [] c.in_ok-with_world.ensures.empty) (c.in_ok-without_log.ensures.ok [] c.in_ok-without_world.ensures.empty)
+    c.in_ok-without_world.ensures.scene c.in_ok-with_world.ensures.apart).honest_lists
 
 pub returns-clause-clean_digests : goal.returns-clause-clean_digests
 returns-clause-clean_digests g c =
-    let cmp = g.P.Ord.cmp in
-    let with = c.in_ok-with_log.ensures.ok [] c.in_ok-with_world.ensures.empty in
-    let without = c.in_ok-without_log.ensures.ok [] c.in_ok-without_world.ensures.empty in
-    let scene = c.in_ok-without_world.ensures.scene ∙ sym with.scene in
-    let clean = log_of (without_hostile c.args.steps.now) c.in_ok-without_log.without_log.answers in
-    HasCleanDigests-from cmp (g.met.P.Ord g.world.𝓛 g.world.𝓜 g.world.𝓡 (λ s x. x, λ x. x, λ x. x, λ x. x)).total _
-    (log_of c.args.steps.now c.in_ok-with_log.with_log.answers) clean
-    (returns-clause-with_run g c).answered
-    (subst (λ w. AreAnswered cmp w clean []) scene without.answered)
+    (Laws-from g.P.Ord.cmp (g.met.P.Ord g.world.𝓛 g.world.𝓜 g.world.𝓡 (λ s x. x, λ x. x, λ x. x, λ x. x)).total
+    c.args.steps.now (without_hostile c.args.steps.now) c.in_ok-with_log.with_log.answers c.in_ok-without_log.without_log.answers _ _ _ _
+    (c.in_ok-with_log.ensures.ok [] c.in_ok-with_world.ensures.empty) (c.in_ok-without_log.ensures.ok [] c.in_ok-without_world.ensures.empty)
+    c.in_ok-without_world.ensures.scene c.in_ok-with_world.ensures.apart).clean_digests
+
+pub returns-clause-few_more_digests : goal.returns-clause-few_more_digests
+returns-clause-few_more_digests g c =
+    (Laws-from g.P.Ord.cmp (g.met.P.Ord g.world.𝓛 g.world.𝓜 g.world.𝓡 (λ s x. x, λ x. x, λ x. x, λ x. x)).total
+    c.args.steps.now (without_hostile c.args.steps.now) c.in_ok-with_log.with_log.answers c.in_ok-without_log.without_log.answers _ _ _ _
+    (c.in_ok-with_log.ensures.ok [] c.in_ok-with_world.ensures.empty) (c.in_ok-without_log.ensures.ok [] c.in_ok-without_world.ensures.empty)
+    c.in_ok-without_world.ensures.scene c.in_ok-with_world.ensures.apart).few_more_digests
+
+pub returns-clause-clean_caches : goal.returns-clause-clean_caches
+returns-clause-clean_caches g c =
+    (Laws-from g.P.Ord.cmp (g.met.P.Ord g.world.𝓛 g.world.𝓜 g.world.𝓡 (λ s x. x, λ x. x, λ x. x, λ x. x)).total
+    c.args.steps.now (without_hostile c.args.steps.now) c.in_ok-with_log.with_log.answers c.in_ok-without_log.without_log.answers _ _ _ _
+    (c.in_ok-with_log.ensures.ok [] c.in_ok-with_world.ensures.empty) (c.in_ok-without_log.ensures.ok [] c.in_ok-without_world.ensures.empty)
+    c.in_ok-without_world.ensures.scene c.in_ok-with_world.ensures.apart).clean_caches
+
+pub returns-clause-clean_gets : goal.returns-clause-clean_gets
+returns-clause-clean_gets g c =
+    (Laws-from g.P.Ord.cmp (g.met.P.Ord g.world.𝓛 g.world.𝓜 g.world.𝓡 (λ s x. x, λ x. x, λ x. x, λ x. x)).total
+    c.args.steps.now (without_hostile c.args.steps.now) c.in_ok-with_log.with_log.answers c.in_ok-without_log.without_log.answers _ _ _ _
+    (c.in_ok-with_log.ensures.ok [] c.in_ok-with_world.ensures.empty) (c.in_ok-without_log.ensures.ok [] c.in_ok-without_world.ensures.empty)
+    c.in_ok-without_world.ensures.scene c.in_ok-with_world.ensures.apart).clean_gets
+
+pub returns-clause-answers_kept : goal.returns-clause-answers_kept
+returns-clause-answers_kept g c =
+    (Laws-from g.P.Ord.cmp (g.met.P.Ord g.world.𝓛 g.world.𝓜 g.world.𝓡 (λ s x. x, λ x. x, λ x. x, λ x. x)).total
+    c.args.steps.now (without_hostile c.args.steps.now) c.in_ok-with_log.with_log.answers c.in_ok-without_log.without_log.answers _ _ _ _
+    (c.in_ok-with_log.ensures.ok [] c.in_ok-with_world.ensures.empty) (c.in_ok-without_log.ensures.ok [] c.in_ok-without_world.ensures.empty)
+    c.in_ok-without_world.ensures.scene c.in_ok-with_world.ensures.apart).answers_kept
+
+pub returns-clause-waits_in_both : goal.returns-clause-waits_in_both
+returns-clause-waits_in_both g c =
+    (Laws-from g.P.Ord.cmp (g.met.P.Ord g.world.𝓛 g.world.𝓜 g.world.𝓡 (λ s x. x, λ x. x, λ x. x, λ x. x)).total
+    c.args.steps.now (without_hostile c.args.steps.now) c.in_ok-with_log.with_log.answers c.in_ok-without_log.without_log.answers _ _ _ _
+    (c.in_ok-with_log.ensures.ok [] c.in_ok-with_world.ensures.empty) (c.in_ok-without_log.ensures.ok [] c.in_ok-without_world.ensures.empty)
+    c.in_ok-without_world.ensures.scene c.in_ok-with_world.ensures.apart).waits_in_both
+
+pub returns-clause-added_answers : goal.returns-clause-added_answers
+returns-clause-added_answers g c =
+    (Laws-from g.P.Ord.cmp (g.met.P.Ord g.world.𝓛 g.world.𝓜 g.world.𝓡 (λ s x. x, λ x. x, λ x. x, λ x. x)).total
+    c.args.steps.now (without_hostile c.args.steps.now) c.in_ok-with_log.with_log.answers c.in_ok-without_log.without_log.answers _ _ _ _
+    (c.in_ok-with_log.ensures.ok [] c.in_ok-with_world.ensures.empty) (c.in_ok-without_log.ensures.ok [] c.in_ok-without_world.ensures.empty)
+    c.in_ok-without_world.ensures.scene c.in_ok-with_world.ensures.apart).added_answers
