@@ -1,5 +1,5 @@
 -- Keys in rising order, each of them once.
-use Rattle.std.proofs.Common.{◌≡◌, ℕ, zero, suc, ◌+◌, ◌<◌, Bool, true, false, not, ◌&&◌, Option, Some, None, List, [], ◌∷◌, length, get_or, Result, Ok, Err, is_some, refl, sym, ap, ◌∙◌, arith, inl, inr}
+use Rattle.std.proofs.Common.{◌≡◌, ℕ, zero, suc, ◌+◌, ◌<◌, ◌≤◌, Bool, true, false, not, ◌&&◌, Option, Some, None, List, [], ◌∷◌, length, get_or, Result, Ok, Err, is_some, refl, sym, ap, ◌∙◌, arith, inl, inr}
 use Rattle.std.specs.Prelude.{IfSome, IfOk, IsSomeAnd}
 use Rattle.std.specs.Cmp.{IsTotalOrder, IsEquivalence, Equal-is}
 use Rattle.std.specs.List.{All, AllByRecursion, AllZip, HoldsAt, filter, find, list_any, slice_get, dedup, dedup_from}
@@ -13,7 +13,7 @@ use Rattle.std.proofs.lemmas.Cmp.{eq_by_cmp_equiv, tied_back, alike_right}
 use Rattle.std.proofs.lemmas.List.Folds.{Any-from_list_any, list_any-from_Any, list_any_at, list_any_none}
 use Rattle.std.proofs.lemmas.List.Kept.{Any-dedup, Contains-from_dedup}
 use Rattle.std.proofs.lemmas.List.Sorted.{searchable_from_sorted}
-use Rattle.std.proofs.lemmas.Map.Keys.{Less-from_sorted}
+use Rattle.std.proofs.lemmas.Map.Keys.{Less-from_sorted, sorted_from_all_adjacent}
 use Rattle.broadcast_core.proofs.Distinct.{by_test, same_truth}
 
 -- what is left of the keys has a key equal to each of them, and no other
@@ -129,3 +129,10 @@ pub find-sort_dedup : {K : Type 0} {R : K → K → Ordering} (o : IsTotalOrder 
 find-sort_dedup {K} {R} o {E} ties xs ys stable q =
     find-dedup E (eq_by_cmp R q) (λ x y e. let equal = eq_by_cmp_equiv o in equal.symm q x ∙ equal.congr x y q (sym (ties x y) ∙ e) ∙ equal.symm y q) ys
     ∙ find-sorted o xs ys q stable
+
+-- keys of which each is below the next are sorted
+pub rises_from_steps : {K : Type 0} {R : K → K → Ordering} → IsTotalOrder R → (ks : List K) (i : ℕ) → length ks ≤ i
+    → ((d : K) (k : ℕ) → k + 1 < i → k + 1 < length ks → R (get_or ks k d) (get_or ks (k + 1) d) ≡ Less) → IsStrictlySortedBy R ks
+unfolding IsStrictlySortedBy
+rises_from_steps o [] i le steps = tt
+rises_from_steps o (k ∷ ks) i le steps = sorted_from_all_adjacent o (k ∷ ks) k (λ j lt. steps k j (omega (arith, le, lt)) lt)

@@ -64,7 +64,8 @@ impl<P: PublicKey> Set<P> {
 
     /// Creates the set of `keys`. Of several equal keys it keeps the first.
     ///
-    /// An `Err` is an allocation failure of the sort.
+    /// An `Err` is an allocation failure of the sort. Keys that are sorted already, with no repeat,
+    /// are not sorted again.
     pub fn from_iter_dedup(mut keys: Vec<P>) -> Result<Self, AllocError>
         ensures members { IfOk result (λ set. (q : P)
             → list_any (eq_by_cmp P.cmp q) set ≡ list_any (eq_by_cmp P.cmp q) keys.items) }
@@ -152,9 +153,26 @@ fn sort_dedup<K: Ord + Drop>(keys: &mut Vec<K>) -> Result<(), AllocError>
         ≡ find (eq_by_cmp K.cmp q) keys.old.items) }
     ensures sorted { OnOk result (IsStrictlySortedBy K.cmp keys.new.items) }
 {
+    if rises(keys) {
+        return Ok(());
+    }
     keys.sort()?;
     keys.dedup();
     Ok(())
+}
+
+/// Returns whether the keys are sorted, with no repeat.
+fn rises<K: Ord>(keys: &[K]) -> bool
+    ensures sorted { result ≡ true → IsStrictlySortedBy K.cmp keys.now }
+{
+    let mut i = 1;
+    while i < keys.len() {
+        if !keys[i - 1].cmp(&keys[i]).is_lt() {
+            return false;
+        }
+        i += 1;
+    }
+    true
 }
 
 /// Returns the position of the key in sorted keys.

@@ -1,5 +1,6 @@
 pub mod Chains
 pub mod Freeing
+pub mod Items
 pub mod Linking
 pub mod Oldest
 pub mod Relinking

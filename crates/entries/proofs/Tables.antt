@@ -1,16 +1,20 @@
 -- What changes at one digest make of a table.
-use Rattle.std.proofs.Common.{Bool, true, false, cond, ◌&&◌, ◌≡◌, ℕ, List, [], ◌∷◌, length, Option, Some, None, refl, sym, ap, ◌∙◌, Result, Ok, Err}
-use Rattle.std.specs.Prelude.{is_some, OnOk, OnErr}
-use Rattle.std.specs.Cmp.{IsEquivalence}
-use Rattle.std.specs.Ordering.{match_ordering}
-use Rattle.std.specs.BTreeMap.{insert_entry}
+use Rattle.std.proofs.Common.{Bool, true, false, cond, ◌&&◌, ◌≡◌, ℕ, List, [], ◌∷◌, length, Option, Some, None, refl, sym, ap, ◌∙◌, subst, inl, inr, Result, Ok, Err}
+use Rattle.std.specs.Prelude.{is_some, IsSome, IfOk, OnErr}
+use Rattle.std.specs.Cmp.{IsEquivalence, IsTotalOrder, eq_by_cmp_equiv}
+use Rattle.std.specs.List.Sorted.{IsStrictlySortedBy}
+use Rattle.std.specs.Ordering.{match_ordering, eq_by_cmp, is_eq}
+use Rattle.std.specs.BTreeMap.{insert_entry, is_at}
+use Rattle.std.proofs.lemmas.Map.{lookup-none}
+use Rattle.std.proofs.lemmas.Map.Keys.{sorted_tail}
+use Rattle.std.proofs.lemmas.Map.Entries.{none_below_head}
 use Rattle.std.specs.Option.{option_map}
-use Rattle.std.proofs.lemmas.Map.Made.{lookup-map_values}
-use Rattle.std.specs.Map.{lookup, remove_entry, set_value}
+use Rattle.std.proofs.lemmas.Map.Made.{lookup-map_values, keys_of-map_values}
+use Rattle.std.specs.Map.{lookup, keys_of, remove_entry, set_value}
 use Rattle.std.specs.declared.cmp.Ordering.{Ordering}
 use Rattle.std.specs.declared.cmp.Ordering.TheVariants.{Less, Equal, Greater}
 use Rattle.entries.specs.Placed.{Placed}
-use Rattle.entries.specs.Table.{messages_of, place_in, place_at, IsPlaced, IsSame, SetsPlace}
+use Rattle.entries.specs.Table.{messages_of, place_in, place_at, IsPlaced, IsSame, SetsPlace, Joins, Leaves}
 use Rattle.entries.proofs.Stores.{found_same}
 
 by_test : {P : Type 0} (b : Bool) → (b ≡ true → P) → (b ≡ false → P) → P
@@ -63,20 +67,16 @@ module _ {K D T : Type 0} where
       at Equal m n us p q = refl
       at Greater m n us p q = ap (λ k. (e.0, e.1.message) ∷ k) (p ∙ q)
 
-module _ {K D T : Type 0} {digest : D → D → Bool} (equal : IsEquivalence digest) (es fs gs : List (D × Placed K T)) (d : D) (now : Placed K T) where
+module _ {K D T : Type 0} (digest : D → D → Bool) (es gs : List (D × Placed K T)) (d : D) (left : (e : D) → lookup (digest e) gs ≡ cond (digest d e) None (lookup (digest e) es)) where
   -- the messages after one left
-  pub fewer_left : ((e : D) → lookup (digest e) fs ≡ cond (digest d e) (Some now) (lookup (digest e) es)) → ((e : D) → lookup (digest e) gs ≡ cond (digest d e) None (lookup (digest e) fs))
-      → (e : D) (x : T) → lookup (digest e) (messages_of gs) ≡ Some x → lookup (digest e) (messages_of es) ≡ Some x
-  fewer_left written left e x found = by_test (digest d e)
+  pub fewer_left : (e : D) (x : T) → lookup (digest e) (messages_of gs) ≡ Some x → lookup (digest e) (messages_of es) ≡ Some x
+  fewer_left e x found = by_test (digest d e)
       (λ here.
-      let none : lookup (digest e) gs ≡ None = left e ∙ ap (λ b. cond b None (lookup (digest e) fs)) here in
+      let none : lookup (digest e) gs ≡ None = left e ∙ ap (λ b. cond b None (lookup (digest e) es)) here in
       let no : None ≡ Some x = sym (ap (option_map (λ i. i.message)) none) ∙ sym (lookup-messages (digest e) gs) ∙ found in absurd (cc))
       (λ apart.
-      let new : lookup (digest e) gs ≡ lookup (digest e) es = left e ∙ ap (λ b. cond b None (lookup (digest e) fs)) apart ∙ written e ∙ ap (λ b. cond b (Some now) (lookup (digest e) es)) apart in
+      let new : lookup (digest e) gs ≡ lookup (digest e) es = left e ∙ ap (λ b. cond b None (lookup (digest e) es)) apart in
       lookup-messages (digest e) es ∙ sym (ap (option_map (λ i. i.message)) new) ∙ sym (lookup-messages (digest e) gs) ∙ found)
-
-  pub gone_left : ((e : D) → lookup (digest e) gs ≡ cond (digest d e) None (lookup (digest e) fs)) → lookup (digest d) gs ≡ None
-  gone_left left = left d ∙ ap (λ b. cond b None (lookup (digest d) fs)) (equal.refl d)
 
 module _ {K D T : Type 0} {digest : D → D → Bool} (key : K → K → Bool) (equal : IsEquivalence digest) (es : List (D × Placed K T)) (d : D) (p : K) where
   -- a write at a digest that has a message, where the places change at one key
@@ -104,16 +104,15 @@ module _ {K D T : Type 0} {digest : D → D → Bool} (key : K → K → Bool) (
       ap (place_in digest key q) new ∙ sym (at_other (digest d e) (key p q) (Some i) (place_at digest key es e q) apart))
 
   -- the message leaves with its last place
-  pub places_left : (fs gs : List (D × Placed K T)) (was now : Placed K T) → lookup (digest d) es ≡ Some was → ((e : D) → lookup (digest e) fs ≡ cond (digest d e) (Some now) (lookup (digest e) es))
-      → ((q : K) → lookup (key q) now.places ≡ cond (key p q) None (lookup (key q) was.places))
-      → now.places ≡ [] → ((e : D) → lookup (digest e) gs ≡ cond (digest d e) None (lookup (digest e) fs)) → SetsPlace digest key d p None es gs
-  places_left fs gs was now there written removed empty left e q = by_test (digest d e)
+  pub places_left : (gs : List (D × Placed K T)) (was now : Placed K T) → lookup (digest d) es ≡ Some was → ((q : K) → lookup (key q) now.places ≡ cond (key p q) None (lookup (key q) was.places))
+      → now.places ≡ [] → ((e : D) → lookup (digest e) gs ≡ cond (digest d e) None (lookup (digest e) es)) → SetsPlace digest key d p None es gs
+  places_left gs was now there removed empty left e q = by_test (digest d e)
       (λ here.
-      let new : lookup (digest e) gs ≡ None = left e ∙ ap (λ b. cond b None (lookup (digest e) fs)) here in
+      let new : lookup (digest e) gs ≡ None = left e ∙ ap (λ b. cond b None (lookup (digest e) es)) here in
       let old : lookup (digest e) es ≡ Some was = sym (found_same equal es d e here) ∙ there in
       ap (place_in digest key q) new ∙ sym (ap (λ (l : List (K × ℕ)). lookup (key q) l) empty) ∙ removed q ∙ ap (λ o. cond (key p q) None (place_in digest key q o)) (sym old) ∙ sym (at_both (digest d e) (key p q) None (place_at digest key es e q) here))
       (λ apart.
-      let new : lookup (digest e) gs ≡ lookup (digest e) es = left e ∙ ap (λ b. cond b None (lookup (digest e) fs)) apart ∙ written e ∙ ap (λ b. cond b (Some now) (lookup (digest e) es)) apart in
+      let new : lookup (digest e) gs ≡ lookup (digest e) es = left e ∙ ap (λ b. cond b None (lookup (digest e) es)) apart in
       ap (place_in digest key q) new ∙ sym (at_other (digest d e) (key p q) None (place_at digest key es e q) apart))
 
   -- nothing is there to leave
@@ -127,6 +126,21 @@ module _ {K D T : Type 0} {digest : D → D → Bool} (key : K → K → Bool) (
       same_none : (b : Bool) (o : Option ℕ) → o ≡ None → None ≡ cond b None o
       same_none true o h = refl
       same_none false o h = sym h
+
+by_order : {G : Type 0} (r s : Ordering) → s ≡ r → (s ≡ Less → G) → (s ≡ Equal → G) → (s ≡ Greater → G) → G
+by_order Less s e l m n = l e
+by_order Equal s e l m n = m e
+by_order Greater s e l m n = n e
+
+-- what stands at a key may be put in there
+pub insert_entry-same : {D X : Type 0} {R : D → D → Ordering} (o : IsTotalOrder R) (d : D) (x : X) (es : List (D × X)) → IsStrictlySortedBy R (keys_of es) → lookup (is_at (R d)) es ≡ Some x → insert_entry R es d x ≡ es
+insert_entry-same o d x [] sorted there = cc
+insert_entry-same {R = R} o d x (e ∷ es) sorted there = by_order (R d e.0) (R d e.0) refl
+    (λ less. let none : None ≡ Some x = sym (lookup-none (is_at (R d)) (e ∷ es) (none_below_head o d e es sorted less)) ∙ there in absurd (cc))
+    (λ equal. let one : e.1 ≡ x = (let h : Some e.1 ≡ Some x = sym (ap (λ r. cond (is_eq r) (Some e.1) (lookup (is_at (R d)) es)) equal) ∙ there in cc) in
+    rw equal (ap (λ v. (e.0, v) ∷ es) (sym one)))
+    (λ more. let rest : lookup (is_at (R d)) es ≡ Some x = sym (ap (λ r. cond (is_eq r) (Some e.1) (lookup (is_at (R d)) es)) more) ∙ there in
+    rw more (ap (λ fs. e ∷ fs) (insert_entry-same o d x es (sorted_tail R e.0 (keys_of es) sorted) rest)))
 
 pub put_message : {K T : Type 0} (b : Bool) (item : Placed K T) (m : T) (o : Option (Placed K T)) → item.message ≡ m → option_map (λ i. i.message) (cond b (Some item) o) ≡ cond b (Some m) (option_map (λ i. i.message) o)
 put_message true item m o same = ap Some same
@@ -163,38 +177,97 @@ module _ {K D T : Type 0} {digest : D → D → Bool} {key : K → K → Bool} (
       let new : lookup (digest e) fs ≡ lookup (digest e) es = written e ∙ ap (λ b. cond b (Some now) (lookup (digest e) es)) apart in
       let was = placed e (ap is_some (sym new) ∙ there) in (was.0, was.1, ap (place_in digest key was.0) new ∙ was.2))
 
-  -- each message has a place after one left
-  pub placed_left : IsEquivalence digest → (es fs gs : List (D × Placed K T)) (d : D) (now : Placed K T) → IsPlaced digest key es → ((e : D) → lookup (digest e) fs ≡ cond (digest d e) (Some now) (lookup (digest e) es))
-      → ((e : D) → lookup (digest e) gs ≡ cond (digest d e) None (lookup (digest e) fs)) → IsPlaced digest key gs
-  placed_left _ es fs gs d now placed written left e there = by_test (digest d e)
-      (λ here. let no : false ≡ true = sym (ap is_some (left e ∙ ap (λ b. cond b None (lookup (digest e) fs)) here)) ∙ there in absurd (cc))
-      (λ apart.
-      let new : lookup (digest e) gs ≡ lookup (digest e) es = left e ∙ ap (λ b. cond b None (lookup (digest e) fs)) apart ∙ written e ∙ ap (λ b. cond b (Some now) (lookup (digest e) es)) apart in
-      let was = placed e (ap is_some (sym new) ∙ there) in (was.0, was.1, ap (place_in digest key was.0) new ∙ was.2))
+-- each message has a place after one left
+pub placed_left : {K D T : Type 0} (digest : D → D → Bool) (key : K → K → Bool) (es gs : List (D × Placed K T)) (d : D) → IsPlaced digest key es → ((e : D) → lookup (digest e) gs ≡ cond (digest d e) None (lookup (digest e) es)) → IsPlaced digest key gs
+placed_left digest key es gs d placed left e there = by_test (digest d e)
+    (λ here. let no : false ≡ true = sym (ap is_some (left e ∙ ap (λ b. cond b None (lookup (digest e) es)) here)) ∙ there in absurd (cc))
+    (λ apart.
+    let new : lookup (digest e) gs ≡ lookup (digest e) es = left e ∙ ap (λ b. cond b None (lookup (digest e) es)) apart in
+    let was = placed e (ap is_some (sym new) ∙ there) in (was.0, was.1, ap (place_in digest key was.0) new ∙ was.2))
 
-  -- what a message that gets a place makes of the table
-  pub joined : {E : Type 0} (equal : IsEquivalence digest) (es fs : List (D × Placed K T)) (d : D) (p : K) (i : ℕ) (was now : Placed K T) (r : Result (Unit {0}) E) → IsPlaced digest key es → lookup (digest d) es ≡ Some was
-      → fs ≡ set_value (digest d) es now → ((e : D) → lookup (digest e) fs ≡ cond (digest d e) (Some now) (lookup (digest e) es)) → now.message ≡ was.message
-      → OnOk r ((q : K) → lookup (key q) now.places ≡ cond (key p q) (Some i) (lookup (key q) was.places)) → OnErr r (now ≡ was)
-      → IsPlaced digest key fs × (messages_of fs ≡ messages_of es) × OnOk r (SetsPlace digest key d p (Some i) es fs) × OnErr r (IsSame digest key es fs)
-  joined equal es fs d p i was now (Ok u) placed there is written same places kept = (
-    placed_written equal es fs d now placed written (some_left (key p) i now.places (places p ∙ ap (λ b. cond b (Some i) (lookup (key p) was.places)) (laws.refl p))),
-    rw is (messages_written (digest d) es was now there same),
-    places_written key equal es d p fs was now (Some i) there written places,
+module _ {K D T : Type 0} {R : D → D → Ordering} {key : K → K → Bool} (o : IsTotalOrder R) (laws : IsEquivalence key) where
+  -- a message that is cached gets a place, if it has none of the key
+  pub joined : {E : Type 0} (is_clone : T → T → Type 0) (es fs gs : List (D × Placed K T)) (d : D) (x : T) (p : K) (i : ℕ) (was now : Placed K T) (r : Result (Option ℕ) E)
+      → IsPlaced (eq_by_cmp R) key es → IsStrictlySortedBy R (keys_of es) → lookup (eq_by_cmp R d) es ≡ Some was
+      → fs ≡ gs → gs ≡ insert_entry R es d now → ((e : D) → lookup (eq_by_cmp R e) gs ≡ cond (eq_by_cmp R d e) (Some now) (lookup (eq_by_cmp R e) es)) → now.message ≡ was.message
+      → IfOk r (λ f. IsSome f → now ≡ was) → IfOk r (λ f. f ≡ None → (q : K) → lookup (key q) now.places ≡ cond (key p q) (Some i) (lookup (key q) was.places)) → OnErr r (now ≡ was)
+      → IsPlaced (eq_by_cmp R) key fs × IfOk r (λ f. IsSome f → fs ≡ es) × IfOk r (λ f. f ≡ None → Joins (eq_by_cmp R) key R is_clone d x p i es fs) × OnErr r (IsSame (eq_by_cmp R) key es fs)
+  joined is_clone es fs gs d x p i was now (Ok (Some j)) placed sorted there moved is written same stays places kept =
+      let all : fs ≡ es = moved ∙ is ∙ ap (insert_entry R es d) (stays refl) ∙ insert_entry-same o d was es sorted there in (
+        rw all placed,
+        λ _. all,
+        λ none. absurd (cc),
+        tt,
+      )
+  joined is_clone es fs gs d x p i was now (Ok None) placed sorted there moved is written same stays places kept = rw moved (
+    placed_written laws (eq_by_cmp_equiv o) es gs d now placed written (some_left (key p) i now.places (places refl p ∙ ap (λ b. cond b (Some i) (lookup (key p) was.places)) (laws.refl p))),
+    λ none. absurd (cc),
+    λ _. record {
+      places = places_written key (eq_by_cmp_equiv o) es d p gs was now (Some i) there written (places refl);
+      stays = λ _. ap messages_of is ∙ messages_inserted R es d now
+          ∙ insert_entry-same o d now.message (messages_of es) (subst (IsStrictlySortedBy R) (sym (keys_of-map_values (λ it. it.message) es)) sorted)
+          (lookup-messages (eq_by_cmp R d) es ∙ ap (option_map (λ it. it.message)) there ∙ ap Some (sym same));
+      cached = λ none. absurd (let no : None ≡ Some was = sym none ∙ there in cc);
+    },
     tt,
   )
-  joined equal es fs d p i was now (Err u) placed there is written same places kept =
-      let messages : messages_of fs ≡ messages_of es = rw is (messages_written (digest d) es was now there same) in (
-        placed_written equal es fs d now placed written (rw kept (has_some digest key es d was placed there)),
-        messages,
+  joined is_clone es fs gs d x p i was now (Err e) placed sorted there moved is written same stays places kept =
+      let all : fs ≡ es = moved ∙ is ∙ ap (insert_entry R es d) kept ∙ insert_entry-same o d was es sorted there in (
+        rw all placed,
         tt,
+        tt,
+        record { messages = ap messages_of all; places = λ e q. ap (λ l. place_at (eq_by_cmp R) key l e q) all },
+      )
+
+  -- a message that is not cached is put in with a place
+  pub cached : (is_clone : T → T → Type 0) (es fs gs : List (D × Placed K T)) (d : D) (x : T) (p owner : K) (i : ℕ) (now : Placed K T)
+      → IsPlaced (eq_by_cmp R) key es → lookup (eq_by_cmp R d) es ≡ None
+      → fs ≡ gs → gs ≡ insert_entry R es d now → ((e : D) → lookup (eq_by_cmp R e) gs ≡ cond (eq_by_cmp R d e) (Some now) (lookup (eq_by_cmp R e) es))
+      → is_clone x now.message → key p owner ≡ true → now.places ≡ (owner, i) ∷ []
+      → IsPlaced (eq_by_cmp R) key fs × Joins (eq_by_cmp R) key R is_clone d x p i es fs
+  cached is_clone es fs gs d x p owner i now placed none moved is written cloned equal places =
+      let one : (q : K) → lookup (key q) now.places ≡ cond (key p q) (Some i) None = λ q.
+      ap (lookup (key q)) places ∙ ap (λ b. cond b (Some i) None) (laws.symm q owner ∙ sym (laws.congr p owner q equal)) in rw moved (
+        placed_written laws (eq_by_cmp_equiv o) es gs d now placed written (one_place owner i now.places places),
         record {
-          messages = messages;
-          places = λ e q. by_test (digest d e)
-              (λ here.
-              let new : lookup (digest e) fs ≡ Some now = written e ∙ ap (λ b. cond b (Some now) (lookup (digest e) es)) here in
-              let old : lookup (digest e) es ≡ Some was = sym (found_same equal es d e here) ∙ there in
-              ap (place_in digest key q) (new ∙ ap Some kept ∙ sym old))
-              (λ apart. ap (place_in digest key q) (written e ∙ ap (λ b. cond b (Some now) (lookup (digest e) es)) apart));
+          places = places_inserted key (eq_by_cmp_equiv o) es d p gs now i none written one;
+          stays = λ there. absurd (let no : false ≡ true = sym (ap is_some none) ∙ there in cc);
+          cached = λ _. record {
+            copy = now.message;
+            cloned = cloned;
+            entries = ap messages_of is ∙ messages_inserted R es d now;
+            finds = λ e. lookup-messages (eq_by_cmp R e) gs ∙ ap (option_map (λ it. it.message)) (written e)
+                ∙ put_message (eq_by_cmp R d e) now now.message (lookup (eq_by_cmp R e) es) refl
+                ∙ ap (λ b. cond (eq_by_cmp R d e) (Some now.message) b) (sym (lookup-messages (eq_by_cmp R e) es));
+          };
         },
       )
+
+  module _ (es fs gs : List (D × Placed K T)) (d : D) (p : K) (was now : Placed K T) (placed : IsPlaced (eq_by_cmp R) key es) (there : lookup (eq_by_cmp R d) es ≡ Some was) (moved : fs ≡ gs)
+      (removed : (q : K) → lookup (key q) now.places ≡ cond (key p q) None (lookup (key q) was.places)) where
+    -- a message loses a place that is not its last
+    pub left : IsStrictlySortedBy R (keys_of es) → gs ≡ insert_entry R es d now → ((e : D) → lookup (eq_by_cmp R e) gs ≡ cond (eq_by_cmp R d e) (Some now) (lookup (eq_by_cmp R e) es)) → now.message ≡ was.message
+        → (now.places ≡ [] → ⊥) → Leaves (eq_by_cmp R) key d p es fs × IsPlaced (eq_by_cmp R) key fs
+    left sorted is written same some =
+        let messages : messages_of gs ≡ messages_of es = ap messages_of is ∙ messages_inserted R es d now
+        ∙ insert_entry-same o d now.message (messages_of es) (subst (IsStrictlySortedBy R) (sym (keys_of-map_values (λ it. it.message) es)) sorted)
+        (lookup-messages (eq_by_cmp R d) es ∙ ap (option_map (λ it. it.message)) there ∙ ap Some (sym same)) in rw moved (
+          record {
+            places = places_written key (eq_by_cmp_equiv o) es d p gs was now None there written removed;
+            messages = inl messages;
+            fewer = λ e x found. ap (lookup (eq_by_cmp R e)) (sym messages) ∙ found;
+          },
+          placed_written laws (eq_by_cmp_equiv o) es gs d now placed written some,
+        )
+
+    -- a message leaves with its last place
+    pub left_last : gs ≡ remove_entry (eq_by_cmp R d) es → ((e : D) → lookup (eq_by_cmp R e) gs ≡ cond (eq_by_cmp R d e) None (lookup (eq_by_cmp R e) es)) → now.places ≡ []
+        → Leaves (eq_by_cmp R) key d p es fs × IsPlaced (eq_by_cmp R) key fs
+    left_last is gone empty = rw moved (
+      record {
+        places = places_left key (eq_by_cmp_equiv o) es d p gs was now there removed empty gone;
+        messages = inr (ap messages_of is ∙ messages_removed (eq_by_cmp R d) es, gone d ∙ ap (λ b. cond b None (lookup (eq_by_cmp R d) es)) ((eq_by_cmp_equiv o).refl d));
+        fewer = fewer_left (eq_by_cmp R) es gs d gone;
+      },
+      placed_left (eq_by_cmp R) key es gs d placed gone,
+    )

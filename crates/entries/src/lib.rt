@@ -4,12 +4,10 @@
 
 pub mod chain;
 pub mod entry;
-pub mod found;
 pub mod item;
 pub mod links;
 pub mod store;
 pub mod table;
 
-pub use found::Found;
 pub use store::Entries;
 pub use table::Table;

@@ -1,18 +1,16 @@
 //! The messages by digest.
-ghost use Rattle.std.specs.Prelude.{◌≡◌, true, false, length, is_some, Some, None, [], OnOk, OnErr};
-ghost use Rattle.std.specs.Prelude.{if◌then◌else◌};
+ghost use Rattle.std.specs.Prelude.{◌≡◌, true, false, length, is_some, IsSome, Some, None, [], IfOk, OnErr};
 ghost use Rattle.std.specs.Option.{option_copied, option_map};
 ghost use Rattle.std.specs.List.{IsDistinct};
 ghost use Rattle.std.specs.Map.{lookup, keys_of};
-ghost use Rattle.std.specs.BTreeMap.{insert_entry};
 ghost use Rattle.std.specs.Ordering.{eq_by_cmp};
-ghost use Rattle.entries.specs.Table.{messages_of, place_at, IsPlaced, IsFound, IsSame, SetsPlace};
+ghost use Rattle.entries.specs.Table.{messages_of, place_at, IsPlaced, IsSame, Joins};
 ghost use Rattle.entries.specs.Table.{Leaves};
 
-use crate::found::Found;
 use crate::item::Item;
 use std::alloc::{AllocError, Global};
 use std::collections::BTreeMap;
+use std::collections::btree_map::Entry;
 use std::marker::Model;
 
 /// Each message, and by key the place of its entry. A message has a place.
@@ -35,7 +33,7 @@ impl<K: Ord + Drop, D: Ord + Drop, T: Drop> Model for Table<K, D, T> {
     ghost invariant = { λ it. IsPlaced (eq_by_cmp D.cmp) (eq_by_cmp K.cmp) it.items.entries };
 }
 
-impl<K: Ord + Drop, D: Ord + Drop, T: Drop> Table<K, D, T> {
+impl<K: Ord + Clone + Drop, D: Ord + Drop, T: Clone + Drop> Table<K, D, T> {
     /// Creates an empty table. Does not allocate.
     pub fn new(alloc: Global) -> Self
         ensures { result ≡ [] }
@@ -65,103 +63,111 @@ impl<K: Ord + Drop, D: Ord + Drop, T: Drop> Table<K, D, T> {
         }
     }
 
-    /// Returns what there is of `digest` and `peer`.
-    pub fn find(&self, digest: &D, peer: &K) -> Found
-        ensures { IsFound (eq_by_cmp D.cmp) (eq_by_cmp K.cmp) self.now digest.now peer.now result }
-    {
-        match self.items.get(digest) {
-            Some(item) => match item.place(peer) {
-                Some(place) => Found::At(place),
-                None => Found::Elsewhere,
-            },
-            None => Found::Nowhere,
-        }
-    }
-
-    /// Caches the message of a digest that has none, with a place.
+    /// Returns the place of `peer` for `digest`, if it has one. Otherwise gives it this place, and
+    /// caches the message if the digest has none.
     ///
-    /// On an allocation failure nothing changes.
-    pub fn insert(&mut self, digest: D, message: T, peer: K, place: usize) -> Result<(), AllocError>
-        requires { lookup (eq_by_cmp D.cmp digest) self.old ≡ None }
-        ensures messages { OnOk result (messages_of self.new
-            ≡ insert_entry D.cmp (messages_of self.old) digest message) }
-        ensures looked_up { OnOk result ((e : D) → lookup (eq_by_cmp D.cmp e) (messages_of self.new)
-            ≡ (if eq_by_cmp D.cmp digest e then Some message else lookup (eq_by_cmp D.cmp e)
-            (messages_of self.old))) }
-        ensures places { OnOk result (SetsPlace (eq_by_cmp D.cmp) (eq_by_cmp K.cmp) digest peer
-            (Some place) self.old self.new) }
-        ensures err { OnErr result (self.new ≡ self.old) }
-        ensures placed { IsPlaced (eq_by_cmp D.cmp) (eq_by_cmp K.cmp) self.new }
-    {
-        let item = Item::new(self.alloc, message, peer, place)?;
-        self.items.insert(digest, item)?;
-        Ok(())
-    }
-
-    /// Adds a place to the message of a digest.
-    ///
-    /// On an allocation failure nothing changes.
-    pub fn join(&mut self, digest: &D, peer: K, place: usize) -> Result<(), AllocError>
-        requires { is_some (lookup (eq_by_cmp D.cmp digest.now) self.old) ≡ true }
-        ensures messages { messages_of self.new ≡ messages_of self.old }
-        ensures places { OnOk result (SetsPlace (eq_by_cmp D.cmp)
-            (eq_by_cmp K.cmp) digest.now peer (Some place) self.old self.new) }
+    /// A place that is there is returned without an allocation. On an allocation failure nothing
+    /// changes.
+    pub fn insert(
+        &mut self,
+        digest: D,
+        message: &T,
+        peer: &K,
+        place: usize,
+    ) -> Result<Option<usize>, AllocError>
+        requires { (key copy : K) → K.is_clone key copy → eq_by_cmp K.cmp key copy ≡ true }
+        ensures found { IfOk result (λ found. found
+            ≡ place_at (eq_by_cmp D.cmp) (eq_by_cmp K.cmp) self.old digest peer.now) }
+        ensures stays { IfOk result (λ found. IsSome found → self.new ≡ self.old) }
+        ensures joined { IfOk result (λ found. found ≡ None
+            → Joins (eq_by_cmp D.cmp) (eq_by_cmp K.cmp) D.cmp T.is_clone digest message.now
+            peer.now place self.old self.new) }
+        ensures fails_for_new_places { OnErr result
+            (place_at (eq_by_cmp D.cmp) (eq_by_cmp K.cmp) self.old digest peer.now ≡ None) }
         ensures err { OnErr result (IsSame (eq_by_cmp D.cmp) (eq_by_cmp K.cmp) self.old self.new) }
         ensures placed { IsPlaced (eq_by_cmp D.cmp) (eq_by_cmp K.cmp) self.new }
     {
-        join(&mut self.items, digest, peer, place)
+        insert(self.alloc, &mut self.items, digest, message, peer, place)
     }
 
     /// Removes the place of `peer` from the message of `digest`, and the message with its last
-    /// place. Does not allocate.
-    pub fn remove(&mut self, digest: &D, peer: &K)
-        ensures left { Leaves (eq_by_cmp D.cmp)
-            (eq_by_cmp K.cmp) digest.now peer.now self.old self.new }
+    /// place. Does not allocate if the digest has a message.
+    pub fn remove(&mut self, digest: D, peer: &K)
+        ensures left { Leaves (eq_by_cmp D.cmp) (eq_by_cmp K.cmp) digest peer.now
+            self.old self.new }
         ensures placed { IsPlaced (eq_by_cmp D.cmp) (eq_by_cmp K.cmp) self.new }
     {
         leave(&mut self.items, digest, peer);
     }
 }
 
-/// Adds a place to the message of a digest.
-fn join<K: Ord + Drop, D: Ord + Drop, T: Drop>(
+/// Returns the place of a key, or gives it one.
+fn insert<K: Ord + Clone + Drop, D: Ord + Drop, T: Clone + Drop>(
+    alloc: Global,
     items: &mut BTreeMap<D, Item<K, T>>,
-    digest: &D,
-    peer: K,
+    digest: D,
+    message: &T,
+    peer: &K,
     place: usize,
-) -> Result<(), AllocError>
+) -> Result<Option<usize>, AllocError>
     requires placed { IsPlaced (eq_by_cmp D.cmp) (eq_by_cmp K.cmp) items.old.entries }
-    requires there { is_some (lookup (eq_by_cmp D.cmp digest.now) items.old.entries) ≡ true }
+    requires copies { (key copy : K) → K.is_clone key copy → eq_by_cmp K.cmp key copy ≡ true }
     ensures placed { IsPlaced (eq_by_cmp D.cmp) (eq_by_cmp K.cmp) items.new.entries }
-    ensures messages { messages_of items.new.entries ≡ messages_of items.old.entries }
-    ensures places { OnOk result (SetsPlace (eq_by_cmp D.cmp) (eq_by_cmp K.cmp) digest.now peer
-        (Some place) items.old.entries items.new.entries) }
-    ensures err { OnErr result (IsSame (eq_by_cmp D.cmp)
-        (eq_by_cmp K.cmp) items.old.entries items.new.entries) }
+    ensures found { IfOk result (λ found. found
+        ≡ place_at (eq_by_cmp D.cmp) (eq_by_cmp K.cmp) items.old.entries digest peer.now) }
+    ensures stays { IfOk result (λ found. IsSome found → items.new.entries ≡ items.old.entries) }
+    ensures joined { IfOk result (λ found. found ≡ None
+        → Joins (eq_by_cmp D.cmp) (eq_by_cmp K.cmp) D.cmp T.is_clone digest message.now
+        peer.now place items.old.entries items.new.entries) }
+    ensures fails_for_new_places { OnErr result
+        (place_at (eq_by_cmp D.cmp) (eq_by_cmp K.cmp) items.old.entries digest peer.now ≡ None) }
+    ensures err { OnErr result (IsSame (eq_by_cmp D.cmp) (eq_by_cmp K.cmp) items.old.entries
+        items.new.entries) }
 {
-    match items.get_mut(digest) {
-        Some(item) => item.insert(peer, place),
-        None => Ok(()),
+    match items.entry(digest) {
+        Ok(entry) => match entry {
+            Entry::Occupied(found) => found.into_mut().join(peer, place),
+            Entry::Vacant(vacant) => match Item::new(alloc, message, peer, place) {
+                Ok(item) => {
+                    vacant.insert(item);
+                    Ok(None)
+                }
+                Err(refused) => {
+                    // Gives back the room for a message.
+                    if let Err(_stays) = Entry::Vacant(vacant).or_try_insert_with(|| Err(
+                        refused,
+                    )) {}
+                    Err(refused)
+                }
+            },
+        },
+        Err(_refused) => Err(AllocError),
     }
 }
 
 /// Removes a place, and the message with its last place.
 fn leave<K: Ord + Drop, D: Ord + Drop, T: Drop>(
     items: &mut BTreeMap<D, Item<K, T>>,
-    digest: &D,
+    digest: D,
     peer: &K,
 )
     requires { IsPlaced (eq_by_cmp D.cmp) (eq_by_cmp K.cmp) items.old.entries }
     ensures left { Leaves (eq_by_cmp D.cmp)
-        (eq_by_cmp K.cmp) digest.now peer.now items.old.entries items.new.entries }
+        (eq_by_cmp K.cmp) digest peer.now items.old.entries items.new.entries }
     ensures placed { IsPlaced (eq_by_cmp D.cmp) (eq_by_cmp K.cmp) items.new.entries }
 {
-    match items.get_mut(digest) {
-        Some(item) => {
-            if item.remove(peer) {
-                items.remove(digest);
+    match items.entry(digest) {
+        Ok(entry) => match entry {
+            Entry::Occupied(mut found) => {
+                if found.get_mut().remove(peer) {
+                    found.remove();
+                }
             }
-        }
-        None => {}
+            Entry::Vacant(vacant) => {
+                // Gives back the room for a message.
+                if let Err(_stays) = Entry::Vacant(vacant).or_try_insert_with(|| Err(AllocError)) {}
+            }
+        },
+        Err(_refused) => {}
     }
 }

@@ -1,5 +1,5 @@
 //! The lists and the table of messages, kept in step.
-ghost use Rattle.std.specs.Prelude.{◌≡◌, ◌≤◌, ◌<◌, ◌++◌, ◌∷◌, false, true, not, length, is_some};
+ghost use Rattle.std.specs.Prelude.{◌≡◌, ◌≤◌, ◌<◌, ◌++◌, ◌∷◌, false, true, not, length, is_some, IsSome};
 ghost use Rattle.std.specs.Prelude.{None, [], IfOk, OnOk, OnErr, IsOk, MatchBool};
 ghost use Rattle.std.specs.Map.{lookup, keys_of};
 ghost use Rattle.std.specs.List.{IsDistinct};
@@ -14,7 +14,7 @@ ghost use Rattle.broadcast_core.specs.Stored.{Stores, Drops};
 
 use crate::digested::{Digested, Digestible};
 use crate::ordered::{PublicKey, place_of};
-use entries::{Entries, Found, Table};
+use entries::{Entries, Table};
 use std::alloc::AllocError;
 
 /// Puts the digest in front of the list of `peer`. Returns whether it is new there.
@@ -40,13 +40,14 @@ pub fn take<P: PublicKey, M: Digestible>(
         (items_at (eq_by_cmp P.cmp) peer.now (digest_lists lists.old.lists)) ≡ true → IsOk result }
     ensures succeeds_at_size_zero { deque_size ≡ 0 → IsOk result }
 {
-    match table.find(&message.digest(), peer) {
-        Found::At(place) => {
-            renew(lists, table, peer, message, place, deque_size);
-            Ok(false)
-        }
-        Found::Elsewhere => insert(lists, table, peer, message, deque_size, true),
-        Found::Nowhere => insert(lists, table, peer, message, deque_size, false),
+    if deque_size == 0 {
+        // No two lists have one key: so says `len`.
+        let _lists = lists.len();
+        return Ok(true);
+    }
+    match lists.oldest_beyond(peer, deque_size) {
+        Some((place, stale)) => replace(lists, table, peer, message, deque_size, place, stale),
+        None => add(lists, table, peer, message, deque_size),
     }
 }
 
@@ -75,134 +76,100 @@ fn renew<P: PublicKey, M: Digestible>(
     let _new = lists.len();
 }
 
-/// Puts a digest that is not on the list of `peer` in front of it, and drops the oldest digest of
-/// a full list. Returns `true`.
-fn insert<P: PublicKey, M: Digestible>(
-    lists: &mut Entries<P, M::Digest>,
-    table: &mut Table<P, M::Digest, Digested<M>>,
-    peer: &P,
-    message: &Digested<M>,
-    deque_size: usize,
-    is_cached: bool,
-) -> Result<bool, AllocError>
-    requires indexed { IsIndexed (same_by P.cmp M.Digest.cmp) lists.old.lists table.old }
-    requires absent { place_at (eq_by_cmp M.Digest.cmp)
-        (eq_by_cmp P.cmp) table.old message.now.digest peer.now ≡ None }
-    requires cached { is_cached ≡ is_some (lookup
-        (eq_by_cmp M.Digest.cmp message.now.digest) table.old) }
-    requires fits { length (items_at (eq_by_cmp P.cmp) peer.now (digest_lists lists.old.lists))
-        ≤ deque_size }
-    ensures indexed { IsIndexed (same_by P.cmp M.Digest.cmp) lists.new.lists table.new }
-    ensures ok { OnOk result (Stores (same_by P.cmp M.Digest.cmp) peer.now message.now deque_size
-        (stored_of lists.old.lists table.old) (stored_of lists.new.lists table.new)) }
-    ensures err { OnErr result (stored_of lists.new.lists table.new
-        ≡ stored_of lists.old.lists table.old) }
-    ensures new { IfOk result (λ new. new ≡ true) }
-    ensures succeeds_at_size_zero { deque_size ≡ 0 → IsOk result }
-{
-    if deque_size == 0 {
-        // No two lists have one key: so says `len`.
-        let _lists = lists.len();
-        return Ok(true);
-    }
-    match lists.oldest_beyond(peer, deque_size) {
-        Some((place, stale)) => replace(
-            lists, table, peer, message, deque_size, is_cached, place, stale,
-        )?,
-        None => add(lists, table, peer, message, deque_size, is_cached)?,
-    }
-    Ok(true)
-}
-
-/// Puts a digest in front of the list of `peer`, which is not full.
+/// Puts a digest in front of the list of `peer`, which is not full. Returns whether it is new
+/// there.
 fn add<P: PublicKey, M: Digestible>(
     lists: &mut Entries<P, M::Digest>,
     table: &mut Table<P, M::Digest, Digested<M>>,
     peer: &P,
     message: &Digested<M>,
     deque_size: usize,
-    is_cached: bool,
-) -> Result<(), AllocError>
+) -> Result<bool, AllocError>
     requires indexed { IsIndexed (same_by P.cmp M.Digest.cmp) lists.old.lists table.old }
-    requires absent { place_at (eq_by_cmp M.Digest.cmp)
-        (eq_by_cmp P.cmp) table.old message.now.digest peer.now ≡ None }
-    requires cached { is_cached ≡ is_some (lookup
-        (eq_by_cmp M.Digest.cmp message.now.digest) table.old) }
     requires shorter { length (items_at (eq_by_cmp P.cmp) peer.now lists.old.lists) < deque_size }
     ensures indexed { IsIndexed (same_by P.cmp M.Digest.cmp) lists.new.lists table.new }
+    ensures new { let same = same_by P.cmp M.Digest.cmp in
+        let ds = items_at same.key peer.now (digest_lists lists.old.lists) in
+        IfOk result (λ new. new ≡ not (among same.digest message.now.digest ds)) }
     ensures ok { OnOk result (Stores (same_by P.cmp M.Digest.cmp) peer.now message.now deque_size
         (stored_of lists.old.lists table.old) (stored_of lists.new.lists table.new)) }
     ensures err { OnErr result (stored_of lists.new.lists table.new
         ≡ stored_of lists.old.lists table.old) }
+    ensures succeeds_on_duplicate { among (eq_by_cmp M.Digest.cmp) message.now.digest
+        (items_at (eq_by_cmp P.cmp) peer.now (digest_lists lists.old.lists)) ≡ true → IsOk result }
 {
     let _old = lists.len();
-    hold(table, peer, message, lists.vacant(), is_cached)?;
+    if let Some(place) = hold(table, peer, message, lists.vacant())? {
+        renew(lists, table, peer, message, place, deque_size);
+        return Ok(false);
+    }
     if let Err(refused) = lists.insert(peer, message.digest()) {
-        table.remove(&message.digest(), peer);
+        table.remove(message.digest(), peer);
         return Err(refused);
     }
     // No two lists have one key: so says `len`.
     let _new = lists.len();
-    Ok(())
+    Ok(true)
 }
 
-/// Puts a digest in the place of the oldest one of `peer`, and in front of its list.
+/// Puts a digest in front of the full list of `peer`, a new one in the place of the oldest one.
+/// Returns whether it is new there.
 fn replace<P: PublicKey, M: Digestible>(
     lists: &mut Entries<P, M::Digest>,
     table: &mut Table<P, M::Digest, Digested<M>>,
     peer: &P,
     message: &Digested<M>,
     deque_size: usize,
-    is_cached: bool,
     place: usize,
     stale: M::Digest,
-) -> Result<(), AllocError>
+) -> Result<bool, AllocError>
     requires indexed { IsIndexed (same_by P.cmp M.Digest.cmp) lists.old.lists table.old }
-    requires absent { place_at (eq_by_cmp M.Digest.cmp)
-        (eq_by_cmp P.cmp) table.old message.now.digest peer.now ≡ None }
-    requires cached { is_cached ≡ is_some (lookup
-        (eq_by_cmp M.Digest.cmp message.now.digest) table.old) }
     requires full { length (items_at (eq_by_cmp P.cmp) peer.now lists.old.lists) ≡ deque_size }
     requires oldest { IsOldest (place, stale) (items_at
         (eq_by_cmp P.cmp) peer.now lists.old.lists) }
     ensures indexed { IsIndexed (same_by P.cmp M.Digest.cmp) lists.new.lists table.new }
+    ensures new { let same = same_by P.cmp M.Digest.cmp in
+        let ds = items_at same.key peer.now (digest_lists lists.old.lists) in
+        IfOk result (λ new. new ≡ not (among same.digest message.now.digest ds)) }
     ensures ok { OnOk result (Stores (same_by P.cmp M.Digest.cmp) peer.now message.now deque_size
         (stored_of lists.old.lists table.old) (stored_of lists.new.lists table.new)) }
     ensures err { OnErr result (stored_of lists.new.lists table.new
         ≡ stored_of lists.old.lists table.old) }
+    ensures succeeds_on_duplicate { among (eq_by_cmp M.Digest.cmp) message.now.digest
+        (items_at (eq_by_cmp P.cmp) peer.now (digest_lists lists.old.lists)) ≡ true → IsOk result }
 {
     let _old = lists.len();
-    hold(table, peer, message, place, is_cached)?;
-    table.remove(&stale, peer);
+    if let Some(place) = hold(table, peer, message, place)? {
+        renew(lists, table, peer, message, place, deque_size);
+        return Ok(false);
+    }
+    table.remove(stale, peer);
     lists.promote(peer, place, message.digest());
     // No two lists have one key: so says `len`.
     let _new = lists.len();
-    Ok(())
+    Ok(true)
 }
 
-/// Caches a message with a place of `peer`.
+/// Returns the place of the digest on the list of `peer`, if it has one. Otherwise gives it this
+/// place, and caches the message.
 fn hold<P: PublicKey, M: Digestible>(
     table: &mut Table<P, M::Digest, Digested<M>>,
     peer: &P,
     message: &Digested<M>,
     place: usize,
-    is_cached: bool,
-) -> Result<(), AllocError>
-    requires placed { IsPlaced (eq_by_cmp M.Digest.cmp) (eq_by_cmp P.cmp) table.old }
-    requires cached { is_cached ≡ is_some (lookup
-        (eq_by_cmp M.Digest.cmp message.now.digest) table.old) }
-    ensures ok { OnOk result (Holds (same_by P.cmp M.Digest.cmp) M.Digest.cmp peer.now
-        message.now place table.old table.new) }
+) -> Result<Option<usize>, AllocError>
+    ensures found { IfOk result (λ found. found ≡ place_at (eq_by_cmp M.Digest.cmp)
+        (eq_by_cmp P.cmp) table.old message.now.digest peer.now) }
+    ensures stays { IfOk result (λ found. IsSome found → table.new ≡ table.old) }
+    ensures held { IfOk result (λ found. found ≡ None → Holds (same_by P.cmp M.Digest.cmp)
+        M.Digest.cmp peer.now message.now place table.old table.new) }
+    ensures fails_for_new_places { OnErr result (place_at (eq_by_cmp M.Digest.cmp)
+        (eq_by_cmp P.cmp) table.old message.now.digest peer.now ≡ None) }
     ensures err { OnErr result (IsSame (eq_by_cmp M.Digest.cmp)
         (eq_by_cmp P.cmp) table.old table.new) }
     ensures placed { IsPlaced (eq_by_cmp M.Digest.cmp) (eq_by_cmp P.cmp) table.new }
 {
-    let owner = peer.clone()?;
-    if is_cached {
-        return table.join(&message.digest(), owner, place);
-    }
-    let shared = message.clone()?;
-    table.insert(message.digest(), shared, owner, place)
+    table.insert(message.digest(), message, peer, place)
 }
 
 /// Drops the lists of those peers of `was` that are not among `peers`, which are sorted.
@@ -240,7 +207,7 @@ fn remove<P: PublicKey, M: Digestible>(
         table.old table.new }
 {
     while let Some(stale) = lists.evict(peer) {
-        table.remove(&stale, peer);
+        table.remove(stale, peer);
     }
     lists.remove(peer);
 }
