@@ -1,7 +1,8 @@
 //! What is done to the nodes of a scenario, and what must come of it.
 use super::asked::Given;
 use super::message::{Letter, To};
-use super::world::{Metric, Sizes, World};
+use super::node::Metric;
+use super::world::{Sizes, World};
 use broadcast_core::{RangeCfg, TestMessage};
 use broadcast_engine::buffered::Turn;
 use commonware_broadcast::Feedback;
@@ -102,7 +103,7 @@ impl Row {
     }
 }
 
-/// Returns the place of the first action that does not go as it should.
+/// Adds the nodes, and returns the place of the first action that does not go as it should.
 fn first_wrong<M, R>(
     rt: &R,
     sizes: Sizes,
@@ -115,24 +116,8 @@ where
     R: Wait + RandomSource + AllocGlobal + Clone + Send + Drop + 'static,
 {
     let mut world: World<M, R> = World::new(rt.alloc());
-    play(rt, &mut world, sizes, codec_config, acts)
-}
-
-/// Adds the nodes, and makes the actions.
-fn play<M, R>(
-    rt: &R,
-    world: &mut World<M, R>,
-    sizes: Sizes,
-    codec_config: M::Cfg,
-    acts: &[Act],
-) -> io::Result<Option<usize>>
-where
-    M: Letter,
-    M::Cfg: Copy + Drop,
-    R: Wait + RandomSource + AllocGlobal + Clone + Send + Drop + 'static,
-{
     world.add_all(rt, sizes, codec_config)?;
-    Ok(wrong_place(rt, world, acts)?)
+    Ok(wrong_place(rt, &mut world, acts)?)
 }
 
 /// Makes the actions, and returns the place of the first that does not go as it should.

@@ -31,17 +31,40 @@ impl<M: Letter> Asked<M> {
     /// Returns what the future gives.
     pub fn given<R: Wait + RandomSource + AllocGlobal>(&mut self, rt: &R) -> Given {
         let polled = match self {
-            Asked::Get(get) => block_on(rt, poll_immediate(get)).unwrap_or(Some(None)),
-            Asked::Subscription(subscription) => {
-                let polled = block_on(rt, poll_immediate(subscription));
-                polled.unwrap_or(None).map(|output| output.ok())
-            }
+            Asked::Get(get) => got(rt, get),
+            Asked::Subscription(subscription) => heard(rt, subscription),
             Asked::Dropped => Some(None),
         };
         match polled {
             None => Given::Waits,
             Some(None) => Given::Nothing,
-            Some(Some(message)) => Given::Letter(message.inner().letter()),
+            Some(Some(letter)) => Given::Letter(letter),
         }
+    }
+}
+
+/// Returns the letter that a get gives, if it is ready.
+fn got<M, R>(rt: &R, get: &mut Get<M>) -> Option<Option<u8>>
+where
+    M: Letter,
+    R: Wait + RandomSource + AllocGlobal,
+{
+    match block_on(rt, poll_immediate(get)) {
+        Ok(Some(Some(message))) => Some(Some(message.inner().letter())),
+        Ok(None) => None,
+        _ => Some(None),
+    }
+}
+
+/// Returns the letter that a subscription gives, if it is ready.
+fn heard<M, R>(rt: &R, subscription: &mut Subscription<M>) -> Option<Option<u8>>
+where
+    M: Letter,
+    R: Wait + RandomSource + AllocGlobal,
+{
+    match block_on(rt, poll_immediate(subscription)) {
+        Ok(Some(Ok(message))) => Some(Some(message.inner().letter())),
+        Ok(None) => None,
+        _ => Some(None),
     }
 }

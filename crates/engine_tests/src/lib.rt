@@ -8,6 +8,10 @@ mod asked;
 #[cfg(test)]
 mod callers;
 #[cfg(test)]
+mod driven;
+#[cfg(test)]
+mod drives;
+#[cfg(test)]
 mod feeds;
 #[cfg(test)]
 mod job;
@@ -16,6 +20,10 @@ mod message;
 #[cfg(test)]
 mod network;
 #[cfg(test)]
+mod node;
+#[cfg(test)]
+mod nodes;
+#[cfg(test)]
 mod order;
 #[cfg(test)]
 mod passing;
@@ -23,6 +31,8 @@ mod passing;
 mod peers;
 #[cfg(test)]
 mod scenarios;
+#[cfg(test)]
+mod scripts;
 #[cfg(test)]
 mod wakes;
 #[cfg(test)]

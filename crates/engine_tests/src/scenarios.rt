@@ -2,7 +2,7 @@
 use super::act::{Act, Row, all_go};
 use super::asked::Given;
 use super::message::To;
-use super::world::Metric;
+use super::node::Metric;
 use broadcast_engine::buffered::Status;
 use std::test::Fail;
 

@@ -1,16 +1,13 @@
-//! Engines over a network in memory, which one thread drives.
+//! Nodes with the keys from 1, their callers, and what feeds them.
 use super::act::Act;
 use super::callers::Callers;
 use super::feeds::Feeds;
-use super::job::Gated;
 use super::message::{Letter, payload};
-use super::network::{Inbound, Outbound};
-use super::peers::Peers;
+use super::node::Node;
+use super::nodes::Nodes;
 use super::wires::{Wires, place};
 use broadcast_core::{Codec, Digestible};
-use broadcast_engine::buffered::{Config, Engine, MailboxEngine, Metrics, Status, Turn};
-use commonware_broadcast::buffered::Mailbox;
-use futures::task::{Doorbell, Poll, Solo};
+use futures::task::{Doorbell, Solo};
 use std::alloc::{AllocError, AllocGlobal, Global};
 use std::io;
 use std::num::NonZeroUsize;
@@ -25,27 +22,12 @@ pub struct Sizes {
     pub deque: usize,
 }
 
-/// A counter of a node.
-#[derive(Clone, Copy)]
-pub enum Metric {
-    Peer(u64),
-    Receive(Status),
-    Subscribe(Status),
-    Get(Status),
-    Waiters,
-}
-
-/// The engine of a node.
-type Node<M, R> = MailboxEngine<u64, M, Peers, Gated, R>;
-
 /// Nodes with the keys from 1.
 #[derive(Drop)]
 pub struct World<M: Digestible + Codec, R: Wait> {
-    engines: Vec<Node<M, R>>,
-    tasks: Vec<Solo>,
+    nodes: Nodes<M, R>,
     callers: Callers<M, R>,
     feeds: Feeds,
-    wires: Wires,
 }
 
 impl<M, R> World<M, R>
@@ -57,11 +39,9 @@ where
     /// Creates a world without nodes.
     pub fn new(alloc: Global) -> Self {
         World {
-            engines: Vec::new(alloc),
-            tasks: Vec::new(alloc),
+            nodes: Nodes::new(alloc),
             callers: Callers::new(alloc),
             feeds: Feeds(Vec::new(alloc)),
-            wires: Wires::new(alloc),
         }
     }
 
@@ -69,203 +49,85 @@ where
     pub fn add_all(&mut self, rt: &R, sizes: Sizes, codec_config: M::Cfg) -> io::Result<()> {
         for key in 1..=sizes.nodes {
             self.add_sources(rt, rt.alloc())?;
-            let cfg = self.feeds.config(key, sizes, codec_config)?;
-            self.add(rt, cfg)?;
+            self.add(rt, key, sizes, codec_config)?;
         }
+        Ok(())
+    }
+
+    /// Adds the node of the key.
+    fn add(
+        &mut self,
+        rt: &R,
+        key: u64,
+        sizes: Sizes,
+        codec_config: M::Cfg,
+    ) -> Result<(), AllocError> {
+        let cfg = self.feeds.config(key, sizes, codec_config)?;
+        let node = Node::new(rt, cfg, &mut self.callers.mailboxes)?;
+        self.nodes.engines.push(node)?;
         Ok(())
     }
 
     /// Adds what a node is fed by.
     fn add_sources(&mut self, rt: &R, alloc: Global) -> io::Result<()> {
-        self.tasks.push(Solo::new(rt, Doorbell::spinning())?)?;
+        self.nodes.tasks.push(Solo::new(rt, Doorbell::spinning())?)?;
         self.feeds.add(alloc)?;
-        Ok(self.wires.add(alloc)?)
-    }
-
-    /// Adds a node.
-    fn add(&mut self, rt: &R, cfg: Config<u64, M::Cfg, Peers, Gated>) -> Result<(), AllocError> {
-        let (engine, mailbox) = start(rt, cfg)?;
-        self.callers.mailboxes.push(mailbox)?;
-        self.engines.push(engine)?;
-        Ok(())
-    }
-
-    /// Polls each engine, and delivers what they send, until all are pending. Returns whether they
-    /// come to that.
-    fn run(&mut self, alloc: Global) -> Result<bool, AllocError> {
-        for _ in 0..100 {
-            if !self.poll_all(alloc) {
-                return Ok(true);
-            }
-            self.wires.deliver(alloc)?;
-        }
-        Ok(false)
-    }
-
-    /// Polls each engine once. Returns whether one of them took a turn.
-    fn poll_all(&mut self, alloc: Global) -> bool {
-        let mut ready = false;
-        for at in 0..self.engines.len() {
-            ready |= self.poll(alloc, at).is_some();
-        }
-        ready
-    }
-
-    /// Polls the engine at the place once. Returns the turn, if it is ready.
-    fn poll(&mut self, alloc: Global, at: usize) -> Option<Turn> {
-        let engine = self.engines.get_mut(at)?;
-        let task = self.tasks.get_mut(at)?;
-        let network = self.wires.ends.get_mut(at)?;
-        poll(engine, task, alloc, network)
+        Ok(self.nodes.wires.add(alloc)?)
     }
 
     /// Does what the action says. Returns whether it goes as it should.
     pub fn goes(&mut self, rt: &R, alloc: Global, act: Act) -> Result<bool, AllocError> {
         match act {
-            Act::Run => self.run(alloc),
             Act::AllTrack(keys) => self.track_all(alloc, keys),
             Act::Finds(key, letter, found) => self.finds(rt, alloc, Act::Get(key, letter), found),
             Act::Hears(key, letter, heard) => {
                 self.finds(rt, alloc, Act::Subscribe(key, letter), heard)
             }
-            Act::Poll(key, turn) => Ok(self.poll(alloc, place(key)) == turn),
-            Act::Woken(key, woken) => Ok(self.is_woken(place(key)) == Some(woken)),
-            _ => self.goes_inside(rt, alloc, act),
-        }
-    }
-
-    /// Does what the action says of one part of the world. Returns whether it goes as it should.
-    fn goes_inside(&mut self, rt: &R, alloc: Global, act: Act) -> Result<bool, AllocError> {
-        match act {
-            Act::Counts(key, metric, number) => Ok(self.count(place(key), metric) == Some(number)),
-            Act::Stop(key) => Ok(self.stop(place(key))),
-            Act::CloseLast => Ok(self.close_last()),
             Act::Broadcast(..) | Act::BroadcastAs(..) | Act::Told(..) => {
                 self.callers.broadcasts(alloc, act)
             }
             Act::Subscribe(..) | Act::Get(..) => self.callers.ask(alloc, act),
             Act::Gives(number, given) => Ok(self.callers.gives(rt, number, given)),
             Act::Hang(number) => Ok(self.callers.hang(number)),
-            _ => feeds_one::<M>(&mut self.wires, &self.feeds, alloc, act),
+            _ => goes_inside(&mut self.nodes, &self.feeds, alloc, act),
         }
     }
 
     /// Gives all nodes the peer set, and lets them run.
     fn track_all(&mut self, alloc: Global, keys: &[u64]) -> Result<bool, AllocError> {
         self.feeds.track_all(alloc, keys)?;
-        self.run(alloc)
-    }
-
-    /// Returns the counter of the engine at the place.
-    fn count(&self, at: usize, metric: Metric) -> Option<u64> {
-        Some(count(self.engines.get(at)?.metrics(), metric))
-    }
-
-    /// Returns whether the engine at the place was woken since its last poll.
-    fn is_woken(&self, at: usize) -> Option<bool> {
-        Some(is_woken(self.tasks.get(at)?))
-    }
-
-    /// Asks the engine at the place to stop. Returns whether there is one.
-    fn stop(&self, at: usize) -> bool {
-        match self.engines.get(at) {
-            Some(engine) => stop(engine),
-            None => false,
-        }
-    }
-
-    /// Closes the engine with the greatest key. Returns whether there is one.
-    fn close_last(&mut self) -> bool {
-        match self.engines.pop() {
-            Some(engine) => {
-                engine.close();
-                true
-            }
-            None => false,
-        }
+        self.nodes.run(alloc)
     }
 
     /// Asks, lets all nodes run, and returns whether a message came or not. The future is dropped.
     fn finds(&mut self, rt: &R, alloc: Global, asks: Act, found: bool) -> Result<bool, AllocError> {
         let asked = self.callers.ask(alloc, asks)?;
-        let ran = self.run(alloc)?;
+        let ran = self.nodes.run(alloc)?;
         Ok(asked && ran && self.callers.hears(rt) == found)
     }
 }
 
-/// Starts an engine.
-fn start<M, R>(
-    rt: &R,
-    cfg: Config<u64, M::Cfg, Peers, Gated>,
-) -> Result<(Node<M, R>, Mailbox<u64, M, R>), AllocError>
+/// Does what the action says of the engines. Returns whether it goes as it should.
+fn goes_inside<M, R>(
+    nodes: &mut Nodes<M, R>,
+    feeds: &Feeds,
+    alloc: Global,
+    act: Act,
+) -> Result<bool, AllocError>
 where
     M: Letter,
     M::Cfg: Drop,
-    R: Wait + AllocGlobal + Clone + Drop,
-{
-    Engine::new(rt.clone()?, rt.alloc(), cfg)
-}
-
-/// Polls the engine once. Returns the turn, if it is ready.
-fn poll<M, R>(
-    engine: &mut Node<M, R>,
-    task: &mut Solo,
-    alloc: Global,
-    network: &mut (Outbound, Inbound),
-) -> Option<Turn>
-where
-    M: Letter,
-    R: Wait + Drop,
-{
-    let mut cx = task.begin();
-    match engine.poll(alloc, &mut cx, network) {
-        Poll::Ready(turn) => {
-            let _: Poll<()> = cx.yield_now();
-            cx.park();
-            Some(turn)
-        }
-        Poll::Pending => {
-            cx.park();
-            None
-        }
-    }
-}
-
-/// Asks the engine to stop. Returns whether there is memory to ask.
-fn stop<M, R>(engine: &Node<M, R>) -> bool
-where
-    M: Letter,
     R: Wait + Clone + Drop,
 {
-    match engine.requests().stopper() {
-        Ok(stopper) => {
-            stopper.request_stop();
-            true
-        }
-        Err(_) => false,
-    }
-}
-
-/// Returns whether the task was woken since its last poll.
-fn is_woken(task: &Solo) -> bool {
-    match task.sleep() {
-        Some(asleep) => {
-            asleep.end();
-            false
-        }
-        None => true,
-    }
-}
-
-/// Returns the counter.
-fn count(metrics: &Metrics<u64>, metric: Metric) -> u64 {
-    match metric {
-        Metric::Peer(key) => metrics.peer(&key),
-        Metric::Receive(status) => metrics.receive(status),
-        Metric::Subscribe(status) => metrics.subscribe(status),
-        Metric::Get(status) => metrics.get(status),
-        Metric::Waiters => metrics.waiters(),
-    }
+    Ok(match act {
+        Act::Run => nodes.run(alloc)?,
+        Act::Poll(key, turn) => nodes.poll(alloc, place(key)) == turn,
+        Act::Woken(key, woken) => nodes.is_woken(place(key)) == Some(woken),
+        Act::Counts(key, metric, number) => nodes.count(place(key), metric) == Some(number),
+        Act::Stop(key) => nodes.stop(place(key)),
+        Act::CloseLast => nodes.close_last(),
+        _ => feeds_one::<M>(&mut nodes.wires, feeds, alloc, act)?,
+    })
 }
 
 /// Does what the action says of the sources. Returns whether it goes as it should.

@@ -9,19 +9,26 @@ mod note;
 
 use anyhow::Error;
 use broadcast_core::{Digested, TestMessage};
+use std::alloc::{AllocError, Global};
 
 fn main(rt: HostRuntime) -> Result<(), Error> {
     let alloc = rt.alloc();
-    let taken = cache::take_one(alloc, Vec::from_slice(alloc, b"hello")?)?;
-    println!(rt; "cache: {taken:?}")?;
-    let read = note::write_and_read(alloc, Vec::from_slice(alloc, b"hello")?)?;
-    println!(rt; "note: {read:?}")?;
-    let message = TestMessage::shared(alloc, Vec::from_slice(alloc, b"hello")?)?;
-    let asked = mailbox::ask(&rt, &Digested::compute(alloc, message)?)?;
+    let taken = cache::take_one(alloc, hello(alloc)?)?;
+    let read = note::write_and_read(alloc, hello(alloc)?)?;
+    println!(rt; "cache: {taken:?}\nnote: {read:?}")?;
+    let asked = mailbox::ask(&rt, &message(alloc)?)?;
     println!(rt; "mailbox: {asked:?}")?;
     let (heard, second, third) = engines::three_test_nodes(&rt)?;
-    println!(rt; "engines: {heard:?}")?;
-    println!(rt; "node 2: {second:?}")?;
-    println!(rt; "node 3: {third:?}")?;
+    println!(rt; "engines: {heard:?}\nnode 2: {second:?}\nnode 3: {third:?}")?;
     Ok(())
+}
+
+/// Returns the bytes of a content.
+fn hello(alloc: Global) -> Result<Vec<u8>, AllocError> {
+    Vec::from_slice(alloc, b"hello")
+}
+
+/// Creates a message.
+fn message(alloc: Global) -> Result<Digested<TestMessage>, AllocError> {
+    Digested::compute(alloc, TestMessage::shared(alloc, hello(alloc)?)?)
 }

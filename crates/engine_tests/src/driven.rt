@@ -1,0 +1,128 @@
+//! An engine over scripts, and what was made of it.
+use super::message::{Letter, To, digest, payload, recipients};
+use super::scripts::{Handed, Network, Scripted, Sources};
+use broadcast_core::{Codec, Digestible, Items, Sent};
+use broadcast_engine::buffered::{Reply, Turn, drive};
+use broadcast_engine::mocks::Replied;
+use futures::task::{Poll, Solo};
+use std::alloc::{AllocError, Global};
+use std::marker::Model;
+
+/// An engine with its network. Nothing is known of its state, which keeps the proofs of tests small.
+#[derive(Drop)]
+pub struct Driven<M: Digestible + Codec> {
+    engine: Scripted<M>,
+    network: Network,
+}
+
+impl<M: Digestible + Codec> Model for Driven<M> {
+    ghost Value = { Unit {0} };
+
+    ghost view = { λ _. tt };
+}
+
+impl<M: Letter> Driven<M>
+where
+    M::Cfg: Drop,
+{
+    /// Creates an engine over the sources.
+    pub fn new(alloc: Global, sources: &Sources, codec_config: M::Cfg) -> Result<Self, AllocError> {
+        let network = sources.network::<M>(alloc)?;
+        Ok(Driven {
+            engine: sources.engine::<M>(alloc, codec_config)?,
+            network,
+        })
+    }
+
+    /// Drives the engine. Returns its turns.
+    pub fn drive(
+        &mut self,
+        alloc: Global,
+        task: &Solo,
+        limit: usize,
+    ) -> Result<Vec<Turn>, AllocError> {
+        let mut cx = task.begin();
+        let turns = drive(alloc, &mut self.engine, &mut cx, &mut self.network, limit);
+        // A task that is parked must have asked for another poll.
+        let _: Poll<()> = cx.yield_now();
+        cx.park();
+        turns
+    }
+
+    /// Returns whether these messages were sent.
+    pub fn has_sent(&self, alloc: Global, wanted: &[(To, u8)]) -> Result<bool, AllocError> {
+        let sent = &self.network.0.sent;
+        for (place, (to, letter)) in wanted.iter().enumerate() {
+            if sent.get(place) != Some(&sending::<M>(alloc, *to, *letter)?) {
+                return Ok(false);
+            }
+        }
+        Ok(sent.len() == wanted.len())
+    }
+
+    /// Returns whether these replies were handed out.
+    pub fn has_replied(
+        &self,
+        alloc: Global,
+        wanted: &[(u64, Option<u8>, bool)],
+    ) -> Result<bool, AllocError> {
+        let replies = &self.engine.outlet().replies;
+        for (reply, wanted) in replies.iter().zip(wanted.iter()) {
+            if !is_reply::<M>(alloc, reply, *wanted)? {
+                return Ok(false);
+            }
+        }
+        Ok(replies.len() == wanted.len())
+    }
+
+    /// Returns whether all scripts are over.
+    pub fn is_over(&self) -> bool {
+        self.engine.provider().is_over()
+            && self.engine.requests().script.is_over()
+            && self.network.1.is_over()
+    }
+
+    /// Returns whether the requests were closed.
+    pub fn is_closed(&self) -> bool {
+        self.engine.requests().closed
+    }
+}
+
+/// Returns a send of the message of the letter.
+fn sending<M: Letter>(alloc: Global, to: To, letter: u8) -> Result<Sent<u64>, AllocError> {
+    Ok(Sent {
+        recipients: recipients(alloc, to)?,
+        bytes: Items::from_vec(payload::<M>(alloc, letter)?),
+        priority: true,
+    })
+}
+
+/// Returns whether the reply has this ticket, this message, and was delivered or not.
+fn is_reply<M: Letter>(
+    alloc: Global,
+    reply: &Handed<M>,
+    wanted: (u64, Option<u8>, bool),
+) -> Result<bool, AllocError> {
+    let (ticket, letter, delivered) = wanted;
+    let wanted = match letter {
+        Some(letter) => Some(digest::<M>(alloc, letter)?),
+        None => None,
+    };
+    Ok(told::<M>(reply) == (ticket, wanted, delivered))
+}
+
+/// Returns the ticket of the reply, the digest of its message, and whether it was delivered.
+fn told<M: Letter>(reply: &Handed<M>) -> (u64, Option<M::Digest>, bool) {
+    match reply {
+        Replied::Subscribed(it) => (it.ticket, Some(it.reply.digest()), it.delivered),
+        Replied::Got(it) => (it.ticket, got::<M>(&it.reply), it.delivered),
+    }
+}
+
+/// Returns the digest of the message, if there is one.
+fn got<M: Letter>(reply: &Option<Reply<M>>) -> Option<M::Digest> {
+    match reply {
+        Some(reply) => Some(reply.digest()),
+        None => None,
+    }
+}

@@ -1,0 +1,208 @@
+//! Engines whose sources follow a script.
+use super::message::{Letter, To, digest, digested, payload, peers, recipients};
+use broadcast_core::{Items, Set};
+use broadcast_engine::buffered::{Config, Engine, Fixed, Message, NetworkFailed, Reply, Request};
+use broadcast_engine::mocks::{
+    RecordingOutlet, RecordingSender, Replied, Script, ScriptedRequests, Slow,
+};
+use futures::task::Poll;
+use std::alloc::{AllocError, Global};
+use std::num::NonZeroUsize;
+
+/// The result of a poll of the peer sets.
+#[derive(Clone, Copy)]
+pub enum Peered {
+    Later,
+    Set(&'static [u64]),
+    End,
+}
+
+/// The result of a poll of the requests. A request has a responder, which is closed or not.
+#[derive(Clone, Copy)]
+pub enum Asks {
+    Later,
+    Broadcast(To, u8),
+    Subscribe(u8, bool),
+    Get(u8, bool),
+}
+
+/// The result of a poll of the network.
+#[derive(Clone, Copy)]
+pub enum Comes {
+    Later,
+    From(u64, u8),
+    Broken(u64),
+    Failure,
+}
+
+/// What the sources of an engine give.
+#[derive(Clone, Copy)]
+pub struct Sources {
+    pub sets: &'static [Peered],
+    pub requests: &'static [Asks],
+    pub payloads: &'static [Comes],
+    /// How often each job is pending.
+    pub slow: u64,
+    /// After how many looks the engine is to stop.
+    pub stops_after: Option<u64>,
+}
+
+/// The outlet of a scripted engine.
+pub type Outlet<M> = RecordingOutlet<Fixed, Fixed, Reply<M>, Option<Reply<M>>>;
+
+/// A reply of a scripted engine.
+pub type Handed<M> = Replied<Fixed, Fixed, Reply<M>, Option<Reply<M>>>;
+
+/// An engine whose sources follow a script. Its node has key 1, and its lists have ten places.
+pub type Scripted<M> = Engine<
+    u64,
+    M,
+    Fixed,
+    Outlet<M>,
+    Script<Option<Set<u64>>>,
+    ScriptedRequests<Message<u64, M, Fixed, Fixed>>,
+    Slow,
+>;
+
+/// The network of a scripted engine.
+pub type Network = (
+    RecordingSender<u64>,
+    Script<Result<(u64, Items<u8>), NetworkFailed>>,
+);
+
+impl Sources {
+    /// Creates an engine over the sources.
+    pub fn engine<M: Letter>(
+        &self,
+        alloc: Global,
+        codec_config: M::Cfg,
+    ) -> Result<Scripted<M>, AllocError>
+    where
+        M::Cfg: Drop,
+    {
+        let cfg = self.config(alloc, codec_config)?;
+        let script = requests::<M>(alloc, self.requests)?;
+        let requests = ScriptedRequests::new(script, self.stops_after);
+        Ok(Engine::over(alloc, cfg, requests, RecordingOutlet::new(alloc)))
+    }
+
+    /// Creates the configuration of an engine.
+    fn config<C: Drop>(
+        &self,
+        alloc: Global,
+        codec_config: C,
+    ) -> Result<Config<u64, C, Script<Option<Set<u64>>>, Slow>, AllocError> {
+        Ok(Config {
+            public_key: 1,
+            mailbox_size: NonZeroUsize::MIN,
+            deque_size: 10,
+            priority: true,
+            codec_config,
+            peer_provider: sets(alloc, self.sets)?,
+            strategy: Slow { polls: self.slow },
+        })
+    }
+
+    /// Creates the network.
+    pub fn network<M: Letter>(&self, alloc: Global) -> Result<Network, AllocError> {
+        let payloads = payloads::<M>(alloc, self.payloads)?;
+        Ok((RecordingSender::new(alloc), payloads))
+    }
+}
+
+/// Creates the script of peer sets.
+fn sets(alloc: Global, results: &[Peered]) -> Result<Script<Option<Set<u64>>>, AllocError> {
+    let mut polls = Vec::new(alloc);
+    for one in results {
+        polls.push(set(alloc, *one)?)?;
+    }
+    Ok(Script::new(polls))
+}
+
+fn set(alloc: Global, peered: Peered) -> Result<Poll<Option<Set<u64>>>, AllocError> {
+    Ok(match peered {
+        Peered::Later => Poll::Pending,
+        Peered::Set(keys) => Poll::Ready(Some(peers(alloc, keys)?)),
+        Peered::End => Poll::Ready(None),
+    })
+}
+
+/// Creates the script of requests. The ticket of each is its place.
+fn requests<M: Letter>(
+    alloc: Global,
+    results: &[Asks],
+) -> Result<Script<Request<Message<u64, M, Fixed, Fixed>>>, AllocError> {
+    let mut polls = Vec::new(alloc);
+    for (place, one) in results.iter().enumerate() {
+        polls.push(request::<M>(alloc, place as u64, *one)?)?;
+    }
+    Ok(Script::new(polls))
+}
+
+fn request<M: Letter>(
+    alloc: Global,
+    ticket: u64,
+    asks: Asks,
+) -> Result<Poll<Request<Message<u64, M, Fixed, Fixed>>>, AllocError> {
+    let Some(message) = message::<M>(alloc, asks)? else {
+        return Ok(Poll::Pending);
+    };
+    Ok(Poll::Ready(Request {
+        ticket,
+        message,
+        counted: false,
+    }))
+}
+
+fn message<M: Letter>(
+    alloc: Global,
+    asks: Asks,
+) -> Result<Option<Message<u64, M, Fixed, Fixed>>, AllocError> {
+    Ok(match asks {
+        Asks::Later => None,
+        Asks::Broadcast(to, letter) => Some(broadcast::<M>(alloc, to, letter)?),
+        Asks::Subscribe(letter, closed) => {
+            Some(Message::subscribe(digest::<M>(alloc, letter)?, Fixed { closed }))
+        }
+        Asks::Get(letter, closed) => {
+            Some(Message::get(digest::<M>(alloc, letter)?, Fixed { closed }))
+        }
+    })
+}
+
+fn broadcast<M: Letter>(
+    alloc: Global,
+    to: To,
+    letter: u8,
+) -> Result<Message<u64, M, Fixed, Fixed>, AllocError> {
+    let recipients = recipients(alloc, to)?;
+    Ok(Message::broadcast(recipients, digested::<M>(alloc, letter, letter)?))
+}
+
+/// Creates the script of payloads.
+fn payloads<M: Letter>(
+    alloc: Global,
+    results: &[Comes],
+) -> Result<Script<Result<(u64, Items<u8>), NetworkFailed>>, AllocError> {
+    let mut polls = Vec::new(alloc);
+    for one in results {
+        polls.push(received::<M>(alloc, *one)?)?;
+    }
+    Ok(Script::new(polls))
+}
+
+fn received<M: Letter>(
+    alloc: Global,
+    comes: Comes,
+) -> Result<Poll<Result<(u64, Items<u8>), NetworkFailed>>, AllocError> {
+    Ok(match comes {
+        Comes::Later => Poll::Pending,
+        Comes::From(peer, letter) => {
+            Poll::Ready(Ok((peer, Items::from_vec(payload::<M>(alloc, letter)?))))
+        }
+        Comes::Broken(peer) => {
+            Poll::Ready(Ok((peer, Items::from_vec(Vec::from_slice(alloc, &[0xff])?))))
+        }
+        Comes::Failure => Poll::Ready(Err(NetworkFailed)),
+    })
+}
