@@ -15,6 +15,25 @@ RECIPIENTS = ("all", "all", "to:2", "to:3,1,3,4")
 # Contents, and digests by their contents, of the calls of the libraries.
 BYTES = ("5", "6")
 CLOSED = ("", "", "closed")
+# Rows of `replay` whose events an engine is driven over, one at a poll.
+ENGINE_ROWS = (
+    "duplicate-moves-to-front",
+    "size-zero",
+    "ineligible-sender-serves-waiter",
+    "broadcast-before-first-peer-set",
+    "shared-digest-survives",
+    "returning-peer-starts-empty",
+    "repeated-peer-set-changes-nothing",
+    "first-message-of-a-stay-is-kept",
+    "cleanup-then-served-once",
+    "digest-as-handed-in",
+    "self-retrieval",
+)
+# The events of a node of `world` that a hostile peer sends to, with lists of one place.
+HOSTILE = ["peers 1 2 6", "subscribe 7 61", "payload 6 000000000000000161",
+           "payload 6 000000000000000163", *["payload 1 000000000000000161"] * 2]
+# What callers of an engine that ended do.
+AFTERWARDS = ["broadcast - 61", "subscribe 9 61", "get 9 61", "drive 1"]
 SIZES = ("1", "1", "2")
 # What each list of steps begins with.
 WORLD = ["peers 1 1 2 9", "peers 2 1 2 9", "broadcast 1 all - 61", "broadcast 2 to:1 01 62"]
@@ -74,8 +93,7 @@ def lists(seed, first, count, line_of):
     rng = random.Random(seed)
     for number in range(LISTS):
         lines = [*first, *(line_of(rng) for _ in range(count))]
-        stdin = "".join(f"{line}\n" for line in lines).encode()
-        yield f"generated list {number}", str(rng.randrange(4)).encode(), stdin
+        yield f"generated list {number}", str(rng.randrange(4)).encode(), stdin_of(lines)
 
 
 def of_replay():
@@ -125,12 +143,80 @@ def with_close(rng, lines):
     return [*lines[:-2], "close", *lines[-2:]] if rng.randrange(4) == 0 else lines
 
 
+def engine_call(rng):
+    """A line of an engine. What the sources give stands among the calls, each in its own order."""
+    kind = rng.choice(("set", "no_set", "no_set", "payload", "payload", "no_payload", "call", "call",
+                       "call", "call", "drop", "drive", "drive", "drive"))
+    if kind == "set":
+        return rng.choice((with_words(kind, keys(rng)), with_words(kind, keys(rng)), "end"))
+    if kind == "payload":
+        return "fail" if rng.randrange(10) == 0 else f"payload {rng.choice(KEYS)} {payload(rng)}"
+    if kind == "call":
+        event = rng.choice(("broadcast", "subscribe", "subscribe", "get"))
+        if event == "broadcast":
+            return f"broadcast {rng.choice(COMMITMENTS)} {content(rng)}"
+        return f"{event} {rng.choice(TICKETS)} {content(rng)}"
+    if kind == "drop":
+        return f"drop {rng.randrange(3)}"
+    return f"drive {rng.randrange(1, 4)}" if kind == "drive" else kind
+
+
+def at_a_poll(line, asked):
+    """The lines of an event that an engine takes at one poll. `asked` has the tickets so far."""
+    kind, *words = line.split(" ")
+    if kind == "peers":
+        return [with_words("set", *words), "drive 1"]
+    if kind == "payload":
+        return ["no_set", line, "drive 1"]
+    if kind == "cleanup":
+        gone = [f"drop {at}" for at, ticket in enumerate(asked) if ticket in words]
+        return ["no_set", "no_payload", *gone, "drive 1"]
+    if kind == "broadcast":
+        return ["no_set", with_words(kind, *words[1:]), "drive 1"]
+    asked.append(words[0])
+    return ["no_set", line, "drive 1"]
+
+
+def engine_over(size, events):
+    """The lines of an engine that takes the events, one at a poll."""
+    asked = []
+    polls = [line for event in events for line in at_a_poll(event, asked)]
+    return [f"engine {size} 99 1", *polls]
+
+
+def failing(lines):
+    """The lines with each poll of a source in turn at which the source ends or fails."""
+    for at, line in enumerate(lines):
+        kind = line.split(" ")[0]
+        if kind in ("set", "no_set", "payload", "no_payload"):
+            end = "end" if kind in ("set", "no_set") else "fail"
+            yield f"{end} in line {at + 1}", [*lines[:at], end, *lines[at + 1 :], *AFTERWARDS]
+
+
+def of_engine_rows(rows):
+    """Names and inputs of `growths`: the events of rows, and sources that end or fail."""
+    yield "engine hostile", stdin_of(engine_over(1, HOSTILE))
+    for row in rows:
+        if row.name in ENGINE_ROWS:
+            lines = engine_over(int(row.args[1]), row.stdin.decode().splitlines())
+            yield f"engine {row.name}", stdin_of(lines)
+            if row.name == "cleanup-then-served-once":
+                for name, changed in failing(lines):
+                    yield f"engine {row.name}, {name}", stdin_of(changed)
+
+
+def stdin_of(lines):
+    return "".join(f"{line}\n" for line in lines).encode()
+
+
 # Of each kind of list its first line, the further ones and how many of them are drawn.
 CALLS = {
     "core": (lambda rng: f"core {rng.randrange(3)}", ["peers 1 2"], core_call, 8),
     "overflow": (lambda _: "overflow", [], request, 9),
     "inbox": (lambda rng: f"inbox {rng.choice(SIZES)}", [], inbox_call, 12),
     "mailbox": (lambda rng: f"mailbox {rng.choice(SIZES)}", [], mailbox_call, 9),
+    "engine": (lambda rng: f"engine {rng.randrange(3)} 3 {rng.choice(SIZES)}", ["set 1 2"],
+               engine_call, 24),
 }
 
 
@@ -142,5 +228,6 @@ def of_calls():
             lines = [heading(rng), *first, *(call(rng) for _ in range(count))]
             if kind in ("inbox", "mailbox"):
                 lines = with_close(rng, lines)
-            stdin = "".join(f"{line}\n" for line in lines).encode()
-            yield f"generated {kind} {number}", stdin
+            if kind == "engine":
+                lines += ["drive 9", *(f"get 9 {content}" for content in CONTENTS), "drive 3"]
+            yield f"generated {kind} {number}", stdin_of(lines)

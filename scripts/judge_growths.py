@@ -6,48 +6,14 @@ It reads the same list of calls, and makes each of them on a model. Wherever a c
 
 from dataclasses import dataclass
 
+import judge_engine
 import replay_model as model
+from inbox_model import Asked, Inbox
 from judge_program import MEMORY
+from judged_lines import Lines, Wrong
 
 # The keys and the contents that the program shows.
 KEYS, CONTENTS = range(4), range(10)
-
-
-class Wrong(Exception):
-    """What is wrong with a line."""
-
-
-class Lines:
-    """The lines of a run, and how many refusals were seen."""
-
-    def __init__(self, text):
-        self.lines = text.decode(errors="replace").split("\n")
-        self.at = 0
-        self.refusals = 0
-
-    def peek(self):
-        return self.lines[self.at]
-
-    def next(self):
-        self.at += 1
-        return self.lines[self.at - 1]
-
-    def expect(self, right):
-        line = self.next()
-        if line != right:
-            raise Wrong(f"line {self.at} is {line!r}, not {right!r}")
-
-    def is_refused(self, text):
-        """Whether the next line is this refusal."""
-        if self.peek() != text:
-            return False
-        self.at += 1
-        self.refusals += 1
-        return True
-
-    def end(self):
-        if self.lines[self.at :] != [""]:
-            raise Wrong(f"line {self.at + 1} is {self.peek()!r}, not the end")
 
 
 def digest(content):
@@ -136,18 +102,6 @@ def judge_core(lines, calls, size):
         expect_core(lines, core)
 
 
-@dataclass
-class Asked:
-    """A request, with what it asks and whether its responder is closed."""
-
-    text: str
-    closed: bool
-
-    @staticmethod
-    def of(words):
-        return Asked(" ".join(words[:2]), words[-1] == "closed")
-
-
 def judge_overflow(lines, calls):
     waiting = []
     for words in calls:
@@ -158,70 +112,6 @@ def judge_overflow(lines, calls):
         waiting += [] if asked.closed else [asked.text]
         lines.expect(f"handle {asked.text} ok {len(waiting)}")
     lines.expect(" ".join(["drain", *waiting, "empty"]))
-
-
-class Inbox:
-    """An inbox whose ready list has so many places: requests with their tickets."""
-
-    def __init__(self, places):
-        self.places = places
-        self.ready, self.overflow, self.closed = [], [], False
-        self.accepted = self.taken = self.skipped = self.given_up = 0
-
-    def place(self, asked):
-        """Where the request goes, and whether it may be refused."""
-        if self.closed:
-            return "closed", False
-        if len(self.ready) < self.places and not self.overflow:
-            return "ready", True
-        return ("skipped", False) if asked.closed else ("overflow", True)
-
-    def enqueue(self, asked):
-        """Queues the request, and returns where, with its ticket."""
-        place, _ = self.place(asked)
-        if place == "closed":
-            return place
-        ticket = self.accepted
-        self.accepted += 1
-        if place == "skipped":
-            self.skipped += 1
-        else:
-            queue = self.ready if place == "ready" else self.overflow
-            queue.append((ticket, asked))
-        return f"{place} {ticket}"
-
-    def take(self):
-        if not self.ready:
-            return "none"
-        ticket, asked = self.ready.pop(0)
-        self.taken += 1
-        while self.overflow and (self.overflow[0][1].closed or len(self.ready) < self.places):
-            first = self.overflow.pop(0)
-            if first[1].closed:
-                self.skipped += 1
-            else:
-                self.ready.append(first)
-        return f"{ticket} {asked.text}"
-
-    def waiting(self):
-        return [*self.ready, *self.overflow]
-
-    def drop_futures(self):
-        """Closes the requests whose callers are gone: all that waits for a reply."""
-        for _, asked in self.waiting():
-            asked.closed = not asked.text.startswith("broadcast")
-
-    def close(self):
-        gone = len(self.waiting())
-        self.ready, self.overflow, self.closed = [], [], True
-        self.given_up += gone
-        return gone
-
-    def counts(self):
-        return (
-            f"  accepted {self.accepted} taken {self.taken} skipped {self.skipped} "
-            f"waiting {len(self.waiting())} given_up {self.given_up}"
-        )
 
 
 def judge_inbox(lines, calls, places):
@@ -276,6 +166,7 @@ JUDGES = {
     "overflow": judge_overflow,
     "inbox": judge_inbox,
     "mailbox": judge_mailbox,
+    "engine": judge_engine.judge,
 }
 
 

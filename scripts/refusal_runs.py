@@ -1,6 +1,7 @@
 """Runs of a built program that is refused some growths of its heap, some reads or some writes."""
 
 import functools
+import mmap
 import multiprocessing
 import os
 import random
@@ -21,8 +22,15 @@ WINDOW = 4
 STRETCH = 16
 # How a read or a write goes wrong.
 FAILURES = ("fails", "is interrupted", "is short")
-# Seconds after which a run is killed.
-LIMIT = 60
+# The number of a growth that no run has.
+NEVER = 2**64 - 1
+# What a run is refused if nothing else is asked, in the order of the library.
+NOTHING = {
+    "first": NEVER, "last": NEVER, "seed": 0, "failed_read": 0, "failed_write": 0, "failure": 0,
+    "most_bytes": NEVER,
+}
+# The numbers of the open files through which a process is asked for runs, and answers.
+ASKED, ANSWERED = 100, 101
 
 
 @dataclass(frozen=True)
@@ -42,9 +50,8 @@ class Refused:
         half = "" if self.seed is None else f"one half (seed {self.seed}) of "
         return f"{half}growths {self.first} to {self.last or 'the end'} are refused"
 
-    def variables(self):
-        seed = {} if self.seed is None else {"REFUSED_SEED": str(self.seed)}
-        return {"REFUSED_GROWTHS": f"{self.first}-{self.last or ''}", **seed}
+    def asked(self):
+        return {"first": self.first, "last": self.last or NEVER, "seed": self.seed or 0}
 
 
 def alone(count, before=0):
@@ -78,10 +85,9 @@ class Failed:
     def __str__(self):
         return f"{self.call} {self.number} {self.failure}"
 
-    def variables(self):
+    def asked(self):
         # The library looks at the first letter of the last word.
-        how = self.failure.split()[-1]
-        return {f"FAILED_{self.call.upper()}": str(self.number), "FAILURE": how}
+        return {f"failed_{self.call}": self.number, "failure": ord(self.failure.split()[-1][0])}
 
 
 def failures_of(ample):
@@ -105,18 +111,32 @@ class Ran:
     writes: int = 0
 
 
-def wait(child):
-    """Waits for the child, and kills it at the limit. Returns how it ended."""
+class Process:
+    """A process that runs a program again and again, each time refused something."""
 
-    def kill(*_):
-        os.kill(child, signal.SIGKILL)
+    def __init__(self, executable, words, variables, streams):
+        asked, self.asked = os.pipe()
+        self.answered, answered = os.pipe()
+        files = {**streams, ASKED: asked, ANSWERED: answered}
+        actions = [(os.POSIX_SPAWN_DUP2, opened, file) for file, opened in files.items()]
+        # Python ignores the signal of a closed pipe, and a child would too.
+        how = {"file_actions": actions, "setsigdef": [signal.SIGPIPE]}
+        self.child = os.posix_spawn(executable, words, {**variables, "RUNS": str(ASKED)}, **how)
+        os.close(asked)
+        os.close(answered)
 
-    signal.signal(signal.SIGALRM, kill)
-    signal.alarm(LIMIT)
-    try:
-        return os.waitpid(child, 0)[1]
-    finally:
-        signal.alarm(0)
+    def run(self, asked):
+        """Runs the program, refused what is asked. Returns how the run ended."""
+        os.write(self.asked, struct.pack("7Q", *asked.values()))
+        answer = os.read(self.answered, 4)
+        if len(answer) < 4:
+            raise OSError("the process of a program ended, which should run it again and again")
+        return os.waitstatus_to_exitcode(*struct.unpack("i", answer))
+
+    def end(self):
+        os.close(self.asked)
+        os.close(self.answered)
+        os.waitpid(self.child, 0)
 
 
 class Harness:
@@ -124,45 +144,58 @@ class Harness:
 
     def __enter__(self):
         self.folder = tempfile.TemporaryDirectory(prefix="refusals_")
-        at = Path(self.folder.name)
-        self.library = at / "refuse.so"
+        library = Path(self.folder.name) / "refuse.so"
         compiler = os.environ.get("CC", "cc")
         flags = ["-O2", "-Wall", "-Werror", "-shared", "-fPIC"]
-        subprocess.run([compiler, *flags, "-o", self.library, HERE / "refuse.c"], check=True)
-        self.counts = at / "counts"
-        self.input = at / "input"
-        self.streams = [os.memfd_create(name) for name in ("stdout", "stderr")]
+        subprocess.run([compiler, *flags, "-o", library, HERE / "refuse.c"], check=True)
+        self.input, *self.streams = map(os.memfd_create, ("stdin", "stdout", "stderr"))
+        self.counts_file = os.memfd_create("counts")
+        os.ftruncate(self.counts_file, 32)
+        self.counts = mmap.mmap(self.counts_file, 32)
+        counts = f"/proc/{os.getpid()}/fd/{self.counts_file}"
+        self.variables = {"LD_PRELOAD": str(library), "COUNTS_FILE": counts}
+        self.process, self.of_process = None, None
         return self
 
     def __exit__(self, *_):
-        for stream in self.streams:
-            os.close(stream)
+        self.end_process()
+        self.counts.close()
+        for file in (self.input, *self.streams, self.counts_file):
+            os.close(file)
         self.folder.cleanup()
+
+    def end_process(self):
+        if self.process:
+            self.process.end()
+        self.process = None
 
     def give(self, data):
         """Makes these bytes the standard input of the runs that follow."""
-        self.input.write_bytes(data)
+        os.ftruncate(self.input, 0)
+        os.pwrite(self.input, data, 0)
+
+    def process_of(self, executable, args, devices):
+        """The process of this program, its arguments and the devices that are its streams."""
+        wanted = (executable, tuple(args), tuple(sorted(devices.items())))
+        if not self.process or self.of_process != wanted:
+            self.end_process()
+            streams = {**dict(enumerate((self.input, *self.streams))), **devices}
+            words = [os.fspath(executable), *args]
+            self.process = Process(executable, words, self.variables, streams)
+            self.of_process = wanted
+        return self.process
 
     def run(self, executable, args, refusal=None, most_bytes=None, devices=None):
         """Runs the program, whose streams are these devices where they name one."""
-        variables = {"LD_PRELOAD": str(self.library), "COUNTS_FILE": str(self.counts)}
-        variables |= refusal.variables() if refusal else {}
-        variables |= {"MOST_BYTES": str(most_bytes)} if most_bytes else {}
-        self.counts.write_bytes(bytes(32))
-        actions = [(os.POSIX_SPAWN_OPEN, 0, self.input, os.O_RDONLY, 0)]
-        for file, stream in enumerate(self.streams, 1):
+        for stream in self.streams:
             os.ftruncate(stream, 0)
             os.lseek(stream, 0, os.SEEK_SET)
-            actions.append((os.POSIX_SPAWN_DUP2, stream, file))
-        for file, device in (devices or {}).items():
-            actions.append((os.POSIX_SPAWN_DUP2, device, file))
-        words = [os.fspath(executable), *args]
-        # Python ignores the signal of a closed pipe, and a child would too.
-        how = {"file_actions": actions, "setsigdef": [signal.SIGPIPE]}
-        ended = wait(os.posix_spawn(executable, words, variables, **how))
+        self.counts[:] = bytes(32)
+        asked = {**NOTHING, **(refusal.asked() if refusal else {})}
+        asked["most_bytes"] = most_bytes or NEVER
+        status = self.process_of(executable, args, devices or {}).run(asked)
         stdout, stderr = (os.pread(it, os.fstat(it).st_size, 0) for it in self.streams)
-        counts = struct.unpack("4Q", self.counts.read_bytes())
-        return Ran(stdout, stderr, os.waitstatus_to_exitcode(ended), *counts)
+        return Ran(stdout, stderr, status, *struct.unpack("4Q", self.counts))
 
 
 def tally_of(try_build, build):

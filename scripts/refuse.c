@@ -2,15 +2,11 @@
 //
 // Stands before the C library, as LD_PRELOAD=.../refuse.so PROGRAM, with the variables:
 //
-//   REFUSED_GROWTHS  N-M refuses the Nth growth of the heap, from 1 on, to the Mth; N- all from the
-//                    Nth on
-//   REFUSED_SEED     each of these is refused with probability one half, drawn from this number
-//   FAILED_READ      N: the Nth read of standard input, from 1 on, goes wrong
-//   FAILED_WRITE     N: the Nth write to standard output or standard error goes wrong
-//   FAILURE          how it goes wrong: it fails, is interrupted, or is short and moves one byte
-//   MOST_BYTES       the most bytes that such a read or write moves
-//   COUNTS_FILE      an existing file of 32 bytes, which gets the numbers of growths, of refused
-//                    growths, of reads and of writes, also of a program that aborts
+//   COUNTS_FILE   an existing file of 32 bytes, which gets the numbers of growths, of refused
+//                 growths, of reads and of writes, also of a program that aborts
+//   RUNS          N: a number of an open file. Before `main` the process reads from it what a run is
+//                 refused, forks, lets the child run as the program, and writes to file N + 1 how it
+//                 ended; then the next. So the program is started once for many runs.
 //
 // A growth is a request for a new block, or for more bytes than a block was requested with. A block
 // keeps its size and its distance from the C library's block in the 16 bytes before it.
@@ -22,6 +18,7 @@
 #include <string.h>
 #include <sys/mman.h>
 #include <sys/syscall.h>
+#include <sys/wait.h>
 #include <unistd.h>
 
 // The C library's own functions, under the names that stay once ours stand before them.
@@ -37,30 +34,20 @@ typedef struct {
     uint64_t growths, refused, reads, writes;
 } counts;
 
-static counts *seen, unseen;
-static uint64_t first = UINT64_MAX, last = UINT64_MAX, seed;
-static uint64_t failed_read, failed_write, most_bytes = UINT64_MAX;
-static const char *failure;
+// What a run is refused: the growths of the heap from the first to the last, counted from 1 on, with
+// a seed each of them with probability one half; the read of standard input and the write to standard
+// output or standard error that go wrong, and how, by a letter: it fails, is interrupted, or is short
+// and moves one byte; the most bytes that such a read or write moves.
+typedef struct {
+    uint64_t first, last, seed, failed_read, failed_write, failure, most_bytes;
+} refusal;
 
-static void set(uint64_t *number, const char *name) {
-    const char *word = getenv(name);
-    if (word) *number = strtoull(word, 0, 10);
-}
+static counts *seen, unseen;
+static refusal refused = {UINT64_MAX, UINT64_MAX, 0, 0, 0, 0, UINT64_MAX};
 
 static void begin(void) {
     if (seen) return;
     seen = &unseen;
-    const char *range = getenv("REFUSED_GROWTHS");
-    if (range) {
-        char *rest;
-        first = strtoull(range, &rest, 10);
-        if (rest[1]) last = strtoull(rest + 1, 0, 10);
-    }
-    set(&seed, "REFUSED_SEED");
-    set(&failed_read, "FAILED_READ");
-    set(&failed_write, "FAILED_WRITE");
-    set(&most_bytes, "MOST_BYTES");
-    failure = getenv("FAILURE");
     const char *path = getenv("COUNTS_FILE");
     int file = path ? open(path, O_RDWR | O_CLOEXEC) : -1;
     if (file < 0) return;
@@ -69,10 +56,33 @@ static void begin(void) {
     close(file);
 }
 
+// Seconds after which a run is killed.
+enum { LIMIT = 60 };
+
+__attribute__((constructor)) static void serve(void) {
+    const char *word = getenv("RUNS");
+    if (!word) return;
+    begin();
+    int file = atoi(word), ended;
+    while (syscall(SYS_read, file, &refused, sizeof refused) == sizeof refused) {
+        pid_t child = fork();
+        if (!child) {
+            close(file);
+            close(file + 1);
+            lseek(STDIN_FILENO, 0, SEEK_SET);
+            alarm(LIMIT);
+            return;
+        }
+        if (child < 0 || waitpid(child, &ended, 0) != child) _exit(1);
+        if (syscall(SYS_write, file + 1, &ended, sizeof ended) != sizeof ended) _exit(1);
+    }
+    _exit(0);
+}
+
 // Whether a growth of this number is refused with this seed; none counts as always.
 static int falls(uint64_t number) {
-    if (!seed) return 1;
-    uint64_t mixed = seed * 0x9e3779b97f4a7c15 + number * 0xd1b54a32d192ed03;
+    if (!refused.seed) return 1;
+    uint64_t mixed = refused.seed * 0x9e3779b97f4a7c15 + number * 0xd1b54a32d192ed03;
     mixed = (mixed ^ mixed >> 30) * 0xbf58476d1ce4e5b9;
     mixed = (mixed ^ mixed >> 27) * 0x94d049bb133111eb;
     return (mixed ^ mixed >> 31) & 1;
@@ -81,9 +91,9 @@ static int falls(uint64_t number) {
 static int is_refused(void) {
     begin();
     uint64_t number = __atomic_add_fetch(&seen->growths, 1, __ATOMIC_SEQ_CST);
-    int refused = first <= number && number <= last && falls(number);
-    __atomic_add_fetch(&seen->refused, refused, __ATOMIC_SEQ_CST);
-    return refused;
+    int is_one = refused.first <= number && number <= refused.last && falls(number);
+    __atomic_add_fetch(&seen->refused, is_one, __ATOMIC_SEQ_CST);
+    return is_one;
 }
 
 static void *block(size_t size, size_t align) {
@@ -142,24 +152,24 @@ int posix_memalign(void **given, size_t align, size_t size) {
 
 // Makes a read or a write, which goes wrong if it is the failing one.
 static ssize_t move(long call, int is_failing, int file, const void *bytes, size_t count) {
-    if (is_failing && *failure != 's') {
-        errno = *failure == 'i' ? EINTR : EIO;
+    if (is_failing && refused.failure != 's') {
+        errno = refused.failure == 'i' ? EINTR : EIO;
         return -1;
     }
-    size_t most = is_failing ? 1 : most_bytes;
+    size_t most = is_failing ? 1 : refused.most_bytes;
     return syscall(call, file, bytes, count < most ? count : most);
 }
 
 ssize_t read(int file, void *to, size_t count) {
     begin();
     if (file == STDIN_FILENO)
-        return move(SYS_read, ++seen->reads == failed_read, file, to, count);
+        return move(SYS_read, ++seen->reads == refused.failed_read, file, to, count);
     return syscall(SYS_read, file, to, count);
 }
 
 ssize_t write(int file, const void *from, size_t count) {
     begin();
     if (file == STDOUT_FILENO || file == STDERR_FILENO)
-        return move(SYS_write, ++seen->writes == failed_write, file, from, count);
+        return move(SYS_write, ++seen->writes == refused.failed_write, file, from, count);
     return syscall(SYS_write, file, from, count);
 }

@@ -250,6 +250,16 @@ def refusal_of(part, words, line):
     return f"{first} memory" if first in ("broadcast", "subscribe", "get") else None
 
 
+def effects_of_drives(lines):
+    """Outputs in which a turn of an engine is refused and has its effect."""
+    for at, line in enumerate(lines):
+        turns = line.split(" ")
+        for place, turn in enumerate(turns):
+            if turns[0] == "drive" and turn.startswith(("broadcast:", "payload:")):
+                changed = " ".join([*turns[:place], "refused", *turns[place + 1 :]])
+                yield at + 1, [*lines[:at], changed, *lines[at + 1 :]]
+
+
 def effects_of(part, calls, lines):
     """Outputs in which a call is refused and has its effect, with the number of its line.
 
@@ -276,9 +286,13 @@ def effects_of(part, calls, lines):
 def unseen_of_effects(judge, ample):
     """The lines that the judge does not find if they are refused and have their effect."""
     lines = ample.stdout.decode().split("\n")
-    for at, changed in effects_of(judge.part, judge.calls, lines):
+    if judge.part == "engine":
+        effects, last = effects_of_drives(lines), len(lines)
+    else:
+        effects, last = effects_of(judge.part, judge.calls, lines), 0
+    for at, changed in effects:
         fault = judge.fault(Ran("\n".join(changed).encode(), b"", 0, refused=1), REFUSED)
-        if not fault or not is_about(fault, at, at + 1):
+        if not fault or not is_about(fault, at, last or at + 1):
             yield f"line {at}, {lines[at - 1]}, is refused and has an effect"
 
 

@@ -10,14 +10,17 @@ use std::num::NonZeroUsize;
 /// What is called, with its size.
 #[derive(Clone, Copy, Debug, PartialEq, Eq)]
 pub enum Part {
-    /// A core whose lists have at most so many digests.
+    /// A core with this `deque_size`.
     Core(usize),
     /// An overflow.
     Overflow,
-    /// An inbox whose ready list has so many places.
+    /// An inbox whose ready list has this number of places.
     Inbox(NonZeroUsize),
-    /// A mailbox whose ready list has so many places.
+    /// A mailbox whose ready list has this number of places.
     Mailbox(NonZeroUsize),
+    /// An engine with this `deque_size`, number of places in its mailbox's ready list, and greatest
+    /// length that it decodes.
+    Engine(usize, NonZeroUsize, usize),
 }
 
 /// A call with what it is given.
@@ -41,8 +44,15 @@ fn parse_part(line: &[u8]) -> Result<Part, LineError> {
         b"overflow" => Ok(Part::Overflow),
         b"inbox" => Ok(Part::Inbox(places_of(words)?)),
         b"mailbox" => Ok(Part::Mailbox(places_of(words)?)),
+        b"engine" => engine_of(words),
         _ => Err(LineError::Syntax),
     }
+}
+
+fn engine_of(mut words: Words<'_>) -> Result<Part, LineError> {
+    let size = number(&mut words)? as usize;
+    let greatest = number(&mut words)? as usize;
+    Ok(Part::Engine(size, places_of(words)?, greatest))
 }
 
 fn size_of(mut words: Words<'_>) -> Result<usize, LineError> {

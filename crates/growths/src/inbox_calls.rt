@@ -30,7 +30,7 @@ impl Call for Ready {
     }
 }
 
-/// Makes the calls of an inbox whose ready list has so many places, and writes what they return,
+/// Makes the calls of an inbox whose ready list has `places` places, and writes what they return,
 /// and where the requests went.
 pub fn show<W: Write>(
     alloc: Global,

@@ -61,7 +61,7 @@ struct Held {
     gets: Vec<Get<TestMessage>>,
 }
 
-/// Makes the calls of a mailbox whose ready list has so many places, and writes what they return,
+/// Makes the calls of a mailbox whose ready list has `places` places, and writes what they return,
 /// and where the requests went.
 pub fn show<R: Wait + Clone + Send + Drop + 'static, W: Write>(
     rt: &R,
@@ -137,7 +137,12 @@ fn make<R: Wait + Clone + Send + Drop + 'static, W: Write>(
     }
 }
 
-fn write_told<W: Write>(out: &mut Printer<W>, call: &str, told: Result<Feedback, MailboxError>) {
+/// Writes what a call returned.
+pub fn write_told<W: Write>(
+    out: &mut Printer<W>,
+    call: &str,
+    told: Result<Feedback, MailboxError>,
+) {
     out.text(call);
     out.text(" ");
     out.line(word_of(told));

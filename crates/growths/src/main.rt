@@ -2,16 +2,21 @@
 //! returned and what is left. The gate runs it with growths of its heap refused, and judges what it
 //! prints.
 //!
-//! The first line names what is called, and its size: `core SIZE`, `overflow`, `inbox SIZE` or
-//! `mailbox SIZE`. Each further line is a call. A content is a byte, and stands for its digest where
-//! one is asked for.
+//! The first line names what is called, with its sizes: `core SIZE`, `overflow`, `inbox PLACES`,
+//! `mailbox PLACES` or `engine SIZE MAX PLACES`. Each further line is a call. A content is a byte,
+//! and stands for its digest where a digest is asked for. Of an engine, messages and contents are
+//! spelled as in `docs/REPLAY.md`.
 //!
-//! | Of | Lines |
-//! |---|---|
-//! | `core` | `peers KEY..`, `take KEY CONTENT DIGEST`, `take_own CONTENT DIGEST`, `subscribe TICKET DIGEST [closed]`, `cleanup TICKET..`, `cleanup_by` |
-//! | `overflow` | `broadcast CONTENT`, `subscribe DIGEST [closed]`, `get DIGEST [closed]` |
-//! | `inbox` | the same, `take`, `request_stop`, `close` |
-//! | `mailbox` | `broadcast CONTENT`, `subscribe DIGEST`, `get DIGEST`, `clone`, `drop`, `take`, `close` |
+//! - `core`: `peers KEY..`, `take KEY CONTENT DIGEST`, `take_own CONTENT DIGEST`,
+//!   `subscribe TICKET DIGEST [closed]`, `cleanup TICKET..`, `cleanup_by`
+//! - `overflow`: `broadcast CONTENT`, `subscribe DIGEST [closed]`, `get DIGEST [closed]`
+//! - `inbox`: the same, `take`, `request_stop`, `close`
+//! - `mailbox`: `broadcast CONTENT`, `subscribe DIGEST`, `get DIGEST`, `clone`, `drop` (of all
+//!   futures), `take`, `close`
+//! - `engine`: `broadcast COMMITMENT CONTENT [as:CONTENT]`, `subscribe TICKET CONTENT`,
+//!   `get TICKET CONTENT`, `drop NUMBER` (of a future, from 0 on), `drive LIMIT`; and what each
+//!   poll of the peer sets gives (`set KEY..`, `no_set`, `end`), and each poll of the network
+//!   (`payload KEY BYTES`, `no_payload`, `fail`), in order
 //!
 //! What the calls are given is made before the first of them. If that fails, the program ends with a
 //! fault and prints nothing. Printing does not allocate.
@@ -19,6 +24,9 @@
 
 mod calls;
 mod core_calls;
+mod engine;
+mod engine_calls;
+mod engine_show;
 mod inbox_calls;
 mod mailbox_calls;
 mod material;
@@ -27,12 +35,15 @@ mod printer;
 mod requests;
 mod show;
 
+use broadcast_core::{RangeCfg, TestMessage};
 use broadcast_text::fault::Fault;
 use broadcast_text::lines::Lines;
 use calls::{Part, read_calls, read_part};
+use engine::Settings;
 use printer::Printer;
 use std::io::{BufWriter, Read, Write};
 use std::process::ExitCode;
+use std::random::RandomSource;
 use std::sync::Wait;
 
 /// How many bytes are written at once.
@@ -47,11 +58,11 @@ fn main(rt: HostRuntime) -> ExitCode {
 }
 
 /// Reads the calls, makes them, and prints what comes of it.
-fn play<H: Wait + Clone + Send + Drop + AllocGlobal + 'static, R: Read + Drop, W: Write + Drop>(
-    rt: &H,
-    reader: R,
-    out: W,
-) -> Result<(), Fault> {
+fn play<
+    H: Wait + RandomSource + Clone + Send + Drop + AllocGlobal + 'static,
+    R: Read + Drop,
+    W: Write + Drop,
+>(rt: &H, reader: R, out: W) -> Result<(), Fault> {
     let Ok(out) = BufWriter::with_capacity(rt.alloc(), BUFFER_LEN, out) else {
         return Err(Fault::Memory);
     };
@@ -61,11 +72,11 @@ fn play<H: Wait + Clone + Send + Drop + AllocGlobal + 'static, R: Read + Drop, W
     if out.end() { Ok(()) } else { Err(Fault::Write) }
 }
 
-fn make_calls<H: Wait + Clone + Send + Drop + AllocGlobal + 'static, R: Read + Drop, W: Write>(
-    rt: &H,
-    lines: &mut Lines<R>,
-    out: &mut Printer<W>,
-) -> Result<(), Fault> {
+fn make_calls<
+    H: Wait + RandomSource + Clone + Send + Drop + AllocGlobal + 'static,
+    R: Read + Drop,
+    W: Write,
+>(rt: &H, lines: &mut Lines<R>, out: &mut Printer<W>) -> Result<(), Fault> {
     let alloc = rt.alloc();
     match read_part(lines)? {
         Part::Core(size) => core_calls::show(alloc, out, size, read_calls(alloc, lines)?),
@@ -73,6 +84,15 @@ fn make_calls<H: Wait + Clone + Send + Drop + AllocGlobal + 'static, R: Read + D
         Part::Inbox(size) => inbox_calls::show(alloc, out, size, read_calls(alloc, lines)?),
         Part::Mailbox(size) => {
             mailbox_calls::show(rt, alloc, out, size, read_calls(alloc, lines)?)?;
+        }
+        Part::Engine(deque_size, places, greatest) => {
+            let settings = Settings {
+                deque_size,
+                places,
+                codec_config: RangeCfg::new(0, greatest),
+            };
+            let lines = read_calls(alloc, lines)?;
+            engine::show::<TestMessage, H, W>(rt, out, settings, lines)?;
         }
     }
     Ok(())

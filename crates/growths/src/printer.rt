@@ -1,4 +1,5 @@
 //! Text on its way out.
+use broadcast_text::byte_list::write_spaced;
 use std::io::Write;
 
 /// Prints to a stream, and remembers whether a write failed.
@@ -39,6 +40,13 @@ impl<W: Write> Printer<W> {
         self.text(word);
         self.text(" ");
         self.number(number);
+    }
+
+    /// Prints a space and the bytes, in hexadecimal.
+    pub fn bytes(&mut self, bytes: &[u8]) {
+        if write_spaced(&mut self.out, bytes).is_err() {
+            self.failed = true;
+        }
     }
 
     /// Flushes the stream. Returns whether all was written.
