@@ -8,7 +8,8 @@ use futures::task::{Poll, Solo};
 use std::alloc::{AllocError, Global};
 use std::marker::Model;
 
-/// An engine with its network. Nothing is known of its state, which keeps the proofs of tests small.
+/// An engine with its network. Nothing is known of its state, and it is kept in a box: so the
+/// proofs of its tests are small.
 #[derive(Drop)]
 pub struct Driven<M: Digestible + Codec> {
     engine: Scripted<M>,
@@ -26,12 +27,14 @@ where
     M::Cfg: Drop,
 {
     /// Creates an engine over the sources.
-    pub fn new(alloc: Global, sources: &Sources, codec_config: M::Cfg) -> Result<Self, AllocError> {
+    pub fn new(
+        alloc: Global,
+        sources: &Sources,
+        codec_config: M::Cfg,
+    ) -> Result<Box<Self>, AllocError> {
         let network = sources.network::<M>(alloc)?;
-        Ok(Driven {
-            engine: sources.engine::<M>(alloc, codec_config)?,
-            network,
-        })
+        let engine = sources.engine::<M>(alloc, codec_config)?;
+        Ok(Box::new(alloc, Driven { engine, network })?)
     }
 
     /// Drives the engine. Returns its turns.

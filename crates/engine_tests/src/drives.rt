@@ -258,7 +258,7 @@ where
     M: Letter,
     M::Cfg: Drop,
 {
-    let mut driven: Driven<M> = Driven::new(alloc, &row.sources, codec_config)?;
+    let mut driven: Box<Driven<M>> = Driven::new(alloc, &row.sources, codec_config)?;
     let as_told = row.goes(alloc, task, &mut driven)?;
     Ok(as_told.or(row.left(&driven)))
 }

@@ -36,19 +36,25 @@ impl<M: Digestible + Codec, R: Wait> Model for Node<M, R> {
 }
 
 impl<M: Letter, R: Wait + Clone + Drop> Node<M, R> {
-    /// Creates the node, and adds its mailbox to the others.
-    pub fn new(
+    /// Creates a node, and adds it and its mailbox to the others.
+    pub fn add(
         rt: &R,
         cfg: Config<u64, M::Cfg, Peers, Gated>,
+        nodes: &mut Vec<Self>,
         mailboxes: &mut Vec<Mailbox<u64, M, R>>,
-    ) -> Result<Self, AllocError>
+    ) -> Result<(), AllocError>
     where
         R: AllocGlobal,
         M::Cfg: Drop,
     {
-        let (engine, mailbox) = Engine::new(rt.clone()?, rt.alloc(), cfg)?;
-        mailboxes.push(mailbox)?;
-        Ok(Node { engine })
+        let own = rt.clone()?;
+        // With room for both, nothing can fail while the engine is at hand.
+        nodes.reserve(1)?;
+        mailboxes.reserve(1)?;
+        let (engine, mailbox) = Engine::new(own, rt.alloc(), cfg)?;
+        mailboxes.push_reserved(mailbox);
+        nodes.push_reserved(Node { engine });
+        Ok(())
     }
 
     /// Polls the engine once.

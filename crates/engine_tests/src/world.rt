@@ -63,9 +63,12 @@ where
         codec_config: M::Cfg,
     ) -> Result<(), AllocError> {
         let cfg = self.feeds.config(key, sizes, codec_config)?;
-        let node = Node::new(rt, cfg, &mut self.callers.mailboxes)?;
-        self.nodes.engines.push(node)?;
-        Ok(())
+        Node::add(
+            rt,
+            cfg,
+            &mut self.nodes.engines,
+            &mut self.callers.mailboxes,
+        )
     }
 
     /// Adds what a node is fed by.

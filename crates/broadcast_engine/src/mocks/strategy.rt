@@ -7,7 +7,7 @@ use futures::task::{Context, Poll};
 use std::alloc::AllocError;
 
 /// Starts jobs that are pending for a number of polls.
-#[derive(Clone, Copy, Debug, PartialEq, Eq)]
+#[derive(Clone, Copy)]
 pub struct Slow {
     /// How often each job is pending.
     pub polls: u64,
