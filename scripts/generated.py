@@ -145,12 +145,12 @@ def with_close(rng, lines):
 
 def engine_call(rng):
     """A line of an engine. What the sources give stands among the calls, each in its own order."""
-    kind = rng.choice(("set", "no_set", "no_set", "payload", "payload", "no_payload", "call", "call",
-                       "call", "call", "drop", "drive", "drive", "drive"))
+    sources = ("set", "no_set", "no_set", "payload", "payload", "no_payload")
+    kind = rng.choice((*sources, *["call"] * 4, "drop", *["drive"] * 3))
     if kind == "set":
-        return rng.choice((with_words(kind, keys(rng)), with_words(kind, keys(rng)), "end"))
+        return "end" if rng.randrange(10) == 0 else with_words(kind, keys(rng))
     if kind == "payload":
-        return "fail" if rng.randrange(10) == 0 else f"payload {rng.choice(KEYS)} {payload(rng)}"
+        return "fail" if rng.randrange(20) == 0 else f"payload {rng.choice(KEYS)} {payload(rng)}"
     if kind == "call":
         event = rng.choice(("broadcast", "subscribe", "subscribe", "get"))
         if event == "broadcast":

@@ -8,7 +8,6 @@ from dataclasses import dataclass
 
 import replay_model as model
 from inbox_model import Inbox
-from judged_lines import Wrong
 
 # The keys whose counters are shown.
 KEYS = range(7)

@@ -152,6 +152,31 @@ OF_GROWTHS = {
             "get memory\n  accepted 2 taken 0 skipped 0 waiting 2 given_up 0\n",
         ),
     ],
+    "engine": [
+        (
+            "a refused payload serves its waiter",
+            "drive payload:inserted peers\n  waiters 0 receive 1 0 0 subscribe 1 0 get 0 1 0 ",
+            "drive refused peers\n  waiters 0 receive 0 0 0 subscribe 1 0 get 0 1 0 ",
+        ),
+        (
+            "a refused payload counts twice on its peer",
+            "drive payload:inserted peers\n"
+            "  waiters 0 receive 1 0 0 subscribe 1 0 get 0 1 0 peers 0 0 1 0 0 0 0\n",
+            "drive refused peers\n"
+            "  waiters 1 receive 0 0 0 subscribe 0 0 get 0 1 0 peers 0 0 2 0 0 0 0\n",
+        ),
+        (
+            "a failed receiver ends nothing",
+            "payload:ineligible ended:network_failed\n",
+            "payload:ineligible\n",
+        ),
+        ("an engine goes on after its end", "drive ended:network_failed\n", "drive get\n"),
+        (
+            "a subscribe waits after the end",
+            "subscribe canceled\nget none\nsubscribe canceled\n",
+            "subscribe waits\nget none\nsubscribe canceled\n",
+        ),
+    ],
 }
 
 
