@@ -6,11 +6,14 @@ use crate::line::Line;
 use broadcast_core::{Items, Recipients, Set};
 use broadcast_engine::buffered::{NetworkFailed, Provider, Receiver, Sender};
 use futures::task::{Context, Poll};
-use std::alloc::AllocError;
+use std::alloc::{AllocError, Global};
 use std::sync::{Arc, Wait};
 
 /// A payload with the key of its sender.
 pub type Payload = (u64, Items<u8>);
+
+/// What a network gives a node: a payload, or that it failed.
+pub type Received = Result<Payload, NetworkFailed>;
 
 /// What one node takes: its peer sets, and the payloads that are sent to it.
 #[derive(Drop)]
@@ -19,8 +22,19 @@ pub struct Mail {
     pub key: u64,
     /// Its peer sets.
     pub sets: Line<Set<u64>>,
-    /// The payloads.
-    pub payloads: Line<Payload>,
+    /// The payloads. A failure ends its engine.
+    pub payloads: Line<Received>,
+}
+
+impl Mail {
+    /// Creates the mail of the node of the key: it has no peers and no payloads yet.
+    pub fn new(alloc: Global, key: u64) -> Self {
+        Mail {
+            key,
+            sets: Line::new(alloc),
+            payloads: Line::new(alloc),
+        }
+    }
 }
 
 /// Gives a node its peer sets.
@@ -55,11 +69,8 @@ pub struct Inbound<R> {
 impl<R: Wait> Receiver<u64> for Inbound<R> {
     ghost told = { λ _ _. ⊤ };
 
-    fn poll_recv(&mut self, cx: &mut Context<'_>) -> Poll<Result<Payload, NetworkFailed>> {
-        match self.mail.payloads.poll(&self.rt, cx) {
-            Poll::Ready(payload) => Poll::Ready(Ok(payload)),
-            Poll::Pending => Poll::Pending,
-        }
+    fn poll_recv(&mut self, cx: &mut Context<'_>) -> Poll<Received> {
+        self.mail.payloads.poll(&self.rt, cx)
     }
 }
 
@@ -91,7 +102,7 @@ impl<R: Wait> Outbound<R> {
     // Sends a copy of the bytes to the node.
     fn hand(&self, other: &Mail, bytes: &[u8]) -> Result<(), AllocError> {
         let copy = Items::from_vec(Vec::from_slice(self.others.allocator().clone()?, bytes)?);
-        other.payloads.give(&self.rt, (self.key, copy))
+        other.payloads.give(&self.rt, Ok((self.key, copy)))
     }
 }
 

@@ -1,7 +1,9 @@
 //! A node whose engine runs in a thread.
 use crate::network::{Inbound, Mail, Outbound, PeerSets};
 use broadcast_core::{Codec, Digestible};
-use broadcast_engine::buffered::{Config, Engine, Handle, Mailbox, MailboxEngine, Sequential};
+use broadcast_engine::buffered::{
+    Config, Engine, Handle, Mailbox, MailboxEngine, StartError, Strategy,
+};
 use std::alloc::{AllocError, AllocGlobal};
 use std::num::NonZeroUsize;
 use std::random::RandomSource;
@@ -9,7 +11,7 @@ use std::sync::{Arc, Wait};
 use std::thread::Threads;
 
 /// An engine over a network in memory.
-pub type NodeEngine<M, R> = MailboxEngine<u64, M, PeerSets<R>, Sequential, R>;
+pub type NodeEngine<M, T, R> = MailboxEngine<u64, M, PeerSets<R>, T, R>;
 
 /// A node whose engine runs in a thread of its own.
 #[derive(Drop)]
@@ -22,42 +24,53 @@ pub struct Node<M: Digestible, R> {
     pub handle: Handle<u64, M, R>,
 }
 
-/// Starts the node of this mail, which sends to the others. Returns `None` if there is no memory or
-/// no thread for it.
-pub fn started<M, R>(
+/// Starts the node of this mail, which sends to the others.
+pub fn started<M, T, R>(
     rt: &R,
     codec_config: M::Cfg,
+    strategy: T,
     mail: &Arc<Mail>,
     others: Vec<Arc<Mail>>,
     deque_size: usize,
-) -> Option<Node<M, R>>
+) -> Result<Node<M, R>, StartError>
 where
     M: Digestible + Codec + Send + Sync + 'static,
     M::Digest: 'static,
     M::Cfg: Send + Drop + 'static,
+    T: Strategy<M> + Send + Drop + 'static,
+    T::Job: Send + 'static,
     R: Threads + Wait + RandomSource + AllocGlobal + Clone + Send + Sync + Drop + 'static,
 {
-    let (engine, mailbox) = engine(rt, codec_config, mail, deque_size).ok()?;
-    let network = network(rt, mail, others).ok()?;
-    let handle = engine.start(rt, network).ok()?;
-    let mail = Arc::try_clone(mail).ok()?;
-    Some(Node {
+    let mail = Arc::try_clone(mail).map_err(out_of_memory)?;
+    let (engine, mailbox) = engine(rt, codec_config, strategy, &mail, deque_size).map_err(
+        out_of_memory,
+    )?;
+    let network = network(rt, &mail, others).map_err(out_of_memory)?;
+    let handle = engine.start(rt, network)?;
+    Ok(Node {
         mailbox,
         mail,
         handle,
     })
 }
 
-// Creates the engine of a node, and its mailbox.
-fn engine<M, R>(
+// Returns the error of a node for which there is no memory.
+fn out_of_memory(_error: AllocError) -> StartError {
+    StartError::Memory
+}
+
+/// Creates the engine of a node, and its mailbox.
+pub fn engine<M, T, R>(
     rt: &R,
     codec_config: M::Cfg,
+    strategy: T,
     mail: &Arc<Mail>,
     deque_size: usize,
-) -> Result<(NodeEngine<M, R>, Mailbox<u64, M, R>), AllocError>
+) -> Result<(NodeEngine<M, T, R>, Mailbox<u64, M, R>), AllocError>
 where
     M: Digestible + Codec,
     M::Cfg: Drop,
+    T: Strategy<M> + Drop,
     R: Wait + AllocGlobal + Clone + Drop,
 {
     let peer_provider = PeerSets {
@@ -71,13 +84,13 @@ where
         priority: false,
         codec_config,
         peer_provider,
-        strategy: Sequential,
+        strategy,
     };
     Engine::new(rt.clone()?, rt.alloc(), config)
 }
 
-// Creates the ends of a node's network.
-fn network<R: Clone + Drop>(
+/// Creates the ends of a node's network.
+pub fn network<R: Clone + Drop>(
     rt: &R,
     mail: &Arc<Mail>,
     others: Vec<Arc<Mail>>,

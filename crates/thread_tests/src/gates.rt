@@ -2,6 +2,7 @@
 ghost use Rattle.std.specs.Prelude.{IfOk};
 ghost use Rattle.broadcast_engine.specs.Workers.{IsWorkerOf};
 
+use super::patient::LIMIT;
 use broadcast_core::{Digestible, TestMessage};
 use broadcast_engine::buffered::gate::Gate;
 use broadcast_engine::buffered::strategy::{Job, Strategy};
@@ -17,8 +18,8 @@ use std::sync::{Arc, Wait};
 use std::test::Fail;
 use std::thread::{self, Threads};
 
-/// How often a worker looks for the other. A busy machine may start its thread late.
-const LOOKS: u64 = 10_000_000;
+/// How often a worker gives up its thread after a look. A busy machine may start the other late.
+const YIELDS: u64 = 1000;
 
 /// A gate that counts who entered, and who saw two enter.
 #[derive(Drop)]
@@ -30,12 +31,14 @@ struct Meeting {
 impl Gate for Meeting {
     fn pass(&self) {
         self.entered.fetch_add(1, Ordering::SeqCst);
-        for _ in 0..LOOKS {
+        for _ in 0..LIMIT {
             if self.entered.load(Ordering::SeqCst) >= 2 {
                 self.met.fetch_add(1, Ordering::SeqCst);
                 return;
             }
-            thread::yield_now();
+            for _ in 0..YIELDS {
+                thread::yield_now();
+            }
         }
     }
 }

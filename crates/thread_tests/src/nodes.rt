@@ -1,6 +1,8 @@
 //! A started node, and what feeds it.
-use broadcast_core::{Codec, Digestible, Items, RangeCfg, Set, TestMessage};
-use cluster_lib::line::Line;
+use super::patient::{LIMIT, pause};
+use broadcast_core::{Codec, Digested, Digestible, Items, RangeCfg, Recipients, Set, TestMessage};
+use broadcast_engine::buffered::{Mailbox, NetworkFailed, Strategy};
+use broadcast_engine::{Broadcaster, Feedback};
 use cluster_lib::network::Mail;
 use cluster_lib::node::{Node, started};
 use std::alloc::{AllocError, AllocGlobal, Global};
@@ -8,22 +10,21 @@ use std::random::RandomSource;
 use std::sync::{Arc, Wait};
 use std::test::Fail;
 use std::thread::Threads;
+use std::time::Clock;
 
 /// Starts the node of key 1. It has no peers and no payloads yet.
-pub fn start<M, R>(rt: &R) -> Result<Node<M, R>, Fail>
+pub fn start<M, T, R>(rt: &R, strategy: T) -> Result<Node<M, R>, Fail>
 where
     M: Letter,
     M::Digest: 'static,
     M::Cfg: Send + Drop + 'static,
+    T: Strategy<M> + Send + Drop + 'static,
+    T::Job: Send + 'static,
     R: Threads + Wait + RandomSource + AllocGlobal + Clone + Send + Sync + Drop + 'static,
 {
-    let mail = Mail {
-        key: 1,
-        sets: Line::new(rt.alloc()),
-        payloads: Line::new(rt.alloc()),
-    };
-    let mail = Arc::new(rt.alloc(), mail)?;
-    Ok(started(rt, M::cfg(), &mail, Vec::new(rt.alloc()), 4).ok_or("no memory or no thread")?)
+    let mail = Arc::new(rt.alloc(), Mail::new(rt.alloc(), 1))?;
+    let others = Vec::new(rt.alloc());
+    Ok(started(rt, M::cfg(), strategy, &mail, others, 4)?)
 }
 
 /// Tells the node its peers.
@@ -40,7 +41,37 @@ pub fn send<R: Wait + AllocGlobal>(
     bytes: &[u8],
 ) -> Result<(), AllocError> {
     let bytes = Items::from_vec(Vec::from_slice(rt.alloc(), bytes)?);
-    mail.payloads.give(rt, (peer, bytes))
+    mail.payloads.give(rt, Ok((peer, bytes)))
+}
+
+/// Lets the network of the node fail once its payloads are taken, which ends its engine.
+pub fn fail<R: Wait>(rt: &R, mail: &Mail) -> Result<(), AllocError> {
+    mail.payloads.give(rt, Err(NetworkFailed))
+}
+
+/// Broadcasts the message of the letter 1.
+pub fn broadcast<M, R>(rt: &R, mailbox: &Mailbox<u64, M, R>) -> Result<Feedback, Fail>
+where
+    M: Letter,
+    R: Wait + AllocGlobal + Clone + Send + 'static,
+{
+    let digested = Digested::compute(rt.alloc(), M::of(rt.alloc(), 1)?)?;
+    Ok(mailbox.broadcast(Recipients::All, digested)?)
+}
+
+/// Waits until the mailbox is closed. Returns whether it is.
+pub fn wait_for_close<M, R>(rt: &R, mailbox: &Mailbox<u64, M, R>) -> Result<bool, Fail>
+where
+    M: Letter,
+    R: Wait + Clock + AllocGlobal + Clone + Send + 'static,
+{
+    for _ in 0..LIMIT {
+        if broadcast(rt, mailbox)? == Feedback::Closed {
+            return Ok(true);
+        }
+        pause(rt);
+    }
+    Ok(false)
 }
 
 /// A message that a letter names.

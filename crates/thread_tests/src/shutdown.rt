@@ -1,21 +1,25 @@
 //! Started engines that end.
-use super::nodes::{Letter, digest, send, start, track};
-use broadcast_core::{Digested, EncodeSize, Recipients, TestMessage, Write};
-use broadcast_engine::buffered::{EndCause, Mailbox, Status, Subscription};
-use broadcast_engine::{Broadcaster, Feedback};
+use super::nodes::{Letter, broadcast, digest, fail, send, start, track, wait_for_close};
+use super::patient::{Patient, Talk};
+use broadcast_core::TestMessage;
+use broadcast_engine::Feedback;
+use broadcast_engine::buffered::{EndCause, Mailbox, Sequential, Status, Subscription};
 use cluster_lib::network::Mail;
 use cluster_lib::node::Node;
 use std::alloc::{AllocError, AllocGlobal};
 use std::random::RandomSource;
-use std::sync::Wait;
+use std::sync::{Arc, Wait};
 use std::test::Fail;
 use std::thread::Threads;
+use std::time::Clock;
 
-/// What a stopped engine left: its cause, whether the subscription that it held is canceled, and
-/// what its mailbox answers afterwards: the feedback to a broadcast, whether a subscription is
-/// canceled, and whether a get gives nothing.
+/// What a stopped engine left: whether it closed its mailbox before a job that was pending gave up,
+/// its cause, whether the subscription that it held is canceled, and what its mailbox answers
+/// afterwards: the feedback to a broadcast, whether a subscription is canceled, and whether a get
+/// gives nothing.
 #[derive(Clone, Copy, Debug, PartialEq, Eq)]
 struct Stopped {
+    prompt: bool,
     cause: EndCause,
     held: bool,
     feedback: Feedback,
@@ -23,18 +27,7 @@ struct Stopped {
     none: bool,
 }
 
-/// Broadcasts a message.
-fn broadcast<M, R>(rt: &R, mailbox: &Mailbox<u64, M, R>) -> Result<Feedback, Fail>
-where
-    M: Letter,
-    Digested<M>: Write + EncodeSize,
-    R: Wait + AllocGlobal + Clone + Send + 'static,
-{
-    let digested = Digested::compute(rt.alloc(), M::of(rt.alloc(), 1)?)?;
-    Ok(mailbox.broadcast(Recipients::All, digested)?)
-}
-
-/// Subscribes to that message.
+/// Subscribes to the message of the letter 1.
 fn subscribe<M, R>(rt: &R, mailbox: &Mailbox<u64, M, R>) -> Result<Subscription<M>, Fail>
 where
     M: Letter,
@@ -52,44 +45,65 @@ where
     Ok(mailbox.get(digest::<M>(rt.alloc(), 1)?)?.wait(rt).is_none())
 }
 
-/// Stops the engine, some times, and joins it.
-fn stop<M, R>(rt: &R, times: u64) -> Result<Stopped, Fail>
+/// Lets a job be pending at the node, which has the peer 5.
+fn hold<R: Wait + Clock + AllocGlobal>(rt: &R, mail: &Mail, talk: &Talk) -> Result<(), Fail> {
+    track(rt, mail, &[1, 5])?;
+    send(rt, mail, 5, &[0, 0, 0, 0, 0, 0, 0, 1, 2])?;
+    if talk.wait_for_job(rt) {
+        Ok(())
+    } else {
+        Err("no job is pending")?
+    }
+}
+
+/// Stops an engine, some times, with a job pending or idle, and joins it. Its network fails then,
+/// so that it ends also if it does not stop.
+fn stop<M, R>(rt: &R, is_busy: bool, times: u64) -> Result<Stopped, Fail>
 where
     M: Letter,
     M::Digest: 'static,
     M::Cfg: Send + Drop + 'static,
-    Digested<M>: Write + EncodeSize,
-    R: Threads + Wait + RandomSource + AllocGlobal + Clone + Send + Sync + Drop + 'static,
+    R: Threads + Wait + Clock + RandomSource + AllocGlobal + Clone + Send + Sync + Drop + 'static,
 {
+    let talk = Talk::new(rt)?;
+    let strategy = Patient::new(rt, &talk)?;
     let Node {
         mailbox,
+        mail,
         handle,
-        ..
-    } = start::<M, R>(rt)?;
+    } = start::<M, _, R>(rt, strategy)?;
     let waiting = subscribe(rt, &mailbox)?;
+    if is_busy {
+        hold(rt, &mail, &talk)?;
+    }
     for _ in 0..times {
         handle.stop();
     }
-    let report = handle.join(rt);
-    after(rt, &mailbox, report.cause(), waiting.wait(rt).is_err())
+    let closed = wait_for_close(rt, &mailbox)?;
+    let prompt = closed && !talk.gave_up();
+    fail(rt, &mail)?;
+    let cause = handle.join(rt).cause();
+    let held = waiting.wait(rt).is_err();
+    after(rt, &mailbox, prompt, cause, held)
 }
 
 /// Asks the mailbox of an engine that ended with this cause.
 fn after<M, R>(
     rt: &R,
     mailbox: &Mailbox<u64, M, R>,
+    prompt: bool,
     cause: EndCause,
     held: bool,
 ) -> Result<Stopped, Fail>
 where
     M: Letter,
-    Digested<M>: Write + EncodeSize,
     R: Wait + RandomSource + AllocGlobal + Clone + Send + 'static,
 {
     let feedback = broadcast(rt, mailbox)?;
     let canceled = subscribe(rt, mailbox)?.wait(rt).is_err();
     let none = gets_none(rt, mailbox)?;
     Ok(Stopped {
+        prompt,
         cause,
         held,
         feedback,
@@ -99,16 +113,17 @@ where
 }
 
 #[test]
-fn a_stopped_engine_answers_nothing(rt: HostRuntime) -> Result<(), Fail> {
+fn a_stopped_engine_ends_promptly_and_answers_nothing(rt: HostRuntime) -> Result<(), Fail> {
     let expected = Stopped {
+        prompt: true,
         cause: EndCause::Stopped,
         held: true,
         feedback: Feedback::Closed,
         canceled: true,
         none: true,
     };
-    for times in [1, 2] {
-        assert_eq!(rt; stop::<TestMessage, _>(&rt, times)?, expected);
+    for (is_busy, times) in [(false, 1), (false, 2), (true, 1), (true, 2)] {
+        assert_eq!(rt; stop::<TestMessage, _>(&rt, is_busy, times)?, expected);
     }
     Ok(())
 }
@@ -127,14 +142,13 @@ where
     M: Letter,
     M::Digest: 'static,
     M::Cfg: Send + Drop + 'static,
-    Digested<M>: Write + EncodeSize,
     R: Threads + Wait + RandomSource + AllocGlobal + Clone + Send + Sync + Drop + 'static,
 {
     let Node {
         mailbox,
         mail,
         handle,
-    } = start::<M, R>(rt)?;
+    } = start::<M, _, R>(rt, Sequential)?;
     let wanted = digest::<M>(rt.alloc(), 2)?;
     let waiting = mailbox.subscribe(wanted)?;
     feed(rt, &mail)?;
@@ -142,6 +156,7 @@ where
         .wait(rt)
         .is_ok_and(|message| message.digest().cmp(&wanted).is_eq());
     handle.stop();
+    fail(rt, &mail)?;
     let report = handle.join(rt);
     let metrics = report.metrics();
     Ok((

@@ -1,0 +1,23 @@
+-- What the arguments mean.
+use Rattle.std.specs.Prelude.{◌<◌, ◌≤◌, ◌^◌, List, ℕ, [], ◌∷◌}
+use Rattle.std.specs.Fmt.{decimal}
+use Rattle.cluster_lib.specs.declared.settings.Settings.{Settings}
+use Rattle.cluster_lib.specs.declared.rate.Rate.{Rate}
+
+-- the words of the settings
+abbrev pub words_of : Settings → List (List ℕ)
+words_of it = decimal it.nodes ∷ decimal it.messages ∷ decimal it.deque_size ∷ []
+
+-- from 2 to 16 nodes, and from 1 to 100 messages of each
+pub record IsAllowed (it : Settings) : Type 0 where
+  pub two_nodes : 2 ≤ it.nodes
+  pub few_nodes : it.nodes ≤ 16
+  pub some_message : 1 ≤ it.messages
+  pub few_messages : it.messages ≤ 100
+  pub size : it.deque_size < 2 ^ 64
+
+-- at most 64 clients, and 10 million rounds of at most as many requests
+pub record IsAllowedRate (it : Rate) : Type 0 where
+  pub few_clients : it.clients ≤ 64
+  pub few_rounds : it.rounds ≤ 10000000
+  pub few_at_once : it.depth ≤ 10000000

@@ -1,0 +1,113 @@
+//! The client of a node.
+use crate::fault::Fault;
+use crate::message::Numbered;
+use crate::settings::Settings;
+use broadcast_core::{Digested, Recipients};
+use broadcast_engine::buffered::{Mailbox, Subscription};
+use commonware_broadcast::Broadcaster;
+use std::alloc::{AllocGlobal, Global};
+use std::random::RandomSource;
+use std::sync::Wait;
+
+/// What the client of a node saw.
+#[derive(Clone, Copy)]
+pub struct Seen {
+    /// How many of its subscriptions were served.
+    pub served: u64,
+    /// How many of the messages its node did not have any more afterwards.
+    pub evicted: u64,
+}
+
+/// The client of a node, which it reaches through a mailbox.
+#[derive(Drop)]
+pub struct Client<M: Numbered, R> {
+    /// The key of its node.
+    pub key: u64,
+    /// The mailbox of its node.
+    pub mailbox: Mailbox<u64, M, R>,
+    /// The messages of all nodes.
+    pub settings: Settings,
+    /// The right to wait.
+    pub rt: R,
+}
+
+impl<M, R> Client<M, R>
+where
+    M: Numbered,
+    R: Wait + RandomSource + AllocGlobal + Clone + Send + 'static,
+{
+    /// Subscribes to the messages of all nodes, broadcasts those of its own node, waits for all
+    /// subscriptions, and then asks for each message.
+    pub fn run(&self) -> Result<Seen, Fault> {
+        let waiting = self.subscribe_all()?;
+        self.broadcast_own()?;
+        let served = wait_all(&self.rt, waiting);
+        let evicted = self.count_missing()?;
+        Ok(Seen { served, evicted })
+    }
+
+    /// Subscribes to the messages of all nodes.
+    fn subscribe_all(&self) -> Result<Vec<Subscription<M>>, Fault> {
+        let mut waiting = Vec::new(self.rt.alloc());
+        for node in 1..=self.settings.nodes {
+            self.subscribe_to(node, &mut waiting)?;
+        }
+        Ok(waiting)
+    }
+
+    /// Subscribes to the messages of the node.
+    fn subscribe_to(&self, node: u64, waiting: &mut Vec<Subscription<M>>) -> Result<(), Fault> {
+        for number in 1..=self.settings.messages {
+            let digest = M::numbered(self.rt.alloc(), node, number)?.digest();
+            waiting.push(self.mailbox.subscribe(digest)?)?;
+        }
+        Ok(())
+    }
+
+    /// Broadcasts the messages of its own node.
+    fn broadcast_own(&self) -> Result<(), Fault> {
+        let alloc = self.rt.alloc();
+        for number in 1..=self.settings.messages {
+            let message = M::numbered(alloc, self.key, number)?;
+            let message = Digested::compute(alloc, message)?;
+            let _feedback = self.mailbox.broadcast(Recipients::All, message)?;
+        }
+        Ok(())
+    }
+
+    /// Returns how many of the messages of all nodes its node does not have.
+    fn count_missing(&self) -> Result<u64, Fault> {
+        let mut missing = 0u64;
+        for node in 1..=self.settings.nodes {
+            missing = missing.saturating_add(self.count_missing_of(node)?);
+        }
+        Ok(missing)
+    }
+
+    /// Returns how many messages of the other node its node does not have.
+    fn count_missing_of(&self, other: u64) -> Result<u64, Fault> {
+        let mut missing = 0u64;
+        for number in 1..=self.settings.messages {
+            let digest = M::numbered(self.rt.alloc(), other, number)?.digest();
+            if self.mailbox.get(digest)?.wait(&self.rt).is_none() {
+                missing = missing.saturating_add(1);
+            }
+        }
+        Ok(missing)
+    }
+}
+
+/// Waits for each subscription. Returns how many were served.
+fn wait_all<M, R>(rt: &R, waiting: Vec<Subscription<M>>) -> u64
+where
+    M: Numbered,
+    R: Wait + RandomSource + AllocGlobal,
+{
+    let mut served = 0u64;
+    for subscription in waiting {
+        if subscription.wait(rt).is_ok() {
+            served = served.saturating_add(1);
+        }
+    }
+    served
+}

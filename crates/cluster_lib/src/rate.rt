@@ -1,0 +1,202 @@
+//! How many requests a started engine answers.
+ghost use Rattle.std.specs.Prelude.{IfSome};
+ghost use Rattle.cluster_lib.specs.Arguments.{IsAllowedRate};
+
+use crate::fault::Fault;
+use crate::message::Numbered;
+use crate::network::Mail;
+use crate::node::{Node, started};
+use crate::run::peers;
+use broadcast_core::{Digested, Recipients};
+use broadcast_engine::buffered::{Get, Mailbox, Sequential};
+use broadcast_text::words::parse_number;
+use commonware_broadcast::Broadcaster;
+use std::alloc::AllocGlobal;
+use std::io;
+use std::random::RandomSource;
+use std::sync::{Arc, Wait};
+use std::thread::{self, JoinHandle, Threads};
+use std::time::{Clock, Instant};
+
+/// The greatest number of clients.
+const MOST_CLIENTS: u64 = 64;
+
+/// The greatest number of requests of a client, and of requests that it makes before it waits.
+const MOST_REQUESTS: u64 = 10_000_000;
+
+/// The settings of a measurement.
+#[derive(Clone, Copy)]
+pub struct Rate {
+    /// The number of clients, each in a thread.
+    pub clients: u64,
+    /// The number of times that each client makes requests and waits for all of them.
+    pub rounds: u64,
+    /// The number of requests that a client makes before it waits.
+    pub depth: u64,
+}
+
+impl Rate {
+    /// Returns the settings of the words `rate CLIENTS ROUNDS DEPTH`, or `None` for other words.
+    pub fn parse(words: &[String]) -> Option<Rate>
+        ensures allowed { IfSome result IsAllowedRate }
+    {
+        let [rate, clients, rounds, depth] = words else {
+            return None;
+        };
+        if rate.as_bytes() != b"rate".as_slice() {
+            return None;
+        }
+        let clients = parse_number(clients.as_bytes())?;
+        let rounds = parse_number(rounds.as_bytes())?;
+        let depth = parse_number(depth.as_bytes())?;
+        if clients > MOST_CLIENTS || rounds > MOST_REQUESTS || depth > MOST_REQUESTS {
+            return None;
+        }
+        Some(Rate {
+            clients,
+            rounds,
+            depth,
+        })
+    }
+}
+
+/// What was measured.
+#[derive(Clone, Copy)]
+pub struct Measured {
+    /// The number of requests that were answered.
+    pub answered: u64,
+    /// The milliseconds that this took.
+    pub milliseconds: u64,
+}
+
+/// Lets the clients get a message from one started engine. The time counts from before the first
+/// client is started to the end of the last.
+pub fn measure<M, R>(rt: &R, rate: Rate) -> Result<Measured, Fault>
+where
+    M: Numbered,
+    M::Digest: 'static,
+    M::Cfg: Send + Drop + 'static,
+    R: Threads + Wait + Clock + RandomSource + AllocGlobal + Clone + Send + Sync + Drop + 'static,
+{
+    let mail = Arc::new(rt.alloc(), Mail::new(rt.alloc(), 1))?;
+    mail.sets.give(rt, peers(rt.alloc(), 1)?)?;
+    let others = Vec::new(rt.alloc());
+    let node: Node<M, R> = started(rt, M::codec_config(), Sequential, &mail, others, 1)?;
+    let measured = measure_node(rt, rate, &node);
+    node.handle.stop();
+    let Node { handle, .. } = node;
+    drop(handle.join(rt));
+    measured
+}
+
+/// Lets the clients get a message from the node, which broadcast it.
+fn measure_node<M, R>(rt: &R, rate: Rate, node: &Node<M, R>) -> Result<Measured, Fault>
+where
+    M: Numbered,
+    M::Digest: 'static,
+    R: Threads + Wait + Clock + RandomSource + AllocGlobal + Clone + Send + Sync + Drop + 'static,
+{
+    let message = Digested::compute(rt.alloc(), M::numbered(rt.alloc(), 1, 1)?)?;
+    let _feedback = node.mailbox.broadcast(Recipients::All, message)?;
+    let began = Instant::now(rt).map_err(|_| Fault::Clock)?;
+    let clients = start_clients(rt, rate, &node.mailbox)?;
+    let answered = join_clients(rt, clients)?;
+    let took = began.elapsed(rt).map_err(|_| Fault::Clock)?;
+    Ok(Measured {
+        answered,
+        milliseconds: u64::try_from(took.as_millis()).unwrap_or(u64::MAX),
+    })
+}
+
+/// Starts the clients.
+fn start_clients<M, R>(
+    rt: &R,
+    rate: Rate,
+    mailbox: &Mailbox<u64, M, R>,
+) -> Result<Vec<JoinHandle<Result<u64, Fault>>>, Fault>
+where
+    M: Numbered,
+    M::Digest: 'static,
+    R: Threads + Wait + RandomSource + AllocGlobal + Clone + Send + Sync + Drop + 'static,
+{
+    let mut clients = Vec::new(rt.alloc());
+    for _ in 0..rate.clients {
+        let (mailbox, own) = (mailbox.clone()?, rt.clone()?);
+        let work = move || ask(&own, rate, &mailbox);
+        clients.push(thread::spawn(rt, work).map_err(|_| Fault::Thread)?)?;
+    }
+    Ok(clients)
+}
+
+/// Joins the clients. Returns how many requests were answered.
+fn join_clients(
+    rt: &impl Threads,
+    clients: Vec<JoinHandle<Result<u64, Fault>>>,
+) -> Result<u64, Fault> {
+    let mut answered = 0u64;
+    for client in clients {
+        answered = answered.saturating_add(client.join(rt)?);
+    }
+    Ok(answered)
+}
+
+/// Makes the requests of a client. Returns how many were answered with the message.
+fn ask<M, R>(rt: &R, rate: Rate, mailbox: &Mailbox<u64, M, R>) -> Result<u64, Fault>
+where
+    M: Numbered,
+    R: Wait + RandomSource + AllocGlobal,
+{
+    let digest = M::numbered(rt.alloc(), 1, 1)?.digest();
+    let mut answered = 0u64;
+    for _ in 0..rate.rounds {
+        let gets = gets(rt, rate.depth, mailbox, digest)?;
+        answered = answered.saturating_add(wait_all(rt, gets));
+    }
+    Ok(answered)
+}
+
+/// Makes requests for the digest.
+fn gets<M, R>(
+    rt: &R,
+    depth: u64,
+    mailbox: &Mailbox<u64, M, R>,
+    digest: M::Digest,
+) -> Result<Vec<Get<M>>, Fault>
+where
+    M: Numbered,
+    R: Wait + AllocGlobal,
+{
+    let mut gets = Vec::new(rt.alloc());
+    for _ in 0..depth {
+        gets.push(mailbox.get(digest)?)?;
+    }
+    Ok(gets)
+}
+
+/// Waits for the requests. Returns how many were answered with the message.
+fn wait_all<M, R>(rt: &R, gets: Vec<Get<M>>) -> u64
+where
+    M: Numbered,
+    R: Wait + RandomSource + AllocGlobal,
+{
+    let mut answered = 0u64;
+    for get in gets {
+        if get.wait(rt).is_some() {
+            answered = answered.saturating_add(1);
+        }
+    }
+    answered
+}
+
+/// Writes what was measured in one line.
+pub fn write_measured<W: io::Write>(out: &mut W, measured: Measured) -> io::Result<()> {
+    let Measured {
+        answered,
+        milliseconds,
+    } = measured;
+    let rate = answered.saturating_mul(1000) / milliseconds.max(1);
+    writeln!(
+        out,
+        "{answered} answered in {milliseconds} ms, {rate} a second"
+    )
+}

@@ -1,0 +1,89 @@
+//! What became of a node.
+ghost use Rattle.std.specs.Prelude.{◌≡◌, ◌-◌, ◌↔◌, All, IsOk};
+ghost use Rattle.broadcast_engine.specs.Counters.{number_of};
+ghost use Rattle.broadcast_engine.specs.declared.buffered.metrics.Status.TheVariants.{Success, Dropped, Invalid};
+
+use crate::client::Seen;
+use crate::fault::Fault;
+use broadcast_engine::buffered::{Metrics, Status};
+use std::io::{self, Write};
+
+/// What became of a node.
+#[derive(Clone, Copy)]
+pub struct Row {
+    /// Its key.
+    pub node: u64,
+    /// How many messages of peers it took into its lists.
+    pub taken: u64,
+    /// How many messages it dropped: they were listed already, or of a stranger.
+    pub dropped: u64,
+    /// How many payloads were no message.
+    pub invalid: u64,
+    /// How many subscriptions of its client were served.
+    pub served: u64,
+    /// How many were not.
+    pub missed: u64,
+    /// How many of the messages it did not have any more in the end.
+    pub evicted: u64,
+}
+
+impl Row {
+    /// Returns the row of a node whose client made `subscriptions` subscriptions.
+    pub fn new(node: u64, metrics: &Metrics<u64>, seen: Seen, subscriptions: u64) -> Row
+        ensures node { result.node ≡ node }
+        ensures taken { result.taken ≡ number_of Success metrics.now.totals.receive }
+        ensures dropped { result.dropped ≡ number_of Dropped metrics.now.totals.receive }
+        ensures invalid { result.invalid ≡ number_of Invalid metrics.now.totals.receive }
+        ensures served { result.served ≡ seen.served }
+        ensures missed { result.missed ≡ subscriptions - seen.served }
+        ensures evicted { result.evicted ≡ seen.evicted }
+    {
+        Row {
+            node,
+            taken: metrics.receive(Status::Success),
+            dropped: metrics.receive(Status::Dropped),
+            invalid: metrics.receive(Status::Invalid),
+            served: seen.served,
+            missed: subscriptions.saturating_sub(seen.served),
+            evicted: seen.evicted,
+        }
+    }
+}
+
+/// Fails with [`Fault::Missed`] if a subscription was not served at one of the nodes.
+pub fn judge(rows: &[Row]) -> Result<(), Fault>
+    ensures { IsOk result ↔ All (λ row. row.missed ≡ 0) rows.now }
+{
+    if rows.iter().all(|row| row.missed == 0) {
+        Ok(())
+    } else {
+        Err(missed(rows))
+    }
+}
+
+/// Returns the fault of rows with subscriptions that were not served.
+fn missed(rows: &[Row]) -> Fault {
+    let mut missed = 0u64;
+    let mut all = 0u64;
+    for row in rows {
+        missed = missed.saturating_add(row.missed);
+        all = all.saturating_add(row.served).saturating_add(row.missed);
+    }
+    Fault::Missed(missed, all)
+}
+
+/// Writes a line of names, and a line for each row.
+pub fn write_rows<W: Write>(out: &mut W, rows: &[Row]) -> io::Result<()> {
+    out.write_all(b"   node   taken dropped invalid  served  missed evicted\n")?;
+    for row in rows {
+        write_row(out, row)?;
+    }
+    Ok(())
+}
+
+/// Writes the line of a row.
+fn write_row<W: Write>(out: &mut W, row: &Row) -> io::Result<()> {
+    write!(out, "{:>7} {:>7} {:>7}", row.node, row.taken, row.dropped)?;
+    write!(out, " {:>7} {:>7}", row.invalid, row.served)?;
+    writeln!(out, " {:>7} {:>7}", row.missed, row.evicted)
+}

@@ -1,0 +1,234 @@
+//! A run of a cluster.
+use crate::client::{Client, Seen};
+use crate::fault::Fault;
+use crate::message::Numbered;
+use crate::network::Mail;
+use crate::node::{Node, started};
+use crate::row::Row;
+use crate::settings::Settings;
+use broadcast_core::{CodecError, Items, Set};
+use broadcast_engine::buffered::Sequential;
+use std::alloc::{AllocError, AllocGlobal, Global};
+use std::random::RandomSource;
+use std::sync::atomic::{AtomicU64, Ordering};
+use std::sync::{Arc, Wait};
+use std::thread::{self, JoinHandle, Threads};
+use std::time::{Clock, Duration};
+
+/// A key that no node has, and that no node admits.
+const STRANGER: u64 = 0;
+
+/// How often the clients are looked at, a millisecond apart, before the nodes are stopped.
+const LOOKS: u64 = 60_000;
+
+/// The result of a client's thread.
+type Outcome = Result<Seen, Fault>;
+
+/// Runs the nodes of the keys from 1, each in a thread, with a client each in another. Stops them
+/// once all clients have finished, or after a minute. Returns what became of each node.
+pub fn run<M, R>(rt: &R, settings: Settings) -> Result<Vec<Row>, Fault>
+where
+    M: Numbered,
+    M::Digest: 'static,
+    M::Cfg: Send + Drop + 'static,
+    R: Threads + Wait + Clock + RandomSource + AllocGlobal + Clone + Send + Sync + Drop + 'static,
+{
+    let finished = Arc::new(rt.alloc(), AtomicU64::new(0))?;
+    let mails = mails::<M, R>(rt, settings.nodes)?;
+    let nodes = start_nodes::<M, R>(rt, settings, &mails)?;
+    let clients = start_clients(rt, settings, &nodes, &finished);
+    if clients.is_ok() {
+        wait_until(rt, &finished, settings.nodes);
+    }
+    stop_all(&nodes);
+    rows(rt, settings, nodes, clients?)
+}
+
+/// Creates the mail of each node: all nodes are its peers, and a stranger has sent it a message,
+/// and a byte that is no message.
+fn mails<M: Numbered, R: Wait + AllocGlobal>(rt: &R, nodes: u64) -> Result<Vec<Arc<Mail>>, Fault> {
+    let mut mails = Vec::new(rt.alloc());
+    for key in 1..=nodes {
+        let mail = Arc::new(rt.alloc(), Mail::new(rt.alloc(), key))?;
+        mail.sets.give(rt, peers(rt.alloc(), nodes)?)?;
+        disturb::<M, R>(rt, &mail)?;
+        mails.push(mail)?;
+    }
+    Ok(mails)
+}
+
+/// Returns the keys of all nodes.
+pub(crate) fn peers(alloc: Global, nodes: u64) -> Result<Set<u64>, AllocError> {
+    let mut keys = Vec::new(alloc);
+    for key in 1..=nodes {
+        keys.push(key)?;
+    }
+    Set::from_iter_dedup(keys)
+}
+
+/// Sends a node what a stranger sends.
+fn disturb<M: Numbered, R: Wait + AllocGlobal>(rt: &R, mail: &Mail) -> Result<(), Fault> {
+    let message = M::numbered(rt.alloc(), STRANGER, mail.key)?;
+    let bytes = encoded(rt.alloc(), &message).map_err(|_| Fault::Memory)?;
+    mail.payloads
+        .give(rt, Ok((STRANGER, Items::from_vec(bytes))))?;
+    let bytes = Vec::from_slice(rt.alloc(), &[0xff])?;
+    mail.payloads
+        .give(rt, Ok((STRANGER, Items::from_vec(bytes))))?;
+    Ok(())
+}
+
+/// Returns the encoding of a message.
+fn encoded<M: Numbered>(alloc: Global, message: &M) -> Result<Vec<u8>, CodecError> {
+    let mut bytes = Vec::new(alloc);
+    message.write(&mut bytes)?;
+    Ok(bytes)
+}
+
+/// Starts the nodes. If one can't be started, those before it are stopped.
+fn start_nodes<M, R>(
+    rt: &R,
+    settings: Settings,
+    mails: &[Arc<Mail>],
+) -> Result<Vec<Node<M, R>>, Fault>
+where
+    M: Numbered,
+    M::Digest: 'static,
+    M::Cfg: Send + Drop + 'static,
+    R: Threads + Wait + RandomSource + AllocGlobal + Clone + Send + Sync + Drop + 'static,
+{
+    let mut nodes = Vec::new(rt.alloc());
+    for mail in mails {
+        if let Err(fault) = start_node(rt, settings, mail, mails, &mut nodes) {
+            stop_all(&nodes);
+            return Err(fault);
+        }
+    }
+    Ok(nodes)
+}
+
+/// Starts the node of the mail, and appends it.
+fn start_node<M, R>(
+    rt: &R,
+    settings: Settings,
+    mail: &Arc<Mail>,
+    mails: &[Arc<Mail>],
+    nodes: &mut Vec<Node<M, R>>,
+) -> Result<(), Fault>
+where
+    M: Numbered,
+    M::Digest: 'static,
+    M::Cfg: Send + Drop + 'static,
+    R: Threads + Wait + RandomSource + AllocGlobal + Clone + Send + Sync + Drop + 'static,
+{
+    let others = others(rt.alloc(), mail.key, mails)?;
+    let size = settings.deque_size;
+    nodes.reserve(1)?;
+    nodes.push_reserved(started(rt, M::codec_config(), Sequential, mail, others, size)?);
+    Ok(())
+}
+
+/// Returns the mail of all nodes but one.
+fn others(alloc: Global, key: u64, mails: &[Arc<Mail>]) -> Result<Vec<Arc<Mail>>, AllocError> {
+    let mut others = Vec::new(alloc);
+    for mail in mails {
+        if mail.key != key {
+            others.push(Arc::try_clone(mail)?)?;
+        }
+    }
+    Ok(others)
+}
+
+/// Starts a client for each node.
+fn start_clients<M, R>(
+    rt: &R,
+    settings: Settings,
+    nodes: &[Node<M, R>],
+    finished: &Arc<AtomicU64>,
+) -> Result<Vec<JoinHandle<Outcome>>, Fault>
+where
+    M: Numbered,
+    M::Digest: 'static,
+    M::Cfg: 'static,
+    R: Threads + Wait + RandomSource + AllocGlobal + Clone + Send + Sync + Drop + 'static,
+{
+    let mut clients = Vec::new(rt.alloc());
+    for node in nodes {
+        let client = Client {
+            key: node.mail.key,
+            mailbox: node.mailbox.clone()?,
+            settings,
+            rt: rt.clone()?,
+        };
+        clients.push(start_client(rt, client, Arc::try_clone(finished)?)?)?;
+    }
+    Ok(clients)
+}
+
+/// Starts a client, which counts itself once it has finished.
+fn start_client<M, R>(
+    rt: &R,
+    client: Client<M, R>,
+    finished: Arc<AtomicU64>,
+) -> Result<JoinHandle<Outcome>, Fault>
+where
+    M: Numbered,
+    M::Digest: 'static,
+    M::Cfg: 'static,
+    R: Threads + Wait + RandomSource + AllocGlobal + Clone + Send + Sync + Drop + 'static,
+{
+    let work = move || {
+        let outcome = client.run();
+        finished.fetch_add(1, Ordering::SeqCst);
+        outcome
+    };
+    thread::spawn(rt, work).map_err(|_| Fault::Thread)
+}
+
+/// Waits until all clients have finished, or for a minute.
+fn wait_until(rt: &impl Clock, finished: &AtomicU64, clients: u64) {
+    for _ in 0..LOOKS {
+        if finished.load(Ordering::SeqCst) >= clients {
+            return;
+        }
+        thread::sleep(rt, Duration::from_millis(1));
+    }
+}
+
+/// Asks all nodes to stop.
+fn stop_all<M, R>(nodes: &[Node<M, R>])
+where
+    M: Numbered,
+    R: Threads + Wait + Drop,
+{
+    for node in nodes {
+        node.handle.stop();
+    }
+}
+
+/// Joins the nodes, which were asked to stop, and their clients. Returns what became of each node.
+fn rows<M, R>(
+    rt: &R,
+    settings: Settings,
+    nodes: Vec<Node<M, R>>,
+    clients: Vec<JoinHandle<Outcome>>,
+) -> Result<Vec<Row>, Fault>
+where
+    M: Numbered,
+    R: Threads + Wait + AllocGlobal + Drop,
+{
+    let mut rows = Vec::new(rt.alloc());
+    for (node, client) in nodes.into_iter().zip(clients) {
+        let Node {
+            mailbox,
+            mail,
+            handle,
+        } = node;
+        drop(mailbox);
+        let report = handle.join(rt);
+        let seen = client.join(rt)?;
+        let row = Row::new(mail.key, report.metrics(), seen, settings.subscriptions());
+        rows.push(row)?;
+    }
+    Ok(rows)
+}

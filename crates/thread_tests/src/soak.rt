@@ -1,0 +1,283 @@
+//! Many callers of one started engine, which is stopped in the middle.
+use super::nodes::{Letter, digest, fail, send, start, track};
+use super::patient::{LIMIT, pause};
+use broadcast_core::{Digested, Recipients, TestMessage};
+use broadcast_engine::Broadcaster;
+use broadcast_engine::buffered::{Mailbox, Metrics, Sequential, Status, Subscription};
+use cluster_lib::network::Mail;
+use cluster_lib::node::Node;
+use std::alloc::{AllocError, AllocGlobal};
+use std::random::RandomSource;
+use std::sync::atomic::{AtomicU64, Ordering};
+use std::sync::{Arc, Wait};
+use std::test::Fail;
+use std::thread::{self, JoinHandle, Threads};
+use std::time::Clock;
+
+/// The number of callers.
+const CALLERS: u64 = 8;
+
+/// The rounds of a caller, each of four requests.
+const ROUNDS: u64 = 250;
+
+/// The rounds of the feeder, each of three payloads and a peer set.
+const FEEDS: u64 = 500;
+
+/// What happened to requests.
+#[derive(Clone, Copy)]
+struct Ends {
+    /// How many requests ended.
+    requests: u64,
+    /// How many subscriptions were served.
+    served: u64,
+    /// How many gets gave a message.
+    got: u64,
+}
+
+/// A caller of an engine.
+#[derive(Drop)]
+struct Caller<M: Letter, R> {
+    mailbox: Mailbox<u64, M, R>,
+    /// The requests that were made by all callers.
+    made: Arc<AtomicU64>,
+    rt: R,
+}
+
+impl<M, R> Caller<M, R>
+where
+    M: Letter,
+    R: Wait + RandomSource + AllocGlobal + Clone + Send + 'static,
+{
+    /// Makes all requests. Returns what happened to them, or `None` if one was refused.
+    fn run(&self) -> Option<Ends> {
+        let mut waiting = Vec::with_capacity(self.rt.alloc(), ROUNDS as usize).ok()?;
+        let mut got = 0u64;
+        for round in 0..ROUNDS {
+            let (subscription, is_found) = self.ask(round as u8)?;
+            waiting.push(subscription).ok()?;
+            got = got.saturating_add(u64::from(is_found));
+            self.made.fetch_add(4, Ordering::SeqCst);
+        }
+        Some(self.end(waiting, got))
+    }
+
+    /// Waits for the subscriptions.
+    fn end(&self, waiting: Vec<Subscription<M>>, got: u64) -> Ends {
+        let mut served = 0u64;
+        let mut ended = 0u64;
+        for subscription in waiting {
+            served = served.saturating_add(u64::from(subscription.wait(&self.rt).is_ok()));
+            ended = ended.saturating_add(4);
+        }
+        Ends {
+            requests: ended,
+            served,
+            got,
+        }
+    }
+
+    /// Makes a request of each kind, and drops a subscription that nobody serves. Returns another
+    /// one, and whether the get gave a message.
+    fn ask(&self, letter: u8) -> Option<(Subscription<M>, bool)> {
+        self.broadcast(letter % 64)?;
+        drop(self.mailbox.subscribe(self.digest(255)?).ok()?);
+        let subscription = self.mailbox.subscribe(self.digest(letter % 192)?).ok()?;
+        let get = self.mailbox.get(self.digest(letter % 128)?).ok()?;
+        Some((subscription, get.wait(&self.rt).is_some()))
+    }
+
+    /// Broadcasts the message of the letter.
+    fn broadcast(&self, letter: u8) -> Option<()> {
+        let alloc = self.rt.alloc();
+        let message = Digested::compute(alloc, M::of(alloc, letter).ok()?).ok()?;
+        let _feedback = self.mailbox.broadcast(Recipients::All, message).ok()?;
+        Some(())
+    }
+
+    /// Returns the digest of the message of the letter.
+    fn digest(&self, letter: u8) -> Option<M::Digest> {
+        digest::<M>(self.rt.alloc(), letter).ok()
+    }
+}
+
+/// Starts the callers.
+fn start_callers<M, R>(
+    rt: &R,
+    mailbox: &Mailbox<u64, M, R>,
+    made: &Arc<AtomicU64>,
+) -> Result<Vec<JoinHandle<Option<Ends>>>, Fail>
+where
+    M: Letter,
+    M::Digest: 'static,
+    M::Cfg: 'static,
+    R: Threads + Wait + RandomSource + AllocGlobal + Clone + Send + Sync + Drop + 'static,
+{
+    let mut callers = Vec::new(rt.alloc());
+    for _ in 0..CALLERS {
+        let caller = Caller {
+            mailbox: mailbox.clone()?,
+            made: Arc::try_clone(made)?,
+            rt: rt.clone()?,
+        };
+        callers.push(thread::spawn(rt, move || caller.run())?)?;
+    }
+    Ok(callers)
+}
+
+/// Joins the callers. Returns the sums of what happened to their requests.
+fn join_callers(rt: &impl Threads, callers: Vec<JoinHandle<Option<Ends>>>) -> Result<Ends, Fail> {
+    let mut all = Ends {
+        requests: 0,
+        served: 0,
+        got: 0,
+    };
+    for caller in callers {
+        let ends = caller.join(rt).ok_or("a request was refused")?;
+        all.requests = all.requests.saturating_add(ends.requests);
+        all.served = all.served.saturating_add(ends.served);
+        all.got = all.got.saturating_add(ends.got);
+    }
+    Ok(all)
+}
+
+/// Feeds the node in rounds: a peer set, and payloads that are a message of a peer, a message of a
+/// stranger, and no message.
+fn feed<R: Wait + AllocGlobal>(rt: &R, mail: &Mail) -> Result<(), AllocError> {
+    for round in 0..FEEDS {
+        let letter = (round % 192) as u8;
+        let message = [0, 0, 0, 0, 0, 0, 0, 1, letter];
+        let other = if round % 2 == 0 { 6 } else { 7 };
+        track(rt, mail, &[1, 5, other])?;
+        send(rt, mail, 5, &message)?;
+        send(rt, mail, 6, &message)?;
+        send(rt, mail, 9, &[letter])?;
+    }
+    Ok(())
+}
+
+/// Starts the feeder. Its thread returns whether all was handed over.
+fn start_feeder<R>(rt: &R, mail: &Arc<Mail>) -> Result<JoinHandle<bool>, Fail>
+where
+    R: Threads + Wait + AllocGlobal + Clone + Send + Sync + Drop + 'static,
+{
+    let mail = Arc::try_clone(mail)?;
+    let own = rt.clone()?;
+    Ok(thread::spawn(rt, move || feed(&own, &mail).is_ok())?)
+}
+
+/// Waits until the callers made half of their requests.
+fn wait_for_half(clock: &impl Clock, made: &AtomicU64) {
+    for _ in 0..LIMIT {
+        if made.load(Ordering::SeqCst) >= CALLERS * ROUNDS * 2 {
+            return;
+        }
+        pause(clock);
+    }
+}
+
+/// Whether what an engine counted agrees with what its callers saw.
+#[derive(Clone, Copy, Debug, PartialEq, Eq)]
+struct Account {
+    /// Each request ended.
+    all_ended: bool,
+    /// The engine delivered as many messages to subscriptions and gets as the callers got.
+    delivered: bool,
+    /// Each payload that was decoded was taken or dropped, and is counted for its peer.
+    payloads: bool,
+    /// No more payloads were counted than were fed.
+    fed: bool,
+    /// The feeder handed over all.
+    all_fed: bool,
+}
+
+/// Compares what an engine counted with what its callers saw.
+fn account_of(metrics: &Metrics<u64>, ends: Ends, all_fed: bool) -> Account {
+    let success = metrics.receive(Status::Success);
+    let taken = success.saturating_add(metrics.receive(Status::Dropped));
+    let decoded = metrics.peer(&5).saturating_add(metrics.peer(&6));
+    let fed = taken.saturating_add(metrics.receive(Status::Invalid));
+    Account {
+        all_ended: ends.requests == CALLERS * ROUNDS * 4,
+        delivered: (ends.served, ends.got)
+            == (
+                metrics.subscribe(Status::Success),
+                metrics.get(Status::Success),
+            ),
+        payloads: taken == decoded,
+        fed: fed <= FEEDS * 3,
+        all_fed,
+    }
+}
+
+/// Callers and a feeder that work at an engine.
+#[derive(Drop)]
+struct Workers {
+    made: Arc<AtomicU64>,
+    callers: Vec<JoinHandle<Option<Ends>>>,
+    feeder: JoinHandle<bool>,
+}
+
+/// Starts the callers and the feeder of the node.
+fn start_workers<M, R>(rt: &R, node: &Node<M, R>) -> Result<Workers, Fail>
+where
+    M: Letter,
+    M::Digest: 'static,
+    M::Cfg: 'static,
+    R: Threads + Wait + RandomSource + AllocGlobal + Clone + Send + Sync + Drop + 'static,
+{
+    let made = Arc::new(rt.alloc(), AtomicU64::new(0))?;
+    let callers = start_callers(rt, &node.mailbox, &made)?;
+    let feeder = start_feeder(rt, &node.mail)?;
+    Ok(Workers {
+        made,
+        callers,
+        feeder,
+    })
+}
+
+/// Stops the node while callers and feeder work at it, and joins them all. Its network fails then,
+/// so that it ends also if it does not stop.
+fn stop<M, R>(rt: &R, node: Node<M, R>, workers: Workers) -> Result<Account, Fail>
+where
+    M: Letter,
+    R: Threads + Wait + Drop,
+{
+    node.handle.stop();
+    fail(rt, &node.mail)?;
+    let Node { handle, .. } = node;
+    let report = handle.join(rt);
+    let Workers {
+        callers,
+        feeder,
+        ..
+    } = workers;
+    let ends = join_callers(rt, callers)?;
+    Ok(account_of(report.metrics(), ends, feeder.join(rt)))
+}
+
+/// Lets callers and a feeder work at an engine, and stops it once half of the requests are made.
+fn soak<M, R>(rt: &R) -> Result<Account, Fail>
+where
+    M: Letter,
+    M::Digest: 'static,
+    M::Cfg: Send + Drop + 'static,
+    R: Threads + Wait + Clock + RandomSource + AllocGlobal + Clone + Send + Sync + Drop + 'static,
+{
+    let node = start::<M, _, R>(rt, Sequential)?;
+    let workers = start_workers(rt, &node)?;
+    wait_for_half(rt, &workers.made);
+    stop(rt, node, workers)
+}
+
+#[test]
+fn many_callers_and_a_stop(rt: HostRuntime) -> Result<(), Fail> {
+    let expected = Account {
+        all_ended: true,
+        delivered: true,
+        payloads: true,
+        fed: true,
+        all_fed: true,
+    };
+    assert_eq!(rt; soak::<TestMessage, _>(&rt)?, expected);
+    Ok(())
+}

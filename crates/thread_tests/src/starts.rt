@@ -1,0 +1,152 @@
+//! Engines that can't be started, or can't wait once they are.
+use super::nodes::{Letter, broadcast, fail, wait_for_close};
+use super::poor::{Poor, Supply};
+use broadcast_core::TestMessage;
+use broadcast_engine::Feedback;
+use broadcast_engine::buffered::{EndCause, Handle, Mailbox, Sequential, StartError};
+use cluster_lib::network::{Inbound, Mail, Outbound};
+use cluster_lib::node::{NodeEngine, engine, network};
+use std::alloc::AllocGlobal;
+use std::random::RandomSource;
+use std::sync::{Arc, Wait};
+use std::test::Fail;
+use std::thread::Threads;
+use std::time::Clock;
+
+/// How a start ends: its error, or the cause with which the engine ended.
+type Ending = Result<EndCause, StartError>;
+
+/// A start with a supply that runs out, and how it ends.
+#[derive(Clone, Copy)]
+struct Case {
+    copies: u64,
+    randoms: u64,
+    ending: Ending,
+}
+
+static CASES: [Case; 5] = [
+    // There is no copy of the runtime for the stopper, and none for the thread.
+    Case {
+        copies: 0,
+        randoms: 9,
+        ending: Err(StartError::Memory),
+    },
+    Case {
+        copies: 1,
+        randoms: 9,
+        ending: Err(StartError::Memory),
+    },
+    // The calling thread can't wait for a job, and the engine's own thread for its sources.
+    Case {
+        copies: 2,
+        randoms: 0,
+        ending: Err(StartError::Memory),
+    },
+    Case {
+        copies: 2,
+        randoms: 1,
+        ending: Ok(EndCause::WaitFailed),
+    },
+    Case {
+        copies: 2,
+        randoms: 2,
+        ending: Ok(EndCause::Stopped),
+    },
+];
+
+fn cases() -> &'static [Case] {
+    &CASES
+}
+
+/// An engine that is not started yet, its mailbox and the ends of its network.
+#[derive(Drop)]
+struct Prepared<M: Letter, R: Wait> {
+    engine: NodeEngine<M, Sequential, R>,
+    mailbox: Mailbox<u64, M, R>,
+    mail: Arc<Mail>,
+    ends: (Outbound<R>, Inbound<R>),
+}
+
+/// Prepares an engine with an ample supply.
+fn prepare<M, R>(rt: &R) -> Result<Prepared<M, R>, Fail>
+where
+    M: Letter,
+    M::Cfg: Drop,
+    R: Wait + AllocGlobal + Clone + Drop,
+{
+    let mail = Arc::new(rt.alloc(), Mail::new(rt.alloc(), 1))?;
+    let ends = network(rt, &mail, Vec::new(rt.alloc()))?;
+    let (engine, mailbox) = engine(rt, M::cfg(), Sequential, &mail, 4)?;
+    Ok(Prepared {
+        engine,
+        mailbox,
+        mail,
+        ends,
+    })
+}
+
+/// Stops an engine. Its network fails then, so that it ends also if it does not stop. Returns its
+/// cause.
+fn stop<M, R>(
+    rt: &R,
+    mailbox: &Mailbox<u64, M, R>,
+    mail: &Mail,
+    handle: Handle<u64, M, R>,
+) -> Result<EndCause, Fail>
+where
+    M: Letter,
+    R: Threads + Wait + Clock + AllocGlobal + Clone + Send + Drop + 'static,
+{
+    handle.stop();
+    let _closed = wait_for_close(rt, mailbox)?;
+    fail(rt, mail)?;
+    Ok(handle.join(rt).cause())
+}
+
+/// Starts an engine with the supply, and stops it. Returns how that ends, and whether its mailbox
+/// is closed.
+fn start<M, R>(rt: &Poor<R>, copies: u64, randoms: u64) -> Result<(Ending, bool), Fail>
+where
+    M: Letter,
+    M::Digest: 'static,
+    M::Cfg: Send + Drop + 'static,
+    R: Threads + Wait + Clock + RandomSource + AllocGlobal + Clone + Send + Sync + Drop + 'static,
+{
+    let Prepared {
+        engine,
+        mailbox,
+        mail,
+        ends,
+    } = prepare::<M, _>(rt)?;
+    rt.supply.leave(copies, randoms);
+    let ending = match engine.start(rt, ends) {
+        Ok(handle) => Ok(stop(rt, &mailbox, &mail, handle)?),
+        Err(error) => Err(error),
+    };
+    Ok((ending, broadcast::<M, _>(rt, &mailbox)? == Feedback::Closed))
+}
+
+/// Starts an engine for each row.
+fn start_all<M, R>(rt: &R) -> Result<(), Fail>
+where
+    M: Letter,
+    M::Digest: 'static,
+    M::Cfg: Send + Drop + 'static,
+    R: Threads + Wait + Clock + RandomSource + AllocGlobal + Clone + Send + Sync + Drop + 'static,
+{
+    for row in cases() {
+        let poor = Poor {
+            rt: rt.clone()?,
+            supply: Supply::new(rt.alloc())?,
+        };
+        if start::<M, R>(&poor, row.copies, row.randoms)? != (row.ending, true) {
+            Err("a start ends otherwise")?
+        }
+    }
+    Ok(())
+}
+
+#[test]
+fn an_engine_that_is_not_started_is_given_up(rt: HostRuntime) -> Result<(), Fail> {
+    start_all::<TestMessage, _>(&rt)
+}
