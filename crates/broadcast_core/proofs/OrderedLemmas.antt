@@ -1,5 +1,5 @@
 -- Keys in rising order, each of them once.
-use Rattle.std.proofs.Common.{◌≡◌, ℕ, zero, suc, ◌+◌, ◌<◌, ◌≤◌, Bool, true, false, not, ◌&&◌, Option, Some, None, List, [], ◌∷◌, length, get_or, Result, Ok, Err, is_some, refl, sym, ap, ◌∙◌, arith, inl, inr}
+use Rattle.std.proofs.Common.{◌≡◌, ℕ, zero, suc, ◌+◌, ◌-◌, ◌<◌, ◌≤◌, Bool, true, false, not, ◌&&◌, Option, Some, None, List, [], ◌∷◌, length, get_or, Result, Ok, Err, is_some, refl, sym, ap, ◌∙◌, arith, inl, inr}
 use Rattle.std.specs.Prelude.{IfSome, IfOk, IsSomeAnd}
 use Rattle.std.specs.Cmp.{IsTotalOrder, IsEquivalence, Equal-is}
 use Rattle.std.specs.List.{All, AllByRecursion, AllZip, HoldsAt, filter, find, list_any, slice_get, dedup, dedup_from}
@@ -14,6 +14,7 @@ use Rattle.std.proofs.lemmas.List.Folds.{Any-from_list_any, list_any-from_Any, l
 use Rattle.std.proofs.lemmas.List.Kept.{Any-dedup, Contains-from_dedup}
 use Rattle.std.proofs.lemmas.List.Sorted.{searchable_from_sorted}
 use Rattle.std.proofs.lemmas.Map.Keys.{Less-from_sorted, sorted_from_all_adjacent}
+use Rattle.broadcast_core.specs.Stored.{AreBelow}
 use Rattle.broadcast_core.proofs.Distinct.{by_test, same_truth}
 
 -- what is left of the keys has a key equal to each of them, and no other
@@ -130,9 +131,42 @@ find-sort_dedup {K} {R} o {E} ties xs ys stable q =
     find-dedup E (eq_by_cmp R q) (λ x y e. let equal = eq_by_cmp_equiv o in equal.symm q x ∙ equal.congr x y q (sym (ties x y) ∙ e) ∙ equal.symm y q) ys
     ∙ find-sorted o xs ys q stable
 
+pub same_place : {K : Type 0} (ks : List K) (j : ℕ) (d e : K) → j < length ks → get_or ks j d ≡ get_or ks j e
+same_place [] j d e inside = absurd (omega arith)
+same_place (k ∷ ks) zero d e inside = refl
+same_place (k ∷ ks) (suc j) d e inside = same_place ks j d e (omega arith)
+
 -- keys of which each is below the next are sorted
 pub rises_from_steps : {K : Type 0} {R : K → K → Ordering} → IsTotalOrder R → (ks : List K) (i : ℕ) → length ks ≤ i
     → ((d : K) (k : ℕ) → k + 1 < i → k + 1 < length ks → R (get_or ks k d) (get_or ks (k + 1) d) ≡ Less) → IsStrictlySortedBy R ks
 unfolding IsStrictlySortedBy
 rises_from_steps o [] i le steps = tt
 rises_from_steps o (k ∷ ks) i le steps = sorted_from_all_adjacent o (k ∷ ks) k (λ j lt. steps k j (omega (arith, le, lt)) lt)
+
+-- ---- a walk over sorted keys
+
+module _ {K : Type 0} {R : K → K → Ordering} (o : IsTotalOrder R) (ks : List K) (sorted : IsStrictlySortedBy R ks) (key : K) where
+  -- the keys before a key that is below are below too
+  pub below_from : (n : ℕ) (d : K) → 0 < n → n ≤ length ks → R (get_or ks (n - 1) d) key ≡ Less → AreBelow R ks key n
+  below_from n d some inside below =
+      let last : (e : K) → R (get_or ks (n - 1) e) key ≡ Less = λ e. ap (λ x. R x key) (same_place ks (n - 1) e d (omega (arith, some, inside))) ∙ below in (
+        inside,
+        λ k e lt. elim (cases_lt k (n - 1)) [
+          | inl before ↦ o.trans (get_or ks k e) (get_or ks (n - 1) e) key (Less-from_sorted R ks k (n - 1) e sorted before (omega (arith, some, inside))) (last e)
+          | inr after ↦ let is : k ≡ n - 1 = omega (arith, after, lt, some) in rw is (last e)
+        ],
+      )
+
+  -- no key equals what all keys are below, or what is between two of them
+  pub none_between : (i : ℕ) → AreBelow R ks key i → ((d : K) → i < length ks → R (get_or ks i d) key ≡ Greater) → list_any (eq_by_cmp R key) ks ≡ false
+  none_between i below above =
+      let apart : All (λ q. eq_by_cmp R key q ≡ false) ks = λ k d within. elim (cases_lt k i) [
+        | inl before ↦ ap is_eq (o.antisymm key (get_or ks k d) ∙ ap ordering_reverse (below.1 k d before))
+        | inr after ↦
+            let less : R key (get_or ks i d) ≡ Less = o.antisymm key (get_or ks i d) ∙ ap ordering_reverse (above d (omega (arith, after, within))) in
+            elim (cases_lt i k) [
+              | inl further ↦ ap is_eq (o.trans key (get_or ks i d) (get_or ks k d) less (Less-from_sorted R ks i k d sorted further within))
+              | inr here ↦ let is : k ≡ i = omega (arith, after, here) in rw is (ap is_eq less)
+            ]
+      ] in
+      list_any_none (eq_by_cmp R key) ks apart

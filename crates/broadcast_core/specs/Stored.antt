@@ -1,7 +1,9 @@
 -- The content of a cache, and how takings and peer sets change it.
-use Rattle.std.specs.Prelude.{◌≡◌, ℕ, Bool, false, true, not, ◌&&◌, ◌||◌, if◌then◌else◌, List, [], ◌∷◌, take, length, ◌≤◌, Some, None, is_some}
+use Rattle.std.specs.Prelude.{◌≡◌, ℕ, Bool, false, true, not, ◌&&◌, ◌||◌, if◌then◌else◌, List, [], ◌∷◌, take, length, ◌≤◌, ◌<◌, slice_index_or, Some, None, is_some}
 use Rattle.std.specs.List.{list_any, IsDistinct}
 use Rattle.std.specs.Map.{lookup, keys_of}
+use Rattle.std.specs.declared.cmp.Ordering.{Ordering}
+use Rattle.std.specs.declared.cmp.Ordering.TheVariants.{Less}
 use Rattle.broadcast_core.specs.Carried.{Carried}
 use Rattle.broadcast_core.specs.Content.{Content, Same, among, without, items_at}
 
@@ -27,6 +29,11 @@ with_own own kept = record {
   cached = kept.stored.messages;
   waiters = kept.waiters;
 }
+
+-- the first n keys are below the key
+abbrev pub AreBelow : {K : Type 0} → (K → K → Ordering) → List K → K → ℕ → Type 0
+AreBelow {K} cmp keys key n = (n ≤ length keys)
+    × ((k : ℕ) (d : K) → k < n → cmp (slice_index_or keys k d) key ≡ Less)
 
 -- the list of the key is replaced, and the others stay
 pub record PutsList {P D : Type 0} (same : P → P → Bool) (p : P) (ds : List D)

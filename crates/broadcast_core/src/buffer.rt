@@ -152,7 +152,7 @@ impl<P: PublicKey, M: Digestible, W: Drop> Core<P, M, W> {
     {
         self.state
             .cache
-            .retain_peers(self.state.primary.as_slice(), peers.as_slice());
+            .retain_peers(self.state.primary.as_slice(), &peers);
         self.state.primary = peers;
     }
 

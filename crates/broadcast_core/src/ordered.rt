@@ -6,9 +6,11 @@ ghost use Rattle.std.specs.List.Sorted.{IsStrictlySortedBy};
 ghost use Rattle.std.specs.Option.{option_copied};
 ghost use Rattle.std.specs.Ordering.{eq_by_cmp};
 ghost use Rattle.std.proofs.Common.{rules};
+ghost use Rattle.broadcast_core.specs.Stored.{AreBelow};
 
 use crate::items::Items;
 use std::alloc::{AllocError, Global};
+use std::cmp::Ordering;
 use std::hash::Hash;
 use std::marker::Model;
 
@@ -86,6 +88,14 @@ impl<P: PublicKey> Set<P> {
         ensures some { is_some result ≡ list_any (eq_by_cmp P.cmp key.now) self.now }
     {
         place_of(self.keys.as_slice(), key)
+    }
+
+    /// Returns the place of the first key that is not below `key`, and whether it equals `key`. It
+    /// looks on from `from`, so that sorted keys are found in one walk.
+    pub(crate) fn seek(&self, from: usize, key: &P) -> (usize, bool)
+        ensures { result.1 ≡ list_any (eq_by_cmp P.cmp key.now) self.now }
+    {
+        seek(self.keys.as_slice(), from, key)
     }
 
     /// Returns the keys, sorted.
@@ -176,11 +186,41 @@ fn rises<K: Ord>(keys: &[K]) -> bool
 }
 
 /// Returns the position of the key in sorted keys.
-pub(crate) fn place_of<K: Ord>(keys: &[K], key: &K) -> Option<usize>
+fn place_of<K: Ord>(keys: &[K], key: &K) -> Option<usize>
     requires { IsStrictlySortedBy K.cmp keys.now }
     ensures place { IfSome result (λ i. IsSomeAnd (slice_get keys.now i)
         (λ q. eq_by_cmp K.cmp key.now q ≡ true)) }
     ensures some { is_some result ≡ list_any (eq_by_cmp K.cmp key.now) keys.now }
 {
     keys.binary_search(key).ok()
+}
+
+/// Returns the first place whose key is not below `key`, and whether that key equals it.
+fn seek<K: Ord>(keys: &[K], from: usize, key: &K) -> (usize, bool)
+    requires { IsStrictlySortedBy K.cmp keys.now }
+    ensures { result.1 ≡ list_any (eq_by_cmp K.cmp key.now) keys.now }
+{
+    let mut at = start(keys, from, key);
+    while at < keys.len() {
+        match keys[at].cmp(key) {
+            Ordering::Less => at += 1,
+            Ordering::Equal => return (at, true),
+            Ordering::Greater => return (at, false),
+        }
+    }
+    (at, false)
+}
+
+/// Returns `from` if the keys before it are below `key`, and else 0.
+fn start<K: Ord>(keys: &[K], from: usize, key: &K) -> usize
+    requires { IsStrictlySortedBy K.cmp keys.now }
+    ensures { AreBelow K.cmp keys.now key.now result }
+{
+    if from == 0 || from > keys.len() {
+        return 0;
+    }
+    match keys[from - 1].cmp(key) {
+        Ordering::Less => from,
+        _ => 0,
+    }
 }

@@ -16,6 +16,10 @@ abbrev pub byte_list_word : List ℕ → List ℕ
 byte_list_word [] = codes "-"
 byte_list_word (b ∷ bytes) = encode_lower (b ∷ bytes)
 
+-- the byte is a decimal digit
+abbrev pub IsDigit : ℕ → Type 0
+IsDigit byte = (48 ≤ byte) × (byte ≤ 57)
+
 -- the first byte is a digit, and a zero only if it stands alone
 pub record BeginsNumber (word : List ℕ) : Type 0 where
   pub nonempty : 0 < length word

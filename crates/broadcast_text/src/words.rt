@@ -1,13 +1,17 @@
 //! Words of a line, and numbers.
-ghost use Rattle.std.specs.Prelude.{◌≡◌, ◌^◌, ◌<◌, ℕ, List, [], ◌∷◌, ◌++◌, map, All, Some, IfSome, IfNone, IfOk, IfErr, true, ◌≢◌};
+ghost use Rattle.std.specs.Prelude.{◌≡◌, ◌+◌, ◌-◌, ◌*◌, ◌^◌, ◌<◌, ◌≤◌, ℕ, List, [], ◌∷◌, ◌++◌, map, All, Some, IfSome, IfNone, IfOk, IfErr, true, ◌≢◌};
 ghost use Rattle.std.specs.Fmt.{decimal};
-ghost use Rattle.broadcast_text.specs.Words.{BeginsNumber, words_of};
+ghost use Rattle.memchr.specs.Find.{IsFirstByte, is_byte};
+ghost use Rattle.broadcast_text.specs.Words.{BeginsNumber, IsDigit, words_of};
 ghost use Rattle.broadcast_text.specs.declared.line_error.LineError.TheVariants.{Syntax, Memory};
 
 use crate::line_error::LineError;
 use memchr::memchr;
 use std::alloc::{AllocError, Global};
 use std::marker::Model;
+
+/// How many places of a text are looked at one by one.
+const NEAR: usize = 8;
 
 /// Words between separators. There is one word more than there are separators, and a word may be
 /// empty.
@@ -49,7 +53,7 @@ impl<'a> Words<'a> {
             return None;
         }
         let rest = self.rest;
-        match memchr(self.separator, rest) {
+        match place_of(self.separator, rest) {
             Some(end) => {
                 self.rest = &rest[end + 1..];
                 Some(&rest[..end])
@@ -106,6 +110,21 @@ impl<'a> Words<'a> {
     }
 }
 
+/// Returns the first place of a byte. The nearest places are looked at one by one, since most words
+/// are short, and the others by `memchr`.
+fn place_of(byte: u8, text: &[u8]) -> Option<usize>
+    ensures { IsFirstByte (is_byte byte) text.now result }
+{
+    let mut i = 0;
+    while i < text.len() && i < NEAR {
+        if text[i] == byte {
+            return Some(i);
+        }
+        i += 1;
+    }
+    memchr(byte, text)
+}
+
 /// Returns the number that the word spells: decimal digits without leading zeros, up to
 /// `u64::MAX`.
 pub fn parse_number(word: &[u8]) -> Option<u64>
@@ -115,11 +134,28 @@ pub fn parse_number(word: &[u8]) -> Option<u64>
     if !begins_number(word) {
         return None;
     }
-    str::from_utf8(word).ok()?.parse().ok()
+    let mut number = 0;
+    let mut i = 0;
+    while i < word.len() {
+        number = with_digit(number, word[i])?;
+        i += 1;
+    }
+    Some(number)
 }
 
-/// Returns whether the first byte is a digit, and a zero only if it stands alone. (`parse` reads
-/// signs and leading zeros too.)
+/// Returns the number whose digits are those of `number`, and this one behind them.
+fn with_digit(number: u64, digit: u8) -> Option<u64>
+    ensures behind { IfSome result (λ n. IsDigit digit × (n ≡ number * 10 + (digit - 48))) }
+    ensures fails_for_others { IfNone result
+        (IsDigit digit → 2 ^ 64 ≤ number * 10 + (digit - 48)) }
+{
+    if !digit.is_ascii_digit() {
+        return None;
+    }
+    number.checked_mul(10)?.checked_add(u64::from(digit - b'0'))
+}
+
+/// Returns whether the first byte is a digit, and a zero only if it stands alone.
 fn begins_number(word: &[u8]) -> bool
     ensures begins { result ≡ true → BeginsNumber word.now }
     ensures only_others_fail { BeginsNumber word.now → result ≡ true }

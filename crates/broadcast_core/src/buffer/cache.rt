@@ -2,14 +2,13 @@
 ghost use Rattle.std.specs.Prelude.{◌≡◌, ◌≤◌, false, true, not, length, [], IfOk, IfSome, OnOk, OnErr, IsOk};
 ghost use Rattle.std.specs.Option.{option_copied};
 ghost use Rattle.std.specs.List.{IsDistinct};
-ghost use Rattle.std.specs.List.Sorted.{IsStrictlySortedBy};
 ghost use Rattle.std.specs.Map.{lookup, keys_of};
 ghost use Rattle.std.specs.Ordering.{eq_by_cmp};
 ghost use Rattle.broadcast_core.specs.Content.{same_by, among, items_at};
 
 use crate::buffer::filling;
 use crate::digested::{Digested, Digestible};
-use crate::ordered::PublicKey;
+use crate::ordered::{PublicKey, Set};
 use entries::{Entries, Table};
 use std::alloc::{AllocError, Global};
 use std::marker::Model;
@@ -99,9 +98,8 @@ impl<P: PublicKey, M: Digestible> Cache<P, M> {
         self.lists.list(alloc, peer)
     }
 
-    /// Drops the lists of those peers of `was` that are not among `peers`, which are sorted.
-    pub fn retain_peers(&mut self, was: &[P], peers: &[P])
-        requires { IsStrictlySortedBy P.cmp peers.now }
+    /// Drops the lists of those peers of `was` that are not among `peers`.
+    pub fn retain_peers(&mut self, was: &[P], peers: &Set<P>)
         ensures { Drops (same_by P.cmp M.Digest.cmp) was.now peers.now self.old self.new }
     {
         filling::retain(&mut self.lists, &mut self.table, was, peers);

@@ -3,7 +3,6 @@ ghost use Rattle.std.specs.Prelude.{◌≡◌, ◌≤◌, ◌<◌, ◌++◌, ◌
 ghost use Rattle.std.specs.Prelude.{None, [], IfOk, OnOk, OnErr, IsOk, MatchBool};
 ghost use Rattle.std.specs.Map.{lookup, keys_of};
 ghost use Rattle.std.specs.List.{IsDistinct};
-ghost use Rattle.std.specs.List.Sorted.{IsStrictlySortedBy};
 ghost use Rattle.std.specs.Ordering.{eq_by_cmp};
 ghost use Rattle.entries.specs.Linked.{IsApart};
 ghost use Rattle.entries.specs.Store.{IsOldest};
@@ -13,7 +12,7 @@ ghost use Rattle.broadcast_core.specs.Indexed.{IsIndexed, Clears, Holds, stored_
 ghost use Rattle.broadcast_core.specs.Stored.{Stores, Drops};
 
 use crate::digested::{Digested, Digestible};
-use crate::ordered::{PublicKey, place_of};
+use crate::ordered::{PublicKey, Set};
 use entries::{Entries, Table};
 use std::alloc::AllocError;
 
@@ -172,22 +171,24 @@ fn hold<P: PublicKey, M: Digestible>(
     table.insert(message.digest(), message, peer, place)
 }
 
-/// Drops the lists of those peers of `was` that are not among `peers`, which are sorted.
+/// Drops the lists of those peers of `was` that are not among `peers`.
 pub fn retain<P: PublicKey, M: Digestible>(
     lists: &mut Entries<P, M::Digest>,
     table: &mut Table<P, M::Digest, Digested<M>>,
     was: &[P],
-    peers: &[P],
+    peers: &Set<P>,
 )
-    requires rises { IsStrictlySortedBy P.cmp peers.now }
-    requires indexed { IsIndexed (same_by P.cmp M.Digest.cmp) lists.old.lists table.old }
+    requires { IsIndexed (same_by P.cmp M.Digest.cmp) lists.old.lists table.old }
     ensures indexed { IsIndexed (same_by P.cmp M.Digest.cmp) lists.new.lists table.new }
     ensures drops { Drops (same_by P.cmp M.Digest.cmp) was.now peers.now
         (stored_of lists.old.lists table.old) (stored_of lists.new.lists table.new) }
 {
     let _old = lists.len();
+    let mut at = 0;
     for peer in was {
-        if place_of(peers, peer).is_none() {
+        let (next, is_there) = peers.seek(at, peer);
+        at = next;
+        if !is_there {
             remove(lists, table, peer);
         }
     }
