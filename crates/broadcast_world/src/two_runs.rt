@@ -72,11 +72,11 @@ fn push_honest<'a, P: PublicKey>(
 /// Runs the steps in two new worlds with the same keys: all of them in one, and those that are not
 /// hostile in the other.
 ///
-/// The clauses after `without_run` compare both runs after the same steps, hostile ones not counted,
-/// as long as no step was refused for memory. Hostile steps change no list of another key. They lose
-/// no answer and make none later; those that they add are to requests for what they sent. A node
-/// caches at most `deque_size` digests more for each of its hostile primary keys. One whose peer sets
-/// never held a hostile key has the same cache, and its gets have the same answers.
+/// The clauses after `without_run` compare both runs after the same steps, hostile ones left out,
+/// as long as no step was refused for memory. Hostile steps change no list of another key. They
+/// lose no answer and make none later, and those that they add are to requests for what they sent.
+/// A node caches at most `deque_size` digests more for each of its hostile primary keys. One whose
+/// peer sets never held a hostile key has the same cache, and its gets have the same answers.
 ///
 /// `SharedKey` is judged first, and does not allocate.
 pub fn compare<P: PublicKey>(
