@@ -1,5 +1,5 @@
 //! A script of requests.
-ghost use Rattle.std.specs.Prelude.{◌≡◌, Some, false};
+ghost use Rattle.std.specs.Prelude.{◌≡◌, Some, true, false};
 ghost use Rattle.futures.specs.Task.{IsArmed, Keeps};
 ghost use Rattle.broadcast_engine.specs.Scripts.{HasGiven, IsQuiet};
 ghost use Rattle.broadcast_engine.specs.Sources.{given};
@@ -47,7 +47,9 @@ impl<T> Requests<T> for ScriptedRequests<T> {
 
     ghost stops = { λ it. it.stops_after ≡ Some 0 };
 
-    fn stopped(&mut self, cx: &mut Context<'_>) -> bool {
+    fn stopped(&mut self, cx: &mut Context<'_>) -> bool
+        ensures only_if_asked { result ≡ true → self.old.stops_after ≡ Some 0 }
+    {
         match self.stops_after {
             Some(0) => true,
             Some(calls) => {
@@ -67,7 +69,9 @@ impl<T> Requests<T> for ScriptedRequests<T> {
     }
 
     /// Records that the requests are closed.
-    fn close(&mut self) {
+    fn close(&mut self)
+        ensures closes { self.new.closed ≡ true }
+    {
         self.closed = true;
     }
 }
