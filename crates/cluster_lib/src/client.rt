@@ -1,13 +1,16 @@
 //! The client of a node.
 use crate::fault::Fault;
 use crate::message::Numbered;
+use crate::run::wait_until;
 use crate::settings::Settings;
 use broadcast_core::{Digested, Recipients};
 use broadcast_engine::buffered::{Mailbox, Subscription};
 use commonware_broadcast::Broadcaster;
 use std::alloc::{AllocGlobal, Global};
 use std::random::RandomSource;
-use std::sync::Wait;
+use std::sync::atomic::{AtomicU64, Ordering};
+use std::sync::{Arc, Wait};
+use std::time::Clock;
 
 /// What the client of a node saw.
 #[derive(Clone, Copy)]
@@ -27,6 +30,8 @@ pub struct Client<M: Numbered, R> {
     pub mailbox: Mailbox<u64, M, R>,
     /// The messages of all nodes.
     pub settings: Settings,
+    /// How many clients have subscribed.
+    pub subscribed: Arc<AtomicU64>,
     /// The right to wait.
     pub rt: R,
 }
@@ -34,12 +39,15 @@ pub struct Client<M: Numbered, R> {
 impl<M, R> Client<M, R>
 where
     M: Numbered,
-    R: Wait + RandomSource + AllocGlobal + Clone + Send + 'static,
+    R: Wait + Clock + RandomSource + AllocGlobal + Clone + Send + 'static,
 {
-    /// Subscribes to the messages of all nodes, broadcasts those of its own node, waits for all
-    /// subscriptions, and then asks for each message.
+    /// Subscribes to the messages of all nodes, and once all clients have, broadcasts those of its
+    /// own node. Waits for all subscriptions, and then asks for each message.
     pub fn run(&self) -> Result<Seen, Fault> {
-        let waiting = self.subscribe_all()?;
+        let waiting = self.subscribe_all();
+        self.subscribed.fetch_add(1, Ordering::SeqCst);
+        wait_until(&self.rt, &self.subscribed, self.settings.nodes);
+        let waiting = waiting?;
         self.broadcast_own()?;
         let served = wait_all(&self.rt, waiting);
         let evicted = self.count_missing()?;

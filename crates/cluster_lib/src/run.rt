@@ -150,14 +150,16 @@ where
     M: Numbered,
     M::Digest: 'static,
     M::Cfg: 'static,
-    R: Threads + Wait + RandomSource + AllocGlobal + Clone + Send + Sync + Drop + 'static,
+    R: Threads + Wait + Clock + RandomSource + AllocGlobal + Clone + Send + Sync + Drop + 'static,
 {
     let mut clients = Vec::new(rt.alloc());
+    let subscribed = Arc::new(rt.alloc(), AtomicU64::new(0))?;
     for node in nodes {
         let client = Client {
             key: node.mail.key,
             mailbox: node.mailbox.clone()?,
             settings,
+            subscribed: Arc::try_clone(&subscribed)?,
             rt: rt.clone()?,
         };
         clients.push(start_client(rt, client, Arc::try_clone(finished)?)?)?;
@@ -175,7 +177,7 @@ where
     M: Numbered,
     M::Digest: 'static,
     M::Cfg: 'static,
-    R: Threads + Wait + RandomSource + AllocGlobal + Clone + Send + Sync + Drop + 'static,
+    R: Threads + Wait + Clock + RandomSource + AllocGlobal + Clone + Send + Sync + Drop + 'static,
 {
     let work = move || {
         let outcome = client.run();
@@ -185,10 +187,10 @@ where
     thread::spawn(rt, work).map_err(|_| Fault::Thread)
 }
 
-/// Waits until all clients have finished, or for a minute.
-fn wait_until(rt: &impl Clock, finished: &AtomicU64, clients: u64) {
+/// Waits until this many clients have counted themselves, or for a minute.
+pub(crate) fn wait_until(rt: &impl Clock, counted: &AtomicU64, clients: u64) {
     for _ in 0..LOOKS {
-        if finished.load(Ordering::SeqCst) >= clients {
+        if counted.load(Ordering::SeqCst) >= clients {
             return;
         }
         thread::sleep(rt, Duration::from_millis(1));
