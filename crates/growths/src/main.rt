@@ -18,8 +18,8 @@
 //!   poll of the peer sets gives (`set KEY..`, `no_set`, `end`), and each poll of the network
 //!   (`payload KEY BYTES`, `no_payload`, `fail`), in order
 //!
-//! What the calls are given is made before the first of them. If that fails, the program ends with a
-//! fault and prints nothing. Printing does not allocate.
+//! What the calls are given is made before the first of them. If that fails, the program ends with
+//! a fault and prints nothing. Printing does not allocate.
 #![tactic(auto)]
 
 mod calls;
