@@ -25,14 +25,20 @@ type Payloads = Script<Result<(u64, Items<u8>), NetworkFailed>>;
 /// An engine over scripts. Its node has key 1.
 type Scripted<M, R> = MailboxEngine<u64, M, Sets, Sequential, R>;
 
-/// An engine with what it is driven over, and the futures of its callers.
+/// What an engine is driven by, its network, and the futures of its callers.
+#[derive(Drop)]
+struct Ends<M: Digestible> {
+    task: Solo,
+    network: (RecordingSender<u64>, Payloads),
+    asked: Vec<Asked<M>>,
+}
+
+/// An engine with its mailbox and its ends.
 #[derive(Drop)]
 struct Node<M: Digestible + Codec, R: Wait> {
     engine: Scripted<M, R>,
     mailbox: Mailbox<u64, M, R>,
-    task: Solo,
-    network: (RecordingSender<u64>, Payloads),
-    asked: Vec<Asked<M>>,
+    ends: Ends<M>,
 }
 
 /// The sizes of the lists and of the mailbox, and what may be decoded.
@@ -57,24 +63,68 @@ where
     R: Wait + RandomSource + AllocGlobal + Clone + Send + Drop + 'static,
 {
     let lists = Lists::new(rt.alloc(), lines)?;
-    let Ok(task) = Solo::new(rt, Doorbell::spinning()) else {
-        return Err(Fault::Memory);
-    };
+    show_lists(rt, out, settings, lists)
+}
+
+fn show_lists<M, R, W: Write>(
+    rt: &R,
+    out: &mut Printer<W>,
+    settings: Settings<M::Cfg>,
+    lists: Lists<M>,
+) -> Result<(), Fault>
+where
+    M: Content,
+    M::Cfg: Drop,
+    R: Wait + RandomSource + AllocGlobal + Clone + Send + Drop + 'static,
+{
     let Lists {
         updates,
         received,
         acts,
     } = lists;
+    let ends = ends_of(rt, received, acts.len())?;
+    show_acts(rt, out, settings, updates, acts, ends)
+}
+
+fn show_acts<M, R, W: Write>(
+    rt: &R,
+    out: &mut Printer<W>,
+    settings: Settings<M::Cfg>,
+    updates: Vec<Update>,
+    acts: Vec<Act<M>>,
+    ends: Ends<M>,
+) -> Result<(), Fault>
+where
+    M: Content,
+    M::Cfg: Drop,
+    R: Wait + AllocGlobal + Clone + Send + Drop + 'static,
+{
     let (engine, mailbox) = start(rt, settings, updates)?;
     let mut node = Node {
         engine,
         mailbox,
-        task,
-        network: network_of(rt.alloc(), received, acts.len())?,
-        asked: Vec::with_capacity(rt.alloc(), acts.len())?,
+        ends,
     };
     node.act_all(rt.alloc(), out, acts);
     Ok(())
+}
+
+/// Returns ends with places for `acts` sends and futures.
+fn ends_of<M: Digestible, R: RandomSource + AllocGlobal>(
+    rt: &R,
+    received: Vec<Received>,
+    acts: usize,
+) -> Result<Ends<M>, Fault> {
+    let network = network_of(rt.alloc(), received, acts)?;
+    let asked = Vec::with_capacity(rt.alloc(), acts)?;
+    match Solo::new(rt, Doorbell::spinning()) {
+        Ok(task) => Ok(Ends {
+            task,
+            network,
+            asked,
+        }),
+        Err(_) => Err(Fault::Memory),
+    }
 }
 
 fn start<M, R>(
@@ -110,6 +160,16 @@ fn network_of(
     Ok((sender, Script::new(received)))
 }
 
+impl<M: Content> Ends<M> {
+    /// Writes what the callers got, and what was sent.
+    fn show<W: Write>(&mut self, out: &mut Printer<W>) {
+        for asked in &mut self.asked {
+            write_asked(&self.task, out, asked);
+        }
+        write_sent(out, self.network.0.sent.as_slice());
+    }
+}
+
 impl<M, R> Node<M, R>
 where
     M: Content,
@@ -119,10 +179,7 @@ where
         for act in acts {
             self.act(alloc, out, act);
         }
-        for asked in &mut self.asked {
-            write_asked(&self.task, out, asked);
-        }
-        write_sent(out, self.network.0.sent.as_slice());
+        self.ends.show(out);
     }
 
     /// Does what the line says, and writes what comes of it.
@@ -134,7 +191,7 @@ where
             Act::Subscribe(digest) => write_told(out, "subscribe", self.subscribe(digest)),
             Act::Get(digest) => write_told(out, "get", self.get(digest)),
             Act::Drop(number) => {
-                if let Some(asked) = self.asked.get_mut(number) {
+                if let Some(asked) = self.ends.asked.get_mut(number) {
                     *asked = Asked::Dropped;
                 }
                 out.line("drop");
@@ -149,20 +206,26 @@ where
 
     fn subscribe(&mut self, digest: M::Digest) -> Result<Feedback, MailboxError> {
         let subscription = self.mailbox.subscribe(digest)?;
-        let _pushed = self.asked.push(Asked::Subscription(subscription));
+        let _pushed = self.ends.asked.push(Asked::Subscription(subscription));
         Ok(Feedback::Ok)
     }
 
     fn get(&mut self, digest: M::Digest) -> Result<Feedback, MailboxError> {
         let get = self.mailbox.get(digest)?;
-        let _pushed = self.asked.push(Asked::Get(get));
+        let _pushed = self.ends.asked.push(Asked::Get(get));
         Ok(Feedback::Ok)
     }
 
     /// Drives the engine, and writes its turns and its counters.
     fn drive<W: Write>(&mut self, alloc: Global, out: &mut Printer<W>, limit: usize) {
-        let mut cx = self.task.begin();
-        let turns = drive(alloc, &mut self.engine, &mut cx, &mut self.network, limit);
+        let mut cx = self.ends.task.begin();
+        let turns = drive(
+            alloc,
+            &mut self.engine,
+            &mut cx,
+            &mut self.ends.network,
+            limit,
+        );
         let _: Poll<()> = cx.yield_now();
         cx.park();
         match turns {
