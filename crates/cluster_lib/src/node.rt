@@ -2,7 +2,7 @@
 use crate::network::{Inbound, Mail, Outbound, PeerSets};
 use broadcast_core::{Codec, Digestible};
 use broadcast_engine::buffered::{
-    Config, Engine, Handle, Mailbox, MailboxEngine, StartError, Strategy,
+    Config, Engine, Handle, Mailbox, MailboxEngine, Report, StartError, Strategy,
 };
 use std::alloc::{AllocError, AllocGlobal};
 use std::num::NonZeroUsize;
@@ -24,6 +24,14 @@ pub struct Node<M: Digestible, R> {
     pub handle: Handle<u64, M, R>,
 }
 
+impl<M: Digestible, R: Threads + Wait + Drop> Node<M, R> {
+    /// Waits for the end of the engine. Returns what it leaves.
+    pub fn join(self, rt: &R) -> Report<u64> {
+        let Node { handle, .. } = self;
+        handle.join(rt)
+    }
+}
+
 /// Starts the node of this mail, which sends to the others.
 pub fn started<M, T, R>(
     rt: &R,
@@ -42,16 +50,39 @@ where
     R: Threads + Wait + RandomSource + AllocGlobal + Clone + Send + Sync + Drop + 'static,
 {
     let mail = Arc::try_clone(mail).map_err(out_of_memory)?;
-    let (engine, mailbox) = engine(rt, codec_config, strategy, &mail, deque_size).map_err(
-        out_of_memory,
-    )?;
-    let network = network(rt, &mail, others).map_err(out_of_memory)?;
+    let made = engine_and_network(rt, codec_config, strategy, &mail, others, deque_size);
+    let ((engine, mailbox), network) = made.map_err(out_of_memory)?;
     let handle = engine.start(rt, network)?;
     Ok(Node {
         mailbox,
         mail,
         handle,
     })
+}
+
+/// Creates the engine of a node, its mailbox, and the ends of its network.
+fn engine_and_network<M, T, R>(
+    rt: &R,
+    codec_config: M::Cfg,
+    strategy: T,
+    mail: &Arc<Mail>,
+    others: Vec<Arc<Mail>>,
+    deque_size: usize,
+) -> Result<
+    (
+        (NodeEngine<M, T, R>, Mailbox<u64, M, R>),
+        (Outbound<R>, Inbound<R>),
+    ),
+    AllocError,
+>
+where
+    M: Digestible + Codec,
+    M::Cfg: Drop,
+    T: Strategy<M> + Drop,
+    R: Wait + AllocGlobal + Clone + Drop,
+{
+    let engine = engine(rt, codec_config, strategy, mail, deque_size)?;
+    Ok((engine, network(rt, mail, others)?))
 }
 
 // Returns the error of a node for which there is no memory.

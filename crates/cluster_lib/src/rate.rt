@@ -84,8 +84,7 @@ where
     let node: Node<M, R> = started(rt, M::codec_config(), Sequential, &mail, others, 1)?;
     let measured = measure_node(rt, rate, &node);
     node.handle.stop();
-    let Node { handle, .. } = node;
-    drop(handle.join(rt));
+    drop(node.join(rt));
     measured
 }
 
@@ -98,8 +97,18 @@ where
 {
     let message = Digested::compute(rt.alloc(), M::numbered(rt.alloc(), 1, 1)?)?;
     let _feedback = node.mailbox.broadcast(Recipients::All, message)?;
+    time(rt, rate, &node.mailbox)
+}
+
+/// Starts the clients, and waits for them.
+fn time<M, R>(rt: &R, rate: Rate, mailbox: &Mailbox<u64, M, R>) -> Result<Measured, Fault>
+where
+    M: Numbered,
+    M::Digest: 'static,
+    R: Threads + Wait + Clock + RandomSource + AllocGlobal + Clone + Send + Sync + Drop + 'static,
+{
     let began = Instant::now(rt).map_err(|_| Fault::Clock)?;
-    let clients = start_clients(rt, rate, &node.mailbox)?;
+    let clients = start_clients(rt, rate, mailbox)?;
     let answered = join_clients(rt, clients)?;
     let took = began.elapsed(rt).map_err(|_| Fault::Clock)?;
     Ok(Measured {
@@ -121,11 +130,25 @@ where
 {
     let mut clients = Vec::new(rt.alloc());
     for _ in 0..rate.clients {
-        let (mailbox, own) = (mailbox.clone()?, rt.clone()?);
-        let work = move || ask(&own, rate, &mailbox);
-        clients.push(thread::spawn(rt, work).map_err(|_| Fault::Thread)?)?;
+        clients.push(start_client(rt, rate, mailbox)?)?;
     }
     Ok(clients)
+}
+
+/// Starts a client.
+fn start_client<M, R>(
+    rt: &R,
+    rate: Rate,
+    mailbox: &Mailbox<u64, M, R>,
+) -> Result<JoinHandle<Result<u64, Fault>>, Fault>
+where
+    M: Numbered,
+    M::Digest: 'static,
+    R: Threads + Wait + RandomSource + AllocGlobal + Clone + Send + Sync + Drop + 'static,
+{
+    let (mailbox, own) = (mailbox.clone()?, rt.clone()?);
+    let work = move || ask(&own, rate, &mailbox);
+    thread::spawn(rt, work).map_err(|_| Fault::Thread)
 }
 
 /// Joins the clients. Returns how many requests were answered.

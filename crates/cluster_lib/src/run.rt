@@ -155,23 +155,37 @@ where
     let mut clients = Vec::new(rt.alloc());
     let subscribed = Arc::new(rt.alloc(), AtomicU64::new(0))?;
     for node in nodes {
-        let client = Client {
-            key: node.mail.key,
-            mailbox: node.mailbox.clone()?,
-            settings,
-            subscribed: Arc::try_clone(&subscribed)?,
-            rt: rt.clone()?,
-        };
-        clients.push(start_client(rt, client, Arc::try_clone(finished)?)?)?;
+        let client = client_of(rt, settings, node, &subscribed)?;
+        clients.push(start_client(rt, client, finished)?)?;
     }
     Ok(clients)
+}
+
+/// Creates the client of a node.
+fn client_of<M, R>(
+    rt: &R,
+    settings: Settings,
+    node: &Node<M, R>,
+    subscribed: &Arc<AtomicU64>,
+) -> Result<Client<M, R>, AllocError>
+where
+    M: Numbered,
+    R: Clone + Drop,
+{
+    Ok(Client {
+        key: node.mail.key,
+        mailbox: node.mailbox.clone()?,
+        settings,
+        subscribed: Arc::try_clone(subscribed)?,
+        rt: rt.clone()?,
+    })
 }
 
 /// Starts a client, which counts itself once it has finished.
 fn start_client<M, R>(
     rt: &R,
     client: Client<M, R>,
-    finished: Arc<AtomicU64>,
+    finished: &Arc<AtomicU64>,
 ) -> Result<JoinHandle<Outcome>, Fault>
 where
     M: Numbered,
@@ -179,6 +193,7 @@ where
     M::Cfg: 'static,
     R: Threads + Wait + Clock + RandomSource + AllocGlobal + Clone + Send + Sync + Drop + 'static,
 {
+    let finished = Arc::try_clone(finished)?;
     let work = move || {
         let outcome = client.run();
         finished.fetch_add(1, Ordering::SeqCst);
@@ -221,16 +236,24 @@ where
 {
     let mut rows = Vec::new(rt.alloc());
     for (node, client) in nodes.into_iter().zip(clients) {
-        let Node {
-            mailbox,
-            mail,
-            handle,
-        } = node;
-        drop(mailbox);
-        let report = handle.join(rt);
-        let seen = client.join(rt)?;
-        let row = Row::new(mail.key, report.metrics(), seen, settings.subscriptions());
-        rows.push(row)?;
+        rows.push(row(rt, settings, node, client)?)?;
     }
     Ok(rows)
+}
+
+/// Joins a node, which was asked to stop, and its client. Returns what became of the node.
+fn row<M, R>(
+    rt: &R,
+    settings: Settings,
+    node: Node<M, R>,
+    client: JoinHandle<Outcome>,
+) -> Result<Row, Fault>
+where
+    M: Numbered,
+    R: Threads + Wait + AllocGlobal + Drop,
+{
+    let key = node.mail.key;
+    let report = node.join(rt);
+    let seen = client.join(rt)?;
+    Ok(Row::new(key, report.metrics(), seen, settings.subscriptions()))
 }
