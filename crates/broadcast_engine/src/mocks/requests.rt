@@ -1,8 +1,9 @@
 //! A script of requests.
-ghost use Rattle.std.specs.Prelude.{◌≡◌, Some, true, false};
+ghost use Rattle.std.specs.Prelude.{◌≡◌, List, Some, true, false};
 ghost use Rattle.futures.specs.Task.{IsArmed, Keeps};
 ghost use Rattle.broadcast_engine.specs.Scripts.{HasGiven, IsQuiet};
 ghost use Rattle.broadcast_engine.specs.Sources.{given};
+ghost use Rattle.commonware_broadcast.specs.declared.buffered.ingress.request.Request.{Request as Asked};
 
 use super::script::Script;
 use crate::buffered::{Request, Requests};
@@ -48,7 +49,13 @@ impl<T> Requests<T> for ScriptedRequests<T> {
     ghost stops = { λ it. it.stops_after ≡ Some 0 };
 
     fn stopped(&mut self, cx: &mut Context<'_>) -> bool
+        ensures stops { self.old.stops_after ≡ Some 0 → result ≡ true }
         ensures only_if_asked { result ≡ true → self.old.stops_after ≡ Some 0 }
+        ensures tells { (requests : List (Asked T)) → HasGiven given self.old.script requests
+            → HasGiven given self.new.script requests }
+        ensures armed { result ≡ false → IsArmed cx.new }
+        ensures quiet { IsQuiet self.new.script → IsQuiet self.old.script }
+        ensures kept { Keeps cx.old cx.new }
     {
         match self.stops_after {
             Some(0) => true,
@@ -71,6 +78,8 @@ impl<T> Requests<T> for ScriptedRequests<T> {
     /// Records that the requests are closed.
     fn close(&mut self)
         ensures closes { self.new.closed ≡ true }
+        ensures tells { (requests : List (Asked T)) → HasGiven given self.old.script requests
+            → HasGiven given self.new.script requests }
     {
         self.closed = true;
     }
