@@ -15,6 +15,12 @@ length-filter_le p [] = omega arith
 length-filter_le p (x ∷ xs) = elim (p x) as (λ b. length (cond b (x ∷ filter p xs) (filter p xs)) ≤ suc (length xs)) [ true ↦ omega (arith, length-filter_le p xs) | false ↦ omega (arith, length-filter_le p xs) ]
 
 -- by what a test answers
+pub flip-not : (a b : Bool) → a ≡ not b → b ≡ not a
+flip-not true true h = cc
+flip-not true false h = refl
+flip-not false true h = refl
+flip-not false false h = cc
+
 pub by_test : {P : Type 0} (b : Bool) → (b ≡ true → P) → (b ≡ false → P) → P
 by_test true at_true at_false = at_true refl
 by_test false at_true at_false = at_false refl

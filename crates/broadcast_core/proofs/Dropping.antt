@@ -1,5 +1,5 @@
 -- Lists that are dropped, digest by digest and key by key.
-use Rattle.std.proofs.Common.{◌≡◌, ◌<◌, Bool, true, false, not, ◌&&◌, ◌||◌, cond, List, [], ◌∷◌, ◌++◌, length, refl, sym, ap, ◌∙◌, arith, length-append}
+use Rattle.std.proofs.Common.{◌≡◌, ◌<◌, Bool, true, false, not, ◌&&◌, ◌||◌, cond, List, [], ◌∷◌, ◌++◌, length, Option, Some, None, refl, sym, ap, ◌∙◌, arith, length-append}
 use Rattle.std.specs.Prelude.{is_some}
 use Rattle.std.specs.List.{list_any, IsDistinct}
 use Rattle.std.specs.Map.{lookup, keys_of}
@@ -9,9 +9,9 @@ use Rattle.entries.specs.Placed.{Placed}
 use Rattle.entries.specs.Store.{items_at, digests_of, Evicts, Removes}
 use Rattle.entries.specs.Table.{messages_of, IsPlaced, Leaves}
 use Rattle.broadcast_core.specs.Carried.{Carried}
-use Rattle.broadcast_core.specs.Content.{Same}
-use Rattle.broadcast_core.specs.Indexed.{IsIndexed, Fewer, Clears, digest_lists, stored_of}
-use Rattle.broadcast_core.specs.Stored.{Drops, is_stored, is_dropped}
+use Rattle.broadcast_core.specs.Content.{Same, items_at as stored_at}
+use Rattle.broadcast_core.specs.Indexed.{IsIndexed, Fewer, digest_lists, stored_of}
+use Rattle.broadcast_core.specs.Stored.{Stored, Drops, is_stored, is_dropped}
 use Rattle.broadcast_core.proofs.Distinct.{by_test, among-equal, list_any-append, or_none, or_right}
 use Rattle.broadcast_core.proofs.Placing.{items_at-digests, is_some-digests}
 use Rattle.broadcast_core.proofs.Indexing.{cond_true, cond_false, IsIndexed-evicted, IsIndexed-closed}
@@ -39,6 +39,65 @@ module _ {P D : Type 0} (same : Same P D) where
         and_false : (b : Bool) → (b && false) ≡ false
         and_false true = refl
         and_false false = refl
+
+  module _ (key_laws : IsEquivalence same.key) (p q : P) where
+    -- a set of one key that is followed by the empty one
+    one-dropped : is_dropped same (p ∷ []) [] q ≡ same.key p q
+    one-dropped = and_true (same.key q p || false) ∙ or_none (same.key q p) ∙ key_laws.symm q p
+      where
+        and_true : (b : Bool) → (b && true) ≡ b
+        and_true true = refl
+        and_true false = refl
+
+fewer_from : {X : Type 0} (b : Bool) (now new : Option X) → new ≡ cond b now None → (y : X) → new ≡ Some y → now ≡ Some y
+fewer_from true now new is y h = sym is ∙ h
+fewer_from false now new is y h = let no : None ≡ Some y = sym is ∙ h in cc
+
+module _ {P M D : Type 0} (same : Same P D) where
+  -- what is kept while the keys of a set are looked at
+  pub record Dropping (seen peers : List P) (old new : Stored P M D) : Type 0 where
+    pub lists : (q : P) → stored_at same.key q new.lists ≡ cond (is_dropped same seen peers q) [] (stored_at same.key q old.lists)
+    pub keys : (q : P) → is_some (lookup (same.key q) new.lists) ≡ true → (is_dropped same seen peers q ≡ false) × (is_some (lookup (same.key q) old.lists) ≡ true)
+    pub fewer : Fewer same old.messages new.messages
+
+  pub Dropping-start : (peers : List P) (old : Stored P M D) → Dropping [] peers old old
+  Dropping-start peers old = record { lists = λ q. refl; keys = λ q there. (refl, there); fewer = λ d y h. h }
+
+  module _ (key_laws : IsEquivalence same.key) (seen peers : List P) (old now : Stored P M D) (c : Dropping seen peers old now) (p : P) where
+    -- the key is in the new set
+    pub Dropping-stays : list_any (same.key p) peers ≡ true → Dropping (seen ++ p ∷ []) peers old now
+    Dropping-stays there =
+        let agrees : (q : P) → is_dropped same (seen ++ p ∷ []) peers q ≡ is_dropped same seen peers q = λ q. by_test (same.key p q)
+        (λ h. stays-here same key_laws seen peers p q (seen ++ p ∷ []) h there ∙ sym (stays-here same key_laws seen peers p q seen h there))
+        (λ h. dropped-other same key_laws seen peers p q h) in
+        record {
+          lists = λ q. c.lists q ∙ sym (ap (λ b. cond b [] (stored_at same.key q old.lists)) (agrees q));
+          keys = λ q there. let r = c.keys q there in (agrees q ∙ r.0, r.1);
+          fewer = c.fewer;
+        }
+
+    -- the key is not
+    pub Dropping-leaves : (new : Stored P M D) → list_any (same.key p) peers ≡ false → Drops same (p ∷ []) [] now new → Dropping (seen ++ p ∷ []) peers old new
+    Dropping-leaves new gone drops = record {
+      lists = λ q. drops.lists q ∙ by_test (same.key p q)
+          (λ h. cond_true (is_dropped same (p ∷ []) [] q) [] (stored_at same.key q now.lists) (one-dropped same key_laws p q ∙ h)
+          ∙ sym (cond_true (is_dropped same (seen ++ p ∷ []) peers q) [] (stored_at same.key q old.lists) (dropped-here same key_laws seen peers p q h gone)))
+          (λ h. cond_false (is_dropped same (p ∷ []) [] q) [] (stored_at same.key q now.lists) (one-dropped same key_laws p q ∙ h)
+          ∙ c.lists q ∙ sym (ap (λ b. cond b [] (stored_at same.key q old.lists)) (dropped-other same key_laws seen peers p q h)));
+      keys = λ q there. let r = drops.keys q there in let s = c.keys q r.1 in (dropped-other same key_laws seen peers p q (sym (one-dropped same key_laws p q) ∙ r.0) ∙ s.0, s.1);
+      fewer = λ d y h. c.fewer d y (fewer_from (is_stored same d new.lists) (lookup (same.digest d) now.messages) (lookup (same.digest d) new.messages) (drops.messages d) y h);
+    }
+
+  -- all keys were looked at
+  pub Drops-made : (key_laws : IsEquivalence same.key) (laws : IsEquivalence same.digest) (was peers : List P) (old : Stored P M D) (now : List (P × List (Node D))) (new : List (D × Placed P (Carried M D)))
+      → IsIndexed same now new → IsDistinct same.key (keys_of (digest_lists now)) → Dropping was peers old (stored_of now new) → Drops same was peers old (stored_of now new)
+  Drops-made key_laws laws was peers old now new indexed distinct c = record {
+    lists = c.lists;
+    keys = c.keys;
+    distinct = distinct;
+    messages = λ d. fewer-cases same key_laws laws (is_stored same d (digest_lists now)) (lookup (same.digest d) old.messages) (lookup (same.digest d) (messages_of new))
+        (stored-cached same key_laws laws now new indexed distinct d) (λ y h. c.fewer d y h);
+  }
 
 module _ {P M D : Type 0} (same : Same P D) where
   -- what is kept while the list of a key is cleared
@@ -70,63 +129,21 @@ module _ {P M D : Type 0} (same : Same P D) where
         let rest : items_at same.key p next ≡ evicts.rest = evicts.put.lists p ∙ cond_true (same.key p p) evicts.rest (items_at same.key p now) (key_laws.refl p) in
         omega (arith, ap length rest, ap length evicts.last, length-append evicts.rest ((evicts.place, stale) ∷ []))
 
-    pub Clearing-end : (gone : List (P × List (Node D))) → items_at same.key p now ≡ [] → next ≡ now → Removes same.key p next gone → IsIndexed same gone mid × Clears same p first gone old mid
+    pub Clearing-end : (gone : List (P × List (Node D))) → items_at same.key p now ≡ [] → next ≡ now → Removes same.key p next gone
+        → IsIndexed same gone mid × Dropping same (p ∷ []) [] (stored_of first old) (stored_of gone mid)
     Clearing-end gone empty stays removes =
         let at : (q : P) → items_at same.key q gone ≡ cond (same.key p q) [] (items_at same.key q now) = λ q. removes.lists q ∙ ap (λ l. cond (same.key p q) [] (items_at same.key q l)) stays in (
           IsIndexed-closed same key_laws laws p now gone mid c.indexed empty at,
           record {
-            lists = λ q. at q ∙ by_test (same.key p q)
-                (λ h. cond_true (same.key p q) [] (items_at same.key q now) h ∙ sym (cond_true (same.key p q) [] (items_at same.key q first) h))
-                (λ h. cond_false (same.key p q) [] (items_at same.key q now) h ∙ c.lists q h ∙ sym (cond_false (same.key p q) [] (items_at same.key q first) h));
-            keys = λ q there. let r = removes.keys q there in (r.0, c.keys q r.0 (ap (λ l. is_some (lookup (same.key q) l)) (sym stays) ∙ r.1));
+            lists = λ q. items_at-digests same.key q gone ∙ by_test (same.key p q)
+                (λ h. ap digests_of (at q ∙ cond_true (same.key p q) [] (items_at same.key q now) h)
+                ∙ sym (cond_true (is_dropped same (p ∷ []) [] q) [] (items_at same.key q (digest_lists first)) (one-dropped same key_laws p q ∙ h)))
+                (λ h. ap digests_of (at q ∙ cond_false (same.key p q) [] (items_at same.key q now) h ∙ c.lists q h) ∙ sym (items_at-digests same.key q first)
+                ∙ sym (cond_false (is_dropped same (p ∷ []) [] q) [] (items_at same.key q (digest_lists first)) (one-dropped same key_laws p q ∙ h)));
+            keys = λ q there. let r = removes.keys q (sym (is_some-digests same.key q gone) ∙ there) in (
+              one-dropped same key_laws p q ∙ r.0,
+              is_some-digests same.key q first ∙ c.keys q r.0 (ap (λ l. is_some (lookup (same.key q) l)) (sym stays) ∙ r.1),
+            );
             fewer = c.fewer;
           },
         )
-
-  -- what is kept while the keys of a set are looked at
-  pub record Dropping (seen peers : List P) (first now : List (P × List (Node D))) (old new : List (D × Placed P (Carried M D))) : Type 0 where
-    pub indexed : IsIndexed same now new
-    pub lists : (q : P) → items_at same.key q now ≡ cond (is_dropped same seen peers q) [] (items_at same.key q first)
-    pub keys : (q : P) → is_some (lookup (same.key q) now) ≡ true → (is_dropped same seen peers q ≡ false) × (is_some (lookup (same.key q) first) ≡ true)
-    pub fewer : Fewer same (messages_of old) (messages_of new)
-
-  pub Dropping-start : (peers : List P) (lists : List (P × List (Node D))) (items : List (D × Placed P (Carried M D))) → IsIndexed same lists items → Dropping [] peers lists lists items items
-  Dropping-start peers lists items was = record { indexed = was; lists = λ q. refl; keys = λ q there. (refl, there); fewer = λ d y h. h }
-
-  module _ (key_laws : IsEquivalence same.key) (seen peers : List P) (first now : List (P × List (Node D))) (old mid : List (D × Placed P (Carried M D))) (c : Dropping seen peers first now old mid) (p : P) where
-    -- the key is in the new set
-    pub Dropping-stays : list_any (same.key p) peers ≡ true → Dropping (seen ++ p ∷ []) peers first now old mid
-    Dropping-stays there =
-        let agrees : (q : P) → is_dropped same (seen ++ p ∷ []) peers q ≡ is_dropped same seen peers q = λ q. by_test (same.key p q)
-        (λ h. stays-here same key_laws seen peers p q (seen ++ p ∷ []) h there ∙ sym (stays-here same key_laws seen peers p q seen h there))
-        (λ h. dropped-other same key_laws seen peers p q h) in
-        record {
-          indexed = c.indexed;
-          lists = λ q. c.lists q ∙ sym (ap (λ b. cond b [] (items_at same.key q first)) (agrees q));
-          keys = λ q there. let r = c.keys q there in (agrees q ∙ r.0, r.1);
-          fewer = c.fewer;
-        }
-
-    -- the key is not
-    pub Dropping-leaves : (next : List (P × List (Node D))) (new : List (D × Placed P (Carried M D))) → list_any (same.key p) peers ≡ false → IsIndexed same next new → Clears same p now next mid new → Dropping (seen ++ p ∷ []) peers first next old new
-    Dropping-leaves next new gone indexed clears = record {
-      indexed = indexed;
-      lists = λ q. clears.lists q ∙ by_test (same.key p q)
-          (λ h. cond_true (same.key p q) [] (items_at same.key q now) h ∙ sym (cond_true (is_dropped same (seen ++ p ∷ []) peers q) [] (items_at same.key q first) (dropped-here same key_laws seen peers p q h gone)))
-          (λ h. cond_false (same.key p q) [] (items_at same.key q now) h ∙ c.lists q ∙ sym (ap (λ b. cond b [] (items_at same.key q first)) (dropped-other same key_laws seen peers p q h)));
-      keys = λ q there. let r = clears.keys q there in let s = c.keys q r.1 in (dropped-other same key_laws seen peers p q r.0 ∙ s.0, s.1);
-      fewer = λ d y h. c.fewer d y (clears.fewer d y h);
-    }
-
-  -- all keys were looked at
-  pub Drops-made : (key_laws : IsEquivalence same.key) (laws : IsEquivalence same.digest) (was peers : List P) (first now : List (P × List (Node D))) (old new : List (D × Placed P (Carried M D)))
-      → IsDistinct same.key (keys_of (digest_lists now)) → Dropping was peers first now old new → Drops same was peers (stored_of first old) (stored_of now new)
-  Drops-made key_laws laws was peers first now old new distinct c = record {
-    lists = λ q. items_at-digests same.key q now ∙ ap digests_of (c.lists q) ∙ by_test (is_dropped same was peers q)
-        (λ h. ap digests_of (cond_true (is_dropped same was peers q) [] (items_at same.key q first) h) ∙ sym (cond_true (is_dropped same was peers q) [] (items_at same.key q (digest_lists first)) h))
-        (λ h. ap digests_of (cond_false (is_dropped same was peers q) [] (items_at same.key q first) h) ∙ sym (items_at-digests same.key q first) ∙ sym (cond_false (is_dropped same was peers q) [] (items_at same.key q (digest_lists first)) h));
-    keys = λ q there. let r = c.keys q (sym (is_some-digests same.key q now) ∙ there) in (r.0, is_some-digests same.key q first ∙ r.1);
-    distinct = distinct;
-    messages = λ d. fewer-cases same key_laws laws (is_stored same d (digest_lists now)) (lookup (same.digest d) (messages_of old)) (lookup (same.digest d) (messages_of new))
-        (stored-cached same key_laws laws now new c.indexed distinct d) (λ y h. c.fewer d y h);
-  }

@@ -57,12 +57,3 @@ module _ {P M D : Type 0} (same : Same P D) where
         then messages_of old else insert_entry cmp (messages_of old) x.digest x)
     pub cached : is_some (lookup (same.digest x.digest) (messages_of new)) ≡ true
     pub origin : Origin x (messages_of old) (messages_of new)
-
-  -- the key has no list any more, and the others stay
-  pub record Clears (p : P) (old_lists new_lists : List (P × List (Node D)))
-      (old new : List (D × Placed P (Carried M D))) : Type 0 where
-    pub lists : (q : P) → items_at same.key q new_lists
-        ≡ (if same.key p q then [] else items_at same.key q old_lists)
-    pub keys : (q : P) → is_some (lookup (same.key q) new_lists) ≡ true
-        → (same.key p q ≡ false) × (is_some (lookup (same.key q) old_lists) ≡ true)
-    pub fewer : Fewer (messages_of old) (messages_of new)

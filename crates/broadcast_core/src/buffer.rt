@@ -9,7 +9,6 @@ ghost use Rattle.std.specs.Ordering.{eq_by_cmp};
 ghost use Rattle.broadcast_core.specs.Content.{same_by};
 
 mod cache;
-mod filling;
 mod state;
 mod waiters;
 

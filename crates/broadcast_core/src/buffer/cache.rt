@@ -1,12 +1,14 @@
 //! The lists of the peers, and each listed message once.
-ghost use Rattle.std.specs.Prelude.{◌≡◌, ◌≤◌, false, true, not, length, [], IfOk, IfSome, OnOk, OnErr, IsOk};
+ghost use Rattle.std.specs.Prelude.{◌≡◌, ◌≤◌, ◌<◌, ◌⊎◌, ◌∷◌, ℕ, false, true, not, length, [], None, IsSome};
+ghost use Rattle.std.specs.Prelude.{IfOk, IfSome, OnOk, OnErr, IsOk};
 ghost use Rattle.std.specs.Option.{option_copied};
 ghost use Rattle.std.specs.List.{IsDistinct};
 ghost use Rattle.std.specs.Map.{lookup, keys_of};
 ghost use Rattle.std.specs.Ordering.{eq_by_cmp};
+ghost use Rattle.entries.specs.Table.{place_at, IsPlaced, IsSame};
 ghost use Rattle.broadcast_core.specs.Content.{same_by, among, items_at};
+ghost use Rattle.broadcast_core.specs.Indexed.{Holds};
 
-use crate::buffer::filling;
 use crate::digested::{Digested, Digestible};
 use crate::ordered::{PublicKey, Set};
 use entries::{Entries, Table};
@@ -83,7 +85,80 @@ impl<P: PublicKey, M: Digestible> Cache<P, M> {
             (items_at (eq_by_cmp P.cmp) peer.now self.old.lists) ≡ true → IsOk result }
         ensures succeeds_at_size_zero { deque_size ≡ 0 → IsOk result }
     {
-        filling::take(&mut self.lists, &mut self.table, peer, message, deque_size)
+        if deque_size == 0 {
+            // No two lists have one key: so says `len`.
+            let _lists = self.lists.len();
+            return Ok(true);
+        }
+        match self.replace(peer, message, deque_size)? {
+            Some(is_new) => Ok(is_new),
+            None => self.insert(peer, message),
+        }
+    }
+
+    /// Puts the digest in front of the list of `peer`, if that is full, a new digest in the place
+    /// of the oldest one. Returns whether it is new there, or `None` if the list is not full.
+    fn replace(
+        &mut self,
+        peer: &P,
+        message: &Digested<M>,
+        deque_size: usize,
+    ) -> Result<Option<bool>, AllocError>
+        requires { length (items_at (eq_by_cmp P.cmp) peer.now self.old.lists) ≤ deque_size }
+        ensures not_full { let ds = items_at (eq_by_cmp P.cmp) peer.now self.old.lists in
+            IfOk result (λ new. new ≡ None
+            → (self.new ≡ self.old) × ((length ds < deque_size) ⊎ (ds ≡ []))) }
+        ensures new { let same = same_by P.cmp M.Digest.cmp in
+            let ds = items_at same.key peer.now self.old.lists in
+            IfOk result (λ new. IfSome new (λ new. new
+            ≡ not (among same.digest message.now.digest ds))) }
+        ensures ok { let same = same_by P.cmp M.Digest.cmp in
+            IfOk result (λ new. IsSome new
+            → Stores same peer.now message.now deque_size self.old self.new) }
+        ensures err { OnErr result (self.new ≡ self.old) }
+        ensures succeeds_on_duplicate { among (eq_by_cmp M.Digest.cmp) message.now.digest
+            (items_at (eq_by_cmp P.cmp) peer.now self.old.lists) ≡ true → IsOk result }
+    {
+        let Some(oldest) = self.lists.oldest_beyond(peer, deque_size) else {
+            return Ok(None);
+        };
+        let _old = self.lists.len();
+        let found = hold(&mut self.table, peer, message, oldest.0)?;
+        if found.is_none() {
+            self.table.remove(oldest.1, peer);
+        }
+        let place = found.unwrap_or(oldest.0);
+        self.lists.promote(peer, place, message.digest());
+        // No two lists have one key: so says `len`.
+        let _new = self.lists.len();
+        Ok(Some(found.is_none()))
+    }
+
+    /// Puts the digest in front of the list of `peer`, which may get longer. Returns whether it is
+    /// new there.
+    fn insert(&mut self, peer: &P, message: &Digested<M>) -> Result<bool, AllocError>
+        ensures new { let same = same_by P.cmp M.Digest.cmp in
+            let ds = items_at same.key peer.now self.old.lists in
+            IfOk result (λ new. new ≡ not (among same.digest message.now.digest ds)) }
+        ensures ok { let same = same_by P.cmp M.Digest.cmp in
+            let ds = items_at same.key peer.now self.old.lists in
+            OnOk result ((size : ℕ) → length ds < size
+            → Stores same peer.now message.now size self.old self.new) }
+        ensures err { OnErr result (self.new ≡ self.old) }
+        ensures succeeds_on_duplicate { among (eq_by_cmp M.Digest.cmp) message.now.digest
+            (items_at (eq_by_cmp P.cmp) peer.now self.old.lists) ≡ true → IsOk result }
+    {
+        let _old = self.lists.len();
+        let found = hold(&mut self.table, peer, message, self.lists.vacant())?;
+        if let Some(place) = found {
+            self.lists.promote(peer, place, message.digest());
+        } else if let Err(refused) = self.lists.insert(peer, message.digest()) {
+            self.table.remove(message.digest(), peer);
+            return Err(refused);
+        }
+        // No two lists have one key: so says `len`.
+        let _new = self.lists.len();
+        Ok(found.is_none())
     }
 
     /// Returns the digests on the list of `peer`, newest first.
@@ -102,6 +177,49 @@ impl<P: PublicKey, M: Digestible> Cache<P, M> {
     pub fn retain_peers(&mut self, was: &[P], peers: &Set<P>)
         ensures { Drops (same_by P.cmp M.Digest.cmp) was.now peers.now self.old self.new }
     {
-        filling::retain(&mut self.lists, &mut self.table, was, peers);
+        let mut at = 0;
+        for peer in was {
+            let (next, is_there) = peers.seek(at, peer);
+            at = next;
+            if !is_there {
+                self.remove(peer);
+            }
+        }
+        // No two lists have one key: so says `len`.
+        let _lists = self.lists.len();
     }
+
+    /// Drops the list of `peer`.
+    fn remove(&mut self, peer: &P)
+        ensures { Drops (same_by P.cmp M.Digest.cmp) (peer.now ∷ []) [] self.old self.new }
+    {
+        while let Some(stale) = self.lists.evict(peer) {
+            self.table.remove(stale, peer);
+        }
+        self.lists.remove(peer);
+        // No two lists have one key: so says `len`.
+        let _new = self.lists.len();
+    }
+}
+
+/// Returns the place of the digest on the list of `peer`, if it has one. Otherwise gives it this
+/// place, and caches the message.
+fn hold<P: PublicKey, M: Digestible>(
+    table: &mut Table<P, M::Digest, Digested<M>>,
+    peer: &P,
+    message: &Digested<M>,
+    place: usize,
+) -> Result<Option<usize>, AllocError>
+    ensures found { IfOk result (λ found. found ≡ place_at (eq_by_cmp M.Digest.cmp)
+        (eq_by_cmp P.cmp) table.old message.now.digest peer.now) }
+    ensures stays { IfOk result (λ found. IsSome found → table.new ≡ table.old) }
+    ensures held { IfOk result (λ found. found ≡ None → Holds (same_by P.cmp M.Digest.cmp)
+        M.Digest.cmp peer.now message.now place table.old table.new) }
+    ensures fails_for_new_places { OnErr result (place_at (eq_by_cmp M.Digest.cmp)
+        (eq_by_cmp P.cmp) table.old message.now.digest peer.now ≡ None) }
+    ensures err { OnErr result (IsSame (eq_by_cmp M.Digest.cmp)
+        (eq_by_cmp P.cmp) table.old table.new) }
+    ensures placed { IsPlaced (eq_by_cmp M.Digest.cmp) (eq_by_cmp P.cmp) table.new }
+{
+    table.insert(message.digest(), message, peer, place)
 }

@@ -1,7 +1,7 @@
 use Rattle.std.specs.Cmp.{eq_by_cmp_equiv}
 use Rattle.broadcast_core.specs.Content.{same_by}
 use Rattle.broadcast_core.proofs.Holding.{holds_if_new}
-use Rattle.broadcast_core.proofs.buffer.filling.hold.Goals as goal
+use Rattle.broadcast_core.proofs.buffer.cache.hold.Goals as goal
 
 pub returns-clause-held : goal.returns-clause-held
 returns-clause-held g c =

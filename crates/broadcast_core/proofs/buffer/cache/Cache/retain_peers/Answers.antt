@@ -1,0 +1,36 @@
+use Rattle.std.proofs.Common.{◌≡◌, ◌+◌, [], ◌∷◌, ◌++◌, take, sym, ap, ◌∙◌, arith, subst}
+use Rattle.std.specs.Cmp.{eq_by_cmp_equiv}
+use Rattle.std.proofs.lemmas.List.{take_all, take_more}
+use Rattle.broadcast_core.specs.Content.{same_by}
+use Rattle.broadcast_core.specs.Indexed.{stored_of}
+use Rattle.broadcast_core.proofs.Placing.{distinct-digests}
+use Rattle.broadcast_core.proofs.Dropping.{Dropping, Dropping-start, Dropping-leaves, Dropping-stays, Drops-made}
+use Rattle.broadcast_core.proofs.buffer.cache.Cache.retain_peers.Goals as goal
+use Rattle.broadcast_core.proofs.buffer.cache.Cache.retain_peers.Goals.{then-not-is_there, else-not-is_there}
+
+pub loop-peer-preserved : goal.loop-peer-preserved
+loop-peer-preserved g c =
+    let same = same_by g.P.Ord.cmp g.M.Digest.Ord.cmp in
+    let key_laws = eq_by_cmp_equiv (g.met.P.Ord g.world.𝓛 g.world.𝓜 g.world.𝓡 (λ s x. x, λ x. x, λ x. x, λ x. x)).total in
+    let seen = take c.loop-peer.peer-index c.args.was.now in
+    let more : take (c.loop-peer.peer-index + 1) c.args.was.now ≡ seen ++ c.peer-item.result ∷ [] =
+    take_more c.args.was.now c.loop-peer.peer-index c.peer-item.result c.loop-peer-test.true ∙ ap (λ p. seen ++ p ∷ []) (sym c.peer-item.is) in
+    elim c.if-not-is_there.branch [
+      | then-not-is_there w ↦ rw w.self-is (subst (λ ps. Dropping same ps c.args.peers.now c.args.self.now w.remove.new.self) (sym more)
+          (Dropping-leaves same key_laws seen c.args.peers.now c.args.self.now c.loop-peer.self c.loop-peer.invariant c.peer-item.result
+          w.remove.new.self (sym c.seek-next.ensures ∙ w.if-not-is_there.true) w.remove.ensures))
+      | else-not-is_there w ↦ rw w.self-is (subst (λ ps. Dropping same ps c.args.peers.now c.args.self.now c.loop-peer.self) (sym more)
+          (Dropping-stays same key_laws seen c.args.peers.now c.args.self.now c.loop-peer.self c.loop-peer.invariant c.peer-item.result
+          (sym c.seek-next.ensures ∙ w.if-not-is_there.false)))
+    ]
+
+pub returns : goal.returns
+returns g c =
+    let same = same_by g.P.Ord.cmp g.M.Digest.Ord.cmp in
+    let key_laws = eq_by_cmp_equiv (g.met.P.Ord g.world.𝓛 g.world.𝓜 g.world.𝓡 (λ s x. x, λ x. x, λ x. x, λ x. x)).total in
+    let laws = eq_by_cmp_equiv (g.met.M.Digest.Ord g.world.𝓛 g.world.𝓜 g.world.𝓡 (λ s x. x, λ x. x, λ x. x, λ x. x)).total in
+    let all = take_all c.loop-peer.peer-index c.args.was.now (omega arith) in
+    let dropping = subst (λ ps. Dropping same ps c.args.peers.now c.args.self.now c.loop-peer.self) all c.loop-peer.invariant in
+    rw (← c.self.view_is) (Drops-made same key_laws laws c.args.was.now c.args.peers.now c.args.self.now c.self.inside.lists.lists c.self.inside.table
+    c.self.invariant (distinct-digests same.key c.self.inside.lists.lists c.len-lists.ensures.distinct)
+    (subst (λ s. Dropping same c.args.was.now c.args.peers.now c.args.self.now s) (sym c.self.view_is) dropping))

@@ -1,7 +1,0 @@
-use Rattle.std.proofs.Common.{take}
-use Rattle.broadcast_core.specs.Content.{same_by}
-use Rattle.broadcast_core.proofs.Dropping.{Dropping}
-use Rattle.broadcast_core.proofs.buffer.filling.retain.Given as goal
-
-abbrev pub invariant-loop-peer : goal.invariant-loop-peer
-invariant-loop-peer g l = Dropping (same_by g.P.Ord.cmp g.M.Digest.Ord.cmp) (take l.peer-index l.was) l.peers l.initial.lists.lists l.lists.lists l.initial.table l.table
