@@ -2,6 +2,7 @@ pub mod CodecLemmas
 pub mod MessageLemmas
 pub mod OrderedLemmas
 pub mod Distinct
+pub mod Gone
 pub mod Entries
 pub mod WaitersLemmas
 pub mod Taking

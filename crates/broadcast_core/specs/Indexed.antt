@@ -1,5 +1,5 @@
 -- How the lists of places and the table of messages agree.
-use Rattle.std.specs.Prelude.{◌≡◌, ℕ, Bool, true, false, if◌then◌else◌, List, [], ◌∷◌, map, Option, Some, None, is_some, ◌⊎◌}
+use Rattle.std.specs.Prelude.{◌≡◌, ℕ, Bool, true, if◌then◌else◌, List, [], ◌∷◌, map, Option, Some, None, is_some, ◌⊎◌}
 use Rattle.std.specs.List.{IsDistinct}
 use Rattle.std.specs.Map.{lookup}
 use Rattle.entries.specs.Linked.{Node}

@@ -9,6 +9,7 @@ ghost use Rattle.std.specs.Ordering.{eq_by_cmp};
 ghost use Rattle.broadcast_core.specs.Content.{same_by};
 
 mod cache;
+mod gone;
 mod state;
 mod waiters;
 

@@ -6,6 +6,7 @@ ghost use Rattle.std.specs.Ordering.{eq_by_cmp};
 ghost use Rattle.broadcast_core.specs.Content.{items_at};
 ghost use Rattle.broadcast_core.specs.Waiters.{NoneEmpty, waiting_in, is_gone, gone_from, DropsClosed, counted};
 
+use crate::buffer::gone::Gone;
 use crate::items::Items;
 use crate::requests::{Closable, Ticketed};
 use std::alloc::{AllocError, Global};
@@ -115,7 +116,9 @@ impl<D: Ord + Copy, W: Drop> Waiters<D, W> {
         ensures distinct_left { IsDistinct (eq_by_cmp D.cmp) (keys_of self.new) }
     {
         let before = total(&self.by_digest);
-        self.by_digest.retain(|_, waiters| drop_gone(waiters, gone));
+        let gone = Gone::new(gone);
+        self.by_digest
+            .retain(|_, waiters| drop_gone(waiters, &gone));
         clamped(before - total(&self.by_digest))
     }
 
@@ -171,20 +174,12 @@ fn clamped(number: u128) -> u64
     u64::try_from(number).unwrap_or(u64::MAX)
 }
 
-/// Returns whether the ticket of the waiter is in `gone`.
-fn has_gone<W: Ticketed>(waiter: &W, gone: &[u64]) -> bool
-    ensures { result ≡ is_gone W.ticket_of gone.now waiter.now }
-{
-    let ticket = waiter.ticket();
-    gone.contains(&ticket)
-}
-
 /// Drops the waiters whose ticket is in `gone`. Returns whether any is left.
-fn drop_gone<W: Ticketed + Drop>(waiters: &mut Items<W>, gone: &[u64]) -> bool
+fn drop_gone<W: Ticketed + Drop>(waiters: &mut Items<W>, gone: &Gone<'_>) -> bool
     ensures kept { waiters.new ≡ filter (λ w. not (is_gone W.ticket_of gone.now w)) waiters.old }
     ensures left { result ≡ nat_lt 0 (length waiters.new) }
 {
-    waiters.retain(|waiter| !has_gone(waiter, gone));
+    waiters.retain(|waiter| !gone.has(waiter.ticket()));
     waiters.len() > 0
 }
 

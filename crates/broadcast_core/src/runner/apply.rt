@@ -40,7 +40,7 @@ pub fn apply<P: PublicKey, M: Digestible + Codec>(
         Event::Payload(peer, bytes) => (payload(alloc, core, cfg, &peer, bytes.as_slice()), None),
         Event::Subscribe(ticket, digest) => (subscribe(core, ticket, digest), None),
         Event::Get(_, digest) => (get(core, &digest), None),
-        Event::Cleanup(gone) => (Answer::Removed(core.cleanup(gone.as_slice())), None),
+        Event::Cleanup(gone) => (cleanup(core, gone), None),
     }
 }
 
@@ -150,4 +150,14 @@ pub fn get<P: PublicKey, M: Digestible>(core: &Core<P, M, u64>, digest: &M::Dige
             Err(_) => Answer::Refused(Cause::Memory),
         },
     }
+}
+
+/// Drops the waiters with these tickets, which are sorted first, so that they are searched faster.
+fn cleanup<P: PublicKey, M: Digestible>(core: &mut Core<P, M, u64>, gone: Items<u64>) -> Answer<M>
+    ensures { (s : Setting P M M.Digest) → s.same ≡ same_by P.cmp M.Digest.cmp
+        → Follows s (event.Cleanup gone) core.old core.new result [] }
+{
+    let mut gone = gone.into_vec();
+    gone.sort_unstable();
+    Answer::Removed(core.cleanup(&gone))
 }

@@ -1,7 +1,6 @@
-use Rattle.std.proofs.Common.{◌≡◌, suc, ◌≤◌, ◌<◌, ◌∷◌, Bool, true, false, length, refl, sym, ap, subst, not, ◌∙◌, arith}
+use Rattle.std.proofs.Common.{◌≡◌, suc, ◌<◌, ◌∷◌, true, length, sym, ap, subst, not, ◌∙◌, arith}
 use Rattle.std.specs.Prelude.{is_some}
 use Rattle.std.specs.Cmp.{eq_by_cmp_equiv}
-use Rattle.std.specs.Ordering.{eq_by_cmp}
 use Rattle.entries.specs.Store.{items_at as nodes_at, Puts}
 use Rattle.broadcast_core.specs.Content.{same_by, items_at}
 use Rattle.broadcast_core.specs.Indexed.{digest_lists}

@@ -2,9 +2,8 @@ use Rattle.std.proofs.Common.{◌≡◌, ◌+◌, [], ◌∷◌, ◌++◌, take,
 use Rattle.std.specs.Cmp.{eq_by_cmp_equiv}
 use Rattle.std.proofs.lemmas.List.{take_all, take_more}
 use Rattle.broadcast_core.specs.Content.{same_by}
-use Rattle.broadcast_core.specs.Indexed.{stored_of}
 use Rattle.broadcast_core.proofs.Placing.{distinct-digests}
-use Rattle.broadcast_core.proofs.Dropping.{Dropping, Dropping-start, Dropping-leaves, Dropping-stays, Drops-made}
+use Rattle.broadcast_core.proofs.Dropping.{Dropping, Dropping-leaves, Dropping-stays, Drops-made}
 use Rattle.broadcast_core.proofs.buffer.cache.Cache.retain_peers.Goals as goal
 use Rattle.broadcast_core.proofs.buffer.cache.Cache.retain_peers.Goals.{then-not-is_there, else-not-is_there}
 

@@ -1,6 +1,5 @@
 use Rattle.std.proofs.Common.{◌≡◌, refl, ℕ, zero, suc, List, [], length, ◌≤◌, ◌<◌, ◌⊎◌, inl, inr, ap, sym, subst, arith, Result, Ok, Err, OnOk}
 use Rattle.std.specs.Cmp.{eq_by_cmp_equiv}
-use Rattle.std.specs.Ordering.{eq_by_cmp}
 use Rattle.broadcast_core.specs.Content.{same_by, items_at}
 use Rattle.broadcast_core.specs.Stored.{Stores}
 use Rattle.broadcast_core.proofs.Placing.{distinct-digests}
