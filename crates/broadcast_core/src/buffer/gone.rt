@@ -4,7 +4,10 @@ ghost use Rattle.std.specs.List.{list_any};
 
 use std::marker::Model;
 
-/// The tickets of waiters that are gone, in any order. Those that are sorted are searched faster.
+/// The most tickets that are searched from end to end although they are sorted.
+const FEW: usize = 64;
+
+/// The tickets of waiters that are gone, in any order. Many are searched faster if they are sorted.
 #[derive(Drop)]
 pub struct Gone<'a> {
     tickets: &'a [u64],
@@ -37,7 +40,7 @@ impl<'a> Gone<'a> {
     pub fn has(&self, ticket: u64) -> bool
         ensures { result ≡ list_any (λ t. ticket == t) self.now }
     {
-        if self.is_sorted {
+        if self.is_sorted && self.tickets.len() > FEW {
             self.tickets.binary_search(&ticket).is_ok()
         } else {
             self.tickets.contains(&ticket)
