@@ -164,6 +164,7 @@ impl<P: PublicKey, M: Digestible + Codec, S, O, B, Q, T: Strategy<M>> Engine<P, 
         M::Cfg: Drop,
     {
         self.requests.close();
+        drop::<_>(self);
     }
 
     /// Polls the engine. It takes at most one input: a peer set, or else a request, or else a
