@@ -4,6 +4,7 @@ ghost use Rattle.broadcast_engine.specs.Parts.{joined};
 
 use crate::buffered::engine::handler::drop_waiters;
 use crate::buffered::engine::input::EndCause;
+use crate::buffered::engine::job::clear;
 use crate::buffered::engine::node::Node;
 use crate::buffered::engine::state::Engine;
 use crate::buffered::metrics::Metrics;
@@ -40,7 +41,7 @@ impl<P: PublicKey, M: Digestible + Codec, S, O, B, Q, T: Strategy<M>> Engine<P, 
             codec_config,
             strategy,
         } = self;
-        drop(job);
+        drop::<_>(job);
         Parts {
             node,
             provider,
@@ -112,7 +113,7 @@ impl<P: PublicKey, M: Digestible + Codec, S, O, B, Q, T: Strategy<M>> Engine<P, 
     {
         self.requests.close();
         drop_waiters(&mut self.node);
-        self.job = None;
+        clear(&mut self.job);
         self.end = Some(cause);
     }
 }

@@ -3,7 +3,7 @@ ghost use Rattle.std.specs.Prelude.{◌≡◌};
 
 use crate::buffered::engine::input::EndCause;
 use crate::buffered::engine::parts::Parts;
-use crate::buffered::engine::running::{finish_job, run_to_end};
+use crate::buffered::engine::running::run_turns;
 use crate::buffered::engine::state::Engine;
 use crate::buffered::metrics::Metrics;
 use crate::buffered::network::{Provider, Receiver, Sender};
@@ -118,14 +118,13 @@ where
     V: Receiver<P>,
     R: Wait + RandomSource + AllocGlobal + Clone,
 {
-    let finished = finish_job::<P, M, S, G, O, B, Q, T, N, V, R>(rt, engine, network).is_ok();
-    match rt.clone() {
-        Ok(rt) if finished => Ok(rt),
-        _ => {
-            engine.give_up::<G>(EndCause::WaitFailed);
-            Err(StartError::Memory)
+    if run_turns::<P, M, S, G, O, B, Q, T, N, V, R>(rt, engine, network, true).is_ok() {
+        if let Ok(own) = rt.clone() {
+            return Ok(own);
         }
     }
+    engine.give_up::<G>(EndCause::WaitFailed);
+    Err(StartError::Memory)
 }
 
 /// Runs the engine until it ends. Returns what it leaves.
@@ -177,9 +176,9 @@ where
     V: Receiver<P>,
     R: Wait + RandomSource + AllocGlobal,
 {
-    match run_to_end::<P, M, S, G, O, B, Q, T, N, V, R>(rt, engine, network) {
-        Ok(cause) => cause,
-        Err(_) => {
+    match run_turns::<P, M, S, G, O, B, Q, T, N, V, R>(rt, engine, network, false) {
+        Ok(Some(cause)) => cause,
+        _ => {
             engine.give_up::<G>(EndCause::WaitFailed);
             EndCause::WaitFailed
         }
