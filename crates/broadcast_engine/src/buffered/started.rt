@@ -1,10 +1,12 @@
 //! A started engine.
-use crate::buffered::engine::{Report, StartError, make_ready, run, spawn};
+use crate::buffered::engine::{Ready, Report, StartError, make_ready, run, spawn};
 use crate::buffered::front::MailboxEngine;
 use crate::buffered::network::{Provider, Receiver, Sender};
+use crate::buffered::outlet::Direct;
 use crate::buffered::strategy::Strategy;
 use broadcast_core::{Codec, Digestible, PublicKey};
-use commonware_broadcast::buffered::{Incoming, Stopper};
+use commonware_broadcast::buffered::{Incoming, Ingress, Reply, Stopper};
+use futures::channel::oneshot;
 use std::alloc::AllocGlobal;
 use std::random::RandomSource;
 use std::sync::Wait;
@@ -32,7 +34,7 @@ impl<P: PublicKey, M: Digestible, R: Threads + Wait + Drop> Handle<P, M, R> {
     pub fn join(self, rt: &R) -> Report<P> {
         let Handle { stopper, thread } = self;
         let report = thread.join(rt);
-        drop(stopper);
+        drop::<_>(stopper);
         report
     }
 }
@@ -56,13 +58,62 @@ where
         N: Sender<u64> + Send + Drop + 'static,
         V: Receiver<u64> + Send + Drop + 'static,
     {
-        let Ok(stopper) = self.requests().stopper() else {
-            self.requests().close();
-            return Err(StartError::Memory);
-        };
-        let ready = make_ready(rt, self, network)?;
-        let work = move || run(ready);
-        let thread = spawn(rt, work, &stopper)?;
-        Ok(Handle { stopper, thread })
+        match self.requests().stopper() {
+            Ok(stopper) => match make_ready(rt, self, network) {
+                Ok(ready) => start_thread(rt, ready, stopper),
+                Err(error) => {
+                    drop::<_>(stopper);
+                    Err(error)
+                }
+            },
+            Err(_) => {
+                self.requests().close();
+                drop::<_>(self);
+                drop::<_>(network);
+                Err(StartError::Memory)
+            }
+        }
+    }
+}
+
+/// An engine of a mailbox that is ready for its thread.
+type ReadyEngine<M, B, C, T, N, V, R> = Ready<
+    u64,
+    M,
+    oneshot::Sender<Reply<M>>,
+    Direct,
+    B,
+    Ingress<Incoming<u64, M>, R>,
+    C,
+    T,
+    N,
+    V,
+    R,
+>;
+
+/// Starts the thread of an engine whose mailbox has this stopper.
+fn start_thread<M, B, T, N, V, R>(
+    rt: &R,
+    ready: ReadyEngine<M, B, M::Cfg, T, N, V, R>,
+    stopper: Stopper<Incoming<u64, M>, R>,
+) -> Result<Handle<u64, M, R>, StartError>
+where
+    M: Digestible + Codec + Send + Sync + 'static,
+    M::Digest: 'static,
+    M::Cfg: Send + Drop + 'static,
+    B: Provider<u64> + Send + Drop + 'static,
+    T: Strategy<M> + Send + Drop + 'static,
+    T::Job: Send + 'static,
+    N: Sender<u64> + Send + Drop + 'static,
+    V: Receiver<u64> + Send + Drop + 'static,
+    R: Threads + Wait + RandomSource + AllocGlobal + Clone + Send + Sync + Drop + 'static,
+{
+    let work = move || run(ready);
+    match spawn(rt, work, &stopper) {
+        Ok(thread) => Ok(Handle { stopper, thread }),
+        Err(error) => {
+            drop::<_>(stopper);
+            Err(error)
+        }
     }
 }

@@ -59,9 +59,11 @@ where
         Poll::Ready(Err(_)) => Poll::Ready(Err(EndCause::NetworkFailed)),
         Poll::Ready(Ok((peer, bytes))) => {
             let payload = bytes.as_slice();
-            going_on(receive(
+            let turn = receive(
                 node, sender, slot, cx, alloc, priority, strategy, cfg, peer, payload,
-            ))
+            );
+            drop::<_>(bytes);
+            going_on(turn)
         }
     }
 }

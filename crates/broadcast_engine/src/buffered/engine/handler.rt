@@ -91,7 +91,10 @@ where
             Ok(())
         }
         Ok(Subscribed::Waiting) => Ok(()),
-        Err(_) => Err(AllocError),
+        Err(refused) => {
+            drop::<_>(refused);
+            Err(AllocError)
+        }
     }
 }
 

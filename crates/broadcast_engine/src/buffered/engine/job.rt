@@ -61,11 +61,12 @@ where
 {
     match job.poll(cx) {
         Poll::Pending => {
-            *slot = Some((peer, job));
+            fill(slot, peer, job);
             Poll::Pending
         }
         Poll::Ready((message, digest)) => {
-            *slot = None;
+            drop::<_>(job);
+            clear(slot);
             Poll::Ready(arrive(node, sender, alloc, priority, peer, message, digest))
         }
     }
@@ -101,13 +102,17 @@ where
     ensures armed { OnPending result (IsArmed cx.new) }
     ensures kept { Keeps cx.old cx.new }
 {
-    *slot = None;
+    clear(slot);
     let Ok(()) = node.metrics.count_peer(&peer) else {
+        drop::<_>((peer, message));
         return Poll::Ready(Turn::Refused(Cause::Memory));
     };
     match strategy.start(message) {
         Ok(job) => poll_job(node, sender, slot, cx, alloc, priority, peer, job),
-        Err(_) => Poll::Ready(Turn::Refused(Cause::Memory)),
+        Err(_) => {
+            drop::<_>(peer);
+            Poll::Ready(Turn::Refused(Cause::Memory))
+        }
     }
 }
 
@@ -138,6 +143,23 @@ where
 {
     match Digested::precomputed(alloc, message, digest) {
         Ok(message) => apply(node, sender, alloc, priority, Input::Arrived(peer, message)),
-        Err(_) => Turn::Refused(Cause::Memory),
+        Err(_) => {
+            drop::<_>(peer);
+            Turn::Refused(Cause::Memory)
+        }
     }
+}
+
+/// Puts the job of a message of `peer` into the slot.
+fn fill<P: Drop, J: Drop>(slot: &mut Option<(P, J)>, peer: P, job: J)
+    ensures { slot.new ≡ Some (peer, job) }
+{
+    *slot = Some((peer, job));
+}
+
+/// Empties the slot.
+pub(super) fn clear<P: Drop, J: Drop>(slot: &mut Option<(P, J)>)
+    ensures { slot.new ≡ None }
+{
+    *slot = None;
 }

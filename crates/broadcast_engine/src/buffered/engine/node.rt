@@ -10,3 +10,17 @@ pub(crate) struct Node<P: PublicKey, M: Digestible, S, O> {
     pub(crate) metrics: Metrics<P>,
     pub(crate) outlet: O,
 }
+
+impl<P: PublicKey, M: Digestible, S: Drop, O: Drop> Node<P, M, S, O> {
+    /// Takes the counters, and drops the rest.
+    pub(super) fn into_metrics(self) -> Metrics<P> {
+        let Node {
+            core,
+            metrics,
+            outlet,
+        } = self;
+        drop::<_>(core);
+        drop::<_>(outlet);
+        metrics
+    }
+}

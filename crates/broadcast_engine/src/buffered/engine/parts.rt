@@ -4,8 +4,10 @@ ghost use Rattle.broadcast_engine.specs.Parts.{joined};
 
 use crate::buffered::engine::handler::drop_waiters;
 use crate::buffered::engine::input::EndCause;
+use crate::buffered::engine::job::clear;
 use crate::buffered::engine::node::Node;
 use crate::buffered::engine::state::Engine;
+use crate::buffered::metrics::Metrics;
 use crate::buffered::outlet::Outlet;
 use crate::buffered::requests::Requests;
 use crate::buffered::strategy::Strategy;
@@ -39,7 +41,7 @@ impl<P: PublicKey, M: Digestible + Codec, S, O, B, Q, T: Strategy<M>> Engine<P, 
             codec_config,
             strategy,
         } = self;
-        drop(job);
+        drop::<_>(job);
         Parts {
             node,
             provider,
@@ -76,6 +78,29 @@ impl<P: PublicKey, M: Digestible + Codec, S, O, B, Q, T: Strategy<M>> Engine<P, 
         }
     }
 
+    /// Takes the counters of the engine, and drops the rest.
+    pub(super) fn into_metrics(self) -> Metrics<P>
+    where
+        S: Drop,
+        O: Drop,
+        B: Drop,
+        Q: Drop,
+        T: Drop,
+        M::Cfg: Drop,
+    {
+        let Parts {
+            node,
+            provider,
+            requests,
+            end: _,
+            priority: _,
+            codec_config,
+            strategy,
+        } = self.into_parts();
+        drop::<_>((provider, requests, codec_config, strategy));
+        node.into_metrics()
+    }
+
     /// Ends the engine for this cause: its requests are closed, and its waiters and its job are
     /// dropped.
     pub(super) fn give_up<G>(&mut self, cause: EndCause)
@@ -88,7 +113,7 @@ impl<P: PublicKey, M: Digestible + Codec, S, O, B, Q, T: Strategy<M>> Engine<P, 
     {
         self.requests.close();
         drop_waiters(&mut self.node);
-        self.job = None;
+        clear(&mut self.job);
         self.end = Some(cause);
     }
 }

@@ -24,13 +24,14 @@ use std::sync::Wait;
 /// The turns that a poll takes at most before it lets other tasks run.
 const TURNS: u64 = 128;
 
-/// Polls the engine until it ends, or until it is pending.
-fn poll_to_end<P, M, S, G, O, B, Q, T, N, R>(
+/// Polls the engine until it ends, until it is pending, or, if `until_idle`, until it has no job.
+fn poll_turns<P, M, S, G, O, B, Q, T, N, R>(
     engine: &mut Engine<P, M, S, O, B, Q, T>,
     alloc: Global,
     network: &mut (N, R),
     cx: &mut Context<'_>,
-) -> Poll<EndCause>
+    until_idle: bool,
+) -> Poll<Option<EndCause>>
 where
     P: PublicKey,
     M: Digestible + Codec,
@@ -42,12 +43,16 @@ where
     T: Strategy<M>,
     N: Sender<P>,
     R: Receiver<P>,
+    ensures idle { result ≡ Ready None → engine.new.job ≡ None }
     ensures armed { OnPending result (IsArmed cx.new) }
     ensures kept { Keeps cx.old cx.new }
 {
     for _ in 0..TURNS {
+        if until_idle && engine.job.is_none() {
+            return Poll::Ready(None);
+        }
         match engine.poll::<G, N, R>(alloc, cx, network) {
-            Poll::Ready(Turn::Ended(cause)) => return Poll::Ready(cause),
+            Poll::Ready(Turn::Ended(cause)) => return Poll::Ready(Some(cause)),
             Poll::Ready(_) => {}
             Poll::Pending => return Poll::Pending,
         }
@@ -55,43 +60,14 @@ where
     cx.yield_now()
 }
 
-/// Polls the engine while a job is pending.
-fn poll_job_to_end<P, M, S, G, O, B, Q, T, N, R>(
-    engine: &mut Engine<P, M, S, O, B, Q, T>,
-    alloc: Global,
-    network: &mut (N, R),
-    cx: &mut Context<'_>,
-) -> Poll<()>
-where
-    P: PublicKey,
-    M: Digestible + Codec,
-    S: Responder<Reply<M>> + Drop,
-    G: Drop,
-    O: Outlet<S, G, Reply<M>, Option<Reply<M>>>,
-    B: Provider<P>,
-    Q: Requests<Message<P, M, S, G>>,
-    T: Strategy<M>,
-    N: Sender<P>,
-    R: Receiver<P>,
-    ensures done { result ≡ Ready (record {}) → engine.new.job ≡ None }
-    ensures armed { OnPending result (IsArmed cx.new) }
-    ensures kept { Keeps cx.old cx.new }
-{
-    if engine.job.is_none() {
-        return Poll::Ready(());
-    }
-    match engine.poll::<G, N, R>(alloc, cx, network) {
-        Poll::Ready(_) => cx.yield_now(),
-        Poll::Pending => Poll::Pending,
-    }
-}
-
-/// Runs the engine until it ends.
-pub(super) fn run_to_end<P, M, S, G, O, B, Q, T, N, R, W>(
+/// Runs the engine until it ends, or, if `until_idle`, until it has no job. Returns the cause of
+/// its end, if it ended.
+pub(super) fn run_turns<P, M, S, G, O, B, Q, T, N, R, W>(
     rt: &W,
     engine: &mut Engine<P, M, S, O, B, Q, T>,
     network: &mut (N, R),
-) -> io::Result<EndCause>
+    until_idle: bool,
+) -> io::Result<Option<EndCause>>
 where
     P: PublicKey,
     M: Digestible + Codec,
@@ -106,38 +82,10 @@ where
     W: Wait + RandomSource + AllocGlobal,
 {
     let alloc = rt.alloc();
-    let poll = |cx: &mut Context<'_>| -> Poll<EndCause>
+    let poll = |cx: &mut Context<'_>| -> Poll<Option<EndCause>>
         requires { (a : ℕ) → Mem a P.row.lives → Mem a [] }
         ensures armed { OnPending result (IsArmed cx.new) }
         ensures kept { Keeps cx.old cx.new }
-    { poll_to_end::<P, M, S, G, O, B, Q, T, N, R>(engine, alloc, network, cx) };
-    block_on(rt, poll_fn(poll))
-}
-
-/// Runs the engine until no job is pending.
-pub(super) fn finish_job<P, M, S, G, O, B, Q, T, N, R, W>(
-    rt: &W,
-    engine: &mut Engine<P, M, S, O, B, Q, T>,
-    network: &mut (N, R),
-) -> io::Result<()>
-where
-    P: PublicKey,
-    M: Digestible + Codec,
-    S: Responder<Reply<M>> + Drop,
-    G: Drop,
-    O: Outlet<S, G, Reply<M>, Option<Reply<M>>>,
-    B: Provider<P>,
-    Q: Requests<Message<P, M, S, G>>,
-    T: Strategy<M>,
-    N: Sender<P>,
-    R: Receiver<P>,
-    W: Wait + RandomSource + AllocGlobal,
-{
-    let alloc = rt.alloc();
-    let poll = |cx: &mut Context<'_>| -> Poll<()>
-        requires { (a : ℕ) → Mem a P.row.lives → Mem a [] }
-        ensures armed { OnPending result (IsArmed cx.new) }
-        ensures kept { Keeps cx.old cx.new }
-    { poll_job_to_end::<P, M, S, G, O, B, Q, T, N, R>(engine, alloc, network, cx) };
+    { poll_turns::<P, M, S, G, O, B, Q, T, N, R>(engine, alloc, network, cx, until_idle) };
     block_on(rt, poll_fn(poll))
 }

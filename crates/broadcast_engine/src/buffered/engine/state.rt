@@ -22,6 +22,7 @@ use crate::buffered::config::Config;
 use crate::buffered::engine::apply::apply;
 use crate::buffered::engine::handler::drop_waiters;
 use crate::buffered::engine::input::{EndCause, Input, Turn};
+use crate::buffered::engine::job::clear;
 use crate::buffered::engine::node::Node;
 use crate::buffered::engine::open::poll_open;
 use crate::buffered::metrics::Metrics;
@@ -148,7 +149,10 @@ impl<P: PublicKey, M: Digestible + Codec, S, O, B, Q, T: Strategy<M>> Engine<P, 
         ensures keeps_all_else { self.new ≡ record self.old { node = self.new.node } }
     {
         match self.end {
-            Some(cause) => Turn::Ended(cause),
+            Some(cause) => {
+                drop::<_>(input);
+                Turn::Ended(cause)
+            }
             None => apply(&mut self.node, sender, alloc, self.priority, input),
         }
     }
@@ -164,6 +168,7 @@ impl<P: PublicKey, M: Digestible + Codec, S, O, B, Q, T: Strategy<M>> Engine<P, 
         M::Cfg: Drop,
     {
         self.requests.close();
+        drop::<_>(self);
     }
 
     /// Polls the engine. It takes at most one input: a peer set, or else a request, or else a
@@ -231,7 +236,7 @@ impl<P: PublicKey, M: Digestible + Codec, S, O, B, Q, T: Strategy<M>> Engine<P, 
             Poll::Ready(Err(cause)) => {
                 self.requests.close();
                 drop_waiters(&mut self.node);
-                self.job = None;
+                clear(&mut self.job);
                 self.end = Some(cause);
                 Poll::Ready(Turn::Ended(cause))
             }

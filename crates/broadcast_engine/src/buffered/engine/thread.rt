@@ -3,7 +3,7 @@ ghost use Rattle.std.specs.Prelude.{◌≡◌};
 
 use crate::buffered::engine::input::EndCause;
 use crate::buffered::engine::parts::Parts;
-use crate::buffered::engine::running::{finish_job, run_to_end};
+use crate::buffered::engine::running::run_turns;
 use crate::buffered::engine::state::Engine;
 use crate::buffered::metrics::Metrics;
 use crate::buffered::network::{Provider, Receiver, Sender};
@@ -12,7 +12,7 @@ use crate::buffered::requests::Requests;
 use crate::buffered::strategy::Strategy;
 use broadcast_core::{Codec, Digestible, PublicKey};
 use commonware_broadcast::buffered::{Message, Reply, Responder, Stopper};
-use std::alloc::{AllocError, AllocGlobal};
+use std::alloc::AllocGlobal;
 use std::random::RandomSource;
 use std::sync::Wait;
 use std::thread;
@@ -84,19 +84,47 @@ where
 {
     let mut engine = engine;
     let mut network = network;
-    let own: Result<R, AllocError> = rt.clone();
-    let finished = finish_job::<P, M, S, G, O, B, Q, T, N, V, R>(rt, &mut engine, &mut network);
-    match (own, finished) {
-        (Ok(rt), Ok(())) => Ok(Ready {
+    match settle::<P, M, S, G, O, B, Q, T, N, V, R>(rt, &mut engine, &mut network) {
+        Ok(rt) => Ok(Ready {
             parts: engine.into_parts(),
             network,
             rt,
         }),
-        _ => {
-            engine.give_up::<G>(EndCause::WaitFailed);
-            Err(StartError::Memory)
+        Err(error) => {
+            drop::<_>(engine);
+            drop::<_>(network);
+            Err(error)
         }
     }
+}
+
+/// Finishes the job, and returns the handle of the engine's thread. After an error the engine has
+/// ended.
+fn settle<P, M, S, G, O, B, Q, T, N, V, R>(
+    rt: &R,
+    engine: &mut Engine<P, M, S, O, B, Q, T>,
+    network: &mut (N, V),
+) -> Result<R, StartError>
+where
+    P: PublicKey,
+    M: Digestible + Codec,
+    S: Responder<Reply<M>> + Drop,
+    G: Drop,
+    O: Outlet<S, G, Reply<M>, Option<Reply<M>>>,
+    B: Provider<P>,
+    Q: Requests<Message<P, M, S, G>>,
+    T: Strategy<M>,
+    N: Sender<P>,
+    V: Receiver<P>,
+    R: Wait + RandomSource + AllocGlobal + Clone,
+{
+    if run_turns::<P, M, S, G, O, B, Q, T, N, V, R>(rt, engine, network, true).is_ok() {
+        if let Ok(own) = rt.clone() {
+            return Ok(own);
+        }
+    }
+    engine.give_up::<G>(EndCause::WaitFailed);
+    Err(StartError::Memory)
 }
 
 /// Runs the engine until it ends. Returns what it leaves.
@@ -120,21 +148,40 @@ where
     let Ready { parts, network, rt } = ready;
     let mut engine = Engine::from_parts(parts);
     let mut network = network;
-    let cause = match run_to_end::<P, M, S, G, O, B, Q, T, N, V, R>(
-        &rt,
-        &mut engine,
-        &mut network,
-    ) {
-        Ok(cause) => cause,
-        Err(_) => {
+    let cause = run_until_end::<P, M, S, G, O, B, Q, T, N, V, R>(&rt, &mut engine, &mut network);
+    drop::<_>(network);
+    drop::<_>(rt);
+    Report {
+        cause,
+        metrics: engine.into_metrics(),
+    }
+}
+
+/// Runs the engine until it ends, and returns why. If its thread can't wait, it is given up.
+fn run_until_end<P, M, S, G, O, B, Q, T, N, V, R>(
+    rt: &R,
+    engine: &mut Engine<P, M, S, O, B, Q, T>,
+    network: &mut (N, V),
+) -> EndCause
+where
+    P: PublicKey,
+    M: Digestible + Codec,
+    S: Responder<Reply<M>> + Drop,
+    G: Drop,
+    O: Outlet<S, G, Reply<M>, Option<Reply<M>>>,
+    B: Provider<P>,
+    Q: Requests<Message<P, M, S, G>>,
+    T: Strategy<M>,
+    N: Sender<P>,
+    V: Receiver<P>,
+    R: Wait + RandomSource + AllocGlobal,
+{
+    match run_turns::<P, M, S, G, O, B, Q, T, N, V, R>(rt, engine, network, false) {
+        Ok(Some(cause)) => cause,
+        _ => {
             engine.give_up::<G>(EndCause::WaitFailed);
             EndCause::WaitFailed
         }
-    };
-    let parts = engine.into_parts();
-    Report {
-        cause,
-        metrics: parts.node.metrics,
     }
 }
 

@@ -31,4 +31,4 @@ returns-in-Ready-Err-clause-turned g c = rw (← c.self.view_is) (λ s e encodin
     let one = c.poll_open-result.ensures.woken s e encoding priority own reading past has before (Holds-open g.T.Job.Job.is_of c.self.inside.end c.self.inside.job before c.in_default.is held) in
     Turned-ended s (λ w b. g.S.Responder.may_answer w.responder b) g.O.Outlet.told g.N.Sender.told g.T.Job.Job.is_of g.R.Receiver.told g.B.Provider.told g.Q.Requests.told past before
     _ _ _ _ c.poll_open-result.new.node c.poll_open-result.new.requests c.poll_open-result.new.slot c.poll_open-result.result c.in-Ready-Err.cause
-    c.in_default.is is held one c.close.ensures (c.drop_waiters.ensures s e (happenings one.steps ++ past) one.ran.content c.in-Ready-Err.cause) refl refl)
+    c.in_default.is is held one c.close.ensures (c.drop_waiters.ensures s e (happenings one.steps ++ past) one.ran.content c.in-Ready-Err.cause) refl c.clear.ensures)
