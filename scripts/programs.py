@@ -1,6 +1,7 @@
 """The built programs of the repository and their rows."""
 
 import os
+import resource
 import subprocess
 import sys
 from dataclasses import dataclass
@@ -30,6 +31,8 @@ class Row:
     status: int
     # Files that stand for some of the streams.
     devices: dict
+    # The bytes of stack that a thread wants, or `None` for as many as else.
+    stack: int | None
 
     @staticmethod
     def read(folder):
@@ -39,6 +42,9 @@ class Row:
                 stream, path = line.split(" ")
                 assert stream in STREAMS, f"{folder}: {stream} is no stream"
                 devices[stream] = path
+        stack = None
+        if (folder / "stack").exists():
+            stack = int((folder / "stack").read_text())
         stdin, stdout = folder / "stdin", folder / "stdout"
         if (folder / "example").exists():
             stdin = EXAMPLES / (folder / "example").read_text().strip()
@@ -51,6 +57,7 @@ class Row:
             (folder / "stderr").read_bytes(),
             int((folder / "status").read_text()),
             devices,
+            stack,
         )
 
 
@@ -114,6 +121,11 @@ class Tally:
 
 def run_row(executable, row):
     """Standard output, standard error and the status of one run."""
+
+    def set_stack():
+        most = resource.getrlimit(resource.RLIMIT_STACK)[1]
+        resource.setrlimit(resource.RLIMIT_STACK, (row.stack, most))
+
     opened = {}
     try:
         for stream, path in row.devices.items():
@@ -123,6 +135,7 @@ def run_row(executable, row):
             stdin=opened.get("stdin", subprocess.PIPE),
             stdout=opened.get("stdout", subprocess.PIPE),
             stderr=opened.get("stderr", subprocess.PIPE),
+            preexec_fn=set_stack if row.stack else None,
         )
         try:
             given = None if "stdin" in opened else row.stdin

@@ -3,11 +3,10 @@ use super::asked::Given;
 use super::message::{Letter, To};
 use super::node::Metric;
 use super::world::{Sizes, World};
-use broadcast_core::{RangeCfg, TestMessage};
+use broadcast_core::TestMessage;
 use broadcast_engine::buffered::Turn;
 use commonware_broadcast::Feedback;
 use std::alloc::{AllocError, AllocGlobal};
-use std::io;
 use std::num::NonZeroUsize;
 use std::process::Abort;
 use std::random::RandomSource;
@@ -63,8 +62,8 @@ pub enum Act {
     Sends(u64, usize, To, u8),
     /// The counter has this value.
     Counts(u64, Metric, u64),
-    /// Whether the engine was woken since its last poll.
-    Woken(u64, bool),
+    /// The engine was woken this often since its last poll.
+    Wakes(u64, u64),
 }
 
 /// A scenario.
@@ -90,7 +89,7 @@ where
 
 impl Row {
     /// Returns the place of the first action that does not go as it should.
-    fn first_wrong<R>(&self, rt: &R) -> io::Result<Option<usize>>
+    fn first_wrong<R>(&self, rt: &R) -> Result<Option<usize>, AllocError>
     where
         R: Wait + RandomSource + AllocGlobal + Clone + Send + Drop + 'static,
     {
@@ -99,25 +98,19 @@ impl Row {
             mailbox: NonZeroUsize::new(self.sizes.0).unwrap_or(NonZeroUsize::MIN),
             deque: self.sizes.1,
         };
-        first_wrong::<TestMessage, R>(rt, sizes, RangeCfg::any(), self.acts)
+        first_wrong::<TestMessage, R>(rt, sizes, self.acts)
     }
 }
 
 /// Adds the nodes, and returns the place of the first action that does not go as it should.
-fn first_wrong<M, R>(
-    rt: &R,
-    sizes: Sizes,
-    codec_config: M::Cfg,
-    acts: &[Act],
-) -> io::Result<Option<usize>>
+fn first_wrong<M, R>(rt: &R, sizes: Sizes, acts: &[Act]) -> Result<Option<usize>, AllocError>
 where
     M: Letter,
-    M::Cfg: Copy + Drop,
+    M::Cfg: Drop,
     R: Wait + RandomSource + AllocGlobal + Clone + Send + Drop + 'static,
 {
-    let mut world: World<M, R> = World::new(rt.alloc());
-    world.add_all(rt, sizes, codec_config)?;
-    Ok(wrong_place(rt, &mut world, acts)?)
+    let mut world: Box<World<M, R>> = World::new(rt, sizes)?;
+    wrong_place(rt, &mut world, acts)
 }
 
 /// Makes the actions, and returns the place of the first that does not go as it should.
@@ -128,7 +121,7 @@ fn wrong_place<M, R>(
 ) -> Result<Option<usize>, AllocError>
 where
     M: Letter,
-    M::Cfg: Copy + Drop,
+    M::Cfg: Drop,
     R: Wait + RandomSource + AllocGlobal + Clone + Send + Drop + 'static,
 {
     for (place, act) in acts.iter().enumerate() {

@@ -29,8 +29,18 @@ where
         }
     }
 
+    /// Does what the action says of callers. Returns whether it goes as it should.
+    pub fn goes(&mut self, rt: &R, alloc: Global, act: Act) -> Result<bool, AllocError> {
+        match act {
+            Act::Subscribe(..) | Act::Get(..) => self.ask(alloc, act),
+            Act::Gives(number, given) => Ok(self.gives(rt, number, given)),
+            Act::Hang(number) => Ok(self.hang(number)),
+            _ => self.broadcasts(alloc, act),
+        }
+    }
+
     /// Broadcasts a message. Returns whether its caller is told what it should be.
-    pub fn broadcasts(&self, alloc: Global, act: Act) -> Result<bool, AllocError> {
+    fn broadcasts(&self, alloc: Global, act: Act) -> Result<bool, AllocError> {
         let (key, to, letter, goes_by) = match act {
             Act::Broadcast(key, to, letter) => (key, to, letter, letter),
             Act::BroadcastAs(key, to, letter, goes_by) => (key, to, letter, goes_by),
@@ -65,7 +75,11 @@ where
 
     /// Makes a get or a subscribe, whose future gets the next number. Returns whether it is queued.
     pub fn ask(&mut self, alloc: Global, act: Act) -> Result<bool, AllocError> {
-        let (Act::Subscribe(key, letter) | Act::Get(key, letter)) = act else {
+        let (Act::Subscribe(key, letter)
+        | Act::Get(key, letter)
+        | Act::Finds(key, letter, _)
+        | Act::Hears(key, letter, _)) = act
+        else {
             return Ok(false);
         };
         let digest = digest::<M>(alloc, letter)?;
@@ -74,33 +88,38 @@ where
 
     /// Makes the get or the subscribe. Returns whether it is queued.
     fn ask_for(&mut self, key: u64, act: Act, digest: M::Digest) -> bool {
-        let Some(mailbox) = self.mailboxes.get(place(key)) else {
-            return false;
-        };
-        match asked(mailbox, act, digest) {
-            Ok(asked) => self.asked.push(asked).is_ok(),
-            Err(_) => false,
+        match self.queued(key, act, digest) {
+            Some(asked) => self.asked.push(asked).is_ok(),
+            None => false,
         }
     }
 
+    /// Makes the get or the subscribe. Returns its future if it is queued.
+    fn queued(&self, key: u64, act: Act, digest: M::Digest) -> Option<Asked<M>> {
+        asked(self.mailboxes.get(place(key))?, act, digest).ok()
+    }
+
     /// Returns whether the future of the number gives this.
-    pub fn gives(&mut self, rt: &R, number: usize, given: Given) -> bool {
+    fn gives(&mut self, rt: &R, number: usize, given: Given) -> bool {
         match self.asked.get_mut(number) {
             Some(asked) => asked.given(rt) == given,
             None => false,
         }
     }
 
-    /// Returns whether the newest future gives a message, and drops it.
-    pub fn hears(&mut self, rt: &R) -> bool {
+    /// Drops the newest future. Returns whether it gives a message or not, as the action says.
+    pub fn hears(&mut self, rt: &R, act: Act) -> bool {
+        let (Act::Finds(.., wanted) | Act::Hears(.., wanted)) = act else {
+            return false;
+        };
         match self.asked.pop() {
-            Some(mut asked) => matches!(asked.given(rt), Given::Letter(_)),
+            Some(asked) => has_letter(rt, asked) == wanted,
             None => false,
         }
     }
 
     /// Drops the future of the number. Returns whether there is one.
-    pub fn hang(&mut self, number: usize) -> bool {
+    fn hang(&mut self, number: usize) -> bool {
         match self.asked.get_mut(number) {
             Some(asked) => {
                 *asked = Asked::Dropped;
@@ -109,6 +128,16 @@ where
             None => false,
         }
     }
+}
+
+/// Returns whether the future gives a message.
+fn has_letter<M, R>(rt: &R, asked: Asked<M>) -> bool
+where
+    M: Letter,
+    R: Wait + RandomSource + AllocGlobal,
+{
+    let mut asked = asked;
+    matches!(asked.given(rt), Given::Letter(_))
 }
 
 /// Returns whether the caller is told what it should be.
@@ -126,7 +155,9 @@ fn asked<M: Letter, R: Wait>(
     digest: M::Digest,
 ) -> Result<Asked<M>, MailboxError> {
     match act {
-        Act::Subscribe(..) => Ok(Asked::Subscription(mailbox.subscribe(digest)?)),
+        Act::Subscribe(..) | Act::Hears(..) => {
+            Ok(Asked::Subscription(mailbox.subscribe(digest)?))
+        }
         _ => Ok(Asked::Get(mailbox.get(digest)?)),
     }
 }

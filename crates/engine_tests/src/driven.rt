@@ -1,7 +1,7 @@
 //! An engine over scripts, and what was made of it.
-use super::message::{Letter, To, digest, payload, recipients};
+use super::message::{Letter, To, digest, sending};
 use super::scripts::{Handed, Network, Scripted, Sources};
-use broadcast_core::{Codec, Digestible, Items, Sent};
+use broadcast_core::{Codec, Digestible};
 use broadcast_engine::buffered::{Reply, Turn, drive};
 use broadcast_engine::mocks::Replied;
 use futures::task::{Poll, Solo};
@@ -27,13 +27,9 @@ where
     M::Cfg: Drop,
 {
     /// Creates an engine over the sources.
-    pub fn new(
-        alloc: Global,
-        sources: &Sources,
-        codec_config: M::Cfg,
-    ) -> Result<Box<Self>, AllocError> {
+    pub fn new(alloc: Global, sources: &Sources) -> Result<Box<Self>, AllocError> {
         let network = sources.network::<M>(alloc)?;
-        let engine = sources.engine::<M>(alloc, codec_config)?;
+        let engine = sources.engine::<M>(alloc)?;
         Ok(Box::new(alloc, Driven { engine, network })?)
     }
 
@@ -56,7 +52,7 @@ where
     pub fn has_sent(&self, alloc: Global, wanted: &[(To, u8)]) -> Result<bool, AllocError> {
         let sent = &self.network.0.sent;
         for (place, (to, letter)) in wanted.iter().enumerate() {
-            if sent.get(place) != Some(&sending::<M>(alloc, *to, *letter)?) {
+            if sent.get(place) != Some(&sending::<M>(alloc, *to, *letter, true)?) {
                 return Ok(false);
             }
         }
@@ -89,15 +85,6 @@ where
     pub fn is_closed(&self) -> bool {
         self.engine.requests().closed
     }
-}
-
-/// Returns a send of the message of the letter.
-fn sending<M: Letter>(alloc: Global, to: To, letter: u8) -> Result<Sent<u64>, AllocError> {
-    Ok(Sent {
-        recipients: recipients(alloc, to)?,
-        bytes: Items::from_vec(payload::<M>(alloc, letter)?),
-        priority: true,
-    })
 }
 
 /// Returns whether the reply has this ticket, this message, and was delivered or not.

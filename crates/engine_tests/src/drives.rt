@@ -2,7 +2,7 @@
 use super::driven::Driven;
 use super::message::{Letter, To};
 use super::scripts::{Asks, Comes, Peered, Sources};
-use broadcast_core::{CodecError, Outcome, RangeCfg, TestMessage};
+use broadcast_core::{CodecError, Outcome, TestMessage};
 use broadcast_engine::buffered::{EndCause, Turn};
 use futures::task::{Doorbell, Solo};
 use std::alloc::{AllocError, Global};
@@ -248,17 +248,12 @@ fn rows() -> &'static [Row] {
 }
 
 /// Returns what is not as the row says.
-fn wrong<M>(
-    alloc: Global,
-    task: &Solo,
-    row: &Row,
-    codec_config: M::Cfg,
-) -> Result<Option<&'static str>, AllocError>
+fn wrong<M>(alloc: Global, task: &Solo, row: &Row) -> Result<Option<&'static str>, AllocError>
 where
     M: Letter,
     M::Cfg: Drop,
 {
-    let mut driven: Box<Driven<M>> = Driven::new(alloc, &row.sources, codec_config)?;
+    let mut driven: Box<Driven<M>> = Driven::new(alloc, &row.sources)?;
     let as_told = row.goes(alloc, task, &mut driven)?;
     Ok(as_told.or(row.left(&driven)))
 }
@@ -303,7 +298,7 @@ impl Row {
 fn drive_goes_on_to_its_limit_or_the_end(rt: HostRuntime) -> Result<(), Fail> {
     let task = Solo::new(&rt, Doorbell::spinning())?;
     for row in rows() {
-        let wrong = wrong::<TestMessage>(rt.alloc(), &task, row, RangeCfg::any())?;
+        let wrong = wrong::<TestMessage>(rt.alloc(), &task, row)?;
         assert!(rt; wrong.is_none(), "{}: {wrong:?}", row.name);
     }
     Ok(())

@@ -34,6 +34,8 @@ mod scenarios;
 #[cfg(test)]
 mod scripts;
 #[cfg(test)]
+mod task;
+#[cfg(test)]
 mod wakes;
 #[cfg(test)]
 mod wires;

@@ -1,5 +1,7 @@
 //! Messages and recipients by short names.
-use broadcast_core::{Codec, Digested, Digestible, Items, Recipients, Set, TestMessage, Write};
+use broadcast_core::{
+    Codec, Digested, Digestible, Items, RangeCfg, Recipients, Sent, Set, TestMessage, Write,
+};
 use std::alloc::{AllocError, Global};
 
 /// Recipients.
@@ -26,6 +28,9 @@ pub trait Letter: Digestible + Codec + Send + Sync + 'static {
 
     /// Returns the letter of the message, or 0 if it has none.
     fn letter(&self) -> u8;
+
+    /// Returns what messages may be decoded.
+    fn codec_config() -> Self::Cfg;
 }
 
 /// Both parts of the message are the letter.
@@ -39,6 +44,10 @@ impl Letter for TestMessage {
             return 0;
         }
         self.content.first().copied().unwrap_or(0)
+    }
+
+    fn codec_config() -> RangeCfg {
+        RangeCfg::any()
     }
 }
 
@@ -65,6 +74,21 @@ pub fn payload<M: Letter>(alloc: Global, letter: u8) -> Result<Vec<u8>, AllocErr
         Ok(()) => Ok(bytes),
         Err(_) => Err(AllocError),
     }
+}
+
+/// Returns the send of the message of the letter.
+pub fn sending<M: Letter>(
+    alloc: Global,
+    to: To,
+    letter: u8,
+    priority: bool,
+) -> Result<Sent<u64>, AllocError> {
+    let bytes = Items::from_vec(payload::<M>(alloc, letter)?);
+    Ok(Sent {
+        recipients: recipients(alloc, to)?,
+        bytes,
+        priority,
+    })
 }
 
 /// Returns the set of the keys.

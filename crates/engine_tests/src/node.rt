@@ -1,7 +1,4 @@
 //! An engine with a mailbox, as a scenario sees it.
-ghost use Rattle.futures.specs.Poll.{OnPending};
-ghost use Rattle.futures.specs.Task.{IsArmed};
-
 use super::job::Gated;
 use super::message::Letter;
 use super::network::{Inbound, Outbound};
@@ -36,25 +33,17 @@ impl<M: Digestible + Codec, R: Wait> Model for Node<M, R> {
 }
 
 impl<M: Letter, R: Wait + Clone + Drop> Node<M, R> {
-    /// Creates a node, and adds it and its mailbox to the others.
-    pub fn add(
+    /// Creates a node and its mailbox.
+    pub fn new(
         rt: &R,
         cfg: Config<u64, M::Cfg, Peers, Gated>,
-        nodes: &mut Vec<Self>,
-        mailboxes: &mut Vec<Mailbox<u64, M, R>>,
-    ) -> Result<(), AllocError>
+    ) -> Result<(Self, Mailbox<u64, M, R>), AllocError>
     where
         R: AllocGlobal,
         M::Cfg: Drop,
     {
-        let own = rt.clone()?;
-        // With room for both, nothing can fail while the engine is at hand.
-        nodes.reserve(1)?;
-        mailboxes.reserve(1)?;
-        let (engine, mailbox) = Engine::new(own, rt.alloc(), cfg)?;
-        mailboxes.push_reserved(mailbox);
-        nodes.push_reserved(Node { engine });
-        Ok(())
+        let (engine, mailbox) = Engine::new(rt.clone()?, rt.alloc(), cfg)?;
+        Ok((Node { engine }, mailbox))
     }
 
     /// Polls the engine once.
@@ -63,9 +52,7 @@ impl<M: Letter, R: Wait + Clone + Drop> Node<M, R> {
         alloc: Global,
         cx: &mut Context<'_>,
         network: &mut (Outbound, Inbound),
-    ) -> Poll<Turn>
-        ensures armed { OnPending result (IsArmed cx.new) }
-    {
+    ) -> Poll<Turn> {
         self.engine.poll(alloc, cx, network)
     }
 

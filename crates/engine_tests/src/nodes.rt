@@ -2,18 +2,20 @@
 use super::message::Letter;
 use super::network::{Inbound, Outbound};
 use super::node::{Metric, Node};
+use super::task::Task;
 use super::wires::Wires;
 use broadcast_core::{Codec, Digestible};
 use broadcast_engine::buffered::Turn;
-use futures::task::{Poll, Solo};
-use std::alloc::{AllocError, Global};
+use futures::task::Poll;
+use std::alloc::{AllocError, AllocGlobal, Global};
+use std::random::RandomSource;
 use std::sync::Wait;
 
 /// The engines of the nodes, in the order of their keys, with their tasks and their network.
 #[derive(Drop)]
 pub struct Nodes<M: Digestible + Codec, R: Wait> {
     pub engines: Vec<Node<M, R>>,
-    pub tasks: Vec<Solo>,
+    pub tasks: Vec<Task>,
     pub wires: Wires,
 }
 
@@ -30,6 +32,15 @@ where
             tasks: Vec::new(alloc),
             wires: Wires::new(alloc),
         }
+    }
+
+    /// Adds the task and the network of one more engine.
+    pub fn add_task(&mut self, rt: &R) -> Result<(), AllocError>
+    where
+        R: RandomSource + AllocGlobal,
+    {
+        self.tasks.push(Task::new(rt)?)?;
+        self.wires.add(rt.alloc())
     }
 
     /// Polls each engine, and delivers what they send, until all are pending. Returns whether they
@@ -54,21 +65,38 @@ where
     }
 
     /// Polls the engine at the place once. Returns the turn, if it is ready.
-    pub fn poll(&mut self, alloc: Global, at: usize) -> Option<Turn> {
+    fn poll(&mut self, alloc: Global, at: usize) -> Option<Turn> {
         let engine = self.engines.get_mut(at)?;
-        let task = self.tasks.get_mut(at)?;
-        let network = self.wires.ends.get_mut(at)?;
+        let (task, network) = ends(&mut self.tasks, &mut self.wires, at)?;
         poll(engine, task, alloc, network)
     }
 
-    /// Returns the counter of the engine at the place.
-    pub fn count(&self, at: usize, metric: Metric) -> Option<u64> {
-        Some(self.engines.get(at)?.count(metric))
+    /// Polls the engine at the place once. Returns whether this is its turn, or it is pending.
+    pub fn takes(&mut self, alloc: Global, at: usize, turn: Option<Turn>) -> bool {
+        self.poll(alloc, at) == turn
     }
 
-    /// Returns whether the engine at the place was woken since its last poll.
-    pub fn is_woken(&self, at: usize) -> Option<bool> {
-        Some(is_woken(self.tasks.get(at)?))
+    /// Returns whether the counter of the engine at the place has this value.
+    pub fn counted(&self, at: usize, metric: Metric, number: u64) -> bool {
+        match self.engines.get(at) {
+            Some(engine) => engine.count(metric) == number,
+            None => false,
+        }
+    }
+
+    /// Counts for each engine whether it was woken since the last look.
+    pub fn look(&mut self) {
+        for task in &mut self.tasks {
+            task.look();
+        }
+    }
+
+    /// Returns whether the engine at the place was woken this often since its last poll.
+    pub fn was_woken(&self, at: usize, wakes: u64) -> bool {
+        match self.tasks.get(at) {
+            Some(task) => task.wakes == wakes,
+            None => false,
+        }
     }
 
     /// Asks the engine at the place to stop. Returns whether there is one.
@@ -91,10 +119,20 @@ where
     }
 }
 
+/// Returns the task and the network of the engine at the place.
+fn ends<'a>(
+    tasks: &'a mut [Task],
+    wires: &'a mut Wires,
+    at: usize,
+) -> Option<(&'a mut Task, &'a mut (Outbound, Inbound))> {
+    let task = tasks.get_mut(at)?;
+    Some((task, wires.ends.get_mut(at)?))
+}
+
 /// Polls the engine once. Returns the turn, if it is ready.
 fn poll<M, R>(
     engine: &mut Node<M, R>,
-    task: &mut Solo,
+    task: &mut Task,
     alloc: Global,
     network: &mut (Outbound, Inbound),
 ) -> Option<Turn>
@@ -102,28 +140,12 @@ where
     M: Letter,
     R: Wait + Clone + Drop,
 {
-    let mut cx = task.begin();
-    match engine.poll(alloc, &mut cx, network) {
-        Poll::Ready(turn) => {
-            // A task that is ready is over, so it asks for another poll instead.
-            let _: Poll<()> = cx.yield_now();
-            cx.park();
-            Some(turn)
-        }
-        Poll::Pending => {
-            cx.park();
-            None
-        }
-    }
-}
-
-/// Returns whether the task was woken since its last poll.
-fn is_woken(task: &Solo) -> bool {
-    match task.sleep() {
-        Some(asleep) => {
-            asleep.end();
-            false
-        }
-        None => true,
+    task.wakes = 0;
+    let mut cx = task.solo.begin();
+    let polled = engine.poll(alloc, &mut cx, network);
+    task.rest.end(cx);
+    match polled {
+        Poll::Ready(turn) => Some(turn),
+        Poll::Pending => None,
     }
 }

@@ -72,16 +72,12 @@ pub type Network = (
 
 impl Sources {
     /// Creates an engine over the sources.
-    pub fn engine<M: Letter>(
-        &self,
-        alloc: Global,
-        codec_config: M::Cfg,
-    ) -> Result<Scripted<M>, AllocError>
+    pub fn engine<M: Letter>(&self, alloc: Global) -> Result<Scripted<M>, AllocError>
     where
         M::Cfg: Drop,
     {
-        let cfg = self.config(alloc, codec_config)?;
         let script = requests::<M>(alloc, self.requests)?;
+        let cfg = self.config(alloc, M::codec_config())?;
         let requests = ScriptedRequests::new(script, self.stops_after);
         Ok(Engine::over(alloc, cfg, requests, RecordingOutlet::new(alloc)))
     }

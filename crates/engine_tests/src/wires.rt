@@ -1,7 +1,7 @@
 //! A network in memory between nodes with the keys from 1.
-use super::message::{Letter, To, payload, recipients};
+use super::message::{Letter, To, sending};
 use super::network::{Inbound, Outbound};
-use broadcast_core::{Items, Recipients, Sent};
+use broadcast_core::{Recipients, Sent};
 use std::alloc::{AllocError, Global};
 
 /// The ends of each node, in the order of the keys.
@@ -103,15 +103,16 @@ impl Wires {
         to: To,
         letter: u8,
     ) -> Result<bool, AllocError> {
-        let wanted = Sent {
-            recipients: recipients(alloc, to)?,
-            bytes: Items::from_vec(payload::<M>(alloc, letter)?),
-            priority: key % 2 == 0,
-        };
-        let Some((outbound, _)) = self.ends.get(place(key)) else {
-            return Ok(false);
-        };
-        Ok(outbound.sent.get(at) == Some(&wanted))
+        let wanted = sending::<M>(alloc, to, letter, key % 2 == 0)?;
+        Ok(self.has_sent(key, at, &wanted))
+    }
+
+    /// Returns whether the node sent this at the place.
+    fn has_sent(&self, key: u64, at: usize, wanted: &Sent<u64>) -> bool {
+        match self.ends.get(place(key)) {
+            Some((outbound, _)) => outbound.sent.get(at) == Some(wanted),
+            None => false,
+        }
     }
 }
 

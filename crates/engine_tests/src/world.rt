@@ -7,9 +7,7 @@ use super::node::Node;
 use super::nodes::Nodes;
 use super::wires::{Wires, place};
 use broadcast_core::{Codec, Digestible};
-use futures::task::{Doorbell, Solo};
 use std::alloc::{AllocError, AllocGlobal, Global};
-use std::io;
 use std::num::NonZeroUsize;
 use std::random::RandomSource;
 use std::sync::Wait;
@@ -33,65 +31,62 @@ pub struct World<M: Digestible + Codec, R: Wait> {
 impl<M, R> World<M, R>
 where
     M: Letter,
-    M::Cfg: Copy + Drop,
+    M::Cfg: Drop,
     R: Wait + RandomSource + AllocGlobal + Clone + Send + Drop + 'static,
 {
-    /// Creates a world without nodes.
-    pub fn new(alloc: Global) -> Self {
-        World {
+    /// Creates a world of new nodes.
+    pub fn new(rt: &R, sizes: Sizes) -> Result<Box<Self>, AllocError> {
+        let alloc = rt.alloc();
+        let world = World {
             nodes: Nodes::new(alloc),
             callers: Callers::new(alloc),
             feeds: Feeds(Vec::new(alloc)),
-        }
+        };
+        let mut world = Box::new(alloc, world)?;
+        world.add_all(rt, sizes)?;
+        Ok(world)
     }
 
     /// Adds the nodes.
-    pub fn add_all(&mut self, rt: &R, sizes: Sizes, codec_config: M::Cfg) -> io::Result<()> {
+    fn add_all(&mut self, rt: &R, sizes: Sizes) -> Result<(), AllocError> {
         for key in 1..=sizes.nodes {
-            self.add_sources(rt, rt.alloc())?;
-            self.add(rt, key, sizes, codec_config)?;
+            self.feeds.add(rt.alloc())?;
+            self.add(rt, key, sizes)?;
         }
         Ok(())
     }
 
-    /// Adds the node of the key.
-    fn add(
-        &mut self,
-        rt: &R,
-        key: u64,
-        sizes: Sizes,
-        codec_config: M::Cfg,
-    ) -> Result<(), AllocError> {
-        let cfg = self.feeds.config(key, sizes, codec_config)?;
-        Node::add(
-            rt,
-            cfg,
-            &mut self.nodes.engines,
-            &mut self.callers.mailboxes,
-        )
+    /// Adds the engine of the node of the key, and its mailbox.
+    fn add(&mut self, rt: &R, key: u64, sizes: Sizes) -> Result<(), AllocError> {
+        // With room for both, nothing can fail while the engine is at hand.
+        self.callers.mailboxes.reserve(1)?;
+        self.nodes.engines.reserve(1)?;
+        let cfg = self.feeds.config(key, sizes, M::codec_config())?;
+        let (node, mailbox) = Node::new(rt, cfg)?;
+        self.callers.mailboxes.push_reserved(mailbox);
+        self.nodes.engines.push_reserved(node);
+        self.nodes.add_task(rt)
     }
 
-    /// Adds what a node is fed by.
-    fn add_sources(&mut self, rt: &R, alloc: Global) -> io::Result<()> {
-        self.nodes.tasks.push(Solo::new(rt, Doorbell::spinning())?)?;
-        self.feeds.add(alloc)?;
-        Ok(self.nodes.wires.add(alloc)?)
+    /// Does what the action says, and counts what it woke. Returns whether it goes as it should.
+    pub fn goes(&mut self, rt: &R, alloc: Global, act: Act) -> Result<bool, AllocError> {
+        let goes = self.goes_outside(rt, alloc, act)?;
+        self.nodes.look();
+        Ok(goes)
     }
 
     /// Does what the action says. Returns whether it goes as it should.
-    pub fn goes(&mut self, rt: &R, alloc: Global, act: Act) -> Result<bool, AllocError> {
+    fn goes_outside(&mut self, rt: &R, alloc: Global, act: Act) -> Result<bool, AllocError> {
         match act {
             Act::AllTrack(keys) => self.track_all(alloc, keys),
-            Act::Finds(key, letter, found) => self.finds(rt, alloc, Act::Get(key, letter), found),
-            Act::Hears(key, letter, heard) => {
-                self.finds(rt, alloc, Act::Subscribe(key, letter), heard)
-            }
-            Act::Broadcast(..) | Act::BroadcastAs(..) | Act::Told(..) => {
-                self.callers.broadcasts(alloc, act)
-            }
-            Act::Subscribe(..) | Act::Get(..) => self.callers.ask(alloc, act),
-            Act::Gives(number, given) => Ok(self.callers.gives(rt, number, given)),
-            Act::Hang(number) => Ok(self.callers.hang(number)),
+            Act::Finds(..) | Act::Hears(..) => self.finds(rt, alloc, act),
+            Act::Broadcast(..)
+            | Act::BroadcastAs(..)
+            | Act::Told(..)
+            | Act::Subscribe(..)
+            | Act::Get(..)
+            | Act::Gives(..)
+            | Act::Hang(..) => self.callers.goes(rt, alloc, act),
             _ => goes_inside(&mut self.nodes, &self.feeds, alloc, act),
         }
     }
@@ -102,11 +97,12 @@ where
         self.nodes.run(alloc)
     }
 
-    /// Asks, lets all nodes run, and returns whether a message came or not. The future is dropped.
-    fn finds(&mut self, rt: &R, alloc: Global, asks: Act, found: bool) -> Result<bool, AllocError> {
-        let asked = self.callers.ask(alloc, asks)?;
+    /// Asks, lets all nodes run, and returns whether a message came or not, as the action says. The
+    /// future is dropped.
+    fn finds(&mut self, rt: &R, alloc: Global, act: Act) -> Result<bool, AllocError> {
+        let asked = self.callers.ask(alloc, act)?;
         let ran = self.nodes.run(alloc)?;
-        Ok(asked && ran && self.callers.hears(rt) == found)
+        Ok(asked && ran && self.callers.hears(rt, act))
     }
 }
 
@@ -123,13 +119,13 @@ where
     R: Wait + Clone + Drop,
 {
     Ok(match act {
-        Act::Run => nodes.run(alloc)?,
-        Act::Poll(key, turn) => nodes.poll(alloc, place(key)) == turn,
-        Act::Woken(key, woken) => nodes.is_woken(place(key)) == Some(woken),
-        Act::Counts(key, metric, number) => nodes.count(place(key), metric) == Some(number),
+        Act::Run => return nodes.run(alloc),
+        Act::Poll(key, turn) => nodes.takes(alloc, place(key), turn),
+        Act::Wakes(key, wakes) => nodes.was_woken(place(key), wakes),
+        Act::Counts(key, metric, number) => nodes.counted(place(key), metric, number),
         Act::Stop(key) => nodes.stop(place(key)),
         Act::CloseLast => nodes.close_last(),
-        _ => feeds_one::<M>(&mut nodes.wires, feeds, alloc, act)?,
+        _ => return feeds_one::<M>(&mut nodes.wires, feeds, alloc, act),
     })
 }
 

@@ -82,8 +82,23 @@ fn refusal(
     world: &mut World<u64>,
     bytes: &[u8],
 ) -> Result<Option<CodecError>, AllocError> {
-    let log = run_world(alloc, world, &[hostile(alloc, bytes)?])?;
+    let step = [hostile(alloc, bytes)?];
+    let log = run_world(alloc, world, &step)?;
     Ok(error_of(log.answers.as_slice()))
+}
+
+/// Returns whether node 2 refuses the bytes with the error, and none of its lists changes. Three of
+/// them have a digest.
+fn refuses(
+    alloc: Global,
+    world: &mut World<u64>,
+    bytes: &[u8],
+    error: CodecError,
+) -> Result<bool, AllocError> {
+    let before = lists(alloc, world)?;
+    let refused = refusal(alloc, world, bytes)? == Some(error);
+    let filled = before.iter().filter(|list| list.len() == 1).count();
+    Ok(refused && filled == 3 && before == lists(alloc, world)?)
 }
 
 /// Returns whether the bytes are refused with the error, and no list changes.
@@ -94,10 +109,7 @@ fn is_refused(
     error: CodecError,
 ) -> Result<bool, WorldError> {
     let mut world = first_world(alloc, max)?;
-    let before = lists(alloc, &world)?;
-    let refused = refusal(alloc, &mut world, bytes)? == Some(error);
-    let filled = before.iter().filter(|list| list.len() == 1).count();
-    Ok(refused && filled == 3 && before == lists(alloc, &world)?)
+    Ok(refuses(alloc, &mut world, bytes, error)?)
 }
 
 fn error_of(answers: &[WorldAnswer]) -> Option<CodecError> {

@@ -102,27 +102,58 @@ impl PlainWorld {
         alloc: Global,
         step: &Step<u64>,
     ) -> Result<Option<Answer<TestMessage>>, AllocError> {
-        let Some((key, event)) = self.event(step)? else {
-            return Ok(None);
-        };
-        let Some(node) = self.nodes.iter_mut().find(|node| node.own == key) else {
-            return Ok(None);
-        };
-        let answer = node.apply(alloc, &event)?;
-        if let Event::Broadcast(to, message) = &event {
-            self.send(alloc, key, to, message.inner())?;
+        match self.event(step)? {
+            Some((key, event)) => self.give(alloc, key, &event),
+            None => Ok(None),
         }
-        Ok(Some(answer))
     }
 
-    fn send(
+    /// Gives the event to the node of the key, and sends what it broadcasts. Returns its answer, or
+    /// `None` if there is no such node.
+    fn give(
+        &mut self,
+        alloc: Global,
+        key: u64,
+        event: &NodeEvent,
+    ) -> Result<Option<Answer<TestMessage>>, AllocError> {
+        let answer = self.answer(alloc, key, event)?;
+        if answer.is_some() {
+            self.send(alloc, key, event)?;
+        }
+        Ok(answer)
+    }
+
+    /// Returns the answer of the node of the key, or `None` if there is no such node.
+    fn answer(
+        &mut self,
+        alloc: Global,
+        key: u64,
+        event: &NodeEvent,
+    ) -> Result<Option<Answer<TestMessage>>, AllocError> {
+        match self.nodes.iter_mut().find(|node| node.own == key) {
+            Some(node) => Ok(Some(node.apply(alloc, event)?)),
+            None => Ok(None),
+        }
+    }
+
+    /// Sends the message to each addressee if the event is a broadcast.
+    fn send(&mut self, alloc: Global, sender: u64, event: &NodeEvent) -> Result<(), AllocError> {
+        let Event::Broadcast(to, message) = event else {
+            return Ok(());
+        };
+        let to = addressees(alloc, sender, &named(alloc, to)?)?;
+        self.pack(alloc, sender, &to, message.inner())
+    }
+
+    /// Adds a packet with the message for each addressee.
+    fn pack(
         &mut self,
         alloc: Global,
         sender: u64,
-        to: &Recipients<u64>,
+        to: &[u64],
         message: &TestMessage,
     ) -> Result<(), AllocError> {
-        for key in &addressees(alloc, sender, &named(alloc, to)?)? {
+        for key in to {
             self.packets.push(Packet {
                 sender,
                 addressee: *key,

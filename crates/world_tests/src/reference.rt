@@ -24,20 +24,30 @@ fn is_answer(answer: &WorldAnswer, expected: &Option<Answer<TestMessage>>) -> bo
     }
 }
 
-/// Returns the place of the first answer that is not expected.
-fn fault(
+/// Returns whether the world of plain vectors gives the answer to the step.
+fn gives(
+    alloc: Global,
+    plain: &mut PlainWorld,
+    step: &Step<u64>,
+    answer: &WorldAnswer,
+) -> Result<bool, AllocError> {
+    let expected = plain.apply(alloc, step)?;
+    Ok(is_answer(answer, &expected))
+}
+
+/// Returns whether the world of plain vectors gives all answers.
+fn gives_all(
     alloc: Global,
     plain: &mut PlainWorld,
     steps: &[Step<u64>],
     answers: &[WorldAnswer],
-) -> Result<Option<usize>, AllocError> {
-    for (place, (step, answer)) in steps.iter().zip(answers).enumerate() {
-        let expected = plain.apply(alloc, step)?;
-        if !is_answer(answer, &expected) {
-            return Ok(Some(place));
+) -> Result<bool, AllocError> {
+    for (step, answer) in steps.iter().zip(answers) {
+        if !gives(alloc, plain, step, answer)? {
+            return Ok(false);
         }
     }
-    Ok(None)
+    Ok(true)
 }
 
 /// Returns whether a world of plain vectors gives the answers, and has the last lists.
@@ -49,16 +59,21 @@ fn is_expected(
     world: &World<u64>,
 ) -> Result<bool, AllocError> {
     let mut plain = PlainWorld::new(alloc, size)?;
-    let fault = fault(alloc, &mut plain, steps, answers)?;
-    Ok(fault.is_none() && plain.is_shown_by(alloc, world)?)
+    let given = gives_all(alloc, &mut plain, steps, answers)?;
+    Ok(given && plain.is_shown_by(alloc, world)?)
+}
+
+/// Runs the steps in a new world. Returns whether it is that of plain vectors.
+fn runs_so(alloc: Global, size: usize, steps: &[Step<u64>]) -> Result<bool, WorldError> {
+    let mut world = world(alloc, size, RangeCfg::any())?;
+    let log = run_world(alloc, &mut world, steps)?;
+    Ok(is_expected(alloc, size, steps, log.answers.as_slice(), &world)?)
 }
 
 /// Returns whether a world of generated steps is that of plain vectors.
 fn is_same(alloc: Global, size: usize, seed: u64) -> Result<bool, WorldError> {
     let steps = all_steps(alloc, seed)?;
-    let mut world = world(alloc, size, RangeCfg::any())?;
-    let log = run_world(alloc, &mut world, &steps)?;
-    Ok(is_expected(alloc, size, &steps, log.answers.as_slice(), &world)?)
+    runs_so(alloc, size, &steps)
 }
 
 #[test]

@@ -212,6 +212,31 @@ fn are_clean(
     Ok(clean)
 }
 
+/// Returns whether both runs agree as promised.
+fn is_as_promised(
+    alloc: Global,
+    both: &Comparison<u64>,
+    size: usize,
+    steps: &[Step<u64>],
+    digests: &[Digest],
+    seen: &mut Seen,
+) -> Result<bool, AllocError> {
+    let allowed = are_allowed(both, steps, digests, seen);
+    Ok(are_clean(alloc, both, size, digests, seen)? && allowed)
+}
+
+/// Returns whether two runs of the steps agree as promised.
+fn runs_agree(
+    alloc: Global,
+    size: usize,
+    steps: &[Step<u64>],
+    digests: &[Digest],
+    seen: &mut Seen,
+) -> Result<bool, WorldError> {
+    let both = both_runs(alloc, size, steps)?;
+    Ok(is_as_promised(alloc, &both, size, steps, digests, seen)?)
+}
+
 /// Returns whether two runs of generated steps agree as promised.
 fn agrees(
     alloc: Global,
@@ -219,11 +244,8 @@ fn agrees(
     digests: &[Digest],
     seen: &mut Seen,
 ) -> Result<bool, WorldError> {
-    let size = (seed % 4) as usize;
     let steps = steps(alloc, seed)?;
-    let both = both_runs(alloc, size, &steps)?;
-    let allowed = are_allowed(&both, &steps, digests, seen);
-    Ok(are_clean(alloc, &both, size, digests, seen)? && allowed)
+    runs_agree(alloc, (seed % 4) as usize, &steps, digests, seen)
 }
 
 #[test]
