@@ -1,14 +1,15 @@
 //! The calls that standard input lists.
+use broadcast_core::Set;
 use broadcast_text::fault::Fault;
 use broadcast_text::line_error::LineError;
 use broadcast_text::lines::Lines;
-use broadcast_text::words::{Words, expect_number};
+use broadcast_text::words::{Words, expect_number, parse_numbers};
 use std::alloc::{AllocError, Global};
 use std::io::Read;
 use std::num::NonZeroUsize;
 
 /// What is called, with its size.
-#[derive(Clone, Copy, Debug, PartialEq, Eq)]
+#[derive(Clone, Copy)]
 pub enum Part {
     /// A core with this `deque_size`.
     Core(usize),
@@ -26,7 +27,7 @@ pub enum Part {
 /// A call with what it is given.
 pub trait Call: Drop + Sized {
     /// Returns the call of this name with what the words after it say.
-    fn parse(alloc: Global, name: &[u8], words: Words<'_>) -> Result<Self, LineError>;
+    fn parse(alloc: Global, name: &str, words: Words<'_>) -> Result<Self, LineError>;
 }
 
 /// Reads the first line.
@@ -39,14 +40,36 @@ pub fn read_part<R: Read + Drop>(lines: &mut Lines<R>) -> Result<Part, Fault> {
 
 fn parse_part(line: &[u8]) -> Result<Part, LineError> {
     let mut words = Words::new(line, b' ');
-    match words.expect()? {
-        b"core" => Ok(Part::Core(size_of(words)?)),
-        b"overflow" => Ok(Part::Overflow),
-        b"inbox" => Ok(Part::Inbox(places_of(words)?)),
-        b"mailbox" => Ok(Part::Mailbox(places_of(words)?)),
-        b"engine" => engine_of(words),
+    let name = words.expect()?;
+    part_of(text_of(name), words)
+}
+
+/// Returns the word as text, or no text if it is not UTF-8.
+fn text_of(word: &[u8]) -> &str {
+    str::from_utf8(word).unwrap_or("")
+}
+
+fn part_of(name: &str, words: Words<'_>) -> Result<Part, LineError> {
+    match name {
+        "core" => core_of(words),
+        "overflow" => Ok(Part::Overflow),
+        "inbox" => inbox_of(words),
+        "mailbox" => mailbox_of(words),
+        "engine" => engine_of(words),
         _ => Err(LineError::Syntax),
     }
+}
+
+fn core_of(words: Words<'_>) -> Result<Part, LineError> {
+    Ok(Part::Core(size_of(words)?))
+}
+
+fn inbox_of(words: Words<'_>) -> Result<Part, LineError> {
+    Ok(Part::Inbox(places_of(words)?))
+}
+
+fn mailbox_of(words: Words<'_>) -> Result<Part, LineError> {
+    Ok(Part::Mailbox(places_of(words)?))
 }
 
 fn engine_of(mut words: Words<'_>) -> Result<Part, LineError> {
@@ -55,7 +78,8 @@ fn engine_of(mut words: Words<'_>) -> Result<Part, LineError> {
     Ok(Part::Engine(size, places_of(words)?, greatest))
 }
 
-fn size_of(mut words: Words<'_>) -> Result<usize, LineError> {
+/// Returns the size that is the next word.
+pub fn size_of(mut words: Words<'_>) -> Result<usize, LineError> {
     Ok(expect_number(words.expect()?)? as usize)
 }
 
@@ -69,21 +93,43 @@ pub fn read_calls<C: Call, R: Read + Drop>(
     lines: &mut Lines<R>,
 ) -> Result<Vec<C>, Fault> {
     let mut calls = Vec::new(alloc);
+    append_calls(alloc, lines, &mut calls)?;
+    Ok(calls)
+}
+
+fn append_calls<C: Call, R: Read + Drop>(
+    alloc: Global,
+    lines: &mut Lines<R>,
+    calls: &mut Vec<C>,
+) -> Result<(), Fault> {
     for number in 2..u64::MAX {
-        let Some(line) = lines.next_line()? else {
-            return Ok(calls);
-        };
-        let call = parse_call(alloc, line).map_err(|error: LineError| fault_of(error, number))?;
-        calls.push(call).map_err(AllocError::from)?;
+        if !append_call(alloc, lines, number, calls)? {
+            return Ok(());
+        }
     }
     // No vector has room for that many calls.
     Err(Fault::Memory)
 }
 
+/// Appends the call of the next line, which has this number. Returns whether there was a line.
+fn append_call<C: Call, R: Read + Drop>(
+    alloc: Global,
+    lines: &mut Lines<R>,
+    number: u64,
+    calls: &mut Vec<C>,
+) -> Result<bool, Fault> {
+    let Some(line) = lines.next_line()? else {
+        return Ok(false);
+    };
+    let call = parse_call(alloc, line).map_err(|error: LineError| fault_of(error, number))?;
+    calls.push(call).map_err(AllocError::from)?;
+    Ok(true)
+}
+
 fn parse_call<C: Call>(alloc: Global, line: &[u8]) -> Result<C, LineError> {
     let mut words = Words::new(line, b' ');
     let name = words.expect()?;
-    C::parse(alloc, name, words)
+    C::parse(alloc, text_of(name), words)
 }
 
 fn fault_of(error: LineError, number: u64) -> Fault {
@@ -91,6 +137,11 @@ fn fault_of(error: LineError, number: u64) -> Fault {
         LineError::Syntax => Fault::Syntax(number),
         LineError::Memory => Fault::Memory,
     }
+}
+
+/// Returns the keys that are the words.
+pub fn set_of(alloc: Global, words: Words<'_>) -> Result<Set<u64>, LineError> {
+    Ok(Set::from_iter_dedup(parse_numbers(alloc, words)?)?)
 }
 
 /// Takes the number that is the next word.

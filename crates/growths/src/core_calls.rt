@@ -1,18 +1,20 @@
 //! Calls of a core.
 ghost use Rattle.std.specs.Prelude.{◌≡◌};
 
-use crate::calls::{Call, byte, is_closed, number};
+use crate::calls::{Call, byte, is_closed, number, read_calls, set_of};
 use crate::material::{digest_of, message};
 use crate::printer::Printer;
 use crate::show::{content_of, word_of, write_core};
 use broadcast_core::{Closable, Core, Digested, Set, Subscribed, Taken, TestMessage, Ticketed};
+use broadcast_text::fault::Fault;
 use broadcast_text::line_error::LineError;
+use broadcast_text::lines::Lines;
 use broadcast_text::words::{Words, parse_numbers};
 use std::alloc::{AllocError, Global};
-use std::io::Write;
+use std::io::{Read, Write};
 
 /// A waiter whose field is what `is_closed` returns.
-#[derive(Clone, Copy, Debug)]
+#[derive(Clone, Copy)]
 pub struct Waiter {
     ticket: u64,
     closed: bool,
@@ -49,26 +51,30 @@ pub enum Ready {
 }
 
 impl Call for Ready {
-    fn parse(alloc: Global, name: &[u8], words: Words<'_>) -> Result<Ready, LineError> {
+    fn parse(alloc: Global, name: &str, words: Words<'_>) -> Result<Ready, LineError> {
         match name {
-            b"peers" => Ok(Ready::Peers(set_of(alloc, words)?)),
-            b"take" => parse_take(alloc, words),
-            b"take_own" => Ok(Ready::TakeOwn(parse_message(alloc, words)?)),
-            b"subscribe" => parse_subscribe(words),
-            b"cleanup" => Ok(Ready::Cleanup(parse_numbers(alloc, words)?)),
-            b"cleanup_by" => Ok(Ready::CleanupBy),
+            "peers" => parse_peers(alloc, words),
+            "take" => parse_take(alloc, words),
+            "take_own" => parse_take_own(alloc, words),
+            "subscribe" => parse_subscribe(words),
+            "cleanup" => parse_cleanup(alloc, words),
+            "cleanup_by" => Ok(Ready::CleanupBy),
             _ => Err(LineError::Syntax),
         }
     }
 }
 
-fn set_of(alloc: Global, words: Words<'_>) -> Result<Set<u64>, LineError> {
-    Ok(Set::from_iter_dedup(parse_numbers(alloc, words)?)?)
+fn parse_peers(alloc: Global, words: Words<'_>) -> Result<Ready, LineError> {
+    Ok(Ready::Peers(set_of(alloc, words)?))
 }
 
 fn parse_take(alloc: Global, mut words: Words<'_>) -> Result<Ready, LineError> {
     let key = number(&mut words)?;
     Ok(Ready::Take(key, parse_message(alloc, words)?))
+}
+
+fn parse_take_own(alloc: Global, words: Words<'_>) -> Result<Ready, LineError> {
+    Ok(Ready::TakeOwn(parse_message(alloc, words)?))
 }
 
 /// Returns the message of a content under the digest of another.
@@ -85,9 +91,23 @@ fn parse_subscribe(mut words: Words<'_>) -> Result<Ready, LineError> {
     Ok(Ready::Subscribe(Waiter { ticket, closed }, digest))
 }
 
-/// Makes the calls of a core whose lists have at most `deque_size` digests, and writes what they
-/// return and leave.
-pub fn show<W: Write>(alloc: Global, out: &mut Printer<W>, deque_size: usize, calls: Vec<Ready>) {
+fn parse_cleanup(alloc: Global, words: Words<'_>) -> Result<Ready, LineError> {
+    Ok(Ready::Cleanup(parse_numbers(alloc, words)?))
+}
+
+/// Reads the calls of a core whose lists have at most `deque_size` digests, makes them, and writes
+/// what they return and leave.
+pub fn show<R: Read + Drop, W: Write>(
+    alloc: Global,
+    lines: &mut Lines<R>,
+    out: &mut Printer<W>,
+    deque_size: usize,
+) -> Result<(), Fault> {
+    make_all(alloc, out, deque_size, read_calls(alloc, lines)?);
+    Ok(())
+}
+
+fn make_all<W: Write>(alloc: Global, out: &mut Printer<W>, deque_size: usize, calls: Vec<Ready>) {
     let mut core = Core::new(alloc, 1, deque_size);
     for call in calls {
         make(out, &mut core, call);
@@ -102,8 +122,8 @@ fn make<W: Write>(out: &mut Printer<W>, core: &mut TestCore, call: Ready) {
             core.update_primary_peers(set);
             out.line("peers");
         }
-        Ready::Take(key, message) => write_taken(out, "take", core.take(&key, &message)),
-        Ready::TakeOwn(message) => write_taken(out, "take_own", core.take_own(&message)),
+        Ready::Take(key, message) => write_taken(out, "take", &core.take(&key, &message)),
+        Ready::TakeOwn(message) => write_taken(out, "take_own", &core.take_own(&message)),
         Ready::Subscribe(waiter, digest) => subscribe(out, core, waiter, digest),
         Ready::Cleanup(gone) => write_removed(out, "cleanup", core.cleanup(&gone)),
         Ready::CleanupBy => write_removed(out, "cleanup_by", core.cleanup_by()),
@@ -119,7 +139,7 @@ fn write_removed<W: Write>(out: &mut Printer<W>, call: &str, count: u64) {
 fn write_taken<W: Write>(
     out: &mut Printer<W>,
     call: &str,
-    taken: Result<Taken<Waiter>, AllocError>,
+    taken: &Result<Taken<Waiter>, AllocError>,
 ) {
     out.text(call);
     match taken {

@@ -1,11 +1,11 @@
 //! Calls of an engine's mailbox, and its drives, as lines.
-use crate::calls::{Call, number};
+use crate::calls::{Call, number, set_of, size_of};
 use broadcast_core::{Digested, Digestible, Items, Set, TestMessage};
 use broadcast_engine::buffered::NetworkFailed;
 use broadcast_text::byte_list::parse_byte_list;
 use broadcast_text::line_error::LineError;
 use broadcast_text::message::{parse_message, parse_request};
-use broadcast_text::words::{Words, parse_numbers};
+use broadcast_text::words::Words;
 use futures::task::Poll;
 use std::alloc::{AllocError, Global};
 
@@ -39,32 +39,57 @@ pub enum Act<M: Digestible> {
 }
 
 impl Call for Ready<TestMessage> {
-    fn parse(alloc: Global, name: &[u8], words: Words<'_>) -> Result<Self, LineError> {
+    fn parse(alloc: Global, name: &str, words: Words<'_>) -> Result<Self, LineError> {
         match name {
-            b"set" => Ok(Ready::Update(Poll::Ready(Some(set_of(alloc, words)?)))),
-            b"no_set" => Ok(Ready::Update(Poll::Pending)),
-            b"end" => Ok(Ready::Update(Poll::Ready(None))),
-            b"payload" => Ok(Ready::Received(Poll::Ready(Ok(payload_of(alloc, words)?)))),
-            b"no_payload" => Ok(Ready::Received(Poll::Pending)),
-            b"fail" => Ok(Ready::Received(Poll::Ready(Err(NetworkFailed)))),
-            _ => Ok(Ready::Act(act_of(alloc, name, words)?)),
+            "set" => parse_set(alloc, words),
+            "no_set" => Ok(Ready::Update(Poll::Pending)),
+            "end" => Ok(Ready::Update(Poll::Ready(None))),
+            "payload" => parse_payload(alloc, words),
+            "no_payload" => Ok(Ready::Received(Poll::Pending)),
+            "fail" => Ok(Ready::Received(Poll::Ready(Err(NetworkFailed)))),
+            _ => parse_act(alloc, name, words),
         }
     }
 }
 
-fn act_of(alloc: Global, name: &[u8], mut words: Words<'_>) -> Result<Act<TestMessage>, LineError> {
+fn parse_set(alloc: Global, words: Words<'_>) -> Result<Ready<TestMessage>, LineError> {
+    Ok(Ready::Update(Poll::Ready(Some(set_of(alloc, words)?))))
+}
+
+fn parse_payload(alloc: Global, words: Words<'_>) -> Result<Ready<TestMessage>, LineError> {
+    Ok(Ready::Received(Poll::Ready(Ok(payload_of(alloc, words)?))))
+}
+
+fn parse_act(alloc: Global, name: &str, words: Words<'_>) -> Result<Ready<TestMessage>, LineError> {
+    Ok(Ready::Act(act_of(alloc, name, words)?))
+}
+
+fn act_of(alloc: Global, name: &str, words: Words<'_>) -> Result<Act<TestMessage>, LineError> {
     match name {
-        b"broadcast" => Ok(Act::Broadcast(parse_message(alloc, words)?)),
-        b"subscribe" => Ok(Act::Subscribe(parse_request(alloc, words)?.1)),
-        b"get" => Ok(Act::Get(parse_request(alloc, words)?.1)),
-        b"drop" => Ok(Act::Drop(number(&mut words)? as usize)),
-        b"drive" => Ok(Act::Drive(number(&mut words)? as usize)),
+        "broadcast" => broadcast_of(alloc, words),
+        "subscribe" => Ok(Act::Subscribe(digest_of(alloc, words)?)),
+        "get" => Ok(Act::Get(digest_of(alloc, words)?)),
+        _ => sized_act(name, words),
+    }
+}
+
+/// Returns the act of this name that is given a number.
+fn sized_act(name: &str, words: Words<'_>) -> Result<Act<TestMessage>, LineError> {
+    match name {
+        "drop" => Ok(Act::Drop(size_of(words)?)),
+        "drive" => Ok(Act::Drive(size_of(words)?)),
         _ => Err(LineError::Syntax),
     }
 }
 
-fn set_of(alloc: Global, words: Words<'_>) -> Result<Set<u64>, LineError> {
-    Ok(Set::from_iter_dedup(parse_numbers(alloc, words)?)?)
+fn broadcast_of(alloc: Global, words: Words<'_>) -> Result<Act<TestMessage>, LineError> {
+    Ok(Act::Broadcast(parse_message(alloc, words)?))
+}
+
+/// Returns the digest of a request, whose ticket is not used.
+fn digest_of(alloc: Global, words: Words<'_>) -> Result<[u8; 32], LineError> {
+    let (_ticket, digest) = parse_request(alloc, words)?;
+    Ok(digest)
 }
 
 fn payload_of(alloc: Global, mut words: Words<'_>) -> Result<(u64, Items<u8>), LineError> {
@@ -89,10 +114,15 @@ impl<M: Digestible> Lists<M> {
             received: Vec::new(alloc),
             acts: Vec::new(alloc),
         };
-        for line in lines {
-            lists.push(line)?;
-        }
+        lists.push_all(lines)?;
         Ok(lists)
+    }
+
+    fn push_all(&mut self, lines: Vec<Ready<M>>) -> Result<(), AllocError> {
+        for line in lines {
+            self.push(line)?;
+        }
+        Ok(())
     }
 
     fn push(&mut self, line: Ready<M>) -> Result<(), AllocError> {

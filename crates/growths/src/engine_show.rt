@@ -57,8 +57,7 @@ fn write_turn<W: Write>(out: &mut Printer<W>, turn: Turn) {
         Turn::Get => ("get", ""),
         Turn::Payload(outcome) => ("payload:", word_of(outcome)),
         Turn::Invalid(error) => ("invalid:", error_word(error)),
-        Turn::Refused(Cause::Memory) => ("refused", ""),
-        Turn::Refused(Cause::Unencodable) => ("unencodable", ""),
+        Turn::Refused(cause) => (cause_word(cause), ""),
         Turn::Ended(cause) => ("ended:", end_word(cause)),
     };
     out.text(word);
@@ -75,6 +74,13 @@ fn error_word(error: CodecError) -> &'static str {
     }
 }
 
+fn cause_word(cause: Cause) -> &'static str {
+    match cause {
+        Cause::Memory => "refused",
+        Cause::Unencodable => "unencodable",
+    }
+}
+
 fn end_word(cause: EndCause) -> &'static str {
     match cause {
         EndCause::Stopped => "stopped",
@@ -87,31 +93,43 @@ fn end_word(cause: EndCause) -> &'static str {
 /// Writes the counters.
 pub fn write_counters<W: Write>(out: &mut Printer<W>, metrics: &Metrics<u64>) {
     out.counted("  waiters", metrics.waiters());
-    out.text(" receive");
-    for status in [Status::Success, Status::Dropped, Status::Invalid] {
-        out.counted("", metrics.receive(status));
-    }
-    out.text(" subscribe");
-    for status in [Status::Success, Status::Dropped] {
-        out.counted("", metrics.subscribe(status));
-    }
-    out.text(" get");
-    for status in [Status::Success, Status::Failure, Status::Dropped] {
-        out.counted("", metrics.get(status));
-    }
+    write_receive(out, metrics);
+    write_subscribe(out, metrics);
+    write_get(out, metrics);
+    write_peers(out, metrics);
+    out.line("");
+}
+
+fn write_receive<W: Write>(out: &mut Printer<W>, metrics: &Metrics<u64>) {
+    out.counted(" receive", metrics.receive(Status::Success));
+    out.counted("", metrics.receive(Status::Dropped));
+    out.counted("", metrics.receive(Status::Invalid));
+}
+
+fn write_subscribe<W: Write>(out: &mut Printer<W>, metrics: &Metrics<u64>) {
+    out.counted(" subscribe", metrics.subscribe(Status::Success));
+    out.counted("", metrics.subscribe(Status::Dropped));
+}
+
+fn write_get<W: Write>(out: &mut Printer<W>, metrics: &Metrics<u64>) {
+    out.counted(" get", metrics.get(Status::Success));
+    out.counted("", metrics.get(Status::Failure));
+    out.counted("", metrics.get(Status::Dropped));
+}
+
+fn write_peers<W: Write>(out: &mut Printer<W>, metrics: &Metrics<u64>) {
     out.text(" peers");
     for key in 0..KEYS {
         out.counted("", metrics.peer(&key));
     }
-    out.line("");
 }
 
 /// Polls the future of a caller, and writes what it gives.
 pub fn write_asked<M: Content, W: Write>(task: &Solo, out: &mut Printer<W>, asked: &mut Asked<M>) {
     match asked {
-        Asked::Get(get) => write_got(out, poll(task, get)),
+        Asked::Get(get) => write_got(out, &poll(task, get)),
         Asked::Subscription(subscription) => {
-            write_subscribed(out, poll(task, subscription));
+            write_subscribed(out, &poll(task, subscription));
         }
         Asked::Dropped => out.line("dropped"),
     }
@@ -128,22 +146,22 @@ fn poll<F: Future>(task: &Solo, future: &mut F) -> Poll<F::Output>
     polled
 }
 
-fn write_got<M: Content, W: Write>(out: &mut Printer<W>, polled: Poll<Option<Digested<M>>>) {
+fn write_got<M: Content, W: Write>(out: &mut Printer<W>, polled: &Poll<Option<Digested<M>>>) {
     match polled {
         Poll::Pending => out.line("get waits"),
         Poll::Ready(None) => out.line("get none"),
-        Poll::Ready(Some(message)) => write_message(out, "get", &message),
+        Poll::Ready(Some(message)) => write_message(out, "get", message),
     }
 }
 
 fn write_subscribed<M: Content, W: Write>(
     out: &mut Printer<W>,
-    polled: Poll<Result<Digested<M>, Canceled>>,
+    polled: &Poll<Result<Digested<M>, Canceled>>,
 ) {
     match polled {
         Poll::Pending => out.line("subscribe waits"),
         Poll::Ready(Err(Canceled)) => out.line("subscribe canceled"),
-        Poll::Ready(Ok(message)) => write_message(out, "subscribe", &message),
+        Poll::Ready(Ok(message)) => write_message(out, "subscribe", message),
     }
 }
 

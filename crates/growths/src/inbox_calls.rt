@@ -1,13 +1,15 @@
 //! Calls of an inbox.
-use crate::calls::Call;
+use crate::calls::{Call, read_calls};
 use crate::printer::Printer;
 use crate::requests::{Plain, parse_request, write_counts, write_request, write_taken};
+use broadcast_text::fault::Fault;
 use broadcast_text::line_error::LineError;
+use broadcast_text::lines::Lines;
 use broadcast_text::words::Words;
 use commonware_broadcast::MailboxError;
 use commonware_broadcast::buffered::{Inbox, Queued};
 use std::alloc::Global;
-use std::io::Write;
+use std::io::{Read, Write};
 use std::num::NonZeroUsize;
 
 /// A call with what it is given.
@@ -20,19 +22,33 @@ pub enum Ready {
 }
 
 impl Call for Ready {
-    fn parse(alloc: Global, name: &[u8], words: Words<'_>) -> Result<Ready, LineError> {
+    fn parse(alloc: Global, name: &str, words: Words<'_>) -> Result<Ready, LineError> {
         match name {
-            b"take" => Ok(Ready::Take),
-            b"request_stop" => Ok(Ready::RequestStop),
-            b"close" => Ok(Ready::Close),
-            _ => Ok(Ready::Enqueue(parse_request(alloc, name, words)?)),
+            "take" => Ok(Ready::Take),
+            "request_stop" => Ok(Ready::RequestStop),
+            "close" => Ok(Ready::Close),
+            _ => parse_enqueue(alloc, name, words),
         }
     }
 }
 
-/// Makes the calls of an inbox whose ready list has `places` places, and writes what they return,
-/// and where the requests went.
-pub fn show<W: Write>(
+fn parse_enqueue(alloc: Global, name: &str, words: Words<'_>) -> Result<Ready, LineError> {
+    Ok(Ready::Enqueue(parse_request(alloc, name, words)?))
+}
+
+/// Reads the calls of an inbox whose ready list has `places` places, makes them, and writes what
+/// they return, and where the requests went.
+pub fn show<R: Read + Drop, W: Write>(
+    alloc: Global,
+    lines: &mut Lines<R>,
+    out: &mut Printer<W>,
+    places: NonZeroUsize,
+) -> Result<(), Fault> {
+    make_all(alloc, out, places, read_calls(alloc, lines)?);
+    Ok(())
+}
+
+fn make_all<W: Write>(
     alloc: Global,
     out: &mut Printer<W>,
     places: NonZeroUsize,
@@ -50,20 +66,21 @@ fn make<W: Write>(out: &mut Printer<W>, inbox: &mut Inbox<Plain>, call: Ready) {
     match call {
         Ready::Enqueue(request) => enqueue(out, inbox, request),
         Ready::Take => write_taken(out, inbox.take()),
-        Ready::RequestStop => {
-            inbox.request_stop();
-            let requested = inbox.stop_requested();
-            out.line(if requested {
-                "request_stop true"
-            } else {
-                "request_stop false"
-            });
-        }
+        Ready::RequestStop => request_stop(out, inbox),
         Ready::Close => {
             out.counted("close", inbox.close());
             out.line("");
         }
     }
+}
+
+fn request_stop<W: Write>(out: &mut Printer<W>, inbox: &mut Inbox<Plain>) {
+    inbox.request_stop();
+    out.line(if inbox.stop_requested() {
+        "request_stop true"
+    } else {
+        "request_stop false"
+    });
 }
 
 fn enqueue<W: Write>(out: &mut Printer<W>, inbox: &mut Inbox<Plain>, request: Plain) {

@@ -1,15 +1,17 @@
 //! Calls of a mailbox.
-use crate::calls::{Call, byte};
+use crate::calls::{Call, byte, read_calls};
 use crate::material::{digest_of, message};
 use crate::printer::Printer;
 use crate::requests::{write_counts, write_taken};
 use broadcast_core::{Digested, Recipients, TestMessage};
+use broadcast_text::fault::Fault;
 use broadcast_text::line_error::LineError;
+use broadcast_text::lines::Lines;
 use broadcast_text::words::Words;
 use commonware_broadcast::buffered::{Get, Incoming, Ingress, Mailbox, Subscription, channel};
 use commonware_broadcast::{Broadcaster, Feedback, MailboxError};
-use std::alloc::{AllocError, Global};
-use std::io::Write;
+use std::alloc::{AllocError, AllocGlobal, Global};
+use std::io::{Read, Write};
 use std::num::NonZeroUsize;
 use std::sync::Wait;
 
@@ -26,26 +28,38 @@ pub enum Ready {
 }
 
 impl Call for Ready {
-    fn parse(alloc: Global, name: &[u8], mut words: Words<'_>) -> Result<Ready, LineError> {
+    fn parse(alloc: Global, name: &str, words: Words<'_>) -> Result<Ready, LineError> {
         match name {
-            b"broadcast" => Ok(Ready::Broadcast(parse_broadcast(alloc, words)?)),
-            b"subscribe" => Ok(Ready::Subscribe(byte(&mut words)?)),
-            b"get" => Ok(Ready::Get(byte(&mut words)?)),
-            b"clone" => Ok(Ready::Clone),
-            b"drop" => Ok(Ready::Drop),
-            b"take" => Ok(Ready::Take),
-            b"close" => Ok(Ready::Close),
-            _ => Err(LineError::Syntax),
+            "broadcast" => parse_broadcast(alloc, words),
+            "subscribe" => parse_subscribe(words),
+            "get" => parse_get(words),
+            _ => named(name),
         }
     }
 }
 
-fn parse_broadcast(
-    alloc: Global,
-    mut words: Words<'_>,
-) -> Result<Digested<TestMessage>, LineError> {
+/// Returns the call of this name, which is given nothing.
+fn named(name: &str) -> Result<Ready, LineError> {
+    match name {
+        "clone" => Ok(Ready::Clone),
+        "drop" => Ok(Ready::Drop),
+        "take" => Ok(Ready::Take),
+        "close" => Ok(Ready::Close),
+        _ => Err(LineError::Syntax),
+    }
+}
+
+fn parse_subscribe(mut words: Words<'_>) -> Result<Ready, LineError> {
+    Ok(Ready::Subscribe(byte(&mut words)?))
+}
+
+fn parse_get(mut words: Words<'_>) -> Result<Ready, LineError> {
+    Ok(Ready::Get(byte(&mut words)?))
+}
+
+fn parse_broadcast(alloc: Global, mut words: Words<'_>) -> Result<Ready, LineError> {
     let content = byte(&mut words)?;
-    Ok(message(alloc, content, content)?)
+    Ok(Ready::Broadcast(message(alloc, content, content)?))
 }
 
 /// A mailbox of test messages.
@@ -61,27 +75,46 @@ struct Held {
     gets: Vec<Get<TestMessage>>,
 }
 
-/// Makes the calls of a mailbox whose ready list has `places` places, and writes what they return,
-/// and where the requests went.
-pub fn show<R: Wait + Clone + Send + Drop + 'static, W: Write>(
+impl Held {
+    /// Drops the futures.
+    fn clear(&mut self) {
+        self.subscriptions.clear();
+        self.gets.clear();
+    }
+}
+
+/// Reads the calls of a mailbox whose ready list has `places` places, makes them, and writes what
+/// they return, and where the requests went.
+pub fn show<H, R: Read + Drop, W: Write>(
+    rt: &H,
+    lines: &mut Lines<R>,
+    out: &mut Printer<W>,
+    places: NonZeroUsize,
+) -> Result<(), Fault>
+where
+    H: Wait + AllocGlobal + Clone + Send + Drop + 'static,
+{
+    make_all(rt, out, places, read_calls(rt.alloc(), lines)?)?;
+    Ok(())
+}
+
+fn make_all<R: Wait + AllocGlobal + Clone + Send + Drop + 'static, W: Write>(
     rt: &R,
-    alloc: Global,
     out: &mut Printer<W>,
     places: NonZeroUsize,
     calls: Vec<Ready>,
 ) -> Result<(), AllocError> {
-    let mut held = held_for(alloc, calls.len())?;
-    let (mailbox, ingress) = ends(rt, alloc, places)?;
+    let mut held = held_for(rt.alloc(), calls.len())?;
+    let (mailbox, ingress) = ends(rt, places)?;
     make_calls(out, &mailbox, &ingress, &mut held, calls);
     Ok(())
 }
 
-fn ends<R: Wait + Clone + Drop>(
+fn ends<R: Wait + AllocGlobal + Clone + Drop>(
     rt: &R,
-    alloc: Global,
     places: NonZeroUsize,
 ) -> Result<(TestMailbox<R>, TestIngress<R>), AllocError> {
-    channel(rt.clone()?, alloc, places)
+    channel(rt.clone()?, rt.alloc(), places)
 }
 
 fn held_for(alloc: Global, count: usize) -> Result<Held, AllocError> {
@@ -116,8 +149,11 @@ fn make<R: Wait + Clone + Send + Drop + 'static, W: Write>(
 ) {
     match call {
         Ready::Broadcast(message) => {
-            let told = mailbox.broadcast(Recipients::All, message);
-            write_told(out, "broadcast", told);
+            write_told(
+                out,
+                "broadcast",
+                mailbox.broadcast(Recipients::All, message),
+            );
         }
         Ready::Subscribe(content) => {
             write_told(out, "subscribe", subscribe(mailbox, held, content));
@@ -125,8 +161,7 @@ fn make<R: Wait + Clone + Send + Drop + 'static, W: Write>(
         Ready::Get(content) => write_told(out, "get", get(mailbox, held, content)),
         Ready::Clone => write_clone(out, mailbox.clone()),
         Ready::Drop => {
-            held.subscriptions.clear();
-            held.gets.clear();
+            held.clear();
             out.line("drop");
         }
         Ready::Take => write_taken(out, ingress.take()),

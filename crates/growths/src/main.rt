@@ -67,33 +67,55 @@ fn play<
         return Err(Fault::Memory);
     };
     let mut out = Printer::new(out);
-    let mut lines = Lines::new(rt.alloc(), reader)?;
-    make_calls(rt, &mut lines, &mut out)?;
+    read_and_make(rt, reader, &mut out)?;
     if out.end() { Ok(()) } else { Err(Fault::Write) }
 }
 
+/// Reads the calls, and makes them.
+fn read_and_make<
+    H: Wait + RandomSource + Clone + Send + Drop + AllocGlobal + 'static,
+    R: Read + Drop,
+    W: Write,
+>(rt: &H, reader: R, out: &mut Printer<W>) -> Result<(), Fault> {
+    let mut lines = Lines::new(rt.alloc(), reader)?;
+    let part = read_part(&mut lines)?;
+    make_calls(rt, part, &mut lines, out)
+}
+
+/// Reads the calls of the part, and makes them.
 fn make_calls<
     H: Wait + RandomSource + Clone + Send + Drop + AllocGlobal + 'static,
     R: Read + Drop,
     W: Write,
->(rt: &H, lines: &mut Lines<R>, out: &mut Printer<W>) -> Result<(), Fault> {
+>(rt: &H, part: Part, lines: &mut Lines<R>, out: &mut Printer<W>) -> Result<(), Fault> {
     let alloc = rt.alloc();
-    match read_part(lines)? {
-        Part::Core(size) => core_calls::show(alloc, out, size, read_calls(alloc, lines)?),
-        Part::Overflow => overflow_calls::show(alloc, out, read_calls(alloc, lines)?)?,
-        Part::Inbox(size) => inbox_calls::show(alloc, out, size, read_calls(alloc, lines)?),
-        Part::Mailbox(size) => {
-            mailbox_calls::show(rt, alloc, out, size, read_calls(alloc, lines)?)?;
-        }
+    match part {
+        Part::Core(size) => core_calls::show(alloc, lines, out, size),
+        Part::Overflow => overflow_calls::show(alloc, lines, out),
+        Part::Inbox(places) => inbox_calls::show(alloc, lines, out, places),
+        Part::Mailbox(places) => mailbox_calls::show(rt, lines, out, places),
         Part::Engine(deque_size, places, greatest) => {
             let settings = Settings {
                 deque_size,
                 places,
                 codec_config: RangeCfg::new(0, greatest),
             };
-            let lines = read_calls(alloc, lines)?;
-            engine::show::<TestMessage, H, W>(rt, out, settings, lines)?;
+            drive(rt, lines, out, settings)
         }
     }
-    Ok(())
+}
+
+/// Reads the lines of an engine, and does what they say.
+fn drive<
+    H: Wait + RandomSource + Clone + Send + Drop + AllocGlobal + 'static,
+    R: Read + Drop,
+    W: Write,
+>(
+    rt: &H,
+    lines: &mut Lines<R>,
+    out: &mut Printer<W>,
+    settings: Settings<RangeCfg>,
+) -> Result<(), Fault> {
+    let lines = read_calls(rt.alloc(), lines)?;
+    engine::show::<TestMessage, H, W>(rt, out, settings, lines)
 }

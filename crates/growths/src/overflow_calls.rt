@@ -1,26 +1,37 @@
 //! Calls of an overflow.
-use crate::calls::Call;
+use crate::calls::{Call, read_calls};
 use crate::printer::Printer;
 use crate::requests::{Plain, parse_request, write_request};
+use broadcast_text::fault::Fault;
 use broadcast_text::line_error::LineError;
+use broadcast_text::lines::Lines;
 use broadcast_text::words::Words;
 use commonware_broadcast::buffered::{Overflow, Pending, Policy};
 use std::alloc::{AllocError, Global};
-use std::io::Write;
+use std::io::{Read, Write};
 
 /// A request that finds no room.
 #[derive(Drop)]
 pub struct Ready(Plain);
 
 impl Call for Ready {
-    fn parse(alloc: Global, name: &[u8], words: Words<'_>) -> Result<Ready, LineError> {
+    fn parse(alloc: Global, name: &str, words: Words<'_>) -> Result<Ready, LineError> {
         Ok(Ready(parse_request(alloc, name, words)?))
     }
 }
 
-/// Puts the requests into an overflow, and writes how many wait. Drains it in the end, and writes
-/// what it offers.
-pub fn show<W: Write>(
+/// Reads requests and puts them into an overflow, and writes how many wait. Drains it in the end,
+/// and writes what it offers.
+pub fn show<R: Read + Drop, W: Write>(
+    alloc: Global,
+    lines: &mut Lines<R>,
+    out: &mut Printer<W>,
+) -> Result<(), Fault> {
+    make_all(alloc, out, read_calls(alloc, lines)?)?;
+    Ok(())
+}
+
+fn make_all<W: Write>(
     alloc: Global,
     out: &mut Printer<W>,
     calls: Vec<Ready>,

@@ -16,13 +16,17 @@ const CONTENTS: u8 = 10;
 pub type Plain = Message<u64, TestMessage, Fixed, Fixed>;
 
 /// Returns the request of this name with what the words after it say.
-pub fn parse_request(alloc: Global, name: &[u8], mut words: Words<'_>) -> Result<Plain, LineError> {
+pub fn parse_request(alloc: Global, name: &str, mut words: Words<'_>) -> Result<Plain, LineError> {
     let content = byte(&mut words)?;
     let closed = is_closed(words)?;
+    request_of(alloc, name, content, closed)
+}
+
+fn request_of(alloc: Global, name: &str, content: u8, closed: bool) -> Result<Plain, LineError> {
     match name {
-        b"broadcast" => broadcast(alloc, content),
-        b"subscribe" => Ok(Message::subscribe(digest_of(content), Fixed { closed })),
-        b"get" => Ok(Message::get(digest_of(content), Fixed { closed })),
+        "broadcast" => broadcast(alloc, content),
+        "subscribe" => Ok(Message::subscribe(digest_of(content), Fixed { closed })),
+        "get" => Ok(Message::get(digest_of(content), Fixed { closed })),
         _ => Err(LineError::Syntax),
     }
 }
