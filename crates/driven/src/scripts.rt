@@ -36,9 +36,7 @@ impl<M: Numbered> Scripts<M> {
             requests: Vec::new(alloc),
             payloads: Vec::new(alloc),
         };
-        for place in 0..number {
-            scripts.add(alloc, place)?;
-        }
+        scripts.add_all(alloc, number)?;
         Ok(scripts)
     }
 
@@ -47,39 +45,54 @@ impl<M: Numbered> Scripts<M> {
         self.sets.len()
     }
 
+    /// Adds the first events.
+    fn add_all(&mut self, alloc: Global, number: u64) -> Result<(), AllocError> {
+        for place in 0..number {
+            self.add(alloc, place)?;
+        }
+        Ok(())
+    }
+
     /// Adds the event of the place.
     fn add(&mut self, alloc: Global, place: u64) -> Result<(), AllocError> {
         match kind_at(place) {
-            Kind::Peers => Ok(self.sets.push(Poll::Ready(Some(peers(alloc)?)))?),
-            Kind::Payload(peer, number) => {
-                let payload = payload::<M>(alloc, number)?;
-                self.add_payload(peer, payload)
-            }
-            Kind::Subscribe(number) => {
-                let message = Message::subscribe(digest::<M>(alloc, number)?, OPEN);
-                self.add_request(place, message)
-            }
-            Kind::Get(number) => {
-                let message = Message::get(digest::<M>(alloc, number)?, OPEN);
-                self.add_request(place, message)
-            }
+            Kind::Peers => self.add_peers(alloc),
+            Kind::Payload(peer, number) => self.add_payload(alloc, peer, number),
+            Kind::Subscribe(number) => self.add_subscribe(alloc, place, number),
+            Kind::Get(number) => self.add_get(alloc, place, number),
         }
     }
 
-    fn add_payload(&mut self, peer: u64, payload: Items<u8>) -> Result<(), AllocError> {
+    fn add_peers(&mut self, alloc: Global) -> Result<(), AllocError> {
+        self.sets.push(Poll::Ready(Some(peers(alloc)?)))?;
+        Ok(())
+    }
+
+    fn add_payload(&mut self, alloc: Global, peer: u64, number: u64) -> Result<(), AllocError> {
         self.sets.push(Poll::Pending)?;
         self.requests.push(Poll::Pending)?;
+        let payload = payload::<M>(alloc, number)?;
         self.payloads.push(Poll::Ready(Ok((peer, payload))))?;
         Ok(())
     }
 
+    fn add_subscribe(&mut self, alloc: Global, ticket: u64, number: u64) -> Result<(), AllocError> {
+        let digest = digest::<M>(alloc, number)?;
+        self.add_request(ticket, Message::subscribe(digest, OPEN))
+    }
+
+    fn add_get(&mut self, alloc: Global, ticket: u64, number: u64) -> Result<(), AllocError> {
+        let digest = digest::<M>(alloc, number)?;
+        self.add_request(ticket, Message::get(digest, OPEN))
+    }
+
     fn add_request(&mut self, ticket: u64, message: Asked<M>) -> Result<(), AllocError> {
-        self.sets.push(Poll::Pending)?;
         self.requests.push(Poll::Ready(Request {
             ticket,
             message,
             counted: false,
         }))?;
+        self.sets.push(Poll::Pending)?;
         Ok(())
     }
 }
