@@ -51,12 +51,7 @@ where
         ensures no_history { IfOk result (λ ends.
             ends.0 ≡ fresh cfg ends.0.requests ends.0.node.outlet) }
     {
-        match channel(rt, alloc, cfg.mailbox_size) {
-            Ok((mailbox, ingress)) => Ok((Engine::over(alloc, cfg, ingress, Direct), mailbox)),
-            Err(error) => {
-                drop::<_>(cfg);
-                Err(error)
-            }
-        }
+        let (mailbox, ingress) = channel(rt, alloc, cfg.mailbox_size)?;
+        Ok((Engine::over(alloc, cfg, ingress, Direct), mailbox))
     }
 }

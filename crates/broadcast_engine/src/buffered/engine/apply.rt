@@ -57,14 +57,8 @@ where
         }
         Input::Request(request) => apply_request(node, sender, alloc, priority, request),
         Input::Arrived(peer, message) => match handle_arrival(node, alloc, &peer, &message) {
-            Ok(outcome) => {
-                drop::<_>((peer, message));
-                Turn::Payload(outcome)
-            }
-            Err(_) => {
-                drop::<_>((peer, message));
-                Turn::Refused(Cause::Memory)
-            }
+            Ok(outcome) => Turn::Payload(outcome),
+            Err(_) => Turn::Refused(Cause::Memory),
         },
         Input::Invalid(error) => {
             node.metrics.count_receive(Status::Invalid);

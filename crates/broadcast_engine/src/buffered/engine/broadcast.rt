@@ -47,21 +47,14 @@ where
 {
     let bytes = match encoded(alloc, &message) {
         Ok(bytes) => bytes,
-        Err(cause) => {
-            drop::<_>((recipients, message));
-            return Turn::Refused(cause);
-        }
+        Err(cause) => return Turn::Refused(cause),
     };
     match take_own(node, alloc, &message) {
         Ok(outcome) => {
-            drop::<_>(message);
             sender.send(recipients, bytes, priority);
             Turn::Broadcast(outcome)
         }
-        Err(_) => {
-            drop::<_>((recipients, message));
-            Turn::Refused(Cause::Memory)
-        }
+        Err(_) => Turn::Refused(Cause::Memory),
     }
 }
 

@@ -59,11 +59,9 @@ where
         Poll::Ready(Err(_)) => Poll::Ready(Err(EndCause::NetworkFailed)),
         Poll::Ready(Ok((peer, bytes))) => {
             let payload = bytes.as_slice();
-            let turn = receive(
+            going_on(receive(
                 node, sender, slot, cx, alloc, priority, strategy, cfg, peer, payload,
-            );
-            drop::<_>(bytes);
-            going_on(turn)
+            ))
         }
     }
 }

@@ -91,10 +91,7 @@ where
             Ok(())
         }
         Ok(Subscribed::Waiting) => Ok(()),
-        Err(refused) => {
-            drop::<_>(refused);
-            Err(AllocError)
-        }
+        Err(_) => Err(AllocError),
     }
 }
 

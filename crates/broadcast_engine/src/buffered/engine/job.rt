@@ -61,12 +61,11 @@ where
 {
     match job.poll(cx) {
         Poll::Pending => {
-            fill(slot, peer, job);
+            *slot = Some((peer, job));
             Poll::Pending
         }
         Poll::Ready((message, digest)) => {
-            drop::<_>(job);
-            clear(slot);
+            *slot = None;
             Poll::Ready(arrive(node, sender, alloc, priority, peer, message, digest))
         }
     }
@@ -102,17 +101,13 @@ where
     ensures armed { OnPending result (IsArmed cx.new) }
     ensures kept { Keeps cx.old cx.new }
 {
-    clear(slot);
+    *slot = None;
     let Ok(()) = node.metrics.count_peer(&peer) else {
-        drop::<_>((peer, message));
         return Poll::Ready(Turn::Refused(Cause::Memory));
     };
     match strategy.start(message) {
         Ok(job) => poll_job(node, sender, slot, cx, alloc, priority, peer, job),
-        Err(_) => {
-            drop::<_>(peer);
-            Poll::Ready(Turn::Refused(Cause::Memory))
-        }
+        Err(_) => Poll::Ready(Turn::Refused(Cause::Memory)),
     }
 }
 
@@ -143,18 +138,8 @@ where
 {
     match Digested::precomputed(alloc, message, digest) {
         Ok(message) => apply(node, sender, alloc, priority, Input::Arrived(peer, message)),
-        Err(_) => {
-            drop::<_>(peer);
-            Turn::Refused(Cause::Memory)
-        }
+        Err(_) => Turn::Refused(Cause::Memory),
     }
-}
-
-/// Puts the job of a message of `peer` into the slot.
-fn fill<P: Drop, J: Drop>(slot: &mut Option<(P, J)>, peer: P, job: J)
-    ensures { slot.new ≡ Some (peer, job) }
-{
-    *slot = Some((peer, job));
 }
 
 /// Empties the slot.

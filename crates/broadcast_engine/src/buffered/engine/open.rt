@@ -72,12 +72,10 @@ where
     if requests.stopped(cx) {
         return Poll::Ready(Err(EndCause::Stopped));
     }
-    match slot.take() {
-        Some((peer, job)) => {
-            going_on(poll_job(node, sender, slot, cx, alloc, priority, peer, job))
-        }
-        None => poll_sources(
-            node, provider, requests, sender, receiver, slot, cx, alloc, priority, strategy, cfg,
-        ),
+    if let Some((peer, job)) = slot.take() {
+        return going_on(poll_job(node, sender, slot, cx, alloc, priority, peer, job));
     }
+    poll_sources(
+        node, provider, requests, sender, receiver, slot, cx, alloc, priority, strategy, cfg,
+    )
 }

@@ -16,7 +16,7 @@ ghost use Rattle.broadcast_engine.specs.Polled.{Received};
 
 use crate::buffered::engine::apply::apply;
 use crate::buffered::engine::input::{Input, Turn};
-use crate::buffered::engine::job::{clear, start_job};
+use crate::buffered::engine::job::start_job;
 use crate::buffered::engine::node::Node;
 use crate::buffered::network::Sender;
 use crate::buffered::outlet::Outlet;
@@ -58,15 +58,12 @@ where
     ensures armed { OnPending result (IsArmed cx.new) }
     ensures kept { Keeps cx.old cx.new }
 {
-    clear(slot);
+    *slot = None;
     match decode_cfg(alloc, bytes, cfg) {
         Ok(message) => start_job(
             node, sender, slot, cx, alloc, priority, strategy, peer, message,
         ),
-        Err(error) => {
-            drop::<_>(peer);
-            Poll::Ready(refuse(node, sender, alloc, priority, error))
-        }
+        Err(error) => Poll::Ready(refuse(node, sender, alloc, priority, error)),
     }
 }
 

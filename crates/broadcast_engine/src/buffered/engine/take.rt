@@ -35,16 +35,9 @@ where
 {
     let number = node.core.waiting(&message.digest());
     let copies = copies(alloc, message, number)?;
-    match node.core.take(peer, message) {
-        Ok(taken) => {
-            respond_waiters(&mut node.metrics, &mut node.outlet, taken.served, copies);
-            Ok(taken.outcome)
-        }
-        Err(error) => {
-            drop::<_>(copies);
-            Err(error)
-        }
-    }
+    let taken = node.core.take(peer, message)?;
+    respond_waiters(&mut node.metrics, &mut node.outlet, taken.served, copies);
+    Ok(taken.outcome)
 }
 
 /// Takes a message under the node's own key, as `take` does.
@@ -69,14 +62,7 @@ where
 {
     let number = node.core.waiting(&message.digest());
     let copies = copies(alloc, message, number)?;
-    match node.core.take_own(message) {
-        Ok(taken) => {
-            respond_waiters(&mut node.metrics, &mut node.outlet, taken.served, copies);
-            Ok(taken.outcome)
-        }
-        Err(error) => {
-            drop::<_>(copies);
-            Err(error)
-        }
-    }
+    let taken = node.core.take_own(message)?;
+    respond_waiters(&mut node.metrics, &mut node.outlet, taken.served, copies);
+    Ok(taken.outcome)
 }

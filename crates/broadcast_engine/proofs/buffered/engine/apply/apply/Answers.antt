@@ -22,13 +22,13 @@ returns-in-Ok-clause-applied g c = λ s e encoding priority past has.
     rw c.in-Arrived.is (Applied-silent s (λ w b. g.S.Responder.may_answer w.responder b) g.O.Outlet.told g.N.Sender.told past (Arrived c.in-Arrived.peer c.in-Arrived.message) steps.0 (turn.Payload c.in-Ok.outcome)
     c.args.node.now c.handle_arrival.new.node c.args.sender.now step.1 (ap (λ o. turn.Payload o ∷ []) (sym step.0)) refl)
 
-pub returns-in-Err-clause-applied : goal.returns-in-Err-clause-applied
-returns-in-Err-clause-applied g c = λ s e encoding priority past has.
+pub returns-in-Arrived-clause-applied : goal.returns-in-Arrived-clause-applied
+returns-in-Arrived-clause-applied g c = λ s e encoding priority past has.
     rw c.in-Arrived.is (Applied-refused s (λ w b. g.S.Responder.may_answer w.responder b) g.O.Outlet.told g.N.Sender.told past (Arrived c.in-Arrived.peer c.in-Arrived.message) Memory
     c.args.node.now c.handle_arrival.new.node c.args.sender.now has c.in-Err.ensures.unchanged_on_error tt)
 
-pub returns-in-Invalid-clause-applied : goal.returns-in-Invalid-clause-applied
-returns-in-Invalid-clause-applied g c = λ s e encoding priority past has.
+pub returns-clause-applied : goal.returns-clause-applied
+returns-clause-applied g c = λ s e encoding priority past has.
     let lawful = same_by-lawful (g.met.P.Ord g.world.𝓛 g.world.𝓜 g.world.𝓡 (λ s x. x, λ x. x, λ x. x, λ x. x)).total (g.met.M.Digest.Ord g.world.𝓛 g.world.𝓜 g.world.𝓡 (λ s x. x, λ x. x, λ x. x, λ x. x)).total in
     rw c.in-Invalid.is (Applied-silent s (λ w b. g.S.Responder.may_answer w.responder b) g.O.Outlet.told g.N.Sender.told past (Invalid c.in-Invalid.error) [] (turn.Invalid c.in-Invalid.error)
     c.args.node.now (record c.args.node.now { metrics = c.count_receive.new.self }) c.args.sender.now

@@ -17,8 +17,8 @@ returns-in-Ready-Err-clause-fetched g c = λ s e encoding priority own reading p
 
 pub returns-in-Ready-Ok-clause-fetched : goal.returns-in-Ready-Ok-clause-fetched
 returns-in-Ready-Ok-clause-fetched g c = λ s e encoding priority own reading past has.
-    rw c.going_on.ensures (Fetched-received s (λ w b. g.S.Responder.may_answer w.responder b) g.O.Outlet.told g.N.Sender.told g.T.Job.Job.is_of g.R.Receiver.told past c.in-Ready-Ok.peer c.in-Ready-Ok.bytes c.receive-turn.result
-    c.args.node.now c.receive-turn.new.node c.args.sender.now c.receive-turn.new.sender c.args.receiver.now c.poll_recv.new.self c.receive-turn.new.slot
-    (subst (λ bs. Received s (λ w b. g.S.Responder.may_answer w.responder b) g.O.Outlet.told g.N.Sender.told g.T.Job.Job.is_of past c.in-Ready-Ok.peer bs c.receive-turn.result
-    c.args.node.now c.receive-turn.new.node c.args.sender.now c.receive-turn.new.sender c.receive-turn.new.slot) c.as_slice-payload.ensures (c.receive-turn.ensures.received s e encoding priority own reading past has))
+    rw c.going_on.ensures (Fetched-received s (λ w b. g.S.Responder.may_answer w.responder b) g.O.Outlet.told g.N.Sender.told g.T.Job.Job.is_of g.R.Receiver.told past c.in-Ready-Ok.peer c.in-Ready-Ok.bytes c.receive.result
+    c.args.node.now c.receive.new.node c.args.sender.now c.receive.new.sender c.args.receiver.now c.poll_recv.new.self c.receive.new.slot
+    (subst (λ bs. Received s (λ w b. g.S.Responder.may_answer w.responder b) g.O.Outlet.told g.N.Sender.told g.T.Job.Job.is_of past c.in-Ready-Ok.peer bs c.receive.result
+    c.args.node.now c.receive.new.node c.args.sender.now c.receive.new.sender c.receive.new.slot) c.as_slice-payload.ensures (c.receive.ensures.received s e encoding priority own reading past has))
     (rw c.in-Ready-Ok.field-0-is at c.in-Ready-Ok.ensures.tells))

@@ -12,8 +12,8 @@ use Rattle.broadcast_engine.proofs.buffered.engine.job.start_job.Goals as goal
 
 pub returns-in_default-clause-started : goal.returns-in_default-clause-started
 returns-in_default-clause-started g c = λ s e encoding priority own past has.
-    rw c.clear.ensures (Started-uncounted s (λ w b. g.S.Responder.may_answer w.responder b) g.O.Outlet.told g.N.Sender.told g.T.Job.Job.is_of past c.args.peer c.args.message c.args.node.now _ c.args.sender.now has
-    (ap (λ (k : Counters g.row.P.Denot). record c.args.node.now { metrics = k }) c.in_default.ensures.unchanged_on_error))
+    Started-uncounted s (λ w b. g.S.Responder.may_answer w.responder b) g.O.Outlet.told g.N.Sender.told g.T.Job.Job.is_of past c.args.peer c.args.message c.args.node.now _ c.args.sender.now has
+    (ap (λ (k : Counters g.row.P.Denot). record c.args.node.now { metrics = k }) c.in_default.ensures.unchanged_on_error)
 
 pub returns-in-Ok-start-clause-started : goal.returns-in-Ok-start-clause-started
 returns-in-Ok-start-clause-started g c = λ s e encoding priority own past has.
@@ -33,4 +33,4 @@ returns-in-Err-clause-started g c = λ s e encoding priority own past has.
     (Ran-decoded s (λ w b. g.S.Responder.may_answer w.responder b) g.O.Outlet.told g.N.Sender.told g.T.Job.Job.is_of past c.args.peer c.args.message e c.args.node.now c.count_peer.new.self c.args.sender.now has
     c.in-Ok.ensures.counts_one c.count_peer.ensures.totals_stay)
     (Applied-refused s (λ w b. g.S.Responder.may_answer w.responder b) g.O.Outlet.told g.N.Sender.told past (input.Arrived c.args.peer (own_digested s c.args.message)) Memory
-    (record c.args.node.now { metrics = c.count_peer.new.self }) (record c.args.node.now { metrics = c.count_peer.new.self }) c.args.sender.now has refl tt) c.clear.ensures
+    (record c.args.node.now { metrics = c.count_peer.new.self }) (record c.args.node.now { metrics = c.count_peer.new.self }) c.args.sender.now has refl tt) refl

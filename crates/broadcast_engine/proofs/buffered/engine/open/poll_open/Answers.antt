@@ -29,9 +29,9 @@ returns-in-Some-clause-woken g c = λ s e encoding priority own reading past has
     (λ t says. says s e encoding priority past has) (c.poll_job.ensures.applied m of_job))
     c.poll_job.ensures.empty c.poll_job.ensures.pending c.poll_job.ensures.unchanged_if_pending)
 
-pub returns-in-None-clause-woken : goal.returns-in-None-clause-woken
-returns-in-None-clause-woken g c = λ s e encoding priority own reading past has before held.
-    let at : c.args.slot.now ≡ None = sym c.in-None.ensures.value in
+pub returns-clause-woken : goal.returns-clause-woken
+returns-clause-woken g c = λ s e encoding priority own reading past has before held.
+    let at : c.args.slot.now ≡ None = sym c.in_default.ensures.value in
     Woken-looked s (λ w b. g.S.Responder.may_answer w.responder b) g.O.Outlet.told g.N.Sender.told g.T.Job.Job.is_of g.R.Receiver.told g.B.Provider.told g.Q.Requests.told past
     c.args.receiver.now c.args.provider.now c.args.requests.now c.stopped.new.self c.if-stopped.ensures.tells before
     (subst (λ x. HoldsJob g.T.Job.Job.is_of x before) at held) c.poll_sources.result

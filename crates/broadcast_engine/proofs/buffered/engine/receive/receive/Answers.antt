@@ -18,11 +18,11 @@ returns-in-Err-clause-received g c = λ s e encoding priority own reading past h
           let read : s.reading c.args.bytes.now ≡ Err c.in-Err.error = ap (λ f. f c.args.bytes.now) reading ∙ sym is in
           let other : c.in-Err.error ≡ CodecError.Memory → ⊥ =
           λ h. not_memory (length c.args.bytes.now) (g.M.Read.reading c.args.cfg.now c.args.bytes.now) (λ why. g.met.M.Read.refusals c.args.cfg.now c.args.bytes.now why) (sym is ∙ ap Err h) in
-          rw c.clear.ensures (Received-invalid s (λ w b. g.S.Responder.may_answer w.responder b) g.O.Outlet.told g.N.Sender.told g.T.Job.Job.is_of past c.args.peer c.args.bytes.now c.in-Err.error c.refuse.result
-          c.args.node.now c.refuse.new.node c.args.sender.now c.refuse.new.sender read (c.refuse.ensures.invalid other s e encoding priority past has))
+          Received-invalid s (λ w b. g.S.Responder.may_answer w.responder b) g.O.Outlet.told g.N.Sender.told g.T.Job.Job.is_of past c.args.peer c.args.bytes.now c.in-Err.error c.refuse.result
+          c.args.node.now c.refuse.new.node c.args.sender.now c.refuse.new.sender read (c.refuse.ensures.invalid other s e encoding priority past has)
       | inr lacks ↦
           let memory : c.in-Err.error ≡ CodecError.Memory = (let h = lacks.0 in cc) in
           let reads : is_ok (s.reading c.args.bytes.now) ≡ true = ap (λ f. is_ok (f c.args.bytes.now)) reading ∙ lacks.1 in
-          rw c.clear.ensures (Received-refused s (λ w b. g.S.Responder.may_answer w.responder b) g.O.Outlet.told g.N.Sender.told g.T.Job.Job.is_of past c.args.peer c.args.bytes.now c.refuse.result
-          c.args.node.now c.refuse.new.node c.args.sender.now c.refuse.new.sender has reads (c.refuse.ensures.memory memory))
+          Received-refused s (λ w b. g.S.Responder.may_answer w.responder b) g.O.Outlet.told g.N.Sender.told g.T.Job.Job.is_of past c.args.peer c.args.bytes.now c.refuse.result
+          c.args.node.now c.refuse.new.node c.args.sender.now c.refuse.new.sender has reads (c.refuse.ensures.memory memory)
     ]
