@@ -10,17 +10,18 @@ use Rattle.broadcast_core.specs.HasContent.{named_by}
 use Rattle.broadcast_core.specs.Answers.{outcome}
 use Rattle.broadcast_core.specs.declared.outcome.Outcome.{Outcome}
 use Rattle.broadcast_core.specs.declared.outcome.Outcome.TheVariants.{Inserted, Duplicate, Ineligible}
-use Rattle.broadcast_engine.specs.declared.buffered.engine.input.Input.{Input}
-use Rattle.broadcast_engine.specs.declared.buffered.engine.input.Input.TheVariants.{Peers, Request, Arrived, Invalid}
-use Rattle.broadcast_engine.specs.declared.buffered.metrics.Counter.{Counter}
-use Rattle.broadcast_engine.specs.declared.buffered.metrics.Status.{Status}
-use Rattle.broadcast_engine.specs.declared.buffered.metrics.Status.TheVariants as status
-use Rattle.broadcast_engine.specs.declared.buffered.metrics.Status.TheVariants.{Success, Failure, Dropped}
-use Rattle.broadcast_engine.specs.Counters.{Counters, Totals, Counted, peer, receive, subscribe, get, raised, added, number_of, count_of, is_status, is_counted_as, number_at}
-use Rattle.broadcast_engine.specs.Replies.{Asker, Replied, subscribed, got}
+use Rattle.engine_io.specs.declared.input.Input.{Input}
+use Rattle.engine_io.specs.declared.input.Input.TheVariants.{Peers, Request, Arrived, Invalid}
+use Rattle.engine_io.specs.declared.metrics.Counter.{Counter}
+use Rattle.engine_io.specs.declared.metrics.Status.{Status}
+use Rattle.engine_io.specs.declared.metrics.Status.TheVariants as status
+use Rattle.engine_io.specs.declared.metrics.Status.TheVariants.{Success, Failure, Dropped}
+use Rattle.engine_io.specs.Counters.{Counters, Totals, Counted, peer, receive, subscribe, get, raised, added, number_of, count_of, is_status, is_counted_as, number_at}
+use Rattle.engine_io.specs.Replies.{Asker, Replied, subscribed, got}
 use Rattle.broadcast_engine.specs.EngineHistory.{Step, swept, applied, refused, decoded, uncounted, ended}
 use Rattle.broadcast_engine.specs.Counting.{counted_reply, counted_outcome, counted_input, counted_at, gauge}
-use Rattle.broadcast_engine.specs.CountingCalls.{count_reply, count_replies, count_outcome, count_input, count}
+use Rattle.engine_io.specs.ReplyCounts.{count_reply, count_replies}
+use Rattle.broadcast_engine.specs.CountingCalls.{count_outcome, count_input, count}
 
 pub raised-none : (n : ℕ) → raised n 0 ≡ n
 raised-none n = omega arith

@@ -8,17 +8,18 @@ use Rattle.broadcast_core.specs.HasContent.{HasContent}
 use Rattle.broadcast_core.specs.declared.codec.CodecError.{CodecError}
 use Rattle.broadcast_core.specs.declared.event.Sent.{Sent}
 use Rattle.commonware_broadcast.specs.declared.buffered.ingress.message.Message.{Message}
-use Rattle.broadcast_engine.specs.declared.buffered.engine.input.Input.{Input}
-use Rattle.broadcast_engine.specs.declared.buffered.engine.input.Input.TheVariants.{Peers, Request, Arrived, Invalid}
+use Rattle.engine_io.specs.declared.input.Input.{Input}
+use Rattle.engine_io.specs.declared.input.Input.TheVariants.{Peers, Request, Arrived, Invalid}
 use Rattle.commonware_broadcast.specs.declared.buffered.ingress.request.Request.{Request as Asked}
-use Rattle.broadcast_engine.specs.declared.buffered.engine.input.Turn.{Turn}
-use Rattle.broadcast_engine.specs.declared.buffered.engine.input.Turn.TheVariants as turn
-use Rattle.broadcast_engine.specs.declared.buffered.engine.input.EndCause.{EndCause}
-use Rattle.broadcast_engine.specs.Replies.{Asker, Replies}
+use Rattle.engine_io.specs.declared.input.Turn.{Turn}
+use Rattle.engine_io.specs.declared.input.Turn.TheVariants as turn
+use Rattle.engine_io.specs.declared.input.EndCause.{EndCause}
+use Rattle.engine_io.specs.Replies.{Asker, Replies}
 use Rattle.broadcast_engine.specs.EngineHistory.{happenings, end_told, inputs, read_from, turns}
-use Rattle.broadcast_engine.specs.Taken.{sets_in, requests_in, payloads_in, pending_input, payload_inputs, sender_of, senders_of, Holds}
+use Rattle.engine_io.specs.Inputs.{sets_in, requests_in, payloads_in}
+use Rattle.broadcast_engine.specs.Taken.{pending_input, payload_inputs, sender_of, senders_of, Holds}
 use Rattle.broadcast_engine.specs.EngineState.{EngineState, Went, Turned}
-use Rattle.broadcast_engine.specs.Sources.{given}
+use Rattle.engine_io.specs.Sources.{given}
 use Rattle.broadcast_engine.proofs.Composing.{AreSteps-append, Ran-more}
 use Rattle.broadcast_engine.proofs.Due.{map-after, all-due}
 use Rattle.broadcast_engine.proofs.Telling.{inputs-append, read_from-append, turns-append, end_of-append}

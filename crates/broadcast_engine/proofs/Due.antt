@@ -3,9 +3,9 @@ use Rattle.std.proofs.Common.{◌≡◌, Bool, List, [], ◌∷◌, ◌++◌, ma
 use Rattle.broadcast_core.specs.Setting.{Setting}
 use Rattle.broadcast_core.specs.Handed.{handed}
 use Rattle.broadcast_core.specs.Happening.{History}
-use Rattle.broadcast_engine.specs.declared.buffered.engine.input.Input.{Input}
-use Rattle.broadcast_engine.specs.declared.buffered.engine.input.Input.TheVariants.{Peers, Request, Arrived, Invalid}
-use Rattle.broadcast_engine.specs.Replies.{Asker, Replies, reply_of}
+use Rattle.engine_io.specs.declared.input.Input.{Input}
+use Rattle.engine_io.specs.declared.input.Input.TheVariants.{Peers, Request, Arrived, Invalid}
+use Rattle.engine_io.specs.Replies.{Asker, Replies, reply_of}
 use Rattle.broadcast_engine.specs.EngineHistory.{Step, swept, applied, refused, decoded, uncounted, ended, happening_of, happenings, handed_out}
 use Rattle.broadcast_engine.specs.StepLaws.{AreDue, AreSteps}
 

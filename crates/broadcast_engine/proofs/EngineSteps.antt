@@ -20,16 +20,18 @@ use Rattle.broadcast_core.proofs.Stepping.{HasContent-peers, HasContent-arrival,
 use Rattle.broadcast_core.proofs.AwaitedCount.{awaited-counted}
 use Rattle.broadcast_core.proofs.Handing.{handed_by, outcome-taken, handed-arrival, handed-broadcast, handed-get, handed-subscribe}
 use Rattle.commonware_broadcast.specs.declared.buffered.ingress.message.Message.TheVariants.{Broadcast, Subscribe, Get}
-use Rattle.broadcast_engine.specs.declared.buffered.engine.input.EndCause.{EndCause}
-use Rattle.broadcast_engine.specs.declared.buffered.engine.input.Input.TheVariants.{Peers, Request, Arrived, Invalid}
+use Rattle.engine_io.specs.declared.input.EndCause.{EndCause}
+use Rattle.engine_io.specs.declared.input.Input.TheVariants.{Peers, Request, Arrived, Invalid}
 use Rattle.broadcast_engine.specs.declared.buffered.engine.node.Node.{Node}
-use Rattle.broadcast_engine.specs.declared.buffered.metrics.Counter.{Counter}
-use Rattle.broadcast_engine.specs.declared.buffered.metrics.Status.TheVariants as status
-use Rattle.broadcast_engine.specs.Counters.{Counters, added}
-use Rattle.broadcast_engine.specs.Replies.{Asker, got, reply_of, Replies}
+use Rattle.engine_io.specs.declared.metrics.Counter.{Counter}
+use Rattle.engine_io.specs.declared.metrics.Status.TheVariants as status
+use Rattle.engine_io.specs.Counters.{Counters, added}
+use Rattle.engine_io.specs.Replies.{Asker, got, reply_of, Replies}
 use Rattle.broadcast_engine.specs.EngineHistory.{applied, swept, ended}
-use Rattle.broadcast_engine.specs.CountingCalls.{count_outcome, count_replies}
-use Rattle.broadcast_engine.specs.Handing.{Hands, Serves}
+use Rattle.engine_io.specs.ReplyCounts.{count_replies}
+use Rattle.broadcast_engine.specs.CountingCalls.{count_outcome}
+use Rattle.engine_io.specs.Handing.{Hands}
+use Rattle.broadcast_engine.specs.Serving.{Serves}
 use Rattle.broadcast_engine.specs.Ran.{Steps}
 
 added-counted : (n : ℕ) (c : Counter) → added status.Dropped (counted n) c ≡ added status.Dropped n c

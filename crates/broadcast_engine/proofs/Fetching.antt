@@ -8,12 +8,12 @@ use Rattle.broadcast_core.specs.Happening.{History}
 use Rattle.broadcast_core.specs.HasContent.{HasContent}
 use Rattle.broadcast_core.specs.declared.codec.CodecError.{CodecError}
 use Rattle.broadcast_core.specs.declared.event.Sent.{Sent}
-use Rattle.broadcast_engine.specs.declared.buffered.engine.input.EndCause.{EndCause}
-use Rattle.broadcast_engine.specs.declared.buffered.engine.input.Input.TheVariants as input
-use Rattle.broadcast_engine.specs.declared.buffered.engine.input.Turn.{Turn}
+use Rattle.engine_io.specs.declared.input.EndCause.{EndCause}
+use Rattle.engine_io.specs.declared.input.Input.TheVariants as input
+use Rattle.engine_io.specs.declared.input.Turn.{Turn}
 use Rattle.broadcast_engine.specs.declared.buffered.engine.node.Node.{Node}
-use Rattle.broadcast_engine.specs.Replies.{Asker, Replies}
-use Rattle.broadcast_engine.specs.Sources.{given, given_ok}
+use Rattle.engine_io.specs.Replies.{Asker, Replies}
+use Rattle.engine_io.specs.Sources.{given, given_ok}
 use Rattle.broadcast_engine.specs.EngineHistory.{Step, inputs}
 use Rattle.broadcast_engine.specs.Taken.{payload_input, payload_inputs, pending_input, sender_of, HoldsJob}
 use Rattle.broadcast_engine.specs.Polled.{Tells, Received, Comes}

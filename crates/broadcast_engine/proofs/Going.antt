@@ -8,17 +8,18 @@ use Rattle.broadcast_core.specs.Happening.{History}
 use Rattle.broadcast_core.specs.HasContent.{HasContent}
 use Rattle.broadcast_core.specs.declared.event.Sent.{Sent}
 use Rattle.commonware_broadcast.specs.declared.buffered.ingress.message.Message.{Message}
-use Rattle.broadcast_engine.specs.declared.buffered.engine.input.EndCause.{EndCause}
-use Rattle.broadcast_engine.specs.declared.buffered.engine.input.EndCause.TheVariants.{Stopped}
+use Rattle.engine_io.specs.declared.input.EndCause.{EndCause}
+use Rattle.engine_io.specs.declared.input.EndCause.TheVariants.{Stopped}
 use Rattle.commonware_broadcast.specs.declared.buffered.ingress.request.Request.{Request}
-use Rattle.broadcast_engine.specs.declared.buffered.engine.input.Turn.{Turn}
-use Rattle.broadcast_engine.specs.declared.buffered.engine.input.Turn.TheVariants.{Ended}
+use Rattle.engine_io.specs.declared.input.Turn.{Turn}
+use Rattle.engine_io.specs.declared.input.Turn.TheVariants.{Ended}
 use Rattle.broadcast_engine.specs.declared.buffered.engine.node.Node.{Node}
-use Rattle.broadcast_engine.specs.Sources.{given, given_ok}
-use Rattle.broadcast_engine.specs.Replies.{Asker, Replies}
+use Rattle.engine_io.specs.Sources.{given, given_ok}
+use Rattle.engine_io.specs.Replies.{Asker, Replies}
 use Rattle.broadcast_engine.specs.EngineHistory.{ended, happenings, inputs, read_from}
 use Rattle.broadcast_engine.specs.Ran.{Steps}
-use Rattle.broadcast_engine.specs.Taken.{sets_in, requests_in, payloads_in, pending_input, HoldsJob, Holds, TakesNone}
+use Rattle.engine_io.specs.Inputs.{sets_in, requests_in, payloads_in}
+use Rattle.broadcast_engine.specs.Taken.{pending_input, HoldsJob, Holds, TakesNone}
 use Rattle.broadcast_engine.specs.Woken.{Woken}
 use Rattle.broadcast_engine.specs.EngineState.{EngineState, Went, Turned}
 use Rattle.broadcast_engine.specs.Order.{as_turn}

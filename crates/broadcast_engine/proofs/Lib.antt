@@ -1,6 +1,4 @@
-pub mod PeerCounts
 pub mod Counting
-pub mod Handing
 pub mod EngineSteps
 pub mod Runs
 pub mod Composing

@@ -6,14 +6,15 @@ use Rattle.broadcast_core.specs.Setting.{Setting}
 use Rattle.broadcast_core.specs.Happening.{History}
 use Rattle.broadcast_core.specs.declared.event.Sent.{Sent}
 use Rattle.commonware_broadcast.specs.declared.buffered.ingress.message.Message.{Message}
-use Rattle.broadcast_engine.specs.declared.buffered.engine.input.EndCause.{EndCause}
+use Rattle.engine_io.specs.declared.input.EndCause.{EndCause}
 use Rattle.commonware_broadcast.specs.declared.buffered.ingress.request.Request.{Request}
-use Rattle.broadcast_engine.specs.declared.buffered.engine.input.Turn.{Turn}
+use Rattle.engine_io.specs.declared.input.Turn.{Turn}
 use Rattle.broadcast_engine.specs.declared.buffered.engine.node.Node.{Node}
-use Rattle.broadcast_engine.specs.Replies.{Asker, Replies}
-use Rattle.broadcast_engine.specs.Sources.{given_ok}
+use Rattle.engine_io.specs.Replies.{Asker, Replies}
+use Rattle.engine_io.specs.Sources.{given_ok}
 use Rattle.broadcast_engine.specs.EngineHistory.{Step, swept, happenings, inputs}
-use Rattle.broadcast_engine.specs.Taken.{sets_in, requests_in, payloads_in, pending_input, senders_of, HoldsJob}
+use Rattle.engine_io.specs.Inputs.{sets_in, requests_in, payloads_in}
+use Rattle.broadcast_engine.specs.Taken.{pending_input, senders_of, HoldsJob}
 use Rattle.broadcast_engine.specs.Polled.{Polled}
 use Rattle.broadcast_engine.specs.Fetched.{Fetched}
 use Rattle.broadcast_engine.specs.Looked.{Looked}

@@ -12,19 +12,20 @@ use Rattle.broadcast_core.specs.declared.codec.CodecError.{CodecError}
 use Rattle.broadcast_core.specs.declared.event.Cause.TheVariants.{Memory}
 use Rattle.broadcast_core.specs.declared.event.Sent.{Sent}
 use Rattle.commonware_broadcast.specs.declared.buffered.ingress.message.Message.{Message}
-use Rattle.broadcast_engine.specs.declared.buffered.engine.input.EndCause.{EndCause}
-use Rattle.broadcast_engine.specs.declared.buffered.engine.input.Input.{Input}
+use Rattle.engine_io.specs.declared.input.EndCause.{EndCause}
+use Rattle.engine_io.specs.declared.input.Input.{Input}
 use Rattle.commonware_broadcast.specs.declared.buffered.ingress.request.Request.{Request}
-use Rattle.broadcast_engine.specs.declared.buffered.engine.input.Turn.{Turn}
-use Rattle.broadcast_engine.specs.declared.buffered.engine.input.Turn.TheVariants as turn
+use Rattle.engine_io.specs.declared.input.Turn.{Turn}
+use Rattle.engine_io.specs.declared.input.Turn.TheVariants as turn
 use Rattle.broadcast_engine.specs.declared.buffered.engine.node.Node.{Node}
-use Rattle.broadcast_engine.specs.declared.buffered.engine.input.Input.TheVariants as input
-use Rattle.broadcast_engine.specs.Counters.{Counters, Totals, raised, count_of, number_at}
-use Rattle.broadcast_engine.specs.Replies.{Asker, Replies}
+use Rattle.engine_io.specs.declared.input.Input.TheVariants as input
+use Rattle.engine_io.specs.Counters.{Counters, Totals, raised, count_of, number_at}
+use Rattle.engine_io.specs.Replies.{Asker, Replies}
 use Rattle.broadcast_engine.specs.EngineHistory.{Step, swept, decoded, uncounted, inputs_at}
-use Rattle.broadcast_engine.specs.Sources.{given, given_ok}
+use Rattle.engine_io.specs.Sources.{given, given_ok}
 use Rattle.broadcast_engine.specs.Ran.{Steps, Ran, Applied}
-use Rattle.broadcast_engine.specs.Taken.{payload_input, sender_of, sets_in, requests_in, payloads_in}
+use Rattle.engine_io.specs.Inputs.{sets_in, requests_in, payloads_in}
+use Rattle.broadcast_engine.specs.Taken.{payload_input, sender_of}
 use Rattle.broadcast_engine.specs.Polled.{Tells, Polled, Started, Received, Arrives, Comes}
 use Rattle.broadcast_engine.proofs.Runs.{Ran-one}
 use Rattle.broadcast_engine.proofs.Composing.{Ran-more}

@@ -14,13 +14,13 @@ use Rattle.broadcast_core.specs.Answers.{outcome}
 use Rattle.commonware_broadcast.specs.declared.buffered.ingress.message.Message.{Message}
 use Rattle.commonware_broadcast.specs.declared.buffered.ingress.message.Message.TheVariants.{Broadcast}
 use Rattle.commonware_broadcast.specs.declared.buffered.ingress.request.Request.{Request as RequestOf}
-use Rattle.broadcast_engine.specs.declared.buffered.engine.input.Input.{Input}
-use Rattle.broadcast_engine.specs.declared.buffered.engine.input.Input.TheVariants.{Request}
-use Rattle.broadcast_engine.specs.declared.buffered.engine.input.Turn.{Turn}
-use Rattle.broadcast_engine.specs.declared.buffered.engine.input.Turn.TheVariants as turn
+use Rattle.engine_io.specs.declared.input.Input.{Input}
+use Rattle.engine_io.specs.declared.input.Input.TheVariants.{Request}
+use Rattle.engine_io.specs.declared.input.Turn.{Turn}
+use Rattle.engine_io.specs.declared.input.Turn.TheVariants as turn
 use Rattle.broadcast_engine.specs.declared.buffered.engine.node.Node.{Node}
-use Rattle.broadcast_engine.specs.Counters.{Counters, number_at}
-use Rattle.broadcast_engine.specs.Replies.{Asker, Replies}
+use Rattle.engine_io.specs.Counters.{Counters, number_at}
+use Rattle.engine_io.specs.Replies.{Asker, Replies}
 use Rattle.broadcast_engine.specs.EngineHistory.{Step, applied, refused, happening_of, happenings_at, turns_at}
 use Rattle.broadcast_engine.specs.StepLaws.{MayRefuse, MayRefuseRequest}
 use Rattle.broadcast_engine.proofs.Counting.{IsNotDecoded, step-counted, step-waits}

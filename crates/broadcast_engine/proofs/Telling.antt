@@ -4,10 +4,10 @@ use Rattle.futures.specs.declared.task.Poll.{Poll}
 use Rattle.futures.specs.declared.task.Poll.TheVariants.{Ready, Pending}
 use Rattle.broadcast_core.specs.Setting.{Setting}
 use Rattle.broadcast_core.specs.Happening.{History}
-use Rattle.broadcast_engine.specs.declared.buffered.engine.input.Input.{Input}
-use Rattle.broadcast_engine.specs.declared.buffered.engine.input.Turn.{Turn}
-use Rattle.broadcast_engine.specs.Sources.{given, given_ok}
-use Rattle.broadcast_engine.specs.Replies.{Asker}
+use Rattle.engine_io.specs.declared.input.Input.{Input}
+use Rattle.engine_io.specs.declared.input.Turn.{Turn}
+use Rattle.engine_io.specs.Sources.{given, given_ok}
+use Rattle.engine_io.specs.Replies.{Asker}
 use Rattle.broadcast_engine.specs.EngineHistory.{Step, swept, applied, refused, decoded, uncounted, ended, happenings, inputs, inputs_at, read_from, read_from_at, end_of, turns, turns_at}
 use Rattle.broadcast_engine.specs.Ran.{IsOf}
 use Rattle.broadcast_engine.specs.Fetched.{goes_on}

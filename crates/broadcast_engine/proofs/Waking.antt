@@ -9,17 +9,18 @@ use Rattle.broadcast_core.specs.Happening.{History}
 use Rattle.broadcast_core.specs.HasContent.{HasContent}
 use Rattle.broadcast_core.specs.declared.event.Sent.{Sent}
 use Rattle.commonware_broadcast.specs.declared.buffered.ingress.message.Message.{Message}
-use Rattle.broadcast_engine.specs.declared.buffered.engine.input.EndCause.{EndCause}
-use Rattle.broadcast_engine.specs.declared.buffered.engine.input.EndCause.TheVariants.{Stopped}
-use Rattle.broadcast_engine.specs.declared.buffered.engine.input.Input.TheVariants as input
+use Rattle.engine_io.specs.declared.input.EndCause.{EndCause}
+use Rattle.engine_io.specs.declared.input.EndCause.TheVariants.{Stopped}
+use Rattle.engine_io.specs.declared.input.Input.TheVariants as input
 use Rattle.commonware_broadcast.specs.declared.buffered.ingress.request.Request.{Request}
-use Rattle.broadcast_engine.specs.declared.buffered.engine.input.Turn.{Turn}
+use Rattle.engine_io.specs.declared.input.Turn.{Turn}
 use Rattle.broadcast_engine.specs.declared.buffered.engine.node.Node.{Node}
-use Rattle.broadcast_engine.specs.Replies.{Asker, Replies}
+use Rattle.engine_io.specs.Replies.{Asker, Replies}
 use Rattle.broadcast_engine.specs.Ran.{Ran, Applied}
-use Rattle.broadcast_engine.specs.Sources.{given_ok}
+use Rattle.engine_io.specs.Sources.{given_ok}
 use Rattle.broadcast_engine.specs.EngineHistory.{inputs_at}
-use Rattle.broadcast_engine.specs.Taken.{sets_in, requests_in, payloads_in, pending_input, HoldsJob}
+use Rattle.engine_io.specs.Inputs.{sets_in, requests_in, payloads_in}
+use Rattle.broadcast_engine.specs.Taken.{pending_input, HoldsJob}
 use Rattle.broadcast_engine.specs.Fetched.{goes_on}
 use Rattle.broadcast_engine.specs.Looked.{Looked}
 use Rattle.broadcast_engine.specs.Woken.{Woken}

@@ -7,12 +7,12 @@ use Rattle.broadcast_core.specs.Waiting.{waiting, awaited}
 use Rattle.broadcast_core.specs.Answers.{outcome}
 use Rattle.broadcast_core.specs.declared.outcome.Outcome.{Outcome}
 use Rattle.broadcast_core.specs.declared.outcome.Outcome.TheVariants.{Inserted, Duplicate, Ineligible}
-use Rattle.broadcast_engine.specs.declared.buffered.engine.input.Input.{Input}
-use Rattle.broadcast_engine.specs.declared.buffered.engine.input.Input.TheVariants.{Arrived, Invalid}
-use Rattle.broadcast_engine.specs.declared.buffered.metrics.Status.TheVariants.{Success, Failure, Dropped}
-use Rattle.broadcast_engine.specs.declared.buffered.metrics.Status.TheVariants as status
-use Rattle.broadcast_engine.specs.Counters.{Counted, peer, receive, subscribe, get}
-use Rattle.broadcast_engine.specs.Replies.{Asker, Replied, subscribed, got}
+use Rattle.engine_io.specs.declared.input.Input.{Input}
+use Rattle.engine_io.specs.declared.input.Input.TheVariants.{Arrived, Invalid}
+use Rattle.engine_io.specs.declared.metrics.Status.TheVariants.{Success, Failure, Dropped}
+use Rattle.engine_io.specs.declared.metrics.Status.TheVariants as status
+use Rattle.engine_io.specs.Counters.{Counted, peer, receive, subscribe, get}
+use Rattle.engine_io.specs.Replies.{Asker, Replied, subscribed, got}
 use Rattle.broadcast_engine.specs.EngineHistory.{Step, swept, applied, decoded, happenings}
 
 -- a reply is counted by whether it was delivered, and a delivered one to a get by whether it has

@@ -1,5 +1,5 @@
 -- What the calls of an engine's counters make of them, for one step.
-use Rattle.std.specs.Prelude.{true, false, List, [], ◌∷◌, length, Option, None, Some}
+use Rattle.std.specs.Prelude.{◌∷◌, length}
 use Rattle.broadcast_core.specs.Setting.{Setting}
 use Rattle.broadcast_core.specs.Happening.{History, cleanup}
 use Rattle.broadcast_core.specs.Waiting.{waiting, awaited}
@@ -7,27 +7,14 @@ use Rattle.broadcast_core.specs.HasContent.{named_by}
 use Rattle.broadcast_core.specs.Answers.{outcome}
 use Rattle.broadcast_core.specs.declared.outcome.Outcome.{Outcome}
 use Rattle.broadcast_core.specs.declared.outcome.Outcome.TheVariants.{Inserted, Duplicate, Ineligible}
-use Rattle.broadcast_engine.specs.declared.buffered.engine.input.Input.{Input}
-use Rattle.broadcast_engine.specs.declared.buffered.engine.input.Input.TheVariants.{Arrived, Invalid}
-use Rattle.broadcast_engine.specs.declared.buffered.metrics.Status.TheVariants.{Success, Failure, Dropped}
-use Rattle.broadcast_engine.specs.declared.buffered.metrics.Status.TheVariants as status
-use Rattle.broadcast_engine.specs.Counters.{Totals, added}
-use Rattle.broadcast_engine.specs.Replies.{Asker, Replied, subscribed, got}
+use Rattle.engine_io.specs.declared.input.Input.{Input}
+use Rattle.engine_io.specs.declared.input.Input.TheVariants.{Arrived, Invalid}
+use Rattle.engine_io.specs.declared.metrics.Status.TheVariants.{Success, Dropped}
+use Rattle.engine_io.specs.declared.metrics.Status.TheVariants as status
+use Rattle.engine_io.specs.Counters.{Totals, added}
+use Rattle.engine_io.specs.Replies.{Asker}
+use Rattle.engine_io.specs.ReplyCounts.{count_replies}
 use Rattle.broadcast_engine.specs.EngineHistory.{Step, swept, applied}
-
-module _ {S G A C : Type 0} where
-  -- a reply is counted by whether it was delivered, and a delivered one to a get by whether it
-  -- has a message
-  abbrev pub count_reply : Replied S G A (Option C) → Totals → Totals
-  count_reply (subscribed w a true) t = record t { subscribe = added Success 1 t.subscribe }
-  count_reply (subscribed w a false) t = record t { subscribe = added Dropped 1 t.subscribe }
-  count_reply (got v (Some c) true) t = record t { get = added Success 1 t.get }
-  count_reply (got v None true) t = record t { get = added Failure 1 t.get }
-  count_reply (got v b false) t = record t { get = added Dropped 1 t.get }
-
-  abbrev pub count_replies : List (Replied S G A (Option C)) → Totals → Totals
-  count_replies [] t = t
-  count_replies (h ∷ hs) t = count_replies hs (count_reply h t)
 
 -- a message that was received is counted by its outcome
 abbrev pub count_outcome : Outcome → Totals → Totals

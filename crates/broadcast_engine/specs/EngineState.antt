@@ -8,17 +8,18 @@ use Rattle.broadcast_core.specs.Handed.{handed}
 use Rattle.broadcast_core.specs.Happening.{History}
 use Rattle.broadcast_core.specs.declared.event.Sent.{Sent}
 use Rattle.commonware_broadcast.specs.declared.buffered.ingress.message.Message.{Message}
-use Rattle.broadcast_engine.specs.declared.buffered.engine.input.EndCause.{EndCause}
-use Rattle.broadcast_engine.specs.declared.buffered.engine.input.EndCause.TheVariants.{Stopped}
-use Rattle.broadcast_engine.specs.declared.buffered.engine.input.Turn.{Turn}
-use Rattle.broadcast_engine.specs.declared.buffered.engine.input.Turn.TheVariants.{Ended}
+use Rattle.engine_io.specs.declared.input.EndCause.{EndCause}
+use Rattle.engine_io.specs.declared.input.EndCause.TheVariants.{Stopped}
+use Rattle.engine_io.specs.declared.input.Turn.{Turn}
+use Rattle.engine_io.specs.declared.input.Turn.TheVariants.{Ended}
 use Rattle.commonware_broadcast.specs.declared.buffered.ingress.request.Request.{Request}
 use Rattle.broadcast_engine.specs.declared.buffered.engine.node.Node.{Node}
-use Rattle.broadcast_engine.specs.Replies.{Asker, Replies, reply_of}
-use Rattle.broadcast_engine.specs.Sources.{given}
+use Rattle.engine_io.specs.Replies.{Asker, Replies, reply_of}
+use Rattle.engine_io.specs.Sources.{given}
 use Rattle.broadcast_engine.specs.EngineHistory.{Step, happenings, handed_out, inputs, read_from, end_of, end_told, turns, IsSweptFirst}
 use Rattle.broadcast_engine.specs.Ran.{Ran}
-use Rattle.broadcast_engine.specs.Taken.{sets_in, requests_in, payloads_in, payload_inputs, pending_input, senders_of, Holds, TakesNone}
+use Rattle.engine_io.specs.Inputs.{sets_in, requests_in, payloads_in}
+use Rattle.broadcast_engine.specs.Taken.{payload_inputs, pending_input, senders_of, Holds, TakesNone}
 
 -- what a caller reads of an engine
 pub record EngineState (P M S O D J B Q C T : Type 0) : Type 0 where

@@ -1,7 +1,7 @@
 -- An engine to which nothing has happened.
 use Rattle.std.specs.Prelude.{[], None}
 use Rattle.broadcast_engine.specs.declared.buffered.config.Config.{Config}
-use Rattle.broadcast_engine.specs.Counters.{zero_counters}
+use Rattle.engine_io.specs.Counters.{zero_counters}
 use Rattle.broadcast_engine.specs.EngineState.{EngineState}
 
 -- no primary peers, an empty cache, no waiters, all counters zero, no job, and no end

@@ -1,15 +1,12 @@
-pub mod Counters
-pub mod Sources
 pub mod Jobs
 pub mod Workers
-pub mod Replies
 pub mod EngineHistory
 pub mod StepLaws
 pub mod Taken
 pub mod Counting
 pub mod CountingCalls
 pub mod Ran
-pub mod Handing
+pub mod Serving
 pub mod Polled
 pub mod Fetched
 pub mod Looked

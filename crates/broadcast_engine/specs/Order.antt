@@ -2,11 +2,9 @@
 use Rattle.std.specs.Prelude.{◌≡◌, Bool, true, false, Result, Ok, Err, ⊤}
 use Rattle.futures.specs.declared.task.Poll.{Poll}
 use Rattle.futures.specs.declared.task.Poll.TheVariants.{Ready, Pending}
-use Rattle.broadcast_engine.specs.declared.buffered.engine.input.EndCause.{EndCause}
-use Rattle.broadcast_engine.specs.declared.buffered.engine.input.Input.{Input}
-use Rattle.broadcast_engine.specs.declared.buffered.engine.input.Input.TheVariants as input
-use Rattle.broadcast_engine.specs.declared.buffered.engine.input.Turn.{Turn}
-use Rattle.broadcast_engine.specs.declared.buffered.engine.input.Turn.TheVariants as turn
+use Rattle.engine_io.specs.declared.input.EndCause.{EndCause}
+use Rattle.engine_io.specs.declared.input.Turn.{Turn}
+use Rattle.engine_io.specs.declared.input.Turn.TheVariants as turn
 
 -- unless the turn is that of a peer set or of an end, this holds
 abbrev pub UnlessPeers : Poll Turn → Type 0 → Type 0
@@ -24,13 +22,6 @@ of_network _ = false
 abbrev pub IfNetwork : Poll Turn → Type 0 → Type 0
 IfNetwork (Ready turn) holds = of_network turn ≡ true → holds
 IfNetwork Pending holds = holds
-
--- unless the input is a peer set, or there is an end, this holds
-abbrev pub UnlessPeerSet : {P M S G D : Type 0} → Poll (Result (Input P M S G D) EndCause)
-    → Type 0 → Type 0
-UnlessPeerSet (Ready (Ok (input.Peers ps))) holds = ⊤
-UnlessPeerSet (Ready (Err cause)) holds = ⊤
-UnlessPeerSet _ holds = holds
 
 -- the turn of a poll that tells an end apart
 abbrev pub as_turn : Poll (Result Turn EndCause) → Poll Turn

@@ -7,12 +7,12 @@ use Rattle.broadcast_core.specs.HasContent.{HasContent}
 use Rattle.broadcast_core.specs.Sent.{sent}
 use Rattle.broadcast_core.specs.declared.event.Sent.{Sent}
 use Rattle.commonware_broadcast.specs.declared.buffered.ingress.message.Message.{Message}
-use Rattle.broadcast_engine.specs.declared.buffered.engine.input.Input.{Input}
-use Rattle.broadcast_engine.specs.declared.buffered.engine.input.Input.TheVariants.{Request}
-use Rattle.broadcast_engine.specs.declared.buffered.engine.input.Turn.{Turn}
+use Rattle.engine_io.specs.declared.input.Input.{Input}
+use Rattle.engine_io.specs.declared.input.Input.TheVariants.{Request}
+use Rattle.engine_io.specs.declared.input.Turn.{Turn}
 use Rattle.broadcast_engine.specs.declared.buffered.engine.node.Node.{Node}
-use Rattle.broadcast_engine.specs.Counters.{Counted, raised, is_counted_as, number_at}
-use Rattle.broadcast_engine.specs.Replies.{Asker, Replies}
+use Rattle.engine_io.specs.Counters.{Counted, raised, is_counted_as, number_at}
+use Rattle.engine_io.specs.Replies.{Asker, Replies}
 use Rattle.broadcast_engine.specs.EngineHistory.{Step, applied, refused, happenings_at, happenings, handed_out_at, handed_out, turns_at}
 use Rattle.broadcast_engine.specs.StepLaws.{IsStep, AreSteps}
 use Rattle.broadcast_engine.specs.Counting.{counted, gauge}

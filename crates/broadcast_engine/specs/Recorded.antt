@@ -1,7 +1,7 @@
 -- The replies that an outlet records.
 use Rattle.broadcast_engine.specs.declared.mocks.outlet.Replied.TheVariants as mocks
 use Rattle.broadcast_engine.specs.declared.mocks.outlet.Replied.{Replied as Recorded}
-use Rattle.broadcast_engine.specs.Replies.{Replied, subscribed, got}
+use Rattle.engine_io.specs.Replies.{Replied, subscribed, got}
 
 -- the reply that a record is of
 abbrev pub reply_in : {S G A B : Type 0} → Recorded S G A B → Replied S G A B

@@ -10,9 +10,9 @@ use Rattle.broadcast_core.specs.declared.event.Cause.{Cause}
 use Rattle.broadcast_core.specs.declared.event.Cause.TheVariants.{Memory, Unencodable}
 use Rattle.commonware_broadcast.specs.declared.buffered.ingress.message.Message.{Message}
 use Rattle.commonware_broadcast.specs.declared.buffered.ingress.message.Message.TheVariants.{Broadcast, Subscribe, Get}
-use Rattle.broadcast_engine.specs.declared.buffered.engine.input.Input.{Input}
-use Rattle.broadcast_engine.specs.declared.buffered.engine.input.Input.TheVariants.{Request, Arrived}
-use Rattle.broadcast_engine.specs.Replies.{Asker, reply_of, Replies}
+use Rattle.engine_io.specs.declared.input.Input.{Input}
+use Rattle.engine_io.specs.declared.input.Input.TheVariants.{Request, Arrived}
+use Rattle.engine_io.specs.Replies.{Asker, reply_of, Replies}
 use Rattle.broadcast_engine.specs.EngineHistory.{Step, swept, applied, refused, happening_of, happenings}
 
 module _ {P M D S G : Type 0} (s : Setting P M D) where

@@ -2,32 +2,11 @@
 use Rattle.std.specs.Prelude.{◌≡◌, ℕ, List, [], ◌∷◌, ◌++◌, map, Option, None, Some, Result, Ok, Err}
 use Rattle.broadcast_core.specs.Setting.{Setting, own_digested}
 use Rattle.broadcast_core.specs.declared.codec.CodecError.{CodecError}
-use Rattle.commonware_broadcast.specs.declared.buffered.ingress.message.Message.{Message}
-use Rattle.broadcast_engine.specs.declared.buffered.engine.input.EndCause.{EndCause}
-use Rattle.broadcast_engine.specs.declared.buffered.engine.input.Input.{Input}
-use Rattle.broadcast_engine.specs.declared.buffered.engine.input.Input.TheVariants as input
-use Rattle.commonware_broadcast.specs.declared.buffered.ingress.request.Request.{Request}
+use Rattle.engine_io.specs.declared.input.EndCause.{EndCause}
+use Rattle.engine_io.specs.declared.input.Input.{Input}
+use Rattle.engine_io.specs.declared.input.Input.TheVariants as input
+use Rattle.engine_io.specs.Inputs.{requests_in}
 use Rattle.broadcast_engine.specs.EngineHistory.{Step, inputs}
-
-module _ {P M D S G : Type 0} where
-  -- the peer sets among inputs
-  abbrev pub sets_in : List (Input P M S G D) → List (List P)
-  sets_in [] = []
-  sets_in (input.Peers ps ∷ is) = ps ∷ sets_in is
-  sets_in (_ ∷ is) = sets_in is
-
-  -- the requests
-  abbrev pub requests_in : List (Input P M S G D) → List (Request (Message P M S G D))
-  requests_in [] = []
-  requests_in (input.Request request ∷ is) = request ∷ requests_in is
-  requests_in (_ ∷ is) = requests_in is
-
-  -- the inputs that payloads are
-  abbrev pub payloads_in : List (Input P M S G D) → List (Input P M S G D)
-  payloads_in [] = []
-  payloads_in (input.Arrived p c ∷ is) = input.Arrived p c ∷ payloads_in is
-  payloads_in (input.Invalid error ∷ is) = input.Invalid error ∷ payloads_in is
-  payloads_in (_ ∷ is) = payloads_in is
 
 module _ {P M D : Type 0} (s : Setting P M D) where
   -- a payload that reads whole arrives with its own digest, and another one is invalid

@@ -6,16 +6,17 @@ use Rattle.broadcast_core.specs.Setting.{Setting}
 use Rattle.broadcast_core.specs.Happening.{History}
 use Rattle.broadcast_core.specs.declared.event.Sent.{Sent}
 use Rattle.commonware_broadcast.specs.declared.buffered.ingress.message.Message.{Message}
-use Rattle.broadcast_engine.specs.declared.buffered.engine.input.EndCause.{EndCause}
-use Rattle.broadcast_engine.specs.declared.buffered.engine.input.EndCause.TheVariants.{Stopped}
+use Rattle.engine_io.specs.declared.input.EndCause.{EndCause}
+use Rattle.engine_io.specs.declared.input.EndCause.TheVariants.{Stopped}
 use Rattle.commonware_broadcast.specs.declared.buffered.ingress.request.Request.{Request}
-use Rattle.broadcast_engine.specs.declared.buffered.engine.input.Turn.{Turn}
+use Rattle.engine_io.specs.declared.input.Turn.{Turn}
 use Rattle.broadcast_engine.specs.declared.buffered.engine.node.Node.{Node}
-use Rattle.broadcast_engine.specs.Replies.{Asker, Replies}
-use Rattle.broadcast_engine.specs.Sources.{given_ok}
+use Rattle.engine_io.specs.Replies.{Asker, Replies}
+use Rattle.engine_io.specs.Sources.{given_ok}
 use Rattle.broadcast_engine.specs.EngineHistory.{Step, inputs, IsSweptFirst}
 use Rattle.broadcast_engine.specs.Ran.{Ran}
-use Rattle.broadcast_engine.specs.Taken.{sets_in, requests_in, payloads_in, payload_inputs, pending_input, senders_of, HoldsJob, TakesNone}
+use Rattle.engine_io.specs.Inputs.{sets_in, requests_in, payloads_in}
+use Rattle.broadcast_engine.specs.Taken.{payload_inputs, pending_input, senders_of, HoldsJob, TakesNone}
 use Rattle.broadcast_engine.specs.Polled.{Tells}
 
 module _ {P M D S G O N J R B Q : Type 0} (s : Setting P M D) (may_answer : Asker S → Bool → Type 0)

@@ -3,10 +3,6 @@ pub mod config;
 pub mod engine;
 pub mod front;
 pub mod gate;
-pub mod metrics;
-pub mod network;
-pub mod outlet;
-pub mod requests;
 pub mod started;
 pub mod strategy;
 pub mod threaded;
@@ -18,15 +14,14 @@ pub use commonware_broadcast::buffered::{
 };
 pub use config::Config;
 pub use engine::{
-    EndCause, Engine, Input, Ready, Report, StartError, Turn, drive, make_ready, new_engine_law,
-    run, spawn,
+    Engine, Ready, Report, StartError, drive, make_ready, new_engine_law, run, spawn,
+};
+pub use engine_io::{
+    Counter, Direct, EndCause, Input, Metrics, NetworkFailed, Outlet, Provider, Receiver, Requests,
+    Sender, Sequencer, Status, Turn,
 };
 pub use front::MailboxEngine;
 pub use gate::{Gate, Open};
-pub use metrics::{Counter, Metrics, Sequencer, Status};
-pub use network::{NetworkFailed, Provider, Receiver, Sender};
-pub use outlet::{Direct, Outlet};
-pub use requests::Requests;
 pub use started::Handle;
 pub use strategy::{Done, Job, Sequential, Strategy};
 pub use threaded::{Threaded, Working};

@@ -1,7 +1,7 @@
 //! What became of a node.
 ghost use Rattle.std.specs.Prelude.{◌≡◌, ◌-◌, ◌↔◌, All, IsOk};
-ghost use Rattle.broadcast_engine.specs.Counters.{number_of};
-ghost use Rattle.broadcast_engine.specs.declared.buffered.metrics.Status.TheVariants.{Success, Dropped, Invalid};
+ghost use Rattle.engine_io.specs.Counters.{number_of};
+ghost use Rattle.engine_io.specs.declared.metrics.Status.TheVariants.{Success, Dropped, Invalid};
 
 use crate::client::Seen;
 use crate::fault::Fault;

@@ -69,8 +69,8 @@ impl<R: Threads> Work<Meeting, R> for TestMessage {
     }
 }
 
-/// Starts two jobs before it waits for one. Returns how many workers saw the other, and whether
-/// each job gave the digest of its message.
+/// Lets two jobs meet. Returns how many workers saw the other, and whether each job gave the digest
+/// of its message.
 fn meet<R>(rt: &R) -> Result<(u64, bool), Fail>
 where
     R: Threads + Wait + RandomSource + AllocGlobal + Clone + Drop,
@@ -83,14 +83,27 @@ where
         },
     )?;
     let strategy = Threaded::new(rt.clone()?, rt.alloc(), Arc::try_clone(&gate)?);
-    let first = TestMessage::shared(rt.alloc(), vec![in rt.alloc(); 1u8]?)?;
-    let second = TestMessage::shared(rt.alloc(), vec![in rt.alloc(); 2u8]?)?;
+    let equal = digests(rt, &strategy)?;
+    Ok((gate.met.load(Ordering::SeqCst), equal))
+}
+
+/// Starts two jobs before it waits for one. Returns whether each gave the digest of its message.
+fn digests<R>(rt: &R, strategy: &Threaded<Meeting, R>) -> Result<bool, Fail>
+where
+    R: Threads + Wait + RandomSource + AllocGlobal + Clone + Drop,
+{
+    let (first, second) = (message(rt.alloc(), 1)?, message(rt.alloc(), 2)?);
     let wanted = (first.digest(), second.digest());
     let mut one = strategy.start(first)?;
     let mut two = strategy.start(second)?;
     let (_, left) = block_on(rt, poll_fn(|cx| one.poll(cx)))?;
     let (_, right) = block_on(rt, poll_fn(|cx| two.poll(cx)))?;
-    Ok((gate.met.load(Ordering::SeqCst), (left, right) == wanted))
+    Ok((left, right) == wanted)
+}
+
+/// Returns a message with this content.
+fn message(alloc: Global, content: u8) -> Result<TestMessage, AllocError> {
+    TestMessage::shared(alloc, vec![in alloc; content]?)
 }
 
 #[test]

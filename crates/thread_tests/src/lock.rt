@@ -2,6 +2,8 @@
 use super::nodes::{Letter, broadcast, digest, fail, send, start, track};
 use super::patient::{Patient, Talk};
 use broadcast_core::TestMessage;
+use broadcast_engine::buffered::Mailbox;
+use cluster_lib::network::Mail;
 use cluster_lib::node::Node;
 use std::alloc::AllocGlobal;
 use std::random::RandomSource;
@@ -35,21 +37,53 @@ where
         mail,
         handle,
     } = start::<M, _, R>(rt, strategy)?;
-    let waiting = mailbox.subscribe(digest::<M>(rt.alloc(), 2)?)?;
-    track(rt, &mail, &[1, 5])?;
-    send(rt, &mail, 5, &[0, 0, 0, 0, 0, 0, 0, 1, 2])?;
-    let pending = talk.wait_for_job(rt);
-    let accepted = broadcast(rt, &mailbox)?.accepted();
-    talk.answer();
-    fail(rt, &mail)?;
-    let taken = waiting.wait(rt).is_ok();
+    let answered = answers(rt, &mailbox, &mail, &talk)?;
     drop(handle.join(rt));
+    Ok(answered)
+}
+
+/// Broadcasts at a node while a job is pending, and waits until its message is taken. The network
+/// of the node fails then, which ends its engine.
+fn answers<M, R>(
+    rt: &R,
+    mailbox: &Mailbox<u64, M, R>,
+    mail: &Mail,
+    talk: &Talk,
+) -> Result<Answered, Fail>
+where
+    M: Letter,
+    R: Wait + Clock + RandomSource + AllocGlobal + Clone + Send + 'static,
+{
+    let waiting = mailbox.subscribe(digest::<M>(rt.alloc(), 2)?)?;
+    let (pending, accepted) = broadcasts(rt, mailbox, mail, talk)?;
+    let taken = waiting.wait(rt).is_ok();
     Ok(Answered {
         pending,
         accepted,
         gave_up: talk.gave_up(),
         taken,
     })
+}
+
+/// Broadcasts at a node while a job is pending. Returns whether one was, and whether the broadcast
+/// was accepted.
+fn broadcasts<M, R>(
+    rt: &R,
+    mailbox: &Mailbox<u64, M, R>,
+    mail: &Mail,
+    talk: &Talk,
+) -> Result<(bool, bool), Fail>
+where
+    M: Letter,
+    R: Wait + Clock + AllocGlobal + Clone + Send + 'static,
+{
+    track(rt, mail, &[1, 5])?;
+    send(rt, mail, 5, &[0, 0, 0, 0, 0, 0, 0, 1, 2])?;
+    let pending = talk.wait_for_job(rt);
+    let accepted = broadcast(rt, mailbox)?.accepted();
+    talk.answer();
+    fail(rt, mail)?;
+    Ok((pending, accepted))
 }
 
 #[test]

@@ -56,8 +56,7 @@ fn hold<R: Wait + Clock + AllocGlobal>(rt: &R, mail: &Mail, talk: &Talk) -> Resu
     }
 }
 
-/// Stops an engine, some times, with a job pending or idle, and joins it. Its network fails then,
-/// so that it ends also if it does not stop.
+/// Stops an engine, some times, with a job pending or idle, and joins it.
 fn stop<M, R>(rt: &R, is_busy: bool, times: u64) -> Result<Stopped, Fail>
 where
     M: Letter,
@@ -67,24 +66,56 @@ where
 {
     let talk = Talk::new(rt)?;
     let strategy = Patient::new(rt, &talk)?;
+    let node = start::<M, _, R>(rt, strategy)?;
+    end(rt, node, &talk, is_busy, times)
+}
+
+/// Stops the engine of a node, and joins it.
+fn end<M, R>(
+    rt: &R,
+    node: Node<M, R>,
+    talk: &Talk,
+    is_busy: bool,
+    times: u64,
+) -> Result<Stopped, Fail>
+where
+    M: Letter,
+    R: Threads + Wait + Clock + RandomSource + AllocGlobal + Clone + Send + Drop + 'static,
+{
     let Node {
         mailbox,
         mail,
         handle,
-    } = start::<M, _, R>(rt, strategy)?;
+    } = node;
     let waiting = subscribe(rt, &mailbox)?;
     if is_busy {
-        hold(rt, &mail, &talk)?;
+        hold(rt, &mail, talk)?;
     }
     for _ in 0..times {
         handle.stop();
     }
-    let closed = wait_for_close(rt, &mailbox)?;
-    let prompt = closed && !talk.gave_up();
-    fail(rt, &mail)?;
+    let prompt = closes(rt, &mailbox, &mail, talk)?;
     let cause = handle.join(rt).cause();
     let held = waiting.wait(rt).is_err();
     after(rt, &mailbox, prompt, cause, held)
+}
+
+/// Returns whether a node closes its mailbox before a job gives up. Its network fails then, so that
+/// its engine ends also if it does not stop.
+fn closes<M, R>(
+    rt: &R,
+    mailbox: &Mailbox<u64, M, R>,
+    mail: &Mail,
+    talk: &Talk,
+) -> Result<bool, Fail>
+where
+    M: Letter,
+    R: Wait + Clock + AllocGlobal + Clone + Send + 'static,
+{
+    let closed = wait_for_close(rt, mailbox)?;
+    let prompt = closed && !talk.gave_up();
+    fail(rt, mail)?;
+    Ok(prompt)
 }
 
 /// Asks the mailbox of an engine that ended with this cause.
@@ -135,8 +166,8 @@ fn feed<R: Wait + AllocGlobal>(rt: &R, mail: &Mail) -> Result<(), AllocError> {
     send(rt, mail, 5, &[0, 0, 0, 0, 0, 0, 0, 1, 2])
 }
 
-/// Feeds a started engine, whose thread serves a subscriber of the message. Returns whether it was
-/// served, and how many payloads were taken and how many were no message.
+/// Starts an engine, whose thread serves a subscriber. Returns whether it was served, and how many
+/// payloads were taken and how many were no message.
 fn served<M, R>(rt: &R) -> Result<(bool, u64, u64), Fail>
 where
     M: Letter,
@@ -149,12 +180,7 @@ where
         mail,
         handle,
     } = start::<M, _, R>(rt, Sequential)?;
-    let wanted = digest::<M>(rt.alloc(), 2)?;
-    let waiting = mailbox.subscribe(wanted)?;
-    feed(rt, &mail)?;
-    let got = waiting
-        .wait(rt)
-        .is_ok_and(|message| message.digest().cmp(&wanted).is_eq());
+    let got = hears(rt, &mailbox, &mail)?;
     handle.stop();
     fail(rt, &mail)?;
     let report = handle.join(rt);
@@ -164,6 +190,22 @@ where
         metrics.receive(Status::Success),
         metrics.receive(Status::Invalid),
     ))
+}
+
+/// Feeds a node after a subscribe to the message. Returns whether that is served.
+fn hears<M, R>(rt: &R, mailbox: &Mailbox<u64, M, R>, mail: &Mail) -> Result<bool, Fail>
+where
+    M: Letter,
+    R: Wait + RandomSource + AllocGlobal,
+{
+    let wanted = digest::<M>(rt.alloc(), 2)?;
+    let waiting = mailbox.subscribe(wanted)?;
+    feed(rt, mail)?;
+    Ok(
+        waiting
+            .wait(rt)
+            .is_ok_and(|message| message.digest().cmp(&wanted).is_eq()),
+    )
 }
 
 #[test]

@@ -4,10 +4,10 @@ ghost use Rattle.broadcast_engine.specs.Fresh.{fresh};
 
 use crate::buffered::config::Config;
 use crate::buffered::engine::Engine;
-use crate::buffered::outlet::Direct;
 use crate::buffered::strategy::Strategy;
 use broadcast_core::{Codec, Digestible, PublicKey};
 use commonware_broadcast::buffered::{Incoming, Ingress, Mailbox, Reply, channel};
+use engine_io::Direct;
 use futures::channel::oneshot;
 use std::alloc::{AllocError, Global};
 

@@ -1,11 +1,10 @@
 //! A started engine.
 use crate::buffered::engine::{Ready, Report, StartError, make_ready, run, spawn};
 use crate::buffered::front::MailboxEngine;
-use crate::buffered::network::{Provider, Receiver, Sender};
-use crate::buffered::outlet::Direct;
 use crate::buffered::strategy::Strategy;
 use broadcast_core::{Codec, Digestible, PublicKey};
 use commonware_broadcast::buffered::{Incoming, Ingress, Reply, Stopper};
+use engine_io::{Direct, Provider, Receiver, Sender};
 use futures::channel::oneshot;
 use std::alloc::AllocGlobal;
 use std::random::RandomSource;

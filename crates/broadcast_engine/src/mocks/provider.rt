@@ -1,7 +1,7 @@
 //! A script of peer sets.
 ghost use Rattle.std.specs.Prelude.{◌≡◌};
 ghost use Rattle.broadcast_engine.specs.Scripts.{HasGiven, IsQuiet};
-ghost use Rattle.broadcast_engine.specs.Sources.{given_some};
+ghost use Rattle.engine_io.specs.Sources.{given_some};
 
 use super::script::Script;
 use crate::buffered::Provider;

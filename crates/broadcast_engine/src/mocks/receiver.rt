@@ -1,7 +1,7 @@
 //! A script of payloads.
 ghost use Rattle.std.specs.Prelude.{◌≡◌};
 ghost use Rattle.broadcast_engine.specs.Scripts.{HasGiven};
-ghost use Rattle.broadcast_engine.specs.Sources.{given_ok};
+ghost use Rattle.engine_io.specs.Sources.{given_ok};
 
 use super::script::Script;
 use crate::buffered::{NetworkFailed, Receiver};

@@ -2,7 +2,7 @@
 ghost use Rattle.std.specs.Prelude.{◌≡◌, List, Some, true, false};
 ghost use Rattle.futures.specs.Task.{IsArmed, Keeps};
 ghost use Rattle.broadcast_engine.specs.Scripts.{HasGiven, IsQuiet};
-ghost use Rattle.broadcast_engine.specs.Sources.{given};
+ghost use Rattle.engine_io.specs.Sources.{given};
 ghost use Rattle.commonware_broadcast.specs.declared.buffered.ingress.request.Request.{Request as Asked};
 
 use super::script::Script;

@@ -4,26 +4,23 @@ ghost use Rattle.broadcast_core.specs.Content.{same_by};
 ghost use Rattle.broadcast_core.specs.Setting.{Setting};
 ghost use Rattle.broadcast_core.specs.Happening.{History};
 ghost use Rattle.broadcast_core.specs.HasContent.{HasContent};
-ghost use Rattle.broadcast_engine.specs.declared.buffered.engine.input.Input.TheVariants.{Peers};
-ghost use Rattle.broadcast_engine.specs.declared.buffered.engine.input.Input.TheVariants as input;
-ghost use Rattle.broadcast_engine.specs.declared.buffered.engine.input.Turn.TheVariants as turn;
+ghost use Rattle.engine_io.specs.declared.input.Input.TheVariants.{Peers};
+ghost use Rattle.engine_io.specs.declared.input.Input.TheVariants as input;
+ghost use Rattle.engine_io.specs.declared.input.Turn.TheVariants as turn;
 ghost use Rattle.broadcast_engine.specs.EngineHistory.{end_told};
-ghost use Rattle.broadcast_engine.specs.Replies.{Asker};
+ghost use Rattle.engine_io.specs.Replies.{Asker};
 ghost use Rattle.broadcast_engine.specs.Order.{of_network};
-ghost use Rattle.broadcast_engine.specs.Taken.{payloads_in};
+ghost use Rattle.engine_io.specs.Inputs.{payloads_in};
 ghost use Rattle.broadcast_engine.specs.Ran.{Applied};
 
 use crate::buffered::engine::broadcast::handle_broadcast;
 use crate::buffered::engine::handler::{
     handle_arrival, handle_get, handle_peers, handle_subscribe,
 };
-use crate::buffered::engine::input::{Input, Turn};
 use crate::buffered::engine::node::Node;
-use crate::buffered::metrics::Status;
-use crate::buffered::network::Sender;
-use crate::buffered::outlet::Outlet;
 use broadcast_core::{Cause, Digestible, PublicKey, Write};
 use commonware_broadcast::buffered::{Message, Reply, Request, Responder};
+use engine_io::{Input, Outlet, Sender, Status, Turn};
 use std::alloc::Global;
 
 /// Applies one input. A refused input changes nothing.

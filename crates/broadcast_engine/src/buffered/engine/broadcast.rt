@@ -6,17 +6,15 @@ ghost use Rattle.broadcast_core.specs.Happening.{History};
 ghost use Rattle.broadcast_core.specs.HasContent.{HasContent};
 ghost use Rattle.commonware_broadcast.specs.declared.buffered.ingress.message.Message.TheVariants as request;
 ghost use Rattle.broadcast_engine.specs.EngineHistory.{end_told};
-ghost use Rattle.broadcast_engine.specs.Replies.{Asker};
+ghost use Rattle.engine_io.specs.Replies.{Asker};
 ghost use Rattle.broadcast_engine.specs.Order.{of_network};
 ghost use Rattle.broadcast_engine.specs.Ran.{Applied, requested};
 
-use crate::buffered::engine::input::Turn;
 use crate::buffered::engine::node::Node;
 use crate::buffered::engine::take::take_own;
-use crate::buffered::network::Sender;
-use crate::buffered::outlet::Outlet;
 use broadcast_core::{Cause, CodecError, Digested, Digestible, PublicKey, Recipients, Write};
 use commonware_broadcast::buffered::{Reply, Responder};
+use engine_io::{Outlet, Sender, Turn};
 use std::alloc::Global;
 
 /// Encodes the message, then takes it under the node's own key, then hands its encoding to the

@@ -7,20 +7,17 @@ ghost use Rattle.broadcast_core.specs.Content.{same_by};
 ghost use Rattle.broadcast_core.specs.Setting.{Setting};
 ghost use Rattle.broadcast_core.specs.Happening.{History};
 ghost use Rattle.broadcast_core.specs.HasContent.{HasContent};
-ghost use Rattle.broadcast_engine.specs.declared.buffered.engine.input.Turn.TheVariants as turn;
-ghost use Rattle.broadcast_engine.specs.declared.buffered.engine.input.EndCause.{EndCause};
-ghost use Rattle.broadcast_engine.specs.Replies.{Asker};
+ghost use Rattle.engine_io.specs.declared.input.Turn.TheVariants as turn;
+ghost use Rattle.engine_io.specs.declared.input.EndCause.{EndCause};
+ghost use Rattle.engine_io.specs.Replies.{Asker};
 ghost use Rattle.broadcast_engine.specs.Taken.{Holds};
 ghost use Rattle.broadcast_engine.specs.EngineState.{TellsEnd, Went};
 
-use crate::buffered::engine::input::Turn;
 use crate::buffered::engine::state::Engine;
-use crate::buffered::network::{Provider, Receiver, Sender};
-use crate::buffered::outlet::Outlet;
-use crate::buffered::requests::Requests;
 use crate::buffered::strategy::Strategy;
 use broadcast_core::{Codec, Digestible, PublicKey};
 use commonware_broadcast::buffered::{Message, Reply, Responder};
+use engine_io::{Outlet, Provider, Receiver, Requests, Sender, Turn};
 use futures::task::{Context, Poll};
 use std::alloc::{AllocError, Global};
 

@@ -8,17 +8,15 @@ ghost use Rattle.broadcast_core.specs.Setting.{Setting};
 ghost use Rattle.broadcast_core.specs.Happening.{History};
 ghost use Rattle.broadcast_core.specs.HasContent.{HasContent};
 ghost use Rattle.broadcast_engine.specs.EngineHistory.{end_told};
-ghost use Rattle.broadcast_engine.specs.Replies.{Asker};
+ghost use Rattle.engine_io.specs.Replies.{Asker};
 ghost use Rattle.broadcast_engine.specs.Fetched.{Fetched, goes_on};
 
-use crate::buffered::engine::input::{EndCause, Turn};
 use crate::buffered::engine::node::Node;
 use crate::buffered::engine::receive::receive;
-use crate::buffered::network::{Receiver, Sender};
-use crate::buffered::outlet::Outlet;
 use crate::buffered::strategy::Strategy;
 use broadcast_core::{Codec, Digestible, PublicKey};
 use commonware_broadcast::buffered::{Reply, Responder};
+use engine_io::{EndCause, Outlet, Receiver, Sender, Turn};
 use futures::task::{Context, Poll};
 use std::alloc::Global;
 

@@ -7,21 +7,18 @@ ghost use Rattle.broadcast_core.specs.Happening.{History};
 ghost use Rattle.broadcast_core.specs.HasContent.{HasContent};
 ghost use Rattle.broadcast_core.specs.Answers.{outcome};
 ghost use Rattle.commonware_broadcast.specs.declared.buffered.ingress.message.Message.TheVariants as request;
-ghost use Rattle.broadcast_engine.specs.declared.buffered.engine.input.EndCause.{EndCause};
-ghost use Rattle.broadcast_engine.specs.declared.buffered.engine.input.Input.TheVariants as input;
-ghost use Rattle.broadcast_engine.specs.Replies.{Asker, Replied, Replies};
+ghost use Rattle.engine_io.specs.declared.input.EndCause.{EndCause};
+ghost use Rattle.engine_io.specs.declared.input.Input.TheVariants as input;
+ghost use Rattle.engine_io.specs.Replies.{Asker, Replied, Replies};
 ghost use Rattle.broadcast_engine.specs.EngineHistory.{applied, swept, ended};
 ghost use Rattle.broadcast_engine.specs.CountingCalls.{count_outcome};
 ghost use Rattle.broadcast_engine.specs.Ran.{Steps, requested};
 
 use crate::buffered::engine::node::Node;
-use crate::buffered::engine::reply::{respond_get, respond_subscribe};
 use crate::buffered::engine::take::take;
-use crate::buffered::engine::waiter::Waiter;
-use crate::buffered::metrics::{Metrics, Status};
-use crate::buffered::outlet::Outlet;
 use broadcast_core::{Digested, Digestible, Outcome, PublicKey, Set, Subscribed};
 use commonware_broadcast::buffered::{Reply, Responder};
+use engine_io::{Metrics, Outlet, Status, Waiter, respond_get, respond_subscribe};
 use std::alloc::{AllocError, Global};
 
 /// Replaces the primary peers.

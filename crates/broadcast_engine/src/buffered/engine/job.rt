@@ -6,20 +6,18 @@ ghost use Rattle.broadcast_core.specs.Content.{same_by};
 ghost use Rattle.broadcast_core.specs.Setting.{Setting};
 ghost use Rattle.broadcast_core.specs.Happening.{History};
 ghost use Rattle.broadcast_core.specs.HasContent.{HasContent};
-ghost use Rattle.broadcast_engine.specs.declared.buffered.engine.input.Input.TheVariants as input;
+ghost use Rattle.engine_io.specs.declared.input.Input.TheVariants as input;
 ghost use Rattle.broadcast_engine.specs.EngineHistory.{end_told};
-ghost use Rattle.broadcast_engine.specs.Replies.{Asker};
+ghost use Rattle.engine_io.specs.Replies.{Asker};
 ghost use Rattle.broadcast_engine.specs.Ran.{Applied};
 ghost use Rattle.broadcast_engine.specs.Polled.{Started};
 
 use crate::buffered::engine::apply::apply;
-use crate::buffered::engine::input::{Input, Turn};
 use crate::buffered::engine::node::Node;
-use crate::buffered::network::Sender;
-use crate::buffered::outlet::Outlet;
 use crate::buffered::strategy::{Job, Strategy};
 use broadcast_core::{Cause, Digested, Digestible, PublicKey, Write};
 use commonware_broadcast::buffered::{Reply, Responder};
+use engine_io::{Input, Outlet, Sender, Turn};
 use futures::task::{Context, Poll};
 use std::alloc::Global;
 

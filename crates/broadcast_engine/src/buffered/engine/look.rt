@@ -8,20 +8,17 @@ ghost use Rattle.broadcast_core.specs.Setting.{Setting};
 ghost use Rattle.broadcast_core.specs.Happening.{History};
 ghost use Rattle.broadcast_core.specs.HasContent.{HasContent};
 ghost use Rattle.broadcast_engine.specs.EngineHistory.{end_told};
-ghost use Rattle.broadcast_engine.specs.Replies.{Asker};
+ghost use Rattle.engine_io.specs.Replies.{Asker};
 ghost use Rattle.broadcast_engine.specs.Order.{UnlessPeers, IfNetwork, as_turn};
 ghost use Rattle.broadcast_engine.specs.Looked.{Looked};
 
 use crate::buffered::engine::fetch::poll_network;
-use crate::buffered::engine::input::{EndCause, Turn};
 use crate::buffered::engine::node::Node;
 use crate::buffered::engine::poll::poll_local;
-use crate::buffered::network::{Provider, Receiver, Sender};
-use crate::buffered::outlet::Outlet;
-use crate::buffered::requests::Requests;
 use crate::buffered::strategy::Strategy;
 use broadcast_core::{Codec, Digestible, PublicKey};
 use commonware_broadcast::buffered::{Message, Reply, Responder};
+use engine_io::{EndCause, Outlet, Provider, Receiver, Requests, Sender, Turn};
 use futures::task::{Context, Poll};
 use std::alloc::Global;
 

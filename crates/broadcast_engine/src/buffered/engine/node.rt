@@ -1,7 +1,6 @@
 //! What the inputs of an engine change.
-use crate::buffered::engine::waiter::Waiter;
-use crate::buffered::metrics::Metrics;
 use broadcast_core::{Core, Digestible, PublicKey};
+use engine_io::{Metrics, Waiter};
 
 /// What the inputs of an engine change, besides the sender.
 #[derive(Drop)]

@@ -10,21 +10,18 @@ ghost use Rattle.broadcast_core.specs.Setting.{Setting};
 ghost use Rattle.broadcast_core.specs.Happening.{History};
 ghost use Rattle.broadcast_core.specs.HasContent.{HasContent};
 ghost use Rattle.broadcast_engine.specs.EngineHistory.{end_told};
-ghost use Rattle.broadcast_engine.specs.Replies.{Asker};
+ghost use Rattle.engine_io.specs.Replies.{Asker};
 ghost use Rattle.broadcast_engine.specs.Order.{UnlessPeers, IfNetwork, as_turn};
 ghost use Rattle.broadcast_engine.specs.Woken.{Woken};
 
 use crate::buffered::engine::fetch::going_on;
-use crate::buffered::engine::input::{EndCause, Turn};
 use crate::buffered::engine::job::poll_job;
 use crate::buffered::engine::look::poll_sources;
 use crate::buffered::engine::node::Node;
-use crate::buffered::network::{Provider, Receiver, Sender};
-use crate::buffered::outlet::Outlet;
-use crate::buffered::requests::Requests;
 use crate::buffered::strategy::Strategy;
 use broadcast_core::{Codec, Digestible, PublicKey};
 use commonware_broadcast::buffered::{Message, Reply, Responder};
+use engine_io::{EndCause, Outlet, Provider, Receiver, Requests, Sender, Turn};
 use futures::task::{Context, Poll};
 use std::alloc::Global;
 

@@ -3,16 +3,13 @@ ghost use Rattle.std.specs.Prelude.{◌≡◌, None, Some};
 ghost use Rattle.broadcast_engine.specs.Parts.{joined};
 
 use crate::buffered::engine::handler::drop_waiters;
-use crate::buffered::engine::input::EndCause;
 use crate::buffered::engine::job::clear;
 use crate::buffered::engine::node::Node;
 use crate::buffered::engine::state::Engine;
-use crate::buffered::metrics::Metrics;
-use crate::buffered::outlet::Outlet;
-use crate::buffered::requests::Requests;
 use crate::buffered::strategy::Strategy;
 use broadcast_core::{Codec, Digestible, PublicKey};
 use commonware_broadcast::buffered::{Message, Reply, Responder};
+use engine_io::{EndCause, Metrics, Outlet, Requests};
 
 /// An engine without its job, since a job may not move to another thread.
 #[derive(Drop)]

@@ -7,20 +7,16 @@ ghost use Rattle.broadcast_core.specs.Setting.{Setting};
 ghost use Rattle.broadcast_core.specs.Happening.{History};
 ghost use Rattle.broadcast_core.specs.HasContent.{HasContent};
 ghost use Rattle.broadcast_engine.specs.EngineHistory.{end_told};
-ghost use Rattle.broadcast_engine.specs.Replies.{Asker};
+ghost use Rattle.engine_io.specs.Replies.{Asker};
 ghost use Rattle.broadcast_engine.specs.Order.{UnlessPeers, IfNetwork, as_turn};
 ghost use Rattle.broadcast_engine.specs.Polled.{Polled};
 
 use crate::buffered::engine::apply::apply;
 use crate::buffered::engine::handler::cleanup_waiters;
-use crate::buffered::engine::input::{EndCause, Turn};
-use crate::buffered::engine::next::next_input;
 use crate::buffered::engine::node::Node;
-use crate::buffered::network::{Provider, Sender};
-use crate::buffered::outlet::Outlet;
-use crate::buffered::requests::Requests;
 use broadcast_core::{Digestible, PublicKey, Write};
 use commonware_broadcast::buffered::{Message, Reply, Responder};
+use engine_io::{EndCause, Outlet, Provider, Requests, Sender, Turn, next_input};
 use futures::task::{Context, Poll};
 use std::alloc::Global;
 

@@ -7,22 +7,20 @@ ghost use Rattle.broadcast_core.specs.Content.{same_by};
 ghost use Rattle.broadcast_core.specs.Setting.{Setting};
 ghost use Rattle.broadcast_core.specs.Happening.{History};
 ghost use Rattle.broadcast_core.specs.HasContent.{HasContent};
-ghost use Rattle.broadcast_engine.specs.declared.buffered.engine.input.Input.TheVariants as input;
-ghost use Rattle.broadcast_engine.specs.declared.buffered.engine.input.Turn.TheVariants as turn;
+ghost use Rattle.engine_io.specs.declared.input.Input.TheVariants as input;
+ghost use Rattle.engine_io.specs.declared.input.Turn.TheVariants as turn;
 ghost use Rattle.broadcast_engine.specs.EngineHistory.{end_told};
-ghost use Rattle.broadcast_engine.specs.Replies.{Asker};
+ghost use Rattle.engine_io.specs.Replies.{Asker};
 ghost use Rattle.broadcast_engine.specs.Ran.{Applied};
 ghost use Rattle.broadcast_engine.specs.Polled.{Received};
 
 use crate::buffered::engine::apply::apply;
-use crate::buffered::engine::input::{Input, Turn};
 use crate::buffered::engine::job::start_job;
 use crate::buffered::engine::node::Node;
-use crate::buffered::network::Sender;
-use crate::buffered::outlet::Outlet;
 use crate::buffered::strategy::Strategy;
 use broadcast_core::{Cause, Codec, CodecError, Digestible, PublicKey, Write, decode_cfg};
 use commonware_broadcast::buffered::{Reply, Responder};
+use engine_io::{Input, Outlet, Sender, Turn};
 use futures::task::{Context, Poll};
 use std::alloc::Global;
 

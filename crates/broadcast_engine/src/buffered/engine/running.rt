@@ -5,14 +5,11 @@ ghost use mathlib.Core.List.{Mem};
 ghost use Rattle.futures.specs.Poll.{OnPending};
 ghost use Rattle.futures.specs.Task.{IsArmed, Keeps};
 
-use crate::buffered::engine::input::{EndCause, Turn};
 use crate::buffered::engine::state::Engine;
-use crate::buffered::network::{Provider, Receiver, Sender};
-use crate::buffered::outlet::Outlet;
-use crate::buffered::requests::Requests;
 use crate::buffered::strategy::Strategy;
 use broadcast_core::{Codec, Digestible, PublicKey};
 use commonware_broadcast::buffered::{Message, Reply, Responder};
+use engine_io::{EndCause, Outlet, Provider, Receiver, Requests, Sender, Turn};
 use futures::executor::block_on;
 use futures::future::poll_fn;
 use futures::task::{Context, Poll};

@@ -2,14 +2,13 @@
 ghost use Rattle.std.specs.Prelude.{◌≡◌, List, Option, IfOk, OnErr};
 ghost use Rattle.broadcast_core.specs.Carried.{Carried};
 ghost use Rattle.broadcast_core.specs.Content.{same_by, outcome_at};
-ghost use Rattle.broadcast_engine.specs.Replies.{Replied, Replies};
-ghost use Rattle.broadcast_engine.specs.Handing.{Serves};
+ghost use Rattle.engine_io.specs.Replies.{Replied, Replies};
+ghost use Rattle.broadcast_engine.specs.Serving.{Serves};
 
 use crate::buffered::engine::node::Node;
-use crate::buffered::engine::reply::{copies, respond_waiters};
-use crate::buffered::outlet::Outlet;
 use broadcast_core::{Digested, Digestible, Outcome, PublicKey};
 use commonware_broadcast::buffered::Reply;
+use engine_io::{Outlet, copies, respond_waiters};
 use std::alloc::{AllocError, Global};
 
 /// Takes a message under `peer`, and hands a copy to each waiter of its digest. The copies are made

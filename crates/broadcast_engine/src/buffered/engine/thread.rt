@@ -1,17 +1,13 @@
 //! An engine that runs in a thread of its own.
 ghost use Rattle.std.specs.Prelude.{◌≡◌};
 
-use crate::buffered::engine::input::EndCause;
 use crate::buffered::engine::parts::Parts;
 use crate::buffered::engine::running::run_turns;
 use crate::buffered::engine::state::Engine;
-use crate::buffered::metrics::Metrics;
-use crate::buffered::network::{Provider, Receiver, Sender};
-use crate::buffered::outlet::Outlet;
-use crate::buffered::requests::Requests;
 use crate::buffered::strategy::Strategy;
 use broadcast_core::{Codec, Digestible, PublicKey};
 use commonware_broadcast::buffered::{Message, Reply, Responder, Stopper};
+use engine_io::{EndCause, Metrics, Outlet, Provider, Receiver, Requests, Sender};
 use std::alloc::AllocGlobal;
 use std::random::RandomSource;
 use std::sync::Wait;

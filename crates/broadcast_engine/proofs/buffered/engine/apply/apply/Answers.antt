@@ -1,8 +1,8 @@
 use Rattle.std.proofs.Common.{[], ◌∷◌, refl, sym, ap}
 use Rattle.broadcast_core.proofs.Lawful.{same_by-lawful}
 use Rattle.broadcast_core.specs.declared.event.Cause.TheVariants.{Memory}
-use Rattle.broadcast_engine.specs.declared.buffered.engine.input.Input.TheVariants.{Peers, Arrived, Invalid}
-use Rattle.broadcast_engine.specs.declared.buffered.engine.input.Turn.TheVariants as turn
+use Rattle.engine_io.specs.declared.input.Input.TheVariants.{Peers, Arrived, Invalid}
+use Rattle.engine_io.specs.declared.input.Turn.TheVariants as turn
 use Rattle.broadcast_engine.proofs.EngineSteps.{Steps-invalid}
 use Rattle.broadcast_engine.proofs.Runs.{Applied-silent, Applied-refused}
 use Rattle.broadcast_engine.proofs.buffered.engine.apply.apply.Goals as goal

@@ -3,8 +3,8 @@ use Rattle.std.specs.Prelude.{is_some}
 use Rattle.broadcast_core.specs.Content.{message_at}
 use Rattle.broadcast_core.specs.declared.event.Cause.TheVariants.{Memory}
 use Rattle.commonware_broadcast.specs.declared.buffered.ingress.message.Message.TheVariants.{Broadcast, Subscribe, Get}
-use Rattle.broadcast_engine.specs.declared.buffered.engine.input.Input.TheVariants.{Request}
-use Rattle.broadcast_engine.specs.declared.buffered.engine.input.Turn.TheVariants as turn
+use Rattle.engine_io.specs.declared.input.Input.TheVariants.{Request}
+use Rattle.engine_io.specs.declared.input.Turn.TheVariants as turn
 use Rattle.broadcast_engine.proofs.Runs.{Applied-silent, Applied-refused, Applied-message}
 use Rattle.broadcast_engine.proofs.buffered.engine.apply.apply_request.Goals as goal
 

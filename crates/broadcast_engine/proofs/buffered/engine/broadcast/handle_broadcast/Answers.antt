@@ -2,7 +2,7 @@ use Rattle.std.proofs.Common.{◌≡◌, Some, Err, is_some, refl, ap, ◌∙◌
 use Rattle.broadcast_core.proofs.Lawful.{same_by-lawful}
 use Rattle.broadcast_core.specs.declared.event.Cause.TheVariants.{Memory}
 use Rattle.commonware_broadcast.specs.declared.buffered.ingress.message.Message.TheVariants.{Broadcast}
-use Rattle.broadcast_engine.specs.declared.buffered.engine.input.Input.TheVariants.{Request}
+use Rattle.engine_io.specs.declared.input.Input.TheVariants.{Request}
 use Rattle.broadcast_engine.proofs.EngineSteps.{Steps-broadcast}
 use Rattle.broadcast_engine.proofs.Runs.{Applied-broadcast, Applied-refused, may-refuse}
 use Rattle.broadcast_engine.proofs.buffered.engine.broadcast.handle_broadcast.Goals as goal

@@ -1,10 +1,10 @@
 use Rattle.std.proofs.Common.{◌≡◌, ◌++◌, ◌∙◌, None, [], ◌∷◌, length, length-append, refl, sym, ap, subst, append-nil, arith}
 use Rattle.broadcast_core.specs.Codec.{whole}
 use Rattle.broadcast_core.specs.Content.{same_by}
-use Rattle.broadcast_engine.specs.Sources.{given}
+use Rattle.engine_io.specs.Sources.{given}
 use Rattle.broadcast_engine.specs.EngineState.{TellsEnd, Went}
 use Rattle.broadcast_engine.specs.EngineHistory.{end_told}
-use Rattle.broadcast_engine.specs.declared.buffered.engine.input.Turn.TheVariants.{Ended}
+use Rattle.engine_io.specs.declared.input.Turn.TheVariants.{Ended}
 use Rattle.futures.specs.declared.task.Poll.TheVariants.{Ready, Pending}
 use Rattle.std.specs.List.{All}
 use Rattle.std.proofs.lemmas.List.Elements.{All-push}

@@ -7,8 +7,8 @@ use Rattle.broadcast_core.specs.Content.{same_by}
 use Rattle.broadcast_core.specs.Setting.{Setting}
 use Rattle.broadcast_core.specs.Happening.{History}
 use Rattle.broadcast_core.specs.HasContent.{HasContent}
-use Rattle.broadcast_engine.specs.declared.buffered.engine.input.EndCause.{EndCause}
-use Rattle.broadcast_engine.specs.Replies.{Asker}
+use Rattle.engine_io.specs.declared.input.EndCause.{EndCause}
+use Rattle.engine_io.specs.Replies.{Asker}
 use Rattle.broadcast_engine.specs.EngineHistory.{end_told}
 use Rattle.broadcast_engine.specs.EngineState.{Went}
 use Rattle.broadcast_engine.specs.Taken.{Holds}

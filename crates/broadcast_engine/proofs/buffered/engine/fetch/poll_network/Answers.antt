@@ -1,6 +1,6 @@
 use Rattle.std.proofs.Common.{Err, refl, subst}
 use Rattle.futures.specs.declared.task.Poll.TheVariants.{Ready, Pending}
-use Rattle.broadcast_engine.specs.declared.buffered.engine.input.EndCause.TheVariants.{NetworkFailed}
+use Rattle.engine_io.specs.declared.input.EndCause.TheVariants.{NetworkFailed}
 use Rattle.broadcast_engine.specs.Polled.{Received}
 use Rattle.broadcast_engine.proofs.Fetching.{Fetched-none, Fetched-received}
 use Rattle.broadcast_engine.proofs.buffered.engine.fetch.poll_network.Goals as goal

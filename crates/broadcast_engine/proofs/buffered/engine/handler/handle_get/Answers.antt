@@ -2,7 +2,7 @@ use Rattle.std.proofs.Common.{◌≡◌, ◌∷◌, Some, [], sym, ap, ◌∙◌
 use Rattle.broadcast_core.proofs.Lawful.{same_by-lawful}
 use Rattle.std.specs.Option.{option_copied}
 use Rattle.broadcast_core.specs.Content.{same_by, message_at}
-use Rattle.broadcast_engine.specs.Replies.{got}
+use Rattle.engine_io.specs.Replies.{got}
 use Rattle.broadcast_engine.proofs.EngineSteps.{Steps-got}
 use Rattle.broadcast_engine.proofs.buffered.engine.handler.handle_get.Goals as goal
 use Rattle.broadcast_engine.proofs.buffered.engine.handler.handle_get.Goals.{in-Some+in_ok-clone-in-Some, in-None}

@@ -3,8 +3,8 @@ use Rattle.broadcast_core.proofs.Lawful.{same_by-lawful}
 use Rattle.broadcast_core.specs.Content.{same_by}
 use Rattle.broadcast_core.specs.Changes.{IsSubscribed}
 use Rattle.broadcast_core.specs.declared.outcome.Subscribed.TheVariants as outcome
-use Rattle.broadcast_engine.specs.Replies.{subscribed}
-use Rattle.broadcast_engine.proofs.Handing.{Hands-none}
+use Rattle.engine_io.specs.Replies.{subscribed}
+use Rattle.engine_io.proofs.Handing.{Hands-none}
 use Rattle.broadcast_engine.proofs.EngineSteps.{Steps-subscribed}
 use Rattle.broadcast_engine.proofs.buffered.engine.handler.handle_subscribe.Goals as goal
 

@@ -1,7 +1,7 @@
 use Rattle.std.proofs.Common.{refl, subst}
 use Rattle.broadcast_core.specs.declared.event.Cause.TheVariants.{Memory}
 use Rattle.broadcast_engine.specs.Ran.{Applied}
-use Rattle.broadcast_engine.specs.declared.buffered.engine.input.Input.TheVariants as input
+use Rattle.engine_io.specs.declared.input.Input.TheVariants as input
 use Rattle.broadcast_engine.proofs.Runs.{Applied-refused}
 use Rattle.broadcast_engine.proofs.buffered.engine.job.arrive.Goals as goal
 

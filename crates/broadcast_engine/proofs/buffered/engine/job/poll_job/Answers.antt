@@ -1,6 +1,6 @@
 use Rattle.std.proofs.Common.{◌≡◌, ap, ◌∙◌, subst}
 use Rattle.broadcast_engine.specs.Ran.{Applied}
-use Rattle.broadcast_engine.specs.declared.buffered.engine.input.Input.TheVariants as input
+use Rattle.engine_io.specs.declared.input.Input.TheVariants as input
 use Rattle.broadcast_engine.proofs.buffered.engine.job.poll_job.Goals as goal
 
 pub returns-in-Ready-clause-applied : goal.returns-in-Ready-clause-applied

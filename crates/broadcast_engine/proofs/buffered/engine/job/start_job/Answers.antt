@@ -1,11 +1,11 @@
 use Rattle.std.proofs.Common.{refl, ap}
 use Rattle.broadcast_core.specs.Setting.{own_digested}
 use Rattle.broadcast_core.specs.declared.event.Cause.TheVariants.{Memory}
-use Rattle.broadcast_engine.specs.Counters.{Counters}
+use Rattle.engine_io.specs.Counters.{Counters}
 use Rattle.broadcast_engine.specs.Ran.{Applied}
-use Rattle.broadcast_engine.specs.declared.buffered.engine.input.Input.TheVariants as input
-use Rattle.broadcast_engine.specs.declared.buffered.engine.input.Turn.{Turn}
-use Rattle.broadcast_engine.specs.declared.buffered.engine.input.Turn.TheVariants as turn
+use Rattle.engine_io.specs.declared.input.Input.TheVariants as input
+use Rattle.engine_io.specs.declared.input.Turn.{Turn}
+use Rattle.engine_io.specs.declared.input.Turn.TheVariants as turn
 use Rattle.broadcast_engine.proofs.Runs.{Applied-refused}
 use Rattle.broadcast_engine.proofs.Polling.{Ran-decoded, Started-uncounted, Started-ready, Started-polled, IfReady-weaker}
 use Rattle.broadcast_engine.proofs.buffered.engine.job.start_job.Goals as goal

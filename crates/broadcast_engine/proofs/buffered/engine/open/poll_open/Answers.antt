@@ -1,8 +1,8 @@
 use Rattle.std.proofs.Common.{◌≡◌, Some, None, Err, refl, sym, subst}
 use Rattle.futures.specs.declared.task.Poll.TheVariants.{Ready}
-use Rattle.broadcast_engine.specs.declared.buffered.engine.input.EndCause.TheVariants.{Stopped}
-use Rattle.broadcast_engine.specs.declared.buffered.engine.input.Input.TheVariants as input
-use Rattle.broadcast_engine.specs.declared.buffered.engine.input.Turn.{Turn}
+use Rattle.engine_io.specs.declared.input.EndCause.TheVariants.{Stopped}
+use Rattle.engine_io.specs.declared.input.Input.TheVariants as input
+use Rattle.engine_io.specs.declared.input.Turn.{Turn}
 use Rattle.broadcast_engine.specs.Ran.{Applied}
 use Rattle.broadcast_engine.specs.Taken.{HoldsJob}
 use Rattle.broadcast_engine.proofs.Composing.{Ran-none}

@@ -1,8 +1,8 @@
 use Rattle.std.proofs.Common.{◌≡◌, ◌++◌, Ok, Err, refl, ap, sym, ◌∙◌, subst}
 use Rattle.futures.specs.declared.task.Poll.TheVariants.{Ready, Pending}
-use Rattle.broadcast_engine.specs.declared.buffered.engine.input.EndCause.TheVariants.{Stopped}
-use Rattle.broadcast_engine.specs.declared.buffered.engine.input.Turn.TheVariants as turn
-use Rattle.broadcast_engine.specs.Sources.{given_ok}
+use Rattle.engine_io.specs.declared.input.EndCause.TheVariants.{Stopped}
+use Rattle.engine_io.specs.declared.input.Turn.TheVariants as turn
+use Rattle.engine_io.specs.Sources.{given_ok}
 use Rattle.broadcast_engine.specs.EngineHistory.{happenings}
 use Rattle.broadcast_engine.proofs.Going.{Holds-open, Turned-still, Turned-woken, Turned-ended}
 use Rattle.broadcast_engine.proofs.buffered.engine.state.Engine.poll.Goals as goal

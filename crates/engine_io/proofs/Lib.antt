@@ -1,0 +1,2 @@
+pub mod PeerCounts
+pub mod Handing

@@ -1,0 +1,7 @@
+pub mod Counters
+pub mod Sources
+pub mod Replies
+pub mod Inputs
+pub mod FirstSource
+pub mod ReplyCounts
+pub mod Handing

@@ -1,0 +1,21 @@
+//! What an engine is over: where its inputs come from, where messages and replies go, and what is
+//! counted.
+#![tactic(auto)]
+
+pub mod input;
+pub mod metrics;
+pub mod network;
+pub mod next;
+pub mod outlet;
+pub mod reply;
+pub mod requests;
+pub mod waiter;
+
+pub use input::{EndCause, Input, Turn};
+pub use metrics::{Counter, Metrics, Sequencer, Status};
+pub use network::{NetworkFailed, Provider, Receiver, Sender};
+pub use next::next_input;
+pub use outlet::{Direct, Outlet};
+pub use reply::{copies, respond_get, respond_subscribe, respond_waiters};
+pub use requests::Requests;
+pub use waiter::Waiter;

@@ -1,0 +1,59 @@
+//! The peers and the network of an engine.
+ghost use Rattle.std.specs.Prelude.{⊤, ℕ, List, [], ◌∷◌, ◌++◌};
+ghost use Rattle.futures.specs.Poll.{OnPending};
+ghost use Rattle.futures.specs.Task.{IsArmed, Keeps};
+ghost use Rattle.broadcast_core.specs.declared.event.Sent.{Sent};
+ghost use Rattle.engine_io.specs.Sources.{given_some, given_ok};
+
+use broadcast_core::{Items, PublicKey, Recipients, Set};
+use futures::task::{Context, Poll};
+use thiserror::Error;
+
+/// The error of a receiver that gives no more payloads.
+#[derive(Clone, Copy, Debug, PartialEq, Eq, Error)]
+#[error("the network failed")]
+pub struct NetworkFailed;
+
+/// Gives the primary peers, again at each change.
+pub trait Provider<P: PublicKey> {
+    /// Whether this may be the list of the sets that were given, oldest first.
+    ghost told: { Self → List (List P) → Type 0 };
+
+    /// Whether the provider may have no set to give.
+    ghost quiet: { Self → Type 0 } = { λ _. ⊤ };
+
+    /// Returns the next set of primary peers, or `None` once there are no more.
+    fn poll_update(&mut self, cx: &mut Context<'_>) -> Poll<Option<Set<P>>>
+        ensures tells { (sets : List (List P))
+            → told self.old sets → told self.new (sets ++ given_some result) }
+        ensures quiet { OnPending result (quiet self.old) }
+        ensures armed { OnPending result (IsArmed cx.new) }
+        ensures kept { Keeps cx.old cx.new };
+}
+
+/// Receives payloads of peers.
+pub trait Receiver<P> {
+    /// Whether this may be the list of the payloads that were given, oldest first.
+    ghost told: { Self → List (P × List ℕ) → Type 0 };
+
+    /// Returns the next payload with its sender.
+    fn poll_recv(&mut self, cx: &mut Context<'_>) -> Poll<Result<(P, Items<u8>), NetworkFailed>>
+        ensures tells { (payloads : List (P × List ℕ))
+            → told self.old payloads → told self.new (payloads ++ given_ok result) }
+        ensures armed { OnPending result (IsArmed cx.new) }
+        ensures kept { Keeps cx.old cx.new };
+}
+
+/// Sends encoded messages to peers.
+pub trait Sender<P> {
+    /// Whether this may be the list of what was sent, oldest first.
+    ghost told: { Self → List (Sent P) → Type 0 };
+
+    /// Hands over `bytes` to be sent to `recipients`, as priority if `priority` is true.
+    fn send(&mut self, recipients: Recipients<P>, bytes: Vec<u8>, priority: bool)
+        ensures { (sent : List (Sent P)) → told self.old sent → told self.new (sent ++ record {
+          recipients = recipients;
+          bytes = bytes.items;
+          priority = priority;
+        } ∷ []) };
+}
