@@ -2,6 +2,7 @@
 //! counted.
 #![tactic(auto)]
 
+pub mod first;
 pub mod input;
 pub mod metrics;
 pub mod network;
@@ -11,6 +12,7 @@ pub mod reply;
 pub mod requests;
 pub mod waiter;
 
+pub use first::{First, comes_first};
 pub use input::{EndCause, Input, Turn};
 pub use metrics::{Counter, Metrics, Sequencer, Status};
 pub use network::{NetworkFailed, Provider, Receiver, Sender};

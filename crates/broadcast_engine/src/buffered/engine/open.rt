@@ -21,7 +21,9 @@ use crate::buffered::engine::node::Node;
 use crate::buffered::strategy::Strategy;
 use broadcast_core::{Codec, Digestible, PublicKey};
 use commonware_broadcast::buffered::{Message, Reply, Responder};
-use engine_io::{EndCause, Outlet, Provider, Receiver, Requests, Sender, Turn};
+use engine_io::{
+    EndCause, First, Outlet, Provider, Receiver, Requests, Sender, Turn, comes_first,
+};
 use futures::task::{Context, Poll};
 use std::alloc::Global;
 
@@ -66,13 +68,13 @@ where
     ensures armed { OnPending result (IsArmed cx.new) }
     ensures kept { Keeps cx.old cx.new }
 {
-    if requests.stopped(cx) {
-        return Poll::Ready(Err(EndCause::Stopped));
+    match comes_first(requests, slot, cx) {
+        First::Stop => Poll::Ready(Err(EndCause::Stopped)),
+        First::Job(peer, job) => going_on(poll_job(
+            node, sender, slot, cx, alloc, priority, peer, job,
+        )),
+        First::Sources => poll_sources(
+            node, provider, requests, sender, receiver, slot, cx, alloc, priority, strategy, cfg,
+        ),
     }
-    if let Some((peer, job)) = slot.take() {
-        return going_on(poll_job(node, sender, slot, cx, alloc, priority, peer, job));
-    }
-    poll_sources(
-        node, provider, requests, sender, receiver, slot, cx, alloc, priority, strategy, cfg,
-    )
 }

@@ -1,0 +1,11 @@
+-- What a poll of an engine does first.
+use Rattle.std.specs.Prelude.{◌≡◌, Option, Some, None}
+use Rattle.engine_io.specs.declared.first.First.{First}
+use Rattle.engine_io.specs.declared.first.First.TheVariants.{Stop, Job, Sources}
+
+-- the job that stood in the slot before is the one to poll, and is no longer there; for a stop it
+-- stays; the sources are looked at only if there was none
+abbrev pub Empties : {P J : Type 0} → First P J → (old new : Option (P × J)) → Type 0
+Empties Stop old new = new ≡ old
+Empties (Job peer job) old new = (old ≡ Some (peer, job)) × (new ≡ None)
+Empties Sources old new = (old ≡ None) × (new ≡ None)

@@ -1,0 +1,43 @@
+//! What a poll of an engine does first.
+ghost use Rattle.std.specs.Prelude.{◌≡◌, List};
+ghost use Rattle.futures.specs.Task.{IsArmed, Keeps};
+ghost use Rattle.commonware_broadcast.specs.declared.buffered.ingress.request.Request.{Request};
+ghost use Rattle.engine_io.specs.declared.first.First.TheVariants.{Stop, Sources};
+ghost use Rattle.engine_io.specs.First.{Empties};
+
+use crate::requests::Requests;
+use futures::task::Context;
+
+/// What a poll of an engine does first.
+#[derive(Drop)]
+pub enum First<P: Drop, J: Drop> {
+    /// It ends, since a stop was asked for.
+    Stop,
+    /// It polls the job of a message of this peer, and takes nothing from any source.
+    Job(P, J),
+    /// It looks at its sources.
+    Sources,
+}
+
+/// Returns what a poll does first: a stop, or else the pending job, which leaves its slot, or else
+/// the sources.
+pub fn comes_first<P: Drop, J: Drop, T, Q: Requests<T>>(
+    requests: &mut Q,
+    slot: &mut Option<(P, J)>,
+    cx: &mut Context<'_>,
+) -> First<P, J>
+    ensures stop_first { Q.stops requests.old → result ≡ Stop }
+    ensures job_alone { Empties result slot.old slot.new }
+    ensures tells { (given : List (Request T)) → Q.told requests.old given
+        → Q.told requests.new given }
+    ensures quiet { Q.quiet requests.new → Q.quiet requests.old }
+    ensures kept { Keeps cx.old cx.new }
+{
+    if requests.stopped(cx) {
+        return First::Stop;
+    }
+    match slot.take() {
+        Some((peer, job)) => First::Job(peer, job),
+        None => First::Sources,
+    }
+}
