@@ -8,9 +8,6 @@ use crate::outcome::Outcome;
 
 /// An event, which changes or reads a core.
 #[derive(Drop)]
-#[derive_where(Clone)]
-#[derive_where(Debug; P, M, M::Digest)]
-#[derive_where(PartialEq, Eq; M)]
 pub enum Event<P: PublicKey, M: Digestible> {
     /// These peers become the primary ones.
     Peers(Set<P>),
@@ -37,7 +34,6 @@ pub enum Cause {
 
 /// The answer to an event.
 #[derive(Drop)]
-#[derive_where(Clone)]
 #[derive_where(Debug; M, M::Digest)]
 #[derive_where(PartialEq, Eq; M)]
 pub enum Answer<M: Digestible> {

@@ -14,7 +14,7 @@ pub enum Outcome {
 }
 
 /// The result of taking a message.
-#[derive(Clone, Debug, PartialEq, Eq, Drop)]
+#[derive(Debug, Drop)]
 pub struct Taken<W> {
     /// What happened to the list of the key.
     pub outcome: Outcome,
@@ -24,9 +24,6 @@ pub struct Taken<W> {
 
 /// The result of a subscribe.
 #[derive(Drop)]
-#[derive_where(Clone; W)]
-#[derive_where(Debug; W, M, M::Digest)]
-#[derive_where(PartialEq, Eq; W, M)]
 pub enum Subscribed<W, M: Digestible> {
     /// The waiter is returned with the cached message.
     Answered(W, Digested<M>),

@@ -10,8 +10,6 @@ use std::alloc::AllocError;
 
 /// A message of a mailbox's caller, generic over where the replies go.
 #[derive(Drop)]
-#[derive_where(Debug; Recipients<P>, Digested<M>, M::Digest, S, G)]
-#[derive_where(PartialEq, Eq; Recipients<P>, Digested<M>, S, G)]
 pub enum Message<P, M: Digestible, S, G> {
     /// Broadcast a message.
     Broadcast {

@@ -6,7 +6,7 @@ use broadcast_core::Closable;
 use std::alloc::AllocError;
 
 /// A message with the ticket that it drew.
-#[derive(Debug, PartialEq, Eq, Drop)]
+#[derive(Drop)]
 pub struct Request<T> {
     /// The ticket that the message drew.
     pub ticket: u64,
