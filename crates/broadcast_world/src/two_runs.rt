@@ -133,8 +133,25 @@ pub fn compare<P: PublicKey>(
         (log_of steps.now both.with_log.answers)
         (log_of (without_hostile steps.now) both.without_log.answers)) }
 {
-    let mut with_world = World::new(alloc, nodes, hostile, deque_size, range)?;
-    let mut without_world = with_world.anew(alloc)?;
+    let with_world = World::new(alloc, nodes, hostile, deque_size, range)?;
+    let without_world = with_world.anew(alloc)?;
+    let both = run_both(alloc, with_world, without_world, steps)?;
+    Ok(both)
+}
+
+/// Runs all steps in one world, and those that are not hostile in the other.
+fn run_both<P: PublicKey>(
+    alloc: Global,
+    mut with_world: World<P>,
+    mut without_world: World<P>,
+    steps: &[Step<P>],
+) -> Result<Comparison<P>, AllocError>
+    ensures with_run { IfOk result (λ both. (log : Log P) → HasWorld P.cmp log with_world
+        → TakesSteps P.cmp log steps.now both.with_log.answers with_world both.with_world) }
+    ensures without_run { IfOk result (λ both. (log : Log P) → HasWorld P.cmp log without_world
+        → TakesSteps P.cmp log (without_hostile steps.now) both.without_log.answers
+        without_world both.without_world) }
+{
     let with_log = run_world(alloc, &mut with_world, steps)?;
     let without_log = run_clean(alloc, &mut without_world, steps)?;
     Ok(Comparison {

@@ -81,8 +81,8 @@ where
     T: Strategy<M> + Drop,
     R: Wait + AllocGlobal + Clone + Drop,
 {
-    let engine = engine(rt, codec_config, strategy, mail, deque_size)?;
-    Ok((engine, network(rt, mail, others)?))
+    let network = network(rt, mail, others)?;
+    Ok((engine(rt, codec_config, strategy, mail, deque_size)?, network))
 }
 
 // Returns the error of a node for which there is no memory.
@@ -104,6 +104,7 @@ where
     T: Strategy<M> + Drop,
     R: Wait + AllocGlobal + Clone + Drop,
 {
+    let own = rt.clone()?;
     let peer_provider = PeerSets {
         mail: Arc::try_clone(mail)?,
         rt: rt.clone()?,
@@ -117,7 +118,7 @@ where
         peer_provider,
         strategy,
     };
-    Engine::new(rt.clone()?, rt.alloc(), config)
+    Engine::new(own, rt.alloc(), config)
 }
 
 /// Creates the ends of a node's network.

@@ -150,6 +150,7 @@ where
     M::Cfg: Drop,
     R: Wait + AllocGlobal + Clone + Drop,
 {
+    let own = rt.clone()?;
     let cfg = Config {
         public_key: 1,
         mailbox_size: settings.places,
@@ -159,7 +160,7 @@ where
         peer_provider: Script::new(updates),
         strategy: Sequential,
     };
-    let (engine, mailbox) = Engine::new(rt.clone()?, rt.alloc(), cfg)?;
+    let (engine, mailbox) = Engine::new(own, rt.alloc(), cfg)?;
     Ok(Started { engine, mailbox })
 }
 

@@ -94,10 +94,10 @@ where
     for _ in 0..times {
         handle.stop();
     }
-    let prompt = closes(rt, &mailbox, &mail, talk)?;
+    let prompt = closes(rt, &mailbox, &mail, talk);
     let cause = handle.join(rt).cause();
     let held = waiting.wait(rt).is_err();
-    after(rt, &mailbox, prompt, cause, held)
+    after(rt, &mailbox, prompt?, cause, held)
 }
 
 /// Returns whether a node closes its mailbox before a job gives up. Its network fails then, so that

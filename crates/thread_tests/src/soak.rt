@@ -80,10 +80,20 @@ where
     /// one, and whether the get gave a message.
     fn ask(&self, letter: u8) -> Option<(Subscription<M>, bool)> {
         self.broadcast(letter % 64)?;
-        drop(self.mailbox.subscribe(self.digest(255)?).ok()?);
-        let subscription = self.mailbox.subscribe(self.digest(letter % 192)?).ok()?;
-        let get = self.mailbox.get(self.digest(letter % 128)?).ok()?;
-        Some((subscription, get.wait(&self.rt).is_some()))
+        drop::<_>(self.subscribe(255)?);
+        let got = self.gets(letter % 128)?;
+        Some((self.subscribe(letter % 192)?, got))
+    }
+
+    /// Subscribes to the message of the letter.
+    fn subscribe(&self, letter: u8) -> Option<Subscription<M>> {
+        self.mailbox.subscribe(self.digest(letter)?).ok()
+    }
+
+    /// Gets the message of the letter. Returns whether there is one.
+    fn gets(&self, letter: u8) -> Option<bool> {
+        let get = self.mailbox.get(self.digest(letter)?).ok()?;
+        Some(get.wait(&self.rt).is_some())
     }
 
     /// Broadcasts the message of the letter.
@@ -114,14 +124,29 @@ where
 {
     let mut callers = Vec::new(rt.alloc());
     for _ in 0..CALLERS {
-        let caller = Caller {
-            mailbox: mailbox.clone()?,
-            made: Arc::try_clone(made)?,
-            rt: rt.clone()?,
-        };
-        callers.push(thread::spawn(rt, move || caller.run())?)?;
+        callers.push(start_caller(rt, mailbox, made)?)?;
     }
     Ok(callers)
+}
+
+/// Starts a caller.
+fn start_caller<M, R>(
+    rt: &R,
+    mailbox: &Mailbox<u64, M, R>,
+    made: &Arc<AtomicU64>,
+) -> Result<JoinHandle<Option<Ends>>, Fail>
+where
+    M: Letter,
+    M::Digest: 'static,
+    M::Cfg: 'static,
+    R: Threads + Wait + RandomSource + AllocGlobal + Clone + Send + Sync + Drop + 'static,
+{
+    let caller = Caller {
+        mailbox: mailbox.clone()?,
+        made: Arc::try_clone(made)?,
+        rt: rt.clone()?,
+    };
+    Ok(thread::spawn(rt, move || caller.run())?)
 }
 
 /// Joins the callers. Returns the sums of what happened to their requests.

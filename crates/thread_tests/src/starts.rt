@@ -119,11 +119,25 @@ where
         ends,
     } = prepare::<M, _>(rt)?;
     rt.supply.leave(copies, randoms);
-    let ending = match engine.start(rt, ends) {
-        Ok(handle) => Ok(stop(rt, &mailbox, &mail, handle)?),
+    ended(rt, &mailbox, &mail, engine.start(rt, ends))
+}
+
+/// Stops an engine if it was started. Returns how that ends, and whether its mailbox is closed.
+fn ended<M, R>(
+    rt: &R,
+    mailbox: &Mailbox<u64, M, R>,
+    mail: &Mail,
+    started: Result<Handle<u64, M, R>, StartError>,
+) -> Result<(Ending, bool), Fail>
+where
+    M: Letter,
+    R: Threads + Wait + Clock + AllocGlobal + Clone + Send + Drop + 'static,
+{
+    let ending = match started {
+        Ok(handle) => Ok(stop(rt, mailbox, mail, handle)?),
         Err(error) => Err(error),
     };
-    Ok((ending, broadcast::<M, _>(rt, &mailbox)? == Feedback::Closed))
+    Ok((ending, broadcast(rt, mailbox)? == Feedback::Closed))
 }
 
 /// Starts an engine for each row.

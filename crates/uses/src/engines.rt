@@ -49,11 +49,14 @@ where
 
     /// Adds the node of the key.
     fn add(&mut self, rt: &R, key: u64, codec_config: M::Cfg) -> Result<(), Error> {
+        // With room for both, nothing can fail while the engine is at hand.
+        self.nodes.reserve(1)?;
+        self.mailboxes.reserve(1)?;
         let cfg = config(rt.alloc(), key, codec_config)?;
         let task = Solo::new(rt, Doorbell::spinning())?;
         let (engine, mailbox) = Engine::new(rt.clone()?, rt.alloc(), cfg)?;
-        self.nodes.push(Node { engine, task })?;
-        self.mailboxes.push(mailbox)?;
+        self.nodes.push_reserved(Node { engine, task });
+        self.mailboxes.push_reserved(mailbox);
         Ok(())
     }
 

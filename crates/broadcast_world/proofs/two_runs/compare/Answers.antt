@@ -6,64 +6,64 @@ use Rattle.broadcast_world.proofs.two_runs.compare.Goals as goal
 
 pub returns-clause-with_run : goal.returns-clause-with_run
 returns-clause-with_run g c =
-    IsRun-from g.P.Ord.cmp c.args.steps.now c.in_ok-with_log.with_log.answers _ _ (c.in_ok-with_log.ensures.ok [] c.in_ok-with_world.ensures.empty)
+    IsRun-from g.P.Ord.cmp c.args.steps.now c.in_ok-both.both.with_log.answers _ _ (c.in_ok-both.ensures.with_run [] c.in_ok-with_world.ensures.empty)
 
 pub returns-clause-without_run : goal.returns-clause-without_run
 returns-clause-without_run g c =
-    IsRun-from g.P.Ord.cmp (without_hostile c.args.steps.now) c.in_ok-without_log.without_log.answers _ _ (c.in_ok-without_log.ensures.ok [] c.in_ok-without_world.ensures.empty)
+    IsRun-from g.P.Ord.cmp (without_hostile c.args.steps.now) c.in_ok-both.both.without_log.answers _ _ (c.in_ok-both.ensures.without_run [] c.in_ok-without_world.ensures.empty)
 
 pub returns-clause-honest_lists : goal.returns-clause-honest_lists
 returns-clause-honest_lists g c =
     (Laws-from g.P.Ord.cmp (g.met.P.Ord g.world.𝓛 g.world.𝓜 g.world.𝓡 (λ s x. x, λ x. x, λ x. x, λ x. x)).total
-    c.args.steps.now (without_hostile c.args.steps.now) c.in_ok-with_log.with_log.answers c.in_ok-without_log.without_log.answers _ _ _ _
-    (c.in_ok-with_log.ensures.ok [] c.in_ok-with_world.ensures.empty) (c.in_ok-without_log.ensures.ok [] c.in_ok-without_world.ensures.empty)
+    c.args.steps.now (without_hostile c.args.steps.now) c.in_ok-both.both.with_log.answers c.in_ok-both.both.without_log.answers _ _ _ _
+    (c.in_ok-both.ensures.with_run [] c.in_ok-with_world.ensures.empty) (c.in_ok-both.ensures.without_run [] c.in_ok-without_world.ensures.empty)
     c.in_ok-without_world.ensures.scene c.in_ok-with_world.ensures.apart).honest_lists
 
 pub returns-clause-clean_digests : goal.returns-clause-clean_digests
 returns-clause-clean_digests g c =
     (Laws-from g.P.Ord.cmp (g.met.P.Ord g.world.𝓛 g.world.𝓜 g.world.𝓡 (λ s x. x, λ x. x, λ x. x, λ x. x)).total
-    c.args.steps.now (without_hostile c.args.steps.now) c.in_ok-with_log.with_log.answers c.in_ok-without_log.without_log.answers _ _ _ _
-    (c.in_ok-with_log.ensures.ok [] c.in_ok-with_world.ensures.empty) (c.in_ok-without_log.ensures.ok [] c.in_ok-without_world.ensures.empty)
+    c.args.steps.now (without_hostile c.args.steps.now) c.in_ok-both.both.with_log.answers c.in_ok-both.both.without_log.answers _ _ _ _
+    (c.in_ok-both.ensures.with_run [] c.in_ok-with_world.ensures.empty) (c.in_ok-both.ensures.without_run [] c.in_ok-without_world.ensures.empty)
     c.in_ok-without_world.ensures.scene c.in_ok-with_world.ensures.apart).clean_digests
 
 pub returns-clause-few_more_digests : goal.returns-clause-few_more_digests
 returns-clause-few_more_digests g c =
     (Laws-from g.P.Ord.cmp (g.met.P.Ord g.world.𝓛 g.world.𝓜 g.world.𝓡 (λ s x. x, λ x. x, λ x. x, λ x. x)).total
-    c.args.steps.now (without_hostile c.args.steps.now) c.in_ok-with_log.with_log.answers c.in_ok-without_log.without_log.answers _ _ _ _
-    (c.in_ok-with_log.ensures.ok [] c.in_ok-with_world.ensures.empty) (c.in_ok-without_log.ensures.ok [] c.in_ok-without_world.ensures.empty)
+    c.args.steps.now (without_hostile c.args.steps.now) c.in_ok-both.both.with_log.answers c.in_ok-both.both.without_log.answers _ _ _ _
+    (c.in_ok-both.ensures.with_run [] c.in_ok-with_world.ensures.empty) (c.in_ok-both.ensures.without_run [] c.in_ok-without_world.ensures.empty)
     c.in_ok-without_world.ensures.scene c.in_ok-with_world.ensures.apart).few_more_digests
 
 pub returns-clause-clean_caches : goal.returns-clause-clean_caches
 returns-clause-clean_caches g c =
     (Laws-from g.P.Ord.cmp (g.met.P.Ord g.world.𝓛 g.world.𝓜 g.world.𝓡 (λ s x. x, λ x. x, λ x. x, λ x. x)).total
-    c.args.steps.now (without_hostile c.args.steps.now) c.in_ok-with_log.with_log.answers c.in_ok-without_log.without_log.answers _ _ _ _
-    (c.in_ok-with_log.ensures.ok [] c.in_ok-with_world.ensures.empty) (c.in_ok-without_log.ensures.ok [] c.in_ok-without_world.ensures.empty)
+    c.args.steps.now (without_hostile c.args.steps.now) c.in_ok-both.both.with_log.answers c.in_ok-both.both.without_log.answers _ _ _ _
+    (c.in_ok-both.ensures.with_run [] c.in_ok-with_world.ensures.empty) (c.in_ok-both.ensures.without_run [] c.in_ok-without_world.ensures.empty)
     c.in_ok-without_world.ensures.scene c.in_ok-with_world.ensures.apart).clean_caches
 
 pub returns-clause-clean_gets : goal.returns-clause-clean_gets
 returns-clause-clean_gets g c =
     (Laws-from g.P.Ord.cmp (g.met.P.Ord g.world.𝓛 g.world.𝓜 g.world.𝓡 (λ s x. x, λ x. x, λ x. x, λ x. x)).total
-    c.args.steps.now (without_hostile c.args.steps.now) c.in_ok-with_log.with_log.answers c.in_ok-without_log.without_log.answers _ _ _ _
-    (c.in_ok-with_log.ensures.ok [] c.in_ok-with_world.ensures.empty) (c.in_ok-without_log.ensures.ok [] c.in_ok-without_world.ensures.empty)
+    c.args.steps.now (without_hostile c.args.steps.now) c.in_ok-both.both.with_log.answers c.in_ok-both.both.without_log.answers _ _ _ _
+    (c.in_ok-both.ensures.with_run [] c.in_ok-with_world.ensures.empty) (c.in_ok-both.ensures.without_run [] c.in_ok-without_world.ensures.empty)
     c.in_ok-without_world.ensures.scene c.in_ok-with_world.ensures.apart).clean_gets
 
 pub returns-clause-answers_kept : goal.returns-clause-answers_kept
 returns-clause-answers_kept g c =
     (Laws-from g.P.Ord.cmp (g.met.P.Ord g.world.𝓛 g.world.𝓜 g.world.𝓡 (λ s x. x, λ x. x, λ x. x, λ x. x)).total
-    c.args.steps.now (without_hostile c.args.steps.now) c.in_ok-with_log.with_log.answers c.in_ok-without_log.without_log.answers _ _ _ _
-    (c.in_ok-with_log.ensures.ok [] c.in_ok-with_world.ensures.empty) (c.in_ok-without_log.ensures.ok [] c.in_ok-without_world.ensures.empty)
+    c.args.steps.now (without_hostile c.args.steps.now) c.in_ok-both.both.with_log.answers c.in_ok-both.both.without_log.answers _ _ _ _
+    (c.in_ok-both.ensures.with_run [] c.in_ok-with_world.ensures.empty) (c.in_ok-both.ensures.without_run [] c.in_ok-without_world.ensures.empty)
     c.in_ok-without_world.ensures.scene c.in_ok-with_world.ensures.apart).answers_kept
 
 pub returns-clause-waits_in_both : goal.returns-clause-waits_in_both
 returns-clause-waits_in_both g c =
     (Laws-from g.P.Ord.cmp (g.met.P.Ord g.world.𝓛 g.world.𝓜 g.world.𝓡 (λ s x. x, λ x. x, λ x. x, λ x. x)).total
-    c.args.steps.now (without_hostile c.args.steps.now) c.in_ok-with_log.with_log.answers c.in_ok-without_log.without_log.answers _ _ _ _
-    (c.in_ok-with_log.ensures.ok [] c.in_ok-with_world.ensures.empty) (c.in_ok-without_log.ensures.ok [] c.in_ok-without_world.ensures.empty)
+    c.args.steps.now (without_hostile c.args.steps.now) c.in_ok-both.both.with_log.answers c.in_ok-both.both.without_log.answers _ _ _ _
+    (c.in_ok-both.ensures.with_run [] c.in_ok-with_world.ensures.empty) (c.in_ok-both.ensures.without_run [] c.in_ok-without_world.ensures.empty)
     c.in_ok-without_world.ensures.scene c.in_ok-with_world.ensures.apart).waits_in_both
 
 pub returns-clause-added_answers : goal.returns-clause-added_answers
 returns-clause-added_answers g c =
     (Laws-from g.P.Ord.cmp (g.met.P.Ord g.world.𝓛 g.world.𝓜 g.world.𝓡 (λ s x. x, λ x. x, λ x. x, λ x. x)).total
-    c.args.steps.now (without_hostile c.args.steps.now) c.in_ok-with_log.with_log.answers c.in_ok-without_log.without_log.answers _ _ _ _
-    (c.in_ok-with_log.ensures.ok [] c.in_ok-with_world.ensures.empty) (c.in_ok-without_log.ensures.ok [] c.in_ok-without_world.ensures.empty)
+    c.args.steps.now (without_hostile c.args.steps.now) c.in_ok-both.both.with_log.answers c.in_ok-both.both.without_log.answers _ _ _ _
+    (c.in_ok-both.ensures.with_run [] c.in_ok-with_world.ensures.empty) (c.in_ok-both.ensures.without_run [] c.in_ok-without_world.ensures.empty)
     c.in_ok-without_world.ensures.scene c.in_ok-with_world.ensures.apart).added_answers
