@@ -1,7 +1,9 @@
 use Rattle.std.proofs.Common.{[]}
 use Rattle.broadcast_world.specs.TwoRuns.{without_hostile}
 use Rattle.broadcast_world.proofs.Honest.{IsRun-from}
-use Rattle.broadcast_world.proofs.Requests.{Laws-from}
+use Rattle.broadcast_world.specs.World.{log_of}
+use Rattle.broadcast_world.proofs.Requests.{Laws, Laws-from}
+use Rattle.broadcast_world.proofs.two_runs.compare.Given as given
 use Rattle.broadcast_world.proofs.two_runs.compare.Goals as goal
 
 pub returns-clause-with_run : goal.returns-clause-with_run
@@ -12,58 +14,35 @@ pub returns-clause-without_run : goal.returns-clause-without_run
 returns-clause-without_run g c =
     IsRun-from g.P.Ord.cmp (without_hostile c.args.steps.now) c.in_ok-both.both.without_log.answers _ _ (c.in_ok-both.ensures.without_run [] c.in_ok-without_world.ensures.empty)
 
-pub returns-clause-honest_lists : goal.returns-clause-honest_lists
-returns-clause-honest_lists g c =
-    (Laws-from g.P.Ord.cmp (g.met.P.Ord g.world.𝓛 g.world.𝓜 g.world.𝓡 (λ s x. x, λ x. x, λ x. x, λ x. x)).total
+-- both runs compared
+laws : (g : given.Over) (c : goal.In_ok-both g)
+    → Laws g.P.Ord.cmp c.in_ok-both.both.with_world.scene (log_of c.args.steps.now c.in_ok-both.both.with_log.answers) (log_of (without_hostile c.args.steps.now) c.in_ok-both.both.without_log.answers)
+laws g c =
+    Laws-from g.P.Ord.cmp (g.met.P.Ord g.world.𝓛 g.world.𝓜 g.world.𝓡 (λ s x. x, λ x. x, λ x. x, λ x. x)).total
     c.args.steps.now (without_hostile c.args.steps.now) c.in_ok-both.both.with_log.answers c.in_ok-both.both.without_log.answers _ _ _ _
     (c.in_ok-both.ensures.with_run [] c.in_ok-with_world.ensures.empty) (c.in_ok-both.ensures.without_run [] c.in_ok-without_world.ensures.empty)
-    c.in_ok-without_world.ensures.scene c.in_ok-with_world.ensures.apart).honest_lists
+    c.in_ok-without_world.ensures.scene c.in_ok-with_world.ensures.apart
+
+pub returns-clause-honest_lists : goal.returns-clause-honest_lists
+returns-clause-honest_lists g c = (laws g c).honest_lists
 
 pub returns-clause-clean_digests : goal.returns-clause-clean_digests
-returns-clause-clean_digests g c =
-    (Laws-from g.P.Ord.cmp (g.met.P.Ord g.world.𝓛 g.world.𝓜 g.world.𝓡 (λ s x. x, λ x. x, λ x. x, λ x. x)).total
-    c.args.steps.now (without_hostile c.args.steps.now) c.in_ok-both.both.with_log.answers c.in_ok-both.both.without_log.answers _ _ _ _
-    (c.in_ok-both.ensures.with_run [] c.in_ok-with_world.ensures.empty) (c.in_ok-both.ensures.without_run [] c.in_ok-without_world.ensures.empty)
-    c.in_ok-without_world.ensures.scene c.in_ok-with_world.ensures.apart).clean_digests
+returns-clause-clean_digests g c = (laws g c).clean_digests
 
 pub returns-clause-few_more_digests : goal.returns-clause-few_more_digests
-returns-clause-few_more_digests g c =
-    (Laws-from g.P.Ord.cmp (g.met.P.Ord g.world.𝓛 g.world.𝓜 g.world.𝓡 (λ s x. x, λ x. x, λ x. x, λ x. x)).total
-    c.args.steps.now (without_hostile c.args.steps.now) c.in_ok-both.both.with_log.answers c.in_ok-both.both.without_log.answers _ _ _ _
-    (c.in_ok-both.ensures.with_run [] c.in_ok-with_world.ensures.empty) (c.in_ok-both.ensures.without_run [] c.in_ok-without_world.ensures.empty)
-    c.in_ok-without_world.ensures.scene c.in_ok-with_world.ensures.apart).few_more_digests
+returns-clause-few_more_digests g c = (laws g c).few_more_digests
 
 pub returns-clause-clean_caches : goal.returns-clause-clean_caches
-returns-clause-clean_caches g c =
-    (Laws-from g.P.Ord.cmp (g.met.P.Ord g.world.𝓛 g.world.𝓜 g.world.𝓡 (λ s x. x, λ x. x, λ x. x, λ x. x)).total
-    c.args.steps.now (without_hostile c.args.steps.now) c.in_ok-both.both.with_log.answers c.in_ok-both.both.without_log.answers _ _ _ _
-    (c.in_ok-both.ensures.with_run [] c.in_ok-with_world.ensures.empty) (c.in_ok-both.ensures.without_run [] c.in_ok-without_world.ensures.empty)
-    c.in_ok-without_world.ensures.scene c.in_ok-with_world.ensures.apart).clean_caches
+returns-clause-clean_caches g c = (laws g c).clean_caches
 
 pub returns-clause-clean_gets : goal.returns-clause-clean_gets
-returns-clause-clean_gets g c =
-    (Laws-from g.P.Ord.cmp (g.met.P.Ord g.world.𝓛 g.world.𝓜 g.world.𝓡 (λ s x. x, λ x. x, λ x. x, λ x. x)).total
-    c.args.steps.now (without_hostile c.args.steps.now) c.in_ok-both.both.with_log.answers c.in_ok-both.both.without_log.answers _ _ _ _
-    (c.in_ok-both.ensures.with_run [] c.in_ok-with_world.ensures.empty) (c.in_ok-both.ensures.without_run [] c.in_ok-without_world.ensures.empty)
-    c.in_ok-without_world.ensures.scene c.in_ok-with_world.ensures.apart).clean_gets
+returns-clause-clean_gets g c = (laws g c).clean_gets
 
 pub returns-clause-answers_kept : goal.returns-clause-answers_kept
-returns-clause-answers_kept g c =
-    (Laws-from g.P.Ord.cmp (g.met.P.Ord g.world.𝓛 g.world.𝓜 g.world.𝓡 (λ s x. x, λ x. x, λ x. x, λ x. x)).total
-    c.args.steps.now (without_hostile c.args.steps.now) c.in_ok-both.both.with_log.answers c.in_ok-both.both.without_log.answers _ _ _ _
-    (c.in_ok-both.ensures.with_run [] c.in_ok-with_world.ensures.empty) (c.in_ok-both.ensures.without_run [] c.in_ok-without_world.ensures.empty)
-    c.in_ok-without_world.ensures.scene c.in_ok-with_world.ensures.apart).answers_kept
+returns-clause-answers_kept g c = (laws g c).answers_kept
 
 pub returns-clause-waits_in_both : goal.returns-clause-waits_in_both
-returns-clause-waits_in_both g c =
-    (Laws-from g.P.Ord.cmp (g.met.P.Ord g.world.𝓛 g.world.𝓜 g.world.𝓡 (λ s x. x, λ x. x, λ x. x, λ x. x)).total
-    c.args.steps.now (without_hostile c.args.steps.now) c.in_ok-both.both.with_log.answers c.in_ok-both.both.without_log.answers _ _ _ _
-    (c.in_ok-both.ensures.with_run [] c.in_ok-with_world.ensures.empty) (c.in_ok-both.ensures.without_run [] c.in_ok-without_world.ensures.empty)
-    c.in_ok-without_world.ensures.scene c.in_ok-with_world.ensures.apart).waits_in_both
+returns-clause-waits_in_both g c = (laws g c).waits_in_both
 
 pub returns-clause-added_answers : goal.returns-clause-added_answers
-returns-clause-added_answers g c =
-    (Laws-from g.P.Ord.cmp (g.met.P.Ord g.world.𝓛 g.world.𝓜 g.world.𝓡 (λ s x. x, λ x. x, λ x. x, λ x. x)).total
-    c.args.steps.now (without_hostile c.args.steps.now) c.in_ok-both.both.with_log.answers c.in_ok-both.both.without_log.answers _ _ _ _
-    (c.in_ok-both.ensures.with_run [] c.in_ok-with_world.ensures.empty) (c.in_ok-both.ensures.without_run [] c.in_ok-without_world.ensures.empty)
-    c.in_ok-without_world.ensures.scene c.in_ok-with_world.ensures.apart).added_answers
+returns-clause-added_answers g c = (laws g c).added_answers
