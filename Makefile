@@ -1,10 +1,10 @@
 # `make example` runs the program on an example; `make test` is the merge gate.
-# `make rows`, `make growths`, `make devices` and `make bench` want the programs built, as `make test`
-# leaves them.
+# `make rows`, `make models`, `make growths`, `make devices` and `make bench` want the programs built,
+# as `make test` leaves them.
 EVENTS ?= examples/two-peers.events
 REPLAY := crates/replay/out/replay
 
-.PHONY: example test rows growths devices bench
+.PHONY: example test rows models growths devices bench
 
 # `rt run` proves and builds the program, and prints how; the example is then run by itself.
 example:
@@ -18,6 +18,10 @@ test:
 rows:
 	@echo "rows: running each program over its rows, as both compilers built it"
 	@scripts/rows
+
+models:
+	@echo "models: running programs over long generated inputs, and comparing them with models"
+	@scripts/models
 
 growths:
 	@echo "growths: refusing each growth of a program's heap in turn"

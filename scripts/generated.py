@@ -47,10 +47,14 @@ def content(rng):
     return rng.choice(CONTENTS)
 
 
+def encoded(*words):
+    """The encoding of a commitment and a content."""
+    return model.Message(*(model.byte_list(word.encode()) for word in words)).encoding()
+
+
 def payload(rng):
     """An encoding, of which the last bytes may be missing, or a byte may follow."""
-    words = (rng.choice(COMMITMENTS), content(rng))
-    whole = model.Message(*(model.byte_list(word.encode()) for word in words)).encoding()
+    whole = encoded(rng.choice(COMMITMENTS), content(rng))
     return model.spelled(rng.choice((whole, whole, whole, whole[:-1], whole + b"a")))
 
 

@@ -17,6 +17,15 @@ class Outcome:
     status: int
 
 
+def runs(model, settings, given):
+    """The lines before each part, and its run with ample memory."""
+    for heading, part in model.parts(given):
+        run = model.Run(*settings)
+        for it in part:
+            run.step(it)
+        yield heading, run
+
+
 def outcome(model, args, stdin):
     """The outcome of a run with ample memory."""
     try:
@@ -24,10 +33,7 @@ def outcome(model, args, stdin):
     except Fault as fault:
         return Outcome(b"", f"{fault}\n".encode(), 2)
     lines = []
-    for heading, part in model.parts(given):
-        run = model.Run(*settings)
-        for it in part:
-            run.step(it)
+    for heading, run in runs(model, settings, given):
         lines += [*heading, *run.output()]
     return Outcome("".join(f"{line}\n" for line in lines).encode(), b"", 0)
 

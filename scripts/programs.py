@@ -4,7 +4,7 @@ import os
 import resource
 import subprocess
 import sys
-from dataclasses import dataclass
+from dataclasses import dataclass, field
 from pathlib import Path
 
 TOP = Path(__file__).resolve().parent.parent
@@ -30,9 +30,9 @@ class Row:
     stderr: bytes
     status: int
     # Files that stand for some of the streams.
-    devices: dict
+    devices: dict = field(default_factory=dict)
     # The bytes of stack that a thread wants, or `None` for as many as else.
-    stack: int | None
+    stack: int | None = None
 
     @staticmethod
     def read(folder):
@@ -148,3 +148,26 @@ def run_row(executable, row):
         for file in opened.values():
             os.close(file)
     return stdout or b"", stderr or b"", child.returncode
+
+
+def first_difference(expected, got):
+    end = [b"(the end)"]
+    expected = expected.splitlines(keepends=True) + end
+    got = got.splitlines(keepends=True) + end
+    at = next(i for i, pair in enumerate(zip(expected, got)) if pair[0] != pair[1])
+    return f"line {at + 1} is {got[at][:80]!r}, not {expected[at][:80]!r}"
+
+
+def differences(executable, row):
+    """What differs from what is expected."""
+    try:
+        stdout, stderr, status = run_row(executable, row)
+    except (OSError, subprocess.TimeoutExpired) as fault:
+        return [f"it could not be run: {fault}"]
+    found = []
+    if status != row.status:
+        found.append(f"the status is {status}, not {row.status}")
+    for stream, expected, got in (("output", row.stdout, stdout), ("error", row.stderr, stderr)):
+        if got != expected:
+            found.append(f"standard {stream}: {first_difference(expected, got)}")
+    return found

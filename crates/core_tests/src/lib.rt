@@ -11,11 +11,9 @@ mod key;
 #[cfg(test)]
 mod lists;
 #[cfg(test)]
-mod plain;
-#[cfg(test)]
-mod reference;
-#[cfg(test)]
 mod refused;
+#[cfg(test)]
+mod unencodable;
 #[cfg(test)]
 mod waiters;
 pub mod worked_examples;
