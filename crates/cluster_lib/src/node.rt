@@ -82,7 +82,10 @@ where
     R: Wait + AllocGlobal + Clone + Drop,
 {
     let network = network(rt, mail, others)?;
-    Ok((engine(rt, codec_config, strategy, mail, deque_size)?, network))
+    Ok((
+        engine(rt, codec_config, strategy, mail, deque_size)?,
+        network,
+    ))
 }
 
 // Returns the error of a node for which there is no memory.

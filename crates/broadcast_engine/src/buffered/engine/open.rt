@@ -21,9 +21,7 @@ use crate::buffered::engine::node::Node;
 use crate::buffered::strategy::Strategy;
 use broadcast_core::{Codec, Digestible, PublicKey};
 use commonware_broadcast::buffered::{Message, Reply, Responder};
-use engine_io::{
-    EndCause, First, Outlet, Provider, Receiver, Requests, Sender, Turn, comes_first,
-};
+use engine_io::{EndCause, First, Outlet, Provider, Receiver, Requests, Sender, Turn, comes_first};
 use futures::task::{Context, Poll};
 use std::alloc::Global;
 
