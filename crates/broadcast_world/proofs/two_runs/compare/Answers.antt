@@ -1,10 +1,36 @@
-use Rattle.std.proofs.Common.{[]}
+use Rattle.std.proofs.Common.{◌≡◌, [], sym, ap, ◌∙◌}
+use Rattle.std.specs.List.{list_any}
+use Rattle.std.specs.Ordering.{eq_by_cmp}
 use Rattle.broadcast_world.specs.TwoRuns.{without_hostile}
 use Rattle.broadcast_world.proofs.Honest.{IsRun-from}
 use Rattle.broadcast_world.specs.World.{log_of}
 use Rattle.broadcast_world.proofs.Requests.{Laws, Laws-from}
 use Rattle.broadcast_world.proofs.two_runs.compare.Given as given
 use Rattle.broadcast_world.proofs.two_runs.compare.Goals as goal
+
+-- the keys, the size of lists and the range are those that were given
+with_scene : (g : given.Over) (c : goal.In_ok-both g) → c.in_ok-both.both.with_world.scene ≡ c.in_ok-with_world.with_world.scene
+with_scene g c = (c.in_ok-both.ensures.with_run [] c.in_ok-with_world.ensures.empty).scene
+
+pub returns-clause-nodes : goal.returns-clause-nodes
+returns-clause-nodes g c = λ q. ap (λ w. list_any (eq_by_cmp g.P.Ord.cmp q) w.nodes) (with_scene g c) ∙ c.in_ok-with_world.ensures.nodes q
+
+pub returns-clause-hostile : goal.returns-clause-hostile
+returns-clause-hostile g c = λ q. ap (λ w. list_any (eq_by_cmp g.P.Ord.cmp q) w.hostile) (with_scene g c) ∙ c.in_ok-with_world.ensures.hostile q
+
+pub returns-clause-apart : goal.returns-clause-apart
+returns-clause-apart g c = λ q here. ap (λ w. list_any (eq_by_cmp g.P.Ord.cmp q) w.hostile) (with_scene g c)
+    ∙ c.in_ok-with_world.ensures.apart q (sym (ap (λ w. list_any (eq_by_cmp g.P.Ord.cmp q) w.nodes) (with_scene g c)) ∙ here)
+
+pub returns-clause-deque_size : goal.returns-clause-deque_size
+returns-clause-deque_size g c = ap (λ w. w.deque_size) (with_scene g c) ∙ c.in_ok-with_world.ensures.deque_size
+
+pub returns-clause-range : goal.returns-clause-range
+returns-clause-range g c = ap (λ w. w.range) (with_scene g c) ∙ c.in_ok-with_world.ensures.range
+
+pub returns-clause-same_scene : goal.returns-clause-same_scene
+returns-clause-same_scene g c =
+    (c.in_ok-both.ensures.without_run [] c.in_ok-without_world.ensures.empty).scene ∙ c.in_ok-without_world.ensures.scene ∙ sym (with_scene g c)
 
 pub returns-clause-with_run : goal.returns-clause-with_run
 returns-clause-with_run g c =

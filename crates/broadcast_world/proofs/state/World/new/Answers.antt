@@ -16,3 +16,15 @@ returns-clause-apart g c = λ q here.
     ap (λ w. list_any (same q) w.hostile) scene ∙ c.in_ok-hostile.ensures q
     ∙ keys-apart same (eq_by_cmp_equiv total) q c.args.nodes.items c.args.hostile.items (sym (c.in_ok-nodes.ensures q) ∙ sym (ap (λ w. list_any (same q) w.nodes) scene) ∙ here)
     (or_false _ _ (ap (λ ns. shares_key g.P.Ord.cmp ns c.args.hostile.items) (sym c.deref.ensures.value) ∙ ap (λ hs. shares_key g.P.Ord.cmp c.deref.result.now hs) (sym c.deref-2.ensures.value) ∙ none)).1
+
+pub returns-clause-nodes : goal.returns-clause-nodes
+returns-clause-nodes g c = λ q. ap (λ w. list_any (eq_by_cmp g.P.Ord.cmp q) w.nodes) c.in_ok-over.ensures.scene ∙ c.in_ok-nodes.ensures q
+
+pub returns-clause-hostile : goal.returns-clause-hostile
+returns-clause-hostile g c = λ q. ap (λ w. list_any (eq_by_cmp g.P.Ord.cmp q) w.hostile) c.in_ok-over.ensures.scene ∙ c.in_ok-hostile.ensures q
+
+pub returns-clause-deque_size : goal.returns-clause-deque_size
+returns-clause-deque_size g c = ap (λ w. w.deque_size) c.in_ok-over.ensures.scene
+
+pub returns-clause-range : goal.returns-clause-range
+returns-clause-range g c = ap (λ w. w.range) c.in_ok-over.ensures.scene
