@@ -14,6 +14,20 @@ use broadcast_text::recipients::parse_recipients;
 use broadcast_text::words::{Words, expect_number, parse_numbers};
 use std::alloc::Global;
 
+// The first words of the lines.
+
+const PEERS: &[u8] = b"peers";
+
+const BROADCAST: &[u8] = b"broadcast";
+
+const PAYLOAD: &[u8] = b"payload";
+
+const SUBSCRIBE: &[u8] = b"subscribe";
+
+const GET: &[u8] = b"get";
+
+const CLEANUP: &[u8] = b"cleanup";
+
 /// The kind of a line, by its first word.
 #[derive(Clone, Copy, Debug, PartialEq, Eq)]
 pub enum Kind {
@@ -55,15 +69,25 @@ fn parse_kind(word: &[u8]) -> Result<Kind, LineError>
         (said : Line) → word.now ≢ kind_word (kind_of said)) }
     ensures fails_for_syntax { IfErr result (λ e. e ≡ Syntax) }
 {
-    Ok(match word {
-        b"peers" => Kind::Peers,
-        b"broadcast" => Kind::Broadcast,
-        b"payload" => Kind::Payload,
-        b"subscribe" => Kind::Subscribe,
-        b"get" => Kind::Get,
-        b"cleanup" => Kind::Cleanup,
-        _ => return Err(LineError::Syntax),
-    })
+    if word == PEERS {
+        return Ok(Kind::Peers);
+    }
+    if word == BROADCAST {
+        return Ok(Kind::Broadcast);
+    }
+    if word == PAYLOAD {
+        return Ok(Kind::Payload);
+    }
+    if word == SUBSCRIBE {
+        return Ok(Kind::Subscribe);
+    }
+    if word == GET {
+        return Ok(Kind::Get);
+    }
+    if word == CLEANUP {
+        return Ok(Kind::Cleanup);
+    }
+    Err(LineError::Syntax)
 }
 
 /// Returns the event of a line of this kind by the words after the first.

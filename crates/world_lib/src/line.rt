@@ -17,6 +17,22 @@ use broadcast_text::words::{Words, expect_number, parse_numbers};
 use broadcast_world::Step;
 use std::alloc::Global;
 
+// The first words of the lines.
+
+const PEERS: &[u8] = b"peers";
+
+const BROADCAST: &[u8] = b"broadcast";
+
+const SUBSCRIBE: &[u8] = b"subscribe";
+
+const GET: &[u8] = b"get";
+
+const CLEANUP: &[u8] = b"cleanup";
+
+const DELIVER: &[u8] = b"deliver";
+
+const HOSTILE: &[u8] = b"hostile";
+
 /// The kind of a line, by its first word.
 #[derive(Clone, Copy, Debug, PartialEq, Eq)]
 pub enum Kind {
@@ -60,16 +76,28 @@ fn parse_kind(word: &[u8]) -> Result<Kind, LineError>
         (said : Line) → word.now ≢ kind_word (kind_of said)) }
     ensures fails_for_syntax { IfErr result (λ e. e ≡ Syntax) }
 {
-    Ok(match word {
-        b"peers" => Kind::Peers,
-        b"broadcast" => Kind::Broadcast,
-        b"subscribe" => Kind::Subscribe,
-        b"get" => Kind::Get,
-        b"cleanup" => Kind::Cleanup,
-        b"deliver" => Kind::Deliver,
-        b"hostile" => Kind::Hostile,
-        _ => return Err(LineError::Syntax),
-    })
+    if word == PEERS {
+        return Ok(Kind::Peers);
+    }
+    if word == BROADCAST {
+        return Ok(Kind::Broadcast);
+    }
+    if word == SUBSCRIBE {
+        return Ok(Kind::Subscribe);
+    }
+    if word == GET {
+        return Ok(Kind::Get);
+    }
+    if word == CLEANUP {
+        return Ok(Kind::Cleanup);
+    }
+    if word == DELIVER {
+        return Ok(Kind::Deliver);
+    }
+    if word == HOSTILE {
+        return Ok(Kind::Hostile);
+    }
+    Err(LineError::Syntax)
 }
 
 /// Returns the step of a line of this kind by the words after the first.
