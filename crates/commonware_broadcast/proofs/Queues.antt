@@ -79,6 +79,18 @@ module _ {T : Type 0} where
         | inr kept ↦ IsSound-overflow queue overflow message sound draws no_room kept.1
       ]
 
+  nothing_in : (requests : List (Request T)) → length requests ≡ 0 → requests ≡ []
+  nothing_in [] none = refl
+  nothing_in (request ∷ rest) none = absurd (omega (arith, none))
+
+  -- who waits is nobody where the ready list is empty
+  pub nobody_waits : (queue : QueueState T) → IsSound queue → length queue.ready ≡ 0 → waiting queue ≡ []
+  nobody_waits queue sound none =
+      elim sound.full [
+        | inl empty ↦ rw (nothing_in queue.ready none, empty) refl
+        | inr full ↦ absurd (omega (arith, sound.some_places, none, full))
+      ]
+
   -- who waits is not nobody where the ready list has a front
   filled_not_nil : (queue : QueueState T) (request : Request T) (rest : List (Request T)) → queue.ready ≡ request ∷ rest → waiting queue ≡ [] → ⊥
   filled_not_nil queue request rest is none =

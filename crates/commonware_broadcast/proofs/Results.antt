@@ -12,3 +12,9 @@ pub handled-ok : {T E : Type 0} (answers : T → Bool → Type 0) (old : List T)
     → (answers message true × (new ≡ old)) ⊎ (answers message false × (new ≡ old ++ message ∷ []))
 handled-ok answers old message (Ok done) new fine handles = handles
 handled-ok answers old message (Err e) new fine handles = cc
+
+-- a message whose handling failed answered open, and the others are as they were
+pub handled-err : {T E : Type 0} (answers : T → Bool → Type 0) (old : List T) (message : T) (r : Result Unit E) (new : List T) → true ≡ is_err r → Handles answers old message r new
+    → answers message false × (new ≡ old)
+handled-err answers old message (Ok done) new failed handles = cc
+handled-err answers old message (Err e) new failed handles = handles
