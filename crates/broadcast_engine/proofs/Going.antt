@@ -1,8 +1,8 @@
 -- Polls of an engine.
-use Rattle.std.specs.Prelude.{Err}
+use Rattle.std.specs.Prelude.{Ok, Err}
 use Rattle.std.proofs.Common.{inl, inr, ◌≡◌, ℕ, Bool, List, [], ◌∷◌, ◌++◌, Option, Some, None, Result, refl, sym, ap, ◌∙◌, subst, append-nil}
 use Rattle.futures.specs.declared.task.Poll.{Poll}
-use Rattle.futures.specs.declared.task.Poll.TheVariants.{Ready}
+use Rattle.futures.specs.declared.task.Poll.TheVariants.{Ready, Pending}
 use Rattle.broadcast_core.specs.Setting.{Setting}
 use Rattle.broadcast_core.specs.Happening.{History}
 use Rattle.broadcast_core.specs.HasContent.{HasContent}
@@ -21,6 +21,7 @@ use Rattle.broadcast_engine.specs.Ran.{Steps}
 use Rattle.engine_io.specs.Inputs.{sets_in, requests_in, payloads_in}
 use Rattle.broadcast_engine.specs.Taken.{pending_input, HoldsJob, Holds, TakesNone}
 use Rattle.broadcast_engine.specs.Woken.{Woken}
+use Rattle.broadcast_engine.specs.Fetched.{goes_on}
 use Rattle.broadcast_engine.specs.EngineState.{EngineState, Went, Turned}
 use Rattle.broadcast_engine.specs.Order.{as_turn}
 use Rattle.broadcast_engine.proofs.Runs.{Ran-one}
@@ -31,6 +32,11 @@ use Rattle.broadcast_engine.proofs.Polling.{told-same}
 -- an engine that has not ended holds the message of its job
 pub Holds-open : {P M J : Type 0} (is_of : J → M → Type 0) (end : Option EndCause) (job : Option (P × J)) (message : Option (P × M)) → end ≡ None → Holds is_of end job message → HoldsJob is_of job message
 Holds-open is_of end job message none h = subst (λ e. Holds is_of e job message) none h
+
+-- an engine that goes on has no end
+pub going-on-is-no-end : (turn : Poll Turn) (cause : EndCause) → goes_on turn ≡ Ready (Err cause) → ⊥
+going-on-is-no-end (Ready turn) cause is = let no : Ready (Ok turn) ≡ Ready (Err cause) = is in cc
+going-on-is-no-end Pending cause is = let no : Pending ≡ Ready (Err cause) = is in cc
 
 -- a pending job has a message, and where none is pending there is none
 Holds-none : {P M J : Type 0} (is_of : J → M → Type 0) (job : Option (P × J)) (message : Option (P × M)) → HoldsJob is_of job message → job ≡ None → message ≡ None

@@ -27,6 +27,7 @@ pub fn comes_first<P: Drop, J: Drop, T, Q: Requests<T>>(
     cx: &mut Context<'_>,
 ) -> First<P, J>
     ensures stop_first { Q.stops requests.old → result ≡ Stop }
+    ensures only_if_asked { result ≡ Stop → Q.may_stop requests.old }
     ensures job_alone { Empties result slot.old slot.new }
     ensures tells { (given : List (Request T)) → Q.told requests.old given
         → Q.told requests.new given }

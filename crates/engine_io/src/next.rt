@@ -1,7 +1,8 @@
 //! The next input of the node's own sources.
-ghost use Rattle.std.specs.Prelude.{◌≡◌, List, [], ◌∷◌, ◌++◌, IfOk};
+ghost use Rattle.std.specs.Prelude.{◌≡◌, List, [], ◌∷◌, ◌++◌, Err, IfOk};
 ghost use Rattle.futures.specs.Poll.{IfReady, OnPending};
 ghost use Rattle.futures.specs.Task.{IsArmed, Keeps};
+ghost use Rattle.futures.specs.declared.task.Poll.TheVariants.{Ready};
 ghost use Rattle.commonware_broadcast.specs.declared.buffered.ingress.message.Message.{Message};
 ghost use Rattle.commonware_broadcast.specs.declared.buffered.ingress.request.Request.{Request};
 ghost use Rattle.engine_io.specs.Sources.{given_ok};
@@ -35,6 +36,7 @@ where
         → Q.told requests.old before
         → Q.told requests.new (before ++ requests_in (given_ok result)) }
     ensures no_payload { payloads_in (given_ok result) ≡ [] }
+    ensures never_stops { result ≡ Ready (Err EndCause.Stopped) → ⊥ }
     ensures peers_first { UnlessPeerSet result (B.quiet provider.old) }
     ensures requests_first { OnPending result (Q.quiet requests.old) }
     ensures armed { OnPending result (IsArmed cx.new) }

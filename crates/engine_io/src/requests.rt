@@ -21,9 +21,13 @@ pub trait Requests<T> {
     /// Whether a stop was asked for. A source that does not tell has none here.
     ghost stops: { Self → Type 0 } = { λ _. ⊥ };
 
+    /// Whether a stop may have been asked for. For a source that does not tell, it may.
+    ghost may_stop: { Self → Type 0 } = { λ _. ⊤ };
+
     /// Returns whether the engine is to stop. If not, the task is woken once it is.
     fn stopped(&mut self, cx: &mut Context<'_>) -> bool
         ensures stops { stops self.old → result ≡ true }
+        ensures only_if_asked { result ≡ true → may_stop self.old }
         ensures tells { (requests : List (Request T))
             → told self.old requests → told self.new requests }
         ensures armed { result ≡ false → IsArmed cx.new }

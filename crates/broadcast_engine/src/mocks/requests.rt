@@ -48,6 +48,8 @@ impl<T> Requests<T> for ScriptedRequests<T> {
 
     ghost stops = { λ it. it.stops_after ≡ Some 0 };
 
+    ghost may_stop = { λ it. it.stops_after ≡ Some 0 };
+
     fn stopped(&mut self, cx: &mut Context<'_>) -> bool
         ensures stops { self.old.stops_after ≡ Some 0 → result ≡ true }
         ensures only_if_asked { result ≡ true → self.old.stops_after ≡ Some 0 }

@@ -1,7 +1,8 @@
 //! One look at all sources.
-ghost use Rattle.std.specs.Prelude.{◌≡◌, None, IfOk};
+ghost use Rattle.std.specs.Prelude.{◌≡◌, None, Err, IfOk};
 ghost use Rattle.futures.specs.Poll.{IfReady, OnPending};
 ghost use Rattle.futures.specs.Task.{IsArmed, Keeps};
+ghost use Rattle.futures.specs.declared.task.Poll.TheVariants.{Ready};
 ghost use Rattle.broadcast_core.specs.Codec.{whole};
 ghost use Rattle.broadcast_core.specs.Content.{same_by};
 ghost use Rattle.broadcast_core.specs.Setting.{Setting};
@@ -57,6 +58,7 @@ where
         Q.told past result node.old node.new sender.old sender.new receiver.old receiver.new
         provider.old provider.new requests.old requests.new slot.new }
     ensures tells_no_end { IfReady result (λ r. IfOk r (λ turn. end_told turn ≡ None)) }
+    ensures never_stops { result ≡ Ready (Err EndCause.Stopped) → ⊥ }
     ensures peers_first { UnlessPeers (as_turn result) (B.quiet provider.old) }
     ensures requests_first { IfNetwork (as_turn result) (Q.quiet requests.old) }
     ensures armed { OnPending result (IsArmed cx.new) }

@@ -61,6 +61,7 @@ where
         receiver.old receiver.new provider.old provider.new requests.old requests.new slot.new }
     ensures tells_no_end { IfReady result (λ r. IfOk r (λ turn. end_told turn ≡ None)) }
     ensures stop_first { Q.stops requests.old → result ≡ Ready (Err EndCause.Stopped) }
+    ensures only_if_asked { result ≡ Ready (Err EndCause.Stopped) → Q.may_stop requests.old }
     ensures peers_first { slot.old ≡ None → UnlessPeers (as_turn result) (B.quiet provider.old) }
     ensures requests_first { slot.old ≡ None → IfNetwork (as_turn result) (Q.quiet requests.old) }
     ensures armed { OnPending result (IsArmed cx.new) }

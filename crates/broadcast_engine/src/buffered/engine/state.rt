@@ -194,6 +194,8 @@ impl<P: PublicKey, M: Digestible + Codec, S, O, B, Q, T: Strategy<M>> Engine<P, 
             Q.told past before self.old self.new network.old network.new result }
         ensures stop_first { self.old.end ≡ None → Q.stops self.old.requests
             → result ≡ Ready (turn.Ended EndCause.Stopped) }
+        ensures only_if_asked { self.old.end ≡ None → result ≡ Ready (turn.Ended EndCause.Stopped)
+            → Q.may_stop self.old.requests }
         ensures peers_first { self.old.end ≡ None → self.old.job ≡ None
             → UnlessPeers result (B.quiet self.old.provider) }
         ensures requests_first { self.old.end ≡ None → self.old.job ≡ None

@@ -1,4 +1,4 @@
-use Rattle.std.proofs.Common.{Err, refl, sym, subst}
+use Rattle.std.proofs.Common.{Err, refl, sym, ◌∙◌, subst}
 use Rattle.futures.specs.declared.task.Poll.TheVariants.{Ready}
 use Rattle.engine_io.specs.declared.input.EndCause.TheVariants.{Stopped}
 use Rattle.engine_io.specs.declared.input.Input.TheVariants as input
@@ -6,6 +6,7 @@ use Rattle.engine_io.specs.declared.input.Turn.{Turn}
 use Rattle.broadcast_engine.specs.Ran.{Applied}
 use Rattle.broadcast_engine.specs.Taken.{HoldsJob}
 use Rattle.broadcast_engine.proofs.Composing.{Ran-none}
+use Rattle.broadcast_engine.proofs.Going.{going-on-is-no-end}
 use Rattle.broadcast_engine.proofs.Polling.{IfReady-weaker}
 use Rattle.broadcast_engine.proofs.Waking.{Woken-idle, Woken-job, Woken-looked}
 use Rattle.broadcast_engine.proofs.buffered.engine.open.poll_open.Goals as goal
@@ -35,3 +36,6 @@ returns-in-Sources-clause-woken g c = λ s e encoding priority own reading past 
     (subst (λ x. HoldsJob g.T.Job.Job.is_of x before) c.in-Sources.ensures.job_alone.0 held) c.poll_sources.result
     c.args.node.now c.poll_sources.new.node c.args.sender.now c.poll_sources.new.sender c.poll_sources.new.receiver c.poll_sources.new.provider c.poll_sources.new.requests c.poll_sources.new.slot
     (c.poll_sources.ensures.looked s e encoding priority own reading past has)
+
+pub returns-in-Job-clause-only_if_asked : goal.returns-in-Job-clause-only_if_asked
+returns-in-Job-clause-only_if_asked g c = λ is. absurd (going-on-is-no-end c.poll_job.result Stopped (sym c.going_on.ensures ∙ is))
