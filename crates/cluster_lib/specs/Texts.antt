@@ -2,7 +2,7 @@
 use Rattle.std.specs.Prelude.{ℕ, List, ◌++◌, codes}
 use Rattle.std.specs.Fmt.{decimal}
 use Rattle.cluster_lib.specs.declared.fault.Fault.{Fault}
-use Rattle.cluster_lib.specs.declared.fault.Fault.TheVariants.{Usage, Missed, Thread, Clock, Memory, Write}
+use Rattle.cluster_lib.specs.declared.fault.Fault.TheVariants.{Usage, Missed, Thread, Open, Clock, Memory, Write}
 
 -- what stands on standard error, without the line feed
 abbrev pub fault_text : Fault → List ℕ
@@ -10,6 +10,7 @@ fault_text (Usage line) = line.now
 fault_text (Missed missed all) =
     decimal missed ++ (codes " of " ++ (decimal all ++ codes " subscriptions missed"))
 fault_text Thread = codes "no thread"
+fault_text Open = codes "no thread, and an open mailbox"
 fault_text Clock = codes "clock failed"
 fault_text Write = codes "write failed"
 fault_text Memory = codes "memory"
@@ -20,6 +21,7 @@ abbrev pub fault_status : Fault → ℕ
 fault_status (Missed missed all) = 1
 fault_status (Usage line) = 2
 fault_status Thread = 3
+fault_status Open = 3
 fault_status Clock = 3
 fault_status Write = 3
 fault_status Memory = 3

@@ -1,12 +1,10 @@
 //! The client of a node.
 use crate::fault::Fault;
-use crate::message::Numbered;
+use crate::message::{Numbered, broadcast, digest_of};
 use crate::run::wait_until;
 use crate::settings::Settings;
-use broadcast_core::{Digested, Recipients};
 use broadcast_engine::buffered::{Mailbox, Subscription};
-use commonware_broadcast::Broadcaster;
-use std::alloc::{AllocGlobal, Global};
+use std::alloc::AllocGlobal;
 use std::random::RandomSource;
 use std::sync::atomic::{AtomicU64, Ordering};
 use std::sync::{Arc, Wait};
@@ -47,9 +45,7 @@ where
         let waiting = self.subscribe_all();
         self.subscribed.fetch_add(1, Ordering::SeqCst);
         wait_until(&self.rt, &self.subscribed, self.settings.nodes);
-        let waiting = waiting?;
-        self.broadcast_own()?;
-        let served = wait_all(&self.rt, waiting);
+        let served = self.exchange(waiting?)?;
         let evicted = self.count_missing()?;
         Ok(Seen { served, evicted })
     }
@@ -66,19 +62,29 @@ where
     /// Subscribes to the messages of the node.
     fn subscribe_to(&self, node: u64, waiting: &mut Vec<Subscription<M>>) -> Result<(), Fault> {
         for number in 1..=self.settings.messages {
-            let digest = M::numbered(self.rt.alloc(), node, number)?.digest();
-            waiting.push(self.mailbox.subscribe(digest)?)?;
+            waiting.reserve(1)?;
+            let digest = digest_of::<M>(self.rt.alloc(), node, number)?;
+            waiting.push_reserved(self.mailbox.subscribe(digest)?);
         }
         Ok(())
     }
 
+    /// Broadcasts the messages of its own node, and waits for the subscriptions. Returns how many
+    /// were served.
+    fn exchange(&self, waiting: Vec<Subscription<M>>) -> Result<u64, Fault> {
+        match self.broadcast_own() {
+            Ok(()) => Ok(wait_all(&self.rt, waiting)),
+            Err(fault) => {
+                drop::<_>(waiting);
+                Err(fault)
+            }
+        }
+    }
+
     /// Broadcasts the messages of its own node.
     fn broadcast_own(&self) -> Result<(), Fault> {
-        let alloc = self.rt.alloc();
         for number in 1..=self.settings.messages {
-            let message = M::numbered(alloc, self.key, number)?;
-            let message = Digested::compute(alloc, message)?;
-            let _feedback = self.mailbox.broadcast(Recipients::All, message)?;
+            let _feedback = broadcast(&self.rt, &self.mailbox, self.key, number)?;
         }
         Ok(())
     }
@@ -96,12 +102,17 @@ where
     fn count_missing_of(&self, other: u64) -> Result<u64, Fault> {
         let mut missing = 0u64;
         for number in 1..=self.settings.messages {
-            let digest = M::numbered(self.rt.alloc(), other, number)?.digest();
-            if self.mailbox.get(digest)?.wait(&self.rt).is_none() {
+            if !self.has(other, number)? {
                 missing = missing.saturating_add(1);
             }
         }
         Ok(missing)
+    }
+
+    /// Returns whether its node has the message of the other node with this number.
+    fn has(&self, other: u64, number: u64) -> Result<bool, Fault> {
+        let digest = digest_of::<M>(self.rt.alloc(), other, number)?;
+        Ok(self.mailbox.get(digest)?.wait(&self.rt).is_some())
     }
 }
 

@@ -18,6 +18,8 @@ pub enum Fault {
     Missed(u64, u64),
     /// No thread could be started.
     Thread,
+    /// No thread could be started, and the mailbox of the node is open all the same.
+    Open,
     /// The clock failed.
     Clock,
     /// Standard output failed.
@@ -70,6 +72,7 @@ impl Display for Fault {
             Fault::Usage(line) => f.write_str(line),
             Fault::Missed(missed, all) => write!(f, "{missed} of {all} subscriptions missed"),
             Fault::Thread => f.write_str("no thread"),
+            Fault::Open => f.write_str("no thread, and an open mailbox"),
             Fault::Clock => f.write_str("clock failed"),
             Fault::Write => f.write_str("write failed"),
             Fault::Memory => f.write_str("memory"),
@@ -88,7 +91,7 @@ impl Fault {
         match self {
             Fault::Missed(..) => 1,
             Fault::Usage(_) => 2,
-            Fault::Thread | Fault::Clock | Fault::Write | Fault::Memory => 3,
+            Fault::Thread | Fault::Open | Fault::Clock | Fault::Write | Fault::Memory => 3,
         }
     }
 

@@ -32,69 +32,77 @@ impl<M: Digestible, R: Threads + Wait + Drop> Node<M, R> {
     }
 }
 
-/// Starts the node of this mail, which sends to the others.
-pub fn started<M, T, R>(
-    rt: &R,
-    codec_config: M::Cfg,
-    strategy: T,
-    mail: &Arc<Mail>,
-    others: Vec<Arc<Mail>>,
-    deque_size: usize,
-) -> Result<Node<M, R>, StartError>
-where
-    M: Digestible + Codec + Send + Sync + 'static,
-    M::Digest: 'static,
-    M::Cfg: Send + Drop + 'static,
-    T: Strategy<M> + Send + Drop + 'static,
-    T::Job: Send + 'static,
-    R: Threads + Wait + RandomSource + AllocGlobal + Clone + Send + Sync + Drop + 'static,
-{
-    let mail = Arc::try_clone(mail).map_err(out_of_memory)?;
-    let made = engine_and_network(rt, codec_config, strategy, &mail, others, deque_size);
-    let ((engine, mailbox), network) = made.map_err(out_of_memory)?;
-    let handle = engine.start(rt, network)?;
-    Ok(Node {
-        mailbox,
-        mail,
-        handle,
-    })
+/// A node whose engine is not started yet.
+#[derive(Drop)]
+pub struct Prepared<M: Digestible + Codec, T: Strategy<M>, R: Wait> {
+    /// Its engine.
+    pub engine: NodeEngine<M, T, R>,
+    /// The mailbox of its callers.
+    pub mailbox: Mailbox<u64, M, R>,
+    /// What it takes.
+    pub mail: Arc<Mail>,
+    /// The ends of its network.
+    pub network: (Outbound<R>, Inbound<R>),
 }
 
-/// Creates the engine of a node, its mailbox, and the ends of its network.
-fn engine_and_network<M, T, R>(
-    rt: &R,
-    codec_config: M::Cfg,
-    strategy: T,
-    mail: &Arc<Mail>,
-    others: Vec<Arc<Mail>>,
-    deque_size: usize,
-) -> Result<
-    (
-        (NodeEngine<M, T, R>, Mailbox<u64, M, R>),
-        (Outbound<R>, Inbound<R>),
-    ),
-    AllocError,
->
+impl<M, T, R> Prepared<M, T, R>
 where
     M: Digestible + Codec,
-    M::Cfg: Drop,
-    T: Strategy<M> + Drop,
-    R: Wait + AllocGlobal + Clone + Drop,
+    T: Strategy<M>,
+    R: Wait,
 {
-    let network = network(rt, mail, others)?;
-    Ok((
-        engine(rt, codec_config, strategy, mail, deque_size)?,
-        network,
-    ))
-}
+    /// Prepares the node of this mail, which sends to the others.
+    pub fn new(
+        rt: &R,
+        codec_config: M::Cfg,
+        strategy: T,
+        mail: &Arc<Mail>,
+        others: Vec<Arc<Mail>>,
+        deque_size: usize,
+    ) -> Result<Self, AllocError>
+    where
+        M::Cfg: Drop,
+        T: Drop,
+        R: AllocGlobal + Clone + Drop,
+    {
+        let network = network(rt, mail, others)?;
+        let own = Arc::try_clone(mail)?;
+        let (engine, mailbox) = engine(rt, codec_config, strategy, mail, deque_size)?;
+        Ok(Prepared {
+            engine,
+            mailbox,
+            mail: own,
+            network,
+        })
+    }
 
-// Returns the error of a node for which there is no memory.
-fn out_of_memory(_error: AllocError) -> StartError {
-    StartError::Memory
+    /// Starts the engine.
+    pub fn start(self, rt: &R) -> Result<Node<M, R>, StartError>
+    where
+        M: Send + Sync + 'static,
+        M::Digest: 'static,
+        M::Cfg: Send + Drop + 'static,
+        T: Send + Drop + 'static,
+        T::Job: Send + 'static,
+        R: Threads + RandomSource + AllocGlobal + Clone + Send + Sync + Drop + 'static,
+    {
+        let Prepared {
+            engine,
+            mailbox,
+            mail,
+            network,
+        } = self;
+        let handle = engine.start(rt, network)?;
+        Ok(Node {
+            mailbox,
+            mail,
+            handle,
+        })
+    }
 }
 
 /// Creates the engine of a node, and its mailbox.
-pub fn engine<M, T, R>(
+fn engine<M, T, R>(
     rt: &R,
     codec_config: M::Cfg,
     strategy: T,
@@ -125,7 +133,7 @@ where
 }
 
 /// Creates the ends of a node's network.
-pub fn network<R: Clone + Drop>(
+fn network<R: Clone + Drop>(
     rt: &R,
     mail: &Arc<Mail>,
     others: Vec<Arc<Mail>>,

@@ -3,14 +3,12 @@ ghost use Rattle.std.specs.Prelude.{IfSome};
 ghost use Rattle.cluster_lib.specs.Arguments.{IsAllowedRate};
 
 use crate::fault::Fault;
-use crate::message::Numbered;
+use crate::message::{Numbered, broadcast, digest_of};
 use crate::network::Mail;
-use crate::node::{Node, started};
+use crate::node::{Node, Prepared};
 use crate::run::peers;
-use broadcast_core::{Digested, Recipients};
 use broadcast_engine::buffered::{Get, Mailbox, Sequential};
 use broadcast_text::words::parse_number;
-use commonware_broadcast::Broadcaster;
 use std::alloc::AllocGlobal;
 use std::io;
 use std::random::RandomSource;
@@ -81,7 +79,8 @@ where
     let mail = Arc::new(rt.alloc(), Mail::new(rt.alloc(), 1))?;
     mail.sets.give(rt, peers(rt.alloc(), 1)?)?;
     let others = Vec::new(rt.alloc());
-    let node: Node<M, R> = started(rt, M::codec_config(), Sequential, &mail, others, 1)?;
+    let node = Prepared::<M, _, R>::new(rt, M::codec_config(), Sequential, &mail, others, 1)?;
+    let node = node.start(rt)?;
     let measured = measure_node(rt, rate, &node);
     node.handle.stop();
     drop(node.join(rt));
@@ -95,8 +94,7 @@ where
     M::Digest: 'static,
     R: Threads + Wait + Clock + RandomSource + AllocGlobal + Clone + Send + Sync + Drop + 'static,
 {
-    let message = Digested::compute(rt.alloc(), M::numbered(rt.alloc(), 1, 1)?)?;
-    let _feedback = node.mailbox.broadcast(Recipients::All, message)?;
+    let _feedback = broadcast(rt, &node.mailbox, 1, 1)?;
     time(rt, rate, &node.mailbox)
 }
 
@@ -169,7 +167,7 @@ where
     M: Numbered,
     R: Wait + RandomSource + AllocGlobal,
 {
-    let digest = M::numbered(rt.alloc(), 1, 1)?.digest();
+    let digest = digest_of::<M>(rt.alloc(), 1, 1)?;
     let mut answered = 0u64;
     for _ in 0..rate.rounds {
         let gets = gets(rt, rate.depth, mailbox, digest)?;
@@ -191,7 +189,8 @@ where
 {
     let mut gets = Vec::new(rt.alloc());
     for _ in 0..depth {
-        gets.push(mailbox.get(digest)?)?;
+        gets.reserve(1)?;
+        gets.push_reserved(mailbox.get(digest)?);
     }
     Ok(gets)
 }

@@ -1,13 +1,14 @@
 //! A run of a cluster.
 use crate::client::{Client, Seen};
 use crate::fault::Fault;
-use crate::message::Numbered;
+use crate::message::{Numbered, broadcast};
 use crate::network::Mail;
-use crate::node::{Node, started};
+use crate::node::{Node, Prepared};
 use crate::row::Row;
 use crate::settings::Settings;
 use broadcast_core::{CodecError, Items, Set};
-use broadcast_engine::buffered::Sequential;
+use broadcast_engine::buffered::{Mailbox, Sequential, StartError};
+use commonware_broadcast::Feedback;
 use std::alloc::{AllocError, AllocGlobal, Global};
 use std::random::RandomSource;
 use std::sync::atomic::{AtomicU64, Ordering};
@@ -124,8 +125,40 @@ where
     let others = others(rt.alloc(), mail.key, mails)?;
     let size = settings.deque_size;
     nodes.reserve(1)?;
-    nodes.push_reserved(started(rt, M::codec_config(), Sequential, mail, others, size)?);
-    Ok(())
+    let node = Prepared::new(rt, M::codec_config(), Sequential, mail, others, size)?;
+    let Prepared {
+        engine,
+        mailbox,
+        mail,
+        network,
+    } = node;
+    match engine.start(rt, network) {
+        Ok(handle) => {
+            nodes.push_reserved(Node {
+                mailbox,
+                mail,
+                handle,
+            });
+            Ok(())
+        }
+        Err(error) => Err(not_started(rt, &mailbox, error)),
+    }
+}
+
+/// Returns the fault of a node that was not started. Without a thread its mailbox must be closed.
+fn not_started<M, R>(rt: &R, mailbox: &Mailbox<u64, M, R>, error: StartError) -> Fault
+where
+    M: Numbered,
+    R: Wait + AllocGlobal + Clone + Send + 'static,
+{
+    match error {
+        StartError::Memory => Fault::Memory,
+        StartError::Spawn => match broadcast(rt, mailbox, STRANGER, 1) {
+            Ok(Feedback::Closed) => Fault::Thread,
+            Ok(Feedback::Ok | Feedback::Backoff) => Fault::Open,
+            Err(fault) => fault,
+        },
+    }
 }
 
 /// Returns the mail of all nodes but one.

@@ -4,7 +4,7 @@ use broadcast_core::{Codec, Digested, Digestible, Items, RangeCfg, Recipients, S
 use broadcast_engine::buffered::{Mailbox, NetworkFailed, Strategy};
 use broadcast_engine::{Broadcaster, Feedback};
 use cluster_lib::network::Mail;
-use cluster_lib::node::{Node, started};
+use cluster_lib::node::{Node, Prepared};
 use std::alloc::{AllocError, AllocGlobal, Global};
 use std::random::RandomSource;
 use std::sync::{Arc, Wait};
@@ -24,7 +24,8 @@ where
 {
     let mail = Arc::new(rt.alloc(), Mail::new(rt.alloc(), 1))?;
     let others = Vec::new(rt.alloc());
-    Ok(started(rt, M::cfg(), strategy, &mail, others, 4)?)
+    let node = Prepared::new(rt, M::cfg(), strategy, &mail, others, 4)?;
+    Ok(node.start(rt)?)
 }
 
 /// Tells the node its peers.

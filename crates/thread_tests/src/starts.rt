@@ -4,8 +4,8 @@ use super::poor::{Poor, Supply};
 use broadcast_core::TestMessage;
 use broadcast_engine::Feedback;
 use broadcast_engine::buffered::{EndCause, Handle, Mailbox, Sequential, StartError};
-use cluster_lib::network::{Inbound, Mail, Outbound};
-use cluster_lib::node::{NodeEngine, engine, network};
+use cluster_lib::network::Mail;
+use cluster_lib::node::Prepared;
 use std::alloc::AllocGlobal;
 use std::random::RandomSource;
 use std::sync::{Arc, Wait};
@@ -58,33 +58,6 @@ fn cases() -> &'static [Case] {
     &CASES
 }
 
-/// An engine that is not started yet, its mailbox and the ends of its network.
-#[derive(Drop)]
-struct Prepared<M: Letter, R: Wait> {
-    engine: NodeEngine<M, Sequential, R>,
-    mailbox: Mailbox<u64, M, R>,
-    mail: Arc<Mail>,
-    ends: (Outbound<R>, Inbound<R>),
-}
-
-/// Prepares an engine with an ample supply.
-fn prepare<M, R>(rt: &R) -> Result<Prepared<M, R>, Fail>
-where
-    M: Letter,
-    M::Cfg: Drop,
-    R: Wait + AllocGlobal + Clone + Drop,
-{
-    let mail = Arc::new(rt.alloc(), Mail::new(rt.alloc(), 1))?;
-    let ends = network(rt, &mail, Vec::new(rt.alloc()))?;
-    let (engine, mailbox) = engine(rt, M::cfg(), Sequential, &mail, 4)?;
-    Ok(Prepared {
-        engine,
-        mailbox,
-        mail,
-        ends,
-    })
-}
-
 /// Stops an engine. Its network fails then, so that it ends also if it does not stop. Returns its
 /// cause.
 fn stop<M, R>(
@@ -112,14 +85,16 @@ where
     M::Cfg: Send + Drop + 'static,
     R: Threads + Wait + Clock + RandomSource + AllocGlobal + Clone + Send + Sync + Drop + 'static,
 {
+    let mail = Arc::new(rt.alloc(), Mail::new(rt.alloc(), 1))?;
+    let others = Vec::new(rt.alloc());
     let Prepared {
         engine,
         mailbox,
         mail,
-        ends,
-    } = prepare::<M, _>(rt)?;
+        network,
+    } = Prepared::<M, _, _>::new(rt, M::cfg(), Sequential, &mail, others, 4)?;
     rt.supply.leave(copies, randoms);
-    ended(rt, &mailbox, &mail, engine.start(rt, ends))
+    ended(rt, &mailbox, &mail, engine.start(rt, network))
 }
 
 /// Stops an engine if it was started. Returns how that ends, and whether its mailbox is closed.
