@@ -4,15 +4,14 @@ ghost use Rattle.cluster_lib.specs.Arguments.{IsAllowedRate};
 
 use crate::fault::Fault;
 use crate::message::{Numbered, broadcast, digest_of};
-use crate::network::Mail;
 use crate::node::{Node, Prepared};
-use crate::run::peers;
+use crate::run::mail_of;
 use broadcast_engine::buffered::{Get, Mailbox, Sequential};
 use broadcast_text::words::parse_number;
-use std::alloc::AllocGlobal;
+use std::alloc::{AllocError, AllocGlobal};
 use std::io;
 use std::random::RandomSource;
-use std::sync::{Arc, Wait};
+use std::sync::Wait;
 use std::thread::{self, JoinHandle, Threads};
 use std::time::{Clock, Instant};
 
@@ -76,15 +75,23 @@ where
     M::Cfg: Send + Drop + 'static,
     R: Threads + Wait + Clock + RandomSource + AllocGlobal + Clone + Send + Sync + Drop + 'static,
 {
-    let mail = Arc::new(rt.alloc(), Mail::new(rt.alloc(), 1))?;
-    mail.sets.give(rt, peers(rt.alloc(), 1)?)?;
-    let others = Vec::new(rt.alloc());
-    let node = Prepared::<M, _, R>::new(rt, M::codec_config(), Sequential, &mail, others, 1)?;
-    let node = node.start(rt)?;
+    let node = prepare::<M, R>(rt)?.start(rt)?;
     let measured = measure_node(rt, rate, &node);
     node.handle.stop();
-    drop(node.join(rt));
+    drop::<_>(node.join(rt));
     measured
+}
+
+/// Prepares a node that has no peers.
+fn prepare<M, R>(rt: &R) -> Result<Prepared<M, Sequential, R>, AllocError>
+where
+    M: Numbered,
+    M::Cfg: Drop,
+    R: Wait + AllocGlobal + Clone + Drop,
+{
+    let mail = mail_of(rt, 1, 1)?;
+    let others = Vec::new(rt.alloc());
+    Prepared::new(rt, M::codec_config(), Sequential, &mail, others, 1)
 }
 
 /// Lets the clients get a message from the node, which broadcast it.
@@ -106,8 +113,7 @@ where
     R: Threads + Wait + Clock + RandomSource + AllocGlobal + Clone + Send + Sync + Drop + 'static,
 {
     let began = Instant::now(rt).map_err(|_| Fault::Clock)?;
-    let clients = start_clients(rt, rate, mailbox)?;
-    let answered = join_clients(rt, clients)?;
+    let answered = join_clients(rt, start_clients(rt, rate, mailbox)?)?;
     let took = began.elapsed(rt).map_err(|_| Fault::Clock)?;
     Ok(Measured {
         answered,
@@ -128,7 +134,8 @@ where
 {
     let mut clients = Vec::new(rt.alloc());
     for _ in 0..rate.clients {
-        clients.push(start_client(rt, rate, mailbox)?)?;
+        clients.reserve(1)?;
+        clients.push_reserved(start_client(rt, rate, mailbox)?);
     }
     Ok(clients)
 }

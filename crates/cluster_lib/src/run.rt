@@ -34,15 +34,50 @@ where
     M::Cfg: Send + Drop + 'static,
     R: Threads + Wait + Clock + RandomSource + AllocGlobal + Clone + Send + Sync + Drop + 'static,
 {
-    let finished = Arc::new(rt.alloc(), AtomicU64::new(0))?;
     let mails = mails::<M, R>(rt, settings.nodes)?;
-    let nodes = start_nodes::<M, R>(rt, settings, &mails)?;
-    let clients = start_clients(rt, settings, &nodes, &finished);
+    let nodes = start_nodes::<M, R>(rt, settings, &mails);
+    drop::<_>(mails);
+    run_nodes(rt, settings, nodes?)
+}
+
+/// Lets the clients of started nodes run, and stops the nodes once all clients have finished, or
+/// after a minute. Returns what became of each node.
+fn run_nodes<M, R>(rt: &R, settings: Settings, nodes: Vec<Node<M, R>>) -> Result<Vec<Row>, Fault>
+where
+    M: Numbered,
+    M::Digest: 'static,
+    M::Cfg: 'static,
+    R: Threads + Wait + Clock + RandomSource + AllocGlobal + Clone + Send + Sync + Drop + 'static,
+{
+    let clients = run_clients(rt, settings, &nodes);
+    stop_all(&nodes);
+    match clients {
+        Ok(clients) => rows(rt, settings, nodes, clients),
+        Err(fault) => {
+            drop::<_>(nodes);
+            Err(fault)
+        }
+    }
+}
+
+/// Starts the clients, and waits until all have finished, or for a minute.
+fn run_clients<M, R>(
+    rt: &R,
+    settings: Settings,
+    nodes: &[Node<M, R>],
+) -> Result<Vec<JoinHandle<Outcome>>, Fault>
+where
+    M: Numbered,
+    M::Digest: 'static,
+    M::Cfg: 'static,
+    R: Threads + Wait + Clock + RandomSource + AllocGlobal + Clone + Send + Sync + Drop + 'static,
+{
+    let finished = Arc::new(rt.alloc(), AtomicU64::new(0))?;
+    let clients = start_clients(rt, settings, nodes, &finished);
     if clients.is_ok() {
         wait_until(rt, &finished, settings.nodes);
     }
-    stop_all(&nodes);
-    rows(rt, settings, nodes, clients?)
+    clients
 }
 
 /// Creates the mail of each node: all nodes are its peers, and a stranger has sent it a message,
@@ -50,16 +85,27 @@ where
 fn mails<M: Numbered, R: Wait + AllocGlobal>(rt: &R, nodes: u64) -> Result<Vec<Arc<Mail>>, Fault> {
     let mut mails = Vec::new(rt.alloc());
     for key in 1..=nodes {
-        let mail = Arc::new(rt.alloc(), Mail::new(rt.alloc(), key))?;
-        mail.sets.give(rt, peers(rt.alloc(), nodes)?)?;
+        mails.reserve(1)?;
+        let mail = mail_of(rt, key, nodes)?;
         disturb::<M, R>(rt, &mail)?;
-        mails.push(mail)?;
+        mails.push_reserved(mail);
     }
     Ok(mails)
 }
 
+/// Creates the mail of the node of the key, whose peers are the nodes of the keys from 1.
+pub(crate) fn mail_of<R: Wait + AllocGlobal>(
+    rt: &R,
+    key: u64,
+    nodes: u64,
+) -> Result<Arc<Mail>, AllocError> {
+    let mail = Arc::new(rt.alloc(), Mail::new(rt.alloc(), key))?;
+    mail.sets.give(rt, peers(rt.alloc(), nodes)?)?;
+    Ok(mail)
+}
+
 /// Returns the keys of all nodes.
-pub(crate) fn peers(alloc: Global, nodes: u64) -> Result<Set<u64>, AllocError> {
+fn peers(alloc: Global, nodes: u64) -> Result<Set<u64>, AllocError> {
     let mut keys = Vec::new(alloc);
     for key in 1..=nodes {
         keys.push(key)?;
@@ -69,20 +115,24 @@ pub(crate) fn peers(alloc: Global, nodes: u64) -> Result<Set<u64>, AllocError> {
 
 /// Sends a node what a stranger sends.
 fn disturb<M: Numbered, R: Wait + AllocGlobal>(rt: &R, mail: &Mail) -> Result<(), Fault> {
-    let message = M::numbered(rt.alloc(), STRANGER, mail.key)?;
-    let bytes = encoded(rt.alloc(), &message).map_err(|_| Fault::Memory)?;
-    mail.payloads
-        .give(rt, Ok((STRANGER, Items::from_vec(bytes))))?;
-    let bytes = Vec::from_slice(rt.alloc(), &[0xff])?;
-    mail.payloads
-        .give(rt, Ok((STRANGER, Items::from_vec(bytes))))?;
+    let Ok(bytes) = encoded::<M>(rt.alloc(), mail.key) else {
+        return Err(Fault::Memory);
+    };
+    hand(rt, mail, bytes)?;
+    hand(rt, mail, Vec::from_slice(rt.alloc(), &[0xff])?)?;
     Ok(())
 }
 
-/// Returns the encoding of a message.
-fn encoded<M: Numbered>(alloc: Global, message: &M) -> Result<Vec<u8>, CodecError> {
+/// Sends a node the bytes of a stranger.
+fn hand<R: Wait>(rt: &R, mail: &Mail, bytes: Vec<u8>) -> Result<(), AllocError> {
+    let payload = (STRANGER, Items::from_vec(bytes));
+    mail.payloads.give(rt, Ok(payload))
+}
+
+/// Returns the encoding of the stranger's message with this number.
+fn encoded<M: Numbered>(alloc: Global, number: u64) -> Result<Vec<u8>, CodecError> {
     let mut bytes = Vec::new(alloc);
-    message.write(&mut bytes)?;
+    M::numbered(alloc, STRANGER, number)?.write(&mut bytes)?;
     Ok(bytes)
 }
 
@@ -122,16 +172,13 @@ where
     M::Cfg: Send + Drop + 'static,
     R: Threads + Wait + RandomSource + AllocGlobal + Clone + Send + Sync + Drop + 'static,
 {
-    let others = others(rt.alloc(), mail.key, mails)?;
-    let size = settings.deque_size;
     nodes.reserve(1)?;
-    let node = Prepared::new(rt, M::codec_config(), Sequential, mail, others, size)?;
     let Prepared {
         engine,
         mailbox,
         mail,
         network,
-    } = node;
+    } = prepare_node(rt, settings, mail, mails)?;
     match engine.start(rt, network) {
         Ok(handle) => {
             nodes.push_reserved(Node {
@@ -143,6 +190,23 @@ where
         }
         Err(error) => Err(not_started(rt, &mailbox, error)),
     }
+}
+
+/// Prepares the node of the mail, which sends to all others.
+fn prepare_node<M, R>(
+    rt: &R,
+    settings: Settings,
+    mail: &Arc<Mail>,
+    mails: &[Arc<Mail>],
+) -> Result<Prepared<M, Sequential, R>, AllocError>
+where
+    M: Numbered,
+    M::Cfg: Drop,
+    R: Wait + AllocGlobal + Clone + Drop,
+{
+    let others = others(rt.alloc(), mail.key, mails)?;
+    let size = settings.deque_size;
+    Prepared::new(rt, M::codec_config(), Sequential, mail, others, size)
 }
 
 /// Returns the fault of a node that was not started. Without a thread its mailbox must be closed.
@@ -189,7 +253,7 @@ where
     let subscribed = Arc::new(rt.alloc(), AtomicU64::new(0))?;
     for node in nodes {
         let client = client_of(rt, settings, node, &subscribed)?;
-        clients.push(start_client(rt, client, finished)?)?;
+        append_client(rt, client, finished, &mut clients)?;
     }
     Ok(clients)
 }
@@ -214,25 +278,33 @@ where
     })
 }
 
-/// Starts a client, which counts itself once it has finished.
-fn start_client<M, R>(
+/// Starts a client, which counts itself once it has finished, and appends its thread.
+fn append_client<M, R>(
     rt: &R,
     client: Client<M, R>,
     finished: &Arc<AtomicU64>,
-) -> Result<JoinHandle<Outcome>, Fault>
+    clients: &mut Vec<JoinHandle<Outcome>>,
+) -> Result<(), Fault>
 where
     M: Numbered,
     M::Digest: 'static,
     M::Cfg: 'static,
     R: Threads + Wait + Clock + RandomSource + AllocGlobal + Clone + Send + Sync + Drop + 'static,
 {
+    clients.reserve(1)?;
     let finished = Arc::try_clone(finished)?;
     let work = move || {
         let outcome = client.run();
         finished.fetch_add(1, Ordering::SeqCst);
         outcome
     };
-    thread::spawn(rt, work).map_err(|_| Fault::Thread)
+    match thread::spawn(rt, work) {
+        Ok(thread) => {
+            clients.push_reserved(thread);
+            Ok(())
+        }
+        Err(_) => Err(Fault::Thread),
+    }
 }
 
 /// Waits until this many clients have counted themselves, or for a minute.
@@ -256,7 +328,8 @@ where
     }
 }
 
-/// Joins the nodes, which were asked to stop, and their clients. Returns what became of each node.
+/// Joins the nodes, which were asked to stop, and their clients, also after one of them failed.
+/// Returns what became of each node.
 fn rows<M, R>(
     rt: &R,
     settings: Settings,
@@ -268,25 +341,35 @@ where
     R: Threads + Wait + AllocGlobal + Drop,
 {
     let mut rows = Vec::new(rt.alloc());
+    let mut outcome = Ok(());
     for (node, client) in nodes.into_iter().zip(clients) {
-        rows.push(row(rt, settings, node, client)?)?;
+        if let Err(fault) = append_row(rt, settings, node, client, &mut rows) {
+            outcome = Err(fault);
+        }
     }
+    outcome?;
     Ok(rows)
 }
 
-/// Joins a node, which was asked to stop, and its client. Returns what became of the node.
-fn row<M, R>(
+/// Joins a node, which was asked to stop, and its client. Appends what became of the node.
+fn append_row<M, R>(
     rt: &R,
     settings: Settings,
     node: Node<M, R>,
     client: JoinHandle<Outcome>,
-) -> Result<Row, Fault>
+    rows: &mut Vec<Row>,
+) -> Result<(), Fault>
 where
     M: Numbered,
     R: Threads + Wait + AllocGlobal + Drop,
 {
     let key = node.mail.key;
     let report = node.join(rt);
-    let seen = client.join(rt)?;
-    Ok(Row::new(key, report.metrics(), seen, settings.subscriptions()))
+    match client.join(rt) {
+        Ok(seen) => {
+            let row = Row::new(key, report.metrics(), seen, settings.subscriptions());
+            rows.push(row).map_err(|_| Fault::Memory)
+        }
+        Err(fault) => Err(fault),
+    }
 }
