@@ -82,7 +82,7 @@ where
     measured
 }
 
-/// Prepares a node that has no peers.
+/// Prepares a node that has no other peers.
 fn prepare<M, R>(rt: &R) -> Result<Prepared<M, Sequential, R>, AllocError>
 where
     M: Numbered,
