@@ -4,7 +4,6 @@ mod inbox;
 mod note;
 mod overflow;
 mod polls;
-mod refill;
 mod replies;
 mod threads;
 mod tickets;
