@@ -1,8 +1,9 @@
 //! The client of a node.
 use crate::fault::Fault;
-use crate::message::{Numbered, broadcast, digest_of};
+use crate::message::{Digest, broadcast};
 use crate::run::wait_until;
 use crate::settings::Settings;
+use broadcast_core::TestMessage;
 use broadcast_engine::buffered::{Mailbox, Subscription};
 use std::alloc::AllocGlobal;
 use std::random::RandomSource;
@@ -19,59 +20,66 @@ pub struct Seen {
     pub evicted: u64,
 }
 
+/// What all clients share.
+#[derive(Drop)]
+pub struct Shared {
+    /// The digests of the messages of all nodes.
+    pub digests: Vec<Digest>,
+    /// How many clients have subscribed.
+    pub subscribed: AtomicU64,
+    /// How many clients have finished.
+    pub finished: AtomicU64,
+}
+
 /// The client of a node, which it reaches through a mailbox.
 #[derive(Drop)]
-pub struct Client<M: Numbered, R> {
+pub struct Client<R> {
     /// The key of its node.
     pub key: u64,
     /// The mailbox of its node.
-    pub mailbox: Mailbox<u64, M, R>,
+    pub mailbox: Mailbox<u64, TestMessage, R>,
     /// The messages of all nodes.
     pub settings: Settings,
-    /// How many clients have subscribed.
-    pub subscribed: Arc<AtomicU64>,
+    /// What it shares with the other clients.
+    pub shared: Arc<Shared>,
     /// The right to wait.
     pub rt: R,
 }
 
-impl<M, R> Client<M, R>
+impl<R> Client<R>
 where
-    M: Numbered,
     R: Wait + Clock + RandomSource + AllocGlobal + Clone + Send + 'static,
 {
+    /// Does all that the client does, and counts itself as finished.
+    pub fn run(&self) -> Result<Seen, Fault> {
+        let seen = self.see();
+        self.shared.finished.fetch_add(1, Ordering::SeqCst);
+        seen
+    }
+
     /// Subscribes to the messages of all nodes, and once all clients have, broadcasts those of its
     /// own node. Waits for all subscriptions, and then asks for each message.
-    pub fn run(&self) -> Result<Seen, Fault> {
+    fn see(&self) -> Result<Seen, Fault> {
         let waiting = self.subscribe_all();
-        self.subscribed.fetch_add(1, Ordering::SeqCst);
-        wait_until(&self.rt, &self.subscribed, self.settings.nodes);
+        self.shared.subscribed.fetch_add(1, Ordering::SeqCst);
+        wait_until(&self.rt, &self.shared.subscribed, self.settings.nodes);
         let served = self.exchange(waiting?)?;
         let evicted = self.count_missing()?;
         Ok(Seen { served, evicted })
     }
 
     /// Subscribes to the messages of all nodes.
-    fn subscribe_all(&self) -> Result<Vec<Subscription<M>>, Fault> {
+    fn subscribe_all(&self) -> Result<Vec<Subscription<TestMessage>>, Fault> {
         let mut waiting = Vec::new(self.rt.alloc());
-        for node in 1..=self.settings.nodes {
-            self.subscribe_to(node, &mut waiting)?;
+        for digest in &self.shared.digests {
+            waiting.push(self.mailbox.subscribe(*digest)?)?;
         }
         Ok(waiting)
     }
 
-    /// Subscribes to the messages of the node.
-    fn subscribe_to(&self, node: u64, waiting: &mut Vec<Subscription<M>>) -> Result<(), Fault> {
-        for number in 1..=self.settings.messages {
-            waiting.reserve(1)?;
-            let digest = digest_of::<M>(self.rt.alloc(), node, number)?;
-            waiting.push_reserved(self.mailbox.subscribe(digest)?);
-        }
-        Ok(())
-    }
-
     /// Broadcasts the messages of its own node, and waits for the subscriptions. Returns how many
     /// were served.
-    fn exchange(&self, waiting: Vec<Subscription<M>>) -> Result<u64, Fault> {
+    fn exchange(&self, waiting: Vec<Subscription<TestMessage>>) -> Result<u64, Fault> {
         match self.broadcast_own() {
             Ok(()) => Ok(wait_all(&self.rt, waiting)),
             Err(fault) => {
@@ -92,34 +100,18 @@ where
     /// Returns how many of the messages of all nodes its node does not have.
     fn count_missing(&self) -> Result<u64, Fault> {
         let mut missing = 0u64;
-        for node in 1..=self.settings.nodes {
-            missing = missing.saturating_add(self.count_missing_of(node)?);
-        }
-        Ok(missing)
-    }
-
-    /// Returns how many messages of the other node its node does not have.
-    fn count_missing_of(&self, other: u64) -> Result<u64, Fault> {
-        let mut missing = 0u64;
-        for number in 1..=self.settings.messages {
-            if !self.has(other, number)? {
+        for digest in &self.shared.digests {
+            if self.mailbox.get(*digest)?.wait(&self.rt).is_none() {
                 missing = missing.saturating_add(1);
             }
         }
         Ok(missing)
     }
-
-    /// Returns whether its node has the message of the other node with this number.
-    fn has(&self, other: u64, number: u64) -> Result<bool, Fault> {
-        let digest = digest_of::<M>(self.rt.alloc(), other, number)?;
-        Ok(self.mailbox.get(digest)?.wait(&self.rt).is_some())
-    }
 }
 
 /// Waits for each subscription. Returns how many were served.
-fn wait_all<M, R>(rt: &R, waiting: Vec<Subscription<M>>) -> u64
+fn wait_all<R>(rt: &R, waiting: Vec<Subscription<TestMessage>>) -> u64
 where
-    M: Numbered,
     R: Wait + RandomSource + AllocGlobal,
 {
     let mut served = 0u64;

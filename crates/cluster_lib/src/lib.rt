@@ -12,7 +12,6 @@ pub mod row;
 pub mod run;
 pub mod settings;
 
-use broadcast_core::TestMessage;
 use fault::Fault;
 use rate::{Measured, Rate, measure, write_measured};
 use row::{Row, judge, write_rows};
@@ -51,12 +50,14 @@ where
     W: Write + Drop,
 {
     if let Some(settings) = Settings::parse(words) {
-        let rows = run::<TestMessage, R>(rt, settings)?;
+        let rows = run(rt, settings)?;
         print_rows(rt.alloc(), &rows, out)?;
         return judge(&rows);
     }
-    let rate = Rate::parse(words).ok_or(Fault::Usage(USAGE))?;
-    let measured = measure::<TestMessage, R>(rt, rate)?;
+    let Some(rate) = Rate::parse(words) else {
+        return Err(Fault::Usage(USAGE));
+    };
+    let measured = measure(rt, rate)?;
     print_measured(measured, out)
 }
 

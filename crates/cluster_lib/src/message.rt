@@ -1,54 +1,60 @@
 //! The messages that the program's nodes broadcast.
 use crate::fault::Fault;
-use broadcast_core::{Codec, Digested, Digestible, RangeCfg, Recipients, TestMessage};
+use broadcast_core::{Digested, Digestible, Recipients, TestMessage};
 use broadcast_engine::buffered::Mailbox;
 use commonware_broadcast::{Broadcaster, Feedback};
 use std::alloc::{AllocError, AllocGlobal, Global};
 use std::sync::Wait;
 
-/// A message that a node's key and a number name.
-pub trait Numbered: Digestible + Codec + Send + Sync + 'static {
-    /// Creates the message of the node with this number.
-    fn numbered(alloc: Global, node: u64, number: u64) -> Result<Self, AllocError>;
+/// The name of a message.
+pub type Digest = [u8; 32];
 
-    /// Returns which messages may be decoded.
-    fn codec_config() -> Self::Cfg;
-}
-
-/// The content has the key and the number, eight bytes each.
-impl Numbered for TestMessage {
-    fn numbered(alloc: Global, node: u64, number: u64) -> Result<Self, AllocError> {
-        let mut content = Vec::from_slice(alloc, &node.to_be_bytes())?;
-        content.extend_from_slice(&number.to_be_bytes())?;
-        Ok(TestMessage::new(Vec::new(alloc), content))
-    }
-
-    fn codec_config() -> RangeCfg {
-        RangeCfg::any()
-    }
+/// Creates the message of the node with this number. Its content has the key of the node and the
+/// number, eight bytes each.
+pub fn message_of(alloc: Global, node: u64, number: u64) -> Result<TestMessage, AllocError> {
+    let mut content = Vec::from_slice(alloc, &node.to_be_bytes())?;
+    content.extend_from_slice(&number.to_be_bytes())?;
+    Ok(TestMessage::new(Vec::new(alloc), content))
 }
 
 /// Returns the digest of the message of the node with this number.
-pub fn digest_of<M: Numbered>(
+pub fn digest_of(alloc: Global, node: u64, number: u64) -> Result<Digest, AllocError> {
+    Ok(message_of(alloc, node, number)?.digest())
+}
+
+/// Returns the digests of the first messages of each of the nodes.
+pub fn digests_of(alloc: Global, nodes: u64, messages: u64) -> Result<Vec<Digest>, AllocError> {
+    let mut digests = Vec::new(alloc);
+    for node in 1..=nodes {
+        append_digests(alloc, node, messages, &mut digests)?;
+    }
+    Ok(digests)
+}
+
+/// Appends the digests of the first messages of the node.
+fn append_digests(
     alloc: Global,
     node: u64,
-    number: u64,
-) -> Result<M::Digest, AllocError> {
-    Ok(M::numbered(alloc, node, number)?.digest())
+    messages: u64,
+    digests: &mut Vec<Digest>,
+) -> Result<(), AllocError> {
+    for number in 1..=messages {
+        digests.push(digest_of(alloc, node, number)?)?;
+    }
+    Ok(())
 }
 
 /// Broadcasts the message of the node with this number through the mailbox.
-pub fn broadcast<M, R>(
+pub fn broadcast<R>(
     rt: &R,
-    mailbox: &Mailbox<u64, M, R>,
+    mailbox: &Mailbox<u64, TestMessage, R>,
     node: u64,
     number: u64,
 ) -> Result<Feedback, Fault>
 where
-    M: Numbered,
     R: Wait + AllocGlobal + Clone + Send + 'static,
 {
     let alloc = rt.alloc();
-    let message = Digested::compute(alloc, M::numbered(alloc, node, number)?)?;
+    let message = Digested::compute(alloc, message_of(alloc, node, number)?)?;
     Ok(mailbox.broadcast(Recipients::All, message)?)
 }

@@ -32,6 +32,9 @@ impl<M: Digestible, R: Threads + Wait + Drop> Node<M, R> {
     }
 }
 
+/// A node that was started, or the mailbox of one whose engine was not, and why.
+pub type Started<M, R> = Result<Node<M, R>, (Mailbox<u64, M, R>, StartError)>;
+
 /// A node whose engine is not started yet.
 #[derive(Drop)]
 pub struct Prepared<M: Digestible + Codec, T: Strategy<M>, R: Wait> {
@@ -77,7 +80,7 @@ where
     }
 
     /// Starts the engine.
-    pub fn start(self, rt: &R) -> Result<Node<M, R>, StartError>
+    pub fn start(self, rt: &R) -> Started<M, R>
     where
         M: Send + Sync + 'static,
         M::Digest: 'static,
@@ -92,13 +95,37 @@ where
             mail,
             network,
         } = self;
-        let handle = engine.start(rt, network)?;
-        Ok(Node {
-            mailbox,
-            mail,
-            handle,
-        })
+        match engine.start(rt, network) {
+            Ok(handle) => Ok(Node {
+                mailbox,
+                mail,
+                handle,
+            }),
+            Err(error) => Err((mailbox, error)),
+        }
     }
+}
+
+/// Starts the node of this mail, which sends to the others. Fails if there is no memory for its
+/// engine.
+pub fn start<M, T, R>(
+    rt: &R,
+    codec_config: M::Cfg,
+    strategy: T,
+    mail: &Arc<Mail>,
+    others: Vec<Arc<Mail>>,
+    deque_size: usize,
+) -> Result<Started<M, R>, AllocError>
+where
+    M: Digestible + Codec + Send + Sync + 'static,
+    M::Digest: 'static,
+    M::Cfg: Send + Drop + 'static,
+    T: Strategy<M> + Send + Drop + 'static,
+    T::Job: Send + 'static,
+    R: Threads + Wait + RandomSource + AllocGlobal + Clone + Send + Sync + Drop + 'static,
+{
+    let prepared = Prepared::new(rt, codec_config, strategy, mail, others, deque_size)?;
+    Ok(prepared.start(rt))
 }
 
 /// Creates the engine of a node, and its mailbox.
@@ -115,11 +142,8 @@ where
     T: Strategy<M> + Drop,
     R: Wait + AllocGlobal + Clone + Drop,
 {
+    let peer_provider = peer_sets(rt, mail)?;
     let own = rt.clone()?;
-    let peer_provider = PeerSets {
-        mail: Arc::try_clone(mail)?,
-        rt: rt.clone()?,
-    };
     let config = Config {
         public_key: mail.key,
         mailbox_size: NonZeroUsize::MIN,
@@ -130,6 +154,14 @@ where
         strategy,
     };
     Engine::new(own, rt.alloc(), config)
+}
+
+/// Creates what gives a node its peer sets.
+fn peer_sets<R: Clone + Drop>(rt: &R, mail: &Arc<Mail>) -> Result<PeerSets<R>, AllocError> {
+    Ok(PeerSets {
+        mail: Arc::try_clone(mail)?,
+        rt: rt.clone()?,
+    })
 }
 
 /// Creates the ends of a node's network.

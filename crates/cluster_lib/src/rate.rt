@@ -3,12 +3,13 @@ ghost use Rattle.std.specs.Prelude.{IfSome};
 ghost use Rattle.cluster_lib.specs.Arguments.{IsAllowedRate};
 
 use crate::fault::Fault;
-use crate::message::{Numbered, broadcast, digest_of};
-use crate::node::{Node, Prepared};
+use crate::message::{Digest, broadcast, digest_of};
+use crate::node::{Node, start};
 use crate::run::mail_of;
+use broadcast_core::{RangeCfg, TestMessage};
 use broadcast_engine::buffered::{Get, Mailbox, Sequential};
 use broadcast_text::words::parse_number;
-use std::alloc::{AllocError, AllocGlobal};
+use std::alloc::AllocGlobal;
 use std::io;
 use std::random::RandomSource;
 use std::sync::Wait;
@@ -68,68 +69,72 @@ pub struct Measured {
 
 /// Lets the clients get a message from one started engine. The time counts from before the first
 /// client is started to the end of the last.
-pub fn measure<M, R>(rt: &R, rate: Rate) -> Result<Measured, Fault>
+pub fn measure<R>(rt: &R, rate: Rate) -> Result<Measured, Fault>
 where
-    M: Numbered,
-    M::Digest: 'static,
-    M::Cfg: Send + Drop + 'static,
     R: Threads + Wait + Clock + RandomSource + AllocGlobal + Clone + Send + Sync + Drop + 'static,
 {
-    let node = prepare::<M, R>(rt)?.start(rt)?;
+    let node = start_alone(rt)?;
     let measured = measure_node(rt, rate, &node);
     node.handle.stop();
     drop::<_>(node.join(rt));
     measured
 }
 
-/// Prepares a node that has no other peers.
-fn prepare<M, R>(rt: &R) -> Result<Prepared<M, Sequential, R>, AllocError>
+/// Starts a node that has no other peers.
+fn start_alone<R>(rt: &R) -> Result<Node<TestMessage, R>, Fault>
 where
-    M: Numbered,
-    M::Cfg: Drop,
-    R: Wait + AllocGlobal + Clone + Drop,
+    R: Threads + Wait + RandomSource + AllocGlobal + Clone + Send + Sync + Drop + 'static,
 {
     let mail = mail_of(rt, 1, 1)?;
     let others = Vec::new(rt.alloc());
-    Prepared::new(rt, M::codec_config(), Sequential, &mail, others, 1)
+    match start(rt, RangeCfg::any(), Sequential, &mail, others, 1)? {
+        Ok(node) => Ok(node),
+        Err((_, error)) => Err(Fault::from(error)),
+    }
 }
 
 /// Lets the clients get a message from the node, which broadcast it.
-fn measure_node<M, R>(rt: &R, rate: Rate, node: &Node<M, R>) -> Result<Measured, Fault>
+fn measure_node<R>(rt: &R, rate: Rate, node: &Node<TestMessage, R>) -> Result<Measured, Fault>
 where
-    M: Numbered,
-    M::Digest: 'static,
     R: Threads + Wait + Clock + RandomSource + AllocGlobal + Clone + Send + Sync + Drop + 'static,
 {
     let _feedback = broadcast(rt, &node.mailbox, 1, 1)?;
     time(rt, rate, &node.mailbox)
 }
 
-/// Starts the clients, and waits for them.
-fn time<M, R>(rt: &R, rate: Rate, mailbox: &Mailbox<u64, M, R>) -> Result<Measured, Fault>
+/// Starts the clients, and waits for them. Returns what was measured.
+fn time<R>(rt: &R, rate: Rate, mailbox: &Mailbox<u64, TestMessage, R>) -> Result<Measured, Fault>
 where
-    M: Numbered,
-    M::Digest: 'static,
     R: Threads + Wait + Clock + RandomSource + AllocGlobal + Clone + Send + Sync + Drop + 'static,
 {
-    let began = Instant::now(rt).map_err(|_| Fault::Clock)?;
-    let answered = join_clients(rt, start_clients(rt, rate, mailbox)?)?;
-    let took = began.elapsed(rt).map_err(|_| Fault::Clock)?;
+    let Ok(began) = Instant::now(rt) else {
+        return Err(Fault::Clock);
+    };
+    let answered = run_clients(rt, rate, mailbox)?;
+    let Ok(took) = began.elapsed(rt) else {
+        return Err(Fault::Clock);
+    };
     Ok(Measured {
         answered,
         milliseconds: u64::try_from(took.as_millis()).unwrap_or(u64::MAX),
     })
 }
 
+/// Starts the clients, and joins them. Returns how many requests were answered.
+fn run_clients<R>(rt: &R, rate: Rate, mailbox: &Mailbox<u64, TestMessage, R>) -> Result<u64, Fault>
+where
+    R: Threads + Wait + RandomSource + AllocGlobal + Clone + Send + Sync + Drop + 'static,
+{
+    join_clients(rt, start_clients(rt, rate, mailbox)?)
+}
+
 /// Starts the clients.
-fn start_clients<M, R>(
+fn start_clients<R>(
     rt: &R,
     rate: Rate,
-    mailbox: &Mailbox<u64, M, R>,
+    mailbox: &Mailbox<u64, TestMessage, R>,
 ) -> Result<Vec<JoinHandle<Result<u64, Fault>>>, Fault>
 where
-    M: Numbered,
-    M::Digest: 'static,
     R: Threads + Wait + RandomSource + AllocGlobal + Clone + Send + Sync + Drop + 'static,
 {
     let mut clients = Vec::new(rt.alloc());
@@ -141,19 +146,19 @@ where
 }
 
 /// Starts a client.
-fn start_client<M, R>(
+fn start_client<R>(
     rt: &R,
     rate: Rate,
-    mailbox: &Mailbox<u64, M, R>,
+    mailbox: &Mailbox<u64, TestMessage, R>,
 ) -> Result<JoinHandle<Result<u64, Fault>>, Fault>
 where
-    M: Numbered,
-    M::Digest: 'static,
     R: Threads + Wait + RandomSource + AllocGlobal + Clone + Send + Sync + Drop + 'static,
 {
     let (mailbox, own) = (mailbox.clone()?, rt.clone()?);
-    let work = move || ask(&own, rate, &mailbox);
-    thread::spawn(rt, work).map_err(|_| Fault::Thread)
+    match thread::spawn(rt, move || ask(&own, rate, &mailbox)) {
+        Ok(thread) => Ok(thread),
+        Err(_) => Err(Fault::Thread),
+    }
 }
 
 /// Joins the clients. Returns how many requests were answered.
@@ -169,12 +174,11 @@ fn join_clients(
 }
 
 /// Makes the requests of a client. Returns how many were answered with the message.
-fn ask<M, R>(rt: &R, rate: Rate, mailbox: &Mailbox<u64, M, R>) -> Result<u64, Fault>
+fn ask<R>(rt: &R, rate: Rate, mailbox: &Mailbox<u64, TestMessage, R>) -> Result<u64, Fault>
 where
-    M: Numbered,
     R: Wait + RandomSource + AllocGlobal,
 {
-    let digest = digest_of::<M>(rt.alloc(), 1, 1)?;
+    let digest = digest_of(rt.alloc(), 1, 1)?;
     let mut answered = 0u64;
     for _ in 0..rate.rounds {
         let gets = gets(rt, rate.depth, mailbox, digest)?;
@@ -184,28 +188,25 @@ where
 }
 
 /// Makes requests for the digest.
-fn gets<M, R>(
+fn gets<R>(
     rt: &R,
     depth: u64,
-    mailbox: &Mailbox<u64, M, R>,
-    digest: M::Digest,
-) -> Result<Vec<Get<M>>, Fault>
+    mailbox: &Mailbox<u64, TestMessage, R>,
+    digest: Digest,
+) -> Result<Vec<Get<TestMessage>>, Fault>
 where
-    M: Numbered,
     R: Wait + AllocGlobal,
 {
     let mut gets = Vec::new(rt.alloc());
     for _ in 0..depth {
-        gets.reserve(1)?;
-        gets.push_reserved(mailbox.get(digest)?);
+        gets.push(mailbox.get(digest)?)?;
     }
     Ok(gets)
 }
 
 /// Waits for the requests. Returns how many were answered with the message.
-fn wait_all<M, R>(rt: &R, gets: Vec<Get<M>>) -> u64
+fn wait_all<R>(rt: &R, gets: Vec<Get<TestMessage>>) -> u64
 where
-    M: Numbered,
     R: Wait + RandomSource + AllocGlobal,
 {
     let mut answered = 0u64;

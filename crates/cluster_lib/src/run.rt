@@ -1,12 +1,12 @@
 //! A run of a cluster.
-use crate::client::{Client, Seen};
+use crate::client::{Client, Seen, Shared};
 use crate::fault::Fault;
-use crate::message::{Numbered, broadcast};
+use crate::message::{broadcast, digests_of, message_of};
 use crate::network::Mail;
-use crate::node::{Node, Prepared};
+use crate::node::{Node, start};
 use crate::row::Row;
 use crate::settings::Settings;
-use broadcast_core::{CodecError, Items, Set};
+use broadcast_core::{CodecError, Items, RangeCfg, Set, TestMessage, Write};
 use broadcast_engine::buffered::{Mailbox, Sequential, StartError};
 use commonware_broadcast::Feedback;
 use std::alloc::{AllocError, AllocGlobal, Global};
@@ -27,26 +27,24 @@ type Outcome = Result<Seen, Fault>;
 
 /// Runs the nodes of the keys from 1, each in a thread, with a client each in another. Stops them
 /// once all clients have finished, or after a minute. Returns what became of each node.
-pub fn run<M, R>(rt: &R, settings: Settings) -> Result<Vec<Row>, Fault>
+pub fn run<R>(rt: &R, settings: Settings) -> Result<Vec<Row>, Fault>
 where
-    M: Numbered,
-    M::Digest: 'static,
-    M::Cfg: Send + Drop + 'static,
     R: Threads + Wait + Clock + RandomSource + AllocGlobal + Clone + Send + Sync + Drop + 'static,
 {
-    let mails = mails::<M, R>(rt, settings.nodes)?;
-    let nodes = start_nodes::<M, R>(rt, settings, &mails);
+    let mails = mails(rt, settings.nodes)?;
+    let nodes = start_nodes(rt, settings, &mails);
     drop::<_>(mails);
     run_nodes(rt, settings, nodes?)
 }
 
 /// Lets the clients of started nodes run, and stops the nodes once all clients have finished, or
 /// after a minute. Returns what became of each node.
-fn run_nodes<M, R>(rt: &R, settings: Settings, nodes: Vec<Node<M, R>>) -> Result<Vec<Row>, Fault>
+fn run_nodes<R>(
+    rt: &R,
+    settings: Settings,
+    nodes: Vec<Node<TestMessage, R>>,
+) -> Result<Vec<Row>, Fault>
 where
-    M: Numbered,
-    M::Digest: 'static,
-    M::Cfg: 'static,
     R: Threads + Wait + Clock + RandomSource + AllocGlobal + Clone + Send + Sync + Drop + 'static,
 {
     let clients = run_clients(rt, settings, &nodes);
@@ -61,33 +59,40 @@ where
 }
 
 /// Starts the clients, and waits until all have finished, or for a minute.
-fn run_clients<M, R>(
+fn run_clients<R>(
     rt: &R,
     settings: Settings,
-    nodes: &[Node<M, R>],
+    nodes: &[Node<TestMessage, R>],
 ) -> Result<Vec<JoinHandle<Outcome>>, Fault>
 where
-    M: Numbered,
-    M::Digest: 'static,
-    M::Cfg: 'static,
     R: Threads + Wait + Clock + RandomSource + AllocGlobal + Clone + Send + Sync + Drop + 'static,
 {
-    let finished = Arc::new(rt.alloc(), AtomicU64::new(0))?;
-    let clients = start_clients(rt, settings, nodes, &finished);
+    let shared = shared(rt.alloc(), settings)?;
+    let clients = start_clients(rt, settings, nodes, &shared);
     if clients.is_ok() {
-        wait_until(rt, &finished, settings.nodes);
+        wait_until(rt, &shared.finished, settings.nodes);
     }
     clients
 }
 
+/// Creates what the clients share.
+fn shared(alloc: Global, settings: Settings) -> Result<Arc<Shared>, AllocError> {
+    let shared = Shared {
+        digests: digests_of(alloc, settings.nodes, settings.messages)?,
+        subscribed: AtomicU64::new(0),
+        finished: AtomicU64::new(0),
+    };
+    Ok(Arc::new(alloc, shared)?)
+}
+
 /// Creates the mail of each node: all nodes are its peers, and a stranger has sent it a message,
 /// and a byte that is no message.
-fn mails<M: Numbered, R: Wait + AllocGlobal>(rt: &R, nodes: u64) -> Result<Vec<Arc<Mail>>, Fault> {
+fn mails<R: Wait + AllocGlobal>(rt: &R, nodes: u64) -> Result<Vec<Arc<Mail>>, Fault> {
     let mut mails = Vec::new(rt.alloc());
     for key in 1..=nodes {
         mails.reserve(1)?;
         let mail = mail_of(rt, key, nodes)?;
-        disturb::<M, R>(rt, &mail)?;
+        disturb(rt, &mail)?;
         mails.push_reserved(mail);
     }
     Ok(mails)
@@ -114,8 +119,8 @@ fn peers(alloc: Global, nodes: u64) -> Result<Set<u64>, AllocError> {
 }
 
 /// Sends a node what a stranger sends.
-fn disturb<M: Numbered, R: Wait + AllocGlobal>(rt: &R, mail: &Mail) -> Result<(), Fault> {
-    let Ok(bytes) = encoded::<M>(rt.alloc(), mail.key) else {
+fn disturb<R: Wait + AllocGlobal>(rt: &R, mail: &Mail) -> Result<(), Fault> {
+    let Ok(bytes) = encoded(rt.alloc(), mail.key) else {
         return Err(Fault::Memory);
     };
     hand(rt, mail, bytes)?;
@@ -130,22 +135,19 @@ fn hand<R: Wait>(rt: &R, mail: &Mail, bytes: Vec<u8>) -> Result<(), AllocError> 
 }
 
 /// Returns the encoding of the stranger's message with this number.
-fn encoded<M: Numbered>(alloc: Global, number: u64) -> Result<Vec<u8>, CodecError> {
+fn encoded(alloc: Global, number: u64) -> Result<Vec<u8>, CodecError> {
     let mut bytes = Vec::new(alloc);
-    M::numbered(alloc, STRANGER, number)?.write(&mut bytes)?;
+    message_of(alloc, STRANGER, number)?.write(&mut bytes)?;
     Ok(bytes)
 }
 
 /// Starts the nodes. If one can't be started, those before it are stopped.
-fn start_nodes<M, R>(
+fn start_nodes<R>(
     rt: &R,
     settings: Settings,
     mails: &[Arc<Mail>],
-) -> Result<Vec<Node<M, R>>, Fault>
+) -> Result<Vec<Node<TestMessage, R>>, Fault>
 where
-    M: Numbered,
-    M::Digest: 'static,
-    M::Cfg: Send + Drop + 'static,
     R: Threads + Wait + RandomSource + AllocGlobal + Clone + Send + Sync + Drop + 'static,
 {
     let mut nodes = Vec::new(rt.alloc());
@@ -159,60 +161,31 @@ where
 }
 
 /// Starts the node of the mail, and appends it.
-fn start_node<M, R>(
+fn start_node<R>(
     rt: &R,
     settings: Settings,
     mail: &Arc<Mail>,
     mails: &[Arc<Mail>],
-    nodes: &mut Vec<Node<M, R>>,
+    nodes: &mut Vec<Node<TestMessage, R>>,
 ) -> Result<(), Fault>
 where
-    M: Numbered,
-    M::Digest: 'static,
-    M::Cfg: Send + Drop + 'static,
     R: Threads + Wait + RandomSource + AllocGlobal + Clone + Send + Sync + Drop + 'static,
 {
     nodes.reserve(1)?;
-    let Prepared {
-        engine,
-        mailbox,
-        mail,
-        network,
-    } = prepare_node(rt, settings, mail, mails)?;
-    match engine.start(rt, network) {
-        Ok(handle) => {
-            nodes.push_reserved(Node {
-                mailbox,
-                mail,
-                handle,
-            });
+    let others = others(rt.alloc(), mail.key, mails)?;
+    let size = settings.deque_size;
+    match start(rt, RangeCfg::any(), Sequential, mail, others, size)? {
+        Ok(node) => {
+            nodes.push_reserved(node);
             Ok(())
         }
-        Err(error) => Err(not_started(rt, &mailbox, error)),
+        Err((mailbox, error)) => Err(not_started(rt, &mailbox, error)),
     }
 }
 
-/// Prepares the node of the mail, which sends to all others.
-fn prepare_node<M, R>(
-    rt: &R,
-    settings: Settings,
-    mail: &Arc<Mail>,
-    mails: &[Arc<Mail>],
-) -> Result<Prepared<M, Sequential, R>, AllocError>
-where
-    M: Numbered,
-    M::Cfg: Drop,
-    R: Wait + AllocGlobal + Clone + Drop,
-{
-    let others = others(rt.alloc(), mail.key, mails)?;
-    let size = settings.deque_size;
-    Prepared::new(rt, M::codec_config(), Sequential, mail, others, size)
-}
-
 /// Returns the fault of a node that was not started. Without a thread its mailbox must be closed.
-fn not_started<M, R>(rt: &R, mailbox: &Mailbox<u64, M, R>, error: StartError) -> Fault
+fn not_started<R>(rt: &R, mailbox: &Mailbox<u64, TestMessage, R>, error: StartError) -> Fault
 where
-    M: Numbered,
     R: Wait + AllocGlobal + Clone + Send + 'static,
 {
     match error {
@@ -237,74 +210,57 @@ fn others(alloc: Global, key: u64, mails: &[Arc<Mail>]) -> Result<Vec<Arc<Mail>>
 }
 
 /// Starts a client for each node.
-fn start_clients<M, R>(
+fn start_clients<R>(
     rt: &R,
     settings: Settings,
-    nodes: &[Node<M, R>],
-    finished: &Arc<AtomicU64>,
+    nodes: &[Node<TestMessage, R>],
+    shared: &Arc<Shared>,
 ) -> Result<Vec<JoinHandle<Outcome>>, Fault>
 where
-    M: Numbered,
-    M::Digest: 'static,
-    M::Cfg: 'static,
     R: Threads + Wait + Clock + RandomSource + AllocGlobal + Clone + Send + Sync + Drop + 'static,
 {
     let mut clients = Vec::new(rt.alloc());
-    let subscribed = Arc::new(rt.alloc(), AtomicU64::new(0))?;
     for node in nodes {
-        let client = client_of(rt, settings, node, &subscribed)?;
-        append_client(rt, client, finished, &mut clients)?;
+        clients.reserve(1)?;
+        clients.push_reserved(start_client(rt, settings, node, shared)?);
     }
     Ok(clients)
 }
 
-/// Creates the client of a node.
-fn client_of<M, R>(
+/// Starts the client of a node.
+fn start_client<R>(
     rt: &R,
     settings: Settings,
-    node: &Node<M, R>,
-    subscribed: &Arc<AtomicU64>,
-) -> Result<Client<M, R>, AllocError>
+    node: &Node<TestMessage, R>,
+    shared: &Arc<Shared>,
+) -> Result<JoinHandle<Outcome>, Fault>
 where
-    M: Numbered,
+    R: Threads + Wait + Clock + RandomSource + AllocGlobal + Clone + Send + Sync + Drop + 'static,
+{
+    let client = client_of(rt, settings, node, shared)?;
+    match thread::spawn(rt, move || client.run()) {
+        Ok(thread) => Ok(thread),
+        Err(_) => Err(Fault::Thread),
+    }
+}
+
+/// Creates the client of a node.
+fn client_of<R>(
+    rt: &R,
+    settings: Settings,
+    node: &Node<TestMessage, R>,
+    shared: &Arc<Shared>,
+) -> Result<Client<R>, AllocError>
+where
     R: Clone + Drop,
 {
     Ok(Client {
         key: node.mail.key,
         mailbox: node.mailbox.clone()?,
         settings,
-        subscribed: Arc::try_clone(subscribed)?,
+        shared: Arc::try_clone(shared)?,
         rt: rt.clone()?,
     })
-}
-
-/// Starts a client, which counts itself once it has finished, and appends its thread.
-fn append_client<M, R>(
-    rt: &R,
-    client: Client<M, R>,
-    finished: &Arc<AtomicU64>,
-    clients: &mut Vec<JoinHandle<Outcome>>,
-) -> Result<(), Fault>
-where
-    M: Numbered,
-    M::Digest: 'static,
-    M::Cfg: 'static,
-    R: Threads + Wait + Clock + RandomSource + AllocGlobal + Clone + Send + Sync + Drop + 'static,
-{
-    clients.reserve(1)?;
-    let finished = Arc::try_clone(finished)?;
-    let work = move || {
-        let outcome = client.run();
-        finished.fetch_add(1, Ordering::SeqCst);
-        outcome
-    };
-    match thread::spawn(rt, work) {
-        Ok(thread) => {
-            clients.push_reserved(thread);
-            Ok(())
-        }
-        Err(_) => Err(Fault::Thread),
-    }
 }
 
 /// Waits until this many clients have counted themselves, or for a minute.
@@ -318,9 +274,8 @@ pub(crate) fn wait_until(rt: &impl Clock, counted: &AtomicU64, clients: u64) {
 }
 
 /// Asks all nodes to stop.
-fn stop_all<M, R>(nodes: &[Node<M, R>])
+fn stop_all<R>(nodes: &[Node<TestMessage, R>])
 where
-    M: Numbered,
     R: Threads + Wait + Drop,
 {
     for node in nodes {
@@ -330,14 +285,13 @@ where
 
 /// Joins the nodes, which were asked to stop, and their clients, also after one of them failed.
 /// Returns what became of each node.
-fn rows<M, R>(
+fn rows<R>(
     rt: &R,
     settings: Settings,
-    nodes: Vec<Node<M, R>>,
+    nodes: Vec<Node<TestMessage, R>>,
     clients: Vec<JoinHandle<Outcome>>,
 ) -> Result<Vec<Row>, Fault>
 where
-    M: Numbered,
     R: Threads + Wait + AllocGlobal + Drop,
 {
     let mut rows = Vec::new(rt.alloc());
@@ -347,20 +301,21 @@ where
             outcome = Err(fault);
         }
     }
-    outcome?;
-    Ok(rows)
+    match outcome {
+        Ok(()) => Ok(rows),
+        Err(fault) => Err(fault),
+    }
 }
 
 /// Joins a node, which was asked to stop, and its client. Appends what became of the node.
-fn append_row<M, R>(
+fn append_row<R>(
     rt: &R,
     settings: Settings,
-    node: Node<M, R>,
+    node: Node<TestMessage, R>,
     client: JoinHandle<Outcome>,
     rows: &mut Vec<Row>,
 ) -> Result<(), Fault>
 where
-    M: Numbered,
     R: Threads + Wait + AllocGlobal + Drop,
 {
     let key = node.mail.key;

@@ -1,9 +1,7 @@
 //! A broadcast that is answered while a job is pending.
-use super::nodes::{Letter, broadcast, digest, fail, send, start, track};
-use super::patient::{Patient, Talk};
+use super::nodes::{broadcast, fail, hold, start_patient, subscribe};
+use super::patient::Talk;
 use broadcast_core::TestMessage;
-use broadcast_engine::buffered::Mailbox;
-use cluster_lib::network::Mail;
 use cluster_lib::node::Node;
 use std::alloc::AllocGlobal;
 use std::random::RandomSource;
@@ -12,88 +10,60 @@ use std::test::Fail;
 use std::thread::Threads;
 use std::time::Clock;
 
-/// Whether a job was pending at an engine, a broadcast was accepted meanwhile, the job was polled
-/// to its limit before that, and the job's message was taken afterwards.
+/// Whether a broadcast was accepted while a job was pending at an engine, the job was polled to its
+/// limit before that, and the job's message was taken afterwards.
 #[derive(Clone, Copy, Debug, PartialEq, Eq)]
 struct Answered {
-    pending: bool,
     accepted: bool,
     gave_up: bool,
     taken: bool,
 }
 
 /// Broadcasts while a job is pending, which waits for the answer.
-fn broadcast_meanwhile<M, R>(rt: &R) -> Result<Answered, Fail>
+fn broadcast_meanwhile<R>(rt: &R) -> Result<Answered, Fail>
 where
-    M: Letter,
-    M::Digest: 'static,
-    M::Cfg: Send + Drop + 'static,
     R: Threads + Wait + Clock + RandomSource + AllocGlobal + Clone + Send + Sync + Drop + 'static,
 {
-    let talk = Talk::new(rt)?;
-    let strategy = Patient::new(rt, &talk)?;
-    let Node {
-        mailbox,
-        mail,
-        handle,
-    } = start::<M, _, R>(rt, strategy)?;
-    let answered = answers(rt, &mailbox, &mail, &talk)?;
-    drop(handle.join(rt));
+    let (node, talk) = start_patient(rt)?;
+    let answered = answers(rt, &node, &talk)?;
+    drop(node.join(rt));
     Ok(answered)
 }
 
 /// Broadcasts at a node while a job is pending, and waits until its message is taken. The network
 /// of the node fails then, which ends its engine.
-fn answers<M, R>(
-    rt: &R,
-    mailbox: &Mailbox<u64, M, R>,
-    mail: &Mail,
-    talk: &Talk,
-) -> Result<Answered, Fail>
+fn answers<R>(rt: &R, node: &Node<TestMessage, R>, talk: &Talk) -> Result<Answered, Fail>
 where
-    M: Letter,
     R: Wait + Clock + RandomSource + AllocGlobal + Clone + Send + 'static,
 {
-    let waiting = mailbox.subscribe(digest::<M>(rt.alloc(), 2)?)?;
-    let (pending, accepted) = broadcasts(rt, mailbox, mail, talk)?;
-    let taken = waiting.wait(rt).is_ok();
+    let waiting = subscribe(rt, &node.mailbox, 2)?;
+    let accepted = is_accepted(rt, node, talk)?;
     Ok(Answered {
-        pending,
         accepted,
         gave_up: talk.gave_up(),
-        taken,
+        taken: waiting.wait(rt).is_ok(),
     })
 }
 
-/// Broadcasts at a node while a job is pending. Returns whether one was, and whether the broadcast
-/// was accepted.
-fn broadcasts<M, R>(
-    rt: &R,
-    mailbox: &Mailbox<u64, M, R>,
-    mail: &Mail,
-    talk: &Talk,
-) -> Result<(bool, bool), Fail>
+/// Broadcasts at a node while a job is pending. Returns whether the broadcast was accepted.
+fn is_accepted<R>(rt: &R, node: &Node<TestMessage, R>, talk: &Talk) -> Result<bool, Fail>
 where
-    M: Letter,
     R: Wait + Clock + AllocGlobal + Clone + Send + 'static,
 {
-    track(rt, mail, &[1, 5])?;
-    send(rt, mail, 5, &[0, 0, 0, 0, 0, 0, 0, 1, 2])?;
-    let pending = talk.wait_for_job(rt);
-    let accepted = broadcast(rt, mailbox)?.accepted();
+    hold(rt, &node.mail, talk)?;
+    let accepted = broadcast(rt, &node.mailbox, 1)?.accepted();
     talk.answer();
-    fail(rt, mail)?;
-    Ok((pending, accepted))
+    fail(rt, &node.mail)?;
+    Ok(accepted)
 }
 
 #[test]
 fn core_is_outside_the_lock(rt: HostRuntime) -> Result<(), Fail> {
     let expected = Answered {
-        pending: true,
         accepted: true,
         gave_up: false,
         taken: true,
     };
-    assert_eq!(rt; broadcast_meanwhile::<TestMessage, _>(&rt)?, expected);
+    assert_eq!(rt; broadcast_meanwhile(&rt)?, expected);
     Ok(())
 }

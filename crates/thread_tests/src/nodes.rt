@@ -1,10 +1,11 @@
 //! A started node, and what feeds it.
-use super::patient::{LIMIT, pause};
-use broadcast_core::{Codec, Digested, Digestible, Items, RangeCfg, Recipients, Set, TestMessage};
-use broadcast_engine::buffered::{Mailbox, NetworkFailed, Strategy};
+use super::patient::{LIMIT, Patient, Talk, pause};
+use broadcast_core::{Digested, Digestible, Items, RangeCfg, Recipients, Set, TestMessage};
+use broadcast_engine::buffered::{Mailbox, NetworkFailed, Strategy, Subscription};
 use broadcast_engine::{Broadcaster, Feedback};
+use cluster_lib::fault::Fault;
 use cluster_lib::network::Mail;
-use cluster_lib::node::{Node, Prepared};
+use cluster_lib::node::{self, Node};
 use std::alloc::{AllocError, AllocGlobal, Global};
 use std::random::RandomSource;
 use std::sync::{Arc, Wait};
@@ -13,19 +14,39 @@ use std::thread::Threads;
 use std::time::Clock;
 
 /// Starts the node of key 1. It has no peers and no payloads yet.
-pub fn start<M, T, R>(rt: &R, strategy: T) -> Result<Node<M, R>, Fail>
+pub fn start<T, R>(rt: &R, strategy: T) -> Result<Node<TestMessage, R>, Fail>
 where
-    M: Letter,
-    M::Digest: 'static,
-    M::Cfg: Send + Drop + 'static,
-    T: Strategy<M> + Send + Drop + 'static,
+    T: Strategy<TestMessage> + Send + Drop + 'static,
     T::Job: Send + 'static,
     R: Threads + Wait + RandomSource + AllocGlobal + Clone + Send + Sync + Drop + 'static,
 {
     let mail = Arc::new(rt.alloc(), Mail::new(rt.alloc(), 1))?;
     let others = Vec::new(rt.alloc());
-    let node = Prepared::new(rt, M::cfg(), strategy, &mail, others, 4)?;
-    Ok(node.start(rt)?)
+    match node::start(rt, RangeCfg::any(), strategy, &mail, others, 4)? {
+        Ok(node) => Ok(node),
+        Err((_, error)) => Err(error)?,
+    }
+}
+
+/// Starts the node of key 1, whose jobs take part in a talk.
+pub fn start_patient<R>(rt: &R) -> Result<(Node<TestMessage, R>, Arc<Talk>), Fail>
+where
+    R: Threads + Wait + Clock + RandomSource + AllocGlobal + Clone + Send + Sync + Drop + 'static,
+{
+    let talk = Talk::new(rt)?;
+    let strategy = Patient::new(rt, &talk)?;
+    Ok((start(rt, strategy)?, talk))
+}
+
+/// Lets a job be pending at the node, which has the peer 5. It is of the message of the letter 2.
+pub fn hold<R: Wait + Clock + AllocGlobal>(rt: &R, mail: &Mail, talk: &Talk) -> Result<(), Fail> {
+    track(rt, mail, &[1, 5])?;
+    send(rt, mail, 5, &[0, 0, 0, 0, 0, 0, 0, 1, 2])?;
+    if talk.wait_for_job(rt) {
+        Ok(())
+    } else {
+        Err("no job is pending")?
+    }
 }
 
 /// Tells the node its peers.
@@ -50,24 +71,47 @@ pub fn fail<R: Wait>(rt: &R, mail: &Mail) -> Result<(), AllocError> {
     mail.payloads.give(rt, Err(NetworkFailed))
 }
 
-/// Broadcasts the message of the letter 1.
-pub fn broadcast<M, R>(rt: &R, mailbox: &Mailbox<u64, M, R>) -> Result<Feedback, Fail>
+/// Broadcasts the message of the letter.
+pub fn broadcast<R>(
+    rt: &R,
+    mailbox: &Mailbox<u64, TestMessage, R>,
+    letter: u8,
+) -> Result<Feedback, Fault>
 where
-    M: Letter,
     R: Wait + AllocGlobal + Clone + Send + 'static,
 {
-    let digested = Digested::compute(rt.alloc(), M::of(rt.alloc(), 1)?)?;
+    let digested = Digested::compute(rt.alloc(), message(rt.alloc(), letter)?)?;
     Ok(mailbox.broadcast(Recipients::All, digested)?)
 }
 
-/// Waits until the mailbox is closed. Returns whether it is.
-pub fn wait_for_close<M, R>(rt: &R, mailbox: &Mailbox<u64, M, R>) -> Result<bool, Fail>
+/// Subscribes to the message of the letter.
+pub fn subscribe<R>(
+    rt: &R,
+    mailbox: &Mailbox<u64, TestMessage, R>,
+    letter: u8,
+) -> Result<Subscription<TestMessage>, Fault>
 where
-    M: Letter,
+    R: Wait + AllocGlobal,
+{
+    Ok(mailbox.subscribe(digest(rt.alloc(), letter)?)?)
+}
+
+/// Gets the message of the letter. Returns whether there is one.
+pub fn gets<R>(rt: &R, mailbox: &Mailbox<u64, TestMessage, R>, letter: u8) -> Result<bool, Fault>
+where
+    R: Wait + RandomSource + AllocGlobal,
+{
+    let get = mailbox.get(digest(rt.alloc(), letter)?)?;
+    Ok(get.wait(rt).is_some())
+}
+
+/// Waits until the mailbox is closed. Returns whether it is.
+pub fn wait_for_close<R>(rt: &R, mailbox: &Mailbox<u64, TestMessage, R>) -> Result<bool, Fault>
+where
     R: Wait + Clock + AllocGlobal + Clone + Send + 'static,
 {
     for _ in 0..LIMIT {
-        if broadcast(rt, mailbox)? == Feedback::Closed {
+        if broadcast(rt, mailbox, 1)? == Feedback::Closed {
             return Ok(true);
         }
         pause(rt);
@@ -75,28 +119,13 @@ where
     Ok(false)
 }
 
-/// A message that a letter names.
-pub trait Letter: Digestible + Codec + Send + Sync + 'static {
-    /// Creates the message of the letter.
-    fn of(alloc: Global, letter: u8) -> Result<Self, AllocError>;
-
-    /// Returns what messages may be decoded.
-    fn cfg() -> Self::Cfg;
-}
-
-/// The content is the letter.
-impl Letter for TestMessage {
-    fn of(alloc: Global, letter: u8) -> Result<Self, AllocError> {
-        let content = Vec::from_slice(alloc, &[letter])?;
-        Ok(TestMessage::new(Vec::new(alloc), content))
-    }
-
-    fn cfg() -> RangeCfg {
-        RangeCfg::any()
-    }
+/// Creates the message of the letter, which is its content.
+pub fn message(alloc: Global, letter: u8) -> Result<TestMessage, AllocError> {
+    let content = Vec::from_slice(alloc, &[letter])?;
+    Ok(TestMessage::new(Vec::new(alloc), content))
 }
 
 /// Returns the digest of the message of the letter.
-pub fn digest<M: Letter>(alloc: Global, letter: u8) -> Result<M::Digest, AllocError> {
-    Ok(M::of(alloc, letter)?.digest())
+pub fn digest(alloc: Global, letter: u8) -> Result<[u8; 32], AllocError> {
+    Ok(message(alloc, letter)?.digest())
 }

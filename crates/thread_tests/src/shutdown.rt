@@ -1,6 +1,9 @@
 //! Started engines that end.
-use super::nodes::{Letter, broadcast, digest, fail, send, start, track, wait_for_close};
-use super::patient::{Patient, Talk};
+use super::nodes::{
+    broadcast, digest, fail, gets, hold, send, start, start_patient, subscribe, track,
+    wait_for_close,
+};
+use super::patient::Talk;
 use broadcast_core::TestMessage;
 use broadcast_engine::Feedback;
 use broadcast_engine::buffered::{EndCause, Mailbox, Sequential, Status, Subscription};
@@ -8,7 +11,7 @@ use cluster_lib::network::Mail;
 use cluster_lib::node::Node;
 use std::alloc::{AllocError, AllocGlobal};
 use std::random::RandomSource;
-use std::sync::{Arc, Wait};
+use std::sync::Wait;
 use std::test::Fail;
 use std::thread::Threads;
 use std::time::Clock;
@@ -27,112 +30,80 @@ struct Stopped {
     none: bool,
 }
 
-/// Subscribes to the message of the letter 1.
-fn subscribe<M, R>(rt: &R, mailbox: &Mailbox<u64, M, R>) -> Result<Subscription<M>, Fail>
-where
-    M: Letter,
-    R: Wait + AllocGlobal,
-{
-    Ok(mailbox.subscribe(digest::<M>(rt.alloc(), 1)?)?)
-}
-
-/// Gets that message. Returns whether nothing is given.
-fn gets_none<M, R>(rt: &R, mailbox: &Mailbox<u64, M, R>) -> Result<bool, Fail>
-where
-    M: Letter,
-    R: Wait + RandomSource + AllocGlobal,
-{
-    Ok(mailbox.get(digest::<M>(rt.alloc(), 1)?)?.wait(rt).is_none())
-}
-
-/// Lets a job be pending at the node, which has the peer 5.
-fn hold<R: Wait + Clock + AllocGlobal>(rt: &R, mail: &Mail, talk: &Talk) -> Result<(), Fail> {
-    track(rt, mail, &[1, 5])?;
-    send(rt, mail, 5, &[0, 0, 0, 0, 0, 0, 0, 1, 2])?;
-    if talk.wait_for_job(rt) {
-        Ok(())
-    } else {
-        Err("no job is pending")?
-    }
-}
-
 /// Stops an engine, some times, with a job pending or idle, and joins it.
-fn stop<M, R>(rt: &R, is_busy: bool, times: u64) -> Result<Stopped, Fail>
+fn stop<R>(rt: &R, is_busy: bool, times: u64) -> Result<Stopped, Fail>
 where
-    M: Letter,
-    M::Digest: 'static,
-    M::Cfg: Send + Drop + 'static,
     R: Threads + Wait + Clock + RandomSource + AllocGlobal + Clone + Send + Sync + Drop + 'static,
 {
-    let talk = Talk::new(rt)?;
-    let strategy = Patient::new(rt, &talk)?;
-    let node = start::<M, _, R>(rt, strategy)?;
-    end(rt, node, &talk, is_busy, times)
+    let (node, talk) = start_patient(rt)?;
+    let (waiting, prompt) = ask_to_stop(rt, &node, &talk, is_busy, times)?;
+    let (mailbox, cause) = join(rt, node);
+    let held = waiting.wait(rt).is_err();
+    after(rt, &mailbox, prompt, cause, held)
 }
 
-/// Stops the engine of a node, and joins it.
-fn end<M, R>(
+/// Asks an engine to stop. Returns a subscription that it holds, and whether it closes its mailbox
+/// promptly.
+fn ask_to_stop<R>(
     rt: &R,
-    node: Node<M, R>,
+    node: &Node<TestMessage, R>,
     talk: &Talk,
     is_busy: bool,
     times: u64,
-) -> Result<Stopped, Fail>
+) -> Result<(Subscription<TestMessage>, bool), Fail>
 where
-    M: Letter,
-    R: Threads + Wait + Clock + RandomSource + AllocGlobal + Clone + Send + Drop + 'static,
+    R: Threads + Wait + Clock + AllocGlobal + Clone + Send + Drop + 'static,
+{
+    if is_busy {
+        hold(rt, &node.mail, talk)?;
+    }
+    let waiting = subscribe(rt, &node.mailbox, 1)?;
+    for _ in 0..times {
+        node.handle.stop();
+    }
+    Ok((waiting, closes(rt, node, talk)?))
+}
+
+/// Joins the engine of a node. Returns its mailbox, and its cause.
+fn join<R>(rt: &R, node: Node<TestMessage, R>) -> (Mailbox<u64, TestMessage, R>, EndCause)
+where
+    R: Threads + Wait + Drop,
 {
     let Node {
         mailbox,
-        mail,
         handle,
+        ..
     } = node;
-    let waiting = subscribe(rt, &mailbox)?;
-    if is_busy {
-        hold(rt, &mail, talk)?;
-    }
-    for _ in 0..times {
-        handle.stop();
-    }
-    let prompt = closes(rt, &mailbox, &mail, talk);
     let cause = handle.join(rt).cause();
-    let held = waiting.wait(rt).is_err();
-    after(rt, &mailbox, prompt?, cause, held)
+    (mailbox, cause)
 }
 
 /// Returns whether a node closes its mailbox before a job gives up. Its network fails then, so that
 /// its engine ends also if it does not stop.
-fn closes<M, R>(
-    rt: &R,
-    mailbox: &Mailbox<u64, M, R>,
-    mail: &Mail,
-    talk: &Talk,
-) -> Result<bool, Fail>
+fn closes<R>(rt: &R, node: &Node<TestMessage, R>, talk: &Talk) -> Result<bool, Fail>
 where
-    M: Letter,
     R: Wait + Clock + AllocGlobal + Clone + Send + 'static,
 {
-    let closed = wait_for_close(rt, mailbox)?;
+    let closed = wait_for_close(rt, &node.mailbox)?;
     let prompt = closed && !talk.gave_up();
-    fail(rt, mail)?;
+    fail(rt, &node.mail)?;
     Ok(prompt)
 }
 
 /// Asks the mailbox of an engine that ended with this cause.
-fn after<M, R>(
+fn after<R>(
     rt: &R,
-    mailbox: &Mailbox<u64, M, R>,
+    mailbox: &Mailbox<u64, TestMessage, R>,
     prompt: bool,
     cause: EndCause,
     held: bool,
 ) -> Result<Stopped, Fail>
 where
-    M: Letter,
     R: Wait + RandomSource + AllocGlobal + Clone + Send + 'static,
 {
-    let feedback = broadcast(rt, mailbox)?;
-    let canceled = subscribe(rt, mailbox)?.wait(rt).is_err();
-    let none = gets_none(rt, mailbox)?;
+    let feedback = broadcast(rt, mailbox, 1)?;
+    let canceled = subscribe(rt, mailbox, 1)?.wait(rt).is_err();
+    let none = !gets(rt, mailbox, 1)?;
     Ok(Stopped {
         prompt,
         cause,
@@ -154,7 +125,7 @@ fn a_stopped_engine_ends_promptly_and_answers_nothing(rt: HostRuntime) -> Result
         none: true,
     };
     for (is_busy, times) in [(false, 1), (false, 2), (true, 1), (true, 2)] {
-        assert_eq!(rt; stop::<TestMessage, _>(&rt, is_busy, times)?, expected);
+        assert_eq!(rt; stop(&rt, is_busy, times)?, expected);
     }
     Ok(())
 }
@@ -168,22 +139,13 @@ fn feed<R: Wait + AllocGlobal>(rt: &R, mail: &Mail) -> Result<(), AllocError> {
 
 /// Starts an engine, whose thread serves a subscriber. Returns whether it was served, and how many
 /// payloads were taken and how many were no message.
-fn served<M, R>(rt: &R) -> Result<(bool, u64, u64), Fail>
+fn served<R>(rt: &R) -> Result<(bool, u64, u64), Fail>
 where
-    M: Letter,
-    M::Digest: 'static,
-    M::Cfg: Send + Drop + 'static,
     R: Threads + Wait + RandomSource + AllocGlobal + Clone + Send + Sync + Drop + 'static,
 {
-    let Node {
-        mailbox,
-        mail,
-        handle,
-    } = start::<M, _, R>(rt, Sequential)?;
-    let got = hears(rt, &mailbox, &mail)?;
-    handle.stop();
-    fail(rt, &mail)?;
-    let report = handle.join(rt);
+    let node = start(rt, Sequential)?;
+    let got = hears(rt, &node)?;
+    let report = node.join(rt);
     let metrics = report.metrics();
     Ok((
         got,
@@ -192,24 +154,22 @@ where
     ))
 }
 
-/// Feeds a node after a subscribe to the message. Returns whether that is served.
-fn hears<M, R>(rt: &R, mailbox: &Mailbox<u64, M, R>, mail: &Mail) -> Result<bool, Fail>
+/// Feeds a node after a subscribe to the message, and stops it. Returns whether the subscribe is
+/// served.
+fn hears<R>(rt: &R, node: &Node<TestMessage, R>) -> Result<bool, Fail>
 where
-    M: Letter,
-    R: Wait + RandomSource + AllocGlobal,
+    R: Threads + Wait + RandomSource + AllocGlobal + Drop,
 {
-    let wanted = digest::<M>(rt.alloc(), 2)?;
-    let waiting = mailbox.subscribe(wanted)?;
-    feed(rt, mail)?;
-    Ok(
-        waiting
-            .wait(rt)
-            .is_ok_and(|message| message.digest().cmp(&wanted).is_eq()),
-    )
+    let waiting = subscribe(rt, &node.mailbox, 2)?;
+    feed(rt, &node.mail)?;
+    let message = waiting.wait(rt)?;
+    node.handle.stop();
+    fail(rt, &node.mail)?;
+    Ok(message.digest().cmp(&digest(rt.alloc(), 2)?).is_eq())
 }
 
 #[test]
 fn a_started_engine_serves_its_callers(rt: HostRuntime) -> Result<(), Fail> {
-    assert_eq!(rt; served::<TestMessage, _>(&rt)?, (true, 1, 1));
+    assert_eq!(rt; served(&rt)?, (true, 1, 1));
     Ok(())
 }

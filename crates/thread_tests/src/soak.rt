@@ -1,9 +1,9 @@
 //! Many callers of one started engine, which is stopped in the middle.
-use super::nodes::{Letter, digest, fail, send, start, track};
+use super::nodes::{broadcast, fail, gets, send, start, subscribe, track};
 use super::patient::{LIMIT, pause};
-use broadcast_core::{Digested, Recipients, TestMessage};
-use broadcast_engine::Broadcaster;
+use broadcast_core::TestMessage;
 use broadcast_engine::buffered::{Mailbox, Metrics, Sequential, Status, Subscription};
+use cluster_lib::fault::Fault;
 use cluster_lib::network::Mail;
 use cluster_lib::node::Node;
 use std::alloc::{AllocError, AllocGlobal};
@@ -34,35 +34,37 @@ struct Ends {
     got: u64,
 }
 
+/// The result of a caller's thread.
+type Outcome = Result<Ends, Fault>;
+
 /// A caller of an engine.
 #[derive(Drop)]
-struct Caller<M: Letter, R> {
-    mailbox: Mailbox<u64, M, R>,
+struct Caller<R> {
+    mailbox: Mailbox<u64, TestMessage, R>,
     /// The requests that were made by all callers.
     made: Arc<AtomicU64>,
     rt: R,
 }
 
-impl<M, R> Caller<M, R>
+impl<R> Caller<R>
 where
-    M: Letter,
     R: Wait + RandomSource + AllocGlobal + Clone + Send + 'static,
 {
-    /// Makes all requests. Returns what happened to them, or `None` if one was refused.
-    fn run(&self) -> Option<Ends> {
-        let mut waiting = Vec::with_capacity(self.rt.alloc(), ROUNDS as usize).ok()?;
+    /// Makes all requests, and waits for the subscriptions. Returns what happened to them.
+    fn run(&self) -> Outcome {
+        let mut waiting = Vec::new(self.rt.alloc());
         let mut got = 0u64;
         for round in 0..ROUNDS {
             let (subscription, is_found) = self.ask(round as u8)?;
-            waiting.push(subscription).ok()?;
+            waiting.push(subscription)?;
             got = got.saturating_add(u64::from(is_found));
             self.made.fetch_add(4, Ordering::SeqCst);
         }
-        Some(self.end(waiting, got))
+        Ok(self.end(waiting, got))
     }
 
     /// Waits for the subscriptions.
-    fn end(&self, waiting: Vec<Subscription<M>>, got: u64) -> Ends {
+    fn end(&self, waiting: Vec<Subscription<TestMessage>>, got: u64) -> Ends {
         let mut served = 0u64;
         let mut ended = 0u64;
         for subscription in waiting {
@@ -78,48 +80,21 @@ where
 
     /// Makes a request of each kind, and drops a subscription that nobody serves. Returns another
     /// one, and whether the get gave a message.
-    fn ask(&self, letter: u8) -> Option<(Subscription<M>, bool)> {
-        self.broadcast(letter % 64)?;
-        drop::<_>(self.subscribe(255)?);
-        let got = self.gets(letter % 128)?;
-        Some((self.subscribe(letter % 192)?, got))
-    }
-
-    /// Subscribes to the message of the letter.
-    fn subscribe(&self, letter: u8) -> Option<Subscription<M>> {
-        self.mailbox.subscribe(self.digest(letter)?).ok()
-    }
-
-    /// Gets the message of the letter. Returns whether there is one.
-    fn gets(&self, letter: u8) -> Option<bool> {
-        let get = self.mailbox.get(self.digest(letter)?).ok()?;
-        Some(get.wait(&self.rt).is_some())
-    }
-
-    /// Broadcasts the message of the letter.
-    fn broadcast(&self, letter: u8) -> Option<()> {
-        let alloc = self.rt.alloc();
-        let message = Digested::compute(alloc, M::of(alloc, letter).ok()?).ok()?;
-        let _feedback = self.mailbox.broadcast(Recipients::All, message).ok()?;
-        Some(())
-    }
-
-    /// Returns the digest of the message of the letter.
-    fn digest(&self, letter: u8) -> Option<M::Digest> {
-        digest::<M>(self.rt.alloc(), letter).ok()
+    fn ask(&self, letter: u8) -> Result<(Subscription<TestMessage>, bool), Fault> {
+        let _feedback = broadcast(&self.rt, &self.mailbox, letter % 64)?;
+        drop::<_>(subscribe(&self.rt, &self.mailbox, 255)?);
+        let got = gets(&self.rt, &self.mailbox, letter % 128)?;
+        Ok((subscribe(&self.rt, &self.mailbox, letter % 192)?, got))
     }
 }
 
 /// Starts the callers.
-fn start_callers<M, R>(
+fn start_callers<R>(
     rt: &R,
-    mailbox: &Mailbox<u64, M, R>,
+    mailbox: &Mailbox<u64, TestMessage, R>,
     made: &Arc<AtomicU64>,
-) -> Result<Vec<JoinHandle<Option<Ends>>>, Fail>
+) -> Result<Vec<JoinHandle<Outcome>>, Fail>
 where
-    M: Letter,
-    M::Digest: 'static,
-    M::Cfg: 'static,
     R: Threads + Wait + RandomSource + AllocGlobal + Clone + Send + Sync + Drop + 'static,
 {
     let mut callers = Vec::new(rt.alloc());
@@ -130,15 +105,12 @@ where
 }
 
 /// Starts a caller.
-fn start_caller<M, R>(
+fn start_caller<R>(
     rt: &R,
-    mailbox: &Mailbox<u64, M, R>,
+    mailbox: &Mailbox<u64, TestMessage, R>,
     made: &Arc<AtomicU64>,
-) -> Result<JoinHandle<Option<Ends>>, Fail>
+) -> Result<JoinHandle<Outcome>, Fail>
 where
-    M: Letter,
-    M::Digest: 'static,
-    M::Cfg: 'static,
     R: Threads + Wait + RandomSource + AllocGlobal + Clone + Send + Sync + Drop + 'static,
 {
     let caller = Caller {
@@ -150,14 +122,14 @@ where
 }
 
 /// Joins the callers. Returns the sums of what happened to their requests.
-fn join_callers(rt: &impl Threads, callers: Vec<JoinHandle<Option<Ends>>>) -> Result<Ends, Fail> {
+fn join_callers(rt: &impl Threads, callers: Vec<JoinHandle<Outcome>>) -> Result<Ends, Fail> {
     let mut all = Ends {
         requests: 0,
         served: 0,
         got: 0,
     };
     for caller in callers {
-        let ends = caller.join(rt).ok_or("a request was refused")?;
+        let ends = caller.join(rt)?;
         all.requests = all.requests.saturating_add(ends.requests);
         all.served = all.served.saturating_add(ends.served);
         all.got = all.got.saturating_add(ends.got);
@@ -238,16 +210,13 @@ fn account_of(metrics: &Metrics<u64>, ends: Ends, all_fed: bool) -> Account {
 #[derive(Drop)]
 struct Workers {
     made: Arc<AtomicU64>,
-    callers: Vec<JoinHandle<Option<Ends>>>,
+    callers: Vec<JoinHandle<Outcome>>,
     feeder: JoinHandle<bool>,
 }
 
 /// Starts the callers and the feeder of the node.
-fn start_workers<M, R>(rt: &R, node: &Node<M, R>) -> Result<Workers, Fail>
+fn start_workers<R>(rt: &R, node: &Node<TestMessage, R>) -> Result<Workers, Fail>
 where
-    M: Letter,
-    M::Digest: 'static,
-    M::Cfg: 'static,
     R: Threads + Wait + RandomSource + AllocGlobal + Clone + Send + Sync + Drop + 'static,
 {
     let made = Arc::new(rt.alloc(), AtomicU64::new(0))?;
@@ -262,15 +231,13 @@ where
 
 /// Stops the node while callers and feeder work at it, and joins them all. Its network fails then,
 /// so that it ends also if it does not stop.
-fn stop<M, R>(rt: &R, node: Node<M, R>, workers: Workers) -> Result<Account, Fail>
+fn stop<R>(rt: &R, node: Node<TestMessage, R>, workers: Workers) -> Result<Account, Fail>
 where
-    M: Letter,
     R: Threads + Wait + Drop,
 {
     node.handle.stop();
     fail(rt, &node.mail)?;
-    let Node { handle, .. } = node;
-    let report = handle.join(rt);
+    let report = node.join(rt);
     let Workers {
         callers,
         feeder,
@@ -281,14 +248,11 @@ where
 }
 
 /// Lets callers and a feeder work at an engine, and stops it once half of the requests are made.
-fn soak<M, R>(rt: &R) -> Result<Account, Fail>
+fn soak<R>(rt: &R) -> Result<Account, Fail>
 where
-    M: Letter,
-    M::Digest: 'static,
-    M::Cfg: Send + Drop + 'static,
     R: Threads + Wait + Clock + RandomSource + AllocGlobal + Clone + Send + Sync + Drop + 'static,
 {
-    let node = start::<M, _, R>(rt, Sequential)?;
+    let node = start(rt, Sequential)?;
     let workers = start_workers(rt, &node)?;
     wait_for_half(rt, &workers.made);
     stop(rt, node, workers)
@@ -303,6 +267,6 @@ fn many_callers_and_a_stop(rt: HostRuntime) -> Result<(), Fail> {
         fed: true,
         all_fed: true,
     };
-    assert_eq!(rt; soak::<TestMessage, _>(&rt)?, expected);
+    assert_eq!(rt; soak(&rt)?, expected);
     Ok(())
 }

@@ -1,12 +1,12 @@
 //! Engines that can't be started, or can't wait once they are.
-use super::nodes::{Letter, broadcast, fail, wait_for_close};
+use super::nodes::{broadcast, fail, wait_for_close};
 use super::poor::{Poor, Supply};
-use broadcast_core::TestMessage;
+use broadcast_core::{Codec, Digestible, RangeCfg, TestMessage};
 use broadcast_engine::Feedback;
 use broadcast_engine::buffered::{EndCause, Handle, Mailbox, Sequential, StartError};
 use cluster_lib::network::Mail;
-use cluster_lib::node::Prepared;
-use std::alloc::AllocGlobal;
+use cluster_lib::node::{Node, Prepared, Started};
+use std::alloc::{AllocError, AllocGlobal};
 use std::random::RandomSource;
 use std::sync::{Arc, Wait};
 use std::test::Fail;
@@ -60,14 +60,13 @@ fn cases() -> &'static [Case] {
 
 /// Stops an engine. Its network fails then, so that it ends also if it does not stop. Returns its
 /// cause.
-fn stop<M, R>(
+fn stop<R>(
     rt: &R,
-    mailbox: &Mailbox<u64, M, R>,
+    mailbox: &Mailbox<u64, TestMessage, R>,
     mail: &Mail,
-    handle: Handle<u64, M, R>,
+    handle: Handle<u64, TestMessage, R>,
 ) -> Result<EndCause, Fail>
 where
-    M: Letter,
     R: Threads + Wait + Clock + AllocGlobal + Clone + Send + Drop + 'static,
 {
     handle.stop();
@@ -76,51 +75,63 @@ where
     Ok(handle.join(rt).cause())
 }
 
-/// Starts an engine with the supply, and stops it. Returns how that ends, and whether its mailbox
-/// is closed.
-fn start<M, R>(rt: &Poor<R>, copies: u64, randoms: u64) -> Result<(Ending, bool), Fail>
+/// Starts the node of key 1 with the supply.
+fn start_with<M, R>(
+    rt: &Poor<R>,
+    codec_config: M::Cfg,
+    copies: u64,
+    randoms: u64,
+) -> Result<Started<M, Poor<R>>, AllocError>
 where
-    M: Letter,
+    M: Digestible + Codec + Send + Sync + 'static,
     M::Digest: 'static,
     M::Cfg: Send + Drop + 'static,
     R: Threads + Wait + Clock + RandomSource + AllocGlobal + Clone + Send + Sync + Drop + 'static,
 {
     let mail = Arc::new(rt.alloc(), Mail::new(rt.alloc(), 1))?;
     let others = Vec::new(rt.alloc());
-    let Prepared {
-        engine,
-        mailbox,
-        mail,
-        network,
-    } = Prepared::<M, _, _>::new(rt, M::cfg(), Sequential, &mail, others, 4)?;
+    let prepared = Prepared::new(rt, codec_config, Sequential, &mail, others, 4)?;
     rt.supply.leave(copies, randoms);
-    ended(rt, &mailbox, &mail, engine.start(rt, network))
+    Ok(prepared.start(rt))
 }
 
-/// Stops an engine if it was started. Returns how that ends, and whether its mailbox is closed.
-fn ended<M, R>(
-    rt: &R,
-    mailbox: &Mailbox<u64, M, R>,
-    mail: &Mail,
-    started: Result<Handle<u64, M, R>, StartError>,
-) -> Result<(Ending, bool), Fail>
+/// Starts an engine with the supply, and stops it. Returns how that ends, and whether its mailbox
+/// is closed.
+fn start<R>(rt: &Poor<R>, copies: u64, randoms: u64) -> Result<(Ending, bool), Fail>
 where
-    M: Letter,
+    R: Threads + Wait + Clock + RandomSource + AllocGlobal + Clone + Send + Sync + Drop + 'static,
+{
+    match start_with(rt, RangeCfg::any(), copies, randoms)? {
+        Ok(node) => stopped(rt, node),
+        Err((mailbox, error)) => Ok((Err(error), is_closed(rt, &mailbox)?)),
+    }
+}
+
+/// Stops a node. Returns its cause, and whether its mailbox is closed.
+fn stopped<R>(rt: &R, node: Node<TestMessage, R>) -> Result<(Ending, bool), Fail>
+where
     R: Threads + Wait + Clock + AllocGlobal + Clone + Send + Drop + 'static,
 {
-    let ending = match started {
-        Ok(handle) => Ok(stop(rt, mailbox, mail, handle)?),
-        Err(error) => Err(error),
-    };
-    Ok((ending, broadcast(rt, mailbox)? == Feedback::Closed))
+    let Node {
+        mailbox,
+        mail,
+        handle,
+    } = node;
+    let cause = stop(rt, &mailbox, &mail, handle)?;
+    Ok((Ok(cause), is_closed(rt, &mailbox)?))
+}
+
+/// Returns whether the mailbox is closed.
+fn is_closed<R>(rt: &R, mailbox: &Mailbox<u64, TestMessage, R>) -> Result<bool, Fail>
+where
+    R: Wait + AllocGlobal + Clone + Send + 'static,
+{
+    Ok(broadcast(rt, mailbox, 1)? == Feedback::Closed)
 }
 
 /// Starts an engine for each row.
-fn start_all<M, R>(rt: &R) -> Result<(), Fail>
+fn start_all<R>(rt: &R) -> Result<(), Fail>
 where
-    M: Letter,
-    M::Digest: 'static,
-    M::Cfg: Send + Drop + 'static,
     R: Threads + Wait + Clock + RandomSource + AllocGlobal + Clone + Send + Sync + Drop + 'static,
 {
     for row in cases() {
@@ -128,7 +139,7 @@ where
             rt: rt.clone()?,
             supply: Supply::new(rt.alloc())?,
         };
-        if start::<M, R>(&poor, row.copies, row.randoms)? != (row.ending, true) {
+        if start::<R>(&poor, row.copies, row.randoms)? != (row.ending, true) {
             Err("a start ends otherwise")?
         }
     }
@@ -137,5 +148,5 @@ where
 
 #[test]
 fn an_engine_that_is_not_started_is_given_up(rt: HostRuntime) -> Result<(), Fail> {
-    start_all::<TestMessage, _>(&rt)
+    start_all(&rt)
 }
