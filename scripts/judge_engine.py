@@ -13,7 +13,7 @@ from inbox_model import Inbox
 KEYS = range(7)
 UPDATES = ("set", "no_set", "end")
 RECEIVED = ("payload", "no_payload", "fail")
-REFUSED = "refused"
+REFUSED = "Refused(Memory)"
 
 
 @dataclass(eq=False)
@@ -45,6 +45,12 @@ class Request:
         return "dropped" if self.closed else self.gives or f"{self.kind} waits"
 
 
+def debugged(error):
+    """The error of a payload as the program prints it."""
+    name, *arguments = error.split(" ")
+    return f"{name}({arguments[0]})" if arguments else name
+
+
 class Engine:
     """An engine with key 1, its mailbox, and what its sources still give."""
 
@@ -59,7 +65,7 @@ class Engine:
         self.peers, self.left = [0 for _ in KEYS], [0 for _ in KEYS]
 
     def end(self, cause):
-        self.ended = f"ended:{cause}"
+        self.ended = f"Ended({cause})"
         for _, request in self.inbox.waiting():
             request.give_up()
         self.inbox.close()
@@ -77,16 +83,16 @@ class Engine:
         self.waiters = self.core.awaited_count()
         kind, *words = self.updates.pop(0) if self.updates else ["no_set"]
         if kind == "end":
-            return self.end("peers_closed")
+            return self.end("PeersClosed")
         if kind == "set":
             self.core.set_primary(frozenset(map(int, words)))
-            return "peers"
+            return "Peers"
         taken = self.inbox.pop()
         if taken:
             return self.request(taken[1], is_refused)
         kind, *words = self.received.pop(0) if self.received else ["no_payload"]
         if kind == "fail":
-            return self.end("network_failed")
+            return self.end("NetworkFailed")
         return self.payload(*words, is_refused) if kind == "payload" else None
 
     def request(self, request, is_refused):
@@ -97,7 +103,7 @@ class Engine:
             return REFUSED
         if request.kind == "broadcast":
             self.sent.append(request.message.encoding())
-            return f"broadcast:{self.take(1, request.digest, request.message)}"
+            return f"Broadcast({self.take(1, request.digest, request.message)})"
         if request.kind == "get":
             delivered = request.reply(found)
             self.get[2 if not delivered else 0 if found else 1] += 1
@@ -105,26 +111,26 @@ class Engine:
             self.subscribe[0 if request.reply(found) else 1] += 1
         else:
             self.core.subscribe(request, request.digest)
-        return request.kind
+        return request.kind.capitalize()
 
     def payload(self, key, data, is_refused):
         key, message = int(key), model.decode(model.byte_list(data.encode()), self.greatest)
         if isinstance(message, str):
             self.receive[2] += 1
-            return f"invalid:{message.split(' ')[0]}"
+            return f"Invalid({debugged(message)})"
         if is_refused:
             self.left[key] += 1
             return REFUSED
         self.peers[key] += 1
         outcome = self.take(key, model.digest_of(message.content), message)
-        self.receive[0 if outcome == "inserted" else 1] += 1
-        return f"payload:{outcome}"
+        self.receive[0 if outcome == "Inserted" else 1] += 1
+        return f"Payload({outcome})"
 
     def take(self, key, digest, message):
         outcome, served = self.core.take(key, digest, message)
         for waiter in served:
             self.subscribe[0 if waiter.reply(message) else 1] += 1
-        return outcome
+        return outcome.capitalize()
 
     def expect_counters(self, lines):
         shown = lines.peek().split(" peers ")[-1].split(" ")

@@ -1,6 +1,7 @@
 """Wrong outputs, which the judges of refusals must find."""
 
 import judge_devices
+import judge_engine
 import judge_growths
 import judge_program
 import replay_model
@@ -155,22 +156,22 @@ OF_GROWTHS = {
     "engine": [
         (
             "a refused payload serves its waiter",
-            "drive payload:inserted peers\n  waiters 0 receive 1 0 0 subscribe 1 0 get 0 1 0 ",
-            "drive refused peers\n  waiters 0 receive 0 0 0 subscribe 1 0 get 0 1 0 ",
+            "drive Payload(Inserted) Peers\n  waiters 0 receive 1 0 0 subscribe 1 0 get 0 1 0 ",
+            "drive Refused(Memory) Peers\n  waiters 0 receive 0 0 0 subscribe 1 0 get 0 1 0 ",
         ),
         (
             "a refused payload counts twice on its peer",
-            "drive payload:inserted peers\n"
+            "drive Payload(Inserted) Peers\n"
             "  waiters 0 receive 1 0 0 subscribe 1 0 get 0 1 0 peers 0 0 1 0 0 0 0\n",
-            "drive refused peers\n"
+            "drive Refused(Memory) Peers\n"
             "  waiters 1 receive 0 0 0 subscribe 0 0 get 0 1 0 peers 0 0 2 0 0 0 0\n",
         ),
         (
             "a failed receiver ends nothing",
-            "payload:ineligible ended:network_failed\n",
-            "payload:ineligible\n",
+            "Payload(Ineligible) Ended(NetworkFailed)\n",
+            "Payload(Ineligible)\n",
         ),
-        ("an engine goes on after its end", "drive ended:network_failed\n", "drive get\n"),
+        ("an engine goes on after its end", "drive Ended(NetworkFailed)\n", "drive Get\n"),
         (
             "a subscribe waits after the end",
             "subscribe canceled\nget none\nsubscribe canceled\n",
@@ -280,8 +281,8 @@ def effects_of_drives(lines):
     for at, line in enumerate(lines):
         turns = line.split(" ")
         for place, turn in enumerate(turns):
-            if turns[0] == "drive" and turn.startswith(("broadcast:", "payload:")):
-                changed = " ".join([*turns[:place], "refused", *turns[place + 1 :]])
+            if turns[0] == "drive" and turn.startswith(("Broadcast(", "Payload(")):
+                changed = " ".join([*turns[:place], judge_engine.REFUSED, *turns[place + 1 :]])
                 yield at + 1, [*lines[:at], changed, *lines[at + 1 :]]
 
 

@@ -4,7 +4,7 @@ use broadcast_text::fault::Fault;
 use broadcast_text::line_error::LineError;
 use broadcast_text::lines::Lines;
 use broadcast_text::words::{Words, expect_number, parse_numbers};
-use std::alloc::{AllocError, Global};
+use std::alloc::Global;
 use std::io::Read;
 use std::num::NonZeroUsize;
 
@@ -28,6 +28,20 @@ pub enum Part {
 pub trait Call: Drop + Sized {
     /// Returns the call of this name with what the words after it say.
     fn parse(alloc: Global, name: &str, words: Words<'_>) -> Result<Self, LineError>;
+}
+
+/// Calls, in order.
+pub trait Calls {
+    /// Appends the call of this name with what the words after it say.
+    fn add(&mut self, alloc: Global, name: &str, words: Words<'_>) -> Result<(), LineError>;
+}
+
+impl<C: Call> Calls for Vec<C> {
+    fn add(&mut self, alloc: Global, name: &str, words: Words<'_>) -> Result<(), LineError> {
+        self.reserve(1)?;
+        self.push_reserved(C::parse(alloc, name, words)?);
+        Ok(())
+    }
 }
 
 /// Reads the first line.
@@ -87,7 +101,7 @@ fn places_of(words: Words<'_>) -> Result<NonZeroUsize, LineError> {
     NonZeroUsize::new(size_of(words)?).ok_or(LineError::Syntax)
 }
 
-/// Reads the calls of the other lines.
+/// Returns the calls of the other lines.
 pub fn read_calls<C: Call, R: Read + Drop>(
     alloc: Global,
     lines: &mut Lines<R>,
@@ -97,39 +111,41 @@ pub fn read_calls<C: Call, R: Read + Drop>(
     Ok(calls)
 }
 
-fn append_calls<C: Call, R: Read + Drop>(
+/// Appends the calls of the other lines.
+pub fn append_calls<C: Calls, R: Read + Drop>(
     alloc: Global,
     lines: &mut Lines<R>,
-    calls: &mut Vec<C>,
+    calls: &mut C,
 ) -> Result<(), Fault> {
     for number in 2..u64::MAX {
         if !append_call(alloc, lines, number, calls)? {
             return Ok(());
         }
     }
-    // No vector has room for that many calls.
+    // Nothing has room for that many calls.
     Err(Fault::Memory)
 }
 
 /// Appends the call of the next line, which has this number. Returns whether there was a line.
-fn append_call<C: Call, R: Read + Drop>(
+fn append_call<C: Calls, R: Read + Drop>(
     alloc: Global,
     lines: &mut Lines<R>,
     number: u64,
-    calls: &mut Vec<C>,
+    calls: &mut C,
 ) -> Result<bool, Fault> {
     let Some(line) = lines.next_line()? else {
         return Ok(false);
     };
-    let call = parse_call(alloc, line).map_err(|error: LineError| fault_of(error, number))?;
-    calls.push(call).map_err(AllocError::from)?;
-    Ok(true)
+    match add_line(alloc, line, calls) {
+        Ok(()) => Ok(true),
+        Err(error) => Err(fault_of(error, number)),
+    }
 }
 
-fn parse_call<C: Call>(alloc: Global, line: &[u8]) -> Result<C, LineError> {
+fn add_line<C: Calls>(alloc: Global, line: &[u8], calls: &mut C) -> Result<(), LineError> {
     let mut words = Words::new(line, b' ');
     let name = words.expect()?;
-    C::parse(alloc, text_of(name), words)
+    calls.add(alloc, text_of(name), words)
 }
 
 fn fault_of(error: LineError, number: u64) -> Fault {

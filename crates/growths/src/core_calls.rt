@@ -109,25 +109,53 @@ pub fn show<R: Read + Drop, W: Write>(
 
 fn make_all<W: Write>(alloc: Global, out: &mut Printer<W>, deque_size: usize, calls: Vec<Ready>) {
     let mut core = Core::new(alloc, 1, deque_size);
+    make_calls(alloc, out, &mut core, calls);
+}
+
+fn make_calls<W: Write>(
+    alloc: Global,
+    out: &mut Printer<W>,
+    core: &mut TestCore,
+    calls: Vec<Ready>,
+) {
     for call in calls {
-        make(out, &mut core, call);
-        write_core(alloc, out, &core);
+        make(out, core, call);
+        write_core(alloc, out, core);
     }
 }
 
 /// Makes the call, and writes what it returns.
 fn make<W: Write>(out: &mut Printer<W>, core: &mut TestCore, call: Ready) {
     match call {
-        Ready::Peers(set) => {
-            core.update_primary_peers(set);
-            out.line("peers");
-        }
-        Ready::Take(key, message) => write_taken(out, "take", &core.take(&key, &message)),
-        Ready::TakeOwn(message) => write_taken(out, "take_own", &core.take_own(&message)),
+        Ready::Peers(set) => update(out, core, set),
+        Ready::Take(key, message) => take(out, core, key, message),
+        Ready::TakeOwn(message) => take_own(out, core, message),
         Ready::Subscribe(waiter, digest) => subscribe(out, core, waiter, digest),
-        Ready::Cleanup(gone) => write_removed(out, "cleanup", core.cleanup(&gone)),
+        Ready::Cleanup(gone) => cleanup(out, core, gone),
         Ready::CleanupBy => write_removed(out, "cleanup_by", core.cleanup_by()),
     }
+}
+
+fn update<W: Write>(out: &mut Printer<W>, core: &mut TestCore, set: Set<u64>) {
+    core.update_primary_peers(set);
+    out.line("peers");
+}
+
+fn take<W: Write>(
+    out: &mut Printer<W>,
+    core: &mut TestCore,
+    key: u64,
+    message: Digested<TestMessage>,
+) {
+    write_taken(out, "take", core.take(&key, &message));
+}
+
+fn take_own<W: Write>(out: &mut Printer<W>, core: &mut TestCore, message: Digested<TestMessage>) {
+    write_taken(out, "take_own", core.take_own(&message));
+}
+
+fn cleanup<W: Write>(out: &mut Printer<W>, core: &mut TestCore, gone: Vec<u64>) {
+    write_removed(out, "cleanup", core.cleanup(&gone));
 }
 
 fn write_removed<W: Write>(out: &mut Printer<W>, call: &str, count: u64) {
@@ -139,17 +167,19 @@ fn write_removed<W: Write>(out: &mut Printer<W>, call: &str, count: u64) {
 fn write_taken<W: Write>(
     out: &mut Printer<W>,
     call: &str,
-    taken: &Result<Taken<Waiter>, AllocError>,
+    taken: Result<Taken<Waiter>, AllocError>,
 ) {
     out.text(call);
     match taken {
-        Ok(taken) => {
-            out.text(" ");
-            out.text(word_of(taken.outcome));
-            write_served(out, taken.served.as_slice());
-        }
+        Ok(taken) => write_outcome(out, &taken),
         Err(_) => out.line(" memory"),
     }
+}
+
+fn write_outcome<W: Write>(out: &mut Printer<W>, taken: &Taken<Waiter>) {
+    out.text(" ");
+    out.text(word_of(taken.outcome));
+    write_served(out, taken.served.as_slice());
 }
 
 fn write_served<W: Write>(out: &mut Printer<W>, served: &[Waiter]) {

@@ -1,8 +1,7 @@
 //! What an engine did, as lines.
 use crate::printer::Printer;
-use crate::show::word_of;
-use broadcast_core::{Cause, Codec, CodecError, Digested, Digestible, Sent, TestMessage};
-use broadcast_engine::buffered::{EndCause, Metrics, Status, Turn};
+use broadcast_core::{Digested, Sent, TestMessage};
+use broadcast_engine::buffered::{Metrics, Status, Turn};
 use commonware_broadcast::buffered::{Get, Subscription};
 use futures::Future;
 use futures::channel::oneshot::Canceled;
@@ -12,30 +11,11 @@ use std::io::Write;
 /// The keys whose counters are shown.
 const KEYS: u64 = 7;
 
-/// A message of two byte lists.
-pub trait Content: Digestible + Codec + Send + Sync + 'static {
-    /// Returns the first byte list.
-    fn commitment(&self) -> &[u8];
-
-    /// Returns the second byte list.
-    fn content(&self) -> &[u8];
-}
-
-impl Content for TestMessage {
-    fn commitment(&self) -> &[u8] {
-        &self.commitment
-    }
-
-    fn content(&self) -> &[u8] {
-        &self.content
-    }
-}
-
 /// The future of a caller, until it is dropped.
 #[derive(Drop)]
-pub enum Asked<M: Digestible> {
-    Get(Get<M>),
-    Subscription(Subscription<M>),
+pub enum Asked {
+    Get(Get<TestMessage>),
+    Subscription(Subscription<TestMessage>),
     Dropped,
 }
 
@@ -43,51 +23,9 @@ pub enum Asked<M: Digestible> {
 pub fn write_turns<W: Write>(out: &mut Printer<W>, turns: &[Turn]) {
     out.text("drive");
     for turn in turns {
-        out.text(" ");
-        write_turn(out, *turn);
+        out.shown(turn);
     }
     out.line("");
-}
-
-fn write_turn<W: Write>(out: &mut Printer<W>, turn: Turn) {
-    let (word, of) = match turn {
-        Turn::Peers => ("peers", ""),
-        Turn::Broadcast(outcome) => ("broadcast:", word_of(outcome)),
-        Turn::Subscribe => ("subscribe", ""),
-        Turn::Get => ("get", ""),
-        Turn::Payload(outcome) => ("payload:", word_of(outcome)),
-        Turn::Invalid(error) => ("invalid:", error_word(error)),
-        Turn::Refused(cause) => (cause_word(cause), ""),
-        Turn::Ended(cause) => ("ended:", end_word(cause)),
-    };
-    out.text(word);
-    out.text(of);
-}
-
-fn error_word(error: CodecError) -> &'static str {
-    match error {
-        CodecError::EndOfBuffer => "EndOfBuffer",
-        CodecError::InvalidLength(_) => "InvalidLength",
-        CodecError::ExtraData(_) => "ExtraData",
-        CodecError::Unencodable => "Unencodable",
-        CodecError::Memory => "Memory",
-    }
-}
-
-fn cause_word(cause: Cause) -> &'static str {
-    match cause {
-        Cause::Memory => "refused",
-        Cause::Unencodable => "unencodable",
-    }
-}
-
-fn end_word(cause: EndCause) -> &'static str {
-    match cause {
-        EndCause::Stopped => "stopped",
-        EndCause::PeersClosed => "peers_closed",
-        EndCause::NetworkFailed => "network_failed",
-        EndCause::WaitFailed => "wait_failed",
-    }
 }
 
 /// Writes the counters.
@@ -125,7 +63,7 @@ fn write_peers<W: Write>(out: &mut Printer<W>, metrics: &Metrics<u64>) {
 }
 
 /// Polls the future of a caller, and writes what it gives.
-pub fn write_asked<M: Content, W: Write>(task: &Solo, out: &mut Printer<W>, asked: &mut Asked<M>) {
+pub fn write_asked<W: Write>(task: &Solo, out: &mut Printer<W>, asked: &mut Asked) {
     match asked {
         Asked::Get(get) => write_got(out, &poll(task, get)),
         Asked::Subscription(subscription) => {
@@ -146,7 +84,7 @@ fn poll<F: Future>(task: &Solo, future: &mut F) -> Poll<F::Output>
     polled
 }
 
-fn write_got<M: Content, W: Write>(out: &mut Printer<W>, polled: &Poll<Option<Digested<M>>>) {
+fn write_got<W: Write>(out: &mut Printer<W>, polled: &Poll<Option<Digested<TestMessage>>>) {
     match polled {
         Poll::Pending => out.line("get waits"),
         Poll::Ready(None) => out.line("get none"),
@@ -154,9 +92,9 @@ fn write_got<M: Content, W: Write>(out: &mut Printer<W>, polled: &Poll<Option<Di
     }
 }
 
-fn write_subscribed<M: Content, W: Write>(
+fn write_subscribed<W: Write>(
     out: &mut Printer<W>,
-    polled: &Poll<Result<Digested<M>, Canceled>>,
+    polled: &Poll<Result<Digested<TestMessage>, Canceled>>,
 ) {
     match polled {
         Poll::Pending => out.line("subscribe waits"),
@@ -165,10 +103,10 @@ fn write_subscribed<M: Content, W: Write>(
     }
 }
 
-fn write_message<M: Content, W: Write>(out: &mut Printer<W>, word: &str, message: &Digested<M>) {
+fn write_message<W: Write>(out: &mut Printer<W>, word: &str, message: &Digested<TestMessage>) {
     out.text(word);
-    out.bytes(message.inner().commitment());
-    out.bytes(message.inner().content());
+    out.bytes(&message.inner().commitment);
+    out.bytes(&message.inner().content);
     out.line("");
 }
 

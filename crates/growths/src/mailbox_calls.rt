@@ -148,28 +148,35 @@ fn make<R: Wait + Clone + Send + Drop + 'static, W: Write>(
     call: Ready,
 ) {
     match call {
-        Ready::Broadcast(message) => {
-            write_told(
-                out,
-                "broadcast",
-                mailbox.broadcast(Recipients::All, message),
-            );
-        }
+        Ready::Broadcast(message) => broadcast(out, mailbox, message),
         Ready::Subscribe(content) => {
             write_told(out, "subscribe", subscribe(mailbox, held, content));
         }
         Ready::Get(content) => write_told(out, "get", get(mailbox, held, content)),
         Ready::Clone => write_clone(out, mailbox.clone()),
-        Ready::Drop => {
-            held.clear();
-            out.line("drop");
-        }
+        Ready::Drop => drop_all(out, held),
         Ready::Take => write_taken(out, ingress.take()),
-        Ready::Close => {
-            out.counted("close", ingress.close());
-            out.line("");
-        }
+        Ready::Close => close(out, ingress),
     }
+}
+
+fn broadcast<R: Wait + Clone + Send + Drop + 'static, W: Write>(
+    out: &mut Printer<W>,
+    mailbox: &TestMailbox<R>,
+    message: Digested<TestMessage>,
+) {
+    let told = mailbox.broadcast(Recipients::All, message);
+    write_told(out, "broadcast", told);
+}
+
+fn drop_all<W: Write>(out: &mut Printer<W>, held: &mut Held) {
+    held.clear();
+    out.line("drop");
+}
+
+fn close<R: Wait, W: Write>(out: &mut Printer<W>, ingress: &TestIngress<R>) {
+    out.counted("close", ingress.close());
+    out.line("");
 }
 
 /// Writes what a call returned.

@@ -35,11 +35,13 @@ mod printer;
 mod requests;
 mod show;
 
-use broadcast_core::{RangeCfg, TestMessage};
+use broadcast_core::RangeCfg;
+use broadcast_engine::buffered::Sequential;
 use broadcast_text::fault::Fault;
 use broadcast_text::lines::Lines;
-use calls::{Part, read_calls, read_part};
+use calls::{Part, append_calls, read_part};
 use engine::Settings;
+use engine_calls::Lists;
 use printer::Printer;
 use std::io::{BufWriter, Read, Write};
 use std::process::ExitCode;
@@ -99,6 +101,7 @@ fn make_calls<
                 deque_size,
                 places,
                 codec_config: RangeCfg::new(0, greatest),
+                strategy: Sequential,
             };
             drive(rt, lines, out, settings)
         }
@@ -114,8 +117,9 @@ fn drive<
     rt: &H,
     lines: &mut Lines<R>,
     out: &mut Printer<W>,
-    settings: Settings<RangeCfg>,
+    settings: Settings<Sequential>,
 ) -> Result<(), Fault> {
-    let lines = read_calls(rt.alloc(), lines)?;
-    engine::show::<TestMessage, H, W>(rt, out, settings, lines)
+    let mut lists = Lists::new(rt.alloc());
+    append_calls(rt.alloc(), lines, &mut lists)?;
+    engine::show(rt, out, settings, lists)
 }

@@ -1,5 +1,6 @@
 //! Text on its way out.
 use broadcast_text::byte_list::write_spaced;
+use std::fmt::Debug;
 use std::io::Write;
 
 /// Prints to a stream, and remembers whether a write failed.
@@ -31,6 +32,13 @@ impl<W: Write> Printer<W> {
     /// Prints the number.
     pub fn number(&mut self, number: u64) {
         if write!(self.out, "{number}").is_err() {
+            self.failed = true;
+        }
+    }
+
+    /// Prints a space and the value.
+    pub fn shown<D: Debug>(&mut self, value: &D) {
+        if write!(self.out, " {value:?}").is_err() {
             self.failed = true;
         }
     }
