@@ -1,9 +1,8 @@
 //! What is done to the nodes of a scenario, and what must come of it.
 use super::asked::Given;
-use super::message::{Letter, To};
+use super::message::To;
 use super::node::Metric;
 use super::world::{Sizes, World};
-use broadcast_core::TestMessage;
 use broadcast_engine::buffered::Turn;
 use commonware_broadcast::Feedback;
 use std::alloc::{AllocError, AllocGlobal};
@@ -98,30 +97,22 @@ impl Row {
             mailbox: NonZeroUsize::new(self.sizes.0).unwrap_or(NonZeroUsize::MIN),
             deque: self.sizes.1,
         };
-        first_wrong::<TestMessage, R>(rt, sizes, self.acts)
+        first_wrong(rt, sizes, self.acts)
     }
 }
 
 /// Adds the nodes, and returns the place of the first action that does not go as it should.
-fn first_wrong<M, R>(rt: &R, sizes: Sizes, acts: &[Act]) -> Result<Option<usize>, AllocError>
+fn first_wrong<R>(rt: &R, sizes: Sizes, acts: &[Act]) -> Result<Option<usize>, AllocError>
 where
-    M: Letter,
-    M::Cfg: Drop,
     R: Wait + RandomSource + AllocGlobal + Clone + Send + Drop + 'static,
 {
-    let mut world: Box<World<M, R>> = World::new(rt, sizes)?;
+    let mut world: Box<World<R>> = World::new(rt, sizes)?;
     wrong_place(rt, &mut world, acts)
 }
 
 /// Makes the actions, and returns the place of the first that does not go as it should.
-fn wrong_place<M, R>(
-    rt: &R,
-    world: &mut World<M, R>,
-    acts: &[Act],
-) -> Result<Option<usize>, AllocError>
+fn wrong_place<R>(rt: &R, world: &mut World<R>, acts: &[Act]) -> Result<Option<usize>, AllocError>
 where
-    M: Letter,
-    M::Cfg: Drop,
     R: Wait + RandomSource + AllocGlobal + Clone + Send + Drop + 'static,
 {
     for (place, act) in acts.iter().enumerate() {

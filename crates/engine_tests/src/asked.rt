@@ -1,6 +1,6 @@
 //! The futures of gets and subscribes.
-use super::message::Letter;
-use broadcast_core::Digestible;
+use super::message::letter_of;
+use broadcast_core::TestMessage;
 use commonware_broadcast::buffered::{Get, Subscription};
 use futures::executor::block_on;
 use futures::future::poll_immediate;
@@ -10,9 +10,9 @@ use std::sync::Wait;
 
 /// A future, until it is ready or dropped.
 #[derive(Drop)]
-pub enum Asked<M: Digestible> {
-    Get(Get<M>),
-    Subscription(Subscription<M>),
+pub enum Asked {
+    Get(Get<TestMessage>),
+    Subscription(Subscription<TestMessage>),
     Dropped,
 }
 
@@ -27,7 +27,7 @@ pub enum Given {
     Letter(u8),
 }
 
-impl<M: Letter> Asked<M> {
+impl Asked {
     /// Returns what the future gives.
     pub fn given<R: Wait + RandomSource + AllocGlobal>(&mut self, rt: &R) -> Given {
         let polled = match self {
@@ -44,26 +44,24 @@ impl<M: Letter> Asked<M> {
 }
 
 /// Returns the letter that a get gives, if it is ready.
-fn got<M, R>(rt: &R, get: &mut Get<M>) -> Option<Option<u8>>
+fn got<R>(rt: &R, get: &mut Get<TestMessage>) -> Option<Option<u8>>
 where
-    M: Letter,
     R: Wait + RandomSource + AllocGlobal,
 {
     match block_on(rt, poll_immediate(get)) {
-        Ok(Some(Some(message))) => Some(Some(message.inner().letter())),
+        Ok(Some(Some(message))) => Some(Some(letter_of(message.inner()))),
         Ok(None) => None,
         _ => Some(None),
     }
 }
 
 /// Returns the letter that a subscription gives, if it is ready.
-fn heard<M, R>(rt: &R, subscription: &mut Subscription<M>) -> Option<Option<u8>>
+fn heard<R>(rt: &R, subscription: &mut Subscription<TestMessage>) -> Option<Option<u8>>
 where
-    M: Letter,
     R: Wait + RandomSource + AllocGlobal,
 {
     match block_on(rt, poll_immediate(subscription)) {
-        Ok(Some(Ok(message))) => Some(Some(message.inner().letter())),
+        Ok(Some(Ok(message))) => Some(Some(letter_of(message.inner()))),
         Ok(None) => None,
         _ => Some(None),
     }

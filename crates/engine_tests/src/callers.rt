@@ -1,9 +1,9 @@
 //! The callers of nodes with the keys from 1.
 use super::act::Act;
 use super::asked::{Asked, Given};
-use super::message::{Letter, To, digest, digested, recipients};
+use super::message::{To, digest, digested, recipients};
 use super::wires::place;
-use broadcast_core::{Digested, Digestible, Recipients};
+use broadcast_core::{Digested, Recipients, TestMessage};
 use commonware_broadcast::buffered::Mailbox;
 use commonware_broadcast::{Broadcaster, Feedback, MailboxError};
 use std::alloc::{AllocError, AllocGlobal, Global};
@@ -12,14 +12,13 @@ use std::sync::Wait;
 
 /// The callers of each node, in the order of the keys, and their futures.
 #[derive(Drop)]
-pub struct Callers<M: Digestible, R> {
-    pub mailboxes: Vec<Mailbox<u64, M, R>>,
-    pub asked: Vec<Asked<M>>,
+pub struct Callers<R> {
+    pub mailboxes: Vec<Mailbox<u64, TestMessage, R>>,
+    pub asked: Vec<Asked>,
 }
 
-impl<M, R> Callers<M, R>
+impl<R> Callers<R>
 where
-    M: Letter,
     R: Wait + RandomSource + AllocGlobal + Clone + Send + 'static,
 {
     pub fn new(alloc: Global) -> Self {
@@ -61,12 +60,17 @@ where
         letters: (u8, u8),
     ) -> Result<Option<Feedback>, AllocError> {
         let recipients = recipients(alloc, to)?;
-        let message = digested::<M>(alloc, letters.0, letters.1)?;
+        let message = digested(alloc, letters.0, letters.1)?;
         Ok(self.tell(key, recipients, message))
     }
 
     /// Broadcasts the message. Returns what its caller is told, or nothing if it is refused.
-    fn tell(&self, key: u64, to: Recipients<u64>, message: Digested<M>) -> Option<Feedback> {
+    fn tell(
+        &self,
+        key: u64,
+        to: Recipients<u64>,
+        message: Digested<TestMessage>,
+    ) -> Option<Feedback> {
         match self.mailboxes.get(place(key)) {
             Some(mailbox) => mailbox.broadcast(to, message).ok(),
             None => None,
@@ -82,12 +86,12 @@ where
         else {
             return Ok(false);
         };
-        let digest = digest::<M>(alloc, letter)?;
+        let digest = digest(alloc, letter)?;
         Ok(self.ask_for(key, act, digest))
     }
 
     /// Makes the get or the subscribe. Returns whether it is queued.
-    fn ask_for(&mut self, key: u64, act: Act, digest: M::Digest) -> bool {
+    fn ask_for(&mut self, key: u64, act: Act, digest: [u8; 32]) -> bool {
         match self.queued(key, act, digest) {
             Some(asked) => self.asked.push(asked).is_ok(),
             None => false,
@@ -95,7 +99,7 @@ where
     }
 
     /// Makes the get or the subscribe. Returns its future if it is queued.
-    fn queued(&self, key: u64, act: Act, digest: M::Digest) -> Option<Asked<M>> {
+    fn queued(&self, key: u64, act: Act, digest: [u8; 32]) -> Option<Asked> {
         asked(self.mailboxes.get(place(key))?, act, digest).ok()
     }
 
@@ -131,11 +135,7 @@ where
 }
 
 /// Returns whether the future gives a message.
-fn has_letter<M, R>(rt: &R, asked: Asked<M>) -> bool
-where
-    M: Letter,
-    R: Wait + RandomSource + AllocGlobal,
-{
+fn has_letter<R: Wait + RandomSource + AllocGlobal>(rt: &R, asked: Asked) -> bool {
     let mut asked = asked;
     matches!(asked.given(rt), Given::Letter(_))
 }
@@ -149,11 +149,11 @@ fn is_told(act: Act, told: Option<Feedback>) -> bool {
 }
 
 /// Makes the get or the subscribe.
-fn asked<M: Letter, R: Wait>(
-    mailbox: &Mailbox<u64, M, R>,
+fn asked<R: Wait>(
+    mailbox: &Mailbox<u64, TestMessage, R>,
     act: Act,
-    digest: M::Digest,
-) -> Result<Asked<M>, MailboxError> {
+    digest: [u8; 32],
+) -> Result<Asked, MailboxError> {
     match act {
         Act::Subscribe(..) | Act::Hears(..) => {
             Ok(Asked::Subscription(mailbox.subscribe(digest)?))

@@ -1,9 +1,9 @@
 //! An engine over scripts, and what was made of it.
-use super::message::{Letter, To, digest, sending};
+use super::message::{To, digest, sending};
 use super::scripts::{Handed, Network, Scripted, Sources};
-use broadcast_core::{Codec, Digestible};
-use broadcast_engine::buffered::{Reply, Turn, drive};
-use broadcast_engine::mocks::Replied;
+use broadcast_core::TestMessage;
+use broadcast_engine::buffered::{Engine, Reply, Turn, drive};
+use broadcast_engine::mocks::{RecordingOutlet, Replied};
 use futures::task::{Poll, Solo};
 use std::alloc::{AllocError, Global};
 use std::marker::Model;
@@ -11,26 +11,32 @@ use std::marker::Model;
 /// An engine with its network. Nothing is known of its state, and it is kept in a box: so the
 /// proofs of its tests are small.
 #[derive(Drop)]
-pub struct Driven<M: Digestible + Codec> {
-    engine: Scripted<M>,
+pub struct Driven {
+    engine: Scripted,
     network: Network,
 }
 
-impl<M: Digestible + Codec> Model for Driven<M> {
+impl Model for Driven {
     ghost Value = { Unit {0} };
 
     ghost view = { λ _. tt };
 }
 
-impl<M: Letter> Driven<M>
-where
-    M::Cfg: Drop,
-{
+impl Driven {
     /// Creates an engine over the sources.
     pub fn new(alloc: Global, sources: &Sources) -> Result<Box<Self>, AllocError> {
-        let network = sources.network::<M>(alloc)?;
-        let engine = sources.engine::<M>(alloc)?;
-        Ok(Box::new(alloc, Driven { engine, network })?)
+        let network = sources.network(alloc)?;
+        Ok(Box::new(alloc, Driven::over(alloc, sources, network)?)?)
+    }
+
+    /// Creates an engine over the sources, with this network.
+    fn over(alloc: Global, sources: &Sources, network: Network) -> Result<Self, AllocError> {
+        let requests = sources.requests(alloc)?;
+        let cfg = sources.config(alloc)?;
+        Ok(Driven {
+            engine: Engine::over(alloc, cfg, requests, RecordingOutlet::new(alloc)),
+            network,
+        })
     }
 
     /// Drives the engine. Returns its turns.
@@ -52,7 +58,7 @@ where
     pub fn has_sent(&self, alloc: Global, wanted: &[(To, u8)]) -> Result<bool, AllocError> {
         let sent = &self.network.0.sent;
         for (place, (to, letter)) in wanted.iter().enumerate() {
-            if sent.get(place) != Some(&sending::<M>(alloc, *to, *letter, true)?) {
+            if sent.get(place) != Some(&sending(alloc, *to, *letter, true)?) {
                 return Ok(false);
             }
         }
@@ -67,7 +73,7 @@ where
     ) -> Result<bool, AllocError> {
         let replies = &self.engine.outlet().replies;
         for (reply, wanted) in replies.iter().zip(wanted.iter()) {
-            if !is_reply::<M>(alloc, reply, *wanted)? {
+            if !is_reply(alloc, reply, *wanted)? {
                 return Ok(false);
             }
         }
@@ -88,29 +94,29 @@ where
 }
 
 /// Returns whether the reply has this ticket, this message, and was delivered or not.
-fn is_reply<M: Letter>(
+fn is_reply(
     alloc: Global,
-    reply: &Handed<M>,
+    reply: &Handed,
     wanted: (u64, Option<u8>, bool),
 ) -> Result<bool, AllocError> {
     let (ticket, letter, delivered) = wanted;
     let wanted = match letter {
-        Some(letter) => Some(digest::<M>(alloc, letter)?),
+        Some(letter) => Some(digest(alloc, letter)?),
         None => None,
     };
-    Ok(told::<M>(reply) == (ticket, wanted, delivered))
+    Ok(told(reply) == (ticket, wanted, delivered))
 }
 
 /// Returns the ticket of the reply, the digest of its message, and whether it was delivered.
-fn told<M: Letter>(reply: &Handed<M>) -> (u64, Option<M::Digest>, bool) {
+fn told(reply: &Handed) -> (u64, Option<[u8; 32]>, bool) {
     match reply {
         Replied::Subscribed(it) => (it.ticket, Some(it.reply.digest()), it.delivered),
-        Replied::Got(it) => (it.ticket, got::<M>(&it.reply), it.delivered),
+        Replied::Got(it) => (it.ticket, got(&it.reply), it.delivered),
     }
 }
 
 /// Returns the digest of the message, if there is one.
-fn got<M: Letter>(reply: &Option<Reply<M>>) -> Option<M::Digest> {
+fn got(reply: &Option<Reply<TestMessage>>) -> Option<[u8; 32]> {
     match reply {
         Some(reply) => Some(reply.digest()),
         None => None,

@@ -1,8 +1,8 @@
 //! `drive` goes on after pending polls, to its limit or to the end, and takes all that there is.
 use super::driven::Driven;
-use super::message::{Letter, To};
+use super::message::To;
 use super::scripts::{Asks, Comes, Peered, Sources};
-use broadcast_core::{CodecError, Outcome, TestMessage};
+use broadcast_core::{CodecError, Outcome};
 use broadcast_engine::buffered::{EndCause, Turn};
 use futures::task::{Doorbell, Solo};
 use std::alloc::{AllocError, Global};
@@ -248,28 +248,20 @@ fn rows() -> &'static [Row] {
 }
 
 /// Returns what is not as the row says.
-fn wrong<M>(alloc: Global, task: &Solo, row: &Row) -> Result<Option<&'static str>, AllocError>
-where
-    M: Letter,
-    M::Cfg: Drop,
-{
-    let mut driven: Box<Driven<M>> = Driven::new(alloc, &row.sources)?;
+fn wrong(alloc: Global, task: &Solo, row: &Row) -> Result<Option<&'static str>, AllocError> {
+    let mut driven: Box<Driven> = Driven::new(alloc, &row.sources)?;
     let as_told = row.goes(alloc, task, &mut driven)?;
     Ok(as_told.or(row.left(&driven)))
 }
 
 impl Row {
     /// Drives the engine. Returns what is not as the row says.
-    fn goes<M>(
+    fn goes(
         &self,
         alloc: Global,
         task: &Solo,
-        driven: &mut Driven<M>,
-    ) -> Result<Option<&'static str>, AllocError>
-    where
-        M: Letter,
-        M::Cfg: Drop,
-    {
+        driven: &mut Driven,
+    ) -> Result<Option<&'static str>, AllocError> {
         for (limit, turns) in self.drives {
             if driven.drive(alloc, task, *limit)?.as_slice() != *turns {
                 return Ok(Some("turns"));
@@ -282,11 +274,7 @@ impl Row {
     }
 
     /// Returns what is left otherwise than the row says.
-    fn left<M>(&self, driven: &Driven<M>) -> Option<&'static str>
-    where
-        M: Letter,
-        M::Cfg: Drop,
-    {
+    fn left(&self, driven: &Driven) -> Option<&'static str> {
         if driven.is_over() != self.over {
             return Some("scripts");
         }
@@ -298,7 +286,7 @@ impl Row {
 fn drive_goes_on_to_its_limit_or_the_end(rt: HostRuntime) -> Result<(), Fail> {
     let task = Solo::new(&rt, Doorbell::spinning())?;
     for row in rows() {
-        let wrong = wrong::<TestMessage>(rt.alloc(), &task, row)?;
+        let wrong = wrong(rt.alloc(), &task, row)?;
         assert!(rt; wrong.is_none(), "{}: {wrong:?}", row.name);
     }
     Ok(())

@@ -4,6 +4,7 @@ use super::message::peers;
 use super::peers::{Feed, Peers};
 use super::wires::place;
 use super::world::Sizes;
+use broadcast_core::RangeCfg;
 use broadcast_engine::buffered::Config;
 use std::alloc::{AllocError, Global};
 use std::rc::Rc;
@@ -38,19 +39,18 @@ impl Feeds {
     }
 
     /// Returns the configuration of the node. Its messages are sent as priority if its key is even.
-    pub fn config<C: Drop>(
+    pub fn config(
         &self,
         key: u64,
         sizes: Sizes,
-        codec_config: C,
-    ) -> Result<Config<u64, C, Peers, Gated>, AllocError> {
+    ) -> Result<Config<u64, RangeCfg, Peers, Gated>, AllocError> {
         let (peer_provider, strategy) = self.ends(key)?;
         Ok(Config {
             public_key: key,
             mailbox_size: sizes.mailbox,
             deque_size: sizes.deque,
             priority: key % 2 == 0,
-            codec_config,
+            codec_config: RangeCfg::any(),
             peer_provider,
             strategy,
         })

@@ -3,7 +3,7 @@ ghost use Rattle.std.specs.Prelude.{◌≡◌};
 ghost use Rattle.futures.specs.Task.{IsArmed, Keeps};
 ghost use Rattle.futures.specs.declared.task.Poll.TheVariants.{Pending};
 
-use broadcast_core::Digestible;
+use broadcast_core::{Digestible, TestMessage};
 use broadcast_engine::buffered::{Job, Strategy};
 use futures::task::{Context, Poll, Source, Waker};
 use std::alloc::{AllocError, Global};
@@ -64,15 +64,15 @@ pub struct Gated(pub Rc<Gate>);
 
 /// A job that passes the gate.
 #[derive(Drop)]
-pub struct GatedJob<M: Digestible> {
+pub struct GatedJob {
     gate: Rc<Gate>,
-    message: Option<(M, M::Digest)>,
+    message: Option<(TestMessage, [u8; 32])>,
 }
 
-impl<M: Digestible> Strategy<M> for Gated {
-    type Job = GatedJob<M>;
+impl Strategy<TestMessage> for Gated {
+    type Job = GatedJob;
 
-    fn start(&self, message: M) -> Result<GatedJob<M>, AllocError> {
+    fn start(&self, message: TestMessage) -> Result<GatedJob, AllocError> {
         let gate = self.0.clone()?;
         let digest = message.digest();
         Ok(GatedJob {
@@ -82,12 +82,12 @@ impl<M: Digestible> Strategy<M> for Gated {
     }
 }
 
-impl<M: Digestible> Job<M> for GatedJob<M> {
+impl Job<TestMessage> for GatedJob {
     ghost use Rattle.broadcast_engine.specs.Jobs.{HoldsDigested};
 
-    ghost is_of = { λ job m. HoldsDigested M.digest_of m job.message };
+    ghost is_of = { λ job m. HoldsDigested ⟦<TestMessage as Digestible>⟧.digest_of m job.message };
 
-    fn poll(&mut self, cx: &mut Context<'_>) -> Poll<(M, M::Digest)> {
+    fn poll(&mut self, cx: &mut Context<'_>) -> Poll<(TestMessage, [u8; 32])> {
         if self.gate.is_shut() {
             return self.gate.wait(cx);
         }

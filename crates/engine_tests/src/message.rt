@@ -1,7 +1,5 @@
 //! Messages and recipients by short names.
-use broadcast_core::{
-    Codec, Digested, Digestible, Items, RangeCfg, Recipients, Sent, Set, TestMessage, Write,
-};
+use broadcast_core::{Digested, Digestible, Items, Recipients, Sent, Set, TestMessage, Write};
 use std::alloc::{AllocError, Global};
 
 /// Recipients.
@@ -21,55 +19,38 @@ pub fn recipients(alloc: Global, to: To) -> Result<Recipients<u64>, AllocError> 
     })
 }
 
-/// A message that a letter names.
-pub trait Letter: Digestible + Codec + Send + Sync + 'static {
-    /// Creates the message of the letter.
-    fn of(alloc: Global, letter: u8) -> Result<Self, AllocError>;
-
-    /// Returns the letter of the message, or 0 if it has none.
-    fn letter(&self) -> u8;
-
-    /// Returns what messages may be decoded.
-    fn codec_config() -> Self::Cfg;
+/// Creates the message of the letter. Both parts of it are the letter.
+pub fn message_of(alloc: Global, letter: u8) -> Result<TestMessage, AllocError> {
+    TestMessage::shared(alloc, Vec::from_slice(alloc, &[letter])?)
 }
 
-/// Both parts of the message are the letter.
-impl Letter for TestMessage {
-    fn of(alloc: Global, letter: u8) -> Result<Self, AllocError> {
-        TestMessage::shared(alloc, Vec::from_slice(alloc, &[letter])?)
+/// Returns the letter of the message, or 0 if it has none.
+pub fn letter_of(message: &TestMessage) -> u8 {
+    if message.commitment.as_slice() != message.content.as_slice() {
+        return 0;
     }
-
-    fn letter(&self) -> u8 {
-        if self.commitment.as_slice() != self.content.as_slice() {
-            return 0;
-        }
-        self.content.first().copied().unwrap_or(0)
-    }
-
-    fn codec_config() -> RangeCfg {
-        RangeCfg::any()
-    }
+    message.content.first().copied().unwrap_or(0)
 }
 
 /// Returns the digest of the message of the letter.
-pub fn digest<M: Letter>(alloc: Global, letter: u8) -> Result<M::Digest, AllocError> {
-    Ok(M::of(alloc, letter)?.digest())
+pub fn digest(alloc: Global, letter: u8) -> Result<[u8; 32], AllocError> {
+    Ok(message_of(alloc, letter)?.digest())
 }
 
 /// Returns the message of the letter, by the digest of another letter's.
-pub fn digested<M: Letter>(
+pub fn digested(
     alloc: Global,
     letter: u8,
     goes_by: u8,
-) -> Result<Digested<M>, AllocError> {
-    let digest = digest::<M>(alloc, goes_by)?;
-    Digested::precomputed(alloc, M::of(alloc, letter)?, digest)
+) -> Result<Digested<TestMessage>, AllocError> {
+    let digest = digest(alloc, goes_by)?;
+    Digested::precomputed(alloc, message_of(alloc, letter)?, digest)
 }
 
 /// Returns the encoding of the message of the letter.
-pub fn payload<M: Letter>(alloc: Global, letter: u8) -> Result<Vec<u8>, AllocError> {
+pub fn payload(alloc: Global, letter: u8) -> Result<Vec<u8>, AllocError> {
     let mut bytes = Vec::new(alloc);
-    let message = M::of(alloc, letter)?;
+    let message = message_of(alloc, letter)?;
     match message.write(&mut bytes) {
         Ok(()) => Ok(bytes),
         Err(_) => Err(AllocError),
@@ -77,13 +58,8 @@ pub fn payload<M: Letter>(alloc: Global, letter: u8) -> Result<Vec<u8>, AllocErr
 }
 
 /// Returns the send of the message of the letter.
-pub fn sending<M: Letter>(
-    alloc: Global,
-    to: To,
-    letter: u8,
-    priority: bool,
-) -> Result<Sent<u64>, AllocError> {
-    let bytes = Items::from_vec(payload::<M>(alloc, letter)?);
+pub fn sending(alloc: Global, to: To, letter: u8, priority: bool) -> Result<Sent<u64>, AllocError> {
+    let bytes = Items::from_vec(payload(alloc, letter)?);
     Ok(Sent {
         recipients: recipients(alloc, to)?,
         bytes,

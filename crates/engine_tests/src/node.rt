@@ -1,10 +1,11 @@
 //! An engine with a mailbox, as a scenario sees it.
 use super::job::Gated;
-use super::message::Letter;
 use super::network::{Inbound, Outbound};
 use super::peers::Peers;
-use broadcast_core::{Codec, Digestible};
-use broadcast_engine::buffered::{Config, Engine, Mailbox, MailboxEngine, Metrics, Status, Turn};
+use broadcast_core::{Codec, Digestible, RangeCfg, TestMessage};
+use broadcast_engine::buffered::{
+    Config, Engine, Mailbox, MailboxEngine, Metrics, Status, Strategy, Turn,
+};
 use futures::task::{Context, Poll};
 use std::alloc::{AllocError, AllocGlobal, Global};
 use std::marker::Model;
@@ -22,28 +23,32 @@ pub enum Metric {
 
 /// The engine of a node. Nothing is known of its state, which keeps the proofs of scenarios small.
 #[derive(Drop)]
-pub struct Node<M: Digestible + Codec, R: Wait> {
-    pub engine: MailboxEngine<u64, M, Peers, Gated, R>,
+pub struct Node<R: Wait> {
+    pub engine: MailboxEngine<u64, TestMessage, Peers, Gated, R>,
 }
 
-impl<M: Digestible + Codec, R: Wait> Model for Node<M, R> {
+impl<R: Wait> Model for Node<R> {
     ghost Value = { Unit {0} };
 
     ghost view = { λ _. tt };
 }
 
-impl<M: Letter, R: Wait + Clone + Drop> Node<M, R> {
+impl<R: Wait> From<MailboxEngine<u64, TestMessage, Peers, Gated, R>> for Node<R> {
+    fn from(engine: MailboxEngine<u64, TestMessage, Peers, Gated, R>) -> Self {
+        Node { engine }
+    }
+}
+
+impl<R: Wait + Clone + Drop> Node<R> {
     /// Creates a node and its mailbox.
     pub fn new(
         rt: &R,
-        cfg: Config<u64, M::Cfg, Peers, Gated>,
-    ) -> Result<(Self, Mailbox<u64, M, R>), AllocError>
+        cfg: Config<u64, RangeCfg, Peers, Gated>,
+    ) -> Result<(Self, Mailbox<u64, TestMessage, R>), AllocError>
     where
         R: AllocGlobal,
-        M::Cfg: Drop,
     {
-        let (engine, mailbox) = Engine::new(rt.clone()?, rt.alloc(), cfg)?;
-        Ok((Node { engine }, mailbox))
+        made(rt.clone()?, rt.alloc(), cfg)
     }
 
     /// Polls the engine once.
@@ -71,6 +76,24 @@ impl<M: Letter, R: Wait + Clone + Drop> Node<M, R> {
             Err(_) => false,
         }
     }
+}
+
+/// Creates an engine and its mailbox, and returns what is made of the engine. It is generic in the
+/// message, since the check refuses a function that has both for `TestMessage`.
+fn made<M, T, R, N>(
+    rt: R,
+    alloc: Global,
+    cfg: Config<u64, M::Cfg, Peers, T>,
+) -> Result<(N, Mailbox<u64, M, R>), AllocError>
+where
+    M: Digestible + Codec,
+    M::Cfg: Drop,
+    T: Strategy<M> + Drop,
+    R: Wait + Clone + Drop,
+    N: From<MailboxEngine<u64, M, Peers, T, R>>,
+{
+    let (engine, mailbox) = Engine::new(rt, alloc, cfg)?;
+    Ok((N::from(engine), mailbox))
 }
 
 /// Returns the counter.

@@ -1,10 +1,8 @@
 //! Engines over a network in memory, which one thread polls.
-use super::message::Letter;
 use super::network::{Inbound, Outbound};
 use super::node::{Metric, Node};
 use super::task::Task;
 use super::wires::Wires;
-use broadcast_core::{Codec, Digestible};
 use broadcast_engine::buffered::Turn;
 use futures::task::Poll;
 use std::alloc::{AllocError, AllocGlobal, Global};
@@ -13,18 +11,13 @@ use std::sync::Wait;
 
 /// The engines of the nodes, in the order of their keys, with their tasks and their network.
 #[derive(Drop)]
-pub struct Nodes<M: Digestible + Codec, R: Wait> {
-    pub engines: Vec<Node<M, R>>,
+pub struct Nodes<R: Wait> {
+    pub engines: Vec<Node<R>>,
     pub tasks: Vec<Task>,
     pub wires: Wires,
 }
 
-impl<M, R> Nodes<M, R>
-where
-    M: Letter,
-    M::Cfg: Drop,
-    R: Wait + Clone + Drop,
-{
+impl<R: Wait + Clone + Drop> Nodes<R> {
     /// Creates a network without nodes.
     pub fn new(alloc: Global) -> Self {
         Nodes {
@@ -130,16 +123,12 @@ fn ends<'a>(
 }
 
 /// Polls the engine once. Returns the turn, if it is ready.
-fn poll<M, R>(
-    engine: &mut Node<M, R>,
+fn poll<R: Wait + Clone + Drop>(
+    engine: &mut Node<R>,
     task: &mut Task,
     alloc: Global,
     network: &mut (Outbound, Inbound),
-) -> Option<Turn>
-where
-    M: Letter,
-    R: Wait + Clone + Drop,
-{
+) -> Option<Turn> {
     task.wakes = 0;
     let mut cx = task.solo.begin();
     let polled = engine.poll(alloc, &mut cx, network);

@@ -1,6 +1,6 @@
 //! Engines whose sources follow a script.
-use super::message::{Letter, To, digest, digested, payload, peers, recipients};
-use broadcast_core::{Items, Set};
+use super::message::{To, digest, digested, payload, peers, recipients};
+use broadcast_core::{Items, RangeCfg, Set, TestMessage};
 use broadcast_engine::buffered::{Config, Engine, Fixed, Message, NetworkFailed, Reply, Request};
 use broadcast_engine::mocks::{
     RecordingOutlet, RecordingSender, Replied, Script, ScriptedRequests, Slow,
@@ -48,19 +48,22 @@ pub struct Sources {
 }
 
 /// The outlet of a scripted engine.
-pub type Outlet<M> = RecordingOutlet<Fixed, Fixed, Reply<M>, Option<Reply<M>>>;
+pub type Outlet = RecordingOutlet<Fixed, Fixed, Reply<TestMessage>, Option<Reply<TestMessage>>>;
 
 /// A reply of a scripted engine.
-pub type Handed<M> = Replied<Fixed, Fixed, Reply<M>, Option<Reply<M>>>;
+pub type Handed = Replied<Fixed, Fixed, Reply<TestMessage>, Option<Reply<TestMessage>>>;
+
+/// A request of a scripted engine.
+pub type Wanted = Message<u64, TestMessage, Fixed, Fixed>;
 
 /// An engine whose sources follow a script. Its node has key 1, and its lists have ten places.
-pub type Scripted<M> = Engine<
+pub type Scripted = Engine<
     u64,
-    M,
+    TestMessage,
     Fixed,
-    Outlet<M>,
+    Outlet,
     Script<Option<Set<u64>>>,
-    ScriptedRequests<Message<u64, M, Fixed, Fixed>>,
+    ScriptedRequests<Wanted>,
     Slow,
 >;
 
@@ -71,37 +74,30 @@ pub type Network = (
 );
 
 impl Sources {
-    /// Creates an engine over the sources.
-    pub fn engine<M: Letter>(&self, alloc: Global) -> Result<Scripted<M>, AllocError>
-    where
-        M::Cfg: Drop,
-    {
-        let script = requests::<M>(alloc, self.requests)?;
-        let cfg = self.config(alloc, M::codec_config())?;
-        let requests = ScriptedRequests::new(script, self.stops_after);
-        Ok(Engine::over(alloc, cfg, requests, RecordingOutlet::new(alloc)))
+    /// Creates the requests of an engine.
+    pub fn requests(&self, alloc: Global) -> Result<ScriptedRequests<Wanted>, AllocError> {
+        Ok(ScriptedRequests::new(requests(alloc, self.requests)?, self.stops_after))
     }
 
     /// Creates the configuration of an engine.
-    fn config<C: Drop>(
+    pub fn config(
         &self,
         alloc: Global,
-        codec_config: C,
-    ) -> Result<Config<u64, C, Script<Option<Set<u64>>>, Slow>, AllocError> {
+    ) -> Result<Config<u64, RangeCfg, Script<Option<Set<u64>>>, Slow>, AllocError> {
         Ok(Config {
             public_key: 1,
             mailbox_size: NonZeroUsize::MIN,
             deque_size: 10,
             priority: true,
-            codec_config,
+            codec_config: RangeCfg::any(),
             peer_provider: sets(alloc, self.sets)?,
             strategy: Slow { polls: self.slow },
         })
     }
 
     /// Creates the network.
-    pub fn network<M: Letter>(&self, alloc: Global) -> Result<Network, AllocError> {
-        let payloads = payloads::<M>(alloc, self.payloads)?;
+    pub fn network(&self, alloc: Global) -> Result<Network, AllocError> {
+        let payloads = payloads(alloc, self.payloads)?;
         Ok((RecordingSender::new(alloc), payloads))
     }
 }
@@ -124,23 +120,16 @@ fn set(alloc: Global, peered: Peered) -> Result<Poll<Option<Set<u64>>>, AllocErr
 }
 
 /// Creates the script of requests. The ticket of each is its place.
-fn requests<M: Letter>(
-    alloc: Global,
-    results: &[Asks],
-) -> Result<Script<Request<Message<u64, M, Fixed, Fixed>>>, AllocError> {
+fn requests(alloc: Global, results: &[Asks]) -> Result<Script<Request<Wanted>>, AllocError> {
     let mut polls = Vec::new(alloc);
     for (place, one) in results.iter().enumerate() {
-        polls.push(request::<M>(alloc, place as u64, *one)?)?;
+        polls.push(request(alloc, place as u64, *one)?)?;
     }
     Ok(Script::new(polls))
 }
 
-fn request<M: Letter>(
-    alloc: Global,
-    ticket: u64,
-    asks: Asks,
-) -> Result<Poll<Request<Message<u64, M, Fixed, Fixed>>>, AllocError> {
-    let Some(message) = message::<M>(alloc, asks)? else {
+fn request(alloc: Global, ticket: u64, asks: Asks) -> Result<Poll<Request<Wanted>>, AllocError> {
+    let Some(message) = message(alloc, asks)? else {
         return Ok(Poll::Pending);
     };
     Ok(Poll::Ready(Request {
@@ -150,51 +139,44 @@ fn request<M: Letter>(
     }))
 }
 
-fn message<M: Letter>(
-    alloc: Global,
-    asks: Asks,
-) -> Result<Option<Message<u64, M, Fixed, Fixed>>, AllocError> {
+fn message(alloc: Global, asks: Asks) -> Result<Option<Wanted>, AllocError> {
     Ok(match asks {
         Asks::Later => None,
-        Asks::Broadcast(to, letter) => Some(broadcast::<M>(alloc, to, letter)?),
+        Asks::Broadcast(to, letter) => Some(broadcast(alloc, to, letter)?),
         Asks::Subscribe(letter, closed) => {
-            Some(Message::subscribe(digest::<M>(alloc, letter)?, Fixed { closed }))
+            Some(Message::subscribe(digest(alloc, letter)?, Fixed { closed }))
         }
         Asks::Get(letter, closed) => {
-            Some(Message::get(digest::<M>(alloc, letter)?, Fixed { closed }))
+            Some(Message::get(digest(alloc, letter)?, Fixed { closed }))
         }
     })
 }
 
-fn broadcast<M: Letter>(
-    alloc: Global,
-    to: To,
-    letter: u8,
-) -> Result<Message<u64, M, Fixed, Fixed>, AllocError> {
+fn broadcast(alloc: Global, to: To, letter: u8) -> Result<Wanted, AllocError> {
     let recipients = recipients(alloc, to)?;
-    Ok(Message::broadcast(recipients, digested::<M>(alloc, letter, letter)?))
+    Ok(Message::broadcast(recipients, digested(alloc, letter, letter)?))
 }
 
 /// Creates the script of payloads.
-fn payloads<M: Letter>(
+fn payloads(
     alloc: Global,
     results: &[Comes],
 ) -> Result<Script<Result<(u64, Items<u8>), NetworkFailed>>, AllocError> {
     let mut polls = Vec::new(alloc);
     for one in results {
-        polls.push(received::<M>(alloc, *one)?)?;
+        polls.push(received(alloc, *one)?)?;
     }
     Ok(Script::new(polls))
 }
 
-fn received<M: Letter>(
+fn received(
     alloc: Global,
     comes: Comes,
 ) -> Result<Poll<Result<(u64, Items<u8>), NetworkFailed>>, AllocError> {
     Ok(match comes {
         Comes::Later => Poll::Pending,
         Comes::From(peer, letter) => {
-            Poll::Ready(Ok((peer, Items::from_vec(payload::<M>(alloc, letter)?))))
+            Poll::Ready(Ok((peer, Items::from_vec(payload(alloc, letter)?))))
         }
         Comes::Broken(peer) => {
             Poll::Ready(Ok((peer, Items::from_vec(Vec::from_slice(alloc, &[0xff])?))))

@@ -1,5 +1,5 @@
 //! A network in memory between nodes with the keys from 1.
-use super::message::{Letter, To, sending};
+use super::message::{To, sending};
 use super::network::{Inbound, Outbound};
 use broadcast_core::{Recipients, Sent};
 use std::alloc::{AllocError, Global};
@@ -95,7 +95,7 @@ impl Wires {
     }
 
     /// Returns whether the node sent this message at the place.
-    pub fn sent<M: Letter>(
+    pub fn sent(
         &self,
         alloc: Global,
         key: u64,
@@ -103,7 +103,7 @@ impl Wires {
         to: To,
         letter: u8,
     ) -> Result<bool, AllocError> {
-        let wanted = sending::<M>(alloc, to, letter, key % 2 == 0)?;
+        let wanted = sending(alloc, to, letter, key % 2 == 0)?;
         Ok(self.has_sent(key, at, &wanted))
     }
 

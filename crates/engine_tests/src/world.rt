@@ -2,11 +2,10 @@
 use super::act::Act;
 use super::callers::Callers;
 use super::feeds::Feeds;
-use super::message::{Letter, payload};
+use super::message::payload;
 use super::node::Node;
 use super::nodes::Nodes;
 use super::wires::{Wires, place};
-use broadcast_core::{Codec, Digestible};
 use std::alloc::{AllocError, AllocGlobal, Global};
 use std::num::NonZeroUsize;
 use std::random::RandomSource;
@@ -22,16 +21,14 @@ pub struct Sizes {
 
 /// Nodes with the keys from 1.
 #[derive(Drop)]
-pub struct World<M: Digestible + Codec, R: Wait> {
-    nodes: Nodes<M, R>,
-    callers: Callers<M, R>,
+pub struct World<R: Wait> {
+    nodes: Nodes<R>,
+    callers: Callers<R>,
     feeds: Feeds,
 }
 
-impl<M, R> World<M, R>
+impl<R> World<R>
 where
-    M: Letter,
-    M::Cfg: Drop,
     R: Wait + RandomSource + AllocGlobal + Clone + Send + Drop + 'static,
 {
     /// Creates a world of new nodes.
@@ -61,7 +58,7 @@ where
         // With room for both, nothing can fail while the engine is at hand.
         self.callers.mailboxes.reserve(1)?;
         self.nodes.engines.reserve(1)?;
-        let cfg = self.feeds.config(key, sizes, M::codec_config())?;
+        let cfg = self.feeds.config(key, sizes)?;
         let (node, mailbox) = Node::new(rt, cfg)?;
         self.callers.mailboxes.push_reserved(mailbox);
         self.nodes.engines.push_reserved(node);
@@ -107,17 +104,12 @@ where
 }
 
 /// Does what the action says of the engines. Returns whether it goes as it should.
-fn goes_inside<M, R>(
-    nodes: &mut Nodes<M, R>,
+fn goes_inside<R: Wait + Clone + Drop>(
+    nodes: &mut Nodes<R>,
     feeds: &Feeds,
     alloc: Global,
     act: Act,
-) -> Result<bool, AllocError>
-where
-    M: Letter,
-    M::Cfg: Drop,
-    R: Wait + Clone + Drop,
-{
+) -> Result<bool, AllocError> {
     Ok(match act {
         Act::Run => return nodes.run(alloc),
         Act::Poll(key, turn) => nodes.takes(alloc, place(key), turn),
@@ -125,12 +117,12 @@ where
         Act::Counts(key, metric, number) => nodes.counted(place(key), metric, number),
         Act::Stop(key) => nodes.stop(place(key)),
         Act::CloseLast => nodes.close_last(),
-        _ => return feeds_one::<M>(&mut nodes.wires, feeds, alloc, act),
+        _ => return feeds_one(&mut nodes.wires, feeds, alloc, act),
     })
 }
 
 /// Does what the action says of the sources. Returns whether it goes as it should.
-fn feeds_one<M: Letter>(
+fn feeds_one(
     wires: &mut Wires,
     feeds: &Feeds,
     alloc: Global,
@@ -142,10 +134,10 @@ fn feeds_one<M: Letter>(
         Act::Holds(key, polls) => Ok(feeds.hold(key, polls)),
         Act::Payload(key, from, bytes) => wires.hand(alloc, key, from, bytes),
         Act::Comes(key, from, letter) => {
-            let bytes = payload::<M>(alloc, letter)?;
+            let bytes = payload(alloc, letter)?;
             wires.hand(alloc, key, from, bytes.as_slice())
         }
-        Act::Sends(key, at, to, letter) => wires.sent::<M>(alloc, key, at, to, letter),
+        Act::Sends(key, at, to, letter) => wires.sent(alloc, key, at, to, letter),
         Act::Fails(key) => Ok(wires.fail(key)),
         Act::Lose(number) => {
             wires.lose = number;
