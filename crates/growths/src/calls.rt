@@ -5,7 +5,7 @@ use broadcast_text::line_error::LineError;
 use broadcast_text::lines::Lines;
 use broadcast_text::words::{Words, expect_number, parse_numbers};
 use std::alloc::Global;
-use std::io::Read;
+use std::io::Stdin;
 use std::num::NonZeroUsize;
 
 /// What is called, with its size.
@@ -19,9 +19,18 @@ pub enum Part {
     Inbox(NonZeroUsize),
     /// A mailbox whose ready list has this number of places.
     Mailbox(NonZeroUsize),
-    /// An engine with this `deque_size`, number of places in its mailbox's ready list, and greatest
-    /// length that it decodes.
-    Engine(usize, NonZeroUsize, usize),
+    /// An engine of these sizes.
+    Engine(Sizes),
+}
+
+/// The sizes of an engine.
+#[derive(Clone, Copy)]
+pub struct Sizes {
+    pub deque_size: usize,
+    /// The greatest length that is decoded.
+    pub greatest: usize,
+    /// The number of places in the ready list of the mailbox.
+    pub places: NonZeroUsize,
 }
 
 /// A call with what it is given.
@@ -45,7 +54,7 @@ impl<C: Call> Calls for Vec<C> {
 }
 
 /// Reads the first line.
-pub fn read_part<R: Read + Drop>(lines: &mut Lines<R>) -> Result<Part, Fault> {
+pub fn read_part(lines: &mut Lines<Stdin>) -> Result<Part, Fault> {
     match lines.next_line()? {
         Some(line) => parse_part(line).map_err(|_: LineError| Fault::Syntax(1)),
         None => Err(Fault::Syntax(1)),
@@ -87,9 +96,14 @@ fn mailbox_of(words: Words<'_>) -> Result<Part, LineError> {
 }
 
 fn engine_of(mut words: Words<'_>) -> Result<Part, LineError> {
-    let size = number(&mut words)? as usize;
+    let deque_size = number(&mut words)? as usize;
     let greatest = number(&mut words)? as usize;
-    Ok(Part::Engine(size, places_of(words)?, greatest))
+    let places = places_of(words)?;
+    Ok(Part::Engine(Sizes {
+        deque_size,
+        greatest,
+        places,
+    }))
 }
 
 /// Returns the size that is the next word.
@@ -102,19 +116,16 @@ fn places_of(words: Words<'_>) -> Result<NonZeroUsize, LineError> {
 }
 
 /// Returns the calls of the other lines.
-pub fn read_calls<C: Call, R: Read + Drop>(
-    alloc: Global,
-    lines: &mut Lines<R>,
-) -> Result<Vec<C>, Fault> {
+pub fn read_calls<C: Call>(alloc: Global, lines: &mut Lines<Stdin>) -> Result<Vec<C>, Fault> {
     let mut calls = Vec::new(alloc);
     append_calls(alloc, lines, &mut calls)?;
     Ok(calls)
 }
 
 /// Appends the calls of the other lines.
-pub fn append_calls<C: Calls, R: Read + Drop>(
+pub fn append_calls<C: Calls>(
     alloc: Global,
-    lines: &mut Lines<R>,
+    lines: &mut Lines<Stdin>,
     calls: &mut C,
 ) -> Result<(), Fault> {
     for number in 2..u64::MAX {
@@ -127,9 +138,9 @@ pub fn append_calls<C: Calls, R: Read + Drop>(
 }
 
 /// Appends the call of the next line, which has this number. Returns whether there was a line.
-fn append_call<C: Calls, R: Read + Drop>(
+fn append_call<C: Calls>(
     alloc: Global,
-    lines: &mut Lines<R>,
+    lines: &mut Lines<Stdin>,
     number: u64,
     calls: &mut C,
 ) -> Result<bool, Fault> {

@@ -11,7 +11,7 @@ use broadcast_text::line_error::LineError;
 use broadcast_text::lines::Lines;
 use broadcast_text::words::{Words, parse_numbers};
 use std::alloc::{AllocError, Global};
-use std::io::{Read, Write};
+use std::io::Stdin;
 
 /// A waiter whose field is what `is_closed` returns.
 #[derive(Clone, Copy)]
@@ -97,27 +97,22 @@ fn parse_cleanup(alloc: Global, words: Words<'_>) -> Result<Ready, LineError> {
 
 /// Reads the calls of a core whose lists have at most `deque_size` digests, makes them, and writes
 /// what they return and leave.
-pub fn show<R: Read + Drop, W: Write>(
+pub fn show(
     alloc: Global,
-    lines: &mut Lines<R>,
-    out: &mut Printer<W>,
+    lines: &mut Lines<Stdin>,
+    out: &mut Printer,
     deque_size: usize,
 ) -> Result<(), Fault> {
     make_all(alloc, out, deque_size, read_calls(alloc, lines)?);
     Ok(())
 }
 
-fn make_all<W: Write>(alloc: Global, out: &mut Printer<W>, deque_size: usize, calls: Vec<Ready>) {
+fn make_all(alloc: Global, out: &mut Printer, deque_size: usize, calls: Vec<Ready>) {
     let mut core = Core::new(alloc, 1, deque_size);
     make_calls(alloc, out, &mut core, calls);
 }
 
-fn make_calls<W: Write>(
-    alloc: Global,
-    out: &mut Printer<W>,
-    core: &mut TestCore,
-    calls: Vec<Ready>,
-) {
+fn make_calls(alloc: Global, out: &mut Printer, core: &mut TestCore, calls: Vec<Ready>) {
     for call in calls {
         make(out, core, call);
         write_core(alloc, out, core);
@@ -125,7 +120,7 @@ fn make_calls<W: Write>(
 }
 
 /// Makes the call, and writes what it returns.
-fn make<W: Write>(out: &mut Printer<W>, core: &mut TestCore, call: Ready) {
+fn make(out: &mut Printer, core: &mut TestCore, call: Ready) {
     match call {
         Ready::Peers(set) => update(out, core, set),
         Ready::Take(key, message) => take(out, core, key, message),
@@ -136,39 +131,30 @@ fn make<W: Write>(out: &mut Printer<W>, core: &mut TestCore, call: Ready) {
     }
 }
 
-fn update<W: Write>(out: &mut Printer<W>, core: &mut TestCore, set: Set<u64>) {
+fn update(out: &mut Printer, core: &mut TestCore, set: Set<u64>) {
     core.update_primary_peers(set);
     out.line("peers");
 }
 
-fn take<W: Write>(
-    out: &mut Printer<W>,
-    core: &mut TestCore,
-    key: u64,
-    message: Digested<TestMessage>,
-) {
+fn take(out: &mut Printer, core: &mut TestCore, key: u64, message: Digested<TestMessage>) {
     write_taken(out, "take", core.take(&key, &message));
 }
 
-fn take_own<W: Write>(out: &mut Printer<W>, core: &mut TestCore, message: Digested<TestMessage>) {
+fn take_own(out: &mut Printer, core: &mut TestCore, message: Digested<TestMessage>) {
     write_taken(out, "take_own", core.take_own(&message));
 }
 
-fn cleanup<W: Write>(out: &mut Printer<W>, core: &mut TestCore, gone: Vec<u64>) {
+fn cleanup(out: &mut Printer, core: &mut TestCore, gone: Vec<u64>) {
     write_removed(out, "cleanup", core.cleanup(&gone));
 }
 
-fn write_removed<W: Write>(out: &mut Printer<W>, call: &str, count: u64) {
+fn write_removed(out: &mut Printer, call: &str, count: u64) {
     out.text(call);
     out.counted(" removed", count);
     out.line("");
 }
 
-fn write_taken<W: Write>(
-    out: &mut Printer<W>,
-    call: &str,
-    taken: Result<Taken<Waiter>, AllocError>,
-) {
+fn write_taken(out: &mut Printer, call: &str, taken: Result<Taken<Waiter>, AllocError>) {
     out.text(call);
     match taken {
         Ok(taken) => write_outcome(out, &taken),
@@ -176,13 +162,13 @@ fn write_taken<W: Write>(
     }
 }
 
-fn write_outcome<W: Write>(out: &mut Printer<W>, taken: &Taken<Waiter>) {
+fn write_outcome(out: &mut Printer, taken: &Taken<Waiter>) {
     out.text(" ");
     out.text(word_of(taken.outcome));
     write_served(out, taken.served.as_slice());
 }
 
-fn write_served<W: Write>(out: &mut Printer<W>, served: &[Waiter]) {
+fn write_served(out: &mut Printer, served: &[Waiter]) {
     for waiter in served {
         out.counted("", waiter.ticket);
     }
@@ -190,7 +176,7 @@ fn write_served<W: Write>(out: &mut Printer<W>, served: &[Waiter]) {
 }
 
 /// Subscribes, and writes the answer, with the waiter that comes back.
-fn subscribe<W: Write>(out: &mut Printer<W>, core: &mut TestCore, waiter: Waiter, digest: u8) {
+fn subscribe(out: &mut Printer, core: &mut TestCore, waiter: Waiter, digest: u8) {
     match core.subscribe(digest_of(digest), waiter) {
         Ok(Subscribed::Waiting) => out.line("subscribe waiting"),
         Ok(Subscribed::Answered(back, message)) => {

@@ -1,4 +1,5 @@
 //! An engine that is driven over scripts, and its mailbox.
+use crate::calls::Sizes;
 use crate::engine_calls::{Act, Lists, Received, Update};
 use crate::engine_show::{Asked, write_asked, write_counters, write_sent, write_turns};
 use crate::mailbox_calls::write_told;
@@ -13,9 +14,7 @@ use commonware_broadcast::buffered::Mailbox;
 use commonware_broadcast::{Broadcaster, Feedback, MailboxError};
 use futures::task::{Doorbell, Poll, Solo};
 use std::alloc::{AllocError, AllocGlobal, Global};
-use std::io::Write;
 use std::marker::Model;
-use std::num::NonZeroUsize;
 use std::random::RandomSource;
 use std::sync::Wait;
 
@@ -57,21 +56,13 @@ struct Node<T: Strategy<TestMessage>, R: Wait> {
     ends: Box<Ends>,
 }
 
-/// The sizes of the lists and of the mailbox, what may be decoded, and what digests messages.
-#[derive(Drop)]
-pub struct Settings<T> {
-    pub deque_size: usize,
-    pub places: NonZeroUsize,
-    pub codec_config: RangeCfg,
-    pub strategy: T,
-}
-
 /// Does what the lines say, and writes what comes of each, and in the end what the callers got and
-/// what was sent.
-pub fn show<T, R, W: Write>(
+/// what was sent. The strategy digests the messages.
+pub fn show<T, R>(
     rt: &R,
-    out: &mut Printer<W>,
-    settings: Settings<T>,
+    out: &mut Printer,
+    sizes: Sizes,
+    strategy: T,
     lists: Lists,
 ) -> Result<(), Fault>
 where
@@ -84,7 +75,7 @@ where
         acts,
     } = lists;
     let ends = ends_of(rt, received, acts.len())?;
-    let started = start(rt, config(settings, updates))?;
+    let started = start(rt, config(sizes, strategy, updates))?;
     let mut node = Node { started, ends };
     node.act_all(rt.alloc(), out, acts);
     Ok(())
@@ -129,21 +120,21 @@ where
 }
 
 /// Returns the configuration of an engine whose peer sets are the updates.
-fn config<T>(settings: Settings<T>, updates: Vec<Update>) -> Config<u64, RangeCfg, Sets, T> {
+fn config<T>(sizes: Sizes, strategy: T, updates: Vec<Update>) -> Config<u64, RangeCfg, Sets, T> {
     Config {
         public_key: 1,
-        mailbox_size: settings.places,
-        deque_size: settings.deque_size,
+        mailbox_size: sizes.places,
+        deque_size: sizes.deque_size,
         priority: false,
-        codec_config: settings.codec_config,
+        codec_config: RangeCfg::new(0, sizes.greatest),
         peer_provider: Script::new(updates),
-        strategy: settings.strategy,
+        strategy,
     }
 }
 
 impl Ends {
     /// Writes what the callers got, and what was sent.
-    fn show<W: Write>(&mut self, out: &mut Printer<W>) {
+    fn show(&mut self, out: &mut Printer) {
         write_all_asked(&self.task, out, &mut self.asked);
         write_sent(out, self.network.0.sent.as_slice());
     }
@@ -162,7 +153,7 @@ impl Ends {
 }
 
 /// Writes what the callers got.
-fn write_all_asked<W: Write>(task: &Solo, out: &mut Printer<W>, all: &mut [Asked]) {
+fn write_all_asked(task: &Solo, out: &mut Printer, all: &mut [Asked]) {
     for asked in all {
         write_asked(task, out, asked);
     }
@@ -174,7 +165,7 @@ where
     R: Wait + Clone + Send + Drop + 'static,
 {
     /// Does what the lines say, and writes what the callers got.
-    fn act_all<W: Write>(&mut self, alloc: Global, out: &mut Printer<W>, acts: Vec<Act>) {
+    fn act_all(&mut self, alloc: Global, out: &mut Printer, acts: Vec<Act>) {
         for act in acts {
             self.act(alloc, out, act);
         }
@@ -182,7 +173,7 @@ where
     }
 
     /// Does what the line says, and writes what comes of it.
-    fn act<W: Write>(&mut self, alloc: Global, out: &mut Printer<W>, act: Act) {
+    fn act(&mut self, alloc: Global, out: &mut Printer, act: Act) {
         match act {
             Act::Broadcast(message) => write_told(out, "broadcast", self.broadcast(message)),
             Act::Subscribe(digest) => write_told(out, "subscribe", self.subscribe(digest)),
@@ -212,7 +203,7 @@ where
     }
 
     /// Drives the engine, and writes its turns and its counters.
-    fn drive<W: Write>(&mut self, alloc: Global, out: &mut Printer<W>, limit: usize) {
+    fn drive(&mut self, alloc: Global, out: &mut Printer, limit: usize) {
         match self.turns(alloc, limit) {
             Ok(turns) => write_turns(out, &turns),
             Err(_) => out.line("drive memory"),

@@ -6,7 +6,6 @@ use commonware_broadcast::buffered::{Get, Subscription};
 use futures::Future;
 use futures::channel::oneshot::Canceled;
 use futures::task::{Poll, Solo};
-use std::io::Write;
 
 /// The keys whose counters are shown.
 const KEYS: u64 = 7;
@@ -20,7 +19,7 @@ pub enum Asked {
 }
 
 /// Writes the turns of a drive.
-pub fn write_turns<W: Write>(out: &mut Printer<W>, turns: &[Turn]) {
+pub fn write_turns(out: &mut Printer, turns: &[Turn]) {
     out.text("drive");
     for turn in turns {
         out.shown(turn);
@@ -29,7 +28,7 @@ pub fn write_turns<W: Write>(out: &mut Printer<W>, turns: &[Turn]) {
 }
 
 /// Writes the counters.
-pub fn write_counters<W: Write>(out: &mut Printer<W>, metrics: &Metrics<u64>) {
+pub fn write_counters(out: &mut Printer, metrics: &Metrics<u64>) {
     out.counted("  waiters", metrics.waiters());
     write_receive(out, metrics);
     write_subscribe(out, metrics);
@@ -38,24 +37,24 @@ pub fn write_counters<W: Write>(out: &mut Printer<W>, metrics: &Metrics<u64>) {
     out.line("");
 }
 
-fn write_receive<W: Write>(out: &mut Printer<W>, metrics: &Metrics<u64>) {
+fn write_receive(out: &mut Printer, metrics: &Metrics<u64>) {
     out.counted(" receive", metrics.receive(Status::Success));
     out.counted("", metrics.receive(Status::Dropped));
     out.counted("", metrics.receive(Status::Invalid));
 }
 
-fn write_subscribe<W: Write>(out: &mut Printer<W>, metrics: &Metrics<u64>) {
+fn write_subscribe(out: &mut Printer, metrics: &Metrics<u64>) {
     out.counted(" subscribe", metrics.subscribe(Status::Success));
     out.counted("", metrics.subscribe(Status::Dropped));
 }
 
-fn write_get<W: Write>(out: &mut Printer<W>, metrics: &Metrics<u64>) {
+fn write_get(out: &mut Printer, metrics: &Metrics<u64>) {
     out.counted(" get", metrics.get(Status::Success));
     out.counted("", metrics.get(Status::Failure));
     out.counted("", metrics.get(Status::Dropped));
 }
 
-fn write_peers<W: Write>(out: &mut Printer<W>, metrics: &Metrics<u64>) {
+fn write_peers(out: &mut Printer, metrics: &Metrics<u64>) {
     out.text(" peers");
     for key in 0..KEYS {
         out.counted("", metrics.peer(&key));
@@ -63,7 +62,7 @@ fn write_peers<W: Write>(out: &mut Printer<W>, metrics: &Metrics<u64>) {
 }
 
 /// Polls the future of a caller, and writes what it gives.
-pub fn write_asked<W: Write>(task: &Solo, out: &mut Printer<W>, asked: &mut Asked) {
+pub fn write_asked(task: &Solo, out: &mut Printer, asked: &mut Asked) {
     match asked {
         Asked::Get(get) => write_got(out, &poll(task, get)),
         Asked::Subscription(subscription) => {
@@ -84,7 +83,7 @@ fn poll<F: Future>(task: &Solo, future: &mut F) -> Poll<F::Output>
     polled
 }
 
-fn write_got<W: Write>(out: &mut Printer<W>, polled: &Poll<Option<Digested<TestMessage>>>) {
+fn write_got(out: &mut Printer, polled: &Poll<Option<Digested<TestMessage>>>) {
     match polled {
         Poll::Pending => out.line("get waits"),
         Poll::Ready(None) => out.line("get none"),
@@ -92,10 +91,7 @@ fn write_got<W: Write>(out: &mut Printer<W>, polled: &Poll<Option<Digested<TestM
     }
 }
 
-fn write_subscribed<W: Write>(
-    out: &mut Printer<W>,
-    polled: &Poll<Result<Digested<TestMessage>, Canceled>>,
-) {
+fn write_subscribed(out: &mut Printer, polled: &Poll<Result<Digested<TestMessage>, Canceled>>) {
     match polled {
         Poll::Pending => out.line("subscribe waits"),
         Poll::Ready(Err(Canceled)) => out.line("subscribe canceled"),
@@ -103,7 +99,7 @@ fn write_subscribed<W: Write>(
     }
 }
 
-fn write_message<W: Write>(out: &mut Printer<W>, word: &str, message: &Digested<TestMessage>) {
+fn write_message(out: &mut Printer, word: &str, message: &Digested<TestMessage>) {
     out.text(word);
     out.bytes(&message.inner().commitment);
     out.bytes(&message.inner().content);
@@ -111,7 +107,7 @@ fn write_message<W: Write>(out: &mut Printer<W>, word: &str, message: &Digested<
 }
 
 /// Writes what was sent.
-pub fn write_sent<W: Write>(out: &mut Printer<W>, sends: &[Sent<u64>]) {
+pub fn write_sent(out: &mut Printer, sends: &[Sent<u64>]) {
     for sent in sends {
         out.text("sent");
         out.bytes(sent.bytes.as_slice());

@@ -9,7 +9,7 @@ use broadcast_text::words::Words;
 use commonware_broadcast::MailboxError;
 use commonware_broadcast::buffered::{Inbox, Queued};
 use std::alloc::Global;
-use std::io::{Read, Write};
+use std::io::Stdin;
 use std::num::NonZeroUsize;
 
 /// A call with what it is given.
@@ -38,22 +38,17 @@ fn parse_enqueue(alloc: Global, name: &str, words: Words<'_>) -> Result<Ready, L
 
 /// Reads the calls of an inbox whose ready list has `places` places, makes them, and writes what
 /// they return, and where the requests went.
-pub fn show<R: Read + Drop, W: Write>(
+pub fn show(
     alloc: Global,
-    lines: &mut Lines<R>,
-    out: &mut Printer<W>,
+    lines: &mut Lines<Stdin>,
+    out: &mut Printer,
     places: NonZeroUsize,
 ) -> Result<(), Fault> {
     make_all(alloc, out, places, read_calls(alloc, lines)?);
     Ok(())
 }
 
-fn make_all<W: Write>(
-    alloc: Global,
-    out: &mut Printer<W>,
-    places: NonZeroUsize,
-    calls: Vec<Ready>,
-) {
+fn make_all(alloc: Global, out: &mut Printer, places: NonZeroUsize, calls: Vec<Ready>) {
     let mut inbox = Inbox::new(alloc, places);
     for call in calls {
         make(out, &mut inbox, call);
@@ -62,7 +57,7 @@ fn make_all<W: Write>(
 }
 
 /// Makes the call, and writes what it returns.
-fn make<W: Write>(out: &mut Printer<W>, inbox: &mut Inbox<Plain>, call: Ready) {
+fn make(out: &mut Printer, inbox: &mut Inbox<Plain>, call: Ready) {
     match call {
         Ready::Enqueue(request) => enqueue(out, inbox, request),
         Ready::Take => write_taken(out, inbox.take()),
@@ -74,7 +69,7 @@ fn make<W: Write>(out: &mut Printer<W>, inbox: &mut Inbox<Plain>, call: Ready) {
     }
 }
 
-fn request_stop<W: Write>(out: &mut Printer<W>, inbox: &mut Inbox<Plain>) {
+fn request_stop(out: &mut Printer, inbox: &mut Inbox<Plain>) {
     inbox.request_stop();
     out.line(if inbox.stop_requested() {
         "request_stop true"
@@ -83,13 +78,13 @@ fn request_stop<W: Write>(out: &mut Printer<W>, inbox: &mut Inbox<Plain>) {
     });
 }
 
-fn enqueue<W: Write>(out: &mut Printer<W>, inbox: &mut Inbox<Plain>, request: Plain) {
+fn enqueue(out: &mut Printer, inbox: &mut Inbox<Plain>, request: Plain) {
     out.text("enqueue");
     write_request(out, &request);
     write_queued(out, inbox.enqueue(request));
 }
 
-fn write_queued<W: Write>(out: &mut Printer<W>, queued: Result<Queued, MailboxError>) {
+fn write_queued(out: &mut Printer, queued: Result<Queued, MailboxError>) {
     match queued {
         Ok(Queued::Ready(ticket)) => out.counted(" ready", ticket),
         Ok(Queued::Overflow(ticket)) => out.counted(" overflow", ticket),

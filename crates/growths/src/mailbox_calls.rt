@@ -11,7 +11,7 @@ use broadcast_text::words::Words;
 use commonware_broadcast::buffered::{Get, Incoming, Ingress, Mailbox, Subscription, channel};
 use commonware_broadcast::{Broadcaster, Feedback, MailboxError};
 use std::alloc::{AllocError, AllocGlobal, Global};
-use std::io::{Read, Write};
+use std::io::Stdin;
 use std::num::NonZeroUsize;
 use std::sync::Wait;
 
@@ -85,10 +85,10 @@ impl Held {
 
 /// Reads the calls of a mailbox whose ready list has `places` places, makes them, and writes what
 /// they return, and where the requests went.
-pub fn show<H, R: Read + Drop, W: Write>(
+pub fn show<H>(
     rt: &H,
-    lines: &mut Lines<R>,
-    out: &mut Printer<W>,
+    lines: &mut Lines<Stdin>,
+    out: &mut Printer,
     places: NonZeroUsize,
 ) -> Result<(), Fault>
 where
@@ -98,9 +98,9 @@ where
     Ok(())
 }
 
-fn make_all<R: Wait + AllocGlobal + Clone + Send + Drop + 'static, W: Write>(
+fn make_all<R: Wait + AllocGlobal + Clone + Send + Drop + 'static>(
     rt: &R,
-    out: &mut Printer<W>,
+    out: &mut Printer,
     places: NonZeroUsize,
     calls: Vec<Ready>,
 ) -> Result<(), AllocError> {
@@ -126,8 +126,8 @@ fn held_for(alloc: Global, count: usize) -> Result<Held, AllocError> {
     })
 }
 
-fn make_calls<R: Wait + Clone + Send + Drop + 'static, W: Write>(
-    out: &mut Printer<W>,
+fn make_calls<R: Wait + Clone + Send + Drop + 'static>(
+    out: &mut Printer,
     mailbox: &TestMailbox<R>,
     ingress: &TestIngress<R>,
     held: &mut Held,
@@ -140,8 +140,8 @@ fn make_calls<R: Wait + Clone + Send + Drop + 'static, W: Write>(
 }
 
 /// Makes the call, and writes what it returns.
-fn make<R: Wait + Clone + Send + Drop + 'static, W: Write>(
-    out: &mut Printer<W>,
+fn make<R: Wait + Clone + Send + Drop + 'static>(
+    out: &mut Printer,
     mailbox: &TestMailbox<R>,
     ingress: &TestIngress<R>,
     held: &mut Held,
@@ -160,8 +160,8 @@ fn make<R: Wait + Clone + Send + Drop + 'static, W: Write>(
     }
 }
 
-fn broadcast<R: Wait + Clone + Send + Drop + 'static, W: Write>(
-    out: &mut Printer<W>,
+fn broadcast<R: Wait + Clone + Send + Drop + 'static>(
+    out: &mut Printer,
     mailbox: &TestMailbox<R>,
     message: Digested<TestMessage>,
 ) {
@@ -169,22 +169,18 @@ fn broadcast<R: Wait + Clone + Send + Drop + 'static, W: Write>(
     write_told(out, "broadcast", told);
 }
 
-fn drop_all<W: Write>(out: &mut Printer<W>, held: &mut Held) {
+fn drop_all(out: &mut Printer, held: &mut Held) {
     held.clear();
     out.line("drop");
 }
 
-fn close<R: Wait, W: Write>(out: &mut Printer<W>, ingress: &TestIngress<R>) {
+fn close<R: Wait>(out: &mut Printer, ingress: &TestIngress<R>) {
     out.counted("close", ingress.close());
     out.line("");
 }
 
 /// Writes what a call returned.
-pub fn write_told<W: Write>(
-    out: &mut Printer<W>,
-    call: &str,
-    told: Result<Feedback, MailboxError>,
-) {
+pub fn write_told(out: &mut Printer, call: &str, told: Result<Feedback, MailboxError>) {
     out.text(call);
     out.text(" ");
     out.line(word_of(told));
@@ -221,7 +217,7 @@ fn word_of(returned: Result<Feedback, MailboxError>) -> &'static str {
     }
 }
 
-fn write_clone<R: Drop, W: Write>(out: &mut Printer<W>, copy: Result<TestMailbox<R>, AllocError>) {
+fn write_clone<R: Drop>(out: &mut Printer, copy: Result<TestMailbox<R>, AllocError>) {
     match copy {
         Ok(_) => out.line("clone"),
         Err(_) => out.line("clone memory"),

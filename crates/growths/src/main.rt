@@ -35,15 +35,13 @@ mod printer;
 mod requests;
 mod show;
 
-use broadcast_core::RangeCfg;
 use broadcast_engine::buffered::Sequential;
 use broadcast_text::fault::Fault;
 use broadcast_text::lines::Lines;
 use calls::{Part, append_calls, read_part};
-use engine::Settings;
 use engine_calls::Lists;
 use printer::Printer;
-use std::io::{BufWriter, Read, Write};
+use std::io::{BufWriter, Stdin, Stdout};
 use std::process::ExitCode;
 use std::random::RandomSource;
 use std::sync::Wait;
@@ -60,11 +58,10 @@ fn main(rt: HostRuntime) -> ExitCode {
 }
 
 /// Reads the calls, makes them, and prints what comes of it.
-fn play<
+fn play<H>(rt: &H, reader: Stdin, out: Stdout) -> Result<(), Fault>
+where
     H: Wait + RandomSource + Clone + Send + Drop + AllocGlobal + 'static,
-    R: Read + Drop,
-    W: Write + Drop,
->(rt: &H, reader: R, out: W) -> Result<(), Fault> {
+{
     let Ok(out) = BufWriter::with_capacity(rt.alloc(), BUFFER_LEN, out) else {
         return Err(Fault::Memory);
     };
@@ -74,52 +71,35 @@ fn play<
 }
 
 /// Reads the calls, and makes them.
-fn read_and_make<
+fn read_and_make<H>(rt: &H, reader: Stdin, out: &mut Printer) -> Result<(), Fault>
+where
     H: Wait + RandomSource + Clone + Send + Drop + AllocGlobal + 'static,
-    R: Read + Drop,
-    W: Write,
->(rt: &H, reader: R, out: &mut Printer<W>) -> Result<(), Fault> {
+{
     let mut lines = Lines::new(rt.alloc(), reader)?;
     let part = read_part(&mut lines)?;
     make_calls(rt, part, &mut lines, out)
 }
 
 /// Reads the calls of the part, and makes them.
-fn make_calls<
+fn make_calls<H>(
+    rt: &H,
+    part: Part,
+    lines: &mut Lines<Stdin>,
+    out: &mut Printer,
+) -> Result<(), Fault>
+where
     H: Wait + RandomSource + Clone + Send + Drop + AllocGlobal + 'static,
-    R: Read + Drop,
-    W: Write,
->(rt: &H, part: Part, lines: &mut Lines<R>, out: &mut Printer<W>) -> Result<(), Fault> {
+{
     let alloc = rt.alloc();
     match part {
         Part::Core(size) => core_calls::show(alloc, lines, out, size),
         Part::Overflow => overflow_calls::show(alloc, lines, out),
         Part::Inbox(places) => inbox_calls::show(alloc, lines, out, places),
         Part::Mailbox(places) => mailbox_calls::show(rt, lines, out, places),
-        Part::Engine(deque_size, places, greatest) => {
-            let settings = Settings {
-                deque_size,
-                places,
-                codec_config: RangeCfg::new(0, greatest),
-                strategy: Sequential,
-            };
-            drive(rt, lines, out, settings)
+        Part::Engine(sizes) => {
+            let mut lists = Lists::new(alloc);
+            append_calls(alloc, lines, &mut lists)?;
+            engine::show(rt, out, sizes, Sequential, lists)
         }
     }
-}
-
-/// Reads the lines of an engine, and does what they say.
-fn drive<
-    H: Wait + RandomSource + Clone + Send + Drop + AllocGlobal + 'static,
-    R: Read + Drop,
-    W: Write,
->(
-    rt: &H,
-    lines: &mut Lines<R>,
-    out: &mut Printer<W>,
-    settings: Settings<Sequential>,
-) -> Result<(), Fault> {
-    let mut lists = Lists::new(rt.alloc());
-    append_calls(rt.alloc(), lines, &mut lists)?;
-    engine::show(rt, out, settings, lists)
 }

@@ -8,7 +8,7 @@ use broadcast_text::lines::Lines;
 use broadcast_text::words::Words;
 use commonware_broadcast::buffered::{Overflow, Pending, Policy};
 use std::alloc::{AllocError, Global};
-use std::io::{Read, Write};
+use std::io::Stdin;
 
 /// A request that finds no room.
 #[derive(Drop)]
@@ -22,31 +22,18 @@ impl Call for Ready {
 
 /// Reads requests and puts them into an overflow, and writes how many wait. Drains it in the end,
 /// and writes what it offers.
-pub fn show<R: Read + Drop, W: Write>(
-    alloc: Global,
-    lines: &mut Lines<R>,
-    out: &mut Printer<W>,
-) -> Result<(), Fault> {
+pub fn show(alloc: Global, lines: &mut Lines<Stdin>, out: &mut Printer) -> Result<(), Fault> {
     make_all(alloc, out, read_calls(alloc, lines)?)?;
     Ok(())
 }
 
-fn make_all<W: Write>(
-    alloc: Global,
-    out: &mut Printer<W>,
-    calls: Vec<Ready>,
-) -> Result<(), AllocError> {
+fn make_all(alloc: Global, out: &mut Printer, calls: Vec<Ready>) -> Result<(), AllocError> {
     let mut drained = Vec::with_capacity(alloc, calls.len())?;
     fill_and_drain(alloc, out, calls, &mut drained);
     Ok(())
 }
 
-fn fill_and_drain<W: Write>(
-    alloc: Global,
-    out: &mut Printer<W>,
-    calls: Vec<Ready>,
-    drained: &mut Vec<Plain>,
-) {
+fn fill_and_drain(alloc: Global, out: &mut Printer, calls: Vec<Ready>, drained: &mut Vec<Plain>) {
     let mut pending: Pending<Plain> = Pending::default(alloc);
     for call in calls {
         handle(out, &mut pending, call.0);
@@ -64,7 +51,7 @@ fn drain(pending: &mut Pending<Plain>, drained: &mut Vec<Plain>) {
 }
 
 /// Puts the request into the overflow, and writes what that returns.
-fn handle<W: Write>(out: &mut Printer<W>, pending: &mut Pending<Plain>, request: Plain) {
+fn handle(out: &mut Printer, pending: &mut Pending<Plain>, request: Plain) {
     out.text("handle");
     write_request(out, &request);
     let word = match Policy::handle(pending, request) {
@@ -75,7 +62,7 @@ fn handle<W: Write>(out: &mut Printer<W>, pending: &mut Pending<Plain>, request:
     out.line("");
 }
 
-fn write_drained<W: Write>(out: &mut Printer<W>, drained: &[Plain], is_empty: bool) {
+fn write_drained(out: &mut Printer, drained: &[Plain], is_empty: bool) {
     out.text("drain");
     for request in drained {
         write_request(out, request);

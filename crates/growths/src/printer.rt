@@ -1,18 +1,18 @@
 //! Text on its way out.
 use broadcast_text::byte_list::write_spaced;
 use std::fmt::Debug;
-use std::io::Write;
+use std::io::{BufWriter, Stdout, Write};
 
-/// Prints to a stream, and remembers whether a write failed.
+/// Prints to standard output, and remembers whether a write failed.
 #[derive(Drop)]
-pub struct Printer<W: Write> {
-    out: W,
+pub struct Printer {
+    out: BufWriter<Stdout>,
     failed: bool,
 }
 
-impl<W: Write> Printer<W> {
+impl Printer {
     /// Creates a printer to the stream.
-    pub fn new(out: W) -> Self {
+    pub fn new(out: BufWriter<Stdout>) -> Self {
         Printer { out, failed: false }
     }
 

@@ -7,7 +7,6 @@ use broadcast_text::line_error::LineError;
 use broadcast_text::words::Words;
 use commonware_broadcast::buffered::{Counts, Fixed, Message};
 use std::alloc::Global;
-use std::io::Write;
 
 /// The contents whose digests are shown.
 const CONTENTS: u8 = 10;
@@ -40,8 +39,8 @@ fn broadcast(alloc: Global, content: u8) -> Result<Plain, LineError> {
 }
 
 /// Writes a request that was taken with its ticket.
-pub fn write_taken<W: Write, S: Drop, G: Drop>(
-    out: &mut Printer<W>,
+pub fn write_taken<S: Drop, G: Drop>(
+    out: &mut Printer,
     taken: Option<(u64, Message<u64, TestMessage, S, G>)>,
 ) {
     match taken {
@@ -55,10 +54,7 @@ pub fn write_taken<W: Write, S: Drop, G: Drop>(
 }
 
 /// Writes what the request asks.
-pub fn write_request<W: Write, S, G>(
-    out: &mut Printer<W>,
-    request: &Message<u64, TestMessage, S, G>,
-) {
+pub fn write_request<S, G>(out: &mut Printer, request: &Message<u64, TestMessage, S, G>) {
     let (word, digest) = match request {
         Message::Broadcast { message, .. } => (" broadcast", message.digest()),
         Message::Subscribe { digest, .. } => (" subscribe", *digest),
@@ -78,7 +74,7 @@ fn content_with(digest: &[u8; 32]) -> u8 {
 }
 
 /// Writes where the requests of an inbox went.
-pub fn write_counts<W: Write>(out: &mut Printer<W>, counts: Counts) {
+pub fn write_counts(out: &mut Printer, counts: Counts) {
     out.counted("  accepted", counts.accepted);
     out.counted(" taken", counts.taken);
     out.counted(" skipped", counts.skipped);

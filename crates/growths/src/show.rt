@@ -3,7 +3,6 @@ use crate::material::digest_of;
 use crate::printer::Printer;
 use broadcast_core::{Core, Digested, Outcome, TestMessage};
 use std::alloc::Global;
-use std::io::Write;
 
 /// The keys whose lists are shown.
 const KEYS: u64 = 4;
@@ -15,7 +14,7 @@ const CONTENTS: u8 = 10;
 type TestCore<T> = Core<u64, TestMessage, T>;
 
 /// Writes the lists, the cached messages and how many wait.
-pub fn write_core<W: Write, T: Drop>(alloc: Global, out: &mut Printer<W>, core: &TestCore<T>) {
+pub fn write_core<T: Drop>(alloc: Global, out: &mut Printer, core: &TestCore<T>) {
     out.text("  lists");
     for key in 0..KEYS {
         write_list(alloc, out, core, key);
@@ -28,12 +27,7 @@ pub fn write_core<W: Write, T: Drop>(alloc: Global, out: &mut Printer<W>, core: 
 }
 
 /// Writes the contents of a list, or a question mark if it could not be allocated.
-fn write_list<W: Write, T: Drop>(
-    alloc: Global,
-    out: &mut Printer<W>,
-    core: &TestCore<T>,
-    key: u64,
-) {
+fn write_list<T: Drop>(alloc: Global, out: &mut Printer, core: &TestCore<T>, key: u64) {
     out.counted("", key);
     out.text("[");
     match core.list(alloc, &key) {
@@ -43,11 +37,7 @@ fn write_list<W: Write, T: Drop>(
     out.text(" ]");
 }
 
-fn write_contents<W: Write, T: Drop>(
-    out: &mut Printer<W>,
-    core: &TestCore<T>,
-    digests: &[[u8; 32]],
-) {
+fn write_contents<T: Drop>(out: &mut Printer, core: &TestCore<T>, digests: &[[u8; 32]]) {
     for digest in digests {
         if let Some(message) = core.get(digest) {
             out.counted("", content_of(message));
@@ -56,7 +46,7 @@ fn write_contents<W: Write, T: Drop>(
 }
 
 /// Writes the contents whose digests are cached, each with that of its cached message.
-fn write_cached<W: Write, T: Drop>(out: &mut Printer<W>, core: &TestCore<T>) {
+fn write_cached<T: Drop>(out: &mut Printer, core: &TestCore<T>) {
     out.text(":");
     for content in 0..CONTENTS {
         if let Some(message) = core.get(&digest_of(content)) {
@@ -68,7 +58,7 @@ fn write_cached<W: Write, T: Drop>(out: &mut Printer<W>, core: &TestCore<T>) {
 }
 
 /// Writes the contents whose digests are awaited, each with the number of its waiters.
-fn write_waiting<W: Write, T: Drop>(out: &mut Printer<W>, core: &TestCore<T>) {
+fn write_waiting<T: Drop>(out: &mut Printer, core: &TestCore<T>) {
     out.text(":");
     for content in 0..CONTENTS {
         let waiting = core.waiting(&digest_of(content));
