@@ -284,7 +284,7 @@ where
 }
 
 /// Joins the nodes, which were asked to stop, and their clients, also after one of them failed.
-/// Returns what became of each node.
+/// Returns what became of each node, or the fault of the first client that failed.
 fn rows<R>(
     rt: &R,
     settings: Settings,
@@ -297,9 +297,7 @@ where
     let mut rows = Vec::new(rt.alloc());
     let mut outcome = Ok(());
     for (node, client) in nodes.into_iter().zip(clients) {
-        if let Err(fault) = append_row(rt, settings, node, client, &mut rows) {
-            outcome = Err(fault);
-        }
+        outcome = outcome.and(append_row(rt, settings, node, client, &mut rows));
     }
     match outcome {
         Ok(()) => Ok(rows),
