@@ -1,4 +1,4 @@
-//! Tests of the engine over scripted sources and a network in memory.
+//! Tests of the engine: over scripted sources, over a network in memory, and started in threads.
 #![tactic(auto)]
 
 #[cfg(test)]
@@ -35,6 +35,8 @@ mod scenarios;
 mod scripts;
 #[cfg(test)]
 mod task;
+#[cfg(test)]
+mod threads;
 #[cfg(test)]
 mod wakes;
 #[cfg(test)]

@@ -6,12 +6,13 @@ use super::patient::LIMIT;
 use broadcast_core::{Digestible, TestMessage};
 use broadcast_engine::buffered::gate::Gate;
 use broadcast_engine::buffered::strategy::{Job, Strategy};
-use broadcast_engine::buffered::threaded::Threaded;
+use broadcast_engine::buffered::threaded::{Threaded, Working};
 use broadcast_engine::buffered::worker::{Work, Worker};
 use futures::executor::block_on;
 use futures::future::poll_fn;
 use futures::task::{Context, Poll};
 use std::alloc::{AllocError, AllocGlobal, Global};
+use std::io;
 use std::random::RandomSource;
 use std::sync::atomic::{AtomicU64, Ordering};
 use std::sync::{Arc, Wait};
@@ -96,9 +97,16 @@ where
     let wanted = (first.digest(), second.digest());
     let mut one = strategy.start(first)?;
     let mut two = strategy.start(second)?;
-    let (_, left) = block_on(rt, poll_fn(|cx| one.poll(cx)))?;
-    let (_, right) = block_on(rt, poll_fn(|cx| two.poll(cx)))?;
-    Ok((left, right) == wanted)
+    Ok((digest(rt, &mut one)?, digest(rt, &mut two)?) == wanted)
+}
+
+/// Waits for the digest of a job.
+fn digest<R>(rt: &R, job: &mut Working<TestMessage, Meeting, R>) -> io::Result<[u8; 32]>
+where
+    R: Threads + Wait + RandomSource + AllocGlobal + Drop,
+{
+    let (_, digest) = block_on(rt, poll_fn(|cx| job.poll(cx)))?;
+    Ok(digest)
 }
 
 /// Returns a message with this content.
