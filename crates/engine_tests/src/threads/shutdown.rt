@@ -1,11 +1,15 @@
 //! Started engines that end.
-use super::nodes::{broadcast, fail, gets, hold, start_patient, subscribe, wait_for_close};
+use super::nodes::{
+    broadcast, digest, fail, gets, hold, send, start, start_patient, subscribe, track,
+    wait_for_close,
+};
 use super::patient::Talk;
 use broadcast_core::TestMessage;
 use broadcast_engine::Feedback;
-use broadcast_engine::buffered::{EndCause, Mailbox, Subscription};
+use broadcast_engine::buffered::{EndCause, Mailbox, Sequential, Status, Subscription};
+use cluster_lib::network::Mail;
 use cluster_lib::node::Node;
-use std::alloc::AllocGlobal;
+use std::alloc::{AllocError, AllocGlobal};
 use std::random::RandomSource;
 use std::sync::Wait;
 use std::test::Fail;
@@ -123,5 +127,49 @@ fn a_stopped_engine_ends_promptly_and_answers_nothing(rt: HostRuntime) -> Result
     for (is_busy, times) in [(false, 1), (false, 2), (true, 1), (true, 2)] {
         assert_eq!(rt; stop(&rt, is_busy, times)?, expected);
     }
+    Ok(())
+}
+
+/// Sends the node of key 1 a payload of a peer that is no message, and one that is.
+fn feed<R: Wait + AllocGlobal>(rt: &R, mail: &Mail) -> Result<(), AllocError> {
+    track(rt, mail, &[1, 5])?;
+    send(rt, mail, 5, &[9])?;
+    send(rt, mail, 5, &[0, 0, 0, 0, 0, 0, 0, 1, 2])
+}
+
+/// Starts an engine, whose thread serves a subscriber. Returns whether it was served, and how many
+/// payloads were taken and how many were no message.
+fn served<R>(rt: &R) -> Result<(bool, u64, u64), Fail>
+where
+    R: Threads + Wait + RandomSource + AllocGlobal + Clone + Send + Sync + Drop + 'static,
+{
+    let node = start(rt, Sequential)?;
+    let got = hears(rt, &node)?;
+    let report = node.join(rt);
+    let metrics = report.metrics();
+    Ok((
+        got,
+        metrics.receive(Status::Success),
+        metrics.receive(Status::Invalid),
+    ))
+}
+
+/// Feeds a node after a subscribe to the message, and stops it. Returns whether the subscribe is
+/// served.
+fn hears<R>(rt: &R, node: &Node<TestMessage, R>) -> Result<bool, Fail>
+where
+    R: Threads + Wait + RandomSource + AllocGlobal + Drop,
+{
+    let waiting = subscribe(rt, &node.mailbox, 2)?;
+    feed(rt, &node.mail)?;
+    let message = waiting.wait(rt)?;
+    node.handle.stop();
+    fail(rt, &node.mail)?;
+    Ok(message.digest().cmp(&digest(rt.alloc(), 2)?).is_eq())
+}
+
+#[test]
+fn a_started_engine_serves_its_callers(rt: HostRuntime) -> Result<(), Fail> {
+    assert_eq!(rt; served(&rt)?, (true, 1, 1));
     Ok(())
 }
