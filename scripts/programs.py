@@ -1,6 +1,7 @@
 """The built programs of the repository and their rows."""
 
 import os
+import re
 import resource
 import subprocess
 import sys
@@ -33,6 +34,8 @@ class Row:
     devices: dict = field(default_factory=dict)
     # The bytes of stack that a thread wants, or `None` for as many as else.
     stack: int | None = None
+    # Whether `stdout` is a regular expression, which all of the output must match.
+    is_pattern: bool = False
 
     @staticmethod
     def read(folder):
@@ -49,6 +52,9 @@ class Row:
         if (folder / "example").exists():
             stdin = EXAMPLES / (folder / "example").read_text().strip()
             stdout = stdin.with_suffix(".output")
+        is_pattern = (folder / "pattern").exists()
+        if is_pattern:
+            stdout = folder / "pattern"
         return Row(
             folder.name,
             (folder / "args").read_bytes().split(b"\n")[:-1],
@@ -58,6 +64,7 @@ class Row:
             int((folder / "status").read_text()),
             devices,
             stack,
+            is_pattern,
         )
 
 
@@ -167,7 +174,9 @@ def differences(executable, row):
     found = []
     if status != row.status:
         found.append(f"the status is {status}, not {row.status}")
-    for stream, expected, got in (("output", row.stdout, stdout), ("error", row.stderr, stderr)):
+    matches = row.is_pattern and re.fullmatch(row.stdout, stdout)
+    wanted = stdout if matches else row.stdout
+    for stream, expected, got in (("output", wanted, stdout), ("error", row.stderr, stderr)):
         if got != expected:
             found.append(f"standard {stream}: {first_difference(expected, got)}")
     return found

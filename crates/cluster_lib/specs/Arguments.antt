@@ -1,5 +1,5 @@
 -- What the arguments mean.
-use Rattle.std.specs.Prelude.{◌<◌, ◌≤◌, ◌^◌, List, ℕ, [], ◌∷◌}
+use Rattle.std.specs.Prelude.{◌<◌, ◌≤◌, ◌^◌, List, ℕ, [], ◌∷◌, codes}
 use Rattle.std.specs.Fmt.{decimal}
 use Rattle.cluster_lib.specs.declared.settings.Settings.{Settings}
 use Rattle.cluster_lib.specs.declared.rate.Rate.{Rate}
@@ -21,3 +21,7 @@ pub record IsAllowedRate (it : Rate) : Type 0 where
   pub few_clients : it.clients ≤ 64
   pub few_rounds : it.rounds ≤ 10000000
   pub few_at_once : it.depth ≤ 10000000
+
+-- the words of a measurement
+abbrev pub words_of_rate : Rate → List (List ℕ)
+words_of_rate it = codes "rate" ∷ decimal it.clients ∷ decimal it.rounds ∷ decimal it.depth ∷ []

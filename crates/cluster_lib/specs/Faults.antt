@@ -1,8 +1,10 @@
--- The texts of the program.
+-- What ends a run of the program.
 use Rattle.std.specs.Prelude.{ℕ, List, ◌++◌, codes}
 use Rattle.std.specs.Fmt.{decimal}
 use Rattle.cluster_lib.specs.declared.fault.Fault.{Fault}
 use Rattle.cluster_lib.specs.declared.fault.Fault.TheVariants.{Usage, Missed, Thread, Open, Clock, Memory, Write}
+use Rattle.broadcast_engine.specs.declared.buffered.engine.thread.StartError.{StartError}
+use Rattle.broadcast_engine.specs.declared.buffered.engine.thread.StartError.TheVariants as start
 
 -- what stands on standard error, without the line feed
 abbrev pub fault_text : Fault → List ℕ
@@ -25,3 +27,8 @@ fault_status Open = 3
 fault_status Clock = 3
 fault_status Write = 3
 fault_status Memory = 3
+
+-- of an engine that was not started
+abbrev pub fault_of_start : StartError → Fault
+fault_of_start start.Memory = Memory
+fault_of_start start.Spawn = Thread

@@ -1,2 +1,4 @@
 pub mod Arguments
-pub mod Texts
+pub mod Faults
+pub mod Recipients
+pub mod Rows

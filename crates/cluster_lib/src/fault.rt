@@ -1,7 +1,7 @@
 //! What ends a run of the program.
 ghost use Rattle.std.specs.Prelude.{◌≡◌};
-ghost use Rattle.cluster_lib.specs.Texts.{fault_status};
-ghost use Rattle.cluster_lib.specs.declared.fault.Fault.TheVariants.{Memory, Thread};
+ghost use Rattle.cluster_lib.specs.Faults.{fault_status};
+ghost use Rattle.cluster_lib.specs.declared.fault.Fault.TheVariants.{Memory};
 
 use broadcast_engine::buffered::StartError;
 use commonware_broadcast::MailboxError;
@@ -53,6 +53,10 @@ impl From<MailboxError> for Fault {
 }
 
 impl From<StartError> for Fault {
+    ghost use Rattle.cluster_lib.specs.Faults.{fault_of_start};
+
+    ghost from_gives = { λ error fault. fault ≡ fault_of_start error };
+
     fn from(error: StartError) -> Fault {
         match error {
             StartError::Memory => Fault::Memory,
@@ -63,7 +67,7 @@ impl From<StartError> for Fault {
 
 impl Display for Fault {
     ghost use Rattle.std.specs.Prelude.{Some};
-    ghost use Rattle.cluster_lib.specs.Texts.{fault_text};
+    ghost use Rattle.cluster_lib.specs.Faults.{fault_text};
 
     ghost output = { λ fault. Some (fault_text fault) };
 

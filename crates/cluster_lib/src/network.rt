@@ -1,6 +1,7 @@
 //! The ends of a network in memory.
-ghost use Rattle.std.specs.Prelude.{⊤, ℕ, List};
+ghost use Rattle.std.specs.Prelude.{◌≡◌, ⊤, ℕ, List};
 ghost use Rattle.broadcast_core.specs.declared.event.Sent.{Sent};
+ghost use Rattle.cluster_lib.specs.Recipients.{is_recipient};
 
 use crate::line::Line;
 use broadcast_core::{Items, Recipients, Set};
@@ -118,7 +119,9 @@ impl<R: Wait> Sender<u64> for Outbound<R> {
 }
 
 // Returns whether the node of the key is a recipient.
-fn is_for(recipients: &Recipients<u64>, key: u64) -> bool {
+fn is_for(recipients: &Recipients<u64>, key: u64) -> bool
+    ensures { result ≡ is_recipient recipients.now key }
+{
     match recipients {
         Recipients::All => true,
         Recipients::One(one) => *one == key,

@@ -1,6 +1,7 @@
 //! How many requests a started engine answers.
-ghost use Rattle.std.specs.Prelude.{IfSome};
-ghost use Rattle.cluster_lib.specs.Arguments.{IsAllowedRate};
+ghost use Rattle.std.specs.Prelude.{◌≡◌, ◌↔◌, IfSome, Some, codes, map, string_bytes, true};
+ghost use Rattle.std.specs.Fmt.{decimal};
+ghost use Rattle.cluster_lib.specs.Arguments.{IsAllowedRate, words_of_rate};
 
 use crate::fault::Fault;
 use crate::message::{Digest, broadcast, digest_of};
@@ -36,17 +37,32 @@ pub struct Rate {
 impl Rate {
     /// Returns the settings of the words `rate CLIENTS ROUNDS DEPTH`, or `None` for other words.
     pub fn parse(words: &[String]) -> Option<Rate>
+        ensures spelled_so { IfSome result (λ it. map string_bytes words.now ≡ words_of_rate it) }
         ensures allowed { IfSome result IsAllowedRate }
+        ensures reads_all_arguments { (it : Rate) → IsAllowedRate it
+            → map string_bytes words.now ≡ words_of_rate it → result ≡ Some it }
     {
         let [rate, clients, rounds, depth] = words else {
             return None;
         };
-        if rate.as_bytes() != b"rate".as_slice() {
-            return None;
+        if is_rate(rate.as_bytes()) {
+            return Rate::read(clients.as_bytes(), rounds.as_bytes(), depth.as_bytes());
         }
-        let clients = parse_number(clients.as_bytes())?;
-        let rounds = parse_number(rounds.as_bytes())?;
-        let depth = parse_number(depth.as_bytes())?;
+        None
+    }
+
+    /// Returns the settings of these numbers, or `None` for other words.
+    fn read(clients: &[u8], rounds: &[u8], depth: &[u8]) -> Option<Rate>
+        ensures spelled_so { IfSome result (λ it. (clients.now ≡ decimal it.clients)
+            × (rounds.now ≡ decimal it.rounds) × (depth.now ≡ decimal it.depth)) }
+        ensures allowed { IfSome result IsAllowedRate }
+        ensures reads_all_numbers { (it : Rate) → IsAllowedRate it
+            → clients.now ≡ decimal it.clients → rounds.now ≡ decimal it.rounds
+            → depth.now ≡ decimal it.depth → result ≡ Some it }
+    {
+        let clients = parse_number(clients)?;
+        let rounds = parse_number(rounds)?;
+        let depth = parse_number(depth)?;
         if clients > MOST_CLIENTS || rounds > MOST_REQUESTS || depth > MOST_REQUESTS {
             return None;
         }
@@ -56,6 +72,13 @@ impl Rate {
             depth,
         })
     }
+}
+
+/// Returns whether the word is the one that stands before the settings.
+fn is_rate(word: &[u8]) -> bool
+    ensures { result ≡ true ↔ word.now ≡ codes "rate" }
+{
+    word == b"rate".as_slice()
 }
 
 /// What was measured.

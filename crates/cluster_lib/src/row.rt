@@ -1,5 +1,6 @@
 //! What became of a node.
-ghost use Rattle.std.specs.Prelude.{◌≡◌, ◌-◌, ◌↔◌, All, IsOk};
+ghost use Rattle.std.specs.Prelude.{◌≡◌, ◌-◌, ◌↔◌, All, IsOk, IfErr};
+ghost use Rattle.cluster_lib.specs.Rows.{missed_of};
 ghost use Rattle.engine_io.specs.Counters.{number_of};
 ghost use Rattle.engine_io.specs.declared.metrics.Status.TheVariants.{Success, Dropped, Invalid};
 
@@ -52,7 +53,8 @@ impl Row {
 
 /// Fails with [`Fault::Missed`] if a subscription was not served at one of the nodes.
 pub fn judge(rows: &[Row]) -> Result<(), Fault>
-    ensures { IsOk result ↔ All (λ row. row.missed ≡ 0) rows.now }
+    ensures all_served { IsOk result ↔ All (λ row. row.missed ≡ 0) rows.now }
+    ensures fault { IfErr result (λ fault. fault ≡ missed_of rows.now) }
 {
     if rows.iter().all(|row| row.missed == 0) {
         Ok(())
@@ -62,7 +64,9 @@ pub fn judge(rows: &[Row]) -> Result<(), Fault>
 }
 
 /// Returns the fault of rows with subscriptions that were not served.
-fn missed(rows: &[Row]) -> Fault {
+fn missed(rows: &[Row]) -> Fault
+    ensures { result ≡ missed_of rows.now }
+{
     let mut missed = 0u64;
     let mut all = 0u64;
     for row in rows {

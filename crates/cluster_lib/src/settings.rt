@@ -1,6 +1,7 @@
 //! The arguments of the program.
-ghost use Rattle.std.specs.Prelude.{◌≡◌, ◌<◌, ◌≤◌, ◌^◌, ℕ, List, IfSome, Some, map, string_bytes};
+ghost use Rattle.std.specs.Prelude.{◌≡◌, ◌*◌, IfSome, Some, map, string_bytes};
 ghost use Rattle.cluster_lib.specs.Arguments.{IsAllowed, words_of};
+ghost use Rattle.cluster_lib.specs.Rows.{capped};
 
 use crate::fault::Fault;
 use broadcast_text::words::parse_number;
@@ -63,7 +64,9 @@ impl Settings {
 
     /// Returns how many messages the nodes broadcast together, to each of which each node
     /// subscribes.
-    pub fn subscriptions(&self) -> u64 {
+    pub fn subscriptions(&self) -> u64
+        ensures { result ≡ capped (self.now.nodes * self.now.messages) }
+    {
         self.nodes.saturating_mul(self.messages)
     }
 }

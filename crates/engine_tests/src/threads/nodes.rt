@@ -1,11 +1,11 @@
 //! A started node, and what feeds it.
 use super::patient::{LIMIT, Patient, Talk, pause};
 use broadcast_core::{Digested, Digestible, Items, RangeCfg, Recipients, Set, TestMessage};
-use broadcast_engine::buffered::{Mailbox, NetworkFailed, Strategy, Subscription};
+use broadcast_engine::buffered::{Mailbox, NetworkFailed, Open, Strategy, Subscription, Threaded};
 use broadcast_engine::{Broadcaster, Feedback};
 use cluster_lib::fault::Fault;
 use cluster_lib::network::Mail;
-use cluster_lib::node::{self, Node};
+use cluster_lib::node::{Node, Prepared};
 use std::alloc::{AllocError, AllocGlobal, Global};
 use std::random::RandomSource;
 use std::sync::{Arc, Wait};
@@ -20,12 +20,42 @@ where
     T::Job: Send + 'static,
     R: Threads + Wait + RandomSource + AllocGlobal + Clone + Send + Sync + Drop + 'static,
 {
-    let mail = Arc::new(rt.alloc(), Mail::new(rt.alloc(), 1))?;
-    let others = Vec::new(rt.alloc());
-    match node::start(rt, RangeCfg::any(), strategy, &mail, others, 4)? {
+    match prepare(rt, strategy)?.start(rt) {
         Ok(node) => Ok(node),
         Err((_, error)) => Err(error)?,
     }
+}
+
+/// Starts the node of key 1, whose messages are digested on other threads.
+pub fn start_threaded<R>(rt: &R) -> Result<Node<TestMessage, R>, Fail>
+where
+    R: Threads + Wait + RandomSource + AllocGlobal + Clone + Send + Sync + Drop + 'static,
+{
+    let gate = Arc::new(rt.alloc(), Open)?;
+    let strategy = Threaded::new(rt.clone()?, rt.alloc(), gate);
+    let Prepared {
+        engine,
+        mailbox,
+        mail,
+        network,
+    } = prepare(rt, strategy)?;
+    let handle = engine.start_threaded(rt, network)?;
+    Ok(Node {
+        mailbox,
+        mail,
+        handle,
+    })
+}
+
+/// Prepares the node of key 1.
+fn prepare<T, R>(rt: &R, strategy: T) -> Result<Prepared<TestMessage, T, R>, AllocError>
+where
+    T: Strategy<TestMessage> + Drop,
+    R: Wait + AllocGlobal + Clone + Drop,
+{
+    let mail = Arc::new(rt.alloc(), Mail::new(rt.alloc(), 1))?;
+    let others = Vec::new(rt.alloc());
+    Prepared::new(rt, RangeCfg::any(), strategy, &mail, others, 4)
 }
 
 /// Starts the node of key 1, whose jobs take part in a talk.

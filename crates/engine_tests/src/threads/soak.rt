@@ -1,8 +1,8 @@
-//! Many callers of one started engine, which is stopped in the middle.
-use super::nodes::{broadcast, fail, gets, send, start, subscribe, track};
+//! Many callers of one started engine, which digests on other threads and is stopped in the middle.
+use super::nodes::{broadcast, fail, gets, send, start_threaded, subscribe, track};
 use super::patient::{LIMIT, pause};
 use broadcast_core::TestMessage;
-use broadcast_engine::buffered::{Mailbox, Metrics, Sequential, Status, Subscription};
+use broadcast_engine::buffered::{Mailbox, Metrics, Status, Subscription};
 use cluster_lib::fault::Fault;
 use cluster_lib::network::Mail;
 use cluster_lib::node::Node;
@@ -252,7 +252,7 @@ fn soak<R>(rt: &R) -> Result<Account, Fail>
 where
     R: Threads + Wait + Clock + RandomSource + AllocGlobal + Clone + Send + Sync + Drop + 'static,
 {
-    let node = start(rt, Sequential)?;
+    let node = start_threaded(rt)?;
     let workers = start_workers(rt, &node)?;
     wait_for_half(rt, &workers.made);
     stop(rt, node, workers)
