@@ -22,7 +22,7 @@ pub use engine_io::{
 };
 pub use front::MailboxEngine;
 pub use gate::{Gate, Open};
-pub use started::Handle;
+pub use started::{Handle, Prepared};
 pub use strategy::{Done, Job, Sequential, Strategy};
 pub use threaded::{Threaded, Working};
 pub use worker::{DigestOf, Work, Worker};

@@ -60,44 +60,19 @@ where
         N: Sender<u64> + Send + Drop + 'static,
         V: Receiver<u64> + Send + Drop + 'static,
     {
-        match prepare(rt, self, network) {
-            Ok((ready, stopper)) => launch(rt, move || run(ready), stopper),
+        match self.prepare(rt, network) {
+            Ok(Prepared { ready, stopper }) => start_thread(rt, move || run(ready), stopper),
             Err(error) => Err(error),
         }
     }
 }
 
-impl<M, B, R, G> MailboxEngine<u64, M, B, Threaded<G, R>, R>
-where
-    M: Digestible + Codec + Work<G, R> + Send + Sync + 'static,
-    M::Digest: 'static,
-    M::Cfg: Send + Drop + 'static,
-    B: Provider<u64> + Send + Drop + 'static,
-    R: Threads + Wait + RandomSource + AllocGlobal + Clone + Send + Sync + Drop + 'static,
-    G: Gate + Send + Sync + Drop + 'static,
-{
-    /// Starts the engine in a thread of its own, which starts those that digest its messages. This
-    /// is `start` for jobs that may not move to another thread.
-    ///
-    /// After an error the engine is given up, and its mailbox is closed.
-    pub fn start_threaded<N, V>(
-        self,
-        rt: &R,
-        network: (N, V),
-    ) -> Result<Handle<u64, M, R>, StartError>
-    where
-        N: Sender<u64> + Send + Drop + 'static,
-        V: Receiver<u64> + Send + Drop + 'static,
-    {
-        match prepare(rt, self, network) {
-            Ok((ready, stopper)) => launch(rt, move || run(ready), stopper),
-            Err(error) => Err(error),
-        }
-    }
+/// An engine of a mailbox that is ready for its thread, and what asks it to stop.
+#[derive(Drop)]
+pub struct Prepared<M: Digestible, B, C, T, N, V, R> {
+    ready: ReadyEngine<M, B, C, T, N, V, R>,
+    stopper: Stopper<Incoming<u64, M>, R>,
 }
-
-/// What asks an engine of a mailbox to stop.
-type EngineStopper<M, R> = Stopper<Incoming<u64, M>, R>;
 
 /// An engine of a mailbox that is ready for its thread.
 type ReadyEngine<M, B, C, T, N, V, R> = Ready<
@@ -114,43 +89,70 @@ type ReadyEngine<M, B, C, T, N, V, R> = Ready<
     R,
 >;
 
-/// Makes an engine ready for its thread. After an error its mailbox is closed.
-fn prepare<M, B, T, N, V, R>(
-    rt: &R,
-    engine: MailboxEngine<u64, M, B, T, R>,
-    network: (N, V),
-) -> Result<(ReadyEngine<M, B, M::Cfg, T, N, V, R>, EngineStopper<M, R>), StartError>
+impl<M, B, R, T> MailboxEngine<u64, M, B, T, R>
 where
     M: Digestible + Codec,
     M::Cfg: Drop,
     B: Provider<u64> + Drop,
     T: Strategy<M> + Drop,
-    N: Sender<u64> + Drop,
-    V: Receiver<u64> + Drop,
     R: Wait + RandomSource + AllocGlobal + Clone + Drop,
 {
-    match engine.requests().stopper() {
-        Ok(stopper) => match make_ready(rt, engine, network) {
-            Ok(ready) => Ok((ready, stopper)),
-            Err(error) => {
-                drop::<_>(stopper);
-                Err(error)
+    /// Makes the engine ready for its thread: a job that is pending is finished.
+    ///
+    /// After an error the engine is given up, and its mailbox is closed.
+    pub fn prepare<N, V>(
+        self,
+        rt: &R,
+        network: (N, V),
+    ) -> Result<Prepared<M, B, M::Cfg, T, N, V, R>, StartError>
+    where
+        N: Sender<u64> + Drop,
+        V: Receiver<u64> + Drop,
+    {
+        match self.requests().stopper() {
+            Ok(stopper) => match make_ready(rt, self, network) {
+                Ok(ready) => Ok(Prepared { ready, stopper }),
+                Err(error) => {
+                    drop::<_>(stopper);
+                    Err(error)
+                }
+            },
+            Err(_) => {
+                self.requests().close();
+                drop::<_>(self);
+                drop::<_>(network);
+                Err(StartError::Memory)
             }
-        },
-        Err(_) => {
-            engine.requests().close();
-            drop::<_>(engine);
-            drop::<_>(network);
-            Err(StartError::Memory)
         }
     }
 }
 
+impl<M, B, G, N, V, R> Prepared<M, B, M::Cfg, Threaded<G, R>, N, V, R>
+where
+    M: Digestible + Codec + Work<G, R> + Send + Sync + 'static,
+    M::Digest: 'static,
+    M::Cfg: Send + Drop + 'static,
+    B: Provider<u64> + Send + Drop + 'static,
+    G: Gate + Send + Sync + Drop + 'static,
+    N: Sender<u64> + Send + Drop + 'static,
+    V: Receiver<u64> + Send + Drop + 'static,
+    R: Threads + Wait + RandomSource + AllocGlobal + Clone + Send + Sync + Drop + 'static,
+{
+    /// Starts the engine in a thread of its own, which starts those that digest its messages. Jobs
+    /// of [`Threaded`] may not move to another thread, so `Engine::start` is not for them.
+    ///
+    /// After an error the engine is given up, and its mailbox is closed.
+    pub fn start(self, rt: &R) -> Result<Handle<u64, M, R>, StartError> {
+        let Prepared { ready, stopper } = self;
+        start_thread(rt, move || run(ready), stopper)
+    }
+}
+
 /// Starts the thread of an engine whose mailbox has this stopper.
-fn launch<M, F, R>(
+fn start_thread<M, F, R>(
     rt: &R,
     work: F,
-    stopper: EngineStopper<M, R>,
+    stopper: Stopper<Incoming<u64, M>, R>,
 ) -> Result<Handle<u64, M, R>, StartError>
 where
     M: Digestible,

@@ -1,7 +1,9 @@
 //! A started node, and what feeds it.
 use super::patient::{LIMIT, Patient, Talk, pause};
-use broadcast_core::{Digested, Digestible, Items, RangeCfg, Recipients, Set, TestMessage};
-use broadcast_engine::buffered::{Mailbox, NetworkFailed, Open, Strategy, Subscription, Threaded};
+use broadcast_core::{Codec, Digested, Digestible, Items, RangeCfg, Recipients, Set, TestMessage};
+use broadcast_engine::buffered::{
+    Mailbox, NetworkFailed, Open, Strategy, Subscription, Threaded, Work,
+};
 use broadcast_engine::{Broadcaster, Feedback};
 use cluster_lib::fault::Fault;
 use cluster_lib::network::Mail;
@@ -20,15 +22,18 @@ where
     T::Job: Send + 'static,
     R: Threads + Wait + RandomSource + AllocGlobal + Clone + Send + Sync + Drop + 'static,
 {
-    match prepare(rt, strategy)?.start(rt) {
+    match prepare(rt, RangeCfg::any(), strategy)?.start(rt) {
         Ok(node) => Ok(node),
         Err((_, error)) => Err(error)?,
     }
 }
 
 /// Starts the node of key 1, whose messages are digested on other threads.
-pub fn start_threaded<R>(rt: &R) -> Result<Node<TestMessage, R>, Fail>
+pub fn start_threaded<M, R>(rt: &R, codec_config: M::Cfg) -> Result<Node<M, R>, Fail>
 where
+    M: Digestible + Codec + Work<Open, R> + Send + Sync + 'static,
+    M::Digest: 'static,
+    M::Cfg: Send + Drop + 'static,
     R: Threads + Wait + RandomSource + AllocGlobal + Clone + Send + Sync + Drop + 'static,
 {
     let gate = Arc::new(rt.alloc(), Open)?;
@@ -38,8 +43,8 @@ where
         mailbox,
         mail,
         network,
-    } = prepare(rt, strategy)?;
-    let handle = engine.start_threaded(rt, network)?;
+    } = prepare(rt, codec_config, strategy)?;
+    let handle = engine.prepare(rt, network)?.start(rt)?;
     Ok(Node {
         mailbox,
         mail,
@@ -48,14 +53,20 @@ where
 }
 
 /// Prepares the node of key 1.
-fn prepare<T, R>(rt: &R, strategy: T) -> Result<Prepared<TestMessage, T, R>, AllocError>
+fn prepare<M, T, R>(
+    rt: &R,
+    codec_config: M::Cfg,
+    strategy: T,
+) -> Result<Prepared<M, T, R>, AllocError>
 where
-    T: Strategy<TestMessage> + Drop,
+    M: Digestible + Codec,
+    M::Cfg: Drop,
+    T: Strategy<M> + Drop,
     R: Wait + AllocGlobal + Clone + Drop,
 {
     let mail = Arc::new(rt.alloc(), Mail::new(rt.alloc(), 1))?;
     let others = Vec::new(rt.alloc());
-    Prepared::new(rt, RangeCfg::any(), strategy, &mail, others, 4)
+    Prepared::new(rt, codec_config, strategy, &mail, others, 4)
 }
 
 /// Starts the node of key 1, whose jobs take part in a talk.

@@ -1,7 +1,7 @@
 //! Many callers of one started engine, which digests on other threads and is stopped in the middle.
 use super::nodes::{broadcast, fail, gets, send, start_threaded, subscribe, track};
 use super::patient::{LIMIT, pause};
-use broadcast_core::TestMessage;
+use broadcast_core::{RangeCfg, TestMessage};
 use broadcast_engine::buffered::{Mailbox, Metrics, Status, Subscription};
 use cluster_lib::fault::Fault;
 use cluster_lib::network::Mail;
@@ -252,7 +252,7 @@ fn soak<R>(rt: &R) -> Result<Account, Fail>
 where
     R: Threads + Wait + Clock + RandomSource + AllocGlobal + Clone + Send + Sync + Drop + 'static,
 {
-    let node = start_threaded(rt)?;
+    let node = start_threaded(rt, RangeCfg::any())?;
     let workers = start_workers(rt, &node)?;
     wait_for_half(rt, &workers.made);
     stop(rt, node, workers)
