@@ -12,7 +12,7 @@ fault_text (Usage line) = line.now
 fault_text (Missed missed all) =
     decimal missed ++ (codes " of " ++ (decimal all ++ codes " subscriptions missed"))
 fault_text Thread = codes "no thread"
-fault_text Open = codes "no thread, and an open mailbox"
+fault_text Open = codes "open mailbox"
 fault_text Clock = codes "clock failed"
 fault_text Write = codes "write failed"
 fault_text Memory = codes "memory"

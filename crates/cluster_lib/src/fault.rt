@@ -18,7 +18,7 @@ pub enum Fault {
     Missed(u64, u64),
     /// No thread could be started.
     Thread,
-    /// No thread could be started, and the mailbox of the node is open all the same.
+    /// A node was not started, and its mailbox is open all the same.
     Open,
     /// The clock failed.
     Clock,
@@ -76,7 +76,7 @@ impl Display for Fault {
             Fault::Usage(line) => f.write_str(line),
             Fault::Missed(missed, all) => write!(f, "{missed} of {all} subscriptions missed"),
             Fault::Thread => f.write_str("no thread"),
-            Fault::Open => f.write_str("no thread, and an open mailbox"),
+            Fault::Open => f.write_str("open mailbox"),
             Fault::Clock => f.write_str("clock failed"),
             Fault::Write => f.write_str("write failed"),
             Fault::Memory => f.write_str("memory"),

@@ -183,18 +183,15 @@ where
     }
 }
 
-/// Returns the fault of a node that was not started. Without a thread its mailbox must be closed.
+/// Returns the fault of a node that was not started. Its mailbox must be closed.
 fn not_started<R>(rt: &R, mailbox: &Mailbox<u64, TestMessage, R>, error: StartError) -> Fault
 where
     R: Wait + AllocGlobal + Clone + Send + 'static,
 {
-    match error {
-        StartError::Memory => Fault::Memory,
-        StartError::Spawn => match broadcast(rt, mailbox, STRANGER, 1) {
-            Ok(Feedback::Closed) => Fault::Thread,
-            Ok(Feedback::Ok | Feedback::Backoff) => Fault::Open,
-            Err(fault) => fault,
-        },
+    match broadcast(rt, mailbox, STRANGER, 1) {
+        Ok(Feedback::Closed) => Fault::from(error),
+        Ok(Feedback::Ok | Feedback::Backoff) => Fault::Open,
+        Err(fault) => fault,
     }
 }
 
