@@ -3,6 +3,7 @@
 import random
 
 import replay_model as model
+from calls_given import SOURCES, Calls
 
 LISTS = 200
 KEYS = ("1", "2", "3")
@@ -12,11 +13,15 @@ COMMITMENTS = ("-", "01")
 KINDS = ("peers", *["broadcast"] * 4, *["subscribe"] * 2, "get", "get", "cleanup")
 # Recipients, of which 4 is no node.
 RECIPIENTS = ("all", "all", "to:2", "to:3,1,3,4")
-# Contents, and digests by their contents, of the calls of the libraries.
-BYTES = ("5", "6")
-CLOSED = ("", "", "closed")
-# Rows of `replay` whose events an engine is driven over, one at a poll.
-ENGINE_ROWS = (
+# Contents, and digests by their contents, of the calls of the libraries, and tickets, of which a
+# third is of callers that are gone.
+BYTES = ("05", "06")
+CALLERS = (*TICKETS, *TICKETS, "107", "108", "109")
+# Numbers of futures.
+FUTURES = "cleanup 0 1 2 3 4 5 6 7 8"
+# Rows of `replay` whose events are calls of a core, of a mailbox and its inbox, and are what an
+# engine is driven over, one at a poll.
+CALLED_ROWS = (
     "duplicate-moves-to-front",
     "size-zero",
     "ineligible-sender-serves-waiter",
@@ -33,7 +38,7 @@ ENGINE_ROWS = (
 HOSTILE = ["peers 1 2 6", "subscribe 7 61", "payload 6 000000000000000161",
            "payload 6 000000000000000163", *["payload 1 000000000000000161"] * 2]
 # What callers of an engine that ended do.
-AFTERWARDS = ["broadcast - 61", "subscribe 9 61", "get 9 61", "drive 1"]
+AFTERWARDS = ["broadcast all - 61", "subscribe 9 61", "get 9 61", "drive 1"]
 SIZES = ("1", "1", "2")
 # What each list of steps begins with.
 WORLD = ["peers 1 1 2 9", "peers 2 1 2 9", "broadcast 1 all - 61", "broadcast 2 to:1 01 62"]
@@ -112,24 +117,31 @@ def of_world():
         yield name, [size, b"1,2", b"9"], stdin
 
 
+def broadcast_call(rng, to="all"):
+    digest = f"as:{rng.choice(BYTES)}" if rng.randrange(2) else ""
+    return with_words("broadcast", to, "-", rng.choice(BYTES), digest)
+
+
 def core_call(rng):
     """A call of a core. Key 3 is often not primary."""
     kind = rng.choice(("peers", *["take"] * 4, "take_own", *["subscribe"] * 3, "cleanup"))
     if kind == "peers":
         return with_words(kind, keys(rng))
     if kind == "take":
-        return with_words(kind, rng.choice(KEYS), rng.choice(BYTES), rng.choice(BYTES))
+        return broadcast_call(rng, f"to:{rng.choice(KEYS)}")
     if kind == "take_own":
-        return with_words(kind, rng.choice(BYTES), rng.choice(BYTES))
+        return broadcast_call(rng)
     if kind == "subscribe":
-        return with_words(kind, rng.choice(TICKETS), rng.choice(BYTES), rng.choice(CLOSED))
-    return rng.choice(("cleanup_by", with_words(kind, *rng.sample(TICKETS, 1))))
+        return with_words(kind, rng.choice(CALLERS), rng.choice(BYTES))
+    return with_words(kind, *rng.sample(TICKETS, rng.randrange(2)))
 
 
-def request(rng, closed=CLOSED):
-    """A request, of which a subscribe or a get may have a closed responder."""
+def request(rng, tickets=CALLERS):
+    """A request."""
     kind = rng.choice(("broadcast", "subscribe", "get"))
-    return with_words(kind, rng.choice(BYTES), rng.choice(closed) if kind != "broadcast" else "")
+    if kind == "broadcast":
+        return broadcast_call(rng)
+    return with_words(kind, rng.choice(tickets), rng.choice(BYTES))
 
 
 def inbox_call(rng):
@@ -138,8 +150,8 @@ def inbox_call(rng):
 
 
 def mailbox_call(rng):
-    kinds = ("take", "take", "clone", "drop", *[""] * 6)
-    return rng.choice(kinds) or request(rng, ("",))
+    kinds = ("take", "take", "clone", FUTURES, *[""] * 6)
+    return rng.choice(kinds) or request(rng, TICKETS)
 
 
 def with_close(rng, lines):
@@ -149,19 +161,20 @@ def with_close(rng, lines):
 
 def engine_call(rng):
     """A line of an engine. What the sources give stands among the calls, each in its own order."""
-    sources = ("set", "no_set", "no_set", "payload", "payload", "no_payload")
-    kind = rng.choice((*sources, *["call"] * 4, "drop", *["drive"] * 3))
-    if kind == "set":
+    sources = ("peers", "no_set", "no_set", "payload", "payload", "no_payload")
+    kind = rng.choice((*sources, *["call"] * 4, "cleanup", *["drive"] * 3))
+    if kind == "peers":
         return "end" if rng.randrange(10) == 0 else with_words(kind, keys(rng))
     if kind == "payload":
         return "fail" if rng.randrange(20) == 0 else f"payload {rng.choice(KEYS)} {payload(rng)}"
     if kind == "call":
         event = rng.choice(("broadcast", "subscribe", "subscribe", "get"))
         if event == "broadcast":
-            return f"broadcast {rng.choice(COMMITMENTS)} {content(rng)}"
+            told = (rng.choice(RECIPIENTS), rng.choice(COMMITMENTS), content(rng))
+            return with_words(event, *told)
         return f"{event} {rng.choice(TICKETS)} {content(rng)}"
-    if kind == "drop":
-        return f"drop {rng.randrange(3)}"
+    if kind == "cleanup":
+        return f"cleanup {rng.randrange(3)}"
     return f"drive {rng.randrange(1, 4)}" if kind == "drive" else kind
 
 
@@ -169,15 +182,14 @@ def at_a_poll(line, asked):
     """The lines of an event that an engine takes at one poll. `asked` has the tickets so far."""
     kind, *words = line.split(" ")
     if kind == "peers":
-        return [with_words("set", *words), "drive 1"]
+        return [line, "drive 1"]
     if kind == "payload":
         return ["no_set", line, "drive 1"]
     if kind == "cleanup":
-        gone = [f"drop {at}" for at, ticket in enumerate(asked) if ticket in words]
-        return ["no_set", "no_payload", *gone, "drive 1"]
-    if kind == "broadcast":
-        return ["no_set", with_words(kind, *words[1:]), "drive 1"]
-    asked.append(words[0])
+        gone = [str(at) for at, ticket in enumerate(asked) if ticket in words]
+        return ["no_set", "no_payload", with_words(kind, *gone), "drive 1"]
+    if kind != "broadcast":
+        asked.append(words[0])
     return ["no_set", line, "drive 1"]
 
 
@@ -185,28 +197,49 @@ def engine_over(size, events):
     """The lines of an engine that takes the events, one at a poll."""
     asked = []
     polls = [line for event in events for line in at_a_poll(event, asked)]
-    return [f"engine {size} 99 1", *polls]
+    return [f"engine {size} 1 99", *polls]
 
 
 def failing(lines):
     """The lines with each poll of a source in turn at which the source ends or fails."""
     for at, line in enumerate(lines):
         kind = line.split(" ")[0]
-        if kind in ("set", "no_set", "payload", "no_payload"):
-            end = "end" if kind in ("set", "no_set") else "fail"
+        if kind in (*SOURCES, "no_set", "no_payload"):
+            end = "end" if kind in ("peers", "no_set") else "fail"
             yield f"{end} in line {at + 1}", [*lines[:at], end, *lines[at + 1 :], *AFTERWARDS]
 
 
-def of_engine_rows(rows):
-    """Names and inputs of `growths`: the events of rows, and sources that end or fail."""
-    yield "engine hostile", stdin_of(engine_over(1, HOSTILE))
+def taken(line):
+    """The line of a core that takes what the line brings, if it is a payload that is a message."""
+    kind, *words = line.split(" ")
+    if kind != "payload":
+        return [line]
+    message = model.decode(model.byte_list(words[1].encode()), model.GREATEST)
+    parts = () if isinstance(message, str) else (message.commitment, message.content)
+    return [with_words("broadcast", f"to:{words[0]}", *map(model.spelled, parts))] if parts else []
+
+
+def requests(lines):
+    """The requests of the lines, of which each third is followed by a taking."""
+    asked = [line for line in lines if line.split(" ")[0] in ("broadcast", "subscribe", "get")]
+    return [it for at, line in enumerate(asked) for it in ([line, "take"] if at % 3 == 2 else [line])]
+
+
+def of_rows(rows):
+    """Names and calls: the events of rows, and for an engine sources that end or fail."""
+    yield "engine hostile", Calls(engine_over(1, HOSTILE))
     for row in rows:
-        if row.name in ENGINE_ROWS:
-            lines = engine_over(int(row.args[1]), row.stdin.decode().splitlines())
-            yield f"engine {row.name}", stdin_of(lines)
-            if row.name == "cleanup-then-served-once":
-                for name, changed in failing(lines):
-                    yield f"engine {row.name}, {name}", stdin_of(changed)
+        if row.name not in CALLED_ROWS:
+            continue
+        size, lines = row.args[1].decode(), row.stdin.decode().splitlines()
+        yield f"core {row.name}", Calls([f"core {size} 1 0", *(it for line in lines for it in taken(line))])
+        yield f"inbox {row.name}", Calls(["inbox 0 1 0", *requests(lines)])
+        yield f"mailbox {row.name}", Calls(["mailbox 0 1 0", *requests(lines)])
+        driven = engine_over(size, lines)
+        yield f"engine {row.name}", Calls(driven)
+        if row.name == "cleanup-then-served-once":
+            for name, changed in failing(driven):
+                yield f"engine {row.name}, {name}", Calls(changed)
 
 
 def stdin_of(lines):
@@ -215,17 +248,17 @@ def stdin_of(lines):
 
 # Of each kind of list its first line, the further ones and how many of them are drawn.
 CALLS = {
-    "core": (lambda rng: f"core {rng.randrange(3)}", ["peers 1 2"], core_call, 8),
-    "overflow": (lambda _: "overflow", [], request, 9),
-    "inbox": (lambda rng: f"inbox {rng.choice(SIZES)}", [], inbox_call, 12),
-    "mailbox": (lambda rng: f"mailbox {rng.choice(SIZES)}", [], mailbox_call, 9),
-    "engine": (lambda rng: f"engine {rng.randrange(3)} 3 {rng.choice(SIZES)}", ["set 1 2"],
+    "core": (lambda rng: f"core {rng.randrange(3)} 1 0", ["peers 1 2"], core_call, 8),
+    "overflow": (lambda _: "overflow 0 1 0", [], request, 9),
+    "inbox": (lambda rng: f"inbox 0 {rng.choice(SIZES)} 0", [], inbox_call, 12),
+    "mailbox": (lambda rng: f"mailbox 0 {rng.choice(SIZES)} 0", [], mailbox_call, 9),
+    "engine": (lambda rng: f"engine {rng.randrange(3)} {rng.choice(SIZES)} 3", ["peers 1 2"],
                engine_call, 24),
 }
 
 
 def of_calls():
-    """Names and inputs of `growths`."""
+    """Names and generated calls."""
     rng = random.Random(3)
     for kind, (heading, first, call, count) in CALLS.items():
         for number in range(LISTS):
@@ -234,4 +267,4 @@ def of_calls():
                 lines = with_close(rng, lines)
             if kind == "engine":
                 lines += ["drive 9", *(f"get 9 {content}" for content in CONTENTS), "drive 3"]
-            yield f"generated {kind} {number}", stdin_of(lines)
+            yield f"generated {kind} {number}", Calls(lines)

@@ -2,17 +2,23 @@
 
 from dataclasses import dataclass
 
+from calls_given import GONE
+
 
 @dataclass
 class Asked:
     """A request, with what it asks and whether its responder is closed."""
 
+    kind: str
     text: str
     closed: bool
 
     @staticmethod
-    def of(words):
-        return Asked(" ".join(words[:2]), words[-1] == "closed")
+    def of(event):
+        """The request that the event is. The program shows the first byte of its digest."""
+        kind, first, *_, digest = event
+        closed = kind != "broadcast" and first >= GONE
+        return Asked(kind, f'("{kind}", {digest[0]})', closed)
 
 
 class Inbox:
@@ -35,7 +41,7 @@ class Inbox:
         """Queues the request, and returns where, with its ticket."""
         place, _ = self.place(asked)
         if place == "closed":
-            return place
+            return "Closed"
         ticket = self.accepted
         self.accepted += 1
         if place == "skipped":
@@ -43,7 +49,7 @@ class Inbox:
         else:
             queue = self.ready if place == "ready" else self.overflow
             queue.append((ticket, asked))
-        return f"{place} {ticket}"
+        return f"{place.capitalize()}({ticket})"
 
     def pop(self):
         """Takes the oldest request, with its ticket."""
@@ -62,15 +68,10 @@ class Inbox:
     def take(self):
         """What `take` must print."""
         taken = self.pop()
-        return f"{taken[0]} {taken[1].text}" if taken else "none"
+        return f"({taken[0]}, {taken[1].text})" if taken else '"none"'
 
     def waiting(self):
         return [*self.ready, *self.overflow]
-
-    def drop_futures(self):
-        """Closes the requests whose callers are gone: all that waits for a reply."""
-        for _, asked in self.waiting():
-            asked.closed = not asked.text.startswith("broadcast")
 
     def close(self):
         gone = len(self.waiting())
@@ -80,6 +81,7 @@ class Inbox:
 
     def counts(self):
         return (
-            f"  accepted {self.accepted} taken {self.taken} skipped {self.skipped} "
-            f"waiting {len(self.waiting())} given_up {self.given_up}"
+            f"counts Counts {{ accepted: {self.accepted}, taken: {self.taken}, "
+            f"skipped: {self.skipped}, waiting: {len(self.waiting())}, "
+            f"given_up: {self.given_up} }}"
         )

@@ -1,4 +1,4 @@
-"""Judges what `growths` prints of an engine, by a model of its polls.
+"""Judges what is printed of an engine, by a model of its polls.
 
 A refused turn changes nothing, but for the counter of a peer, which may keep its count. A refused
 drive polls nothing.
@@ -7,42 +7,52 @@ drive polls nothing.
 from dataclasses import dataclass
 
 import replay_model as model
-from inbox_model import Inbox
+from calls_given import KEYS
+from inbox_model import Asked, Inbox
+from judged_lines import elements, shown
 
-# The keys whose counters are shown.
-KEYS = range(7)
-UPDATES = ("set", "no_set", "end")
+UPDATES = ("peers", "no_set", "end")
 RECEIVED = ("payload", "no_payload", "fail")
 REFUSED = "Refused(Memory)"
+# What the future of a subscribe and of a get gives if its request is dropped.
+GIVEN_UP = {"subscribe": "Err(Canceled)", "get": "None"}
+FOUND = {"subscribe": "Ok", "get": "Some"}
 
 
 @dataclass(eq=False)
-class Request:
+class Request(Asked):
     """A request of a caller. What its future gives is empty while it waits."""
 
-    kind: str
-    message: model.Message | None
-    digest: bytes
-    closed: bool = False
+    message: model.Message | None = None
+    digest: bytes = b""
+    to: str = ""
     gives: str = ""
 
     @staticmethod
-    def of(words):
-        kind, *rest = words
-        to = ["all"] if kind == "broadcast" else []
-        _, _, *said = model.event(" ".join([kind, *to, *rest]).encode())
-        return Request(kind, *said) if kind == "broadcast" else Request(kind, None, *said)
+    def of(event):
+        asked, (kind, to, *message, digest) = Asked.of(event), event
+        return Request(kind, asked.text, False, *(message or [None]), digest, to)
 
-    def reply(self, message):
+    def reply(self, found):
         """Hands a message over, or none. Returns whether it is delivered."""
-        self.gives = self.gives or (model.shown(self.kind, message) if message else "get none")
+        carried = found and f"Digested {{ message: {shown(found)}, digest: {list(self.digest)} }}"
+        self.gives = self.gives or (f"{FOUND[self.kind]}({carried})" if found else "None")
         return not self.closed
 
     def give_up(self):
-        self.gives = self.gives or {"get": "get none"}.get(self.kind, "subscribe canceled")
+        self.gives = self.gives or GIVEN_UP.get(self.kind, "")
 
     def line(self):
-        return "dropped" if self.closed else self.gives or f"{self.kind} waits"
+        gives = f"Ready({self.gives})" if self.gives else "Pending"
+        return "dropped ()" if self.closed else f"{self.kind} {gives}"
+
+    def sent(self):
+        """What is sent of a broadcast."""
+        keys = self.to.split(",")
+        named = f"One({self.to})" if len(keys) == 1 else f"Some({elements(keys)})"
+        to = "All" if self.to == "all" else named
+        data = elements(map(str, self.message.encoding()))
+        return f"Sent {{ recipients: {to}, bytes: {data}, priority: false }}"
 
 
 def debugged(error):
@@ -51,13 +61,41 @@ def debugged(error):
     return f"{name}({arguments[0]})" if arguments else name
 
 
+def drop_futures(futures, numbers):
+    """Drops the futures of these numbers."""
+    for number in numbers:
+        if number < len(futures):
+            futures[number].closed = True
+
+
+def ask(lines, inbox, futures, asked):
+    """A request of a mailbox. Returns whether it was made.
+
+    A subscribe and a get allocate their channel, also after a close.
+    """
+    place, may_be_refused = inbox.place(asked)
+    is_asking = asked.kind != "broadcast"
+    refusal = "refused Memory" if is_asking else "broadcast Err(Memory)"
+    if (may_be_refused or is_asking) and lines.is_refused(refusal):
+        return False
+    inbox.enqueue(asked)
+    if is_asking:
+        futures.append(asked)
+        lines.expect(f"futures {len(futures)}")
+    else:
+        feedback = {"ready": "Ok", "overflow": "Backoff", "closed": "Closed"}[place]
+        lines.expect(f"broadcast Ok({feedback})")
+    return True
+
+
 class Engine:
     """An engine with key 1, its mailbox, and what its sources still give."""
 
-    def __init__(self, calls, size, greatest, places):
-        self.core, self.inbox, self.greatest = model.Core(1, size), Inbox(places), greatest
-        self.updates = [words for words in calls if words[0] in UPDATES]
-        self.received = [words for words in calls if words[0] in RECEIVED]
+    def __init__(self, given):
+        self.core, self.inbox = model.Core(1, given.size), Inbox(given.places)
+        self.greatest = given.greatest
+        self.updates = [call for call in given.calls if call[0] in UPDATES]
+        self.received = [call for call in given.calls if call[0] in RECEIVED]
         self.futures, self.sent, self.ended = [], [], None
         self.waiters = 0
         self.receive, self.subscribe, self.get = [0] * 3, [0] * 2, [0] * 3
@@ -81,19 +119,19 @@ class Engine:
         closed = [waiter for _, waiter in self.core.waiters if waiter.closed]
         self.subscribe[1] += self.core.cleanup(closed)
         self.waiters = self.core.awaited_count()
-        kind, *words = self.updates.pop(0) if self.updates else ["no_set"]
+        kind, *said = self.updates.pop(0) if self.updates else ["no_set"]
         if kind == "end":
             return self.end("PeersClosed")
-        if kind == "set":
-            self.core.set_primary(frozenset(map(int, words)))
+        if kind == "peers":
+            self.core.set_primary(*said)
             return "Peers"
         taken = self.inbox.pop()
         if taken:
             return self.request(taken[1], is_refused)
-        kind, *words = self.received.pop(0) if self.received else ["no_payload"]
+        kind, *said = self.received.pop(0) if self.received else ["no_payload"]
         if kind == "fail":
             return self.end("NetworkFailed")
-        return self.payload(*words, is_refused) if kind == "payload" else None
+        return self.payload(*said, is_refused) if kind == "payload" else None
 
     def request(self, request, is_refused):
         found = self.core.cached(request.digest)
@@ -102,7 +140,7 @@ class Engine:
             request.give_up()
             return REFUSED
         if request.kind == "broadcast":
-            self.sent.append(request.message.encoding())
+            self.sent.append(request.sent())
             return f"Broadcast({self.take(1, request.digest, request.message)})"
         if request.kind == "get":
             delivered = request.reply(found)
@@ -114,7 +152,7 @@ class Engine:
         return request.kind.capitalize()
 
     def payload(self, key, data, is_refused):
-        key, message = int(key), model.decode(model.byte_list(data.encode()), self.greatest)
+        message = model.decode(data, self.greatest)
         if isinstance(message, str):
             self.receive[2] += 1
             return f"Invalid({debugged(message)})"
@@ -133,60 +171,66 @@ class Engine:
         return outcome.capitalize()
 
     def expect_counters(self, lines):
-        shown = lines.peek().split(" peers ")[-1].split(" ")
-        for key, (word, count, left) in enumerate(zip(shown, self.peers, self.left)):
-            if word in map(str, range(count, count + left + 1)):
-                self.peers[key], self.left[key] = int(word), 0
-        counts = (self.receive, self.subscribe, self.get, self.peers)
-        words = (" ".join(map(str, count)) for count in counts)
-        named = map(" ".join, zip(("receive", "subscribe", "get", "peers"), words))
-        lines.expect(f"  waiters {self.waiters} {' '.join(named)}")
+        lines.expect(f"waiters {self.waiters}")
+        success, dropped, invalid = self.receive
+        found, missed, unheard = self.get
+        counts = {
+            "Success": (success, self.subscribe[0], found),
+            "Failure": (0, 0, missed),
+            "Invalid": (invalid, 0, 0),
+            "Dropped": (dropped, self.subscribe[1], unheard),
+        }
+        for status, count in counts.items():
+            lines.expect(f"counted ({status}, {count})")
+        for key in KEYS:
+            self.expect_peer(lines, key)
+
+    def expect_peer(self, lines, key):
+        """The count of a peer, if it has one."""
+        for count in range(self.peers[key] + self.left[key], self.peers[key] - 1, -1):
+            if count == 0:
+                return
+            if lines.peek() == f"peer ({key}, {count})":
+                self.peers[key], self.left[key] = count, 0
+                lines.next()
+                return
+        lines.expect(f"peer ({key}, {self.peers[key]})")
+
+
+def turns_of(line):
+    """The turns that a line of a drive tells."""
+    return line.removeprefix("drive Ok([").removesuffix("])").split(", ")
 
 
 def drive(lines, engine, limit):
-    if limit > 0 and lines.is_refused("drive memory"):
+    if limit > 0 and lines.is_refused("drive Err(AllocError)"):
         return
-    shown = lines.peek().split(" ")[1:]
+    told = turns_of(lines.peek())
     turns = []
     for _ in range(limit):
-        turn = engine.poll(shown[len(turns) : len(turns) + 1] == [REFUSED])
+        turn = engine.poll(told[len(turns) : len(turns) + 1] == [REFUSED])
         turns += [turn] if turn else []
         if engine.ended:
             break
-    lines.expect(" ".join(["drive", *turns]))
+    lines.expect(f"drive Ok([{', '.join(turns)}])")
     lines.refusals += turns.count(REFUSED)
 
 
-def call(lines, engine, name, words):
-    """A call of the mailbox. A subscribe and a get allocate their channel, also after a close."""
-    request = Request.of([name, *words])
-    place, may_be_refused = engine.inbox.place(request)
-    is_asking = name != "broadcast"
-    if (may_be_refused or is_asking) and lines.is_refused(f"{name} memory"):
-        return
-    if is_asking:
-        engine.futures.append(request)
-    if engine.inbox.enqueue(request) == "closed":
-        request.give_up()
-    feedback = {"ready": "ok", "overflow": "backoff", "closed": "closed"}[place]
-    lines.expect(f"{name} {'ok' if is_asking else feedback}")
-
-
-def judge(lines, calls, *sizes):
-    engine = Engine(calls, *sizes)
-    for name, *words in calls:
-        if name in UPDATES or name in RECEIVED:
+def judge(lines, given):
+    engine = Engine(given)
+    for call in given.calls:
+        kind = call[0]
+        if kind in UPDATES or kind in RECEIVED:
             continue
-        if name == "drive":
-            drive(lines, engine, int(words[0]))
+        if kind == "drive":
+            drive(lines, engine, int(call[1]))
             engine.expect_counters(lines)
-        elif name == "drop":
-            if int(words[0]) < len(engine.futures):
-                engine.futures[int(words[0])].closed = True
-            lines.expect("drop")
+        elif kind == "cleanup":
+            drop_futures(engine.futures, call[1])
         else:
-            call(lines, engine, name, words)
+            request = Request.of(call)
+            if ask(lines, engine.inbox, engine.futures, request) and engine.inbox.closed:
+                request.give_up()
     for request in engine.futures:
         lines.expect(request.line())
-    for encoding in engine.sent:
-        lines.expect(f"sent {model.spelled(encoding)}")
+    lines.expect(f"sent [{', '.join(engine.sent)}]")

@@ -1,6 +1,17 @@
 """The lines of a run, as a judge reads them."""
 
 
+def elements(texts):
+    """A list of elements as the program prints it."""
+    return f"Items {{ elements: [{', '.join(texts)}] }}"
+
+
+def shown(message):
+    """A message as the program prints it."""
+    commitment, content = list(message.commitment), list(message.content)
+    return f"TestMessage {{ commitment: {commitment}, content: {content} }}"
+
+
 class Wrong(Exception):
     """What is wrong with a line."""
 

@@ -2,7 +2,6 @@
 
 import judge_devices
 import judge_engine
-import judge_growths
 import judge_program
 import replay_model
 import world_model
@@ -108,74 +107,112 @@ OF_WORLD = [
 ]
 
 # By list of calls: what is wrong, and with it lines of the right output and those in their place.
-OF_GROWTHS = {
+OF_CALLS = {
     "core": [
         (
             "a refused taking serves its waiters",
-            "take inserted 1 2\n  lists 0[ ] 1[ ] 2[ 5 ] 3[ ] cached 1: 5=5 awaited 1: 6x1\n",
-            "take memory\n  lists 0[ ] 1[ ] 2[ ] 3[ ] cached 0: awaited 1: 6x1\n",
+            "take Ok(Taken { outcome: Inserted, "
+            "served: Items { elements: [Waiter(1), Waiter(2)] } })\nwaiting 0\n"
+            "list (2, 231, TestMessage { commitment: [], content: [5] })\n"
+            "cached and awaited (1, 1)\n",
+            "take Err(AllocError)\nwaiting 0\ncached and awaited (0, 1)\n",
         ),
         (
             "a refused taking leaves its digest on a list",
-            "take inserted 1 2\n  lists 0[ ] 1[ ] 2[ 5 ] 3[ ] cached 1: 5=5 awaited 1: 6x1\n",
-            "take memory\n  lists 0[ ] 1[ ] 2[ 5 ] 3[ ] cached 1: 5=5 awaited 2: 5x2 6x1\n",
+            "take Ok(Taken { outcome: Inserted, "
+            "served: Items { elements: [Waiter(1), Waiter(2)] } })\nwaiting 0\n"
+            "list (2, 231, TestMessage { commitment: [], content: [5] })\n"
+            "cached and awaited (1, 1)\n",
+            "take Err(AllocError)\nwaiting 2\n"
+            "list (2, 231, TestMessage { commitment: [], content: [5] })\n"
+            "cached and awaited (1, 2)\n",
         ),
-        ("a refused subscribe loses its waiter", "subscribe waiting\n", "subscribe memory 0\n"),
-        ("a refused subscribe waits", "subscribe waiting\n", "subscribe memory 1\n"),
-        ("a taking of a listed digest is refused", "take duplicate\n", "take memory\n"),
-        ("a taking under another key is refused", "take ineligible\n", "take memory\n"),
-        ("a peer set is refused", "peers\n", "memory\n"),
+        (
+            "a refused subscribe loses its waiter",
+            'subscribe "waits"\n',
+            "subscribe (Waiter(0), AllocError)\n",
+        ),
+        (
+            "a refused subscribe waits",
+            'subscribe "waits"\nwaiting 1\n',
+            "subscribe (Waiter(1), AllocError)\nwaiting 1\n",
+        ),
+        (
+            "a taking of a listed digest is refused",
+            "take Ok(Taken { outcome: Duplicate, served: Items { elements: [] } })\n",
+            "take Err(AllocError)\n",
+        ),
+        (
+            "a taking under another key is refused",
+            "take Ok(Taken { outcome: Ineligible, served: Items { elements: [] } })\n",
+            "take Err(AllocError)\n",
+        ),
+        (
+            "a peer set is refused",
+            "cached and awaited (0, 1)\ncached and awaited (0, 1)\n",
+            "cached and awaited (0, 1)\npeers Err(AllocError)\ncached and awaited (0, 1)\n",
+        ),
     ],
     "overflow": [
         (
             "a refused request stays in the overflow",
-            "handle get 2 ok 1\n",
-            "handle get 2 memory 1\n",
+            "handle (Ok(()), 1)\n",
+            "handle (Err(AllocError), 1)\n",
         ),
-        ("a closed request asks for memory", "handle get 3 ok 1\n", "handle get 3 memory 1\n"),
+        (
+            "a closed request asks for memory",
+            "handle (Ok(()), 1)\nhandle (Ok(()), 1)\n",
+            "handle (Ok(()), 1)\nhandle (Err(AllocError), 1)\n",
+        ),
     ],
     "inbox": [
         (
             "a refused enqueue draws a ticket",
-            "enqueue get 3 overflow 2\n  accepted 3 taken 0 skipped 1 waiting 2 given_up 0\n",
-            "enqueue get 3 memory\n  accepted 3 taken 0 skipped 1 waiting 1 given_up 0\n",
+            "enqueue Ok(Overflow(2))\n"
+            "counts Counts { accepted: 3, taken: 0, skipped: 1, waiting: 2, given_up: 0 }\n",
+            "enqueue Err(Memory)\n"
+            "counts Counts { accepted: 3, taken: 0, skipped: 1, waiting: 1, given_up: 0 }\n",
         ),
-        (
-            "a closed inbox asks for memory",
-            "enqueue broadcast 4 closed\n",
-            "enqueue broadcast 4 memory\n",
-        ),
+        ("a closed inbox asks for memory", "enqueue Ok(Closed)\n", "enqueue Err(Memory)\n"),
     ],
     "mailbox": [
         (
             "a refused get is queued",
-            "get ok\n  accepted 2 taken 0 skipped 0 waiting 2 given_up 0\n",
-            "get memory\n  accepted 2 taken 0 skipped 0 waiting 2 given_up 0\n",
+            "futures 2\n"
+            "counts Counts { accepted: 2, taken: 0, skipped: 0, waiting: 2, given_up: 0 }\n",
+            "refused Memory\n"
+            "counts Counts { accepted: 2, taken: 0, skipped: 0, waiting: 2, given_up: 0 }\n",
         ),
     ],
     "engine": [
         (
             "a refused payload serves its waiter",
-            "drive Payload(Inserted) Peers\n  waiters 0 receive 1 0 0 subscribe 1 0 get 0 1 0 ",
-            "drive Refused(Memory) Peers\n  waiters 0 receive 0 0 0 subscribe 1 0 get 0 1 0 ",
+            "drive Ok([Payload(Inserted), Peers])\nwaiters 0\ncounted (Success, (1, 1, 0))\n",
+            "drive Ok([Refused(Memory), Peers])\nwaiters 0\ncounted (Success, (0, 1, 0))\n",
         ),
         (
             "a refused payload counts twice on its peer",
-            "drive Payload(Inserted) Peers\n"
-            "  waiters 0 receive 1 0 0 subscribe 1 0 get 0 1 0 peers 0 0 1 0 0 0 0\n",
-            "drive Refused(Memory) Peers\n"
-            "  waiters 1 receive 0 0 0 subscribe 0 0 get 0 1 0 peers 0 0 2 0 0 0 0\n",
+            "drive Ok([Payload(Inserted), Peers])\nwaiters 0\ncounted (Success, (1, 1, 0))\n"
+            "counted (Failure, (0, 0, 1))\ncounted (Invalid, (0, 0, 0))\n"
+            "counted (Dropped, (0, 0, 0))\npeer (2, 1)\n",
+            "drive Ok([Refused(Memory), Peers])\nwaiters 1\ncounted (Success, (0, 0, 0))\n"
+            "counted (Failure, (0, 0, 1))\ncounted (Invalid, (0, 0, 0))\n"
+            "counted (Dropped, (0, 0, 0))\npeer (2, 2)\n",
         ),
         (
             "a failed receiver ends nothing",
-            "Payload(Ineligible) Ended(NetworkFailed)\n",
-            "Payload(Ineligible)\n",
+            "Payload(Ineligible), Ended(NetworkFailed)])\n",
+            "Payload(Ineligible)])\n",
         ),
-        ("an engine goes on after its end", "drive Ended(NetworkFailed)\n", "drive Get\n"),
+        (
+            "an engine goes on after its end",
+            "drive Ok([Ended(NetworkFailed)])\n",
+            "drive Ok([Get])\n",
+        ),
         (
             "a subscribe waits after the end",
-            "subscribe canceled\nget none\nsubscribe canceled\n",
-            "subscribe waits\nget none\nsubscribe canceled\n",
+            "subscribe Ready(Err(Canceled))\nget Ready(None)\nsubscribe Ready(Err(Canceled))\n",
+            "subscribe Pending\nget Ready(None)\nsubscribe Ready(Err(Canceled))\n",
         ),
     ],
 }
@@ -253,7 +290,7 @@ def unseen_of_devices():
 
 def unseen_of_calls(judge, ample, name):
     """The wrong outputs, made of this right one, that the judge of a list does not find."""
-    for what, lines, wrong in OF_GROWTHS.get(name, []):
+    for what, lines, wrong in OF_CALLS.get(name, []):
         before, found, after = ample.stdout.decode().partition(lines)
         changed = Ran((before + wrong + after).encode(), b"", 0, refused=1)
         fault = judge.fault(changed, REFUSED)
@@ -262,64 +299,103 @@ def unseen_of_calls(judge, ample, name):
             yield what
 
 
-def refusal_of(part, words, line):
-    """What stands in place of the line if the call is refused, or `None` where that is right."""
-    first = line.split(" ")[0]
+# How the last line of a call begins, by what is called.
+LAST_LINES = {
+    "core": "cached and awaited",
+    "overflow": "handle",
+    "inbox": "counts",
+    "mailbox": "counts",
+}
+REQUESTS = ("broadcast", "subscribe", "get")
+
+
+def refusal_of(part, call, line):
+    """What the first line of a call is if it is refused, or `None` where that is right."""
+    kind = call[0]
     if part == "core":
-        if line == "subscribe waiting":
-            return f"subscribe memory {words[1]}"
-        return f"{first} memory" if first in ("take", "take_own") else None
+        if line == 'subscribe "waits"':
+            return f"subscribe (Waiter({call[1]}), AllocError)"
+        return "take Err(AllocError)" if kind == "broadcast" else None
     if part == "overflow":
-        return line.replace(" ok ", " memory ") if first == "handle" else None
+        return line.replace("Ok(())", "Err(AllocError)")
+    if kind not in REQUESTS:
+        return None
     if part == "inbox":
-        return " ".join([*line.split(" ")[:3], "memory"]) if first == "enqueue" else None
-    return f"{first} memory" if first in ("broadcast", "subscribe", "get") else None
+        return "enqueue Err(Memory)"
+    return "broadcast Err(Memory)" if kind == "broadcast" else "refused Memory"
+
+
+def blocks_of(part, lines):
+    """The place of the first line of each call, and that behind its last."""
+    first = 0
+    for at, line in enumerate(lines, 1):
+        if line.startswith(LAST_LINES[part]):
+            yield first, at
+            first = at
 
 
 def effects_of_drives(lines):
     """Outputs in which a turn of an engine is refused and has its effect."""
     for at, line in enumerate(lines):
-        turns = line.split(" ")
+        if not line.startswith("drive Ok("):
+            continue
+        turns = judge_engine.turns_of(line)
         for place, turn in enumerate(turns):
-            if turns[0] == "drive" and turn.startswith(("Broadcast(", "Payload(")):
-                changed = " ".join([*turns[:place], judge_engine.REFUSED, *turns[place + 1 :]])
-                yield at + 1, [*lines[:at], changed, *lines[at + 1 :]]
+            if turn.startswith(("Broadcast(", "Payload(")):
+                changed = [*turns[:place], judge_engine.REFUSED, *turns[place + 1 :]]
+                told = f"drive Ok([{', '.join(changed)}])"
+                yield at, len(lines), [*lines[:at], told, *lines[at + 1 :]]
+
+
+def half_effects(before, after):
+    """Blocks of a refused taking that has its effect on its waiters or on its list alone.
+
+    `before` and `after` are the lines of a core, and `after` those of the taking too.
+    """
+    taken, waiting, *lists = after
+    served = taken.count("Waiter(")
+    *old, was = [it for it in before if it.startswith(("list", "cached"))]
+    *new, now = lists
+    cached, awaited = (list(zip(*(line[20:-1].split(", ") for line in (was, now)))))
+    refusal = "take Err(AllocError)"
+    if served:
+        yield [refusal, waiting, *old, f"cached and awaited ({cached[0]}, {awaited[1]})"]
+    if new != old:
+        state = f"cached and awaited ({cached[1]}, {awaited[0]})"
+        yield [refusal, f"waiting {served}", *new, state]
 
 
 def effects_of(part, calls, lines):
-    """Outputs in which a call is refused and has its effect, with the number of its line.
+    """Outputs in which a call is refused and has its effect, with the places of its lines.
 
     A taking has its effect whole, on its waiters alone or on its list alone.
     """
-    step = 1 if part == "overflow" else 2
-    is_closed = False
-    for at, words in zip(range(0, len(lines), step), calls):
-        is_closed = is_closed or words[0] == "close"
-        refusal = refusal_of(part, words, lines[at])
+    is_closed, before = False, []
+    for (first, end), call in zip(blocks_of(part, lines), calls):
+        is_closed = is_closed or call[0] == "close"
+        block = lines[first:end]
+        refusal = refusal_of(part, call, block[0])
         # After a close a subscribe and a get have no effect but their channels.
-        if refusal is None or (part == "mailbox" and is_closed and words[0] != "broadcast"):
-            continue
-        changed = [*lines[:at], refusal, *lines[at + 1 :]]
-        yield at + 1, changed
-        if refusal in ("take memory", "take_own memory") and at > 0:
-            before, after = (lines[it].split(" awaited ") for it in (at - 1, at + 1))
-            for kept, awaited in ((before[0], after[1]), (after[0], before[1])):
-                state = f"{kept} awaited {awaited}"
-                if state != lines[at - 1]:
-                    yield at + 1, [*changed[: at + 1], state, *lines[at + 2 :]]
+        has_effect = not is_closed or refusal != "refused Memory"
+        changed = [[refusal, *block[1:]]] if refusal and has_effect else []
+        if refusal == "take Err(AllocError)" and before:
+            changed += half_effects(before, block)
+        for it in changed:
+            yield first, first + len(it), [*lines[:first], *it, *lines[end:]]
+        before = block
 
 
 def unseen_of_effects(judge, ample):
     """The lines that the judge does not find if they are refused and have their effect."""
     lines = ample.stdout.decode().split("\n")
-    if judge.part == "engine":
-        effects, last = effects_of_drives(lines), len(lines)
+    if judge.given.part == "engine":
+        effects = effects_of_drives(lines)
     else:
-        effects, last = effects_of(judge.part, judge.calls, lines), 0
-    for at, changed in effects:
+        effects = effects_of(judge.given.part, judge.given.calls, lines)
+    for first, end, changed in effects:
         fault = judge.fault(Ran("\n".join(changed).encode(), b"", 0, refused=1), REFUSED)
-        if not fault or not is_about(fault, at, last or at + 1):
-            yield f"line {at}, {lines[at - 1]}, is refused and has an effect"
+        if not fault or not is_about(fault, first + 1, end):
+            yield f"line {first + 1}, {lines[first]}, is refused and has an effect"
 
 
 def is_about(fault, first, last):
@@ -329,7 +405,7 @@ def is_about(fault, first, last):
 
 def count_calls(name, judge, ample, tally):
     """Counts the wrong outputs of a list of calls, made of the right output."""
-    count(unseen_of_calls(judge, ample, name), len(OF_GROWTHS.get(name, [])), tally)
+    count(unseen_of_calls(judge, ample, name), len(OF_CALLS.get(name, [])), tally)
     unseen = list(unseen_of_effects(judge, ample))
     count(unseen[:1], 1, tally)
 

@@ -1,7 +1,9 @@
-//! Text of the programs: words and numbers, byte lists, recipients, lines, answers and faults.
+//! Text of the programs: arguments, words and numbers, byte lists, recipients, lines, messages,
+//! answers and faults.
 #![tactic(auto)]
 
 pub mod answer;
+pub mod arguments;
 pub mod byte_list;
 pub mod fault;
 pub mod line_error;

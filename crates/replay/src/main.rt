@@ -1,11 +1,12 @@
 //! Runs a file of events from standard input, as `replay OWN SIZE [MAX]`.
 #![tactic(auto)]
 
-use replay_lib::{play, read_arguments};
+use broadcast_text::arguments::read_arguments;
+use replay_lib::{USAGE, play};
 use std::process::ExitCode;
 
 fn main(rt: HostRuntime) -> ExitCode {
-    let status = match read_arguments(&rt) {
+    let status = match read_arguments(&rt, USAGE) {
         Ok(words) => play(&rt, &words, rt.stdin(), rt.stdout(), rt.stderr()),
         Err(fault) => fault.report(rt.stderr()),
     };

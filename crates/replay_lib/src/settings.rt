@@ -4,11 +4,7 @@ ghost use Rattle.std.specs.Fmt.{decimal};
 ghost use Rattle.replay_lib.specs.Arguments.{argument_words, range_of, settings_of};
 
 use broadcast_core::RangeCfg;
-use broadcast_text::fault::Fault;
 use broadcast_text::words::parse_number;
-use std::env;
-use std::io::ErrorKind;
-use std::rt::Env;
 
 /// The usage line.
 pub const USAGE: &str = "usage: replay OWN SIZE [MAX]";
@@ -61,20 +57,4 @@ impl Settings {
             range,
         })
     }
-}
-
-/// Returns the arguments of the process without the program's name.
-///
-/// # Errors
-///
-/// Fails with [`Fault::Usage`] if an argument is not UTF-8, and with [`Fault::Memory`] if an
-/// allocation fails.
-pub fn read_arguments<R: Env + AllocGlobal>(rt: &R) -> Result<Vec<String>, Fault> {
-    let mut words = match env::args(rt) {
-        Ok(words) => words,
-        Err(error) if error.kind() == ErrorKind::OutOfMemory => return Err(Fault::Memory),
-        Err(_) => return Err(Fault::Usage(USAGE)),
-    };
-    let _name = words.next();
-    Ok(words.collect(rt.alloc())?)
 }

@@ -1,11 +1,12 @@
 //! Takes the steps of a file from standard input, as `world SIZE NODES HOSTILE`.
 #![tactic(auto)]
 
+use broadcast_text::arguments::read_arguments;
 use std::process::ExitCode;
-use world_lib::{play, read_arguments};
+use world_lib::{USAGE, play};
 
 fn main(rt: HostRuntime) -> ExitCode {
-    let status = match read_arguments(&rt) {
+    let status = match read_arguments(&rt, USAGE) {
         Ok(words) => play(&rt, &words, rt.stdin(), rt.stdout(), rt.stderr()),
         Err(fault) => fault.report(rt.stderr()),
     };

@@ -11,7 +11,7 @@ use broadcast_core::RangeCfg;
 use broadcast_text::fault::Fault;
 use broadcast_world::{Comparison, Step, compare};
 use report::{nodes_of, write_part};
-pub use settings::read_arguments;
+pub use settings::USAGE;
 use settings::{Settings, world_fault};
 use std::alloc::Global;
 use std::io::{BufWriter, Read, Write};

@@ -13,10 +13,7 @@ use broadcast_text::recipients::parse_keys;
 use broadcast_text::words::expect_number;
 use broadcast_world::{WorldError, shares_key};
 use std::alloc::Global;
-use std::env;
-use std::io::ErrorKind;
 use std::marker::Model;
-use std::rt::Env;
 
 /// The usage line.
 pub const USAGE: &str = "usage: world SIZE NODES HOSTILE";
@@ -126,20 +123,4 @@ pub fn world_fault(error: WorldError) -> Fault
         WorldError::SharedKey => Fault::SharedKey,
         WorldError::Memory => Fault::Memory,
     }
-}
-
-/// Returns the arguments of the process without the program's name.
-///
-/// # Errors
-///
-/// Fails with [`Fault::Usage`] if an argument is not UTF-8, and with [`Fault::Memory`] if an
-/// allocation fails.
-pub fn read_arguments<R: Env + AllocGlobal>(rt: &R) -> Result<Vec<String>, Fault> {
-    let mut words = match env::args(rt) {
-        Ok(words) => words,
-        Err(error) if error.kind() == ErrorKind::OutOfMemory => return Err(Fault::Memory),
-        Err(_) => return Err(Fault::Usage(USAGE)),
-    };
-    let _name = words.next();
-    Ok(words.collect(rt.alloc())?)
 }

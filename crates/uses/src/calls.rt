@@ -1,0 +1,88 @@
+//! Calls of the libraries, as `uses PART SIZE PLACES GREATEST STEPS`.
+//!
+//! Standard input has events, in the form of `docs/REPLAY.md`. STEPS has a letter for each call: at
+//! `c` it is the one that the next event says. After each call the program prints what it returned
+//! and what is left. The gate runs it with growths of the heap refused, and judges what it prints.
+//!
+//! - `core`: a core with the key 1, whose lists have at most SIZE digests. It has no steps: each
+//!   event is a call. A broadcast to one key is taken under it, any other under the own key; a
+//!   cleanup without tickets asks the waiters whether they are closed.
+//! - `overflow`: an overflow. It has no steps: each event is a request that finds no room.
+//! - `inbox`: an inbox whose ready list has PLACES places. `t` takes a request, `s` asks for a
+//!   stop, `x` closes.
+//! - `mailbox`: a mailbox over such an inbox, with `t` and `x`; `k` copies it. A cleanup drops the
+//!   futures of its numbers, from 0 on.
+//! - `engine`: an engine of this SIZE and mailbox, which decodes lengths up to GREATEST. At `s` the
+//!   next event is what a poll of its source gives; at `n` a poll of the peer sets gives none, at
+//!   `m` a poll of the network; at `e` the sets end, at `f` the network fails. A digit drives the
+//!   engine with this limit, and `w` with as many polls as there are steps.
+//!
+//! In a core, an overflow and an inbox a caller with a ticket from 100 on is gone. What the calls
+//! are given is made before the first of them. If that fails, the program ends with a fault and
+//! prints nothing. Printing does not allocate.
+mod callers;
+mod core_calls;
+mod engine_calls;
+mod inbox_calls;
+mod mailbox_calls;
+mod overflow_calls;
+mod printer;
+mod requests;
+mod script;
+mod settings;
+
+use broadcast_core::{Event, TestMessage};
+use broadcast_engine::buffered::Sequential;
+use broadcast_text::fault::Fault;
+use printer::Printer;
+use replay_lib::read_events;
+pub use settings::USAGE;
+use settings::{Part, Settings};
+use std::alloc::AllocError;
+use std::io::{Stderr, Stdin, Stdout};
+use std::random::RandomSource;
+use std::sync::Wait;
+
+/// The keys whose lists and counters are shown.
+const KEYS: u64 = 7;
+
+/// Makes the calls that the words and the events of `reader` say. Returns the exit status.
+pub fn play<H>(rt: &H, words: &[String], reader: Stdin, out: Stdout, err: Stderr) -> u8
+where
+    H: Wait + RandomSource + Clone + Send + Drop + AllocGlobal + 'static,
+{
+    match read_and_make(rt, words, reader, out) {
+        Ok(()) => 0,
+        Err(fault) => fault.report(err),
+    }
+}
+
+fn read_and_make<H>(rt: &H, words: &[String], reader: Stdin, out: Stdout) -> Result<(), Fault>
+where
+    H: Wait + RandomSource + Clone + Send + Drop + AllocGlobal + 'static,
+{
+    let settings = Settings::parse(words).ok_or(Fault::Usage(USAGE))?;
+    let mut out = Printer::new(rt.alloc(), out)?;
+    let events = read_events(rt.alloc(), reader)?;
+    make_calls(rt, &mut out, settings, events)?;
+    out.end()
+}
+
+fn make_calls<H>(
+    rt: &H,
+    out: &mut Printer,
+    settings: Settings<'_>,
+    events: Vec<Event<u64, TestMessage>>,
+) -> Result<(), AllocError>
+where
+    H: Wait + RandomSource + Clone + Send + Drop + AllocGlobal + 'static,
+{
+    let alloc = rt.alloc();
+    match settings.part {
+        Part::Core => core_calls::make_all(alloc, out, settings, events),
+        Part::Overflow => overflow_calls::make_all(alloc, out, events),
+        Part::Inbox => inbox_calls::make_all(alloc, out, settings, events),
+        Part::Mailbox => mailbox_calls::make_all(rt, out, settings, events),
+        Part::Engine => engine_calls::make_all(rt, out, settings, Sequential, events),
+    }
+}

@@ -1,0 +1,145 @@
+//! Calls of a core.
+ghost use Rattle.std.specs.Prelude.{⊤};
+
+use super::KEYS;
+use super::printer::Printer;
+use super::requests::is_gone;
+use super::settings::Settings;
+use broadcast_core::{
+    Closable, Core, Digested, Event, Items, Recipients, Set, Subscribed, Taken, TestMessage,
+    Ticketed,
+};
+use std::alloc::{AllocError, Global};
+
+/// A waiter with a ticket.
+#[derive(Clone, Copy, Debug)]
+struct Waiter(u64);
+
+impl Ticketed for Waiter {
+    ghost ticket_of = { λ waiter. waiter.0 };
+
+    fn ticket(&self) -> u64 {
+        self.0
+    }
+}
+
+impl Closable for Waiter {
+    ghost may_answer = { λ _ _. ⊤ };
+
+    fn is_closed(&self) -> bool {
+        is_gone(self.0)
+    }
+}
+
+/// A core over these waiters.
+type TestCore = Core<u64, TestMessage, Waiter>;
+
+/// Makes the calls of a core.
+pub fn make_all(
+    alloc: Global,
+    out: &mut Printer,
+    settings: Settings<'_>,
+    events: Vec<Event<u64, TestMessage>>,
+) -> Result<(), AllocError> {
+    let mut core = Core::new(alloc, 1, settings.deque_size);
+    make_calls(alloc, out, &mut core, events);
+    Ok(())
+}
+
+fn make_calls(
+    alloc: Global,
+    out: &mut Printer,
+    core: &mut TestCore,
+    events: Vec<Event<u64, TestMessage>>,
+) {
+    for event in events {
+        make(out, core, event);
+        show(alloc, out, core);
+    }
+}
+
+/// Makes the call, and prints what it returns.
+fn make(out: &mut Printer, core: &mut TestCore, event: Event<u64, TestMessage>) {
+    match event {
+        Event::Peers(set) => core.update_primary_peers(set),
+        Event::Broadcast(recipients, message) => take(out, core, &recipients, &message),
+        Event::Subscribe(ticket, digest) => subscribe(out, core, ticket, digest),
+        Event::Cleanup(tickets) => cleanup(out, core, &tickets),
+        Event::Get(_, digest) => get(out, core, digest),
+        Event::Payload(..) => {}
+    }
+}
+
+fn take(
+    out: &mut Printer,
+    core: &mut TestCore,
+    recipients: &Recipients<u64>,
+    message: &Digested<TestMessage>,
+) {
+    out.line("take", &taken(core, recipients, message));
+    out.line("waiting", &core.waiting(&message.digest()));
+}
+
+fn taken(
+    core: &mut TestCore,
+    recipients: &Recipients<u64>,
+    message: &Digested<TestMessage>,
+) -> Result<Taken<Waiter>, AllocError> {
+    match recipients {
+        Recipients::One(key) => core.take(key, message),
+        _ => core.take_own(message),
+    }
+}
+
+/// Subscribes, and prints the answer, with the waiter that comes back.
+fn subscribe(out: &mut Printer, core: &mut TestCore, ticket: u64, digest: [u8; 32]) {
+    match core.subscribe(digest, Waiter(ticket)) {
+        Ok(Subscribed::Waiting) => out.line("subscribe", &"waits"),
+        Ok(Subscribed::Answered(back, message)) => {
+            out.line("subscribe", &(back, message.inner()));
+        }
+        Err(refused) => out.line("subscribe", &refused),
+    }
+    out.line("waiting", &core.waiting(&digest));
+}
+
+fn get(out: &mut Printer, core: &TestCore, digest: [u8; 32]) {
+    match core.get(&digest) {
+        Some(message) => out.line("get", message.inner()),
+        None => out.line("get", &"none"),
+    }
+}
+
+fn cleanup(out: &mut Printer, core: &mut TestCore, tickets: &Items<u64>) {
+    let removed = if tickets.is_empty() {
+        core.cleanup_by()
+    } else {
+        core.cleanup(tickets.as_slice())
+    };
+    out.line("cleanup", &removed);
+}
+
+/// Prints what the core holds.
+fn show(alloc: Global, out: &mut Printer, core: &TestCore) {
+    for key in 0..KEYS {
+        show_list(alloc, out, core, key);
+    }
+    out.line("cached and awaited", &(core.cached_len(), core.awaited()));
+}
+
+/// Prints the messages of a list, or that it could not be allocated.
+fn show_list(alloc: Global, out: &mut Printer, core: &TestCore, key: u64) {
+    match core.list(alloc, &key) {
+        Ok(digests) => show_messages(out, core, key, &digests),
+        Err(refused) => out.line("list", &(key, refused)),
+    }
+}
+
+/// Prints each message with the first byte of its digest.
+fn show_messages(out: &mut Printer, core: &TestCore, key: u64, digests: &[[u8; 32]]) {
+    for digest in digests {
+        if let Some(message) = core.get(digest) {
+            out.line("list", &(key, digest[0], message.inner()));
+        }
+    }
+}

@@ -1,0 +1,160 @@
+"""Judges a run of the calls of the libraries of which some growths of the heap were refused.
+
+It makes each call on a model. Wherever a call may allocate, a refusal may stand in place of what it
+returns, and then the model stays as it was.
+"""
+
+import judge_engine
+import replay_model as model
+from calls_given import GONE, KEYS
+from inbox_model import Asked, Inbox
+from judge_program import MEMORY
+from judged_lines import Lines, Wrong, elements, shown
+
+OWN = 1
+
+
+def expect_core(lines, core):
+    """The lines of what a core holds. A list that is not empty may be refused."""
+    for key in KEYS:
+        kept = core.lists.get(key, [])
+        if not (kept and lines.is_refused(f"list ({key}, AllocError)")):
+            for digest, found in kept:
+                lines.expect(f"list ({key}, {digest[0]}, {shown(found)})")
+    lines.expect(f"cached and awaited ({core.cached_count()}, {core.awaited_count()})")
+
+
+def expect_waiting(lines, core, digest):
+    lines.expect(f"waiting {sum(at == digest for at, _ in core.waiters)}")
+
+
+def take(lines, core, to, message, digest):
+    """A taking. One that inserts into a list with places may be refused."""
+    key = int(to) if to.isdigit() else core.own
+    listed = any(held == digest for held, _ in core.lists.get(key, []))
+    grows = key in core.primary and not listed and core.size > 0
+    if not (grows and lines.is_refused("take Err(AllocError)")):
+        outcome, served = core.take(key, digest, message)
+        served = elements(f"Waiter({ticket})" for ticket in served)
+        taken = f"Taken {{ outcome: {outcome.capitalize()}, served: {served} }}"
+        lines.expect(f"take Ok({taken})")
+    expect_waiting(lines, core, digest)
+
+
+def subscribe(lines, core, ticket, digest):
+    if not lines.is_refused(f"subscribe (Waiter({ticket}), AllocError)"):
+        found = core.subscribe(ticket, digest)
+        answered = f"subscribe (Waiter({ticket}), {shown(found)})" if found else ""
+        lines.expect(answered or 'subscribe "waits"')
+    expect_waiting(lines, core, digest)
+
+
+def cleanup(lines, core, tickets):
+    """A cleanup of tickets, or without any of the callers that are gone."""
+    gone = tickets or [ticket for _, ticket in core.waiters if ticket >= GONE]
+    lines.expect(f"cleanup {core.cleanup(gone)}")
+
+
+def judge_core(lines, given):
+    core = model.Core(OWN, given.size)
+    for kind, *said in given.calls:
+        if kind == "broadcast":
+            take(lines, core, *said)
+        elif kind == "subscribe":
+            subscribe(lines, core, *said)
+        elif kind == "get":
+            found = core.cached(said[1])
+            lines.expect(f"get {shown(found)}" if found else 'get "none"')
+        elif kind == "peers":
+            core.set_primary(*said)
+        else:
+            cleanup(lines, core, *said)
+        expect_core(lines, core)
+
+
+def judge_overflow(lines, given):
+    waiting = []
+    for event in given.calls:
+        asked = Asked.of(event)
+        refused = f"handle (Err(AllocError), {len(waiting)})"
+        if not asked.closed and lines.is_refused(refused):
+            continue
+        waiting += [] if asked.closed else [asked.text]
+        lines.expect(f"handle (Ok(()), {len(waiting)})")
+    for text in waiting:
+        lines.expect(f"drained {text}")
+    lines.expect("empty true")
+
+
+def judge_inbox(lines, given):
+    inbox = Inbox(given.places)
+    for call in given.calls:
+        if call[0] == "take":
+            lines.expect(f"take {inbox.take()}")
+        elif call[0] == "request_stop":
+            lines.expect("stop true")
+        elif call[0] == "close":
+            lines.expect(f"close {inbox.close()}")
+        else:
+            asked = Asked.of(call)
+            _, may_be_refused = inbox.place(asked)
+            if not (may_be_refused and lines.is_refused("enqueue Err(Memory)")):
+                lines.expect(f"enqueue Ok({inbox.enqueue(asked)})")
+        lines.expect(inbox.counts())
+
+
+def judge_mailbox(lines, given):
+    inbox, futures = Inbox(given.places), []
+    for call in given.calls:
+        if call[0] == "take":
+            lines.expect(f"take {inbox.take()}")
+        elif call[0] == "close":
+            lines.expect(f"close {inbox.close()}")
+        elif call[0] == "clone":
+            lines.expect("clone true")
+        elif call[0] == "cleanup":
+            judge_engine.drop_futures(futures, call[1])
+        else:
+            judge_engine.ask(lines, inbox, futures, Asked.of(call))
+        lines.expect(inbox.counts())
+
+
+JUDGES = {
+    "core": judge_core,
+    "overflow": judge_overflow,
+    "inbox": judge_inbox,
+    "mailbox": judge_mailbox,
+    "engine": judge_engine.judge,
+}
+
+
+class Judge:
+    """Judges the runs over a list of calls, of which so many growths come before the first call."""
+
+    def __init__(self, given, before):
+        self.given, self.before = given, before
+        self.known = {}
+
+    def fault(self, ran, refused):
+        """What is wrong with the run, or `None`."""
+        if refused and refused.first <= self.before and ran.refused:
+            if (ran.stdout, ran.stderr, ran.status) == (b"", MEMORY, 3):
+                return None
+        if ran.status != 0 or ran.stderr:
+            return f"the status is {ran.status}, and standard error {ran.stderr[:80]!r}"
+        if ran.stdout not in self.known:
+            self.known[ran.stdout] = self.judged(ran.stdout)
+        fault, refusals = self.known[ran.stdout]
+        if not fault and refusals > ran.refused:
+            return f"{refusals} refusals are told, and {ran.refused} growths were refused"
+        return fault
+
+    def judged(self, stdout):
+        """What is wrong with the output, or `None`, and how many refusals it tells."""
+        lines = Lines(stdout)
+        try:
+            JUDGES[self.given.part](lines, self.given)
+            lines.end()
+        except Wrong as wrong:
+            return str(wrong), 0
+        return None, lines.refusals
