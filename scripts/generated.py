@@ -253,7 +253,7 @@ CALLS = {
     "inbox": (lambda rng: f"inbox 0 {rng.choice(SIZES)} 0", [], inbox_call, 12),
     "mailbox": (lambda rng: f"mailbox 0 {rng.choice(SIZES)} 0", [], mailbox_call, 9),
     "engine": (lambda rng: f"engine {rng.randrange(3)} {rng.choice(SIZES)} 3", ["peers 1 2"],
-               engine_call, 24),
+               engine_call, 16),
 }
 
 

@@ -153,7 +153,7 @@ class Harness:
         os.ftruncate(self.counts_file, 32)
         self.counts = mmap.mmap(self.counts_file, 32)
         counts = f"/proc/{os.getpid()}/fd/{self.counts_file}"
-        self.variables = {"LD_PRELOAD": str(library), "COUNTS_FILE": counts}
+        self.variables = {"LD_PRELOAD": str(library), "LD_BIND_NOW": "1", "COUNTS_FILE": counts}
         self.process, self.of_process = None, None
         return self
 
