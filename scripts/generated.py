@@ -17,10 +17,8 @@ RECIPIENTS = ("all", "all", "to:2", "to:3,1,3,4")
 # third is of callers that are gone.
 BYTES = ("05", "06")
 CALLERS = (*TICKETS, *TICKETS, "107", "108", "109")
-# Numbers of futures.
-FUTURES = "cleanup 0 1 2 3 4 5 6 7 8"
-# Rows of `replay` whose events are calls of a core, of a mailbox and its inbox, and are what an
-# engine is driven over, one at a poll.
+# Rows of `replay` whose events are calls of a core and of an inbox, and are what an engine is driven
+# over, one at a poll.
 CALLED_ROWS = (
     "duplicate-moves-to-front",
     "size-zero",
@@ -136,22 +134,17 @@ def core_call(rng):
     return with_words(kind, *rng.sample(TICKETS, rng.randrange(2)))
 
 
-def request(rng, tickets=CALLERS):
+def request(rng):
     """A request."""
     kind = rng.choice(("broadcast", "subscribe", "get"))
     if kind == "broadcast":
         return broadcast_call(rng)
-    return with_words(kind, rng.choice(tickets), rng.choice(BYTES))
+    return with_words(kind, rng.choice(CALLERS), rng.choice(BYTES))
 
 
 def inbox_call(rng):
     kinds = ("take", "take", "request_stop", *[""] * 7)
     return rng.choice(kinds) or request(rng)
-
-
-def mailbox_call(rng):
-    kinds = ("take", "take", "clone", FUTURES, *[""] * 6)
-    return rng.choice(kinds) or request(rng, TICKETS)
 
 
 def with_close(rng, lines):
@@ -162,7 +155,7 @@ def with_close(rng, lines):
 def engine_call(rng):
     """A line of an engine. What the sources give stands among the calls, each in its own order."""
     sources = ("peers", "no_set", "no_set", "payload", "payload", "no_payload")
-    kind = rng.choice((*sources, *["call"] * 4, "cleanup", *["drive"] * 3))
+    kind = rng.choice((*sources, *["call"] * 4, "cleanup", "clone", *["drive"] * 3))
     if kind == "peers":
         return "end" if rng.randrange(10) == 0 else with_words(kind, keys(rng))
     if kind == "payload":
@@ -234,7 +227,6 @@ def of_rows(rows):
         size, lines = row.args[1].decode(), row.stdin.decode().splitlines()
         yield f"core {row.name}", Calls([f"core {size} 1 0", *(it for line in lines for it in taken(line))])
         yield f"inbox {row.name}", Calls(["inbox 0 1 0", *requests(lines)])
-        yield f"mailbox {row.name}", Calls(["mailbox 0 1 0", *requests(lines)])
         driven = engine_over(size, lines)
         yield f"engine {row.name}", Calls(driven)
         if row.name == "cleanup-then-served-once":
@@ -251,7 +243,6 @@ CALLS = {
     "core": (lambda rng: f"core {rng.randrange(3)} 1 0", ["peers 1 2"], core_call, 8),
     "overflow": (lambda _: "overflow 0 1 0", [], request, 9),
     "inbox": (lambda rng: f"inbox 0 {rng.choice(SIZES)} 0", [], inbox_call, 12),
-    "mailbox": (lambda rng: f"mailbox 0 {rng.choice(SIZES)} 0", [], mailbox_call, 9),
     "engine": (lambda rng: f"engine {rng.randrange(3)} {rng.choice(SIZES)} 3", ["peers 1 2"],
                engine_call, 16),
 }
@@ -263,7 +254,7 @@ def of_calls():
     for kind, (heading, first, call, count) in CALLS.items():
         for number in range(LISTS):
             lines = [heading(rng), *first, *(call(rng) for _ in range(count))]
-            if kind in ("inbox", "mailbox"):
+            if kind == "inbox":
                 lines = with_close(rng, lines)
             if kind == "engine":
                 lines += ["drive 9", *(f"get 9 {content}" for content in CONTENTS), "drive 3"]

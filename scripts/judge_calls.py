@@ -20,7 +20,7 @@ def expect_core(lines, core):
         kept = core.lists.get(key, [])
         if not (kept and lines.is_refused(f"list ({key}, AllocError)")):
             for digest, found in kept:
-                lines.expect(f"list ({key}, {digest[0]}, {shown(found)})")
+                lines.expect(f"list ({key}, {digest[0]}, Some({shown(found)}))")
     lines.expect(f"cached and awaited ({core.cached_count()}, {core.awaited_count()})")
 
 
@@ -64,7 +64,7 @@ def judge_core(lines, given):
             subscribe(lines, core, *said)
         elif kind == "get":
             found = core.cached(said[1])
-            lines.expect(f"get {shown(found)}" if found else 'get "none"')
+            lines.expect(f"get Some({shown(found)})" if found else "get None")
         elif kind == "peers":
             core.set_primary(*said)
         else:
@@ -103,27 +103,10 @@ def judge_inbox(lines, given):
         lines.expect(inbox.counts())
 
 
-def judge_mailbox(lines, given):
-    inbox, futures = Inbox(given.places), []
-    for call in given.calls:
-        if call[0] == "take":
-            lines.expect(f"take {inbox.take()}")
-        elif call[0] == "close":
-            lines.expect(f"close {inbox.close()}")
-        elif call[0] == "clone":
-            lines.expect("clone true")
-        elif call[0] == "cleanup":
-            judge_engine.drop_futures(futures, call[1])
-        else:
-            judge_engine.ask(lines, inbox, futures, Asked.of(call))
-        lines.expect(inbox.counts())
-
-
 JUDGES = {
     "core": judge_core,
     "overflow": judge_overflow,
     "inbox": judge_inbox,
-    "mailbox": judge_mailbox,
     "engine": judge_engine.judge,
 }
 

@@ -61,33 +61,6 @@ def debugged(error):
     return f"{name}({arguments[0]})" if arguments else name
 
 
-def drop_futures(futures, numbers):
-    """Drops the futures of these numbers."""
-    for number in numbers:
-        if number < len(futures):
-            futures[number].closed = True
-
-
-def ask(lines, inbox, futures, asked):
-    """A request of a mailbox. Returns whether it was made.
-
-    A subscribe and a get allocate their channel, also after a close.
-    """
-    place, may_be_refused = inbox.place(asked)
-    is_asking = asked.kind != "broadcast"
-    refusal = "refused Memory" if is_asking else "broadcast Err(Memory)"
-    if (may_be_refused or is_asking) and lines.is_refused(refusal):
-        return False
-    inbox.enqueue(asked)
-    if is_asking:
-        futures.append(asked)
-        lines.expect(f"futures {len(futures)}")
-    else:
-        feedback = {"ready": "Ok", "overflow": "Backoff", "closed": "Closed"}[place]
-        lines.expect(f"broadcast Ok({feedback})")
-    return True
-
-
 class Engine:
     """An engine with key 1, its mailbox, and what its sources still give."""
 
@@ -101,6 +74,11 @@ class Engine:
         self.receive, self.subscribe, self.get = [0] * 3, [0] * 2, [0] * 3
         # The counts of each peer, and those that a refused payload may have left.
         self.peers, self.left = [0 for _ in KEYS], [0 for _ in KEYS]
+
+    def drop_futures(self, numbers):
+        for number in numbers:
+            if number < len(self.futures):
+                self.futures[number].closed = True
 
     def end(self, cause):
         self.ended = f"Ended({cause})"
@@ -197,6 +175,24 @@ class Engine:
         lines.expect(f"peer ({key}, {self.peers[key]})")
 
 
+def ask(lines, engine, request):
+    """A call of the mailbox. A subscribe and a get allocate their channel, also after a close."""
+    place, may_be_refused = engine.inbox.place(request)
+    is_asking = request.kind != "broadcast"
+    refusal = "refused Memory" if is_asking else "broadcast Err(Memory)"
+    if (may_be_refused or is_asking) and lines.is_refused(refusal):
+        return
+    engine.inbox.enqueue(request)
+    if is_asking:
+        engine.futures.append(request)
+        lines.expect(f"futures {len(engine.futures)}")
+    else:
+        feedback = {"ready": "Ok", "overflow": "Backoff", "closed": "Closed"}[place]
+        lines.expect(f"broadcast Ok({feedback})")
+    if place == "closed":
+        request.give_up()
+
+
 def turns_of(line):
     """The turns that a line of a drive tells."""
     return line.removeprefix("drive Ok([").removesuffix("])").split(", ")
@@ -225,12 +221,12 @@ def judge(lines, given):
         if kind == "drive":
             drive(lines, engine, int(call[1]))
             engine.expect_counters(lines)
+        elif kind == "clone":
+            lines.expect("clone true")
         elif kind == "cleanup":
-            drop_futures(engine.futures, call[1])
+            engine.drop_futures(call[1])
         else:
-            request = Request.of(call)
-            if ask(lines, engine.inbox, engine.futures, request) and engine.inbox.closed:
-                request.give_up()
+            ask(lines, engine, Request.of(call))
     for request in engine.futures:
         lines.expect(request.line())
     lines.expect(f"sent [{', '.join(engine.sent)}]")

@@ -113,7 +113,7 @@ OF_CALLS = {
             "a refused taking serves its waiters",
             "take Ok(Taken { outcome: Inserted, "
             "served: Items { elements: [Waiter(1), Waiter(2)] } })\nwaiting 0\n"
-            "list (2, 231, TestMessage { commitment: [], content: [5] })\n"
+            "list (2, 231, Some(TestMessage { commitment: [], content: [5] }))\n"
             "cached and awaited (1, 1)\n",
             "take Err(AllocError)\nwaiting 0\ncached and awaited (0, 1)\n",
         ),
@@ -121,10 +121,10 @@ OF_CALLS = {
             "a refused taking leaves its digest on a list",
             "take Ok(Taken { outcome: Inserted, "
             "served: Items { elements: [Waiter(1), Waiter(2)] } })\nwaiting 0\n"
-            "list (2, 231, TestMessage { commitment: [], content: [5] })\n"
+            "list (2, 231, Some(TestMessage { commitment: [], content: [5] }))\n"
             "cached and awaited (1, 1)\n",
             "take Err(AllocError)\nwaiting 2\n"
-            "list (2, 231, TestMessage { commitment: [], content: [5] })\n"
+            "list (2, 231, Some(TestMessage { commitment: [], content: [5] }))\n"
             "cached and awaited (1, 2)\n",
         ),
         (
@@ -175,16 +175,12 @@ OF_CALLS = {
         ),
         ("a closed inbox asks for memory", "enqueue Ok(Closed)\n", "enqueue Err(Memory)\n"),
     ],
-    "mailbox": [
+    "engine": [
         (
             "a refused get is queued",
-            "futures 2\n"
-            "counts Counts { accepted: 2, taken: 0, skipped: 0, waiting: 2, given_up: 0 }\n",
-            "refused Memory\n"
-            "counts Counts { accepted: 2, taken: 0, skipped: 0, waiting: 2, given_up: 0 }\n",
+            "futures 2\ndrive Ok([Peers, Subscribe, Get])\n",
+            "refused Memory\ndrive Ok([Peers, Subscribe, Get])\n",
         ),
-    ],
-    "engine": [
         (
             "a refused payload serves its waiter",
             "drive Ok([Payload(Inserted), Peers])\nwaiters 0\ncounted (Success, (1, 1, 0))\n",
@@ -304,7 +300,6 @@ LAST_LINES = {
     "core": "cached and awaited",
     "overflow": "handle",
     "inbox": "counts",
-    "mailbox": "counts",
 }
 REQUESTS = ("broadcast", "subscribe", "get")
 
@@ -318,11 +313,7 @@ def refusal_of(part, call, line):
         return "take Err(AllocError)" if kind == "broadcast" else None
     if part == "overflow":
         return line.replace("Ok(())", "Err(AllocError)")
-    if kind not in REQUESTS:
-        return None
-    if part == "inbox":
-        return "enqueue Err(Memory)"
-    return "broadcast Err(Memory)" if kind == "broadcast" else "refused Memory"
+    return "enqueue Err(Memory)" if kind in REQUESTS else None
 
 
 def blocks_of(part, lines):
@@ -370,14 +361,11 @@ def effects_of(part, calls, lines):
 
     A taking has its effect whole, on its waiters alone or on its list alone.
     """
-    is_closed, before = False, []
+    before = []
     for (first, end), call in zip(blocks_of(part, lines), calls):
-        is_closed = is_closed or call[0] == "close"
         block = lines[first:end]
         refusal = refusal_of(part, call, block[0])
-        # After a close a subscribe and a get have no effect but their channels.
-        has_effect = not is_closed or refusal != "refused Memory"
-        changed = [[refusal, *block[1:]]] if refusal and has_effect else []
+        changed = [[refusal, *block[1:]]] if refusal else []
         if refusal == "take Err(AllocError)" and before:
             changed += half_effects(before, block)
         for it in changed:

@@ -10,12 +10,12 @@
 //! - `overflow`: an overflow. It has no steps: each event is a request that finds no room.
 //! - `inbox`: an inbox whose ready list has PLACES places. `t` takes a request, `s` asks for a
 //!   stop, `x` closes.
-//! - `mailbox`: a mailbox over such an inbox, with `t` and `x`; `k` copies it. A cleanup drops the
-//!   futures of its numbers, from 0 on.
-//! - `engine`: an engine of this SIZE and mailbox, which decodes lengths up to GREATEST. At `s` the
-//!   next event is what a poll of its source gives; at `n` a poll of the peer sets gives none, at
-//!   `m` a poll of the network; at `e` the sets end, at `f` the network fails. A digit drives the
-//!   engine with this limit, and `w` with as many polls as there are steps.
+//! - `engine`: the mailbox of an engine with lists of SIZE digests and a ready list of PLACES,
+//!   which decodes lengths up to GREATEST. A cleanup drops the futures of its numbers, from 0 on;
+//!   `k` copies the mailbox. At `s` the next event is what a poll of its source gives; at `n` a
+//!   poll of the peer sets gives none, at `m` a poll of the network; at `e` the sets end, at `f`
+//!   the network fails. A digit drives the engine with this limit, and `w` with as many polls as
+//!   there are steps.
 //!
 //! In a core, an overflow and an inbox a caller with a ticket from 100 on is gone. What the calls
 //! are given is made before the first of them. If that fails, the program ends with a fault and
@@ -24,7 +24,6 @@ mod callers;
 mod core_calls;
 mod engine_calls;
 mod inbox_calls;
-mod mailbox_calls;
 mod overflow_calls;
 mod printer;
 mod requests;
@@ -82,7 +81,6 @@ where
         Part::Core => core_calls::make_all(alloc, out, settings, events),
         Part::Overflow => overflow_calls::make_all(alloc, out, events),
         Part::Inbox => inbox_calls::make_all(alloc, out, settings, events),
-        Part::Mailbox => mailbox_calls::make_all(rt, out, settings, events),
         Part::Engine => engine_calls::make_all(rt, out, settings, Sequential, events),
     }
 }

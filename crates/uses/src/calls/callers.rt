@@ -31,6 +31,11 @@ impl<R: Wait + Clone + Send + Drop + 'static> Callers<R> {
         }
     }
 
+    /// Copies the mailbox.
+    pub fn copy(&mut self, out: &mut Printer) {
+        out.line("clone", &self.mailbox.clone().is_ok());
+    }
+
     fn call(&mut self, out: &mut Printer, event: Event<u64, TestMessage>) {
         match event {
             Event::Broadcast(recipients, message) => self.broadcast(out, recipients, message),

@@ -104,9 +104,14 @@ fn subscribe(out: &mut Printer, core: &mut TestCore, ticket: u64, digest: [u8; 3
 }
 
 fn get(out: &mut Printer, core: &TestCore, digest: [u8; 32]) {
-    match core.get(&digest) {
-        Some(message) => out.line("get", message.inner()),
-        None => out.line("get", &"none"),
+    out.line("get", &found(core, &digest));
+}
+
+/// Returns the cached message of the digest.
+fn found<'a>(core: &'a TestCore, digest: &[u8; 32]) -> Option<&'a TestMessage> {
+    match core.get(digest) {
+        Some(message) => Some(message.inner()),
+        None => None,
     }
 }
 
@@ -138,8 +143,6 @@ fn show_list(alloc: Global, out: &mut Printer, core: &TestCore, key: u64) {
 /// Prints each message with the first byte of its digest.
 fn show_messages(out: &mut Printer, core: &TestCore, key: u64, digests: &[[u8; 32]]) {
     for digest in digests {
-        if let Some(message) = core.get(digest) {
-            out.line("list", &(key, digest[0], message.inner()));
-        }
+        out.line("list", &(key, digest[0], found(core, digest)));
     }
 }

@@ -170,6 +170,7 @@ where
         for step in steps {
             match *step {
                 b'c' => self.callers.call_next(out, &mut calls),
+                b'k' => self.callers.copy(out),
                 b'w' => self.drive(alloc, out, steps.len()),
                 b'0'..=b'9' => self.drive(alloc, out, usize::from(*step - b'0')),
                 _ => {}

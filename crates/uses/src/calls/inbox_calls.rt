@@ -3,7 +3,7 @@ use super::printer::Printer;
 use super::requests::{Plain, asked, request_of};
 use super::settings::Settings;
 use broadcast_core::{Event, TestMessage};
-use commonware_broadcast::buffered::{Inbox, Message};
+use commonware_broadcast::buffered::Inbox;
 use std::alloc::{AllocError, Global};
 use std::vec::IntoIter;
 
@@ -56,7 +56,7 @@ fn request_stop(out: &mut Printer, inbox: &mut Inbox<Plain>) {
 }
 
 /// Prints a request that was taken, with its ticket.
-pub fn show_taken<S, G>(out: &mut Printer, taken: &Option<(u64, Message<u64, TestMessage, S, G>)>) {
+fn show_taken(out: &mut Printer, taken: &Option<(u64, Plain)>) {
     match taken {
         Some((ticket, request)) => out.line("take", &(*ticket, asked(request))),
         None => out.line("take", &"none"),

@@ -5,13 +5,20 @@ use std::num::NonZeroUsize;
 /// The usage line.
 pub const USAGE: &str = "usage: uses [PART SIZE PLACES GREATEST STEPS]";
 
+const CORE: &[u8] = b"core";
+
+const OVERFLOW: &[u8] = b"overflow";
+
+const INBOX: &[u8] = b"inbox";
+
+const ENGINE: &[u8] = b"engine";
+
 /// What is called.
 #[derive(Clone, Copy)]
 pub enum Part {
     Core,
     Overflow,
     Inbox,
-    Mailbox,
     Engine,
 }
 
@@ -36,7 +43,7 @@ impl<'a> Settings<'a> {
             return None;
         };
         Some(Settings {
-            part: part_of(part)?,
+            part: part_of(part.as_bytes())?,
             deque_size: number(size)?,
             places: NonZeroUsize::new(number(places)?)?,
             greatest: number(greatest)?,
@@ -49,13 +56,18 @@ fn number(word: &str) -> Option<usize> {
     Some(parse_number(word.as_bytes())? as usize)
 }
 
-fn part_of(word: &str) -> Option<Part> {
-    match word {
-        "core" => Some(Part::Core),
-        "overflow" => Some(Part::Overflow),
-        "inbox" => Some(Part::Inbox),
-        "mailbox" => Some(Part::Mailbox),
-        "engine" => Some(Part::Engine),
-        _ => None,
+fn part_of(word: &[u8]) -> Option<Part> {
+    if word == CORE {
+        return Some(Part::Core);
     }
+    if word == OVERFLOW {
+        return Some(Part::Overflow);
+    }
+    if word == INBOX {
+        return Some(Part::Inbox);
+    }
+    if word == ENGINE {
+        return Some(Part::Engine);
+    }
+    None
 }
