@@ -17,8 +17,8 @@ RECIPIENTS = ("all", "all", "to:2", "to:3,1,3,4")
 # third is of callers that are gone.
 BYTES = ("05", "06")
 CALLERS = (*TICKETS, *TICKETS, "107", "108", "109")
-# Rows of `replay` whose events are calls of a core and of an inbox, and are what an engine is driven
-# over, one at a poll.
+# Rows of `replay` whose events are calls of a core and of an inbox, and are what an engine is
+# driven over, one at a poll.
 CALLED_ROWS = (
     "duplicate-moves-to-front",
     "size-zero",
@@ -213,9 +213,10 @@ def taken(line):
 
 
 def requests(lines):
-    """The requests of the lines, of which each third is followed by a taking."""
+    """The requests of the lines. A taking follows each third of them."""
     asked = [line for line in lines if line.split(" ")[0] in ("broadcast", "subscribe", "get")]
-    return [it for at, line in enumerate(asked) for it in ([line, "take"] if at % 3 == 2 else [line])]
+    for at, line in enumerate(asked, 1):
+        yield from [line, "take"] if at % 3 == 0 else [line]
 
 
 def of_rows(rows):
@@ -225,7 +226,8 @@ def of_rows(rows):
         if row.name not in CALLED_ROWS:
             continue
         size, lines = row.args[1].decode(), row.stdin.decode().splitlines()
-        yield f"core {row.name}", Calls([f"core {size} 1 0", *(it for line in lines for it in taken(line))])
+        called = [it for line in lines for it in taken(line)]
+        yield f"core {row.name}", Calls([f"core {size} 1 0", *called])
         yield f"inbox {row.name}", Calls(["inbox 0 1 0", *requests(lines)])
         driven = engine_over(size, lines)
         yield f"engine {row.name}", Calls(driven)
