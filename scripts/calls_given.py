@@ -1,24 +1,21 @@
 """Lists of calls, as the program that makes them is given them.
 
-The first line of a list has PART, SIZE, PLACES and GREATEST of `crates/uses/src/calls.rt`. Each
-further line is an event, as in `docs/REPLAY.md`, or the name of a step.
+The first line of a list has PART, SIZE, PLACES and GREATEST of `crates/uses/src/calls.rt`, and for
+PART `overflow` the requests of a list find no room in an inbox. Each further line is an event, as in
+`docs/REPLAY.md`, or the name of a step.
 """
 
 import replay_model as model
 
-# The letters of the steps but `drive`, whose limit is a digit, and many without one.
+# The letters of the steps but `drive`, whose limit is a digit.
 LETTERS = {
     "take": "t",
     "request_stop": "s",
     "close": "x",
     "clone": "k",
-    "no_set": "n",
-    "no_payload": "m",
     "end": "e",
     "fail": "f",
 }
-# What an engine is given by its sources.
-SOURCES = ("peers", "payload")
 # The keys whose lists and counters are shown.
 KEYS = range(7)
 # The least ticket of a caller that is gone.
@@ -29,10 +26,8 @@ def letter(part, line):
     """The step of a line."""
     kind, *words = line.split(" ")
     if kind == "drive":
-        return words[0] if words else "w"
-    if kind in LETTERS:
-        return LETTERS[kind]
-    return "s" if part == "engine" and kind in SOURCES else "c"
+        return words[0]
+    return LETTERS.get(kind, "h" if part == "overflow" else "c")
 
 
 def is_event(line):
@@ -45,8 +40,11 @@ class Calls:
 
     def __init__(self, lines):
         (self.part, *sizes), lines = lines[0].split(" "), lines[1:]
-        steps = "".join(letter(self.part, line) for line in lines)
-        self.args = [word.encode() for word in (self.part, *sizes, steps)]
+        part, steps = self.part, "".join(letter(self.part, line) for line in lines)
+        if part == "overflow":
+            # It is drained in the end.
+            part, steps = "inbox", f"{steps}d"
+        self.args = [word.encode() for word in (part, *sizes, steps)]
         self.stdin = "".join(f"{line}\n" for line in lines if is_event(line)).encode()
         self.size, self.places, self.greatest = map(int, sizes)
         # An event of the model, or the words of a step.

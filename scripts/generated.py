@@ -3,7 +3,7 @@
 import random
 
 import replay_model as model
-from calls_given import SOURCES, Calls
+from calls_given import Calls
 
 LISTS = 200
 KEYS = ("1", "2", "3")
@@ -36,7 +36,7 @@ CALLED_ROWS = (
 HOSTILE = ["peers 1 2 6", "subscribe 7 61", "payload 6 000000000000000161",
            "payload 6 000000000000000163", *["payload 1 000000000000000161"] * 2]
 # What callers of an engine that ended do.
-AFTERWARDS = ["broadcast all - 61", "subscribe 9 61", "get 9 61", "drive 1"]
+AFTERWARDS = ["drive 1", "broadcast all - 61", "subscribe 9 61", "get 9 61", "drive 1"]
 SIZES = ("1", "1", "2")
 # What each list of steps begins with.
 WORLD = ["peers 1 1 2 9", "peers 2 1 2 9", "broadcast 1 all - 61", "broadcast 2 to:1 01 62"]
@@ -52,7 +52,7 @@ def content(rng):
 
 def encoded(*words):
     """The encoding of a commitment and a content."""
-    return model.Message(*(model.byte_list(word.encode()) for word in words)).encoding()
+    return model.Message(*(model.byte_list(word.encode()) for word in words)).encoding
 
 
 def payload(rng):
@@ -153,8 +153,8 @@ def with_close(rng, lines):
 
 
 def engine_call(rng):
-    """A line of an engine. What the sources give stands among the calls, each in its own order."""
-    sources = ("peers", "no_set", "no_set", "payload", "payload", "no_payload")
+    """A line of an engine."""
+    sources = ("peers", "payload", "payload")
     kind = rng.choice((*sources, *["call"] * 4, "cleanup", "clone", *["drive"] * 3))
     if kind == "peers":
         return "end" if rng.randrange(10) == 0 else with_words(kind, keys(rng))
@@ -174,16 +174,12 @@ def engine_call(rng):
 def at_a_poll(line, asked):
     """The lines of an event that an engine takes at one poll. `asked` has the tickets so far."""
     kind, *words = line.split(" ")
-    if kind == "peers":
-        return [line, "drive 1"]
-    if kind == "payload":
-        return ["no_set", line, "drive 1"]
+    if kind in ("subscribe", "get"):
+        asked.append(words[0])
     if kind == "cleanup":
         gone = [str(at) for at, ticket in enumerate(asked) if ticket in words]
-        return ["no_set", "no_payload", with_words(kind, *gone), "drive 1"]
-    if kind != "broadcast":
-        asked.append(words[0])
-    return ["no_set", line, "drive 1"]
+        line = with_words(kind, *gone)
+    return [line, "drive 1"]
 
 
 def engine_over(size, events):
@@ -194,12 +190,11 @@ def engine_over(size, events):
 
 
 def failing(lines):
-    """The lines with each poll of a source in turn at which the source ends or fails."""
+    """The lines with each drive in turn before which the peer sets end, or the network fails."""
     for at, line in enumerate(lines):
-        kind = line.split(" ")[0]
-        if kind in (*SOURCES, "no_set", "no_payload"):
-            end = "end" if kind in ("peers", "no_set") else "fail"
-            yield f"{end} in line {at + 1}", [*lines[:at], end, *lines[at + 1 :], *AFTERWARDS]
+        if line.startswith("drive"):
+            for end in ("end", "fail"):
+                yield f"{end} before line {at + 1}", [*lines[:at], end, *lines[at:], *AFTERWARDS]
 
 
 def taken(line):

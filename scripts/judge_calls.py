@@ -4,6 +4,8 @@ It makes each call on a model. Wherever a call may allocate, a refusal may stand
 returns, and then the model stays as it was.
 """
 
+import functools
+
 import judge_engine
 import replay_model as model
 from calls_given import GONE, KEYS
@@ -73,17 +75,18 @@ def judge_core(lines, given):
 
 
 def judge_overflow(lines, given):
-    waiting = []
+    waiting, untouched = [], Inbox(given.places).counts()
     for event in given.calls:
         asked = Asked.of(event)
         refused = f"handle (Err(AllocError), {len(waiting)})"
-        if not asked.closed and lines.is_refused(refused):
-            continue
-        waiting += [] if asked.closed else [asked.text]
-        lines.expect(f"handle (Ok(()), {len(waiting)})")
+        if asked.closed or not lines.is_refused(refused):
+            waiting += [] if asked.closed else [asked.text]
+            lines.expect(f"handle (Ok(()), {len(waiting)})")
+        lines.expect(untouched)
     for text in waiting:
         lines.expect(f"drained {text}")
     lines.expect("empty true")
+    lines.expect(untouched)
 
 
 def judge_inbox(lines, given):
@@ -111,12 +114,23 @@ JUDGES = {
 }
 
 
+@functools.cache
+def judged(given, stdout):
+    """What is wrong with the output of a list of calls, or `None`, and how many refusals it tells."""
+    lines = Lines(stdout)
+    try:
+        JUDGES[given.part](lines, given)
+        lines.end()
+    except Wrong as wrong:
+        return str(wrong), 0
+    return None, lines.refusals
+
+
 class Judge:
     """Judges the runs over a list of calls, of which so many growths come before the first call."""
 
     def __init__(self, given, before):
         self.given, self.before = given, before
-        self.known = {}
 
     def fault(self, ran, refused):
         """What is wrong with the run, or `None`."""
@@ -125,19 +139,7 @@ class Judge:
                 return None
         if ran.status != 0 or ran.stderr:
             return f"the status is {ran.status}, and standard error {ran.stderr[:80]!r}"
-        if ran.stdout not in self.known:
-            self.known[ran.stdout] = self.judged(ran.stdout)
-        fault, refusals = self.known[ran.stdout]
+        fault, refusals = judged(self.given, ran.stdout)
         if not fault and refusals > ran.refused:
             return f"{refusals} refusals are told, and {ran.refused} growths were refused"
         return fault
-
-    def judged(self, stdout):
-        """What is wrong with the output, or `None`, and how many refusals it tells."""
-        lines = Lines(stdout)
-        try:
-            JUDGES[self.given.part](lines, self.given)
-            lines.end()
-        except Wrong as wrong:
-            return str(wrong), 0
-        return None, lines.refusals

@@ -11,8 +11,8 @@ from calls_given import KEYS
 from inbox_model import Asked, Inbox
 from judged_lines import elements, shown
 
-UPDATES = ("peers", "no_set", "end")
-RECEIVED = ("payload", "no_payload", "fail")
+UPDATES = ("peers", "end")
+RECEIVED = ("payload", "fail")
 REFUSED = "Refused(Memory)"
 # What the future of a subscribe and of a get gives if its request is dropped.
 GIVEN_UP = {"subscribe": "Err(Canceled)", "get": "None"}
@@ -51,7 +51,7 @@ class Request(Asked):
         keys = self.to.split(",")
         named = f"One({self.to})" if len(keys) == 1 else f"Some({elements(keys)})"
         to = "All" if self.to == "all" else named
-        data = elements(map(str, self.message.encoding()))
+        data = elements(map(str, self.message.encoding))
         return f"Sent {{ recipients: {to}, bytes: {data}, priority: false }}"
 
 
@@ -62,13 +62,13 @@ def debugged(error):
 
 
 class Engine:
-    """An engine with key 1, its mailbox, and what its sources still give."""
+    """An engine with key 1, its mailbox, and what its sources give next: the newest set or the end of
+    the sets, and what arrived, oldest first."""
 
     def __init__(self, given):
         self.core, self.inbox = model.Core(1, given.size), Inbox(given.places)
         self.greatest = given.greatest
-        self.updates = [call for call in given.calls if call[0] in UPDATES]
-        self.received = [call for call in given.calls if call[0] in RECEIVED]
+        self.update, self.received = None, []
         self.futures, self.sent, self.ended = [], [], None
         self.waiters = 0
         self.receive, self.subscribe, self.get = [0] * 3, [0] * 2, [0] * 3
@@ -97,7 +97,7 @@ class Engine:
         closed = [waiter for _, waiter in self.core.waiters if waiter.closed]
         self.subscribe[1] += self.core.cleanup(closed)
         self.waiters = self.core.awaited_count()
-        kind, *said = self.updates.pop(0) if self.updates else ["no_set"]
+        (kind, *said), self.update = self.update or [None], None
         if kind == "end":
             return self.end("PeersClosed")
         if kind == "peers":
@@ -106,7 +106,7 @@ class Engine:
         taken = self.inbox.pop()
         if taken:
             return self.request(taken[1], is_refused)
-        kind, *said = self.received.pop(0) if self.received else ["no_payload"]
+        kind, *said = self.received.pop(0) if self.received else [None]
         if kind == "fail":
             return self.end("NetworkFailed")
         return self.payload(*said, is_refused) if kind == "payload" else None
@@ -216,9 +216,11 @@ def judge(lines, given):
     engine = Engine(given)
     for call in given.calls:
         kind = call[0]
-        if kind in UPDATES or kind in RECEIVED:
-            continue
-        if kind == "drive":
+        if kind in UPDATES:
+            engine.update = call
+        elif kind in RECEIVED:
+            engine.received.append(call)
+        elif kind == "drive":
             drive(lines, engine, int(call[1]))
             engine.expect_counters(lines)
         elif kind == "clone":

@@ -26,16 +26,17 @@ def runs(model, settings, given):
         yield heading, run
 
 
-def outcome(model, args, stdin):
-    """The outcome of a run with ample memory."""
-    try:
-        settings, given = model.parse(args, stdin)
-    except Fault as fault:
-        return Outcome(b"", f"{fault}\n".encode(), 2)
+def printed(model, settings, given):
+    """The outcome of a run of these arguments and lines with ample memory."""
     lines = []
     for heading, run in runs(model, settings, given):
         lines += [*heading, *run.output()]
     return Outcome("".join(f"{line}\n" for line in lines).encode(), b"", 0)
+
+
+def outcome(model, args, stdin):
+    """The outcome of a run with ample memory."""
+    return Judge(model, args, stdin).right
 
 
 class Judge:
@@ -43,12 +44,14 @@ class Judge:
 
     def __init__(self, model, args, stdin):
         self.model = model
-        self.right = outcome(model, args, stdin)
-        self.settings, self.parts = None, []
-        if self.right.status == 0:
+        self.settings, self.parts, self.known = None, [], {}
+        try:
             self.settings, given = model.parse(args, stdin)
+        except Fault as fault:
+            self.right = Outcome(b"", f"{fault}\n".encode(), 2)
+        else:
             self.parts = model.parts(given)
-        self.known = {}
+            self.right = printed(model, self.settings, given)
 
     def fault(self, ran, _):
         """What is wrong with the run, or `None`."""

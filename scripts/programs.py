@@ -80,14 +80,6 @@ def builds_of(program):
     return [TOP / "crates" / program / "out" / f"{program}{suffix}" for suffix in SUFFIXES]
 
 
-def share_of(program, executable):
-    """Which of the runs that the builds share are for this one: all, if it is none of the gate's."""
-    builds = builds_of(program)
-    if executable not in builds:
-        return slice(None)
-    return slice(builds.index(executable), None, len(builds))
-
-
 def is_built(executable):
     if executable.is_file() and os.access(executable, os.X_OK):
         return True

@@ -13,7 +13,7 @@ from concurrent.futures import ProcessPoolExecutor
 from dataclasses import dataclass
 from pathlib import Path
 
-from programs import Tally, is_built
+from programs import Tally, is_built, shown
 
 HERE = Path(__file__).resolve().parent
 # Growths that are refused together, where a run refuses more than one and not all.
@@ -29,6 +29,8 @@ NOTHING = {
     "first": NEVER, "last": NEVER, "seed": 0, "failed_read": 0, "failed_write": 0, "failure": 0,
     "most_bytes": NEVER,
 }
+# The bytes of the counts of a run.
+COUNTS_SIZE = 40
 # The numbers of the open files through which a process is asked for runs, and answers.
 ASKED, ANSWERED = 100, 101
 
@@ -100,13 +102,15 @@ def failures_of(ample):
 
 @dataclass(frozen=True)
 class Ran:
-    """What a run left, and its numbers of growths, of refused growths, of reads and of writes."""
+    """What a run left, and its numbers of growths, of refused growths, of blocks that it did not
+    free, of reads and of writes."""
 
     stdout: bytes
     stderr: bytes
     status: int
     growths: int = 0
     refused: int = 0
+    left: int = 0
     reads: int = 0
     writes: int = 0
 
@@ -126,17 +130,18 @@ class Process:
         os.close(answered)
 
     def run(self, asked):
-        """Runs the program, refused what is asked. Returns how the run ended."""
+        """Runs the program, refused what is asked. Returns its exit status, or `None` if the process
+        ended."""
         os.write(self.asked, struct.pack("7Q", *asked.values()))
         answer = os.read(self.answered, 4)
-        if len(answer) < 4:
-            raise OSError("the process of a program ended, which should run it again and again")
-        return os.waitstatus_to_exitcode(*struct.unpack("i", answer))
+        return struct.unpack("i", answer)[0] if answer else None
 
     def end(self):
+        """Ends the process. Returns its exit status, or the signal that killed it as a negative
+        number."""
         os.close(self.asked)
         os.close(self.answered)
-        os.waitpid(self.child, 0)
+        return os.waitstatus_to_exitcode(os.waitpid(self.child, 0)[1])
 
 
 class Harness:
@@ -150,11 +155,13 @@ class Harness:
         subprocess.run([compiler, *flags, "-o", library, HERE / "refuse.c"], check=True)
         self.input, *self.streams = map(os.memfd_create, ("stdin", "stdout", "stderr"))
         self.counts_file = os.memfd_create("counts")
-        os.ftruncate(self.counts_file, 32)
-        self.counts = mmap.mmap(self.counts_file, 32)
+        os.ftruncate(self.counts_file, COUNTS_SIZE)
+        self.counts = mmap.mmap(self.counts_file, COUNTS_SIZE)
         counts = f"/proc/{os.getpid()}/fd/{self.counts_file}"
-        self.variables = {"LD_PRELOAD": str(library), "LD_BIND_NOW": "1", "COUNTS_FILE": counts}
+        self.variables = {"LD_PRELOAD": str(library), "COUNTS_FILE": counts}
         self.process, self.of_process = None, None
+        # How many runs did not free all of their blocks.
+        self.leaks = 0
         return self
 
     def __exit__(self, *_):
@@ -165,9 +172,9 @@ class Harness:
         self.folder.cleanup()
 
     def end_process(self):
-        if self.process:
-            self.process.end()
+        ended = self.process.end() if self.process else 0
         self.process = None
+        return ended
 
     def give(self, data):
         """Makes these bytes the standard input of the runs that follow."""
@@ -190,28 +197,42 @@ class Harness:
         for stream in self.streams:
             os.ftruncate(stream, 0)
             os.lseek(stream, 0, os.SEEK_SET)
-        self.counts[:] = bytes(32)
         asked = {**NOTHING, **(refusal.asked() if refusal else {})}
         asked["most_bytes"] = most_bytes or NEVER
         status = self.process_of(executable, args, devices or {}).run(asked)
+        if status is None:
+            status = self.end_process()
+            if status >= 0:
+                raise OSError(f"a run ended its process with status {status}")
         stdout, stderr = (os.pread(it, os.fstat(it).st_size, 0) for it in self.streams)
-        return Ran(stdout, stderr, status, *struct.unpack("4Q", self.counts))
+        ran = Ran(stdout, stderr, status, *struct.unpack("5Q", self.counts))
+        self.leaks += ran.left != 0
+        return ran
 
 
-def tally_of(try_build, build):
-    """What one build of a program gives."""
-    program, executable = build
+def tally_of(try_build, program, executables):
+    """What the builds of a program give. Their runs must free all of their blocks."""
     tally = Tally()
-    if is_built(executable):
+    for executable in executables:
+        if not is_built(executable):
+            tally.add(0, 1)
+            continue
         with Harness() as harness:
             try_build(program, executable, harness, tally)
-    else:
-        tally.add(0, 1)
+            if harness.leaks:
+                print(f"{shown(executable)}: {harness.leaks} runs leave blocks that are not freed")
+            tally.add(not harness.leaks, bool(harness.leaks))
     return tally
 
 
 def try_all(try_build, builds, tally):
-    """Tries the builds side by side, each in a process of its own."""
+    """Tries the programs side by side, each in a process of its own.
+
+    The builds of one come after each other, and what the judges found is kept from the first.
+    """
+    programs = {}
+    for program, executable in builds:
+        programs.setdefault(program, []).append(executable)
     with ProcessPoolExecutor(mp_context=multiprocessing.get_context("fork")) as pool:
-        for it in pool.map(functools.partial(tally_of, try_build), builds):
+        for it in pool.map(functools.partial(tally_of, try_build), *zip(*programs.items())):
             tally.add(it.passed, it.failed)

@@ -2,15 +2,17 @@
 //
 // Stands before the C library, as LD_PRELOAD=.../refuse.so PROGRAM, with the variables:
 //
-//   COUNTS_FILE   an existing file of 32 bytes, which gets the numbers of growths, of refused
-//                 growths, of reads and of writes, also of a program that aborts
-//   RUNS          N: a number of an open file. Before `main` the process reads from it what a run is
-//                 refused, forks, lets the child run as the program, and writes to file N + 1 how it
-//                 ended; then the next. So the program is started once for many runs.
+//   COUNTS_FILE   an existing file of 40 bytes, which gets the numbers of growths, of refused
+//                 growths, of blocks that are not freed, of reads and of writes
+//   RUNS          N: a number of an open file. The process reads from it what a run is refused, calls
+//                 `main`, and writes to file N + 1 what it returned; then the next. So the program is
+//                 started once for many runs. It has no variables that outlive a call of `main`, and
+//                 a run that frees its blocks leaves nothing to the next.
 //
 // A growth is a request for a new block, or for more bytes than a block was requested with. A block
 // keeps its size and its distance from the C library's block in the 16 bytes before it.
 #define _GNU_SOURCE
+#include <dlfcn.h>
 #include <errno.h>
 #include <fcntl.h>
 #include <stdint.h>
@@ -18,7 +20,6 @@
 #include <string.h>
 #include <sys/mman.h>
 #include <sys/syscall.h>
-#include <sys/wait.h>
 #include <unistd.h>
 
 // The C library's own functions, under the names that stay once ours stand before them.
@@ -31,7 +32,7 @@ typedef struct {
 } head;
 
 typedef struct {
-    uint64_t growths, refused, reads, writes;
+    uint64_t growths, refused, left, reads, writes;
 } counts;
 
 // What a run is refused: the growths of the heap from the first to the last, counted from 1 on, with
@@ -59,24 +60,32 @@ static void begin(void) {
 // Seconds after which a run is killed.
 enum { LIMIT = 60 };
 
-__attribute__((constructor)) static void serve(void) {
+typedef int (*entry)(int, char **, char **);
+
+static entry program;
+
+// Stands in place of the program's `main`.
+static int serve(int argc, char **argv, char **envp) {
     const char *word = getenv("RUNS");
-    if (!word) return;
-    begin();
-    int file = atoi(word), ended;
+    if (!word) return program(argc, argv, envp);
+    int file = atoi(word);
     while (syscall(SYS_read, file, &refused, sizeof refused) == sizeof refused) {
-        pid_t child = fork();
-        if (!child) {
-            close(file);
-            close(file + 1);
-            lseek(STDIN_FILENO, 0, SEEK_SET);
-            alarm(LIMIT);
-            return;
-        }
-        if (child < 0 || waitpid(child, &ended, 0) != child) _exit(1);
-        if (syscall(SYS_write, file + 1, &ended, sizeof ended) != sizeof ended) _exit(1);
+        begin();
+        *seen = (counts){0};
+        lseek(STDIN_FILENO, 0, SEEK_SET);
+        alarm(LIMIT);
+        int returned = program(argc, argv, envp);
+        if (syscall(SYS_write, file + 1, &returned, sizeof returned) != sizeof returned) break;
     }
     _exit(0);
+}
+
+// What starts a program calls this with its `main`.
+int __libc_start_main(entry main, int argc, char **argv, void (*init)(void), void (*fini)(void),
+                      void (*end)(void), void *stack) {
+    program = main;
+    __typeof__(&__libc_start_main) start = dlsym(RTLD_NEXT, "__libc_start_main");
+    return start(serve, argc, argv, init, fini, end, stack);
 }
 
 // Whether a growth of this number is refused with this seed; none counts as always.
@@ -104,6 +113,7 @@ static void *block(size_t size, size_t align) {
     if (!whole) return 0;
     head *own = (head *)(whole + distance) - 1;
     *own = (head){size, distance};
+    __atomic_add_fetch(&seen->left, 1, __ATOMIC_SEQ_CST);
     return own + 1;
 }
 
@@ -122,7 +132,9 @@ void *calloc(size_t count, size_t size) {
 }
 
 void free(void *given) {
-    if (given) __libc_free((char *)given - ((head *)given)[-1].distance);
+    if (!given) return;
+    __atomic_sub_fetch(&seen->left, 1, __ATOMIC_SEQ_CST);
+    __libc_free((char *)given - ((head *)given)[-1].distance);
 }
 
 void *realloc(void *given, size_t size) {

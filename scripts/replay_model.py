@@ -4,6 +4,7 @@ This is written apart from the program, in another language and with other struc
 counts, and finds what is cached by looking at the lists. The judges of refusals stand on it.
 """
 
+import functools
 import hashlib
 from dataclasses import dataclass, field
 
@@ -24,11 +25,13 @@ class Message:
     commitment: bytes
     content: bytes
 
+    @functools.cached_property
     def encoding(self):
         spelled = (len(part).to_bytes(4, "big") + part for part in (self.commitment, self.content))
         return b"".join(spelled)
 
 
+@functools.cache
 def digest_of(content):
     return hashlib.sha256(content).digest()
 
@@ -104,6 +107,7 @@ def arguments(words):
     return numbers if len(numbers) == 3 else [*numbers, GREATEST]
 
 
+@functools.cache
 def decode(data, greatest):
     """A message, or the text of the first refusal."""
     parts = []
@@ -214,7 +218,7 @@ class Run:
             return "ok"
         if kind == "broadcast":
             to, message, digest = rest
-            self.sent.append(f"sent {to} {spelled(message.encoding())}")
+            self.sent.append(f"sent {to} {spelled(message.encoding)}")
             return self.taken(core.own, digest, message)
         if kind == "payload":
             key, data = rest

@@ -97,7 +97,7 @@ class Run:
     def packets_of(self, sender, to, message):
         named = self.nodes if to == "all" else dict.fromkeys(map(int, to.split(",")))
         addressed = [key for key in named if key in self.nodes and key != sender]
-        return [(sender, key, message.encoding()) for key in addressed]
+        return [(sender, key, message.encoding) for key in addressed]
 
     def output(self):
         lines = list(self.answers)

@@ -7,27 +7,24 @@
 //! - `core`: a core with the key 1, whose lists have at most SIZE digests. It has no steps: each
 //!   event is a call. A broadcast to one key is taken under it, any other under the own key; a
 //!   cleanup without tickets asks the waiters whether they are closed.
-//! - `overflow`: an overflow. It has no steps: each event is a request that finds no room.
-//! - `inbox`: an inbox whose ready list has PLACES places. `t` takes a request, `s` asks for a
-//!   stop, `x` closes.
-//! - `engine`: the mailbox of an engine with lists of SIZE digests and a ready list of PLACES,
-//!   which decodes lengths up to GREATEST. A cleanup drops the futures of its numbers, from 0 on;
-//!   `k` copies the mailbox. At `s` the next event is what a poll of its source gives; at `n` a
-//!   poll of the peer sets gives none, at `m` a poll of the network; at `e` the sets end, at `f`
-//!   the network fails. A digit drives the engine with this limit, and `w` with as many polls as
-//!   there are steps.
+//! - `inbox`: an inbox whose ready list has PLACES places, and an overflow. At `h` the overflow is
+//!   handed the next event, which finds no room in an inbox; `d` drains it. `t` takes a request from
+//!   the inbox, `s` asks it for a stop, `x` closes it.
+//! - `engine`: an engine with lists of SIZE digests, which decodes lengths up to GREATEST, and its
+//!   mailbox, whose ready list has PLACES. Peer sets and payloads are handed to the engine's
+//!   sources; at `e` the sets end, at `f` the network fails. A cleanup drops the futures of its
+//!   numbers, from 0 on; `k` copies the mailbox. A digit drives the engine with this limit, and `w`
+//!   with as many polls as there are steps.
 //!
-//! In a core, an overflow and an inbox a caller with a ticket from 100 on is gone. What the calls
-//! are given is made before the first of them. If that fails, the program ends with a fault and
-//! prints nothing. Printing does not allocate.
+//! In a core and an inbox a caller with a ticket from 100 on is gone. What the calls are given is
+//! made before the first of them. If that fails, the program ends with a fault and prints nothing.
+//! Printing does not allocate.
 mod callers;
 mod core_calls;
 mod engine_calls;
 mod inbox_calls;
-mod overflow_calls;
 mod printer;
 mod requests;
-mod script;
 mod settings;
 
 use broadcast_core::{Event, TestMessage};
@@ -60,7 +57,9 @@ fn read_and_make<H>(rt: &H, words: &[String], reader: Stdin, out: Stdout) -> Res
 where
     H: Wait + RandomSource + Clone + Send + Drop + AllocGlobal + 'static,
 {
-    let settings = Settings::parse(words).ok_or(Fault::Usage(USAGE))?;
+    let Some(settings) = Settings::parse(words) else {
+        return Err(Fault::Usage(USAGE));
+    };
     let mut out = Printer::new(rt.alloc(), out)?;
     let events = read_events(rt.alloc(), reader)?;
     make_calls(rt, &mut out, settings, events)?;
@@ -79,8 +78,8 @@ where
     let alloc = rt.alloc();
     match settings.part {
         Part::Core => core_calls::make_all(alloc, out, settings, events),
-        Part::Overflow => overflow_calls::make_all(alloc, out, events),
         Part::Inbox => inbox_calls::make_all(alloc, out, settings, events),
-        Part::Engine => engine_calls::make_all(rt, out, settings, Sequential, events),
+        Part::Engine => return engine_calls::make_all(rt, out, settings, Sequential, events),
     }
+    Ok(())
 }

@@ -1,69 +1,82 @@
 //! Three engines over a network in memory, which one thread drives.
-use super::memory::{Arrivals, Network, OneSet, Outbox};
+use super::memory::{Network, PeerSets};
+use super::node::Node;
 use anyhow::Error;
-use broadcast_engine::buffered::{Config, Engine, Mailbox, MailboxEngine, Sequential, Status};
-use broadcast_engine::{
-    Broadcaster, Codec, Digested, Digestible, RangeCfg, Recipients, Set, TestMessage,
-};
+use broadcast_engine::buffered::{Config, Mailbox, Sequential, Status, Strategy};
+use broadcast_engine::{Broadcaster, Digested, RangeCfg, Recipients, Set, TestMessage};
 use futures::executor::block_on;
-use futures::task::{Doorbell, Poll, Solo};
 use std::alloc::{AllocError, AllocGlobal, Global};
 use std::num::NonZeroUsize;
 use std::random::RandomSource;
 use std::sync::Wait;
 
-/// An engine, and the task that polls it.
-#[derive(Drop)]
-struct Node<M: Digestible + Codec, R: Wait> {
-    engine: MailboxEngine<u64, M, OneSet, Sequential, R>,
-    task: Solo,
-}
+/// The most polls of an engine before what it sent is delivered.
+const POLLS: usize = 8;
 
 /// Nodes with the keys from 1.
 #[derive(Drop)]
-pub struct Nodes<M: Digestible + Codec, R: Wait> {
-    nodes: Vec<Node<M, R>>,
-    mailboxes: Vec<Mailbox<u64, M, R>>,
+pub struct Nodes<T: Strategy<TestMessage>, R: Wait> {
+    nodes: Vec<Node<T, R>>,
     network: Network,
 }
 
-impl<M, R> Nodes<M, R>
+impl<T, R> Nodes<T, R>
 where
-    M: Digestible + Codec,
-    M::Cfg: Copy + Drop,
+    T: Strategy<TestMessage> + Copy + Drop,
     R: Wait + RandomSource + AllocGlobal + Clone + Drop,
 {
-    /// Creates three nodes, whose lists have one place.
-    pub fn new(rt: &R, codec_config: M::Cfg) -> Result<Self, Error> {
+    /// Creates three nodes, whose lists have one place. The strategy digests the messages.
+    pub fn new(rt: &R, strategy: T) -> Result<Self, AllocError> {
         let alloc = rt.alloc();
         let mut nodes = Nodes {
             nodes: Vec::new(alloc),
-            mailboxes: Vec::new(alloc),
             network: Network::new(alloc, 3)?,
         };
         for key in 1..=3 {
-            nodes.add(rt, key, codec_config)?;
+            nodes.add(rt, key, strategy)?;
         }
         Ok(nodes)
     }
 
     /// Adds the node of the key.
-    fn add(&mut self, rt: &R, key: u64, codec_config: M::Cfg) -> Result<(), Error> {
-        // With room for both, nothing can fail while the engine is at hand.
+    fn add(&mut self, rt: &R, key: u64, strategy: T) -> Result<(), AllocError> {
+        // With room for the node, nothing can fail once there is one.
         self.nodes.reserve(1)?;
-        self.mailboxes.reserve(1)?;
-        let cfg = config(rt.alloc(), key, codec_config)?;
-        let task = Solo::new(rt, Doorbell::spinning())?;
-        let (engine, mailbox) = Engine::new(rt.clone()?, rt.alloc(), cfg)?;
-        self.nodes.push_reserved(Node { engine, task });
-        self.mailboxes.push_reserved(mailbox);
+        let cfg = config(rt.alloc(), key, strategy)?;
+        self.nodes.push_reserved(Node::new(rt, cfg)?);
         Ok(())
     }
+}
 
-    /// Polls each engine in turn, and delivers what they send, until all are pending.
-    pub fn run(&mut self, alloc: Global) -> Result<(), AllocError> {
+/// Creates the configuration of a node. All three nodes are primary.
+fn config<T: Drop>(
+    alloc: Global,
+    key: u64,
+    strategy: T,
+) -> Result<Config<u64, RangeCfg, PeerSets, T>, AllocError> {
+    let peers = Set::from_iter_dedup(Vec::from_slice(alloc, &[1, 2, 3])?)?;
+    let peer_provider = PeerSets::new();
+    peer_provider.hand_over(Some(peers));
+    Ok(Config {
+        public_key: key,
+        mailbox_size: NonZeroUsize::MIN,
+        deque_size: 1,
+        priority: false,
+        codec_config: RangeCfg::any(),
+        peer_provider,
+        strategy,
+    })
+}
+
+impl<T, R> Nodes<T, R>
+where
+    T: Strategy<TestMessage>,
+    R: Wait + Drop,
+{
+    /// Drives each engine in turn, and delivers what they send, until all are pending.
+    fn run(&mut self, alloc: Global) -> Result<(), AllocError> {
         for _ in 0..100 {
-            if !self.poll_all(alloc) {
+            if !self.drive_all(alloc)? {
                 break;
             }
             self.network.deliver()?;
@@ -71,50 +84,32 @@ where
         Ok(())
     }
 
-    /// Polls each engine once. Returns whether one of them took a turn.
-    fn poll_all(&mut self, alloc: Global) -> bool {
-        let mut ready = false;
+    /// Drives each engine. Returns whether one of them took a turn.
+    fn drive_all(&mut self, alloc: Global) -> Result<bool, AllocError> {
+        let mut busy = false;
         for (node, ends) in self.nodes.iter_mut().zip(self.network.ends.iter_mut()) {
-            ready |= node.poll(alloc, ends);
+            busy |= !node.drive(alloc, ends, POLLS)?.is_empty();
         }
-        ready
+        Ok(busy)
     }
-}
 
-/// Creates the configuration of a node. All three nodes are primary.
-fn config<C: Drop>(
-    alloc: Global,
-    key: u64,
-    codec_config: C,
-) -> Result<Config<u64, C, OneSet, Sequential>, AllocError> {
-    let peers = Set::from_iter_dedup(Vec::from_slice(alloc, &[1, 2, 3])?)?;
-    Ok(Config {
-        public_key: key,
-        mailbox_size: NonZeroUsize::MIN,
-        deque_size: 1,
-        priority: false,
-        codec_config,
-        peer_provider: OneSet::new(peers),
-        strategy: Sequential,
-    })
-}
+    /// Returns the node.
+    fn node(&self, key: usize) -> Result<&Node<T, R>, Error> {
+        self.nodes
+            .get(key.wrapping_sub(1))
+            .ok_or(Error::msg("no such node"))
+    }
 
-impl<M: Digestible + Codec, R: Wait + Drop> Node<M, R> {
-    /// Polls the engine once. Returns whether it took a turn.
-    fn poll(&mut self, alloc: Global, ends: &mut (Outbox, Arrivals)) -> bool {
-        let mut cx = self.task.begin();
-        match self.engine.poll(alloc, &mut cx, ends) {
-            Poll::Ready(_turn) => {
-                // A task that is ready is over, so it asks for another poll instead.
-                let _: Poll<()> = cx.yield_now();
-                cx.park();
-                true
-            }
-            Poll::Pending => {
-                cx.park();
-                false
-            }
-        }
+    /// Returns the counters of the node.
+    pub fn counted(&self, key: usize) -> Result<Counted, Error> {
+        let metrics = self.node(key)?.metrics();
+        Ok(Counted {
+            peer_1: metrics.peer(&1),
+            received: metrics.receive(Status::Success),
+            subscribes_served: metrics.subscribe(Status::Success),
+            gets_served: metrics.get(Status::Success),
+            gets_failed: metrics.get(Status::Failure),
+        })
     }
 }
 
@@ -139,10 +134,9 @@ pub struct Counted {
     pub gets_failed: u64,
 }
 
-impl<M, R> Nodes<M, R>
+impl<T, R> Nodes<T, R>
 where
-    M: Digestible + Codec + Send + Sync + 'static,
-    M::Cfg: Copy + Drop,
+    T: Strategy<TestMessage>,
     R: Wait + RandomSource + AllocGlobal + Clone + Send + Drop + 'static,
 {
     /// Lets node 1 broadcast both messages, each to all. The lists of the other nodes have one
@@ -150,8 +144,8 @@ where
     pub fn broadcast_both(
         &mut self,
         rt: &R,
-        first: Digested<M>,
-        second: Digested<M>,
+        first: Digested<TestMessage>,
+        second: Digested<TestMessage>,
     ) -> Result<Heard, Error> {
         let (earlier, later) = (first.digest(), second.digest());
         let subscribe = self.hears(rt, first)?;
@@ -165,76 +159,59 @@ where
 
     /// Lets node 3 subscribe to the message before node 1 broadcasts it. Returns whether the
     /// subscribe is served.
-    fn hears(&mut self, rt: &R, message: Digested<M>) -> Result<bool, Error> {
+    fn hears(&mut self, rt: &R, message: Digested<TestMessage>) -> Result<bool, Error> {
         let subscription = self.mailbox(3)?.subscribe(message.digest())?;
         self.broadcast(rt, message)?;
         Ok(block_on(rt, subscription)?.is_ok())
     }
 
-    /// Returns the mailbox of the node.
-    fn mailbox(&self, key: usize) -> Result<&Mailbox<u64, M, R>, Error> {
-        self.mailboxes
-            .get(key.wrapping_sub(1))
-            .ok_or(Error::msg("no such node"))
-    }
-
     /// Lets node 1 broadcast the message, and all nodes run.
-    fn broadcast(&mut self, rt: &R, message: Digested<M>) -> Result<(), Error> {
+    fn broadcast(&mut self, rt: &R, message: Digested<TestMessage>) -> Result<(), Error> {
         let _feedback = self.mailbox(1)?.broadcast(Recipients::All, message)?;
         self.run(rt.alloc())?;
         Ok(())
     }
 
     /// Returns whether node 2 has the message of the digest.
-    fn finds(&mut self, rt: &R, digest: M::Digest) -> Result<bool, Error> {
+    fn finds(&mut self, rt: &R, digest: [u8; 32]) -> Result<bool, Error> {
         let get = self.mailbox(2)?.get(digest)?;
         self.run(rt.alloc())?;
         Ok(block_on(rt, get)?.is_some())
     }
 
-    /// Returns the counters of the node.
-    pub fn counted(&self, key: usize) -> Option<Counted> {
-        let metrics = self.nodes.get(key.wrapping_sub(1))?.engine.metrics();
-        Some(Counted {
-            peer_1: metrics.peer(&1),
-            received: metrics.receive(Status::Success),
-            subscribes_served: metrics.subscribe(Status::Success),
-            gets_served: metrics.get(Status::Success),
-            gets_failed: metrics.get(Status::Failure),
-        })
+    /// Returns the mailbox of the node.
+    fn mailbox(&self, key: usize) -> Result<&Mailbox<u64, TestMessage, R>, Error> {
+        Ok(&self.node(key)?.mailbox)
     }
 }
 
 /// Runs three nodes. Returns what callers received, and what nodes 2 and 3 counted.
-pub fn three_nodes<M, R>(
+pub fn three_nodes<R>(rt: &R) -> Result<(Heard, Counted, Counted), Error>
+where
+    R: Wait + RandomSource + AllocGlobal + Clone + Send + Drop + 'static,
+{
+    let first = message(rt.alloc(), b"first")?;
+    let second = message(rt.alloc(), b"second")?;
+    run_three(rt, Sequential, first, second)
+}
+
+fn run_three<T, R>(
     rt: &R,
-    codec_config: M::Cfg,
-    first: Digested<M>,
-    second: Digested<M>,
-) -> Result<(Heard, Option<Counted>, Option<Counted>), Error>
+    strategy: T,
+    first: Digested<TestMessage>,
+    second: Digested<TestMessage>,
+) -> Result<(Heard, Counted, Counted), Error>
 where
-    M: Digestible + Codec + Send + Sync + 'static,
-    M::Cfg: Copy + Drop,
+    T: Strategy<TestMessage> + Copy + Drop,
     R: Wait + RandomSource + AllocGlobal + Clone + Send + Drop + 'static,
 {
-    let mut nodes = Nodes::new(rt, codec_config)?;
+    let mut nodes = Nodes::new(rt, strategy)?;
     let heard = nodes.broadcast_both(rt, first, second)?;
-    Ok((heard, nodes.counted(2), nodes.counted(3)))
+    Ok((heard, nodes.counted(2)?, nodes.counted(3)?))
 }
 
-/// Runs three nodes whose messages are test messages.
-pub fn three_test_nodes<R>(rt: &R) -> Result<(Heard, Option<Counted>, Option<Counted>), Error>
-where
-    R: Wait + RandomSource + AllocGlobal + Clone + Send + Drop + 'static,
-{
-    let alloc = rt.alloc();
-    let first = test_message(alloc, b"first")?;
-    let second = test_message(alloc, b"second")?;
-    three_nodes(rt, RangeCfg::any(), first, second)
-}
-
-/// Creates a test message with its own digest.
-fn test_message(alloc: Global, content: &[u8]) -> Result<Digested<TestMessage>, AllocError> {
+/// Creates a message with its own digest.
+fn message(alloc: Global, content: &[u8]) -> Result<Digested<TestMessage>, AllocError> {
     let content = Vec::from_slice(alloc, content)?;
     Digested::compute(alloc, TestMessage::shared(alloc, content)?)
 }

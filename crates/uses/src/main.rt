@@ -9,13 +9,13 @@ mod calls;
 mod engines;
 mod mailbox;
 mod memory;
+mod node;
 mod note;
+mod shown;
 
 use anyhow::Error;
-use broadcast_core::{Digested, TestMessage};
 use broadcast_text::arguments::read_arguments;
 use calls::USAGE;
-use std::alloc::{AllocError, Global};
 use std::process::ExitCode;
 
 fn main(rt: HostRuntime) -> Result<ExitCode, Error> {
@@ -23,27 +23,10 @@ fn main(rt: HostRuntime) -> Result<ExitCode, Error> {
         Ok(words) => words,
         Err(fault) => return Ok(ExitCode::from(fault.report(rt.stderr()))),
     };
-    if !words.is_empty() {
-        let status = calls::play(&rt, &words, rt.stdin(), rt.stdout(), rt.stderr());
-        return Ok(ExitCode::from(status));
+    if words.is_empty() {
+        shown::show(&rt, &mut rt.stdout())?;
+        return Ok(ExitCode::SUCCESS);
     }
-    let alloc = rt.alloc();
-    let taken = cache::take_one(alloc, hello(alloc)?)?;
-    let read = note::write_and_read(alloc, hello(alloc)?)?;
-    println!(rt; "cache: {taken:?}\nnote: {read:?}")?;
-    let asked = mailbox::ask(&rt, &message(alloc)?)?;
-    println!(rt; "mailbox: {asked:?}")?;
-    let (heard, second, third) = engines::three_test_nodes(&rt)?;
-    println!(rt; "engines: {heard:?}\nnode 2: {second:?}\nnode 3: {third:?}")?;
-    Ok(ExitCode::SUCCESS)
-}
-
-/// Returns the bytes of a content.
-fn hello(alloc: Global) -> Result<Vec<u8>, AllocError> {
-    Vec::from_slice(alloc, b"hello")
-}
-
-/// Creates a message.
-fn message(alloc: Global) -> Result<Digested<TestMessage>, AllocError> {
-    Digested::compute(alloc, TestMessage::shared(alloc, hello(alloc)?)?)
+    let status = calls::play(&rt, &words, rt.stdin(), rt.stdout(), rt.stderr());
+    Ok(ExitCode::from(status))
 }

@@ -5,35 +5,42 @@ use broadcast_engine::buffered::{NetworkFailed, Provider, Receiver, Sender};
 use broadcast_engine::{Items, Recipients, Sent, Set};
 use futures::task::{Context, Poll, Source, Waker};
 use std::alloc::{AllocError, Global};
+use std::cell::Cell;
 use std::collections::VecDeque;
 
-/// Gives one set of primary peers.
+/// Gives the newest set of primary peers.
 #[derive(Drop)]
-pub struct OneSet {
-    peers: Option<Set<u64>>,
-    // No later set comes, so nobody wakes who waits for one.
-    never: Source,
+pub struct PeerSets {
+    // What the next poll gives, if anything: a set, or `None` at the end of the sets.
+    next: Cell<Option<Option<Set<u64>>>>,
+    // Who hands over a set polls the engine then, so nobody has to be woken.
+    handed: Source,
     waker: Option<Waker>,
 }
 
-impl OneSet {
-    /// Creates a provider of the set.
-    pub fn new(peers: Set<u64>) -> Self {
-        OneSet {
-            peers: Some(peers),
-            never: Source::new(),
+impl PeerSets {
+    /// Creates a provider that has no set yet.
+    pub fn new() -> Self {
+        PeerSets {
+            next: Cell::new(None),
+            handed: Source::new(),
             waker: None,
         }
     }
+
+    /// Hands over a set, or the end of the sets. An older one that no poll gave is dropped.
+    pub fn hand_over(&self, next: Option<Set<u64>>) {
+        self.next.set(Some(next));
+    }
 }
 
-impl Provider<u64> for OneSet {
+impl Provider<u64> for PeerSets {
     ghost told = { λ _ _. ⊤ };
 
     fn poll_update(&mut self, cx: &mut Context<'_>) -> Poll<Option<Set<u64>>> {
-        match self.peers.take() {
-            Some(peers) => Poll::Ready(Some(peers)),
-            None => cx.register(&self.never, &mut self.waker),
+        match self.next.replace(None) {
+            Some(next) => Poll::Ready(next),
+            None => cx.register(&self.handed, &mut self.waker),
         }
     }
 }
@@ -43,15 +50,6 @@ impl Provider<u64> for OneSet {
 pub struct Outbox {
     /// What was sent and not delivered yet, oldest first.
     pub sent: VecDeque<Sent<u64>>,
-}
-
-impl Outbox {
-    /// Creates an empty outbox.
-    pub fn new(alloc: Global) -> Self {
-        Outbox {
-            sent: VecDeque::new(alloc),
-        }
-    }
 }
 
 impl Sender<u64> for Outbox {
@@ -69,27 +67,27 @@ impl Sender<u64> for Outbox {
     }
 }
 
-/// Gives the payloads that arrived.
+/// What a network gives: a payload with its sender, or that it failed.
+pub type Received = Result<(u64, Items<u8>), NetworkFailed>;
+
+/// Gives what arrived.
 #[derive(Drop)]
 pub struct Arrivals {
-    payloads: VecDeque<(u64, Items<u8>)>,
+    received: VecDeque<Received>,
     arrived: Source,
     waker: Option<Waker>,
 }
 
 impl Arrivals {
-    /// Creates a receiver without payloads.
-    pub fn new(alloc: Global) -> Self {
-        Arrivals {
-            payloads: VecDeque::new(alloc),
-            arrived: Source::new(),
-            waker: None,
-        }
+    /// Reserves `places` places for what arrives.
+    pub fn reserve(&mut self, places: usize) -> Result<(), AllocError> {
+        self.received.reserve(places)?;
+        Ok(())
     }
 
-    /// Hands over a payload of `peer`, and wakes the engine.
-    pub fn push(&mut self, peer: u64, payload: Items<u8>) -> Result<(), AllocError> {
-        self.payloads.push_back((peer, payload))?;
+    /// Hands over what arrived, and wakes the engine.
+    pub fn push(&mut self, received: Received) -> Result<(), AllocError> {
+        self.received.push_back(received)?;
         self.waker = None;
         Ok(())
     }
@@ -98,29 +96,43 @@ impl Arrivals {
 impl Receiver<u64> for Arrivals {
     ghost told = { λ _ _. ⊤ };
 
-    fn poll_recv(&mut self, cx: &mut Context<'_>) -> Poll<Result<(u64, Items<u8>), NetworkFailed>> {
-        match self.payloads.pop_front() {
-            Some(payload) => Poll::Ready(Ok(payload)),
+    fn poll_recv(&mut self, cx: &mut Context<'_>) -> Poll<Received> {
+        match self.received.pop_front() {
+            Some(received) => Poll::Ready(received),
             None => cx.register(&self.arrived, &mut self.waker),
         }
     }
+}
+
+/// The ends of a node's network.
+pub type Ends = (Outbox, Arrivals);
+
+/// Creates the ends of a node.
+pub fn ends(alloc: Global) -> Ends {
+    let arrivals = Arrivals {
+        received: VecDeque::new(alloc),
+        arrived: Source::new(),
+        waker: None,
+    };
+    let sent = VecDeque::new(alloc);
+    (Outbox { sent }, arrivals)
 }
 
 /// The ends of the nodes with the keys from 1.
 #[derive(Drop)]
 pub struct Network {
     /// The ends, in the order of the keys.
-    pub ends: Vec<(Outbox, Arrivals)>,
+    pub ends: Vec<Ends>,
 }
 
 impl Network {
     /// Creates the ends of `number` nodes.
     pub fn new(alloc: Global, number: u64) -> Result<Self, AllocError> {
-        let mut ends = Vec::new(alloc);
+        let mut all = Vec::new(alloc);
         for _ in 0..number {
-            ends.push((Outbox::new(alloc), Arrivals::new(alloc)))?;
+            all.push(ends(alloc))?;
         }
-        Ok(Network { ends })
+        Ok(Network { ends: all })
     }
 
     /// Delivers the oldest message of each node to all other nodes.
@@ -142,7 +154,7 @@ impl Network {
     fn hand_over(&mut self, from: usize, bytes: &Items<u8>) -> Result<(), AllocError> {
         for (place, (_, arrivals)) in self.ends.iter_mut().enumerate() {
             if place != from {
-                arrivals.push(from.saturating_add(1) as u64, bytes.clone()?)?;
+                arrivals.push(Ok((from.saturating_add(1) as u64, bytes.clone()?)))?;
             }
         }
         Ok(())

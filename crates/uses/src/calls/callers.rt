@@ -1,12 +1,11 @@
 //! The callers of a mailbox.
 use super::printer::Printer;
 use broadcast_core::{Digested, Event, Items, Recipients, TestMessage};
+use commonware_broadcast::Broadcaster;
 use commonware_broadcast::buffered::{Get, Mailbox, Subscription};
-use commonware_broadcast::{Broadcaster, MailboxError};
 use futures::Future;
 use futures::task::{Poll, Solo};
 use std::sync::Wait;
-use std::vec::IntoIter;
 
 /// The future of a caller, until it is dropped.
 #[derive(Drop)]
@@ -16,65 +15,54 @@ pub enum Asked {
     Dropped,
 }
 
-/// The callers of a mailbox, and what they wait for, with places for all of it.
+/// What the callers of a mailbox wait for.
 #[derive(Drop)]
-pub struct Callers<R> {
-    pub mailbox: Mailbox<u64, TestMessage, R>,
+pub struct Callers {
+    /// The futures, oldest first.
     pub asked: Vec<Asked>,
 }
 
-impl<R: Wait + Clone + Send + Drop + 'static> Callers<R> {
-    /// Makes the call that the next event is.
-    pub fn call_next(&mut self, out: &mut Printer, events: &mut IntoIter<Event<u64, TestMessage>>) {
-        if let Some(event) = events.next() {
-            self.call(out, event);
-        }
-    }
-
-    /// Copies the mailbox.
-    pub fn copy(&mut self, out: &mut Printer) {
-        out.line("clone", &self.mailbox.clone().is_ok());
-    }
-
-    fn call(&mut self, out: &mut Printer, event: Event<u64, TestMessage>) {
+impl Callers {
+    /// Makes the call that the event is.
+    pub fn call<R: Wait + Clone + Send + Drop + 'static>(
+        &mut self,
+        out: &mut Printer,
+        mailbox: &Mailbox<u64, TestMessage, R>,
+        event: Event<u64, TestMessage>,
+    ) {
         match event {
-            Event::Broadcast(recipients, message) => self.broadcast(out, recipients, message),
-            Event::Subscribe(_, digest) => self.subscribe(out, digest),
-            Event::Get(_, digest) => self.get(out, digest),
+            Event::Broadcast(to, message) => broadcast(out, mailbox, to, message),
+            Event::Subscribe(_, digest) => self.subscribe(out, mailbox, digest),
+            Event::Get(_, digest) => self.get(out, mailbox, digest),
             Event::Cleanup(numbers) => self.drop_futures(&numbers),
             _ => {}
         }
     }
 
-    fn broadcast(
+    fn subscribe<R: Wait + Clone + Send + Drop + 'static>(
         &mut self,
         out: &mut Printer,
-        recipients: Recipients<u64>,
-        message: Digested<TestMessage>,
+        mailbox: &Mailbox<u64, TestMessage, R>,
+        digest: [u8; 32],
     ) {
-        out.line("broadcast", &self.mailbox.broadcast(recipients, message));
-    }
-
-    fn subscribe(&mut self, out: &mut Printer, digest: [u8; 32]) {
-        match self.mailbox.subscribe(digest) {
+        match mailbox.subscribe(digest) {
             Ok(subscription) => self.keep(out, Asked::Subscription(subscription)),
-            Err(error) => refused(out, error),
+            Err(error) => out.line("refused", &error),
         }
     }
 
-    fn get(&mut self, out: &mut Printer, digest: [u8; 32]) {
-        match self.mailbox.get(digest) {
+    fn get<R: Wait + Clone + Send + Drop + 'static>(
+        &mut self,
+        out: &mut Printer,
+        mailbox: &Mailbox<u64, TestMessage, R>,
+        digest: [u8; 32],
+    ) {
+        match mailbox.get(digest) {
             Ok(get) => self.keep(out, Asked::Get(get)),
-            Err(error) => refused(out, error),
+            Err(error) => out.line("refused", &error),
         }
     }
-}
 
-fn refused(out: &mut Printer, error: MailboxError) {
-    out.line("refused", &error);
-}
-
-impl<R> Callers<R> {
     /// Keeps a future, and prints how many there are. There is a place for it.
     fn keep(&mut self, out: &mut Printer, asked: Asked) {
         let _pushed = self.asked.push(asked);
@@ -96,6 +84,15 @@ impl<R> Callers<R> {
             show_asked(out, task, asked);
         }
     }
+}
+
+fn broadcast<R: Wait + Clone + Send + Drop + 'static>(
+    out: &mut Printer,
+    mailbox: &Mailbox<u64, TestMessage, R>,
+    recipients: Recipients<u64>,
+    message: Digested<TestMessage>,
+) {
+    out.line("broadcast", &mailbox.broadcast(recipients, message));
 }
 
 /// Polls a future, and prints what it gives.

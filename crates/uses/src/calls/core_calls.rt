@@ -40,10 +40,9 @@ pub fn make_all(
     out: &mut Printer,
     settings: Settings<'_>,
     events: Vec<Event<u64, TestMessage>>,
-) -> Result<(), AllocError> {
+) {
     let mut core = Core::new(alloc, 1, settings.deque_size);
     make_calls(alloc, out, &mut core, events);
-    Ok(())
 }
 
 fn make_calls(

@@ -1,58 +1,23 @@
-//! An engine that is driven over scripts, and its callers.
+//! An engine that is driven, and its callers.
 use super::KEYS;
-use super::callers::{Asked, Callers};
+use super::callers::Callers;
 use super::printer::Printer;
-use super::script::{Lists, Received, Update};
 use super::settings::Settings;
-use broadcast_core::{Codec, Digestible, Event, Items, RangeCfg, Set, TestMessage};
-use broadcast_engine::buffered::{
-    Config, Engine, Mailbox, MailboxEngine, Metrics, NetworkFailed, Status, Strategy, Turn, drive,
-};
-use broadcast_engine::mocks::{RecordingSender, Script};
-use futures::task::{Doorbell, Poll, Solo};
+use crate::memory::{Ends, PeerSets, Received, ends};
+use crate::node::Node;
+use broadcast_core::{Event, RangeCfg, TestMessage};
+use broadcast_engine::buffered::{Config, Metrics, NetworkFailed, Status, Strategy};
 use std::alloc::{AllocError, AllocGlobal, Global};
-use std::marker::Model;
 use std::random::RandomSource;
 use std::sync::Wait;
+use std::vec::IntoIter;
 
-/// The peer sets of an engine.
-type Sets = Script<Option<Set<u64>>>;
-
-/// The sends of an engine, and the payloads that it is given.
-type Network = (
-    RecordingSender<u64>,
-    Script<Result<(u64, Items<u8>), NetworkFailed>>,
-);
-
-/// An engine over scripts. Its node has key 1.
-type Scripted<M, T, R> = MailboxEngine<u64, M, Sets, T, R>;
-
-/// An engine over scripts. Nothing is known of its state, and it is kept in a box: so the proofs of
-/// what has it are small.
+/// A node with its network, and what its callers wait for.
 #[derive(Drop)]
-struct Driven<M: Digestible + Codec, T: Strategy<M>, R: Wait>(Box<Scripted<M, T, R>>);
-
-impl<M: Digestible + Codec, T: Strategy<M>, R: Wait> Model for Driven<M, T, R> {
-    ghost Value = { Unit {0} };
-
-    ghost view = { λ _. tt };
-}
-
-/// What an engine is driven by, its network, and the futures of its callers.
-#[derive(Drop)]
-struct Ends {
-    task: Solo,
-    network: Network,
-    asked: Vec<Asked>,
-}
-
-/// An engine with its callers, and what it is driven by and over.
-#[derive(Drop)]
-struct Node<T: Strategy<TestMessage>, R: Wait> {
-    engine: Driven<TestMessage, T, R>,
-    callers: Callers<R>,
-    task: Solo,
-    network: Network,
+struct Driven<T: Strategy<TestMessage>, R: Wait> {
+    node: Node<T, R>,
+    network: Ends,
+    callers: Callers,
 }
 
 /// Makes the calls, and prints in the end what the callers got and what was sent. The strategy
@@ -68,137 +33,97 @@ where
     T: Strategy<TestMessage> + Drop,
     R: Wait + RandomSource + AllocGlobal + Clone + Send + Drop + 'static,
 {
-    let Lists {
-        updates,
-        received,
-        calls,
-    } = Lists::of(rt.alloc(), settings.steps, events)?;
-    let ends = ends_of(rt, received, settings.steps.len())?;
-    let mut node = node_of(rt, config(settings, strategy, updates), ends)?;
-    node.make_calls(rt.alloc(), out, settings.steps, calls);
-    drop::<_>(node);
+    let mut driven = Driven {
+        node: Node::new(rt, config(settings, strategy))?,
+        network: ends(rt.alloc()),
+        callers: Callers {
+            asked: Vec::new(rt.alloc()),
+        },
+    };
+    driven.reserve(settings.steps.len())?;
+    driven.make_calls(rt.alloc(), out, settings.steps, &mut events.into_iter());
+    drop::<_>(driven);
     Ok(())
 }
 
-/// Returns ends over what the network gives, with places for this number of sends and futures.
-fn ends_of<R: RandomSource + AllocGlobal>(
-    rt: &R,
-    received: Vec<Received>,
-    places: usize,
-) -> Result<Ends, AllocError> {
-    let asked = Vec::with_capacity(rt.alloc(), places)?;
-    let mut sender = RecordingSender::new(rt.alloc());
-    sender.sent.reserve(places)?;
-    let Ok(task) = Solo::new(rt, Doorbell::spinning()) else {
-        return Err(AllocError);
-    };
-    Ok(Ends {
-        task,
-        network: (sender, Script::new(received)),
-        asked,
-    })
-}
-
-/// Returns the configuration of an engine whose peer sets are the updates.
-fn config<T>(
-    settings: Settings<'_>,
-    strategy: T,
-    updates: Vec<Update>,
-) -> Config<u64, RangeCfg, Sets, T> {
+/// Returns the configuration of a node with key 1.
+fn config<T>(settings: Settings<'_>, strategy: T) -> Config<u64, RangeCfg, PeerSets, T> {
     Config {
         public_key: 1,
         mailbox_size: settings.places,
         deque_size: settings.deque_size,
         priority: false,
         codec_config: RangeCfg::new(0, settings.greatest),
-        peer_provider: Script::new(updates),
+        peer_provider: PeerSets::new(),
         strategy,
     }
 }
 
-fn node_of<T, R>(
-    rt: &R,
-    cfg: Config<u64, RangeCfg, Sets, T>,
-    ends: Ends,
-) -> Result<Node<T, R>, AllocError>
-where
-    T: Strategy<TestMessage> + Drop,
-    R: Wait + AllocGlobal + Clone + Drop,
-{
-    let (engine, mailbox) = start(rt, cfg)?;
-    let Ends {
-        task,
-        network,
-        asked,
-    } = ends;
-    Ok(Node {
-        engine,
-        callers: Callers { mailbox, asked },
-        task,
-        network,
-    })
-}
-
-fn start<M, T, R>(
-    rt: &R,
-    cfg: Config<u64, M::Cfg, Sets, T>,
-) -> Result<(Driven<M, T, R>, Mailbox<u64, M, R>), AllocError>
-where
-    M: Digestible + Codec,
-    M::Cfg: Drop,
-    T: Strategy<M> + Drop,
-    R: Wait + AllocGlobal + Clone + Drop,
-{
-    let (engine, mailbox) = Engine::new(rt.clone()?, rt.alloc(), cfg)?;
-    Ok((Driven(Box::new(rt.alloc(), engine)?), mailbox))
-}
-
-impl<T, R> Node<T, R>
+impl<T, R> Driven<T, R>
 where
     T: Strategy<TestMessage>,
     R: Wait + Clone + Send + Drop + 'static,
 {
-    /// Makes the calls, and prints in the end what the callers got and what was sent.
+    /// Reserves `places` places for what is sent, for what arrives, and for futures.
+    fn reserve(&mut self, places: usize) -> Result<(), AllocError> {
+        self.network.0.sent.reserve(places)?;
+        self.network.1.reserve(places)?;
+        self.callers.asked.reserve(places)?;
+        Ok(())
+    }
+
     fn make_calls(
         &mut self,
         alloc: Global,
         out: &mut Printer,
         steps: &[u8],
-        calls: Vec<Event<u64, TestMessage>>,
+        events: &mut IntoIter<Event<u64, TestMessage>>,
     ) {
-        let mut calls = calls.into_iter();
         for step in steps {
             match *step {
-                b'c' => self.callers.call_next(out, &mut calls),
-                b'k' => self.callers.copy(out),
+                b'c' => self.call_next(out, events),
                 b'w' => self.drive(alloc, out, steps.len()),
-                b'0'..=b'9' => self.drive(alloc, out, usize::from(*step - b'0')),
-                _ => {}
+                step => self.make(alloc, out, step),
             }
         }
-        self.callers.show(out, &self.task);
+        self.callers.show(out, &self.node.task);
         out.line("sent", &self.network.0.sent);
+    }
+
+    /// Makes the call of a step that needs no event.
+    fn make(&mut self, alloc: Global, out: &mut Printer, step: u8) {
+        match step {
+            b'k' => out.line("clone", &self.node.mailbox.clone().is_ok()),
+            b'e' => self.node.peer_sets().hand_over(None),
+            b'f' => self.receive(Err(NetworkFailed)),
+            digit => self.drive(alloc, out, usize::from(digit.saturating_sub(b'0'))),
+        }
+    }
+
+    fn call_next(&mut self, out: &mut Printer, events: &mut IntoIter<Event<u64, TestMessage>>) {
+        if let Some(event) = events.next() {
+            self.call(out, event);
+        }
+    }
+
+    /// Hands a peer set or a payload to its source, and all else to the callers.
+    fn call(&mut self, out: &mut Printer, event: Event<u64, TestMessage>) {
+        match event {
+            Event::Peers(set) => self.node.peer_sets().hand_over(Some(set)),
+            Event::Payload(peer, bytes) => self.receive(Ok((peer, bytes))),
+            call => self.callers.call(out, &self.node.mailbox, call),
+        }
+    }
+
+    /// Hands over what arrives. There is a place for it.
+    fn receive(&mut self, received: Received) {
+        let _pushed = self.network.1.push(received);
     }
 
     /// Drives the engine, and prints its turns and its counters.
     fn drive(&mut self, alloc: Global, out: &mut Printer, limit: usize) {
-        out.line("drive", &self.turns(alloc, limit));
-        show_counters(out, self.engine.0.metrics());
-    }
-
-    /// Drives the engine. Returns its turns.
-    fn turns(&mut self, alloc: Global, limit: usize) -> Result<Vec<Turn>, AllocError> {
-        let Node {
-            engine,
-            task,
-            network,
-            ..
-        } = self;
-        let mut cx = task.begin();
-        let turns = drive(alloc, &mut engine.0, &mut cx, network, limit);
-        let _: Poll<()> = cx.yield_now();
-        cx.park();
-        turns
+        out.line("drive", &self.node.drive(alloc, &mut self.network, limit));
+        show_counters(out, self.node.metrics());
     }
 }
 

@@ -1,58 +1,86 @@
-//! Calls of an inbox.
+//! Calls of an inbox, and of an overflow by itself.
 use super::printer::Printer;
 use super::requests::{Plain, asked, request_of};
 use super::settings::Settings;
 use broadcast_core::{Event, TestMessage};
-use commonware_broadcast::buffered::Inbox;
-use std::alloc::{AllocError, Global};
+use commonware_broadcast::buffered::{Inbox, Overflow, Pending, Policy};
+use std::alloc::Global;
 use std::vec::IntoIter;
 
-/// Makes the calls of an inbox.
+/// An inbox, and an overflow.
+#[derive(Drop)]
+struct Kept {
+    inbox: Inbox<Plain>,
+    overflow: Pending<Plain>,
+}
+
+/// Makes the calls of an inbox and of an overflow.
 pub fn make_all(
     alloc: Global,
     out: &mut Printer,
     settings: Settings<'_>,
     events: Vec<Event<u64, TestMessage>>,
-) -> Result<(), AllocError> {
-    let mut inbox = Inbox::new(alloc, settings.places);
+) {
+    let mut kept = Kept {
+        inbox: Inbox::new(alloc, settings.places),
+        overflow: Pending::default(alloc),
+    };
     let mut events = events.into_iter();
     for step in settings.steps {
-        make(out, &mut inbox, *step, &mut events);
-    }
-    Ok(())
-}
-
-/// Makes the call of the step.
-fn make(
-    out: &mut Printer,
-    inbox: &mut Inbox<Plain>,
-    step: u8,
-    events: &mut IntoIter<Event<u64, TestMessage>>,
-) {
-    match step {
-        b't' => show_taken(out, &inbox.take()),
-        b's' => request_stop(out, inbox),
-        b'x' => out.line("close", &inbox.close()),
-        _ => enqueue_next(out, inbox, events),
-    }
-    out.line("counts", &inbox.counts());
-}
-
-fn enqueue_next(
-    out: &mut Printer,
-    inbox: &mut Inbox<Plain>,
-    events: &mut IntoIter<Event<u64, TestMessage>>,
-) {
-    if let Some(event) = events.next()
-        && let Some(request) = request_of(event)
-    {
-        out.line("enqueue", &inbox.enqueue(request));
+        kept.make(out, *step, &mut events);
     }
 }
 
-fn request_stop(out: &mut Printer, inbox: &mut Inbox<Plain>) {
-    inbox.request_stop();
-    out.line("stop", &inbox.stop_requested());
+impl Kept {
+    /// Makes the call of the step.
+    fn make(
+        &mut self,
+        out: &mut Printer,
+        step: u8,
+        events: &mut IntoIter<Event<u64, TestMessage>>,
+    ) {
+        match step {
+            b't' => show_taken(out, &self.inbox.take()),
+            b's' => self.request_stop(out),
+            b'x' => out.line("close", &self.inbox.close()),
+            b'd' => self.drain(out),
+            _ => self.hand_next(out, step, events),
+        }
+        out.line("counts", &self.inbox.counts());
+    }
+
+    fn request_stop(&mut self, out: &mut Printer) {
+        self.inbox.request_stop();
+        out.line("stop", &self.inbox.stop_requested());
+    }
+
+    /// Hands the next event as a request to the inbox, or at `h` to the overflow.
+    fn hand_next(
+        &mut self,
+        out: &mut Printer,
+        step: u8,
+        events: &mut IntoIter<Event<u64, TestMessage>>,
+    ) {
+        if let Some(event) = events.next()
+            && let Some(request) = request_of(event)
+        {
+            if step == b'h' {
+                let handled = Policy::handle(&mut self.overflow, request);
+                out.line("handle", &(handled, self.overflow.len()));
+            } else {
+                out.line("enqueue", &self.inbox.enqueue(request));
+            }
+        }
+    }
+
+    /// Moves all requests out of the overflow, and prints them.
+    fn drain(&mut self, out: &mut Printer) {
+        self.overflow.drain(|request: Plain| {
+            out.line("drained", &asked(&request));
+            None
+        });
+        out.line("empty", &self.overflow.is_empty());
+    }
 }
 
 /// Prints a request that was taken, with its ticket.

@@ -7,8 +7,6 @@ pub const USAGE: &str = "usage: uses [PART SIZE PLACES GREATEST STEPS]";
 
 const CORE: &[u8] = b"core";
 
-const OVERFLOW: &[u8] = b"overflow";
-
 const INBOX: &[u8] = b"inbox";
 
 const ENGINE: &[u8] = b"engine";
@@ -17,7 +15,6 @@ const ENGINE: &[u8] = b"engine";
 #[derive(Clone, Copy)]
 pub enum Part {
     Core,
-    Overflow,
     Inbox,
     Engine,
 }
@@ -59,9 +56,6 @@ fn number(word: &str) -> Option<usize> {
 fn part_of(word: &[u8]) -> Option<Part> {
     if word == CORE {
         return Some(Part::Core);
-    }
-    if word == OVERFLOW {
-        return Some(Part::Overflow);
     }
     if word == INBOX {
         return Some(Part::Inbox);
