@@ -195,7 +195,6 @@ class Harness:
     def run(self, executable, args, refusal=None, most_bytes=None, devices=None):
         """Runs the program, whose streams are these devices where they name one."""
         for stream in self.streams:
-            os.ftruncate(stream, 0)
             os.lseek(stream, 0, os.SEEK_SET)
         asked = {**NOTHING, **(refusal.asked() if refusal else {})}
         asked["most_bytes"] = most_bytes or NEVER
@@ -204,7 +203,8 @@ class Harness:
             status = self.end_process()
             if status >= 0:
                 raise OSError(f"a run ended its process with status {status}")
-        stdout, stderr = (os.pread(it, os.fstat(it).st_size, 0) for it in self.streams)
+        # What lies behind the place to which a run wrote is of an earlier one.
+        stdout, stderr = (os.pread(it, os.lseek(it, 0, os.SEEK_CUR), 0) for it in self.streams)
         ran = Ran(stdout, stderr, status, *struct.unpack("5Q", self.counts))
         self.leaks += ran.left != 0
         return ran
