@@ -7,8 +7,8 @@
 //! - `core`: a core with the key 1, whose lists have at most SIZE digests. It has no steps: each
 //!   event is a call. A broadcast to one key is taken under it, any other under the own key; a
 //!   cleanup without tickets asks the waiters whether they are closed.
-//! - `inbox`: an inbox whose ready list has PLACES places, and an overflow. At `h` the overflow is
-//!   handed the next event, which finds no room in an inbox; `d` drains it. `t` takes a request from
+//! - `inbox`: an inbox whose ready list has PLACES places, and an overflow. At `h` the overflow
+//!   gets the next event, which finds no room in an inbox; `d` drains it. `t` takes a request from
 //!   the inbox, `s` asks it for a stop, `x` closes it.
 //! - `engine`: an engine with lists of SIZE digests, which decodes lengths up to GREATEST, and its
 //!   mailbox, whose ready list has PLACES. Peer sets and payloads are handed to the engine's

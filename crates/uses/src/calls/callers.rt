@@ -1,7 +1,6 @@
 //! The callers of a mailbox.
 use super::printer::Printer;
-use broadcast_core::{Digested, Event, Items, Recipients, TestMessage};
-use commonware_broadcast::Broadcaster;
+use broadcast_core::{Items, TestMessage};
 use commonware_broadcast::buffered::{Get, Mailbox, Subscription};
 use futures::Future;
 use futures::task::{Poll, Solo};
@@ -23,23 +22,8 @@ pub struct Callers {
 }
 
 impl Callers {
-    /// Makes the call that the event is.
-    pub fn call<R: Wait + Clone + Send + Drop + 'static>(
-        &mut self,
-        out: &mut Printer,
-        mailbox: &Mailbox<u64, TestMessage, R>,
-        event: Event<u64, TestMessage>,
-    ) {
-        match event {
-            Event::Broadcast(to, message) => broadcast(out, mailbox, to, message),
-            Event::Subscribe(_, digest) => self.subscribe(out, mailbox, digest),
-            Event::Get(_, digest) => self.get(out, mailbox, digest),
-            Event::Cleanup(numbers) => self.drop_futures(&numbers),
-            _ => {}
-        }
-    }
-
-    fn subscribe<R: Wait + Clone + Send + Drop + 'static>(
+    /// Subscribes to the digest.
+    pub fn subscribe<R: Wait + Clone + Send + Drop + 'static>(
         &mut self,
         out: &mut Printer,
         mailbox: &Mailbox<u64, TestMessage, R>,
@@ -51,7 +35,8 @@ impl Callers {
         }
     }
 
-    fn get<R: Wait + Clone + Send + Drop + 'static>(
+    /// Asks for the message of the digest.
+    pub fn get<R: Wait + Clone + Send + Drop + 'static>(
         &mut self,
         out: &mut Printer,
         mailbox: &Mailbox<u64, TestMessage, R>,
@@ -70,7 +55,7 @@ impl Callers {
     }
 
     /// Drops the futures of these numbers, from 0 on.
-    fn drop_futures(&mut self, numbers: &Items<u64>) {
+    pub fn drop_futures(&mut self, numbers: &Items<u64>) {
         for number in numbers.as_slice() {
             if let Some(asked) = self.asked.get_mut(*number as usize) {
                 *asked = Asked::Dropped;
@@ -84,15 +69,6 @@ impl Callers {
             show_asked(out, task, asked);
         }
     }
-}
-
-fn broadcast<R: Wait + Clone + Send + Drop + 'static>(
-    out: &mut Printer,
-    mailbox: &Mailbox<u64, TestMessage, R>,
-    recipients: Recipients<u64>,
-    message: Digested<TestMessage>,
-) {
-    out.line("broadcast", &mailbox.broadcast(recipients, message));
 }
 
 /// Polls a future, and prints what it gives.

@@ -5,7 +5,8 @@ use super::printer::Printer;
 use super::settings::Settings;
 use crate::memory::{Ends, PeerSets, Received, ends};
 use crate::node::Node;
-use broadcast_core::{Event, RangeCfg, TestMessage};
+use broadcast_core::{Digested, Event, RangeCfg, Recipients, TestMessage};
+use broadcast_engine::Broadcaster;
 use broadcast_engine::buffered::{Config, Metrics, NetworkFailed, Status, Strategy};
 use std::alloc::{AllocError, AllocGlobal, Global};
 use std::random::RandomSource;
@@ -106,13 +107,31 @@ where
         }
     }
 
-    /// Hands a peer set or a payload to its source, and all else to the callers.
+    /// Hands a peer set or a payload to its source. All else is a call of the mailbox, or of the
+    /// callers.
     fn call(&mut self, out: &mut Printer, event: Event<u64, TestMessage>) {
         match event {
             Event::Peers(set) => self.node.peer_sets().hand_over(Some(set)),
             Event::Payload(peer, bytes) => self.receive(Ok((peer, bytes))),
-            call => self.callers.call(out, &self.node.mailbox, call),
+            Event::Broadcast(recipients, message) => self.broadcast(out, recipients, message),
+            Event::Subscribe(_, digest) => {
+                self.callers.subscribe(out, &self.node.mailbox, digest);
+            }
+            Event::Get(_, digest) => self.callers.get(out, &self.node.mailbox, digest),
+            Event::Cleanup(numbers) => self.callers.drop_futures(&numbers),
         }
+    }
+
+    fn broadcast(
+        &self,
+        out: &mut Printer,
+        recipients: Recipients<u64>,
+        message: Digested<TestMessage>,
+    ) {
+        out.line(
+            "broadcast",
+            &self.node.mailbox.broadcast(recipients, message),
+        );
     }
 
     /// Hands over what arrives. There is a place for it.
