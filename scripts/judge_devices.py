@@ -7,15 +7,15 @@ INPUT, OUTPUT, ERROR = range(3)
 
 
 class Judge:
-    """Judges the runs of one row by what the row must give."""
+    """Judges the runs of one row by what the row must give, of a program that reads or does not."""
 
-    def __init__(self, row):
-        self.right = row
+    def __init__(self, row, reads=True):
+        self.right, self.reads = row, reads
 
     def ample_fault(self, ran):
         """What is wrong with a run in which nothing goes wrong, or `None`."""
         # A call that is not seen would never go wrong.
-        if not ran.writes or not (ran.reads or self.right.status):
+        if not ran.writes or (self.reads and not ran.reads and self.right.status == 0):
             return f"{ran.reads} reads and {ran.writes} writes are seen"
         return self.difference(ran, self.right.stdout, self.right.stderr, self.right.status)
 
@@ -36,7 +36,8 @@ class Judge:
         """What is wrong with a run whose stream is a bad device, or `None`."""
         stdout, stderr, status = self.right.stdout, self.right.stderr, self.right.status
         # Faults of the arguments come before the first read.
-        if stream == INPUT and (status == 0 or stderr.startswith(b"line ")):
+        is_read = self.reads and (status == 0 or stderr.startswith(b"line "))
+        if stream == INPUT and is_read:
             stdout, stderr, status = b"", READ_FAILED, 3
         if stream == OUTPUT and status == 0:
             stdout, stderr, status = b"", WRITE_FAILED, 3

@@ -198,15 +198,13 @@ class Harness:
             os.lseek(stream, 0, os.SEEK_SET)
         asked = {**NOTHING, **(refusal.asked() if refusal else {})}
         asked["most_bytes"] = most_bytes or NEVER
-        status = self.process_of(executable, args, devices or {}).run(asked)
-        if status is None:
-            status = self.end_process()
-            if status >= 0:
-                raise OSError(f"a run ended its process with status {status}")
+        returned = self.process_of(executable, args, devices or {}).run(asked)
+        status = self.end_process() if returned is None else returned
         # What lies behind the place to which a run wrote is of an earlier one.
         stdout, stderr = (os.pread(it, os.lseek(it, 0, os.SEEK_CUR), 0) for it in self.streams)
         ran = Ran(stdout, stderr, status, *struct.unpack("5Q", self.counts))
-        self.leaks += ran.left != 0
+        # A run that ends its process, as programs with threads do, need not free its blocks.
+        self.leaks += returned is not None and ran.left != 0
         return ran
 
 

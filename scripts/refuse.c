@@ -127,8 +127,9 @@ void *malloc(size_t size) { return or_errno(block(size, sizeof(head))); }
 void *calloc(size_t count, size_t size) {
     size_t bytes;
     if (__builtin_mul_overflow(count, size, &bytes)) return or_errno(0);
-    void *given = malloc(bytes);
-    return given ? memset(given, 0, bytes) : 0;
+    // Of `malloc` and `memset` a compiler would make a call of `calloc`.
+    void *given = block(bytes, sizeof(head));
+    return given ? memset(given, 0, bytes) : or_errno(0);
 }
 
 void free(void *given) {
