@@ -4,6 +4,7 @@ use broadcast_core::{Items, TestMessage};
 use commonware_broadcast::buffered::{Get, Mailbox, Subscription};
 use futures::Future;
 use futures::task::{Poll, Solo};
+use std::alloc::{AllocError, Global};
 use std::sync::Wait;
 
 /// The future of a caller, until it is dropped.
@@ -17,11 +18,18 @@ pub enum Asked {
 /// What the callers of a mailbox wait for.
 #[derive(Drop)]
 pub struct Callers {
-    /// The futures, oldest first.
-    pub asked: Vec<Asked>,
+    // The futures, oldest first.
+    asked: Vec<Asked>,
 }
 
 impl Callers {
+    /// Creates callers that wait for nothing yet, with places for `places` futures.
+    pub fn with_capacity(alloc: Global, places: usize) -> Result<Self, AllocError> {
+        Ok(Callers {
+            asked: Vec::with_capacity(alloc, places)?,
+        })
+    }
+
     /// Subscribes to the digest.
     pub fn subscribe<R: Wait + Clone + Send + Drop + 'static>(
         &mut self,

@@ -43,6 +43,7 @@ pub fn make_all(
 ) {
     let mut core = Core::new(alloc, 1, settings.deque_size);
     make_calls(alloc, out, &mut core, events);
+    drop::<_>(core);
 }
 
 fn make_calls(

@@ -34,14 +34,7 @@ where
     T: Strategy<TestMessage> + Drop,
     R: Wait + RandomSource + AllocGlobal + Clone + Send + Drop + 'static,
 {
-    let mut driven = Driven {
-        node: Node::new(rt, config(settings, strategy))?,
-        network: ends(rt.alloc()),
-        callers: Callers {
-            asked: Vec::new(rt.alloc()),
-        },
-    };
-    driven.reserve(settings.steps.len())?;
+    let mut driven = Driven::new(rt, settings, strategy)?;
     driven.make_calls(rt.alloc(), out, settings.steps, &mut events.into_iter());
     drop::<_>(driven);
     Ok(())
@@ -62,17 +55,33 @@ fn config<T>(settings: Settings<'_>, strategy: T) -> Config<u64, RangeCfg, PeerS
 
 impl<T, R> Driven<T, R>
 where
+    T: Strategy<TestMessage> + Drop,
+    R: Wait + RandomSource + AllocGlobal + Clone + Drop,
+{
+    /// Creates a node, with a place for what each step sends, receives or asks for.
+    fn new(rt: &R, settings: Settings<'_>, strategy: T) -> Result<Self, AllocError> {
+        let places = settings.steps.len();
+        Ok(Driven {
+            network: reserved_ends(rt.alloc(), places)?,
+            callers: Callers::with_capacity(rt.alloc(), places)?,
+            node: Node::new(rt, config(settings, strategy))?,
+        })
+    }
+}
+
+/// Creates the ends of a network, with `places` places for what is sent and for what arrives.
+fn reserved_ends(alloc: Global, places: usize) -> Result<Ends, AllocError> {
+    let mut ends = ends(alloc);
+    ends.0.sent.reserve(places)?;
+    ends.1.reserve(places)?;
+    Ok(ends)
+}
+
+impl<T, R> Driven<T, R>
+where
     T: Strategy<TestMessage>,
     R: Wait + Clone + Send + Drop + 'static,
 {
-    /// Reserves `places` places for what is sent, for what arrives, and for futures.
-    fn reserve(&mut self, places: usize) -> Result<(), AllocError> {
-        self.network.0.sent.reserve(places)?;
-        self.network.1.reserve(places)?;
-        self.callers.asked.reserve(places)?;
-        Ok(())
-    }
-
     fn make_calls(
         &mut self,
         alloc: Global,
@@ -94,11 +103,15 @@ where
     /// Makes the call of a step that needs no event.
     fn make(&mut self, alloc: Global, out: &mut Printer, step: u8) {
         match step {
-            b'k' => out.line("clone", &self.node.mailbox.clone().is_ok()),
+            b'k' => self.clone_mailbox(out),
             b'e' => self.node.peer_sets().hand_over(None),
             b'f' => self.receive(Err(NetworkFailed)),
             digit => self.drive(alloc, out, usize::from(digit.saturating_sub(b'0'))),
         }
+    }
+
+    fn clone_mailbox(&self, out: &mut Printer) {
+        out.line("clone", &self.node.mailbox.clone().is_ok());
     }
 
     fn call_next(&mut self, out: &mut Printer, events: &mut IntoIter<Event<u64, TestMessage>>) {

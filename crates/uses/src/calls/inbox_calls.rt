@@ -29,6 +29,7 @@ pub fn make_all(
     for step in settings.steps {
         kept.make(out, *step, &mut events);
     }
+    drop::<_>(kept);
 }
 
 impl Kept {
@@ -64,12 +65,16 @@ impl Kept {
         if let Some(event) = events.next()
             && let Some(request) = request_of(event)
         {
-            if step == b'h' {
-                let handled = Policy::handle(&mut self.overflow, request);
-                out.line("handle", &(handled, self.overflow.len()));
-            } else {
-                out.line("enqueue", &self.inbox.enqueue(request));
-            }
+            self.hand(out, step, request);
+        }
+    }
+
+    fn hand(&mut self, out: &mut Printer, step: u8, request: Plain) {
+        if step == b'h' {
+            let handled = Policy::handle(&mut self.overflow, request);
+            out.line("handle", &(handled, self.overflow.len()));
+        } else {
+            out.line("enqueue", &self.inbox.enqueue(request));
         }
     }
 
