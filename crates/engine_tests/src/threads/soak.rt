@@ -179,7 +179,8 @@ struct Account {
     all_ended: bool,
     /// The engine delivered as many messages to subscriptions and gets as the callers got.
     delivered: bool,
-    /// Each payload that was decoded was taken or dropped, and is counted for its peer.
+    /// Each payload that was decoded is counted for its peer, and was taken or dropped, but for one
+    /// that may have been digested still at the stop.
     payloads: bool,
     /// No more payloads were counted than were fed.
     fed: bool,
@@ -200,7 +201,7 @@ fn account_of(metrics: &Metrics<u64>, ends: Ends, all_fed: bool) -> Account {
                 metrics.subscribe(Status::Success),
                 metrics.get(Status::Success),
             ),
-        payloads: taken == decoded,
+        payloads: taken == decoded || taken == decoded.saturating_sub(1),
         fed: fed <= FEEDS * 3,
         all_fed,
     }
