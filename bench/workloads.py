@@ -111,6 +111,30 @@ def add_gossip():
 add_gossip()
 
 
+# Budgets: messages of many lengths, each to about four lists, whose oldest digests are dropped by
+# their bytes. One message in 40 is long: it leaves little of a list, or is itself above the budget.
+@workload(
+    "budget",
+    ["1", "256", "65536", "2048"],
+    60_000,
+    "16 peers relay 20 to 120 bytes, at times 1 to 3 kB, with budgets of 2 kB",
+)
+def budget(chance, count):
+    yield peers(range(1, 17))
+    recent = []
+    for _ in range(count):
+        if recent and chance.random() < 0.75:
+            text = recent[chance.randrange(len(recent))]
+        else:
+            is_long = chance.randrange(40) == 0
+            length = chance.randrange(1_000, 3_000) if is_long else chance.randrange(12, 112)
+            text = encoded(b"", chance.randbytes(length)).hex()
+            recent.append(text)
+            if len(recent) > 64:
+                recent.pop(0)
+        yield f"payload {chance.randrange(1, 17)} {text}"
+
+
 # Deep lists: few peers, short payloads, and repeats at any depth of a list.
 def deep(chance, count, peer_count, repeats):
     yield peers(range(1, peer_count + 1))
@@ -372,7 +396,7 @@ def main():
     if not given.name:
         for it in ALL.values():
             words = " ".join(word if len(word) < 12 else "1,2,.." for word in it.words)
-            print(f"{it.name:24} {it.program} {words:14} {it.base:7} events: {it.about}")
+            print(f"{it.name:24} {it.program} {words:16} {it.base:7} events: {it.about}")
     elif given.args:
         print(" ".join(ALL[given.name].words))
     else:

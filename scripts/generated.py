@@ -38,6 +38,11 @@ HOSTILE = ["peers 1 2 6", "subscribe 7 61", "payload 6 000000000000000161",
 # What callers of an engine that ended do.
 AFTERWARDS = ["drive 1", "broadcast all - 61", "subscribe 9 61", "get 9 61", "drive 1"]
 SIZES = ("1", "1", "2")
+# Budgets of the programs, of encodings of 8 to 10 bytes.
+BUDGETS = ([], [b"9"], [], [b"18"], [b"27"])
+GREATEST = 2**64 - 1
+# Budgets of a core, most of encodings of 9 bytes.
+BYTE_BUDGETS = (8, 9, 18, GREATEST, GREATEST)
 # What each list of steps begins with.
 WORLD = ["peers 1 1 2 9", "peers 2 1 2 9", "broadcast 1 all - 61", "broadcast 2 to:1 01 62"]
 
@@ -105,14 +110,14 @@ def lists(seed, first, count, line_of):
 
 def of_replay():
     """Names, arguments and inputs of `replay`."""
-    for name, size, stdin in lists(1, ["peers 1 2"], 8, event):
-        yield name, [b"1", size, b"3"], stdin
+    for number, (name, size, stdin) in enumerate(lists(1, ["peers 1 2"], 8, event)):
+        yield name, [b"1", size, b"3", *BUDGETS[number % len(BUDGETS)]], stdin
 
 
 def of_world():
     """Names, arguments and inputs of `world`."""
-    for name, size, stdin in lists(2, WORLD, 6, step):
-        yield name, [size, b"1,2", b"9"], stdin
+    for number, (name, size, stdin) in enumerate(lists(2, WORLD, 6, step)):
+        yield name, [size, b"1,2", b"9", *BUDGETS[number % len(BUDGETS)]], stdin
 
 
 def broadcast_call(rng, to="all"):
@@ -222,7 +227,7 @@ def of_rows(rows):
             continue
         size, lines = row.args[1].decode(), row.stdin.decode().splitlines()
         called = [it for line in lines for it in taken(line)]
-        yield f"core {row.name}", Calls([f"core {size} 1 0", *called])
+        yield f"core {row.name}", Calls([f"core {size} 1 {GREATEST}", *called])
         yield f"inbox {row.name}", Calls(["inbox 0 1 0", *requests(lines)])
         driven = engine_over(size, lines)
         yield f"engine {row.name}", Calls(driven)
@@ -237,7 +242,8 @@ def stdin_of(lines):
 
 # Of each kind of list its first line, the further ones and how many of them are drawn.
 CALLS = {
-    "core": (lambda rng: f"core {rng.randrange(3)} 1 0", ["peers 1 2"], core_call, 8),
+    "core": (lambda rng: f"core {rng.randrange(3)} 1 {rng.choice(BYTE_BUDGETS)}", ["peers 1 2"],
+             core_call, 8),
     "overflow": (lambda _: "overflow 0 1 0", [], request, 9),
     "inbox": (lambda rng: f"inbox 0 {rng.choice(SIZES)} 0", [], inbox_call, 12),
     "engine": (lambda rng: f"engine {rng.randrange(3)} {rng.choice(SIZES)} 3", ["peers 1 2"],

@@ -5,6 +5,7 @@ returns, and then the model stays as it was.
 """
 
 import functools
+import re
 
 import judge_engine
 import replay_model as model
@@ -16,6 +17,13 @@ from judged_lines import Lines, Wrong, elements, shown
 OWN = 1
 
 
+def bytes_of(core, key):
+    """The sum of what the listed digests were charged as they were last taken."""
+    kept = core.lists.get(key, [])
+    charges = dict(core.histories[key].takings) if kept else {}
+    return sum(charges[digest] for digest, _ in kept)
+
+
 def expect_core(lines, core):
     """The lines of what a core holds. A list that is not empty may be refused."""
     for key in KEYS:
@@ -23,6 +31,7 @@ def expect_core(lines, core):
         if not (kept and lines.is_refused(f"list ({key}, AllocError)")):
             for digest, found in kept:
                 lines.expect(f"list ({key}, {digest[0]}, Some({shown(found)}))")
+        lines.expect(f"bytes {bytes_of(core, key)}")
     lines.expect(f"cached and awaited ({core.cached_count()}, {core.awaited_count()})")
 
 
@@ -34,7 +43,8 @@ def take(lines, core, to, message, digest):
     """A taking. One that inserts into a list with places may be refused."""
     key = int(to) if to.isdigit() else core.own
     listed = any(held == digest for held, _ in core.lists.get(key, []))
-    grows = key in core.primary and not listed and core.size > 0
+    fits = len(message.encoding) <= core.budget
+    grows = key in core.primary and not listed and core.size > 0 and fits
     if not (grows and lines.is_refused("take Err(AllocError)")):
         outcome, served = core.take(key, digest, message)
         served = elements(f"Waiter({ticket})" for ticket in served)
@@ -58,7 +68,7 @@ def cleanup(lines, core, tickets):
 
 
 def judge_core(lines, given):
-    core = model.Core(OWN, given.size)
+    core = model.Core(OWN, given.size, given.greatest)
     for kind, *said in given.calls:
         if kind == "broadcast":
             take(lines, core, *said)

@@ -11,8 +11,22 @@ LISTS, DELIVERED, TWO_RUNS = 170, 100, 200
 # The steps of `world` that are drawn for each list.
 DRAWN = 100
 TICKETS = tuple("01234567")
-COMMITMENTS = ("-", "01")
+COMMITMENTS = ("-", "01", "02" * 20)
 CONTENTS = ("-", "61", "62", "63", "6162", "616263", "61626364")
+# Greatest lengths and budgets of `replay`. An encoding has 8 to 32 bytes.
+LIMITS = (
+    [],
+    ["3"],
+    ["3", "10"],
+    ["20", "17"],
+    ["3", "20"],
+    ["20", "27"],
+    ["20", "30"],
+    ["20", "48"],
+    ["20", "7"],
+)
+# Budgets of `world`.
+BUDGETS = ([], ["10"], [], ["30"], ["48"])
 
 # The events of `replay`, each as often as it stands here, and the keys of peers; 0 is the own one.
 EVENTS = (
@@ -110,22 +124,27 @@ def of_replay():
     """Names, arguments and inputs of `replay`.
 
     Each list ends with gets that show the cache, and every second one then with messages of a key
-    that is not primary, which show the waiters. Every third one has a greatest length.
+    that is not primary, which show the waiters. In one of four the same keys are primary from the
+    start to the end. The limits take turns.
     """
     for size in SIZES:
         for seed in range(LISTS):
             lines = drawn(seed, 200, event)
+            if seed % 4 == 2:
+                later = (line for line in lines if not line.startswith("peers"))
+                lines = [with_words("peers", *KEYS), *later]
             lines += [f"get 9 {content}" for content in CONTENTS]
             if seed % 2 == 1:
                 whole = (model.spelled(encoded("-", content)) for content in CONTENTS)
                 lines += [f"payload {STRANGER} {data}" for data in whole]
-            args = ["0", str(size), *(["3"] if seed % 3 == 0 else [])]
+            args = ["0", str(size), *LIMITS[seed % len(LIMITS)]]
             yield f"list {seed} of size {size}", words(args), stdin_of(lines)
 
 
 def settings(seed):
-    """The arguments of `world`."""
-    return words([str(seed % 4), ",".join(NODES), ",".join(HOSTILE)])
+    """The arguments of `world`. The sizes and the budgets take turns."""
+    budget = BUDGETS[seed % len(BUDGETS)]
+    return words([str(seed % 4), ",".join(NODES), ",".join(HOSTILE), *budget])
 
 
 def gets(node):

@@ -12,6 +12,8 @@ from replay_model import spelled
 CONTENT = "616263"
 WHOLE = encoded(CONTENT, CONTENT)
 LISTS = [f"list {key} {CONTENT}" for key in (1, 2, 9)]
+# No budget, and one that the message fills.
+BUDGETS = [], [str(len(WHOLE)).encode()]
 # Payloads, each with its error, and one whose error depends on the greatest length.
 MALFORMED = [
     *((WHOLE[:length], "EndOfBuffer") for length in range(len(WHOLE))),
@@ -34,7 +36,7 @@ def rows(args, lines, send, malformed, output):
 
 
 def of_replay():
-    """Runs in which no list of a payload may be longer than the content."""
+    """Runs in which no byte list of a payload may be longer than the content."""
     lines = [
         "peers 1 2 9",
         f"broadcast all {CONTENT} {CONTENT}",
@@ -46,7 +48,8 @@ def of_replay():
     def output(answers):
         return ["ok", *["inserted"] * 3, *answers, *left]
 
-    return rows([b"2", b"2", b"3"], lines, "payload 9", malformed, output)
+    for budget in BUDGETS:
+        yield from rows([b"2", b"2", b"3", *budget], lines, "payload 9", malformed, output)
 
 
 def of_world():
@@ -63,4 +66,6 @@ def of_world():
     def output(answers):
         return ["with", *clean, "inserted", *answers, *left, "without", *clean, *left[:2]]
 
-    return rows([b"2", b"1,2,3", b"8,9"], lines, "hostile 9 2", malformed, output)
+    for budget in BUDGETS:
+        args = [b"2", b"1,2,3", b"8,9", *budget]
+        yield from rows(args, lines, "hostile 9 2", malformed, output)

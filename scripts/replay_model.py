@@ -1,7 +1,8 @@
-"""What `replay OWN SIZE [MAX]` must print, computed from docs/REPLAY.md alone.
+"""What `replay OWN SIZE [MAX [BUDGET]]` must print, computed from docs/REPLAY.md alone.
 
-This is written apart from the program, in another language and with other structures: it keeps no
-counts, and finds what is cached by looking at the lists. The judges of refusals stand on it.
+This is written apart from the program, in another language and with other structures: it finds what
+is listed by what was taken, drops nothing, keeps no counts and no sums, and finds what is cached by
+looking at the lists. The judges of refusals stand on it.
 """
 
 import functools
@@ -9,7 +10,7 @@ import hashlib
 from dataclasses import dataclass, field
 
 GREATEST = 2**64 - 1
-USAGE = "usage: replay OWN SIZE [MAX]"
+USAGE = "usage: replay OWN SIZE [MAX [BUDGET]]"
 
 
 class Syntax(Exception):
@@ -98,13 +99,14 @@ def lines_of(data):
 
 
 def arguments(words):
+    """The own key, the size, the greatest length and the budget. Raises `Fault`."""
     try:
         numbers = [number(word) for word in words]
     except Syntax:
         raise Fault(USAGE) from None
-    if len(numbers) not in (2, 3):
+    if len(numbers) not in (2, 3, 4):
         raise Fault(USAGE)
-    return numbers if len(numbers) == 3 else [*numbers, GREATEST]
+    return [*numbers, GREATEST, GREATEST][:4]
 
 
 @functools.cache
@@ -124,13 +126,49 @@ def decode(data, greatest):
     return f"ExtraData {len(data)}" if data else Message(*parts)
 
 
+class History:
+    """What was taken under a key since it became primary, but what was charged above the budget.
+
+    The company of a digest is the digests taken since it was last taken, itself among them, each
+    once, and charged as when it was last taken. A digest is listed where its company has fitted at
+    every moment since it was last taken: at most `size` digests, and at most `budget` bytes.
+    """
+
+    def __init__(self, size, budget):
+        self.size, self.budget = size, budget
+        # Each a digest and its charge, oldest first.
+        self.takings = []
+        # The digests that are listed after these takings, the last taken first.
+        self.listed = []
+
+    def company(self, digest):
+        """The charges of its company by their digests."""
+        charges = {}
+        for taken, charge in reversed(self.takings):
+            charges.setdefault(taken, charge)
+            if taken == digest:
+                break
+        return charges
+
+    def fits(self, company):
+        return len(company) <= self.size and sum(company.values()) <= self.budget
+
+    def take(self, digest, charge):
+        self.takings.append((digest, charge))
+        # Those whose company has fitted at every moment before this one since they were last taken.
+        before = [digest, *(it for it in self.listed if it != digest)]
+        self.listed = [it for it in before if self.fits(self.company(it))]
+
+
 @dataclass
 class Core:
     """Lists of (digest, message), newest first, and waiters as (digest, ticket), oldest first."""
 
     own: int
     size: int
+    budget: int = GREATEST
     primary: frozenset = frozenset()
+    histories: dict = field(default_factory=dict)
     lists: dict = field(default_factory=dict)
     waiters: list = field(default_factory=list)
 
@@ -146,7 +184,9 @@ class Core:
 
     def set_primary(self, keys):
         self.primary = keys
-        self.lists = {key: kept for key, kept in self.lists.items() if key in keys}
+        for by_key in (self.histories, self.lists):
+            for key in by_key.keys() - keys:
+                del by_key[key]
 
     def take(self, key, digest, message):
         """The outcome and the tickets that are served."""
@@ -154,13 +194,17 @@ class Core:
         self.waiters = [waiter for waiter in self.waiters if waiter[0] != digest]
         if key not in self.primary:
             return "ineligible", served
-        before = self.lists.get(key, [])
-        listed = any(at == digest for at, _ in before)
+        charge = len(message.encoding)
+        if charge > self.budget:
+            return "oversize", served
+        messages = dict(self.lists.get(key, []))
+        outcome = "duplicate" if digest in messages else "inserted"
         # A digest that is cached keeps the message that it came with.
-        first = self.cached(digest) or message
-        rest = [entry for entry in before if entry[0] != digest]
-        self.lists[key] = [(digest, first), *rest][: self.size]
-        return "duplicate" if listed else "inserted", served
+        messages[digest] = self.cached(digest) or message
+        history = self.histories.setdefault(key, History(self.size, self.budget))
+        history.take(digest, charge)
+        self.lists[key] = [(listed, messages[listed]) for listed in history.listed]
+        return outcome, served
 
     def subscribe(self, ticket, digest):
         """The cached message, or `None` if the ticket waits from now on."""
@@ -191,8 +235,8 @@ def shown(word, message):
 class Run:
     """A core, the answers given so far, and what was sent."""
 
-    def __init__(self, own, size, greatest):
-        self.core = Core(own, size)
+    def __init__(self, own, size, greatest, budget=GREATEST):
+        self.core = Core(own, size, budget)
         self.greatest = greatest
         self.answers = []
         self.sent = []

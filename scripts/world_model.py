@@ -1,4 +1,5 @@
-"""What `world SIZE NODES HOSTILE` must print, computed from docs/WORLD.md and docs/REPLAY.md alone.
+"""What `world SIZE NODES HOSTILE [BUDGET]` must print, computed from docs/WORLD.md and
+docs/REPLAY.md alone.
 
 As the model of `replay`, on which it stands, this is written apart from the program.
 """
@@ -6,7 +7,7 @@ As the model of `replay`, on which it stands, this is written apart from the pro
 import replay_model as replay
 from replay_model import Fault, Syntax, number
 
-USAGE = "usage: world SIZE NODES HOSTILE"
+USAGE = "usage: world SIZE NODES HOSTILE [BUDGET]"
 # The steps of a node that are an event of it, with the same words.
 EVENTS = (b"peers", b"broadcast", b"subscribe", b"get", b"cleanup")
 
@@ -16,13 +17,15 @@ def keys(word):
 
 
 def arguments(words):
-    """The size, the nodes and the hostile keys. Raises `Fault`."""
+    """The size, the nodes, the hostile keys and the budget. Raises `Fault`."""
+    if len(words) not in (3, 4):
+        raise Fault(USAGE)
+    size, nodes, hostile, *budget = words
     try:
-        size, nodes, hostile = words
-        settings = number(size), keys(nodes), [] if hostile == b"-" else keys(hostile)
-    except (ValueError, Syntax):
+        nodes, hostile = keys(nodes), [] if hostile == b"-" else keys(hostile)
+        settings = number(size), nodes, hostile, *map(number, budget)
+    except Syntax:
         raise Fault(USAGE) from None
-    _, nodes, hostile = settings
     if len(set(nodes)) < len(nodes) or set(nodes) & set(hostile):
         raise Fault("shared key")
     return settings
@@ -55,8 +58,9 @@ def parts(steps):
 class Run:
     """The nodes, each as a run of its own events, the packets, and the answers given so far."""
 
-    def __init__(self, size, nodes, hostile):
-        self.nodes = {key: replay.Run(key, size, replay.GREATEST) for key in sorted(nodes)}
+    def __init__(self, size, nodes, hostile, budget=replay.GREATEST):
+        greatest = replay.GREATEST
+        self.nodes = {key: replay.Run(key, size, greatest, budget) for key in sorted(nodes)}
         self.hostile = hostile
         # Each with its sender, its addressee and its bytes.
         self.packets = []

@@ -69,6 +69,35 @@ OF_REPLAY = [
     ("an abort", b"", b"", -6),
 ]
 
+# A budget of one of the two messages that are not above it.
+WITH_BUDGET = [b"1", b"2", b"20", b"17"]
+CHARGED = (
+    b"peers 5\npayload 5 000000000000000161\nsubscribe 7 62626262626262626262\n"
+    b"payload 5 000000000000000a62626262626262626262\npayload 5 000000000000000163\nget 1 61\n"
+)
+OF_BUDGET = [
+    (
+        "a refused payload above the budget serves its waiter",
+        b"ok\ninserted\nwaiting\nrefused memory\ninserted\nnone\n"
+        b"list 5 63\ncached 1\nawaited 0\n",
+        b"",
+        0,
+    ),
+    (
+        "a refused payload drops what it has no room for",
+        b"ok\ninserted\nwaiting\noversize 7\nrefused memory\nnone\ncached 0\nawaited 0\n",
+        b"",
+        0,
+    ),
+    (
+        "a payload drops nothing where another one is refused",
+        b"ok\ninserted\nrefused memory\noversize\ninserted\nfound - 61\n"
+        b"list 5 63 61\ncached 2\nawaited 0\n",
+        b"",
+        0,
+    ),
+]
+
 WORLD = [b"1", b"1,2", b"9"]
 STEPS = b"peers 2 1\nsubscribe 2 7 61\nbroadcast 1 all - 61\ndeliver 0\nhostile 8 2 -\n"
 OF_WORLD = [
@@ -109,6 +138,13 @@ OF_WORLD = [
 # The counts of an inbox that nothing was asked of.
 UNTOUCHED = "counts Counts { accepted: 0, taken: 0, skipped: 0, waiting: 0, given_up: 0 }\n"
 
+# The lines of the lists of a core: all are empty, and that of key 2 has one message.
+EMPTY = "bytes 0\n" * 7
+WITH_ONE = (
+    "bytes 0\nbytes 0\nlist (2, 231, Some(TestMessage { commitment: [], content: [5] }))\nbytes 9\n"
+    + "bytes 0\n" * 4
+)
+
 # By list of calls: what is wrong, and with it lines of the right output and those in their place.
 OF_CALLS = {
     "core": [
@@ -116,19 +152,15 @@ OF_CALLS = {
             "a refused taking serves its waiters",
             "take Ok(Taken { outcome: Inserted, "
             "served: Items { elements: [Waiter(1), Waiter(2)] } })\nwaiting 0\n"
-            "list (2, 231, Some(TestMessage { commitment: [], content: [5] }))\n"
-            "cached and awaited (1, 1)\n",
-            "take Err(AllocError)\nwaiting 0\ncached and awaited (0, 1)\n",
+            f"{WITH_ONE}cached and awaited (1, 1)\n",
+            f"take Err(AllocError)\nwaiting 0\n{EMPTY}cached and awaited (0, 1)\n",
         ),
         (
             "a refused taking leaves its digest on a list",
             "take Ok(Taken { outcome: Inserted, "
             "served: Items { elements: [Waiter(1), Waiter(2)] } })\nwaiting 0\n"
-            "list (2, 231, Some(TestMessage { commitment: [], content: [5] }))\n"
-            "cached and awaited (1, 1)\n",
-            "take Err(AllocError)\nwaiting 2\n"
-            "list (2, 231, Some(TestMessage { commitment: [], content: [5] }))\n"
-            "cached and awaited (1, 2)\n",
+            f"{WITH_ONE}cached and awaited (1, 1)\n",
+            f"take Err(AllocError)\nwaiting 2\n{WITH_ONE}cached and awaited (1, 2)\n",
         ),
         (
             "a refused subscribe loses its waiter",
@@ -152,8 +184,21 @@ OF_CALLS = {
         ),
         (
             "a peer set is refused",
-            "cached and awaited (0, 1)\ncached and awaited (0, 1)\n",
-            "cached and awaited (0, 1)\npeers Err(AllocError)\ncached and awaited (0, 1)\n",
+            f"cached and awaited (0, 1)\n{EMPTY}cached and awaited (0, 1)\n",
+            f"cached and awaited (0, 1)\npeers Err(AllocError)\n{EMPTY}cached and awaited (0, 1)\n",
+        ),
+    ],
+    "core-with-budget": [
+        (
+            "a message above the budget is refused",
+            "take Ok(Taken { outcome: Oversize, "
+            "served: Items { elements: [Waiter(5), Waiter(106)] } })\nwaiting 0\n",
+            "take Err(AllocError)\nwaiting 2\n",
+        ),
+        (
+            "a list is charged for what it dropped",
+            "list (2, 103, Some(TestMessage { commitment: [], content: [6] }))\nbytes 18\n",
+            "list (2, 103, Some(TestMessage { commitment: [], content: [6] }))\nbytes 27\n",
         ),
     ],
     "overflow": [
@@ -275,8 +320,12 @@ def with_clean_part(wrong):
     return [(name, stdout + clean, stderr, status) for name, stdout, stderr, status in wrong]
 
 
+OF_PROGRAMS = len(OF_REPLAY) + len(OF_BUDGET) + len(OF_WORLD)
+
+
 def unseen_of_programs():
     yield from unseen_of(replay_model, ARGS, EVENTS, OF_REPLAY)
+    yield from unseen_of(replay_model, WITH_BUDGET, CHARGED, OF_BUDGET)
     yield from unseen_of(world_model, WORLD, STEPS, with_clean_part(OF_WORLD))
 
 
@@ -348,7 +397,7 @@ def half_effects(before, after):
     """
     taken, waiting, *lists = after
     served = taken.count("Waiter(")
-    *old, was = [it for it in before if it.startswith(("list", "cached"))]
+    *old, was = [it for it in before if it.startswith(("list", "bytes", "cached"))]
     *new, now = lists
     cached, awaited = (list(zip(*(line[20:-1].split(", ") for line in (was, now)))))
     refusal = "take Err(AllocError)"

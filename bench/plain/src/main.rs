@@ -1,6 +1,6 @@
-//! `replay_plain OWN SIZE [MAX]`: the command line, the input and the output of `replay`.
+//! `replay_plain OWN SIZE [MAX [BUDGET]]`: the command line, the input and the output of `replay`.
 
-use replay_plain::engine::Engine;
+use replay_plain::engine::{Engine, Limits};
 use replay_plain::{parse, report};
 use std::io::{self, Read};
 use std::process::ExitCode;
@@ -15,10 +15,14 @@ fn main() -> ExitCode {
         .skip(1)
         .map(|word| parse::number(word.as_encoded_bytes()))
         .collect();
-    let (own, size, longest) = match numbers.as_deref() {
-        Some([own, size]) => (*own, *size, u64::MAX),
-        Some([own, size, longest]) => (*own, *size, *longest),
-        _ => return fault("usage: replay OWN SIZE [MAX]", 2),
+    let (own, size, limits) = match numbers.as_deref() {
+        Some([own, size, limits @ ..]) if limits.len() <= 2 => (*own, *size, limits),
+        _ => return fault("usage: replay OWN SIZE [MAX [BUDGET]]", 2),
+    };
+    let longest = limits.first().copied().unwrap_or(u64::MAX);
+    let limits = Limits {
+        digests: size as usize,
+        bytes: limits.get(1).copied().unwrap_or(u64::MAX),
     };
     let mut input = Vec::new();
     if io::stdin().lock().read_to_end(&mut input).is_err() {
@@ -29,7 +33,7 @@ fn main() -> ExitCode {
         Err(line) => return fault(&format!("line {line}: syntax"), 2),
     };
     drop(input);
-    let mut engine = Engine::new(own, size as usize, longest);
+    let mut engine = Engine::new(own, limits, longest);
     let answers = engine.run(events);
     if report::write(UnbufferedStdout, answers, &engine).is_err() {
         return fault("write failed", 3);

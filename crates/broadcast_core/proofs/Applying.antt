@@ -1,6 +1,7 @@
 -- What each event's call makes of the history.
 use Rattle.std.proofs.Common.{◌≡◌, ℕ, true, List, [], ◌∷◌, Option, Some, None, Result, Ok, Err, refl, sym, ap, ◌∙◌, subst, inl, inr, append-nil}
-use Rattle.std.specs.Prelude.{◌==◌}
+use Rattle.std.specs.Prelude.{◌==◌, length}
+use Rattle.std.specs.Option.{option_map}
 use Rattle.std.specs.List.{list_any, IsDistinct}
 use Rattle.std.specs.Map.{keys_of}
 use Rattle.broadcast_core.specs.Carried.{Carried}
@@ -40,13 +41,13 @@ module _ {P M D : Type 0} {s : Setting P M D} {same : Same P D} (is : s.same ≡
   Applies-peers takes = record { answered = inl refl; content = HasContent-peers is lawful has takes; sent = refl }
 
   -- an event that is one taking
-  pub Applies-taken : {e : Event P M D} (h : Happening P M D ℕ ℕ) (t : Taking P M D) {new : Content P M D ℕ} {outcome : Outcome} {served : List ℕ} → after s e past ≡ h ∷ past → taken s h ≡ Some t
-      → answer_to s e past ≡ answer_to_taking s t.key t.carried h past → Takes same t.key t.carried old new
-      → outcome ≡ outcome_at same old t.key t.carried.digest → served ≡ waiting_at same old t.carried.digest
+  pub Applies-taken : {encoding : M → Option (List ℕ)} → s.encoding ≡ encoding → {e : Event P M D} (h : Happening P M D ℕ ℕ) (t : Taking P M D) {new : Content P M D ℕ} {outcome : Outcome} {served : List ℕ} → after s e past ≡ h ∷ past → taken s h ≡ Some t
+      → answer_to s e past ≡ answer_to_taking s t.key t.carried h past → Takes same t.key t.carried (option_map length (encoding t.carried.message)) old new
+      → outcome ≡ outcome_at same old t.key t.carried.digest (option_map length (encoding t.carried.message)) → served ≡ waiting_at same old t.carried.digest
       → Applies s past e new (answer.Taken outcome served t.carried) (sent_at s h)
-  Applies-taken h t {new} {outcome} {served} next some answers takes out waits = record {
-    answered = inl (sym (ap counted_in answers ∙ rw (out, waits, outcome-taken is lawful has t.key t.carried.digest, served-taken is lawful has h t some) refl));
-    content = subst (λ es. HasContent s es new) (sym next) (HasContent-taken is lawful has h t some takes);
+  Applies-taken encodes h t {new} {outcome} {served} next some answers takes out waits = record {
+    answered = inl (sym (ap counted_in answers ∙ rw (out, waits, outcome-taken is lawful has encodes t.key t.carried, served-taken is lawful has h t some) refl));
+    content = subst (λ es. HasContent s es new) (sym next) (HasContent-taken is lawful has encodes h t some takes);
     sent = ap (sent s) next;
   }
 

@@ -11,7 +11,7 @@ use Rattle.broadcast_core.specs.HasContent.{HasContent}
 use Rattle.broadcast_core.specs.Waiting.{Awaiting, with_digest, waiting, awaited}
 use Rattle.broadcast_core.proofs.Lawful.{IsLawful}
 use Rattle.broadcast_core.proofs.Distinct.{by_test, among-equal, among-head, IsDistinct-rest, without-absent, among-without_other}
-use Rattle.broadcast_core.proofs.Listing.{IsDistinct-first_places}
+use Rattle.broadcast_core.proofs.Cutting.{IsDistinct-first_places}
 use Rattle.broadcast_core.proofs.WaitsCount.{entry_out}
 
 module _ {D : Type 0} {same : D → D → Bool} (laws : IsEquivalence same) where

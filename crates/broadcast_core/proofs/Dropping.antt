@@ -4,9 +4,10 @@ use Rattle.std.specs.Prelude.{is_some}
 use Rattle.std.specs.List.{list_any, IsDistinct}
 use Rattle.std.specs.Map.{lookup, keys_of}
 use Rattle.std.specs.Cmp.{IsEquivalence}
+use Rattle.entries.specs.declared.entry.Charged.{Charged}
 use Rattle.entries.specs.Linked.{Node}
 use Rattle.entries.specs.Placed.{Placed}
-use Rattle.entries.specs.Store.{items_at, digests_of, Evicts, Removes}
+use Rattle.entries.specs.Store.{items_at, values_of, Evicts, Removes}
 use Rattle.entries.specs.Table.{messages_of, IsPlaced, Leaves}
 use Rattle.broadcast_core.specs.Carried.{Carried}
 use Rattle.broadcast_core.specs.Content.{Same, items_at as stored_at}
@@ -89,7 +90,7 @@ module _ {P M D : Type 0} (same : Same P D) where
     }
 
   -- all keys were looked at
-  pub Drops-made : (key_laws : IsEquivalence same.key) (laws : IsEquivalence same.digest) (was peers : List P) (old : Stored P M D) (now : List (P × List (Node D))) (new : List (D × Placed P (Carried M D)))
+  pub Drops-made : (key_laws : IsEquivalence same.key) (laws : IsEquivalence same.digest) (was peers : List P) (old : Stored P M D) (now : List (P × List (Node (Charged D)))) (new : List (D × Placed P (Carried M D)))
       → IsIndexed same now new → IsDistinct same.key (keys_of (digest_lists now)) → Dropping was peers old (stored_of now new) → Drops same was peers old (stored_of now new)
   Drops-made key_laws laws was peers old now new indexed distinct c = record {
     lists = c.lists;
@@ -101,21 +102,21 @@ module _ {P M D : Type 0} (same : Same P D) where
 
 module _ {P M D : Type 0} (same : Same P D) where
   -- what is kept while the list of a key is cleared
-  pub record Clearing (p : P) (first now : List (P × List (Node D))) (old new : List (D × Placed P (Carried M D))) : Type 0 where
+  pub record Clearing (p : P) (first now : List (P × List (Node (Charged D)))) (old new : List (D × Placed P (Carried M D))) : Type 0 where
     pub indexed : IsIndexed same now new
     pub lists : (q : P) → same.key p q ≡ false → items_at same.key q now ≡ items_at same.key q first
     pub keys : (q : P) → same.key p q ≡ false → is_some (lookup (same.key q) now) ≡ true → is_some (lookup (same.key q) first) ≡ true
     pub fewer : Fewer same (messages_of old) (messages_of new)
 
-  pub Clearing-start : (p : P) (lists : List (P × List (Node D))) (items : List (D × Placed P (Carried M D))) → IsIndexed same lists items → Clearing p lists lists items items
+  pub Clearing-start : (p : P) (lists : List (P × List (Node (Charged D)))) (items : List (D × Placed P (Carried M D))) → IsIndexed same lists items → Clearing p lists lists items items
   Clearing-start p lists items was = record { indexed = was; lists = λ q h. refl; keys = λ q h there. there; fewer = λ d y h. h }
 
-  module _ (key_laws : IsEquivalence same.key) (laws : IsEquivalence same.digest) (p : P) (first now next : List (P × List (Node D))) (old mid new : List (D × Placed P (Carried M D))) (c : Clearing p first now old mid) where
+  module _ (key_laws : IsEquivalence same.key) (laws : IsEquivalence same.digest) (p : P) (first now next : List (P × List (Node (Charged D)))) (old mid new : List (D × Placed P (Carried M D))) (c : Clearing p first now old mid) where
     or_no : (a b : Bool) → a ≡ false → (a || b) ≡ true → b ≡ true
     or_no true b h k = absurd cc
     or_no false b h k = k
 
-    pub Clearing-step : (stale : D) → Evicts same.key p stale now next → Leaves same.digest same.key stale p mid new → IsPlaced same.digest same.key new → Clearing p first next old new
+    pub Clearing-step : (stale : Charged D) → Evicts same.key p stale now next → Leaves same.digest same.key stale.digest p mid new → IsPlaced same.digest same.key new → Clearing p first next old new
     Clearing-step stale evicts leaves placed = record {
       indexed = IsIndexed-evicted same key_laws laws p now next mid c.indexed stale evicts.place evicts.rest new evicts.last leaves.places evicts.put
           (λ d y h. c.indexed.named d y (leaves.fewer d y h)) placed;
@@ -124,21 +125,21 @@ module _ {P M D : Type 0} (same : Same P D) where
       fewer = λ d y h. c.fewer d y (leaves.fewer d y h);
     }
 
-    pub Clearing-shorter : (stale : D) → Evicts same.key p stale now next → length (items_at same.key p next) < length (items_at same.key p now)
+    pub Clearing-shorter : (stale : Charged D) → Evicts same.key p stale now next → length (items_at same.key p next) < length (items_at same.key p now)
     Clearing-shorter stale evicts =
         let rest : items_at same.key p next ≡ evicts.rest = evicts.put.lists p ∙ cond_true (same.key p p) evicts.rest (items_at same.key p now) (key_laws.refl p) in
         omega (arith, ap length rest, ap length evicts.last, length-append evicts.rest ((evicts.place, stale) ∷ []))
 
-    pub Clearing-end : (gone : List (P × List (Node D))) → items_at same.key p now ≡ [] → next ≡ now → Removes same.key p next gone
+    pub Clearing-end : (gone : List (P × List (Node (Charged D)))) → items_at same.key p now ≡ [] → next ≡ now → Removes same.key p next gone
         → IsIndexed same gone mid × Dropping same (p ∷ []) [] (stored_of first old) (stored_of gone mid)
     Clearing-end gone empty stays removes =
         let at : (q : P) → items_at same.key q gone ≡ cond (same.key p q) [] (items_at same.key q now) = λ q. removes.lists q ∙ ap (λ l. cond (same.key p q) [] (items_at same.key q l)) stays in (
           IsIndexed-closed same key_laws laws p now gone mid c.indexed empty at,
           record {
             lists = λ q. items_at-digests same.key q gone ∙ by_test (same.key p q)
-                (λ h. ap digests_of (at q ∙ cond_true (same.key p q) [] (items_at same.key q now) h)
+                (λ h. ap values_of (at q ∙ cond_true (same.key p q) [] (items_at same.key q now) h)
                 ∙ sym (cond_true (is_dropped same (p ∷ []) [] q) [] (items_at same.key q (digest_lists first)) (one-dropped same key_laws p q ∙ h)))
-                (λ h. ap digests_of (at q ∙ cond_false (same.key p q) [] (items_at same.key q now) h ∙ c.lists q h) ∙ sym (items_at-digests same.key q first)
+                (λ h. ap values_of (at q ∙ cond_false (same.key p q) [] (items_at same.key q now) h ∙ c.lists q h) ∙ sym (items_at-digests same.key q first)
                 ∙ sym (cond_false (is_dropped same (p ∷ []) [] q) [] (items_at same.key q (digest_lists first)) (one-dropped same key_laws p q ∙ h)));
             keys = λ q there. let r = removes.keys q (sym (is_some-digests same.key q gone) ∙ there) in (
               one-dropped same key_laws p q ∙ r.0,

@@ -9,18 +9,20 @@ use Rattle.std.specs.Ordering.{eq_by_cmp}
 use Rattle.std.specs.Cmp.{IsEquivalence, IsTotalOrder, eq_by_cmp_equiv}
 use Rattle.std.specs.declared.cmp.Ordering.{Ordering}
 use Rattle.std.proofs.lemmas.List.{take_all, nil_from_length}
+use Rattle.entries.specs.declared.entry.Charged.{Charged}
 use Rattle.entries.specs.Linked.{Node, IsApart}
 use Rattle.entries.specs.Placed.{Placed}
-use Rattle.entries.specs.Store.{digests_of, items_at, moved, Puts}
+use Rattle.entries.specs.Store.{values_of, items_at, moved, Puts}
 use Rattle.entries.specs.Table.{messages_of, place_in, place_at, IsPlaced, Leaves}
 use Rattle.entries.proofs.Stores.{found_same}
 use Rattle.entries.proofs.Tables.{lookup-messages}
 use Rattle.broadcast_core.specs.Carried.{Carried}
-use Rattle.broadcast_core.specs.Content.{Same, among, without}
+use Rattle.broadcast_core.specs.Content.{Same, same_charged, among, without}
 use Rattle.broadcast_core.specs.Indexed.{digest_lists, IsIndexed, stored_of, Origin, Holds}
 use Rattle.broadcast_core.specs.Stored.{Stores}
 use Rattle.broadcast_core.proofs.Distinct.{by_test, or_right, length-moved, without-absent}
 use Rattle.broadcast_core.proofs.Entries.{remove_entry-insert_entry}
+use Rattle.broadcast_core.proofs.Staying.{charged_laws}
 use Rattle.broadcast_core.proofs.Placing.{items_at-digests, digests-append}
 use Rattle.broadcast_core.proofs.Indexing.{cond_true, cond_false, nodes-equal, sets-beside, sets-other, sets-here, moved-digests, among-stands, among-nowhere, IsIndexed-moved, IsIndexed-added, IsIndexed-replaced, moved-replaced}
 use Rattle.broadcast_core.proofs.Caching.{named-origin, Stores-made}
@@ -45,44 +47,52 @@ place-same digest laws p q None h = refl
 place-same digest laws p q (Some item) h = sym (found_same laws item.places p q h)
 
 module _ {P M D : Type 0} (same : Same P D) (key_laws : IsEquivalence same.key) (laws : IsEquivalence same.digest) where
-  module _ (p : P) (x : Carried M D) (size : ℕ) (lists new_lists : List (P × List (Node D))) (items : List (D × Placed P (Carried M D))) (was : IsIndexed same lists items)
+  module _ (p : P) (x : Carried M D) (n : ℕ) (size : ℕ) (lists new_lists : List (P × List (Node (Charged D)))) (items : List (D × Placed P (Carried M D))) (was : IsIndexed same lists items)
       (distinct : IsDistinct same.key (keys_of (digest_lists lists))) (new_distinct : IsDistinct same.key (keys_of (digest_lists new_lists))) where
-    abbrev ns : List (Node D)
+    -- the digest with its charge
+    abbrev c : Charged D
+    c = record { digest = x.digest; charge = n }
+
+    -- the list after the taking
+    abbrev cs : List (Charged D)
+    cs = take size (c ∷ without (same_charged same.digest) c (items_at same.key p (digest_lists lists)))
+
+    abbrev ns : List (Node (Charged D))
     ns = items_at same.key p lists
 
-    abbrev ds : List D
+    abbrev ds : List (Charged D)
     ds = items_at same.key p (digest_lists lists)
 
-    ds-is : ds ≡ digests_of ns
+    ds-is : ds ≡ values_of ns
     ds-is = items_at-digests same.key p lists
 
     len-is : length ds ≡ length ns
     len-is = ap length ds-is ∙ len ns
       where
-        len : (ms : List (Node D)) → length (digests_of ms) ≡ length ms
+        len : (ms : List (Node (Charged D))) → length (values_of ms) ≡ length ms
         len [] = refl
         len (m ∷ ms) = ap suc (len ms)
 
     -- a digest that is on the list
-    pub Stores-moved : (i : ℕ) → IsApart ns → place_at same.digest same.key items x.digest p ≡ Some i → Puts same.key p (moved i x.digest ns) lists new_lists → length ds ≤ size
-        → IsIndexed same new_lists items × Stores same p x size (stored_of lists items) (stored_of new_lists items)
+    pub Stores-moved : (i : ℕ) → IsApart ns → place_at same.digest same.key items x.digest p ≡ Some i → Puts same.key p (moved i c ns) lists new_lists → length ds ≤ size
+        → IsIndexed same new_lists items × Stores same p x cs (stored_of lists items) (stored_of new_lists items)
     Stores-moved i apart there puts fits =
-        let now = IsIndexed-moved same key_laws laws p lists new_lists items was x.digest i apart there puts in
-        let there_ds : among same.digest x.digest ds ≡ true = ap (among same.digest x.digest) ds-is ∙ among-stands same key_laws laws p lists new_lists items was x.digest i apart there in
-        let is : digests_of (moved i x.digest ns) ≡ x.digest ∷ without same.digest x.digest ds =
-        moved-digests same key_laws laws p lists new_lists items was x.digest i apart there ∙ sym (ap (λ l. x.digest ∷ without same.digest x.digest l) ds-is) in (
+        let now = IsIndexed-moved same key_laws laws p lists new_lists items was c i apart there puts in
+        let there_ds : among (same_charged same.digest) c ds ≡ true = ap (among (same_charged same.digest) c) ds-is ∙ among-stands same key_laws laws p lists new_lists items was c i apart there in
+        let is : values_of (moved i c ns) ≡ c ∷ without (same_charged same.digest) c ds =
+        moved-digests same key_laws laws p lists new_lists items was c i apart there ∙ sym (ap (λ l. c ∷ without (same_charged same.digest) c l) ds-is) in (
           now,
-          Stores-made same key_laws laws p x size lists new_lists items items was now distinct new_distinct (moved i x.digest ns) puts
-              (is ∙ sym (take_all size (x.digest ∷ without same.digest x.digest ds) (omega (arith, fits, length-moved laws x.digest ds there_ds))))
+          Stores-made same key_laws laws p x cs lists new_lists items items was now distinct new_distinct (moved i c ns) puts
+              (is ∙ sym (take_all size (c ∷ without (same_charged same.digest) c ds) (omega (arith, fits, length-moved (charged_laws laws) c ds there_ds))))
               (λ d y h. inl h),
         )
 
     -- a list of which nothing is kept
-    pub Stores-nowhere : size ≡ 0 → length ds ≤ size → new_lists ≡ lists → Stores same p x size (stored_of lists items) (stored_of new_lists items)
+    pub Stores-nowhere : size ≡ 0 → length ds ≤ size → new_lists ≡ lists → Stores same p x cs (stored_of lists items) (stored_of new_lists items)
     Stores-nowhere zero fits stays =
         let none : ns ≡ [] = nil_from_length ns (omega (arith, zero, fits, len-is)) in
         let now = subst (λ l. IsIndexed same l items) (sym stays) was in
-        Stores-made same key_laws laws p x size lists new_lists items items was now distinct new_distinct []
+        Stores-made same key_laws laws p x cs lists new_lists items items was now distinct new_distinct []
         (record {
           lists = λ q. ap (items_at same.key q) stays ∙ by_test (same.key p q)
               (λ h. nodes-equal key_laws lists p q h ∙ none ∙ sym (cond_true (same.key p q) [] (items_at same.key q lists) h))
@@ -93,37 +103,37 @@ module _ {P M D : Type 0} (same : Same P D) (key_laws : IsEquivalence same.key) 
         (λ d y h. inl h)
 
     module _ (none : place_at same.digest same.key items x.digest p ≡ None) where
-      nowhere : among same.digest x.digest ds ≡ false
-      nowhere = ap (among same.digest x.digest) ds-is ∙ among-nowhere same key_laws laws p lists new_lists items was x.digest 0 none
+      nowhere : among (same_charged same.digest) c ds ≡ false
+      nowhere = ap (among (same_charged same.digest) c) ds-is ∙ among-nowhere same key_laws laws p lists new_lists items was c 0 none
 
       -- a digest that is not on a list that is not full
-      pub Stores-added : (R : D → D → Ordering) (i : ℕ) (new_items : List (D × Placed P (Carried M D))) → Holds same R p x i items new_items → IsPlaced same.digest same.key new_items → Puts same.key p ((i, x.digest) ∷ ns) lists new_lists → length ns < size
-          → IsIndexed same new_lists new_items × Stores same p x size (stored_of lists items) (stored_of new_lists new_items)
+      pub Stores-added : (R : D → D → Ordering) (i : ℕ) (new_items : List (D × Placed P (Carried M D))) → Holds same R p x i items new_items → IsPlaced same.digest same.key new_items → Puts same.key p ((i, c) ∷ ns) lists new_lists → length ns < size
+          → IsIndexed same new_lists new_items × Stores same p x cs (stored_of lists items) (stored_of new_lists new_items)
       Stores-added R i new_items holds placed puts fits =
-          let now = IsIndexed-added same key_laws laws p lists new_lists items was x.digest i none new_items holds.places puts
+          let now = IsIndexed-added same key_laws laws p lists new_lists items was c i none new_items holds.places puts
           (named-origin same key_laws laws x (messages_of items) (messages_of new_items) was.named holds.origin) placed in (
             now,
-            Stores-made same key_laws laws p x size lists new_lists items new_items was now distinct new_distinct ((i, x.digest) ∷ ns) puts
-                (ap (λ l. x.digest ∷ l) (sym ds-is ∙ sym (without-absent laws x.digest ds nowhere))
-                ∙ sym (take_all size (x.digest ∷ without same.digest x.digest ds) (omega (arith, fits, len-is, ap length (without-absent laws x.digest ds nowhere)))))
+            Stores-made same key_laws laws p x cs lists new_lists items new_items was now distinct new_distinct ((i, c) ∷ ns) puts
+                (ap (λ l. c ∷ l) (sym ds-is ∙ sym (without-absent (charged_laws laws) c ds nowhere))
+                ∙ sym (take_all size (c ∷ without (same_charged same.digest) c ds) (omega (arith, fits, len-is, ap length (without-absent (charged_laws laws) c ds nowhere)))))
                 holds.origin,
           )
 
       -- a digest that is not on a full list
-      pub Stores-replaced : (R : D → D → Ordering) (i : ℕ) (mid new_items : List (D × Placed P (Carried M D))) (newer : List (Node D)) (stale : D) → ns ≡ newer ++ (i, stale) ∷ [] → IsApart ns → length ns ≡ size
-          → Holds same R p x i items mid → Leaves same.digest same.key stale p mid new_items → IsPlaced same.digest same.key new_items → Puts same.key p (moved i x.digest ns) lists new_lists
-          → IsIndexed same new_lists new_items × Stores same p x size (stored_of lists items) (stored_of new_lists new_items)
+      pub Stores-replaced : (R : D → D → Ordering) (i : ℕ) (mid new_items : List (D × Placed P (Carried M D))) (newer : List (Node (Charged D))) (stale : Charged D) → ns ≡ newer ++ (i, stale) ∷ [] → IsApart ns → length ns ≡ size
+          → Holds same R p x i items mid → Leaves same.digest same.key stale.digest p mid new_items → IsPlaced same.digest same.key new_items → Puts same.key p (moved i c ns) lists new_lists
+          → IsIndexed same new_lists new_items × Stores same p x cs (stored_of lists items) (stored_of new_lists new_items)
       Stores-replaced R i mid new_items newer stale last apart full holds leaves placed puts =
           let origin : Origin same x (messages_of items) (messages_of new_items) = λ d y h. holds.origin d y (leaves.fewer d y h) in
-          let now = IsIndexed-replaced same key_laws laws p lists new_lists items was x.digest i none newer stale last mid new_items apart holds.places leaves.places puts
+          let now = IsIndexed-replaced same key_laws laws p lists new_lists items was c i none newer stale last mid new_items apart holds.places leaves.places puts
           (named-origin same key_laws laws x (messages_of items) (messages_of new_items) was.named origin) placed in
-          let split : ds ≡ digests_of newer ++ stale ∷ [] = ds-is ∙ ap digests_of last ∙ digests-append newer ((i, stale) ∷ []) in
-          let cut : take size (x.digest ∷ without same.digest x.digest ds) ≡ x.digest ∷ digests_of newer =
-          ap (λ l. take size (x.digest ∷ l)) (without-absent laws x.digest ds nowhere ∙ split)
-          ∙ take-front size (x.digest ∷ digests_of newer) (stale ∷ []) (omega (arith, full, len-is, ap length split, length-append (digests_of newer) (stale ∷ []))) in (
+          let split : ds ≡ values_of newer ++ stale ∷ [] = ds-is ∙ ap values_of last ∙ digests-append newer ((i, stale) ∷ []) in
+          let cut : take size (c ∷ without (same_charged same.digest) c ds) ≡ c ∷ values_of newer =
+          ap (λ l. take size (c ∷ l)) (without-absent (charged_laws laws) c ds nowhere ∙ split)
+          ∙ take-front size (c ∷ values_of newer) (stale ∷ []) (omega (arith, full, len-is, ap length split, length-append (values_of newer) (stale ∷ []))) in (
             now,
-            Stores-made same key_laws laws p x size lists new_lists items new_items was now distinct new_distinct (moved i x.digest ns) puts
-                (ap digests_of (moved-replaced same key_laws laws p lists new_lists items was x.digest i none newer stale last apart) ∙ sym cut)
+            Stores-made same key_laws laws p x cs lists new_lists items new_items was now distinct new_distinct (moved i c ns) puts
+                (ap values_of (moved-replaced same key_laws laws p lists new_lists items was c i none newer stale last apart) ∙ sym cut)
                 origin,
           )
 

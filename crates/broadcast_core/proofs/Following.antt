@@ -1,8 +1,9 @@
 -- What is listed and cached after one happening more, and how a core's store follows the history.
-use Rattle.std.proofs.Common.{◌≡◌, true, false, if◌then◌else◌, List, [], ◌∷◌, take, Option, Some, None, is_some, refl, sym, ap, ◌∙◌}
+use Rattle.std.proofs.Common.{◌≡◌, true, false, if◌then◌else◌, List, [], ◌∷◌, Option, Some, None, is_some, refl, sym, ap, ◌∙◌}
 use Rattle.std.specs.List.{list_any}
 use Rattle.std.specs.Cmp.{IsEquivalence}
-use Rattle.broadcast_core.specs.Content.{Content, among, without, items_at, has_primary, list_at, is_on_list, message_at, waiting_at, outcome_at, list_with}
+use Rattle.broadcast_core.specs.Content.{Content, among, digests_of, with_taken, items_at, has_primary, charged_at, list_at, is_on_list, message_at, waiting_at, outcome_at, list_with}
+use Rattle.broadcast_core.specs.Carried.{Carried}
 use Rattle.broadcast_core.specs.Changes.{Takes, TakesPeers, KeepsStore}
 use Rattle.broadcast_core.specs.Setting.{Setting}
 use Rattle.broadcast_core.specs.Happening.{Taking, carried_by, Happening, peers, taken}
@@ -10,10 +11,10 @@ use Rattle.broadcast_core.specs.HasContent.{HasContent}
 use Rattle.broadcast_core.specs.Answers.{outcome}
 use Rattle.broadcast_core.proofs.Distinct.{by_test, list_any-same, among-equal}
 use Rattle.broadcast_core.specs.Peers.{primary, is_primary}
-use Rattle.broadcast_core.specs.Lists.{list}
+use Rattle.broadcast_core.specs.Lists.{charge, charged, charged_list, list}
 use Rattle.broadcast_core.specs.Cache.{is_listed, message}
 use Rattle.broadcast_core.specs.Waiting.{waiting_for}
-use Rattle.broadcast_core.proofs.Listing.{take-none, any-weaker, from-any, primary-taken, is_primary-equal, list-empty, list-none, list-peers, list-other, list-equal, list-taken}
+use Rattle.broadcast_core.proofs.Listing.{any-weaker, from-any, primary-taken, is_primary-equal, list-empty, list-none, list-other, list-equal, charged-peers, charged-other, charged-equal, charged-taken}
 
 module _ {P M D W V : Type 0} (s : Setting P M D) where
   module _ (key_laws : IsEquivalence s.same.key) where
@@ -81,25 +82,26 @@ module _ {P M D W V : Type 0} (s : Setting P M D) where
   pub record HasStore (past : List (Happening P M D W V)) (core : Content P M D W) : Type 0 where
     pub own : core.own ≡ s.own
     pub deque_size : core.deque_size ≡ s.deque_size
+    pub byte_budget : core.byte_budget ≡ s.byte_budget
     pub primary : core.primary ≡ primary s past
-    pub lists : (p : P) → list_at s.same core p ≡ list s p past
+    pub lists : (p : P) → charged_at s.same core p ≡ charged_list s p past
     pub cached : (d : D) → message_at s.same core d ≡ message s d past
 
   pub HasStore-content : (past : List (Happening P M D W V)) (core : Content P M D W) → HasContent s past core → HasStore past core
-  HasStore-content past core has = record { own = has.own; deque_size = has.deque_size; primary = has.primary; lists = has.lists; cached = has.cached }
+  HasStore-content past core has = record { own = has.own; deque_size = has.deque_size; byte_budget = has.byte_budget; primary = has.primary; lists = has.lists; cached = has.cached }
 
   pub HasContent-store : (past : List (Happening P M D W V)) (core : Content P M D W) → HasStore past core
       → ((d : D) → waiting_at s.same core d ≡ waiting_for s d past) → HasContent s past core
   HasContent-store past core has waiters =
-      record { own = has.own; deque_size = has.deque_size; primary = has.primary; lists = has.lists; cached = has.cached; waiters = waiters }
+      record { own = has.own; deque_size = has.deque_size; byte_budget = has.byte_budget; primary = has.primary; lists = has.lists; cached = has.cached; waiters = waiters }
 
   -- what is asked of a core is what is asked of its history
   module _ (past : List (Happening P M D W V)) (core : Content P M D W) where
-    on_list-followed : core.primary ≡ primary s past → ((p : P) → list_at s.same core p ≡ list s p past) → (d : D) → is_on_list s.same core d ≡ is_listed s d past
+    on_list-followed : core.primary ≡ primary s past → ((p : P) → charged_at s.same core p ≡ charged_list s p past) → (d : D) → is_on_list s.same core d ≡ is_listed s d past
     on_list-followed keys lists d =
         ap (λ ps. list_any (λ p. among s.same.digest d (list_at s.same core p)) ps) keys
         ∙ list_any-same (λ p. among s.same.digest d (list_at s.same core p)) (λ p. among s.same.digest d (list s p past)) (primary s past)
-        (λ p. ap (among s.same.digest d) (lists p))
+        (λ p. ap (λ cs. among s.same.digest d (digests_of cs)) (lists p))
 
     module _ (has : HasStore past core) where
       pub is_on_list-followed : (d : D) → is_on_list s.same core d ≡ is_listed s d past
@@ -108,20 +110,21 @@ module _ {P M D W V : Type 0} (s : Setting P M D) where
       pub has_primary-followed : (p : P) → has_primary s.same core p ≡ is_primary s p past
       has_primary-followed p = ap (λ ps. list_any (s.same.key p) ps) has.primary
 
-      pub outcome-followed : (p : P) (d : D) → outcome_at s.same core p d ≡ outcome s p d past
-      outcome-followed p d = rw (has_primary-followed p, has.lists p) refl
+      pub outcome-followed : (p : P) (c : Carried M D) → outcome_at s.same core p c.digest (charge s c) ≡ outcome s p c past
+      outcome-followed p c = rw (has_primary-followed p, has.byte_budget, has.lists p) refl
 
-      pub list_with-followed : (p : P) (d : D) → list_with s.same core p d
-          ≡ (if is_primary s p past then take s.deque_size (d ∷ without s.same.digest d (list s p past)) else list s p past)
-      list_with-followed p d = rw (has_primary-followed p, has.lists p, has.deque_size) refl
+      pub list_with-followed : (p : P) (c : Carried M D) → list_with s.same core p c.digest (charge s c)
+          ≡ (if is_primary s p past then with_taken s.same.digest s.deque_size s.byte_budget (charged s c) (charged_list s p past) else charged_list s p past)
+      list_with-followed p c = rw (has_primary-followed p, has.lists p, has.deque_size, has.byte_budget) refl
 
   -- nothing has happened yet
-  pub HasStore-empty : (core : Content P M D W) → core.own ≡ s.own → core.deque_size ≡ s.deque_size → core.primary ≡ [] → core.lists ≡ [] → core.cached ≡ [] → HasStore [] core
-  HasStore-empty core own size keys lists cached = record {
+  pub HasStore-empty : (core : Content P M D W) → core.own ≡ s.own → core.deque_size ≡ s.deque_size → core.byte_budget ≡ s.byte_budget → core.primary ≡ [] → core.lists ≡ [] → core.cached ≡ [] → HasStore [] core
+  HasStore-empty core own size budget keys lists cached = record {
     own = own;
     deque_size = size;
+    byte_budget = budget;
     primary = keys;
-    lists = λ p. ap (λ es. items_at s.same.key p es) lists ∙ sym (take-none s.deque_size);
+    lists = λ p. ap (λ es. items_at s.same.key p es) lists;
     cached = λ d. rw cached refl;
   }
 
@@ -131,8 +134,9 @@ module _ {P M D W V : Type 0} (s : Setting P M D) where
   HasStore-other e past old new has keeps none stays = record {
     own = keeps.own ∙ has.own;
     deque_size = keeps.deque_size ∙ has.deque_size;
+    byte_budget = keeps.byte_budget ∙ has.byte_budget;
     primary = keeps.primary ∙ has.primary ∙ sym stays;
-    lists = λ p. ap (λ es. items_at s.same.key p es) keeps.lists ∙ has.lists p ∙ sym (list-other s p e past none stays);
+    lists = λ p. ap (λ es. items_at s.same.key p es) keeps.lists ∙ has.lists p ∙ sym (charged-other s p e past none stays);
     cached = λ d. (let kept : message_at s.same new d ≡ message_at s.same old d = rw keeps.cached refl in kept) ∙ has.cached d ∙ sym (message-other d e past none stays);
   }
 
@@ -140,10 +144,11 @@ module _ {P M D W V : Type 0} (s : Setting P M D) where
     -- a peer set
     pub HasStore-peers : (ps : List P) (past : List (Happening P M D W V)) (old new : Content P M D W) → HasStore past old → TakesPeers s.same ps old new → HasStore (peers ps ∷ past) new
     HasStore-peers ps past old new has takes =
-        let lists : (q : P) → list_at s.same new q ≡ list s q (peers ps ∷ past) = λ q. takes.lists q ∙ rw (has.lists q) (sym (list-peers s q ps past)) in
+        let lists : (q : P) → charged_at s.same new q ≡ charged_list s q (peers ps ∷ past) = λ q. takes.lists q ∙ rw (has.lists q) (sym (charged-peers s q ps past)) in
         record {
           own = takes.own ∙ has.own;
           deque_size = takes.deque_size ∙ has.deque_size;
+          byte_budget = takes.byte_budget ∙ has.byte_budget;
           primary = takes.primary;
           lists = lists;
           cached = λ d. by_test (is_listed s d (peers ps ∷ past))
@@ -154,24 +159,25 @@ module _ {P M D W V : Type 0} (s : Setting P M D) where
     module _ (laws : IsEquivalence s.same.digest) where
       -- a taking as it changes a core's lists
       list-stored : (e : Happening P M D W V) (t : Taking P M D) (past : List (Happening P M D W V)) (q : P) → taken s e ≡ Some t
-          → list s q (e ∷ past) ≡ (if s.same.key t.key q
-          then (if is_primary s t.key past then take s.deque_size (t.carried.digest ∷ without s.same.digest t.carried.digest (list s t.key past)) else list s t.key past)
-          else list s q past)
+          → charged_list s q (e ∷ past) ≡ (if s.same.key t.key q
+          then (if is_primary s t.key past then with_taken s.same.digest s.deque_size s.byte_budget (charged s t.carried) (charged_list s t.key past) else charged_list s t.key past)
+          else charged_list s q past)
       list-stored e t past q some = by_test (s.same.key t.key q)
-          (λ h. rw (h, list-equal s key_laws t.key q past h, is_primary-equal s key_laws t.key q past h)
-          (list-taken s laws q e t past some ∙ rw (key_laws.symm q t.key ∙ h) refl))
-          (λ h. rw h (list-taken s laws q e t past some ∙ rw (key_laws.symm q t.key ∙ h) refl))
+          (λ h. rw (h, charged-equal s key_laws t.key q past h, is_primary-equal s key_laws t.key q past h)
+          (charged-taken s laws q e t past some ∙ rw (key_laws.symm q t.key ∙ h) refl))
+          (λ h. rw h (charged-taken s laws q e t past some ∙ rw (key_laws.symm q t.key ∙ h) refl))
 
       -- an event that takes a message
       pub HasStore-taken : (e : Happening P M D W V) (t : Taking P M D) (past : List (Happening P M D W V)) (old new : Content P M D W) → HasStore past old
-          → Takes s.same t.key t.carried old new → taken s e ≡ Some t → HasStore (e ∷ past) new
+          → Takes s.same t.key t.carried (charge s t.carried) old new → taken s e ≡ Some t → HasStore (e ∷ past) new
       HasStore-taken e t past old new has takes some =
           let keys : new.primary ≡ primary s (e ∷ past) = takes.primary ∙ has.primary ∙ sym (primary-taken s e t past some) in
-          let lists : (q : P) → list_at s.same new q ≡ list s q (e ∷ past) =
-          λ q. takes.lists q ∙ rw (list_with-followed past old has t.key t.carried.digest, has.lists q) (sym (list-stored e t past q some)) in
+          let lists : (q : P) → charged_at s.same new q ≡ charged_list s q (e ∷ past) =
+          λ q. takes.lists q ∙ rw (list_with-followed past old has t.key t.carried, has.lists q) (sym (list-stored e t past q some)) in
           record {
             own = takes.own ∙ has.own;
             deque_size = takes.deque_size ∙ has.deque_size;
+            byte_budget = takes.byte_budget ∙ has.byte_budget;
             primary = keys;
             lists = lists;
             cached = λ d. takes.cached d

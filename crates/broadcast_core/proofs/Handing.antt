@@ -1,5 +1,6 @@
 -- What each call of a core hands out, by the history that gives its content.
-use Rattle.std.proofs.Common.{◌≡◌, List, [], ◌∷◌, ◌++◌, map, append_assoc, append-nil, Some, refl, sym, ap, ◌∙◌, subst}
+use Rattle.std.specs.Option.{option_map}
+use Rattle.std.proofs.Common.{◌≡◌, ℕ, Option, length, List, [], ◌∷◌, ◌++◌, map, append_assoc, append-nil, Some, refl, sym, ap, ◌∙◌, subst}
 use Rattle.broadcast_core.specs.Carried.{Carried}
 use Rattle.broadcast_core.specs.Content.{Content, Same, message_at, waiting_at, outcome_at}
 use Rattle.broadcast_core.specs.Changes.{IsSubscribed}
@@ -33,8 +34,11 @@ module _ {P M D W V : Type 0} {s : Setting P M D} {same : Same P D} (is : s.same
   laws = subst (λ m. IsLawful m) (sym is) lawful
 
   -- the outcome of a taking
-  pub outcome-taken : (p : P) (d : D) → outcome_at same old p d ≡ outcome s p d past
-  outcome-taken p d = ap (λ m. outcome_at m old p d) (sym is) ∙ outcome-followed s past old (HasStore-content s past old has) p d
+  pub outcome-taken : {encoding : M → Option (List ℕ)} → s.encoding ≡ encoding → (p : P) (c : Carried M D) → outcome_at same old p c.digest (option_map length (encoding c.message)) ≡ outcome s p c past
+  outcome-taken {encoding} encodes p c =
+      ap (λ m. outcome_at m old p c.digest (option_map length (encoding c.message))) (sym is)
+      ∙ ap (λ f. outcome_at s.same old p c.digest (option_map length (f c.message))) (sym encodes)
+      ∙ outcome-followed s past old (HasStore-content s past old has) p c
 
   -- the waiters that a taking serves
   pub served-taken : (e : Happening P M D W V) (t : Taking P M D) → taken s e ≡ Some t → waiting_at same old t.carried.digest ≡ waiters_of (replied_at s e past)

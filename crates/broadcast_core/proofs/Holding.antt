@@ -6,6 +6,7 @@ use Rattle.std.specs.Map.{lookup}
 use Rattle.std.specs.BTreeMap.{insert_entry}
 use Rattle.std.specs.Cmp.{IsEquivalence}
 use Rattle.std.specs.declared.cmp.Ordering.{Ordering}
+use Rattle.entries.specs.declared.entry.Charged.{Charged}
 use Rattle.entries.specs.Linked.{Node}
 use Rattle.entries.specs.Placed.{Placed}
 use Rattle.entries.specs.Store.{items_at}
@@ -13,10 +14,12 @@ use Rattle.entries.specs.Table.{messages_of, place_at, Joins}
 use Rattle.entries.proofs.Stores.{found_same}
 use Rattle.entries.proofs.Tables.{lookup-messages}
 use Rattle.broadcast_core.specs.Carried.{Carried}
-use Rattle.broadcast_core.specs.Content.{Same, among}
+use Rattle.broadcast_core.specs.Content.{Same, at_charge}
+use Rattle.broadcast_core.specs.Stored.{has_digest}
 use Rattle.broadcast_core.specs.Indexed.{IsIndexed, Holds, digest_lists}
 use Rattle.broadcast_core.proofs.Distinct.{by_test}
 use Rattle.broadcast_core.proofs.Indexing.{cond_true, cond_false}
+use Rattle.broadcast_core.proofs.Staying.{charged_laws}
 use Rattle.broadcast_core.proofs.Placing.{items_at-digests, among-place}
 
 none_is : {X : Type 0} (o : Option X) → false ≡ is_some o → o ≡ None
@@ -32,9 +35,11 @@ no_duplicate b o is none has = let no : false ≡ true = sym (is ∙ ap is_some 
 
 module _ {P M D : Type 0} (same : Same P D) (key_laws : IsEquivalence same.key) (laws : IsEquivalence same.digest) where
   -- whether the list of the key has the digest, by the table
-  pub among-indexed : (lists : List (P × List (Node D))) (items : List (D × Placed P (Carried M D))) → IsIndexed same lists items → (d : D) (p : P)
-      → among same.digest d (items_at same.key p (digest_lists lists)) ≡ is_some (place_at same.digest same.key items d p)
-  among-indexed lists items was d p = ap (among same.digest d) (items_at-digests same.key p lists) ∙ among-place laws d (items_at same.key p lists) ∙ ap is_some (sym (was.finds d p))
+  pub among-indexed : (lists : List (P × List (Node (Charged D)))) (items : List (D × Placed P (Carried M D))) → IsIndexed same lists items → (d : D) (p : P)
+      → has_digest same.digest d (items_at same.key p (digest_lists lists)) ≡ is_some (place_at same.digest same.key items d p)
+  among-indexed lists items was d p =
+      let any : Charged D = at_charge d 0 in
+      ap (has_digest same.digest d) (items_at-digests same.key p lists) ∙ among-place (charged_laws laws) any (items_at same.key p lists) ∙ ap is_some (sym (was.finds any p))
 
   -- what a message that gets a place makes of the messages
   pub Holds-joined : (is_clone : Carried M D → Carried M D → Type 0) (R : D → D → Ordering) (p : P) (x : Carried M D) (place : ℕ) (old new : List (D × Placed P (Carried M D)))

@@ -4,15 +4,17 @@ use Rattle.std.specs.Prelude.{is_some, unwrap_or}
 use Rattle.std.specs.List.{IsDistinct}
 use Rattle.std.specs.Map.{lookup}
 use Rattle.std.specs.Cmp.{IsEquivalence}
+use Rattle.entries.specs.declared.entry.Charged.{Charged}
 use Rattle.entries.specs.Linked.{Node, IsApart}
 use Rattle.entries.specs.Placed.{Placed}
-use Rattle.entries.specs.Store.{digests_of, items_at, moved, Puts}
+use Rattle.entries.specs.Store.{values_of, items_at, moved, Puts}
 use Rattle.entries.specs.Table.{messages_of, place_at, IsPlaced, SetsPlace}
 use Rattle.entries.proofs.Stores.{found_same, moved-parts}
 use Rattle.broadcast_core.specs.Carried.{Carried}
-use Rattle.broadcast_core.specs.Content.{Same, among, without}
+use Rattle.broadcast_core.specs.Content.{Same, same_charged, among, without}
 use Rattle.broadcast_core.specs.Indexed.{place_of, IsIndexed}
 use Rattle.broadcast_core.proofs.Distinct.{by_test, or_false, list_any-append, or_none, among-equal, among-last, IsDistinct-init, IsDistinct-front, IsDistinct-moved}
+use Rattle.broadcast_core.proofs.Staying.{charged_laws}
 use Rattle.broadcast_core.proofs.Placing.{digests-append, among-place, place-none, place-beside, place-first, place-later, place-moved, found, digests-moved}
 
 pub cond_true : {A : Type 0} (b : Bool) (x y : A) → b ≡ true → cond b x y ≡ x
@@ -53,128 +55,128 @@ module _ {P M D : Type 0} (same : Same P D) (key_laws : IsEquivalence same.key) 
   abbrev Named : List (D × Placed P (Carried M D)) → Type 0
   Named items = (d : D) (x : Carried M D) → lookup (same.digest d) (messages_of items) ≡ Some x → same.digest d x.digest ≡ true
 
-  module _ (p : P) (lists new_lists : List (P × List (Node D))) (items : List (D × Placed P (Carried M D))) (was : IsIndexed same lists items) where
-    abbrev ns : List (Node D)
+  module _ (p : P) (lists new_lists : List (P × List (Node (Charged D)))) (items : List (D × Placed P (Carried M D))) (was : IsIndexed same lists items) where
+    abbrev ns : List (Node (Charged D))
     ns = items_at same.key p lists
 
     -- what the table has at a key that equals p
-    at-key : (e : D) (q : P) → same.key p q ≡ true → place_at same.digest same.key items e q ≡ place_of same.digest e ns
-    at-key e q h = was.finds e q ∙ ap (place_of same.digest e) (nodes-equal key_laws lists p q h)
+    at-key : (e : Charged D) (q : P) → same.key p q ≡ true → place_at same.digest same.key items e.digest q ≡ place_of (same_charged same.digest) e ns
+    at-key e q h = was.finds e q ∙ ap (place_of (same_charged same.digest) e) (nodes-equal key_laws lists p q h)
 
-    indexed : (ms : List (Node D)) (new_items : List (D × Placed P (Carried M D))) → Puts same.key p ms lists new_lists
-        → ((e : D) (q : P) → same.key p q ≡ false → place_at same.digest same.key new_items e q ≡ place_at same.digest same.key items e q)
-        → ((e : D) (q : P) → same.key p q ≡ true → place_at same.digest same.key new_items e q ≡ place_of same.digest e ms)
-        → IsDistinct same.digest (digests_of ms) → Named new_items → IsPlaced same.digest same.key new_items → IsIndexed same new_lists new_items
+    indexed : (ms : List (Node (Charged D))) (new_items : List (D × Placed P (Carried M D))) → Puts same.key p ms lists new_lists
+        → ((e : Charged D) (q : P) → same.key p q ≡ false → place_at same.digest same.key new_items e.digest q ≡ place_at same.digest same.key items e.digest q)
+        → ((e : Charged D) (q : P) → same.key p q ≡ true → place_at same.digest same.key new_items e.digest q ≡ place_of (same_charged same.digest) e ms)
+        → IsDistinct (same_charged same.digest) (values_of ms) → Named new_items → IsPlaced same.digest same.key new_items → IsIndexed same new_lists new_items
     indexed ms new_items puts other here distinct named placed = record {
       finds = λ e q. by_test (same.key p q)
-          (λ h. here e q h ∙ sym (ap (place_of same.digest e) (puts.lists q ∙ cond_true (same.key p q) ms (items_at same.key q lists) h)))
-          (λ h. other e q h ∙ was.finds e q ∙ sym (ap (place_of same.digest e) (puts.lists q ∙ cond_false (same.key p q) ms (items_at same.key q lists) h)));
+          (λ h. here e q h ∙ sym (ap (place_of (same_charged same.digest) e) (puts.lists q ∙ cond_true (same.key p q) ms (items_at same.key q lists) h)))
+          (λ h. other e q h ∙ was.finds e q ∙ sym (ap (place_of (same_charged same.digest) e) (puts.lists q ∙ cond_false (same.key p q) ms (items_at same.key q lists) h)));
       distinct = λ q. by_test (same.key p q)
-          (λ h. subst (λ l. IsDistinct same.digest (digests_of l)) (sym (puts.lists q ∙ cond_true (same.key p q) ms (items_at same.key q lists) h)) distinct)
-          (λ h. subst (λ l. IsDistinct same.digest (digests_of l)) (sym (puts.lists q ∙ cond_false (same.key p q) ms (items_at same.key q lists) h)) (was.distinct q));
+          (λ h. subst (λ l. IsDistinct (same_charged same.digest) (values_of l)) (sym (puts.lists q ∙ cond_true (same.key p q) ms (items_at same.key q lists) h)) distinct)
+          (λ h. subst (λ l. IsDistinct (same_charged same.digest) (values_of l)) (sym (puts.lists q ∙ cond_false (same.key p q) ms (items_at same.key q lists) h)) (was.distinct q));
       named = named;
       placed = placed;
     }
 
     -- a digest of the list moves to its front
-    module _ (d : D) (i : ℕ) (apart : IsApart ns) (there : place_at same.digest same.key items d p ≡ Some i) where
-      stands : place_of same.digest d ns ≡ Some i
+    module _ (d : Charged D) (i : ℕ) (apart : IsApart ns) (there : place_at same.digest same.key items d.digest p ≡ Some i) where
+      stands : place_of (same_charged same.digest) d ns ≡ Some i
       stands = sym (was.finds d p) ∙ there
 
-      pub moved-digests : digests_of (moved i d ns) ≡ d ∷ without same.digest d (digests_of ns)
-      moved-digests = digests-moved laws d i ns apart (was.distinct p) (found laws d i ns stands)
+      pub moved-digests : values_of (moved i d ns) ≡ d ∷ without (same_charged same.digest) d (values_of ns)
+      moved-digests = digests-moved (charged_laws laws) d i ns apart (was.distinct p) (found (charged_laws laws) d i ns stands)
 
-      pub among-stands : among same.digest d (digests_of ns) ≡ true
-      among-stands = among-place laws d ns ∙ ap is_some stands
+      pub among-stands : among (same_charged same.digest) d (values_of ns) ≡ true
+      among-stands = among-place (charged_laws laws) d ns ∙ ap is_some stands
 
       pub IsIndexed-moved : Puts same.key p (moved i d ns) lists new_lists → IsIndexed same new_lists items
       IsIndexed-moved puts = indexed (moved i d ns) items puts
           (λ e q h. refl)
-          (λ e q h. at-key e q h ∙ sym (place-moved laws e d i ns apart stands))
-          (subst (IsDistinct same.digest) (sym moved-digests) (IsDistinct-moved laws d (digests_of ns) (was.distinct p)))
+          (λ e q h. at-key e q h ∙ sym (place-moved (charged_laws laws) e d i ns apart stands))
+          (subst (IsDistinct (same_charged same.digest)) (sym moved-digests) (IsDistinct-moved (charged_laws laws) d (values_of ns) (was.distinct p)))
           was.named was.placed
 
     -- a digest that was nowhere goes in front
-    module _ (d : D) (i : ℕ) (none : place_at same.digest same.key items d p ≡ None) where
-      pub among-nowhere : among same.digest d (digests_of ns) ≡ false
-      among-nowhere = among-place laws d ns ∙ ap is_some (sym (was.finds d p) ∙ none)
+    module _ (d : Charged D) (i : ℕ) (none : place_at same.digest same.key items d.digest p ≡ None) where
+      pub among-nowhere : among (same_charged same.digest) d (values_of ns) ≡ false
+      among-nowhere = among-place (charged_laws laws) d ns ∙ ap is_some (sym (was.finds d p) ∙ none)
 
-      pub IsIndexed-added : (new_items : List (D × Placed P (Carried M D))) → SetsPlace same.digest same.key d p (Some i) items new_items → Puts same.key p ((i, d) ∷ ns) lists new_lists
+      pub IsIndexed-added : (new_items : List (D × Placed P (Carried M D))) → SetsPlace same.digest same.key d.digest p (Some i) items new_items → Puts same.key p ((i, d) ∷ ns) lists new_lists
           → Named new_items → IsPlaced same.digest same.key new_items → IsIndexed same new_lists new_items
       IsIndexed-added new_items sets puts named placed = indexed ((i, d) ∷ ns) new_items puts
-          (λ e q h. sets-other d p (Some i) items new_items sets e q h)
-          (λ e q h. by_test (same.digest d e)
-          (λ t. sets-here d p (Some i) items new_items sets e q t h ∙ sym (place-first laws e (i, d) ns (laws.symm e d ∙ t)))
-          (λ t. sets-beside d p (Some i) items new_items sets e q t ∙ at-key e q h ∙ sym (place-later laws e (i, d) ns (laws.symm e d ∙ t))))
-          (IsDistinct-front laws d (digests_of ns) among-nowhere (was.distinct p))
+          (λ e q h. sets-other d.digest p (Some i) items new_items sets e.digest q h)
+          (λ e q h. by_test ((same_charged same.digest) d e)
+          (λ t. sets-here d.digest p (Some i) items new_items sets e.digest q t h ∙ sym (place-first (charged_laws laws) e (i, d) ns ((charged_laws laws).symm e d ∙ t)))
+          (λ t. sets-beside d.digest p (Some i) items new_items sets e.digest q t ∙ at-key e q h ∙ sym (place-later (charged_laws laws) e (i, d) ns ((charged_laws laws).symm e d ∙ t))))
+          (IsDistinct-front (charged_laws laws) d (values_of ns) among-nowhere (was.distinct p))
           named placed
 
-      module _ (newer : List (Node D)) (stale : D) (last : ns ≡ newer ++ (i, stale) ∷ []) where
-        parts : (among same.digest d (digests_of newer) ≡ false) × (same.digest d stale ≡ false)
+      module _ (newer : List (Node (Charged D))) (stale : Charged D) (last : ns ≡ newer ++ (i, stale) ∷ []) where
+        parts : (among (same_charged same.digest) d (values_of newer) ≡ false) × ((same_charged same.digest) d stale ≡ false)
         parts =
-            let whole : among same.digest d (digests_of newer ++ stale ∷ []) ≡ false = ap (among same.digest d) (sym (ap digests_of last ∙ digests-append newer ((i, stale) ∷ []))) ∙ among-nowhere in
-            let both = or_false (among same.digest d (digests_of newer)) (same.digest d stale || false) (sym (list_any-append (same.digest d) (digests_of newer) (stale ∷ [])) ∙ whole) in
-            (both.0, sym (or_none (same.digest d stale)) ∙ both.1)
+            let whole : among (same_charged same.digest) d (values_of newer ++ stale ∷ []) ≡ false = ap (among (same_charged same.digest) d) (sym (ap values_of last ∙ digests-append newer ((i, stale) ∷ []))) ∙ among-nowhere in
+            let both = or_false (among (same_charged same.digest) d (values_of newer)) ((same_charged same.digest) d stale || false) (sym (list_any-append (same_charged same.digest d) (values_of newer) (stale ∷ [])) ∙ whole) in
+            (both.0, sym (or_none ((same_charged same.digest) d stale)) ∙ both.1)
 
-        split : IsDistinct same.digest (digests_of newer ++ stale ∷ [])
-        split = subst (IsDistinct same.digest) (ap digests_of last ∙ digests-append newer ((i, stale) ∷ [])) (was.distinct p)
+        split : IsDistinct (same_charged same.digest) (values_of newer ++ stale ∷ [])
+        split = subst (IsDistinct (same_charged same.digest)) (ap values_of last ∙ digests-append newer ((i, stale) ∷ [])) (was.distinct p)
 
         pub moved-replaced : IsApart ns → moved i d ns ≡ (i, d) ∷ newer
         moved-replaced apart =
-            ap (moved i d) last ∙ moved-parts i d stale newer [] (rw last at apart) ∙ ap (λ (l : List (Node D)). (i, d) ∷ l) (append-nil newer)
+            ap (moved i d) last ∙ moved-parts i d stale newer [] (rw last at apart) ∙ ap (λ (l : List (Node (Charged D))). (i, d) ∷ l) (append-nil newer)
 
-        pub IsIndexed-replaced : (mid new_items : List (D × Placed P (Carried M D))) → IsApart ns → SetsPlace same.digest same.key d p (Some i) items mid → SetsPlace same.digest same.key stale p None mid new_items
+        pub IsIndexed-replaced : (mid new_items : List (D × Placed P (Carried M D))) → IsApart ns → SetsPlace same.digest same.key d.digest p (Some i) items mid → SetsPlace same.digest same.key stale.digest p None mid new_items
             → Puts same.key p (moved i d ns) lists new_lists → Named new_items → IsPlaced same.digest same.key new_items → IsIndexed same new_lists new_items
         IsIndexed-replaced mid new_items apart sets drops puts named placed =
             let is = moved-replaced apart in
             indexed ((i, d) ∷ newer) new_items (subst (λ l. Puts same.key p l lists new_lists) is puts)
-            (λ e q h. sets-other stale p None mid new_items drops e q h ∙ sets-other d p (Some i) items mid sets e q h)
-            (λ e q h. by_test (same.digest stale e)
+            (λ e q h. sets-other stale.digest p None mid new_items drops e.digest q h ∙ sets-other d.digest p (Some i) items mid sets e.digest q h)
+            (λ e q h. by_test ((same_charged same.digest) stale e)
             (λ t.
-            let apart_e : same.digest e d ≡ false = sym (laws.congr stale e d t) ∙ laws.symm stale d ∙ parts.1 in
-            sets-here stale p None mid new_items drops e q t h ∙ sym (place-later laws e (i, d) newer apart_e ∙ place-none laws e newer (sym (among-equal laws stale e (digests_of newer) t) ∙ among-last laws (digests_of newer) stale split)))
-            (λ t. sets-beside stale p None mid new_items drops e q t ∙ by_test (same.digest d e)
-            (λ u. sets-here d p (Some i) items mid sets e q u h ∙ sym (place-first laws e (i, d) newer (laws.symm e d ∙ u)))
-            (λ u. sets-beside d p (Some i) items mid sets e q u ∙ at-key e q h ∙ ap (place_of same.digest e) last
-            ∙ place-beside laws e newer (i, stale) [] (laws.symm e stale ∙ t) ∙ ap (place_of same.digest e) (append-nil newer)
-            ∙ sym (place-later laws e (i, d) newer (laws.symm e d ∙ u)))))
-            (IsDistinct-front laws d (digests_of newer) parts.0 (IsDistinct-init laws (digests_of newer) stale split))
+            let apart_e : (same_charged same.digest) e d ≡ false = sym ((charged_laws laws).congr stale e d t) ∙ (charged_laws laws).symm stale d ∙ parts.1 in
+            sets-here stale.digest p None mid new_items drops e.digest q t h ∙ sym (place-later (charged_laws laws) e (i, d) newer apart_e ∙ place-none (charged_laws laws) e newer (sym (among-equal (charged_laws laws) stale e (values_of newer) t) ∙ among-last (charged_laws laws) (values_of newer) stale split)))
+            (λ t. sets-beside stale.digest p None mid new_items drops e.digest q t ∙ by_test ((same_charged same.digest) d e)
+            (λ u. sets-here d.digest p (Some i) items mid sets e.digest q u h ∙ sym (place-first (charged_laws laws) e (i, d) newer ((charged_laws laws).symm e d ∙ u)))
+            (λ u. sets-beside d.digest p (Some i) items mid sets e.digest q u ∙ at-key e q h ∙ ap (place_of (same_charged same.digest) e) last
+            ∙ place-beside (charged_laws laws) e newer (i, stale) [] ((charged_laws laws).symm e stale ∙ t) ∙ ap (place_of (same_charged same.digest) e) (append-nil newer)
+            ∙ sym (place-later (charged_laws laws) e (i, d) newer ((charged_laws laws).symm e d ∙ u)))))
+            (IsDistinct-front (charged_laws laws) d (values_of newer) parts.0 (IsDistinct-init (charged_laws laws) (values_of newer) stale split))
             named placed
 
     -- the oldest digest leaves
-    pub IsIndexed-evicted : (stale : D) (i : ℕ) (rest : List (Node D)) (new_items : List (D × Placed P (Carried M D))) → ns ≡ rest ++ (i, stale) ∷ [] → SetsPlace same.digest same.key stale p None items new_items
+    pub IsIndexed-evicted : (stale : Charged D) (i : ℕ) (rest : List (Node (Charged D))) (new_items : List (D × Placed P (Carried M D))) → ns ≡ rest ++ (i, stale) ∷ [] → SetsPlace same.digest same.key stale.digest p None items new_items
         → Puts same.key p rest lists new_lists → Named new_items → IsPlaced same.digest same.key new_items → IsIndexed same new_lists new_items
     IsIndexed-evicted stale i rest new_items last drops puts named placed =
-        let split : IsDistinct same.digest (digests_of rest ++ stale ∷ []) = subst (IsDistinct same.digest) (ap digests_of last ∙ digests-append rest ((i, stale) ∷ [])) (was.distinct p) in
+        let split : IsDistinct (same_charged same.digest) (values_of rest ++ stale ∷ []) = subst (IsDistinct (same_charged same.digest)) (ap values_of last ∙ digests-append rest ((i, stale) ∷ [])) (was.distinct p) in
         indexed rest new_items puts
-        (λ e q h. sets-other stale p None items new_items drops e q h)
-        (λ e q h. by_test (same.digest stale e)
-        (λ t. sets-here stale p None items new_items drops e q t h ∙ sym (place-none laws e rest (sym (among-equal laws stale e (digests_of rest) t) ∙ among-last laws (digests_of rest) stale split)))
-        (λ t. sets-beside stale p None items new_items drops e q t ∙ at-key e q h ∙ ap (place_of same.digest e) last
-        ∙ place-beside laws e rest (i, stale) [] (laws.symm e stale ∙ t) ∙ ap (place_of same.digest e) (append-nil rest)))
-        (IsDistinct-init laws (digests_of rest) stale split)
+        (λ e q h. sets-other stale.digest p None items new_items drops e.digest q h)
+        (λ e q h. by_test ((same_charged same.digest) stale e)
+        (λ t. sets-here stale.digest p None items new_items drops e.digest q t h ∙ sym (place-none (charged_laws laws) e rest (sym (among-equal (charged_laws laws) stale e (values_of rest) t) ∙ among-last (charged_laws laws) (values_of rest) stale split)))
+        (λ t. sets-beside stale.digest p None items new_items drops e.digest q t ∙ at-key e q h ∙ ap (place_of (same_charged same.digest) e) last
+        ∙ place-beside (charged_laws laws) e rest (i, stale) [] ((charged_laws laws).symm e stale ∙ t) ∙ ap (place_of (same_charged same.digest) e) (append-nil rest)))
+        (IsDistinct-init (charged_laws laws) (values_of rest) stale split)
         named placed
 
   -- the same places and messages
-  pub IsIndexed-same : (lists : List (P × List (Node D))) (items new_items : List (D × Placed P (Carried M D))) → IsIndexed same lists items → messages_of new_items ≡ messages_of items
+  pub IsIndexed-same : (lists : List (P × List (Node (Charged D)))) (items new_items : List (D × Placed P (Carried M D))) → IsIndexed same lists items → messages_of new_items ≡ messages_of items
       → ((e : D) (q : P) → place_at same.digest same.key new_items e q ≡ place_at same.digest same.key items e q) → IsPlaced same.digest same.key new_items → IsIndexed same lists new_items
   IsIndexed-same lists items new_items was messages places placed = record {
-    finds = λ e q. places e q ∙ was.finds e q;
+    finds = λ c q. places c.digest q ∙ was.finds c q;
     distinct = was.distinct;
     named = λ e x h. was.named e x (ap (lookup (same.digest e)) (sym messages) ∙ h);
     placed = placed;
   }
 
   -- the list of a key is gone, and it was empty
-  pub IsIndexed-closed : (p : P) (lists new_lists : List (P × List (Node D))) (items : List (D × Placed P (Carried M D))) → IsIndexed same lists items → items_at same.key p lists ≡ []
+  pub IsIndexed-closed : (p : P) (lists new_lists : List (P × List (Node (Charged D)))) (items : List (D × Placed P (Carried M D))) → IsIndexed same lists items → items_at same.key p lists ≡ []
       → ((q : P) → items_at same.key q new_lists ≡ cond (same.key p q) [] (items_at same.key q lists)) → IsIndexed same new_lists items
   IsIndexed-closed p lists new_lists items was empty at =
       let stays : (q : P) → items_at same.key q new_lists ≡ items_at same.key q lists = λ q. at q ∙ by_test (same.key p q)
       (λ h. cond_true (same.key p q) [] (items_at same.key q lists) h ∙ sym (nodes-equal key_laws lists p q h ∙ empty))
       (λ h. cond_false (same.key p q) [] (items_at same.key q lists) h) in
       record {
-        finds = λ e q. was.finds e q ∙ sym (ap (place_of same.digest e) (stays q));
-        distinct = λ q. subst (λ l. IsDistinct same.digest (digests_of l)) (sym (stays q)) (was.distinct q);
+        finds = λ e q. was.finds e q ∙ sym (ap (place_of (same_charged same.digest) e) (stays q));
+        distinct = λ q. subst (λ l. IsDistinct (same_charged same.digest) (values_of l)) (sym (stays q)) (was.distinct q);
         named = was.named;
         placed = was.placed;
       }

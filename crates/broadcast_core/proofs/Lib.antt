@@ -12,8 +12,13 @@ pub mod Caching
 pub mod Filling
 pub mod Holding
 pub mod Dropping
+pub mod Shortening
 pub mod CachedCount
+pub mod Cutting
+pub mod Staying
 pub mod Listing
+pub mod Listed
+pub mod ListLaws
 pub mod Concerning
 pub mod Following
 pub mod Waits

@@ -7,25 +7,25 @@ use Rattle.std.specs.Map.{lookup, keys_of}
 use Rattle.std.specs.Cmp.{IsEquivalence}
 use Rattle.std.proofs.lemmas.Map.Made.{lookup-map_values, keys_of-map_values}
 use Rattle.entries.specs.Linked.{Node, IsApart}
-use Rattle.entries.specs.Store.{digests_of, items_at, moved}
+use Rattle.entries.specs.Store.{values_of, items_at, moved}
 use Rattle.entries.proofs.Stores.{moved-parts}
 use Rattle.broadcast_core.specs.Content.{among, without}
 use Rattle.broadcast_core.specs.Indexed.{place_of, digest_lists}
 use Rattle.broadcast_core.proofs.Distinct.{by_test, or_false, IsDistinct-rest, among-head, among-equal, without-absent}
 
-pub digests-append : {D : Type 0} (xs ys : List (Node D)) → digests_of (xs ++ ys) ≡ digests_of xs ++ digests_of ys
+pub digests-append : {D : Type 0} (xs ys : List (Node D)) → values_of (xs ++ ys) ≡ values_of xs ++ values_of ys
 digests-append [] ys = refl
 digests-append (x ∷ xs) ys = ap (λ (l : List _). x.1 ∷ l) (digests-append xs ys)
 
 -- the digests of a key's nodes
-pub items_at-digests : {P D : Type 0} (key : P → P → Bool) (q : P) (lists : List (P × List (Node D))) → items_at key q (digest_lists lists) ≡ digests_of (items_at key q lists)
-items_at-digests {D = D} key q lists = ap (λ (o : Option (List D)). unwrap_or o []) (lookup-map_values digests_of (key q) lists) ∙ within (lookup (key q) lists)
+pub items_at-digests : {P D : Type 0} (key : P → P → Bool) (q : P) (lists : List (P × List (Node D))) → items_at key q (digest_lists lists) ≡ values_of (items_at key q lists)
+items_at-digests {D = D} key q lists = ap (λ (o : Option (List D)). unwrap_or o []) (lookup-map_values values_of (key q) lists) ∙ within (lookup (key q) lists)
   where
-    within : (o : Option (List (Node D))) → unwrap_or (option_map digests_of o) [] ≡ digests_of (unwrap_or o [])
+    within : (o : Option (List (Node D))) → unwrap_or (option_map values_of o) [] ≡ values_of (unwrap_or o [])
     within None = refl
     within (Some ns) = refl
 
-digests-length : {D : Type 0} (ms : List (Node D)) → length (digests_of ms) ≡ length ms
+digests-length : {D : Type 0} (ms : List (Node D)) → length (values_of ms) ≡ length ms
 digests-length [] = refl
 digests-length (m ∷ ms) = ap suc (digests-length ms)
 
@@ -33,18 +33,18 @@ pub length-digests : {P D : Type 0} (key : P → P → Bool) (q : P) (lists : Li
 length-digests key q lists = ap length (items_at-digests key q lists) ∙ digests-length (items_at key q lists)
 
 pub is_some-digests : {P D : Type 0} (key : P → P → Bool) (q : P) (lists : List (P × List (Node D))) → is_some (lookup (key q) (digest_lists lists)) ≡ is_some (lookup (key q) lists)
-is_some-digests {D = D} key q lists = ap is_some (lookup-map_values digests_of (key q) lists) ∙ some_map (lookup (key q) lists)
+is_some-digests {D = D} key q lists = ap is_some (lookup-map_values values_of (key q) lists) ∙ some_map (lookup (key q) lists)
   where
-    some_map : (o : Option (List (Node D))) → is_some (option_map digests_of o) ≡ is_some o
+    some_map : (o : Option (List (Node D))) → is_some (option_map values_of o) ≡ is_some o
     some_map None = refl
     some_map (Some ns) = refl
 
-pub no-digests : {D : Type 0} (ns : List (Node D)) → digests_of ns ≡ [] → ns ≡ []
+pub no-digests : {D : Type 0} (ns : List (Node D)) → values_of ns ≡ [] → ns ≡ []
 no-digests [] h = refl
 no-digests (n ∷ ns) h = cc
 
 pub distinct-digests : {P D : Type 0} (key : P → P → Bool) (lists : List (P × List (Node D))) → IsDistinct key (keys_of lists) → IsDistinct key (keys_of (digest_lists lists))
-distinct-digests key lists h = subst (IsDistinct key) (sym (keys_of-map_values digests_of lists)) h
+distinct-digests key lists h = subst (IsDistinct key) (sym (keys_of-map_values values_of lists)) h
 
 cond_true : {A : Type 0} (b : Bool) (x y : A) → b ≡ true → cond b x y ≡ x
 cond_true true x y e = refl
@@ -56,13 +56,13 @@ cond_false false x y e = refl
 
 module _ {D : Type 0} {same : D → D → Bool} (laws : IsEquivalence same) where
   -- a digest is among those that have a place
-  pub among-place : (d : D) (ns : List (Node D)) → among same d (digests_of ns) ≡ is_some (place_of same d ns)
+  pub among-place : (d : D) (ns : List (Node D)) → among same d (values_of ns) ≡ is_some (place_of same d ns)
   among-place d [] = refl
   among-place d (n ∷ ns) = by_test (same d n.1)
-      (λ h. ap (λ b. b || among same d (digests_of ns)) h ∙ sym (ap is_some (cond_true (same d n.1) (Some n.0) (place_of same d ns) h)))
-      (λ h. ap (λ b. b || among same d (digests_of ns)) h ∙ among-place d ns ∙ sym (ap is_some (cond_false (same d n.1) (Some n.0) (place_of same d ns) h)))
+      (λ h. ap (λ b. b || among same d (values_of ns)) h ∙ sym (ap is_some (cond_true (same d n.1) (Some n.0) (place_of same d ns) h)))
+      (λ h. ap (λ b. b || among same d (values_of ns)) h ∙ among-place d ns ∙ sym (ap is_some (cond_false (same d n.1) (Some n.0) (place_of same d ns) h)))
 
-  pub place-none : (d : D) (ns : List (Node D)) → among same d (digests_of ns) ≡ false → place_of same d ns ≡ None
+  pub place-none : (d : D) (ns : List (Node D)) → among same d (values_of ns) ≡ false → place_of same d ns ≡ None
   place-none d ns h = none (place_of same d ns) (sym (among-place d ns) ∙ h)
     where
       none : (o : Option ℕ) → is_some o ≡ false → o ≡ None
@@ -116,11 +116,11 @@ module _ {D : Type 0} {same : D → D → Bool} (laws : IsEquivalence same) wher
   pub moved-is : (d : D) (i : ℕ) (ns : List (Node D)) → IsApart ns → (f : Found d i ns) → moved i d ns ≡ (i, d) ∷ (f.front ++ f.back)
   moved-is d i ns apart f = ap (moved i d) f.is ∙ moved-parts i d f.digest f.front f.back (rw f.is at apart)
 
-  pub digests-moved : (d : D) (i : ℕ) (ns : List (Node D)) → IsApart ns → IsDistinct same (digests_of ns) → (f : Found d i ns) → digests_of (moved i d ns) ≡ d ∷ without same d (digests_of ns)
+  pub digests-moved : (d : D) (i : ℕ) (ns : List (Node D)) → IsApart ns → IsDistinct same (values_of ns) → (f : Found d i ns) → values_of (moved i d ns) ≡ d ∷ without same d (values_of ns)
   digests-moved d i ns apart distinct f =
-      let split : digests_of ns ≡ digests_of f.front ++ f.digest ∷ digests_of f.back = ap digests_of f.is ∙ digests-append f.front ((i, f.digest) ∷ f.back) in
-      ap digests_of (moved-is d i ns apart f)
-      ∙ ap (λ (l : List D). d ∷ l) (digests-append f.front f.back ∙ sym (ap (without same d) split ∙ without-middle d f.digest (digests_of f.front) (digests_of f.back) f.equal (rw split at distinct)))
+      let split : values_of ns ≡ values_of f.front ++ f.digest ∷ values_of f.back = ap values_of f.is ∙ digests-append f.front ((i, f.digest) ∷ f.back) in
+      ap values_of (moved-is d i ns apart f)
+      ∙ ap (λ (l : List D). d ∷ l) (digests-append f.front f.back ∙ sym (ap (without same d) split ∙ without-middle d f.digest (values_of f.front) (values_of f.back) f.equal (rw split at distinct)))
 
   pub place-moved : (e d : D) (i : ℕ) (ns : List (Node D)) → IsApart ns → place_of same d ns ≡ Some i → place_of same e (moved i d ns) ≡ place_of same e ns
   place-moved e d i ns apart there =
@@ -135,4 +135,4 @@ module _ {D : Type 0} {same : D → D → Bool} (laws : IsEquivalence same) wher
 pub not_full-digests : {P D : Type 0} (key : P → P → Bool) (q : P) (n : ℕ) (lists : List (P × List (Node D)))
     → (length (items_at key q lists) < n) ⊎ (items_at key q lists ≡ []) → (length (items_at key q (digest_lists lists)) < n) ⊎ (items_at key q (digest_lists lists) ≡ [])
 not_full-digests key q n lists (inl h) = inl (omega (arith, h, length-digests key q lists))
-not_full-digests key q n lists (inr h) = inr (items_at-digests key q lists ∙ ap digests_of h)
+not_full-digests key q n lists (inr h) = inr (items_at-digests key q lists ∙ ap values_of h)

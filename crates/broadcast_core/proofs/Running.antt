@@ -4,7 +4,7 @@ use Rattle.std.specs.Prelude.{◌-◌, ◌^◌}
 use Rattle.std.specs.List.{zip}
 use Rattle.std.proofs.lemmas.List.{reverse-append, append-nil, length-reverse}
 use Rattle.broadcast_core.specs.Carried.{Carried}
-use Rattle.broadcast_core.specs.Content.{Content}
+use Rattle.broadcast_core.specs.Content.{Content, digests_of}
 use Rattle.broadcast_core.specs.Setting.{Setting}
 use Rattle.broadcast_core.specs.Happening.{Happening, History, subscribe}
 use Rattle.broadcast_core.specs.Lists.{list}
@@ -84,14 +84,14 @@ module _ {P M D : Type 0} where
         one_each = each;
         answered = answered;
         content = content;
-        same_concerns_same_list = λ p q other h. list-same s s refl refl p q (history_of s es rs) other h ∙ sym (content.lists p);
-        alike_concerns_equal_list = λ p q other h. subst (λ xs. AreEqual s.same.digest (list s q other) xs) (sym (content.lists p))
-            (list-alike s s refl refl p q (history_of s es rs) other lawful.digest h);
+        same_concerns_same_list = λ p q other h. list-same s s refl refl refl p q (history_of s es rs) other h ∙ ap digests_of (sym (content.lists p));
+        alike_concerns_equal_list = λ p q other h. subst (λ xs. AreEqual s.same.digest (list s q other) xs) (ap digests_of (sym (content.lists p)))
+            (list-alike s s refl refl refl p q (history_of s es rs) other lawful.digest h);
         sent = sent;
       }
 
       -- no event has been run yet
-      pub HasRun-none : {core : Content P M D ℕ} → core ≡ record { own = s.own; deque_size = s.deque_size; primary = []; lists = []; cached = []; waiters = [] } → HasRun s [] [] [] core
+      pub HasRun-none : {core : Content P M D ℕ} → core ≡ record { own = s.own; deque_size = s.deque_size; byte_budget = s.byte_budget; primary = []; lists = []; cached = []; waiters = [] } → HasRun s [] [] [] core
       HasRun-none {core} new = has_run [] [] [] core refl tt (HasContent-empty new) refl
 
     -- the count of a cleanup is exact where the history is short
@@ -116,11 +116,12 @@ module _ {P M D : Type 0} where
     exact (Cleanup gone) past short = ap Removed (let few = removed-le s gone past in omega (arith, few, short))
 
     -- the core has the setting's own key and size
-    follows-setting : (e : Event P M D) (old new : Content P M D ℕ) (a : Answer M D) (sending : List (Sent P)) → old.own ≡ s.own → old.deque_size ≡ s.deque_size
-        → Follows (record s { own = old.own; deque_size = old.deque_size }) e old new a sending → Follows s e old new a sending
-    follows-setting e old new a sending own size h =
-        subst (λ n. Follows (record s { own = s.own; deque_size = n }) e old new a sending) size
-        (subst (λ o. Follows (record s { own = o; deque_size = old.deque_size }) e old new a sending) own h)
+    follows-setting : (e : Event P M D) (old new : Content P M D ℕ) (a : Answer M D) (sending : List (Sent P)) → old.own ≡ s.own → old.deque_size ≡ s.deque_size → old.byte_budget ≡ s.byte_budget
+        → Follows (record s { own = old.own; deque_size = old.deque_size; byte_budget = old.byte_budget }) e old new a sending → Follows s e old new a sending
+    follows-setting e old new a sending own size budget h =
+        subst (λ b. Follows (record s { own = s.own; deque_size = s.deque_size; byte_budget = b }) e old new a sending) budget
+        (subst (λ n. Follows (record s { own = s.own; deque_size = n; byte_budget = old.byte_budget }) e old new a sending) size
+        (subst (λ o. Follows (record s { own = o; deque_size = old.deque_size; byte_budget = old.byte_budget }) e old new a sending) own h))
 
     module _ (lawful : IsLawful s.same) where
       -- one more
@@ -137,11 +138,11 @@ module _ {P M D : Type 0} where
           (subst (λ l. sends ++ sending ≡ sent s (history s l)) (sym log) (ap (λ xs. xs ++ sending) before.sent ∙ sym step.sent))
 
       pub HasRun-follows : (es : List (Event P M D)) (rs : List (Answer M D)) (sends : List (Sent P)) (old new : Content P M D ℕ) (e : Event P M D) (a : Answer M D) (sending : List (Sent P))
-          → length es ≤ 2 ^ 64 - 1 → HasRun s es rs sends old → Follows (record s { own = old.own; deque_size = old.deque_size }) e old new a sending
+          → length es ≤ 2 ^ 64 - 1 → HasRun s es rs sends old → Follows (record s { own = old.own; deque_size = old.deque_size; byte_budget = old.byte_budget }) e old new a sending
           → HasRun s (es ++ e ∷ []) (rs ++ a ∷ []) (sends ++ sending) new
       HasRun-follows es rs sends old new e a sending short before step =
           HasRun-next es rs sends old new e a sending short before
-          (follows-setting e old new a sending before.content.own before.content.deque_size step (history_of s es rs) before.content)
+          (follows-setting e old new a sending before.content.own before.content.deque_size before.content.byte_budget step (history_of s es rs) before.content)
 
     -- the same lists, under other names
     pub HasRun-same : (es fs : List (Event P M D)) (rs qs : List (Answer M D)) (sends others : List (Sent P)) (core : Content P M D ℕ)

@@ -1,7 +1,8 @@
 -- What each call of a core makes of the history that gives its content. A caller's setting has the
 -- equalities that the calls speak of, which are lawful.
-use Rattle.std.proofs.Common.{◌≡◌, ℕ, ◌+◌, Bool, true, false, not, if◌then◌else◌, List, [], ◌∷◌, ◌++◌, Some, None, is_some, refl, sym, ap, ◌∙◌, subst, filter}
+use Rattle.std.proofs.Common.{◌≡◌, ℕ, ◌+◌, Bool, true, false, not, if◌then◌else◌, List, [], ◌∷◌, ◌++◌, Option, Some, None, is_some, length, refl, sym, ap, ◌∙◌, subst, filter}
 use Rattle.std.specs.Prelude.{unwrap_or}
+use Rattle.std.specs.Option.{option_map}
 use Rattle.std.specs.List.{IsDistinct, sum_by, count_by}
 use Rattle.std.specs.Map.{keys_of}
 use Rattle.broadcast_core.specs.Carried.{Carried}
@@ -26,13 +27,13 @@ use Rattle.broadcast_core.proofs.WaitsCount.{counted_by-entries, named-counted}
 
 -- a new core has what the empty history gives
 pub HasContent-empty : {P M D W V : Type 0} {s : Setting P M D} {core : Content P M D W}
-    → core ≡ record { own = s.own; deque_size = s.deque_size; primary = []; lists = []; cached = []; waiters = [] } → HasContent {V = V} s [] core
+    → core ≡ record { own = s.own; deque_size = s.deque_size; byte_budget = s.byte_budget; primary = []; lists = []; cached = []; waiters = [] } → HasContent {V = V} s [] core
 HasContent-empty {s = s} {core = core} new = HasContent-store s [] core
-    (HasStore-empty s core (ap (λ c. c.own) new) (ap (λ c. c.deque_size) new) (ap (λ c. c.primary) new) (ap (λ c. c.lists) new) (ap (λ c. c.cached) new))
+    (HasStore-empty s core (ap (λ c. c.own) new) (ap (λ c. c.deque_size) new) (ap (λ c. c.byte_budget) new) (ap (λ c. c.primary) new) (ap (λ c. c.lists) new) (ap (λ c. c.cached) new))
     (λ d. ap (λ c. items_at s.same.digest d c.waiters) new)
 
 kept : {P M D W : Type 0} {same : _} (c : Content P M D W) → KeepsStore same c c
-kept c = record { own = refl; deque_size = refl; primary = refl; lists = refl; cached = refl }
+kept c = record { own = refl; deque_size = refl; byte_budget = refl; primary = refl; lists = refl; cached = refl }
 
 nobody : {W : Type 0} (ws : List W) → filter (λ w. not true) ws ≡ []
 nobody [] = refl
@@ -57,17 +58,21 @@ module _ {P M D W V : Type 0} {s : Setting P M D} {same : Same P D} (is : s.same
       (λ d. takes.waiters d ∙ has.waiters d ∙ sym (waiting_for-peers s laws.digest held ps past d))
 
   -- a happening that takes a message
-  pub HasContent-taken : (e : Happening P M D W V) (t : Taking P M D) {new : Content P M D W} → taken s e ≡ Some t → Takes same t.key t.carried old new → HasContent s (e ∷ past) new
-  HasContent-taken e t {new} some by =
-      let takes = subst (λ m. Takes m t.key t.carried old new) (sym is) by in
+  pub HasContent-taken : {encoding : M → Option (List ℕ)} → s.encoding ≡ encoding → (e : Happening P M D W V) (t : Taking P M D) {new : Content P M D W} → taken s e ≡ Some t
+      → Takes same t.key t.carried (option_map length (encoding t.carried.message)) old new → HasContent s (e ∷ past) new
+  HasContent-taken {encoding} encodes e t {new} some by =
+      let takes = subst (λ f. Takes s.same t.key t.carried (option_map length (f t.carried.message)) old new) (sym encodes)
+      (subst (λ m. Takes m t.key t.carried (option_map length (encoding t.carried.message)) old new) (sym is) by) in
       HasContent-store s (e ∷ past) new (HasStore-taken s laws.key laws.digest e t past old new store takes some)
       (λ d. takes.waiters d ∙ ap (λ ws. if s.same.digest t.carried.digest d then [] else ws) (has.waiters d) ∙ sym (waiting_for-taking s laws.digest held e past t some d))
 
-  pub HasContent-broadcast : (r : Recipients P) {c : Carried M D} {new : Content P M D W} → Takes same s.own c old new → HasContent s (broadcast r c ∷ past) new
-  HasContent-broadcast r {c} takes = HasContent-taken (broadcast r c) (record { key = s.own; carried = c }) refl takes
+  pub HasContent-broadcast : {encoding : M → Option (List ℕ)} → s.encoding ≡ encoding → (r : Recipients P) {c : Carried M D} {new : Content P M D W}
+      → Takes same s.own c (option_map length (encoding c.message)) old new → HasContent s (broadcast r c ∷ past) new
+  HasContent-broadcast encodes r {c} takes = HasContent-taken encodes (broadcast r c) (record { key = s.own; carried = c }) refl takes
 
-  pub HasContent-arrival : {p : P} {c : Carried M D} {new : Content P M D W} → Takes same p c old new → HasContent s (arrival p c ∷ past) new
-  HasContent-arrival {p} {c} takes = HasContent-taken (arrival p c) (record { key = p; carried = c }) refl takes
+  pub HasContent-arrival : {encoding : M → Option (List ℕ)} → s.encoding ≡ encoding → {p : P} {c : Carried M D} {new : Content P M D W}
+      → Takes same p c (option_map length (encoding c.message)) old new → HasContent s (arrival p c ∷ past) new
+  HasContent-arrival encodes {p} {c} takes = HasContent-taken encodes (arrival p c) (record { key = p; carried = c }) refl takes
 
   -- a get
   pub HasContent-get : (v : V) (d : D) → HasContent s (get v d ∷ past) old

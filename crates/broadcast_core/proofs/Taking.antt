@@ -1,47 +1,66 @@
 -- What the changes of a cache make of a core's content.
-use Rattle.std.proofs.Common.{◌≡◌, ℕ, Bool, true, false, not, ◌&&◌, ◌||◌, cond, List, [], ◌∷◌, take, Option, Some, None, refl, sym, ap, ◌∙◌, arith}
-use Rattle.std.specs.Prelude.{is_some, unwrap_or, MatchBool}
-use Rattle.std.specs.List.{list_any, IsDistinct}
+use Rattle.std.proofs.Common.{◌≡◌, ℕ, Bool, true, false, not, ◌&&◌, ◌||◌, cond, ◌⊎◌, inl, inr, List, [], ◌∷◌, take, Option, Some, None, refl, sym, ap, ◌∙◌, arith}
+use Rattle.std.specs.Prelude.{is_some, nat_le, unwrap_or, MatchBool}
+use Rattle.std.specs.List.{list_any, AllByRecursion, IsDistinct}
 use Rattle.std.specs.Map.{lookup, keys_of}
 use Rattle.std.specs.Cmp.{IsEquivalence}
 use Rattle.std.proofs.lemmas.List.{length-take}
+use Rattle.entries.specs.declared.entry.Charged.{Charged}
 use Rattle.broadcast_core.specs.Carried.{Carried}
-use Rattle.broadcast_core.specs.Content.{Content, Same, among, without, items_at}
+use Rattle.broadcast_core.specs.Content.{Content, Same, affordable, at_charge, among, fronted, items_at, digests_of, same_charged, without}
 use Rattle.broadcast_core.specs.Changes.{Takes, TakesPeers}
-use Rattle.broadcast_core.specs.Stored.{Stored, Stores, Drops, IsCore, is_stored}
-use Rattle.broadcast_core.proofs.Distinct.{by_test, same_truth, or_right, among-equal, among-without_other}
+use Rattle.broadcast_core.specs.Stored.{Stored, Stores, StoresIf, Drops, IsCore, has_digest, is_stored}
+use Rattle.broadcast_core.proofs.Distinct.{by_test, same_truth, or_right, among-equal, among-without_other, list_any-same}
 use Rattle.broadcast_core.proofs.Caching.{stored-at, holder}
 use Rattle.broadcast_core.proofs.Indexing.{nodes-equal}
-use Rattle.broadcast_core.proofs.Listing.{none-taken}
+use Rattle.broadcast_core.proofs.Cutting.{none-taken}
+use Rattle.broadcast_core.proofs.Staying.{charged_laws, within-bounded, length-within, none-within}
+
+-- whether a digest is among those of a list
+pub among-names : {D : Type 0} (same : D → D → Bool) (d : D) (cs : List (Charged D)) → among same d (digests_of cs) ≡ has_digest same d cs
+among-names same d [] = refl
+among-names same d (c ∷ cs) = ap (λ b. same d c.digest || b) (among-names same d cs)
+
+-- digests that differ at their charges differ without them
+apart-names : {D : Type 0} (same : D → D → Bool) (d : D) (cs : List (Charged D)) → AllByRecursion (λ c. same d c.digest ≡ false) cs → AllByRecursion (λ e. same d e ≡ false) (digests_of cs)
+apart-names same d [] h = tt
+apart-names same d (c ∷ cs) h = (h.0, apart-names same d cs h.1)
+
+pub distinct-names : {D : Type 0} (same : D → D → Bool) (cs : List (Charged D)) → IsDistinct (same_charged same) cs → IsDistinct same (digests_of cs)
+unfolding IsDistinct
+distinct-names same [] h = tt
+distinct-names same (c ∷ cs) h = (apart-names same c.digest cs h.0, distinct-names same cs h.1)
 
 module _ {P D : Type 0} (same : Same P D) (laws : IsEquivalence same.key) where
-  on-primary : (p : P) (d : D) (lists : List (P × List D)) (primary : List P) → among same.digest d (items_at same.key p lists) ≡ true → list_any (same.key p) primary ≡ true
-      → list_any (λ q. among same.digest d (items_at same.key q lists)) primary ≡ true
+  on-primary : (p : P) (d : D) (lists : List (P × List (Charged D))) (primary : List P) → has_digest same.digest d (items_at same.key p lists) ≡ true → list_any (same.key p) primary ≡ true
+      → list_any (λ q. has_digest same.digest d (items_at same.key q lists)) primary ≡ true
   on-primary p d lists [] h there = absurd cc
   on-primary p d lists (q ∷ qs) h there = by_test (same.key p q)
-      (λ t. let here : among same.digest d (items_at same.key q lists) ≡ true = ap (among same.digest d) (nodes-equal laws lists p q t) ∙ h in rw here refl)
+      (λ t. let here : has_digest same.digest d (items_at same.key q lists) ≡ true = ap (has_digest same.digest d) (nodes-equal laws lists p q t) ∙ h in rw here refl)
       (λ t. let rest : list_any (same.key p) qs ≡ true = sym (ap (λ b. b || list_any (same.key p) qs) t) ∙ there in
-      ap (λ b. among same.digest d (items_at same.key q lists) || b) (on-primary p d lists qs h rest) ∙ or_right (among same.digest d (items_at same.key q lists)))
+      ap (λ b. has_digest same.digest d (items_at same.key q lists) || b) (on-primary p d lists qs h rest) ∙ or_right (has_digest same.digest d (items_at same.key q lists)))
 
-  from-primary : (d : D) (lists : List (P × List D)) (primary : List P) → list_any (λ q. among same.digest d (items_at same.key q lists)) primary ≡ true → is_stored same d lists ≡ true
+  from-primary : (d : D) (lists : List (P × List (Charged D))) (primary : List P) → list_any (λ q. has_digest same.digest d (items_at same.key q lists)) primary ≡ true → is_stored same d lists ≡ true
   from-primary d lists [] h = absurd cc
-  from-primary d lists (q ∷ qs) h = by_test (among same.digest d (items_at same.key q lists))
+  from-primary d lists (q ∷ qs) h = by_test (has_digest same.digest d (items_at same.key q lists))
       (λ t. stored-at same q d lists t)
-      (λ t. from-primary d lists qs (sym (ap (λ b. b || list_any (λ r. among same.digest d (items_at same.key r lists)) qs) t) ∙ h))
+      (λ t. from-primary d lists qs (sym (ap (λ b. b || list_any (λ r. has_digest same.digest d (items_at same.key r lists)) qs) t) ∙ h))
 
   -- a digest is on some deque exactly where it is on the list of a primary key
-  pub stored-listed : {M W : Type 0} {waiters : List (D × List W)} (size : ℕ) (primary : List P) (stored : Stored P M D) → IsCore same size primary stored waiters → (d : D)
-      → is_stored same d stored.lists ≡ list_any (λ q. among same.digest d (items_at same.key q stored.lists)) primary
-  stored-listed size primary stored core d = same_truth _ _
+  pub stored-listed : {M W : Type 0} {waiters : List (D × List W)} (size budget : ℕ) (primary : List P) (stored : Stored P M D) → IsCore same size budget primary stored waiters → (d : D)
+      → is_stored same d stored.lists ≡ list_any (λ q. among same.digest d (digests_of (items_at same.key q stored.lists))) primary
+  stored-listed size budget primary stored core d = same_truth (is_stored same d stored.lists) (list_any (λ q. has_digest same.digest d (items_at same.key q stored.lists)) primary)
       (λ h. let r = holder same laws d stored.lists core.distinct h in on-primary r.key d stored.lists primary r.listed (core.primary_only r.key r.there))
       (λ h. from-primary d stored.lists primary h)
+      ∙ list_any-same (λ q. has_digest same.digest d (items_at same.key q stored.lists)) (λ q. among same.digest d (digests_of (items_at same.key q stored.lists))) primary
+      (λ q. sym (among-names same.digest d (items_at same.key q stored.lists)))
 
 none_from_no_some : {X : Type 0} (o : Option X) → is_some o ≡ false → o ≡ None
 none_from_no_some None h = refl
 none_from_no_some (Some x) h = absurd cc
 
-abbrev pub content : {P M D W : Type 0} → P → ℕ → List P → Stored P M D → List (D × List W) → Content P M D W
-content own size primary stored waiters = record { own = own; deque_size = size; primary = primary; lists = stored.lists; cached = stored.messages; waiters = waiters }
+abbrev pub content : {P M D W : Type 0} → P → ℕ → ℕ → List P → Stored P M D → List (D × List W) → Content P M D W
+content own size budget primary stored waiters = record { own = own; deque_size = size; byte_budget = budget; primary = primary; lists = stored.lists; cached = stored.messages; waiters = waiters }
 
 -- only these keys keep their lists, and messages whose digest is on no list are dropped
 pub record Keeps {P M D : Type 0} (same : Same P D) (peers : List P) (old new : Stored P M D) : Type 0 where
@@ -50,31 +69,45 @@ pub record Keeps {P M D : Type 0} (same : Same P D) (peers : List P) (old new : 
   pub distinct : IsDistinct same.key (keys_of new.lists)
   pub messages : (d : D) → lookup (same.digest d) new.messages ≡ cond (is_stored same d new.lists) (lookup (same.digest d) old.messages) None
 
-module _ {P M D W : Type 0} (same : Same P D) (key_laws : IsEquivalence same.key) (size : ℕ) where
+module _ {P M D W : Type 0} (same : Same P D) (key_laws : IsEquivalence same.key) (size budget : ℕ) where
   module _ (laws : IsEquivalence same.digest) (p : P) (x : Carried M D) (primary : List P) (old new : Stored P M D) (w0 w1 : List (D × List W))
-      (core : IsCore same size primary old w0) (waits : (d : D) → items_at same.digest d w1 ≡ cond (same.digest x.digest d) [] (items_at same.digest d w0)) where
-    module _ (eligible : list_any (same.key p) primary ≡ true) (stores : Stores same p x size old new) where
+      (core : IsCore same size budget primary old w0) (waits : (d : D) → items_at same.digest d w1 ≡ cond (same.digest x.digest d) [] (items_at same.digest d w0)) where
+    module _ (c : Charged D) (one : c.digest ≡ x.digest) (eligible : list_any (same.key p) primary ≡ true)
+        (stores : Stores same p x (fronted same.digest size budget c (items_at same.key p old.lists)) old new) where
+      abbrev eq : Charged D → Charged D → Bool
+      eq = same_charged same.digest
+
+      abbrev put : List (Charged D)
+      put = c ∷ without eq c (items_at same.key p old.lists)
+
       -- what is not on the key's deque, and is not taken, is not on the new one
-      not-put : (d : D) → same.digest x.digest d ≡ false → among same.digest d (items_at same.key p old.lists) ≡ false
-          → among same.digest d (take size (x.digest ∷ without same.digest x.digest (items_at same.key p old.lists))) ≡ false
-      not-put d other absent = none-taken (same.digest d) size (x.digest ∷ without same.digest x.digest (items_at same.key p old.lists))
-          (rw (laws.symm d x.digest ∙ other) (among-without_other laws x.digest d (items_at same.key p old.lists) other ∙ absent))
+      not-put : (d : D) → same.digest x.digest d ≡ false → has_digest same.digest d (items_at same.key p old.lists) ≡ false
+          → has_digest same.digest d (fronted same.digest size budget c (items_at same.key p old.lists)) ≡ false
+      not-put d other absent =
+          let any : Charged D = at_charge d 0 in
+          let apart : same.digest c.digest d ≡ false = ap (λ z. same.digest z d) one ∙ other in
+          let whole : has_digest same.digest d put ≡ false = rw (laws.symm d c.digest ∙ apart) (among-without_other (charged_laws laws) c any (items_at same.key p old.lists) apart ∙ absent) in
+          none-within (λ y. same.digest d y.digest) budget (take size put) (none-taken (λ y. same.digest d y.digest) size put whole)
 
       -- what is stored was stored, or is taken
       stored-before : (d : D) → same.digest x.digest d ≡ false → is_stored same d new.lists ≡ true → is_stored same d old.lists ≡ true
       stored-before d other h =
           let r = holder same key_laws d new.lists stores.put.distinct h in
           by_test (same.key p r.key)
-          (λ t. stored-at same p d old.lists (by_test (among same.digest d (items_at same.key p old.lists))
+          (λ t. stored-at same p d old.lists (by_test (has_digest same.digest d (items_at same.key p old.lists))
           (λ k. k)
-          (λ k. absurd (let none : false ≡ true = sym (not-put d other k) ∙ sym (ap (among same.digest d) (stores.put.lists r.key ∙ rw t refl)) ∙ r.listed in cc))))
-          (λ t. stored-at same r.key d old.lists (sym (ap (among same.digest d) (stores.put.lists r.key ∙ rw t refl)) ∙ r.listed))
+          (λ k. absurd (let none : false ≡ true = sym (not-put d other k) ∙ sym (ap (has_digest same.digest d) (stores.put.lists r.key ∙ rw t refl)) ∙ r.listed in cc))))
+          (λ t. stored-at same r.key d old.lists (sym (ap (has_digest same.digest d) (stores.put.lists r.key ∙ rw t refl)) ∙ r.listed))
 
-      pub IsCore-stored : IsCore same size primary new w1
+      pub IsCore-stored : IsCore same size budget primary new w1
       IsCore-stored = record {
         bounded = λ q. by_test (same.key p q)
-            (λ h. rw (stores.put.lists q, h, length-take size (x.digest ∷ without same.digest x.digest (items_at same.key p old.lists))) (omega arith))
+            (λ h. rw (stores.put.lists q, h) (omega (arith, length-within budget (take size put), length-take size put)))
             (λ h. rw (stores.put.lists q, h) (core.bounded q));
+        budget_fits = core.budget_fits;
+        affordable = λ q. by_test (same.key p q)
+            (λ h. rw (stores.put.lists q, h) (within-bounded budget (take size put)))
+            (λ h. rw (stores.put.lists q, h) (core.affordable q));
         primary_only = λ q there. by_test (same.key p q)
             (λ h. sym (among-equal key_laws p q primary h) ∙ eligible)
             (λ h. core.primary_only q (let was : is_some (lookup (same.key q) old.lists) ≡ true = sym (ap (λ b. b || is_some (lookup (same.key q) old.lists)) h) ∙ stores.put.keys q there in was));
@@ -89,20 +122,23 @@ module _ {P M D W : Type 0} (same : Same P D) (key_laws : IsEquivalence same.key
             (λ t. waits d ∙ rw t (core.unawaited d (stored-before d t h)));
       }
 
-      pub Takes-stored : (own : P) → Takes same p x (content own size primary old w0) (content own size primary new w1)
-      Takes-stored own = record {
+      pub Takes-stored : (n : Option ℕ) → affordable budget x.digest n ≡ Some c → (own : P) → Takes same p x n (content own size budget primary old w0) (content own size budget primary new w1)
+      Takes-stored n affords own = record {
         own = refl;
         deque_size = refl;
+        byte_budget = refl;
         primary = refl;
-        lists = λ q. rw eligible (stores.put.lists q);
-        cached = λ d. rw (← stored-listed same key_laws size primary new IsCore-stored d, ← stored-listed same key_laws size primary old core d) (stores.messages d);
+        lists = λ q. stores.put.lists q ∙ rw (eligible, affords) refl;
+        cached = λ d. rw (← stored-listed same key_laws size budget primary new IsCore-stored d, ← stored-listed same key_laws size budget primary old core d) (stores.messages d);
         waiters = waits;
       }
 
-    module _ (ineligible : list_any (same.key p) primary ≡ false) (stays : new ≡ old) where
-      pub IsCore-ineligible : IsCore same size primary new w1
+    module _ (stays : new ≡ old) where
+      pub IsCore-ineligible : IsCore same size budget primary new w1
       IsCore-ineligible = rw stays (record {
         bounded = core.bounded;
+        affordable = core.affordable;
+        budget_fits = core.budget_fits;
         primary_only = core.primary_only;
         distinct = core.distinct;
         messages = core.messages;
@@ -111,43 +147,74 @@ module _ {P M D W : Type 0} (same : Same P D) (key_laws : IsEquivalence same.key
             (λ t. waits d ∙ rw t (core.unawaited d h));
       })
 
-      pub Takes-ineligible : (own : P) → Takes same p x (content own size primary old w0) (content own size primary new w1)
-      Takes-ineligible own = rw stays (record {
+      pub Takes-ineligible : (n : Option ℕ) → (list_any (same.key p) primary ≡ false) ⊎ (affordable budget x.digest n ≡ None) → (own : P) → Takes same p x n (content own size budget primary old w0) (content own size budget primary new w1)
+      Takes-ineligible n why own = rw stays (record {
         own = refl;
         deque_size = refl;
+        byte_budget = refl;
         primary = refl;
         lists = λ q. by_test (same.key p q)
-            (λ h. rw (h, ineligible, nodes-equal key_laws old.lists p q h) refl)
+            (λ h. rw (h, nodes-equal key_laws old.lists p q h) (elim why [
+              | inl ineligible ↦ rw ineligible refl
+              | inr oversize ↦ by_test (list_any (same.key p) primary) (λ k. rw (k, oversize) refl) (λ k. rw k refl)
+            ]))
             (λ h. rw h refl);
-        cached = λ d. rw (← stored-listed same key_laws size primary old core d) (by_test (is_stored same d old.lists)
+        cached = λ d. rw (← stored-listed same key_laws size budget primary old core d) (by_test (is_stored same d old.lists)
             (λ h. rw h refl)
             (λ h. rw h (none_from_no_some (lookup (same.digest d) old.messages) (core.messages d ∙ h))));
         waiters = waits;
       })
 
-    pub IsCore-taken : (b : Bool) → b ≡ list_any (same.key p) primary → MatchBool b (Stores same p x size old new) (new ≡ old) → IsCore same size primary new w1
-    IsCore-taken true is h = IsCore-stored (sym is) h
-    IsCore-taken false is h = IsCore-ineligible (sym is) h
+    -- the list changes where the charge is within the budget
+    module _ (n : Option ℕ) where
+      named : (o : Option (Charged D)) → affordable budget x.digest n ≡ o → (c : Charged D) → o ≡ Some c → c.digest ≡ x.digest
+      named o is c some = by n is
+        where
+          by : (m : Option ℕ) → affordable budget x.digest m ≡ o → c.digest ≡ x.digest
+          by None was = let no : None ≡ Some c = was ∙ some in absurd (cc)
+          by (Some k) was = by_test (nat_le k budget)
+              (λ h.
+              let z : Charged D = at_charge x.digest k in
+              let yes : affordable budget x.digest (Some k) ≡ Some z = rw h refl in
+              let made : Some z ≡ Some c = sym yes ∙ was ∙ some in
+              let one : z ≡ c = cc in
+              ap (λ (y : Charged D). y.digest) (sym one))
+              (λ h.
+              let none : affordable budget x.digest (Some k) ≡ None = rw h refl in
+              let no : None ≡ Some c = sym none ∙ was ∙ some in absurd (cc))
 
-    pub Takes-taken : (own : P) (b : Bool) → b ≡ list_any (same.key p) primary → MatchBool b (Stores same p x size old new) (new ≡ old)
-        → Takes same p x (content own size primary old w0) (content own size primary new w1)
-    Takes-taken own true is h = Takes-stored (sym is) h own
-    Takes-taken own false is h = Takes-ineligible (sym is) h own
+      stored-if : (o : Option (Charged D)) → affordable budget x.digest n ≡ o → list_any (same.key p) primary ≡ true → StoresIf same p x size budget o old new → IsCore same size budget primary new w1
+      stored-if None is eligible stays = IsCore-ineligible stays
+      stored-if (Some c) is eligible stores = IsCore-stored c (named (Some c) is c refl) eligible stores
+
+      takes-if : (own : P) (o : Option (Charged D)) → affordable budget x.digest n ≡ o → list_any (same.key p) primary ≡ true → StoresIf same p x size budget o old new
+          → Takes same p x n (content own size budget primary old w0) (content own size budget primary new w1)
+      takes-if own None is eligible stays = Takes-ineligible stays n (inr is) own
+      takes-if own (Some c) is eligible stores = Takes-stored c (named (Some c) is c refl) eligible stores n is own
+
+      pub IsCore-taken : (b : Bool) → b ≡ list_any (same.key p) primary → MatchBool b (StoresIf same p x size budget (affordable budget x.digest n) old new) (new ≡ old) → IsCore same size budget primary new w1
+      IsCore-taken true is h = stored-if (affordable budget x.digest n) refl (sym is) h
+      IsCore-taken false is h = IsCore-ineligible h
+
+      pub Takes-taken : (own : P) (b : Bool) → b ≡ list_any (same.key p) primary → MatchBool b (StoresIf same p x size budget (affordable budget x.digest n) old new) (new ≡ old)
+          → Takes same p x n (content own size budget primary old w0) (content own size budget primary new w1)
+      Takes-taken own true is h = takes-if own (affordable budget x.digest n) refl (sym is) h
+      Takes-taken own false is h = Takes-ineligible h n (inl (sym is)) own
 
   -- where only primary keys have lists, those that leave are all but those that stay
-  pub kept : (peers primary : List P) (old new : Stored P M D) (waiters : List (D × List W)) → IsCore same size primary old waiters → Drops same primary peers old new → Keeps same peers old new
+  pub kept : (peers primary : List P) (old new : Stored P M D) (waiters : List (D × List W)) → IsCore same size budget primary old waiters → Drops same primary peers old new → Keeps same peers old new
   kept peers primary old new waiters core drops = record {
     lists = λ q. drops.lists q ∙ by_test (list_any (same.key q) peers)
         (λ h. rw h (off (list_any (same.key q) primary) (items_at same.key q old.lists)))
         (λ h. rw h (by_test (list_any (same.key q) primary)
         (λ k. rw k refl)
-        (λ k. rw k (ap (λ (o : Option (List D)). unwrap_or o []) (none_from_no_some (lookup (same.key q) old.lists) (not_some q k))))));
+        (λ k. rw k (ap (λ (o : Option (List (Charged D))). unwrap_or o []) (none_from_no_some (lookup (same.key q) old.lists) (not_some q k))))));
     keys = λ q there. let left = drops.keys q there in stays (list_any (same.key q) primary) (list_any (same.key q) peers) (core.primary_only q left.1) left.0;
     distinct = drops.distinct;
     messages = drops.messages;
   }
     where
-      off : (b : Bool) (ds : List D) → cond (b && false) [] ds ≡ ds
+      off : (b : Bool) (ds : List (Charged D)) → cond (b && false) [] ds ≡ ds
       off true ds = refl
       off false ds = refl
 
@@ -161,18 +228,22 @@ module _ {P M D W : Type 0} (same : Same P D) (key_laws : IsEquivalence same.key
           (λ t. let no : false ≡ true = sym k ∙ core.primary_only q t in absurd (cc))
           (λ t. t)
 
-  module _ (peers primary : List P) (old new : Stored P M D) (waiters : List (D × List W)) (core : IsCore same size primary old waiters) (keeps : Keeps same peers old new) where
+  module _ (peers primary : List P) (old new : Stored P M D) (waiters : List (D × List W)) (core : IsCore same size budget primary old waiters) (keeps : Keeps same peers old new) where
     was_stored : (d : D) → is_stored same d new.lists ≡ true → is_stored same d old.lists ≡ true
     was_stored d h =
         let r = holder same key_laws d new.lists keeps.distinct h in
         stored-at same r.key d old.lists (by_test (list_any (same.key r.key) peers)
-        (λ t. let is : items_at same.key r.key new.lists ≡ items_at same.key r.key old.lists = keeps.lists r.key ∙ rw t refl in sym (ap (among same.digest d) is) ∙ r.listed)
-        (λ t. let is : items_at same.key r.key new.lists ≡ [] = keeps.lists r.key ∙ rw t refl in absurd (let none : false ≡ true = sym (ap (among same.digest d) is) ∙ r.listed in cc)))
+        (λ t. let is : items_at same.key r.key new.lists ≡ items_at same.key r.key old.lists = keeps.lists r.key ∙ rw t refl in sym (ap (has_digest same.digest d) is) ∙ r.listed)
+        (λ t. let is : items_at same.key r.key new.lists ≡ [] = keeps.lists r.key ∙ rw t refl in absurd (let none : false ≡ true = sym (ap (has_digest same.digest d) is) ∙ r.listed in cc)))
 
-    pub IsCore-kept : IsCore same size peers new waiters
+    pub IsCore-kept : IsCore same size budget peers new waiters
     IsCore-kept = record {
       bounded = λ q. by_test (list_any (same.key q) peers)
           (λ h. rw (keeps.lists q, h) (core.bounded q))
+          (λ h. rw (keeps.lists q, h) (omega arith));
+      budget_fits = core.budget_fits;
+      affordable = λ q. by_test (list_any (same.key q) peers)
+          (λ h. rw (keeps.lists q, h) (core.affordable q))
           (λ h. rw (keeps.lists q, h) (omega arith));
       primary_only = keeps.keys;
       distinct = keeps.distinct;
@@ -182,12 +253,13 @@ module _ {P M D W : Type 0} (same : Same P D) (key_laws : IsEquivalence same.key
       unawaited = λ d h. core.unawaited d (was_stored d h);
     }
 
-    pub TakesPeers-kept : (own : P) → TakesPeers same peers (content own size primary old waiters) (content own size peers new waiters)
+    pub TakesPeers-kept : (own : P) → TakesPeers same peers (content own size budget primary old waiters) (content own size budget peers new waiters)
     TakesPeers-kept own = record {
       own = refl;
       deque_size = refl;
+      byte_budget = refl;
       primary = refl;
       lists = keeps.lists;
-      cached = λ d. rw (← stored-listed same key_laws size peers new IsCore-kept d) (keeps.messages d);
+      cached = λ d. rw (← stored-listed same key_laws size budget peers new IsCore-kept d) (keeps.messages d);
       waiters = λ d. refl;
     }

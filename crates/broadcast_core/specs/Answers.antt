@@ -6,7 +6,7 @@ use Rattle.broadcast_core.specs.Content.{among, outcome_of}
 use Rattle.broadcast_core.specs.Setting.{Setting, own_digested}
 use Rattle.broadcast_core.specs.Happening.{Happening, History, broadcast, arrival, subscribe, get}
 use Rattle.broadcast_core.specs.Peers.{is_primary}
-use Rattle.broadcast_core.specs.Lists.{list}
+use Rattle.broadcast_core.specs.Lists.{charged, list}
 use Rattle.broadcast_core.specs.Cache.{is_listed, message}
 use Rattle.broadcast_core.specs.Waiting.{waiting, replied_at, waiters_of}
 use Rattle.broadcast_core.specs.declared.codec.CodecError.{CodecError}
@@ -19,17 +19,17 @@ use Rattle.broadcast_core.specs.declared.event.Answer.TheVariants as answer
 use Rattle.broadcast_core.specs.declared.outcome.Outcome.{Outcome}
 
 module _ {P M D W V : Type 0} (s : Setting P M D) where
-  -- the outcome of taking the digest under the key after a history
-  abbrev pub outcome : P → D → History P M D W V → Outcome
-  outcome p d past =
-      outcome_of (is_primary s p past) (among s.same.digest d (list s p past))
+  -- the outcome of taking the message under the key after a history
+  abbrev pub outcome : P → Carried M D → History P M D W V → Outcome
+  outcome p c past = outcome_of (is_primary s p past) (is_some (charged s c))
+      (among s.same.digest c.digest (list s p past))
 
 module _ {P M D : Type 0} (s : Setting P M D) where
   -- a taking is answered by its outcome, and by the tickets of the subscribes that it replies to
   abbrev pub answer_to_taking : P → Carried M D → Happening P M D ℕ ℕ → History P M D ℕ ℕ
       → Answer M D
   answer_to_taking p c e past =
-      answer.Taken (outcome s p c.digest past) (waiters_of (replied_at s e past)) c
+      answer.Taken (outcome s p c past) (waiters_of (replied_at s e past)) c
 
   -- a broadcast without an encoding is refused
   abbrev pub answer_to_broadcast : Recipients P → Carried M D → Option (List ℕ)

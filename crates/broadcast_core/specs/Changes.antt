@@ -1,22 +1,24 @@
 -- How the calls of a core change its content.
-use Rattle.std.specs.Prelude.{◌≡◌, Bool, true, false, not, if◌then◌else◌, List, [], ◌∷◌, ◌++◌, Some, None, Result, IfOk, OnOk, OnErr, IsOk}
+use Rattle.std.specs.Prelude.{◌≡◌, ℕ, Bool, Option, is_some, true, false, not, if◌then◌else◌, List, [], ◌∷◌, ◌++◌, Some, None, Result, IfOk, OnOk, OnErr, IsOk}
 use Rattle.std.specs.List.{filter, list_any}
 use Rattle.std.specs.declared.alloc.AllocError.{AllocError}
 use Rattle.broadcast_core.specs.Carried.{Carried}
 use Rattle.broadcast_core.specs.declared.outcome.Subscribed.{Subscribed}
 use Rattle.broadcast_core.specs.declared.outcome.Subscribed.TheVariants as subscribed
 use Rattle.broadcast_core.specs.declared.outcome.Taken.{Taken}
-use Rattle.broadcast_core.specs.Content.{Content, Same, among, has_primary, is_on_list, list_at, list_with, message_at, outcome_at, waiting_at}
+use Rattle.broadcast_core.specs.Content.{Content, Same, affordable, among, has_primary, is_on_list, charged_at, list_at, list_with, message_at, outcome_at, waiting_at}
 
 module _ {P M D W : Type 0} (same : Same P D) where
-  -- the message is taken under the key: its digest moves to the front of a primary key's list, the
-  -- message is cached unless the digest is cached already, and the digest has no waiters
-  pub record Takes (p : P) (x : Carried M D) (old new : Content P M D W) : Type 0 where
+  -- the message is taken under the key at this charge: its digest moves to the front of a primary key's
+  -- list, if the charge is within the budget; the message is cached if its digest is on a list then
+  -- and was on none before, and the digest has no waiters
+  pub record Takes (p : P) (x : Carried M D) (charge : Option ℕ) (old new : Content P M D W) : Type 0 where
     pub own : new.own ≡ old.own
     pub deque_size : new.deque_size ≡ old.deque_size
+    pub byte_budget : new.byte_budget ≡ old.byte_budget
     pub primary : new.primary ≡ old.primary
-    pub lists : (q : P) → list_at same new q
-        ≡ (if same.key p q then list_with same old p x.digest else list_at same old q)
+    pub lists : (q : P) → charged_at same new q
+        ≡ (if same.key p q then list_with same old p x.digest charge else charged_at same old q)
     pub cached : (d : D) → message_at same new d
         ≡ (if is_on_list same new d
         then (if is_on_list same old d then message_at same old d else Some x)
@@ -25,16 +27,18 @@ module _ {P M D W : Type 0} (same : Same P D) where
         ≡ (if same.digest x.digest d then [] else waiting_at same old d)
 
   -- the outcome of taking a message under the key, the waiters that it serves, and the new content
-  pub record IsTaken (p : P) (x : Carried M D) (old new : Content P M D W)
+  pub record IsTaken (p : P) (x : Carried M D) (charge : Option ℕ) (old new : Content P M D W)
       (result : Result (Taken W) AllocError) : Type 0 where
-    pub outcome : IfOk result (λ taken. taken.outcome ≡ outcome_at same old p x.digest)
+    pub outcome : IfOk result (λ taken. taken.outcome ≡ outcome_at same old p x.digest charge)
     pub served : IfOk result (λ taken. taken.served ≡ waiting_at same old x.digest)
-    pub ok : OnOk result (Takes p x old new)
+    pub ok : OnOk result (Takes p x charge old new)
     pub err : OnErr result (new ≡ old)
     -- these do not allocate
     pub succeeds_on_duplicate :
         among same.digest x.digest (list_at same old p) ≡ true → IsOk result
     pub succeeds_on_ineligible : has_primary same old p ≡ false → IsOk result
+    pub succeeds_on_oversize :
+        is_some (affordable old.byte_budget x.digest charge) ≡ false → IsOk result
     pub succeeds_at_size_zero : old.deque_size ≡ 0 → IsOk result
 
   -- these keys are the primary ones: the lists of the others are empty, and only the messages of
@@ -42,9 +46,10 @@ module _ {P M D W : Type 0} (same : Same P D) where
   pub record TakesPeers (peers : List P) (old new : Content P M D W) : Type 0 where
     pub own : new.own ≡ old.own
     pub deque_size : new.deque_size ≡ old.deque_size
+    pub byte_budget : new.byte_budget ≡ old.byte_budget
     pub primary : new.primary ≡ peers
-    pub lists : (q : P) → list_at same new q
-        ≡ (if list_any (same.key q) peers then list_at same old q else [])
+    pub lists : (q : P) → charged_at same new q
+        ≡ (if list_any (same.key q) peers then charged_at same old q else [])
     pub cached : (d : D) → message_at same new d
         ≡ (if is_on_list same new d then message_at same old d else None)
     pub waiters : (d : D) → waiting_at same new d ≡ waiting_at same old d
@@ -53,6 +58,7 @@ module _ {P M D W : Type 0} (same : Same P D) where
   pub record KeepsStore (old new : Content P M D W) : Type 0 where
     pub own : new.own ≡ old.own
     pub deque_size : new.deque_size ≡ old.deque_size
+    pub byte_budget : new.byte_budget ≡ old.byte_budget
     pub primary : new.primary ≡ old.primary
     pub lists : new.lists ≡ old.lists
     pub cached : new.cached ≡ old.cached

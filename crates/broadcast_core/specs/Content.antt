@@ -1,19 +1,22 @@
 -- What a core contains, and how it is read.
-use Rattle.std.specs.Prelude.{ℕ, Bool, not, if◌then◌else◌, List, [], ◌∷◌, take, Option, unwrap_or}
-use Rattle.std.specs.List.{filter, list_any}
+use Rattle.std.specs.Prelude.{ℕ, ◌-◌, Bool, not, if◌then◌else◌, List, [], ◌∷◌, map, take, nat_le, Option, None, Some, is_some, unwrap_or}
+use Rattle.std.specs.List.{filter, list_any, sum_by}
 use Rattle.std.specs.Map.{lookup}
 use Rattle.std.specs.Ordering.{eq_by_cmp}
 use Rattle.std.specs.declared.cmp.Ordering.{Ordering}
+use Rattle.entries.specs.declared.entry.Charged.{Charged}
 use Rattle.broadcast_core.specs.Carried.{Carried}
 use Rattle.broadcast_core.specs.declared.outcome.Outcome.{Outcome}
-use Rattle.broadcast_core.specs.declared.outcome.Outcome.TheVariants.{Inserted, Duplicate, Ineligible}
+use Rattle.broadcast_core.specs.declared.outcome.Outcome.TheVariants.{Inserted, Duplicate, Ineligible, Oversize}
 
--- a map is the list of its entries, and a list of digests has the newest first
+-- a map is the list of its entries, and a list of digests has the newest first, each with the bytes
+-- that it is charged
 pub record Content (P M D W : Type 0) : Type 0 where
   pub own : P
   pub deque_size : ℕ
+  pub byte_budget : ℕ
   pub primary : List P
-  pub lists : List (P × List D)
+  pub lists : List (P × List (Charged D))
   pub cached : List (D × Carried M D)
   pub waiters : List (D × List W)
 
@@ -40,23 +43,66 @@ module _ {D : Type 0} (same : D → D → Bool) where
   first_places [] = []
   first_places (d ∷ ds) = d ∷ without d (first_places ds)
 
+module _ {D : Type 0} where
+  -- the digests, without their charges
+  abbrev pub digests_of : List (Charged D) → List D
+  digests_of cs = map (λ c. c.digest) cs
+
+  -- the sum of the charges
+  abbrev pub bytes_of : List (Charged D) → ℕ
+  bytes_of cs = sum_by (λ c. c.charge) cs
+
+  -- the longest beginning whose charges sum to at most the budget
+  abbrev pub within : ℕ → List (Charged D) → List (Charged D)
+  within budget [] = []
+  within budget (c ∷ cs) =
+      if nat_le c.charge budget then c ∷ within (budget - c.charge) cs else []
+
+  -- the digest at this charge
+  abbrev pub at_charge : D → ℕ → Charged D
+  at_charge d n = record { digest = d; charge = n }
+
+  -- whether two charged digests are one digest
+  abbrev pub same_charged : (D → D → Bool) → Charged D → Charged D → Bool
+  same_charged same a b = same a.digest b.digest
+
+  -- the digest with its charge, if that is within the budget; no charge is above every budget
+  abbrev pub affordable : ℕ → D → Option ℕ → Option (Charged D)
+  affordable budget d None = None
+  affordable budget d (Some n) = if nat_le n budget then Some (at_charge d n) else None
+
+-- the digest is put in front of the list, which is then cut to its limits
+abbrev pub fronted : {D : Type 0} → (D → D → Bool) → ℕ → ℕ → Charged D → List (Charged D) → List (Charged D)
+fronted same size budget c cs = within budget (take size (c ∷ without (same_charged same) c cs))
+
+-- the list after a taking; one that the budget does not afford changes nothing
+abbrev pub with_taken : {D : Type 0} → (D → D → Bool) → ℕ → ℕ → Option (Charged D) → List (Charged D) → List (Charged D)
+with_taken same size budget None cs = cs
+with_taken same size budget (Some c) cs = fronted same size budget c cs
+
 -- the list that a map has at the key, or the empty list
 abbrev pub items_at : {K X : Type 0} → (K → K → Bool) → K → List (K × List X) → List X
 items_at same k es = unwrap_or (lookup (same k) es) []
 
--- the outcome of a taking, by whether the key is primary and whether its list has the digest
-abbrev pub outcome_of : Bool → Bool → Outcome
-outcome_of is_primary has_digest =
-    if is_primary then (if has_digest then Duplicate else Inserted) else Ineligible
+-- the outcome of a taking, by whether the key is primary, whether the charge is within the budget, and
+-- whether the key's list has the digest
+abbrev pub outcome_of : Bool → Bool → Bool → Outcome
+outcome_of is_primary is_affordable has_digest = if is_primary
+    then (if is_affordable then (if has_digest then Duplicate else Inserted) else Oversize)
+    else Ineligible
 
 module _ {P D : Type 0} (same : Same P D) {M W : Type 0} where
   -- whether the key is primary
   abbrev pub has_primary : Content P M D W → P → Bool
   has_primary c p = list_any (same.key p) c.primary
 
+  -- the key's list, with charges
+  abbrev pub charged_at : Content P M D W → P → List (Charged D)
+  charged_at c p = items_at same.key p c.lists
+
   -- the key's list
   abbrev pub list_at : Content P M D W → P → List D
-  list_at c p = items_at same.key p c.lists
+  list_at c p = digests_of (charged_at c p)
 
   -- whether some key's list has the digest; a key that is not primary has an empty list
   abbrev pub is_on_list : Content P M D W → D → Bool
@@ -70,11 +116,13 @@ module _ {P D : Type 0} (same : Same P D) {M W : Type 0} where
   abbrev pub waiting_at : Content P M D W → D → List W
   waiting_at c d = items_at same.digest d c.waiters
 
-  -- the outcome of taking the digest under the key
-  abbrev pub outcome_at : Content P M D W → P → D → Outcome
-  outcome_at c p d = outcome_of (has_primary c p) (among same.digest d (list_at c p))
+  -- the outcome of taking the digest under the key, at this charge
+  abbrev pub outcome_at : Content P M D W → P → D → Option ℕ → Outcome
+  outcome_at c p d charge = outcome_of (has_primary c p) (is_some (affordable c.byte_budget d charge))
+      (among same.digest d (list_at c p))
 
-  -- the key's list with the digest in front, cut to its size, if the key is primary
-  abbrev pub list_with : Content P M D W → P → D → List D
-  list_with c p d = if has_primary c p
-      then take c.deque_size (d ∷ without same.digest d (list_at c p)) else list_at c p
+  -- the key's list after the digest is taken under it, if the key is primary
+  abbrev pub list_with : Content P M D W → P → D → Option ℕ → List (Charged D)
+  list_with c p d charge = if has_primary c p
+      then with_taken same.digest c.deque_size c.byte_budget (affordable c.byte_budget d charge) (charged_at c p)
+      else charged_at c p

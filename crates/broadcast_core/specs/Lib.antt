@@ -9,6 +9,7 @@ pub mod Setting
 pub mod Happening
 pub mod Peers
 pub mod Lists
+pub mod Company
 pub mod Concerns
 pub mod Cache
 pub mod Waiting
@@ -22,3 +23,4 @@ pub mod Changes
 pub mod Stored
 pub mod Waiters
 pub mod Indexed
+pub mod ListLaw

@@ -9,6 +9,8 @@ pub record Setting (P M D : Type 0) : Type 0 where
   pub own : P
   -- the greatest length of a list
   pub deque_size : ℕ
+  -- the most bytes that the digests of a list may be charged together
+  pub byte_budget : ℕ
   -- the flag that each send carries
   pub priority : Bool
   -- when two keys, and when two digests, are equal
@@ -21,11 +23,12 @@ pub record Setting (P M D : Type 0) : Type 0 where
   pub reading : List ℕ → Result M CodecError
 
 -- the setting with these parts, in order
-abbrev pub setting : {P M D : Type 0} → P → ℕ → Bool → Same P D
+abbrev pub setting : {P M D : Type 0} → P → ℕ → ℕ → Bool → Same P D
     → (M → D) → (M → Option (List ℕ)) → (List ℕ → Result M CodecError) → Setting P M D
-setting own deque_size priority same digest_of encoding reading = record {
+setting own deque_size byte_budget priority same digest_of encoding reading = record {
   own = own;
   deque_size = deque_size;
+  byte_budget = byte_budget;
   priority = priority;
   same = same;
   digest_of = digest_of;

@@ -1,20 +1,22 @@
 -- The content of a cache, and how takings and peer sets change it.
-use Rattle.std.specs.Prelude.{◌≡◌, ℕ, Bool, false, true, not, ◌&&◌, ◌||◌, if◌then◌else◌, List, [], ◌∷◌, take, length, ◌≤◌, ◌<◌, slice_index_or, Some, None, is_some}
+use Rattle.std.specs.Prelude.{◌^◌, ◌≡◌, ℕ, Bool, false, true, not, ◌&&◌, ◌||◌, if◌then◌else◌, List, [], length, ◌≤◌, ◌<◌, slice_index_or, Option, Some, None, is_some}
 use Rattle.std.specs.List.{list_any, IsDistinct}
+use Rattle.entries.specs.declared.entry.Charged.{Charged}
 use Rattle.std.specs.Map.{lookup, keys_of}
 use Rattle.std.specs.declared.cmp.Ordering.{Ordering}
 use Rattle.std.specs.declared.cmp.Ordering.TheVariants.{Less}
 use Rattle.broadcast_core.specs.Carried.{Carried}
-use Rattle.broadcast_core.specs.Content.{Content, Same, among, without, items_at}
+use Rattle.broadcast_core.specs.Content.{Content, Same, bytes_of, fronted, items_at}
 
 -- the lists by peer, and the messages by digest
 pub record Stored (P M D : Type 0) : Type 0 where
-  pub lists : List (P × List D)
+  pub lists : List (P × List (Charged D))
   pub messages : List (D × Carried M D)
 
 -- what a core keeps beside its own key
 pub record Kept (P M D W : Type 0) : Type 0 where
   pub deque_size : ℕ
+  pub byte_budget : ℕ
   pub primary : List P
   pub stored : Stored P M D
   pub waiters : List (D × List W)
@@ -24,6 +26,7 @@ abbrev pub with_own : {P M D W : Type 0} → P → Kept P M D W → Content P M 
 with_own own kept = record {
   own = own;
   deque_size = kept.deque_size;
+  byte_budget = kept.byte_budget;
   primary = kept.primary;
   lists = kept.stored.lists;
   cached = kept.stored.messages;
@@ -43,26 +46,40 @@ pub record PutsList {P D : Type 0} (same : P → P → Bool) (p : P) (ds : List 
       → (same p q || is_some (lookup (same q) old)) ≡ true
   pub distinct : IsDistinct same (keys_of new)
 
+-- whether a list has the digest
+abbrev pub has_digest : {D : Type 0} → (D → D → Bool) → D → List (Charged D) → Bool
+has_digest same d cs = list_any (λ c. same d c.digest) cs
+
 module _ {P D : Type 0} (same : Same P D) where
   -- whether some list has the digest
-  abbrev pub is_stored : D → List (P × List D) → Bool
-  is_stored d lists = list_any (λ e. among same.digest d e.1) lists
+  abbrev pub is_stored : D → List (P × List (Charged D)) → Bool
+  is_stored d lists = list_any (λ e. has_digest same.digest d e.1) lists
 
   -- whether the list of the key leaves with a peer set: it was among the keys, and is not any more
   abbrev pub is_dropped : List P → List P → P → Bool
   is_dropped was peers p = list_any (same.key p) was && not (list_any (same.key p) peers)
 
   module _ {M : Type 0} where
-    -- the digest is put in front of the list of the key, which is cut to its size, and its message
-    -- is cached
-    pub record Stores (p : P) (x : Carried M D) (size : ℕ) (old new : Stored P M D) : Type 0 where
-      pub put : PutsList same.key p
-          (take size (x.digest ∷ without same.digest x.digest (items_at same.key p old.lists)))
-          old.lists new.lists
+    -- the list of the key is replaced, and the message is cached if its digest is on a list then and
+    -- was on none
+    pub record Stores (p : P) (x : Carried M D) (cs : List (Charged D)) (old new : Stored P M D) : Type 0 where
+      pub put : PutsList same.key p cs old.lists new.lists
       pub messages : (d : D) → lookup (same.digest d) new.messages
           ≡ (if is_stored d new.lists
           then (if is_stored d old.lists then lookup (same.digest d) old.messages else Some x)
           else None)
+
+    -- the list of the key is replaced, and messages whose digest is on no list are dropped
+    pub record Cuts (p : P) (cs : List (Charged D)) (old new : Stored P M D) : Type 0 where
+      pub put : PutsList same.key p cs old.lists new.lists
+      pub messages : (d : D) → lookup (same.digest d) new.messages
+          ≡ (if is_stored d new.lists then lookup (same.digest d) old.messages else None)
+
+    -- the digest is put in front of the key's list, if its charge is within the budget
+    abbrev pub StoresIf : P → Carried M D → ℕ → ℕ → Option (Charged D) → Stored P M D → Stored P M D → Type 0
+    StoresIf p x size budget None old new = new ≡ old
+    StoresIf p x size budget (Some c) old new =
+        Stores p x (fronted same.digest size budget c (items_at same.key p old.lists)) old new
 
     -- the lists that leave are dropped, and messages whose digest is on no list
     pub record Drops (was peers : List P) (old new : Stored P M D) : Type 0 where
@@ -84,11 +101,13 @@ module _ {P D : Type 0} (same : Same P D) where
       pub messages : (d : D) → lookup (same.digest d) new.messages
           ≡ (if is_stored d new.lists then lookup (same.digest d) old.messages else None)
 
-    -- the invariant of a core: lists have at most their size, only primary keys have one, a
+    -- the invariant of a core: lists have at most their size and bytes, only primary keys have one, a
     -- message is cached exactly if its digest is on a list, and a digest on a list has no waiters
-    pub record IsCore {W : Type 0} (size : ℕ) (primary : List P) (stored : Stored P M D)
+    pub record IsCore {W : Type 0} (size budget : ℕ) (primary : List P) (stored : Stored P M D)
         (waiters : List (D × List W)) : Type 0 where
       pub bounded : (p : P) → length (items_at same.key p stored.lists) ≤ size
+      pub affordable : (p : P) → bytes_of (items_at same.key p stored.lists) ≤ budget
+      pub budget_fits : budget < 2 ^ 64
       pub primary_only : (p : P) → is_some (lookup (same.key p) stored.lists) ≡ true
           → list_any (same.key p) primary ≡ true
       pub distinct : IsDistinct same.key (keys_of stored.lists)

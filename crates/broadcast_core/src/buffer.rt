@@ -4,7 +4,7 @@
 ghost use Rattle.std.specs.Prelude.{◌≡◌, ◌≤◌, true, false, [], length, is_some, IsSome, IfOk, IfSome, IfErr, IsOk};
 ghost use Rattle.std.specs.List.{All, IsDistinct};
 ghost use Rattle.std.specs.Map.{keys_of};
-ghost use Rattle.std.specs.Option.{option_copied};
+ghost use Rattle.std.specs.Option.{option_copied, option_map};
 ghost use Rattle.std.specs.Ordering.{eq_by_cmp};
 ghost use Rattle.broadcast_core.specs.Content.{same_by};
 
@@ -13,6 +13,7 @@ mod gone;
 mod state;
 mod waiters;
 
+use crate::codec::EncodeSize;
 use crate::digested::{Digested, Digestible};
 use crate::ordered::{PublicKey, Set};
 use crate::outcome::{Subscribed, Taken};
@@ -41,16 +42,17 @@ impl<P: PublicKey, M: Digestible, W> Model for Core<P, M, W> {
 
 impl<P: PublicKey, M: Digestible, W: Drop> Core<P, M, W> {
     ghost use Rattle.std.specs.Prelude.{ℕ, ◌+◌, ◌*◌};
-    ghost use Rattle.broadcast_core.specs.Content.{has_primary, is_on_list, list_at, message_at, waiting_at};
+    ghost use Rattle.broadcast_core.specs.Content.{has_primary, is_on_list, bytes_of, charged_at, list_at, message_at, waiting_at};
     ghost use Rattle.broadcast_core.specs.Changes.{IsTaken, TakesPeers, Cleans, KeepsStore, IsSubscribed};
     ghost use Rattle.broadcast_core.specs.Waiters.{NoneEmpty, waiting_in, is_gone, gone_from, DropsClosed, counted};
 
-    /// Creates an empty core for the node `own` that keeps at most `deque_size` digests a peer. No
-    /// peer is primary yet.
-    pub fn new(alloc: Global, own: P, deque_size: usize) -> Self
+    /// Creates an empty core for the node `own` that keeps at most `deque_size` digests a peer,
+    /// which are charged at most `byte_budget` bytes together. No peer is primary yet.
+    pub fn new(alloc: Global, own: P, deque_size: usize, byte_budget: u64) -> Self
         ensures { result ≡ record {
           own = own;
           deque_size = deque_size;
+          byte_budget = byte_budget;
           primary = [];
           lists = [];
           cached = [];
@@ -61,6 +63,7 @@ impl<P: PublicKey, M: Digestible, W: Drop> Core<P, M, W> {
             own,
             state: State {
                 deque_size,
+                byte_budget,
                 primary: Set::default(alloc),
                 cache: Cache::new(alloc),
                 waiters: Waiters::new(alloc),
@@ -133,6 +136,15 @@ impl<P: PublicKey, M: Digestible, W: Drop> Core<P, M, W> {
         self.state.cache.list(alloc, peer)
     }
 
+    /// Returns the sum of the charges of the digests on the list of `peer`.
+    pub fn bytes(&self, peer: &P) -> u64
+        ensures sum { let same = same_by P.cmp M.Digest.cmp in
+            result ≡ bytes_of (charged_at same self.now peer.now) }
+        ensures bounded { result ≤ self.now.byte_budget }
+    {
+        self.state.cache.bytes(peer) as u64
+    }
+
     /// Returns the cached message of `digest`.
     pub fn get(&self, digest: &M::Digest) -> Option<&Digested<M>>
         ensures message { let same = same_by P.cmp M.Digest.cmp in
@@ -160,18 +172,23 @@ impl<P: PublicKey, M: Digestible, W: Drop> Core<P, M, W> {
     /// the key is primary.
     ///
     /// On an allocation failure nothing changes and no waiter is served. Taking a digest that is on
-    /// the list already, under a key that is not primary or at `deque_size` 0 never fails.
+    /// the list already, under a key that is not primary, of a message that alone is above the byte
+    /// budget or at `deque_size` 0 never fails.
     pub fn take(&mut self, peer: &P, message: &Digested<M>) -> Result<Taken<W>, AllocError>
+    where
+        M: EncodeSize,
         ensures { IsTaken (same_by P.cmp M.Digest.cmp) peer.now message.now
-            self.old self.new result }
+            (option_map length (M.encoding message.now.message)) self.old self.new result }
     {
         self.state.take(peer, message)
     }
 
     /// Takes `message` under the own key, as [`Core::take`] does.
     pub fn take_own(&mut self, message: &Digested<M>) -> Result<Taken<W>, AllocError>
+    where
+        M: EncodeSize,
         ensures { IsTaken (same_by P.cmp M.Digest.cmp) self.old.own message.now
-            self.old self.new result }
+            (option_map length (M.encoding message.now.message)) self.old self.new result }
     {
         let Core { own, state } = self;
         state.take(own, message)

@@ -9,6 +9,7 @@ pub mod codec;
 pub mod digested;
 mod event;
 mod items;
+mod laws;
 pub mod mocks;
 pub mod ordered;
 mod outcome;
@@ -20,6 +21,7 @@ pub use codec::{Codec, CodecError, EncodeSize, RangeCfg, Read, Write, byte_list,
 pub use digested::{Digested, Digestible};
 pub use event::{Answer, Cause, Event, Run, Sent};
 pub use items::Items;
+pub use laws::list_law;
 pub use mocks::TestMessage;
 pub use ordered::{PublicKey, Recipients, Set};
 pub use outcome::{Outcome, Subscribed, Taken};

@@ -11,6 +11,8 @@ pub enum Outcome {
     Duplicate,
     /// The key is not primary. No list changed.
     Ineligible,
+    /// The message is charged more than the byte budget. No list changed.
+    Oversize,
 }
 
 /// The result of taking a message.

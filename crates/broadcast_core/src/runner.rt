@@ -18,7 +18,7 @@ use apply::apply;
 use std::alloc::{AllocError, Global};
 
 /// Runs the events in order, from an empty core for the node `own` that keeps at most `deque_size`
-/// digests a peer.
+/// digests a peer, which are charged at most `byte_budget` bytes together.
 ///
 /// Each send carries the flag `priority`, and payloads are decoded under `cfg`. An event that is
 /// answered `Refused` changes nothing and sends nothing.
@@ -29,17 +29,18 @@ pub fn run<P: PublicKey, M: Digestible + Codec>(
     alloc: Global,
     own: P,
     deque_size: usize,
+    byte_budget: u64,
     priority: bool,
     cfg: &M::Cfg,
     events: Vec<Event<P, M>>,
 ) -> Result<Run<P, M>, AllocError>
-    ensures { let s = setting own deque_size priority (same_by P.cmp M.Digest.cmp)
+    ensures { let s = setting own deque_size byte_budget priority (same_by P.cmp M.Digest.cmp)
         M.digest_of M.encoding (whole (M.reading cfg.now)) in
         IfOk result (λ run. HasRun s events.items run.answers run.sent run.core) }
 {
     let mut answers = Vec::with_capacity(alloc, events.len())?;
     let mut sent = Vec::with_capacity(alloc, events.len())?;
-    let mut core = Core::new(alloc, own, deque_size);
+    let mut core = Core::new(alloc, own, deque_size, byte_budget);
     for event in events {
         let (answer, sending) = apply(alloc, &mut core, priority, cfg, event);
         push_sent(&mut sent, sending);

@@ -9,7 +9,7 @@ use Rattle.broadcast_core.specs.Waiting.{Awaiting, waiting, awaited}
 use Rattle.broadcast_core.specs.HasContent.{named_by}
 use Rattle.broadcast_core.specs.Answers.{outcome}
 use Rattle.broadcast_core.specs.declared.outcome.Outcome.{Outcome}
-use Rattle.broadcast_core.specs.declared.outcome.Outcome.TheVariants.{Inserted, Duplicate, Ineligible}
+use Rattle.broadcast_core.specs.declared.outcome.Outcome.TheVariants.{Inserted, Duplicate, Ineligible, Oversize}
 use Rattle.engine_io.specs.declared.input.Input.{Input}
 use Rattle.engine_io.specs.declared.input.Input.TheVariants.{Peers, Request, Arrived, Invalid}
 use Rattle.engine_io.specs.declared.metrics.Counter.{Counter}
@@ -140,6 +140,7 @@ module _ {P : Type 0} (same : P → P → Bool) where
   outcome-counted Inserted c m = number_at-one c (receive Success) m tt
   outcome-counted Duplicate c m = number_at-one c (receive Dropped) m tt
   outcome-counted Ineligible c m = number_at-one c (receive Dropped) m tt
+  outcome-counted Oversize c m = number_at-one c (receive Dropped) m tt
 
 module _ {S G A C : Type 0} where
   reply-waits : (h : Replied S G A (Option C)) (t : Totals) → (count_reply h t).waiters ≡ t.waiters
@@ -158,6 +159,7 @@ outcome-waits : (out : Outcome) (t : Totals) → (count_outcome out t).waiters �
 outcome-waits Inserted t = refl
 outcome-waits Duplicate t = refl
 outcome-waits Ineligible t = refl
+outcome-waits Oversize t = refl
 
 if-raised : (b : Bool) (n : ℕ) → (if b then raised n 1 else n) ≡ raised n (cond b 1 0)
 if-raised true n = refl
@@ -173,13 +175,13 @@ module _ {P M D S G : Type 0} (s : Setting P M D) (past : History P M D (Asker S
       → number_at s.same.key c (record m { totals = count_input s input past m.totals }) ≡ raised (number_at s.same.key c m) (count_by (is_counted_as s.same.key c) (counted_input s input past))
   input-counted (Peers ps) c m = sym (raised-none (number_at s.same.key c m))
   input-counted (Request request) c m = sym (raised-none (number_at s.same.key c m))
-  input-counted (Arrived p x) c m = outcome-counted s.same.key (outcome s p x.digest past) c m
+  input-counted (Arrived p x) c m = outcome-counted s.same.key (outcome s p x past) c m
   input-counted (Invalid error) c m = number_at-one s.same.key c (receive status.Invalid) m tt
 
   input-waits : (input : Input P M S G D) (t : Totals) → (count_input s input past t).waiters ≡ t.waiters
   input-waits (Peers ps) t = refl
   input-waits (Request request) t = refl
-  input-waits (Arrived p x) t = outcome-waits (outcome s p x.digest past) t
+  input-waits (Arrived p x) t = outcome-waits (outcome s p x past) t
   input-waits (Invalid error) t = refl
 
   pub step-counted : (step : Step P M D S G) (c : Counted P) (m : Counters P) → IsNotDecoded step

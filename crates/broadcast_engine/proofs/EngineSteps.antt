@@ -2,6 +2,7 @@
 use Rattle.std.proofs.Common.{◌≡◌, ℕ, Bool, true, List, [], ◌∷◌, ◌++◌, map, length, Option, is_some, refl, sym, ap, ◌∙◌, subst, append-nil, arith}
 use Rattle.std.specs.List.{IsDistinct}
 use Rattle.std.specs.Map.{keys_of}
+use Rattle.std.specs.Option.{option_map}
 use Rattle.broadcast_core.specs.Carried.{Carried}
 use Rattle.broadcast_core.specs.Content.{Content, Same, message_at, outcome_at}
 use Rattle.broadcast_core.specs.Changes.{Takes, TakesPeers, KeepsStore, IsSubscribed}
@@ -47,16 +48,16 @@ module _ {P M D S G O : Type 0} {s : Setting P M D} {same : Same P D} (is : s.sa
       → Steps s may_answer told past (applied (Peers ps) []) old (record old { core = core })
   Steps-peers ps core takes = record { lawful = (refl, tt); content = HasContent-peers is lawful has takes; counted = refl; replied = silent }
 
-  pub Steps-arrival : (p : P) (c : Carried M D) (mid : Node P M S O D) (counters : Counters P) (out : Outcome) (replies : Replies S G M D)
-      → Serves same told p c replies old mid → out ≡ outcome_at same old.core p c.digest
+  pub Steps-arrival : {encoding : M → Option (List ℕ)} → s.encoding ≡ encoding → (p : P) (c : Carried M D) (mid : Node P M S O D) (counters : Counters P) (out : Outcome) (replies : Replies S G M D)
+      → Serves same told p c (option_map length (encoding c.message)) replies old mid → out ≡ outcome_at same old.core p c.digest (option_map length (encoding c.message))
       → counters ≡ record mid.metrics { totals = count_outcome out mid.metrics.totals }
-      → (out ≡ outcome s p c.digest past) × Steps s may_answer told past (applied (Arrived p c) replies) old (record mid { metrics = counters })
-  Steps-arrival p c mid counters out replies serves at counted =
-      let turned : out ≡ outcome s p c.digest past = at ∙ outcome-taken is lawful has p c.digest in (
+      → (out ≡ outcome s p c past) × Steps s may_answer told past (applied (Arrived p c) replies) old (record mid { metrics = counters })
+  Steps-arrival encodes p c mid counters out replies serves at counted =
+      let turned : out ≡ outcome s p c past = at ∙ outcome-taken is lawful has encodes p c in (
         turned,
         record {
           lawful = (serves.due ∙ handed-arrival is lawful has p c, tt);
-          content = HasContent-arrival is lawful has serves.takes;
+          content = HasContent-arrival is lawful has encodes serves.takes;
           counted = counted ∙ ap (λ (m : Counters P). record m { totals = count_outcome out m.totals }) serves.hands.counted
               ∙ ap (λ (o : Outcome). record old.metrics { totals = count_outcome o (count_replies replies old.metrics.totals) }) turned;
           replied = serves.hands.handed;
@@ -83,14 +84,14 @@ module _ {P M D S G O : Type 0} {s : Setting P M D} {same : Same P D} (is : s.sa
     replied = hands.handed;
   }
 
-  pub Steps-broadcast : (r : Recipients P) (c : Carried M D) (ticket : ℕ) (counted : Bool) (mid : Node P M S O D) (out : Outcome) (replies : Replies S G M D)
-      → Serves same told old.core.own c replies old mid → out ≡ outcome_at same old.core old.core.own c.digest → is_some (s.encoding c.message) ≡ true
-      → (out ≡ outcome s s.own c.digest past) × Steps s may_answer told past (applied (Request (record { ticket = ticket; message = Broadcast r c; counted = counted })) replies) old mid
-  Steps-broadcast r c ticket counted mid out replies serves at encodable = (
-    at ∙ ap (λ p. outcome_at same old.core p c.digest) has.own ∙ outcome-taken is lawful has s.own c.digest,
+  pub Steps-broadcast : {encoding : M → Option (List ℕ)} → s.encoding ≡ encoding → (r : Recipients P) (c : Carried M D) (ticket : ℕ) (counted : Bool) (mid : Node P M S O D) (out : Outcome) (replies : Replies S G M D)
+      → Serves same told old.core.own c (option_map length (encoding c.message)) replies old mid → out ≡ outcome_at same old.core old.core.own c.digest (option_map length (encoding c.message)) → is_some (s.encoding c.message) ≡ true
+      → (out ≡ outcome s s.own c past) × Steps s may_answer told past (applied (Request (record { ticket = ticket; message = Broadcast r c; counted = counted })) replies) old mid
+  Steps-broadcast {encoding} encodes r c ticket counted mid out replies serves at encodable = (
+    at ∙ ap (λ p. outcome_at same old.core p c.digest (option_map length (encoding c.message))) has.own ∙ outcome-taken is lawful has encodes s.own c,
     record {
       lawful = (serves.due ∙ handed-broadcast is lawful has r c, encodable);
-      content = HasContent-broadcast is lawful has r (subst (λ p. Takes same p c old.core mid.core) has.own serves.takes);
+      content = HasContent-broadcast is lawful has encodes r (subst (λ p. Takes same p c (option_map length (encoding c.message)) old.core mid.core) has.own serves.takes);
       counted = serves.hands.counted;
       replied = serves.hands.handed;
     },

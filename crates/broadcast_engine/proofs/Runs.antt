@@ -74,7 +74,7 @@ module _ {P M D S G O N : Type 0} (s : Setting P M D) (may_answer : Asker S → 
   pub Applied-broadcast : (r : Recipients P) (c : Carried M D) (ticket : ℕ) (counted : Bool) (bytes : List ℕ) (priority : Bool) (out : Outcome)
       (replies : Replies S G M D) (old new : Node P M S O D) (first last : N)
       → Steps s may_answer outlet_told past (applied (Request (record { ticket = ticket; message = Broadcast r c; counted = counted })) replies) old new
-      → out ≡ outcome s s.own c.digest past → s.encoding c.message ≡ Some bytes → s.priority ≡ priority
+      → out ≡ outcome s s.own c past → s.encoding c.message ≡ Some bytes → s.priority ≡ priority
       → ((sends : List (Sent P)) → sender_told first sends → sender_told last (sends ++ record { recipients = r; bytes = bytes; priority = priority } ∷ []))
       → Applied s may_answer outlet_told sender_told past (Request (record { ticket = ticket; message = Broadcast r c; counted = counted })) (turn.Broadcast out) old new first last
   Applied-broadcast r c ticket counted bytes priority out replies old new first last steps is encoding flag sends = record {

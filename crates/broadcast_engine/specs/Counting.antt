@@ -6,7 +6,7 @@ use Rattle.broadcast_core.specs.Happening.{History, cleanup}
 use Rattle.broadcast_core.specs.Waiting.{waiting, awaited}
 use Rattle.broadcast_core.specs.Answers.{outcome}
 use Rattle.broadcast_core.specs.declared.outcome.Outcome.{Outcome}
-use Rattle.broadcast_core.specs.declared.outcome.Outcome.TheVariants.{Inserted, Duplicate, Ineligible}
+use Rattle.broadcast_core.specs.declared.outcome.Outcome.TheVariants.{Inserted, Duplicate, Ineligible, Oversize}
 use Rattle.engine_io.specs.declared.input.Input.{Input}
 use Rattle.engine_io.specs.declared.input.Input.TheVariants.{Arrived, Invalid}
 use Rattle.engine_io.specs.declared.metrics.Status.TheVariants.{Success, Failure, Dropped}
@@ -29,11 +29,12 @@ abbrev pub counted_outcome : {P : Type 0} → Outcome → Counted P
 counted_outcome Inserted = receive Success
 counted_outcome Duplicate = receive Dropped
 counted_outcome Ineligible = receive Dropped
+counted_outcome Oversize = receive Dropped
 
 module _ {P M D S G : Type 0} (s : Setting P M D) where
   abbrev pub counted_input : Input P M S G D → History P M D (Asker S) (Asker G)
       → List (Counted P)
-  counted_input (Arrived p c) past = counted_outcome (outcome s p c.digest past) ∷ []
+  counted_input (Arrived p c) past = counted_outcome (outcome s p c past) ∷ []
   counted_input (Invalid error) past = receive status.Invalid ∷ []
   counted_input _ past = []
 

@@ -6,7 +6,7 @@ use Rattle.broadcast_core.specs.Waiting.{waiting, awaited}
 use Rattle.broadcast_core.specs.HasContent.{named_by}
 use Rattle.broadcast_core.specs.Answers.{outcome}
 use Rattle.broadcast_core.specs.declared.outcome.Outcome.{Outcome}
-use Rattle.broadcast_core.specs.declared.outcome.Outcome.TheVariants.{Inserted, Duplicate, Ineligible}
+use Rattle.broadcast_core.specs.declared.outcome.Outcome.TheVariants.{Inserted, Duplicate, Ineligible, Oversize}
 use Rattle.engine_io.specs.declared.input.Input.{Input}
 use Rattle.engine_io.specs.declared.input.Input.TheVariants.{Arrived, Invalid}
 use Rattle.engine_io.specs.declared.metrics.Status.TheVariants.{Success, Dropped}
@@ -21,11 +21,12 @@ abbrev pub count_outcome : Outcome → Totals → Totals
 count_outcome Inserted t = record t { receive = added Success 1 t.receive }
 count_outcome Duplicate t = record t { receive = added Dropped 1 t.receive }
 count_outcome Ineligible t = record t { receive = added Dropped 1 t.receive }
+count_outcome Oversize t = record t { receive = added Dropped 1 t.receive }
 
 module _ {P M D S G : Type 0} (s : Setting P M D) where
   -- what an input counts, besides replies
   abbrev pub count_input : Input P M S G D → History P M D (Asker S) (Asker G) → Totals → Totals
-  count_input (Arrived p c) past t = count_outcome (outcome s p c.digest past) t
+  count_input (Arrived p c) past t = count_outcome (outcome s p c past) t
   count_input (Invalid error) past t = record t { receive = added status.Invalid 1 t.receive }
   count_input _ past t = t
 

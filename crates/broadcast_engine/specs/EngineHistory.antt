@@ -97,14 +97,14 @@ module _ {P M D S G : Type 0} where
 
 module _ {P M D S G : Type 0} (s : Setting P M D) where
   abbrev pub turn_of_request : Message P M S G D → History P M D (Asker S) (Asker G) → Turn
-  turn_of_request (Broadcast r c) past = turn.Broadcast (outcome s s.own c.digest past)
+  turn_of_request (Broadcast r c) past = turn.Broadcast (outcome s s.own c past)
   turn_of_request (Subscribe d responder) past = turn.Subscribe
   turn_of_request (Get d responder) past = turn.Get
 
   abbrev pub turn_of_input : Input P M S G D → History P M D (Asker S) (Asker G) → Turn
   turn_of_input (Peers ps) past = turn.Peers
   turn_of_input (Request request) past = turn_of_request request.message past
-  turn_of_input (Arrived p c) past = turn.Payload (outcome s p c.digest past)
+  turn_of_input (Arrived p c) past = turn.Payload (outcome s p c past)
   turn_of_input (Invalid error) past = turn.Invalid error
 
   abbrev pub turns_at : Step P M D S G → History P M D (Asker S) (Asker G) → List Turn

@@ -12,6 +12,7 @@ fresh cfg requests outlet = record {
     core = record {
       own = cfg.public_key;
       deque_size = cfg.deque_size;
+      byte_budget = cfg.byte_budget;
       primary = [];
       lists = [];
       cached = [];

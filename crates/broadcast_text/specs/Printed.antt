@@ -9,7 +9,7 @@ use Rattle.broadcast_core.specs.declared.event.Answer.{Answer}
 use Rattle.broadcast_core.specs.declared.event.Answer.TheVariants as answer
 use Rattle.broadcast_core.specs.declared.event.Cause.TheVariants as cause
 use Rattle.broadcast_core.specs.declared.outcome.Outcome.{Outcome}
-use Rattle.broadcast_core.specs.declared.outcome.Outcome.TheVariants.{Inserted, Duplicate, Ineligible}
+use Rattle.broadcast_core.specs.declared.outcome.Outcome.TheVariants.{Inserted, Duplicate, Ineligible, Oversize}
 use Rattle.broadcast_text.specs.Words.{byte_list_word}
 
 -- each word after a space
@@ -24,6 +24,7 @@ abbrev pub outcome_word : Outcome → List ℕ
 outcome_word Inserted = codes "inserted"
 outcome_word Duplicate = codes "duplicate"
 outcome_word Ineligible = codes "ineligible"
+outcome_word Oversize = codes "oversize"
 
 abbrev pub refusal_words : CodecError → List (List ℕ)
 refusal_words codec.EndOfBuffer = codes "EndOfBuffer" ∷ []

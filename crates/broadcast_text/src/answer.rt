@@ -50,6 +50,7 @@ fn outcome_text(outcome: Outcome) -> &'static [u8]
         Outcome::Inserted => b"inserted",
         Outcome::Duplicate => b"duplicate",
         Outcome::Ineligible => b"ineligible",
+        Outcome::Oversize => b"oversize",
     }
 }
 

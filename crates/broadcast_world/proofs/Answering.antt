@@ -5,16 +5,16 @@ use Rattle.std.specs.Cmp.{IsEquivalence}
 use Rattle.std.proofs.lemmas.List.{reverse-append}
 use Rattle.broadcast_core.proofs.Distinct.{by_test}
 use Rattle.broadcast_core.proofs.Following.{listed, message-some}
-use Rattle.broadcast_core.proofs.Listing.{from-any, list-taken}
+use Rattle.broadcast_core.proofs.Listing.{from-any, charged-taken}
+use Rattle.broadcast_core.proofs.Listed.{listed-before}
 use Rattle.broadcast_core.specs.Carried.{Carried}
 use Rattle.broadcast_core.specs.Setting.{Setting}
-use Rattle.broadcast_core.specs.Content.{among, without}
+use Rattle.broadcast_core.specs.Content.{among, digests_of}
 use Rattle.broadcast_core.specs.Happening.{Happening, History, Future, Taking, peers, broadcast, arrival, subscribe, get, cleanup, carried_by, taken, takes, of_digest}
 use Rattle.broadcast_core.specs.Peers.{primary, is_primary}
-use Rattle.broadcast_core.specs.Lists.{list}
+use Rattle.broadcast_core.specs.Lists.{charged_list, list}
 use Rattle.broadcast_core.specs.Cache.{is_listed, message}
 use Rattle.broadcast_core.specs.Waiting.{Awaiting, Reply, cleans, reply, reply_from, waits}
-use Rattle.broadcast_world.proofs.Origins.{any_take, any_filter}
 use Rattle.broadcast_world.proofs.Merging.{IsHonest, Merged, both, attack, all, kept, attacked, all-append, attacked-append, kept-append, listed-added, listed-kept}
 
 pub is-some : {X : Type 0} (o : Option X) → is_some o ≡ true → (x : X) × (o ≡ Some x)
@@ -116,12 +116,11 @@ module _ {P M D W V : Type 0} (s : Setting P M D) where
     listed-by d e past (Some t) c some is h new =
         let carried : t.carried ≡ c = cc in
         ap (λ x. s.same.digest d x.digest) (sym carried) ∙ from-any (λ q. among s.same.digest d (list s q (e ∷ past))) (primary s (e ∷ past)) h (λ q there.
-        let now = sym (ap (among s.same.digest d) (list-taken s laws q e t past some)) ∙ there in
+        let now = sym (ap (λ cs. among s.same.digest d (digests_of cs)) (charged-taken s laws q e t past some)) ∙ there in
         by_test (s.same.key q t.key && is_primary s q past)
         (λ u. by_test (s.same.digest d t.carried.digest)
         (λ v. v)
-        (λ v. let deep = any_take (s.same.digest d) s.deque_size (t.carried.digest ∷ without s.same.digest t.carried.digest (list s q past)) (rw u at now) in
-        absurd (let no = sym new ∙ listed s key_laws d q past (any_filter (s.same.digest d) (λ x. not (s.same.digest t.carried.digest x)) (list s q past) (rw v at deep)) in cc)))
+        (λ v. absurd (let no = sym new ∙ listed s key_laws d q past (listed-before s (s.same.digest d) t.carried (charged_list s q past) v (rw u at now)) in cc)))
         (λ u. absurd (let no = sym new ∙ listed s key_laws d q past (rw u at now) in cc)))
 
     -- a cached message was taken, and goes by its digest

@@ -1,18 +1,20 @@
 -- Histories that are the same but for equal keys.
-use Rattle.std.proofs.Common.{◌≡◌, ℕ, suc, Bool, true, if◌then◌else◌, List, [], ◌∷◌, length, take, map, Option, Some, None, Result, Ok, Err, refl, ap, ◌∙◌}
+use Rattle.std.proofs.Common.{◌≡◌, ℕ, suc, Bool, true, if◌then◌else◌, List, [], ◌∷◌, length, map, Option, Some, None, Result, Ok, Err, refl, ap, ◌∙◌}
 use Rattle.std.specs.Prelude.{IsTrue, ◌==◌}
 use Rattle.std.specs.List.{AllZip, count_by, list_any}
 use Rattle.std.specs.Cmp.{IsEquivalence, IsTotalOrder, eq_by_cmp_equiv}
 use Rattle.std.specs.Ordering.{eq_by_cmp}
 use Rattle.std.specs.declared.cmp.Ordering.{Ordering}
 use Rattle.broadcast_core.specs.Carried.{Carried}
-use Rattle.broadcast_core.specs.Content.{among, first_places}
+use Rattle.broadcast_core.specs.Content.{among, digests_of}
+use Rattle.broadcast_core.specs.Company.{stayed}
+use Rattle.std.specs.Option.{option_to_list}
 use Rattle.broadcast_core.specs.Setting.{own_digested}
 use Rattle.broadcast_core.specs.Codec.{whole}
 use Rattle.broadcast_core.specs.TestMessage.{Parts, encoding_of, read_message}
 use Rattle.broadcast_core.specs.Happening.{Happening, Future, peers, broadcast, arrival, subscribe, get, cleanup, taken, takes, carried_by}
 use Rattle.broadcast_core.specs.Peers.{primary, is_primary, since}
-use Rattle.broadcast_core.specs.Lists.{digest_under, digests_under, list}
+use Rattle.broadcast_core.specs.Lists.{charged, charged_list, digest_under, digests_under, list}
 use Rattle.broadcast_core.specs.Cache.{is_listed, message}
 use Rattle.broadcast_core.specs.Waiting.{Awaiting, cleans, reply_from, reply, waits, comes_after, subscribes, waiting, replied_at}
 use Rattle.broadcast_core.specs.Answers.{answer_to, answer_to_taking, answer_to_broadcast, answer_to_payload, answer_to_subscribe, may_allocate, outcome}
@@ -78,8 +80,8 @@ module _ {P : Type 0} (cmp : P → P → Ordering) (total : IsTotalOrder cmp) (w
 
   under-twin : (p : P) (x : Twin (eq_by_cmp cmp)) → digest_under (at cmp w n) p (taken (at cmp w n) (given x)) ≡ digest_under (at cmp w k) p (taken (at cmp w k) (kept x))
   under-twin p (twin_peers ps qs h) = refl
-  under-twin p (twin_arrival x y h c) = ap (λ b. if b then c.digest ∷ [] else []) (same_right (eq_by_cmp_equiv total) p x y h)
-  under-twin p (twin_broadcast r c) = ap (λ b. if b then c.digest ∷ [] else []) (same_right (eq_by_cmp_equiv total) p n k own)
+  under-twin p (twin_arrival x y h c) = ap (λ b. if b then option_to_list (charged (at cmp w k) c) else []) (same_right (eq_by_cmp_equiv total) p x y h)
+  under-twin p (twin_broadcast r c) = ap (λ b. if b then option_to_list (charged (at cmp w k) c) else []) (same_right (eq_by_cmp_equiv total) p n k own)
   under-twin p (twin_subscribe i d) = refl
   under-twin p (twin_get i d) = refl
   under-twin p (twin_cleanup test) = refl
@@ -90,8 +92,11 @@ module _ {P : Type 0} (cmp : P → P → Ordering) (total : IsTotalOrder cmp) (w
       (λ t. rw (is_primary-twin p (x ∷ xs) ∙ t, t) (rw (under-twin p x, since-twin p xs) refl))
       (λ t. rw (is_primary-twin p (x ∷ xs) ∙ t, t) refl)
 
+  pub charged-twin : (p : P) (xs : List (Twin (eq_by_cmp cmp))) → charged_list (at cmp w n) p (map given xs) ≡ charged_list (at cmp w k) p (map kept xs)
+  charged-twin p xs = ap (stayed (at cmp w n).same.digest w.deque_size w.byte_budget) (since-twin p xs)
+
   pub list-twin : (p : P) (xs : List (Twin (eq_by_cmp cmp))) → list (at cmp w n) p (map given xs) ≡ list (at cmp w k) p (map kept xs)
-  list-twin p xs = ap (λ ds. take w.deque_size (first_places (at cmp w n).same.digest ds)) (since-twin p xs)
+  list-twin p xs = ap digests_of (charged-twin p xs)
 
   listed-twin : (d : List ℕ) (xs : List (Twin (eq_by_cmp cmp))) → is_listed (at cmp w n) d (map given xs) ≡ is_listed (at cmp w k) d (map kept xs)
   listed-twin d xs =
@@ -168,14 +173,14 @@ module _ {P : Type 0} (cmp : P → P → Ordering) (total : IsTotalOrder cmp) (w
       (λ a b es. comes_after (length es) (reply (at cmp w n) a b es)) (λ a b es. comes_after (length es) (reply (at cmp w k) a b es))
       (λ a b es. rw (lengths es, reply-twin a b es) refl) (x ∷ []) xs
 
-  pub outcome-twin : (p q : P) (d : List ℕ) (xs : List (Twin (eq_by_cmp cmp))) → IsTrue (eq_by_cmp cmp p q) → outcome (at cmp w n) p d (map given xs) ≡ outcome (at cmp w k) q d (map kept xs)
-  outcome-twin p q d xs h =
+  pub outcome-twin : (p q : P) (c : Carried Parts (List ℕ)) (xs : List (Twin (eq_by_cmp cmp))) → IsTrue (eq_by_cmp cmp p q) → outcome (at cmp w n) p c (map given xs) ≡ outcome (at cmp w k) q c (map kept xs)
+  outcome-twin p q c xs h =
       rw (is_primary-twin p xs ∙ is_primary-equal (at cmp w k) (eq_by_cmp_equiv total) p q (map kept xs) h, list-twin p xs ∙ list-equal (at cmp w k) (eq_by_cmp_equiv total) p q (map kept xs) h) refl
 
   -- a taking is answered the same
   taking-twin : (p q : P) (x : Twin (eq_by_cmp cmp)) (c : Carried Parts (List ℕ)) (xs : List (Twin (eq_by_cmp cmp))) → IsTrue (eq_by_cmp cmp p q)
       → answer_to_taking (at cmp w n) p c (given x) (map given xs) ≡ answer_to_taking (at cmp w k) q c (kept x) (map kept xs)
-  taking-twin p q x c xs h = rw (outcome-twin p q c.digest xs h, replied-twin x xs) refl
+  taking-twin p q x c xs h = rw (outcome-twin p q c xs h, replied-twin x xs) refl
 
 -- an event, and the same with equal keys
 pub data TwinEvent {P : Type 0} (same : P → P → Bool) : Type 0 where

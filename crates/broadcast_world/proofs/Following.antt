@@ -9,8 +9,8 @@ use Rattle.broadcast_core.specs.Happening.{Happening, peers, broadcast, arrival,
 use Rattle.broadcast_core.specs.Peers.{primary}
 use Rattle.broadcast_core.specs.TestMessage.{Parts}
 use Rattle.broadcast_core.specs.Log.{is_refused}
-use Rattle.broadcast_core.specs.Content.{list_at, message_at, waiting_at}
-use Rattle.broadcast_core.specs.Lists.{list}
+use Rattle.broadcast_core.specs.Content.{charged_at, message_at, waiting_at}
+use Rattle.broadcast_core.specs.Lists.{charged_list}
 use Rattle.broadcast_core.specs.Cache.{message}
 use Rattle.broadcast_core.specs.Waiting.{waiting_for, with_digest}
 use Rattle.broadcast_core.specs.HasContent.{HasContent}
@@ -21,7 +21,7 @@ use Rattle.broadcast_core.proofs.Distinct.{by_test}
 use Rattle.broadcast_world.specs.Scene.{Scene}
 use Rattle.broadcast_world.specs.World.{NodeHistory, at}
 use Rattle.broadcast_world.specs.Steps.{HasNode, NodeContent, NodeFollows, NodeTakes}
-use Rattle.broadcast_world.proofs.Copied.{Twin, twin_peers, twin_arrival, twin_broadcast, twin_subscribe, twin_get, twin_cleanup, given, kept, TwinEvent, given_event, kept_event, primary-twin, list-twin, message-twin, waiting-twin, answer-twin, refusable-twin, after-twins, after-given, after-kept}
+use Rattle.broadcast_world.proofs.Copied.{Twin, twin_peers, twin_arrival, twin_broadcast, twin_subscribe, twin_get, twin_cleanup, given, kept, TwinEvent, given_event, kept_event, primary-twin, charged-twin, message-twin, waiting-twin, answer-twin, refusable-twin, after-twins, after-given, after-kept}
 
 module _ {P : Type 0} {same : P → P → Bool} (laws : IsEquivalence same) where
   self : (ps : List P) → AllZip (λ p q. IsTrue (same p q)) ps ps
@@ -87,8 +87,9 @@ module _ {P : Type 0} (cmp : P → P → Ordering) (total : IsTotalOrder cmp) (w
       record {
         own = refl;
         deque_size = has.deque_size;
+        byte_budget = has.byte_budget;
         primary = sym (copied-primary core.own past core.primary has.primary);
-        lists = λ p. subst (λ es. list_at (at cmp w n).same core p ≡ list (at cmp w n) p es) (sym is) (has.lists p) ∙ list-twin cmp total w n core.own has.own p xs;
+        lists = λ p. subst (λ es. charged_at (at cmp w n).same core p ≡ charged_list (at cmp w n) p es) (sym is) (has.lists p) ∙ charged-twin cmp total w n core.own has.own p xs;
         cached = λ d. subst (λ es. message_at (at cmp w n).same core d ≡ message (at cmp w n) d es) (sym is) (has.cached d) ∙ message-twin cmp total w n core.own has.own d xs;
         waiters = λ d. subst (λ es. waiting_at (at cmp w n).same core d ≡ waiting_for (at cmp w n) d es) (sym is) (has.waiters d) ∙ ap (with_digest (at cmp w n).same.digest d) (waiting-twin cmp total w n core.own has.own xs);
       }
@@ -98,8 +99,9 @@ module _ {P : Type 0} (cmp : P → P → Ordering) (total : IsTotalOrder cmp) (w
   given-content k own xs core has = record {
     own = ap (eq_by_cmp cmp n) has.own ∙ own;
     deque_size = has.deque_size;
+    byte_budget = has.byte_budget;
     primary = subst (λ ps. AllZip (λ p q. IsTrue (eq_by_cmp cmp p q)) (primary (at cmp w n) (map given xs)) ps) (sym has.primary) (primary-twin cmp total w n k own xs);
-    lists = λ p. has.lists p ∙ sym (list-twin cmp total w n k own p xs);
+    lists = λ p. has.lists p ∙ sym (charged-twin cmp total w n k own p xs);
     cached = λ d. has.cached d ∙ sym (message-twin cmp total w n k own d xs);
     waiters = λ d. has.waiters d ∙ ap (with_digest (at cmp w n).same.digest d) (sym (waiting-twin cmp total w n k own xs));
   }

@@ -5,6 +5,7 @@ use Rattle.std.specs.List.{AllByRecursion, find, list_any, slice_get}
 use Rattle.std.proofs.lemmas.List.{length-append, length-map, map-append}
 use Rattle.std.specs.Option.{option_map}
 use Rattle.std.specs.Cmp.{IsEquivalence, IsTotalOrder, eq_by_cmp_equiv}
+use Rattle.std.proofs.lemmas.Cmp.{nat_list_cmp_total}
 use Rattle.std.specs.Ordering.{eq_by_cmp}
 use Rattle.std.specs.declared.cmp.Ordering.{Ordering}
 use Rattle.broadcast_core.proofs.Distinct.{by_test, or_false, or_none, or_right}
@@ -439,7 +440,7 @@ module _ {P : Type 0} (cmp : P → P → Ordering) (total : IsTotalOrder cmp) (w
           let more = lists_of ℕ ℕ s hostile hostile-alike (filter hostile (primary s (all it.items))) (all it.items) in
           record {
             more = more;
-            few = subst (λ es. length more ≤ w.deque_size * length (filter hostile (primary s es))) it.first (lists_of-few ℕ ℕ s hostile hostile-alike (filter hostile (primary s (all it.items))) (all it.items));
+            few = subst (λ es. length more ≤ w.deque_size * length (filter hostile (primary s es))) it.first (lists_of-few ℕ ℕ s hostile hostile-alike (eq_by_cmp_equiv nat_list_cmp_total) (filter hostile (primary s (all it.items))) (all it.items));
             cached = λ d. ap (is_listed s d) (sym it.first) ∙ listed-merged ℕ ℕ s hostile hostile-alike d it.items ∙ ap (λ es. is_listed s d es || among s.same.digest d more) it.second;
           }
 

@@ -1,21 +1,23 @@
 -- Two histories of one node: the second lacks arrivals of hostile keys.
-use Rattle.std.proofs.Common.{◌≡◌, ℕ, ◌*◌, ◌≤◌, Bool, true, false, ◌||◌, List, [], ◌∷◌, ◌++◌, length, take, filter, refl, sym, ap, ◌∙◌, arith}
+use Rattle.std.proofs.Common.{◌≡◌, ℕ, ◌*◌, ◌≤◌, Bool, true, false, ◌||◌, List, [], ◌∷◌, ◌++◌, length, filter, refl, sym, ap, ◌∙◌, arith}
 use Rattle.std.specs.List.{list_any}
-use Rattle.std.proofs.lemmas.List.{length-take, length-append}
+use Rattle.std.specs.Cmp.{IsEquivalence}
+use Rattle.std.proofs.lemmas.List.{length-append}
 use Rattle.std.proofs.Math.Nat.{mul-suc}
 use Rattle.broadcast_core.proofs.Distinct.{by_test, or_false, or_none, list_any-append}
 use Rattle.broadcast_core.proofs.Concerning.{list-same}
 use Rattle.broadcast_core.proofs.Following.{message-none}
-use Rattle.broadcast_core.proofs.Listing.{take-none}
+use Rattle.broadcast_core.proofs.Listed.{list-from, list-few, charged-digest}
+use Rattle.broadcast_core.specs.Company.{stayed}
+use Rattle.std.specs.Option.{option_to_list}
 use Rattle.broadcast_core.specs.Carried.{Carried}
 use Rattle.broadcast_core.specs.Setting.{Setting}
-use Rattle.broadcast_core.specs.Content.{among, first_places}
+use Rattle.broadcast_core.specs.Content.{among, digests_of}
 use Rattle.broadcast_core.specs.Happening.{Happening, History, peers, broadcast, arrival, subscribe, get, cleanup, taken}
 use Rattle.broadcast_core.specs.Concerns.{peer_set, concerns}
 use Rattle.broadcast_core.specs.Peers.{primary, is_primary, since}
-use Rattle.broadcast_core.specs.Lists.{digest_under, digests_under, list}
+use Rattle.broadcast_core.specs.Lists.{charged, digest_under, digests_under, list}
 use Rattle.broadcast_core.specs.Cache.{is_listed, message}
-use Rattle.broadcast_world.proofs.Origins.{any_take, any_first}
 
 or_assoc : (a b c : Bool) → (a || (b || c)) ≡ ((a || b) || c)
 or_assoc true b c = refl
@@ -118,7 +120,7 @@ module _ {P M D : Type 0} (W V : Type 0) (s : Setting P M D) (hostile : P → Bo
 
   -- and one list of each key that is not hostile
   pub list-merged : (p : P) (xs : List (Merged W V s hostile)) → hostile p ≡ false → list s p (all xs) ≡ list s p (kept xs)
-  list-merged p xs h = list-same s s refl refl p p (kept xs) (all xs) (concerns-merged p xs h)
+  list-merged p xs h = list-same s s refl refl refl p p (kept xs) (all xs) (concerns-merged p xs h)
 
   -- in the second, hostile keys have none
   none-under : (p : P) (xs : List (Merged W V s hostile)) → hostile p ≡ true → digests_under s p (since s p (kept xs)) ≡ []
@@ -129,10 +131,10 @@ module _ {P M D : Type 0} (W V : Type 0) (s : Setting P M D) (hostile : P → Bo
   none-under p (attack q c k ∷ xs) h = none-under p xs h
 
   list-clean : (p : P) (xs : List (Merged W V s hostile)) → hostile p ≡ true → list s p (kept xs) ≡ []
-  list-clean p xs h = ap (λ ds. take s.deque_size (first_places s.same.digest ds)) (none-under p xs h) ∙ take-none s.deque_size
+  list-clean p xs h = ap (λ cs. digests_of (stayed s.same.digest s.deque_size s.byte_budget cs)) (none-under p xs h)
 
   -- in the first, what hostile keys list was brought by them
-  brought : (d : D) (p : P) (xs : List (Merged W V s hostile)) → hostile p ≡ true → among s.same.digest d (digests_under s p (since s p (all xs))) ≡ true → attacked d xs ≡ true
+  brought : (d : D) (p : P) (xs : List (Merged W V s hostile)) → hostile p ≡ true → list_any (λ c. s.same.digest d c.digest) (digests_under s p (since s p (all xs))) ≡ true → attacked d xs ≡ true
   brought d p [] h some = absurd (let no = some in cc)
   brought d p (both e k ∷ xs) h some = by_test (is_primary s p (e ∷ all xs))
       (λ t. brought d p xs h (rw (t, honest-under p e k h) at some))
@@ -141,25 +143,27 @@ module _ {P M D : Type 0} (W V : Type 0) (s : Setting P M D) (hostile : P → Bo
       (λ t. rw t refl)
       (λ t. rw t (by_test (is_primary s p (arrival q c ∷ all xs))
       (λ u. by_test (s.same.key p q)
-      (λ v. brought d p xs h (rw (u, v, t) at some))
+      (λ v.
+      let either = sym (list_any-append (λ x. s.same.digest d x.digest) (option_to_list (charged s c)) (digests_under s p (since s p (all xs)))) ∙ (rw (u, v) at some) in
+      let none : list_any (λ x. s.same.digest d x.digest) (option_to_list (charged s c)) ≡ false = by_test (list_any (λ x. s.same.digest d x.digest) (option_to_list (charged s c)))
+      (λ z. absurd (let no = sym t ∙ charged-digest s (s.same.digest d) c z in cc))
+      (λ z. z) in
+      brought d p xs h (sym (ap (λ b. b || list_any (λ x. s.same.digest d x.digest) (digests_under s p (since s p (all xs)))) none) ∙ either))
       (λ v. brought d p xs h (rw (u, v) at some)))
       (λ u. absurd (let no = rw u at some in cc))))
 
   pub list-brought : (d : D) (p : P) (xs : List (Merged W V s hostile)) → hostile p ≡ true → among s.same.digest d (list s p (all xs)) ≡ true → attacked d xs ≡ true
-  list-brought d p xs h some = brought d p xs h
-      (any_first s.same.digest (s.same.digest d) (digests_under s p (since s p (all xs)))
-      (any_take (s.same.digest d) s.deque_size (first_places s.same.digest (digests_under s p (since s p (all xs)))) some))
+  list-brought d p xs h some = brought d p xs h (list-from s (s.same.digest d) p (all xs) some)
 
   -- the lists of keys, one after the other
   abbrev pub lists_of : List P → History P M D W V → List D
   lists_of [] past = []
   lists_of (p ∷ ps) past = list s p past ++ lists_of ps past
 
-  pub lists_of-few : (ps : List P) (past : History P M D W V) → length (lists_of ps past) ≤ s.deque_size * length ps
-  lists_of-few [] past = omega arith
-  lists_of-few (p ∷ ps) past =
-      let ds = first_places s.same.digest (digests_under s p (since s p past)) in
-      omega (arith, length-append (list s p past) (lists_of ps past), length-take s.deque_size ds, mul-suc s.deque_size (length ps), lists_of-few ps past)
+  pub lists_of-few : IsEquivalence s.same.digest → (ps : List P) (past : History P M D W V) → length (lists_of ps past) ≤ s.deque_size * length ps
+  lists_of-few laws [] past = omega arith
+  lists_of-few laws (p ∷ ps) past =
+      omega (arith, length-append (list s p past) (lists_of ps past), list-few s laws p past, mul-suc s.deque_size (length ps), lists_of-few laws ps past)
 
   -- what is listed under some keys
   listed-under : (d : D) (xs : List (Merged W V s hostile)) (ps : List P) → list_any (λ p. among s.same.digest d (list s p (all xs))) ps

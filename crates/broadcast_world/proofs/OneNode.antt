@@ -21,7 +21,6 @@ use Rattle.broadcast_world.specs.Scene.{Scene}
 use Rattle.broadcast_world.specs.World.{NodeEvent, addressed, event_at, made_by, packets_by, packets_to, unless_refused}
 use Rattle.broadcast_world.specs.Packet.{Packet}
 use Rattle.broadcast_world.specs.Made.{AreEmpty, no_content}
-use Rattle.broadcast_core.proofs.Listing.{take-none}
 use Rattle.broadcast_world.specs.Steps.{AreCopies, AtNode, HasNode, NodeContent, NodeFollows}
 use Rattle.broadcast_world.specs.declared.step.WorldAnswer.{WorldAnswer}
 use Rattle.broadcast_world.specs.declared.step.WorldAnswer.TheVariants.{Given, NoSuch}
@@ -54,18 +53,19 @@ module _ {P : Type 0} (cmp : P → P → Ordering) (w : Scene P) where
       → NodeFollows cmp w n (Broadcast r c) core core (Refused Unencodable)
   NodeFollows-unencodable n r c core none = λ past has. record { answered = inl (rw none refl); content = has }
 
-  no_history : (n : P) (core : NodeContent P) → eq_by_cmp cmp n core.own ≡ true → core ≡ no_content core.own w.deque_size → HasNode cmp w n [] core
+  no_history : (n : P) (core : NodeContent P) → eq_by_cmp cmp n core.own ≡ true → core ≡ no_content core.own w.deque_size w.byte_budget → HasNode cmp w n [] core
   no_history n core own is = subst (HasNode cmp w n []) (sym is) (record {
     own = own;
     deque_size = refl;
+    byte_budget = refl;
     primary = tt;
-    lists = λ p. sym (take-none w.deque_size);
+    lists = λ p. refl;
     cached = λ d. refl;
     waiters = λ d. refl;
   })
 
   nothing_kept : P → NodeContent P
-  nothing_kept own = no_content own 0
+  nothing_kept own = no_content own 0 0
 
   -- no content changes
   pub AtNode-refused : (named : Option P) (n : P) (e : NodeEvent P) (place : ℕ) (cores : List (NodeContent P)) (a : Answer Parts (List ℕ))
@@ -104,7 +104,7 @@ module _ {P : Type 0} (cmp : P → P → Ordering) (w : Scene P) where
   AreCopies-self total (p ∷ ps) = (((eq_by_cmp_equiv total).refl p.sender, (eq_by_cmp_equiv total).refl p.addressee, refl), AreCopies-self total ps)
 
   -- nothing has happened at any node
-  pub contents-empty : (keys : List P) (cores : List (NodeContent P)) → AreEmpty cmp w.deque_size keys cores → AllZip (λ n core. HasNode cmp w n [] core) keys cores
+  pub contents-empty : (keys : List P) (cores : List (NodeContent P)) → AreEmpty cmp w.deque_size w.byte_budget keys cores → AllZip (λ n core. HasNode cmp w n [] core) keys cores
   contents-empty [] [] h = tt
   contents-empty [] (core ∷ cores) h = absurd h
   contents-empty (n ∷ keys) [] h = absurd h

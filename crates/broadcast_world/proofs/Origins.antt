@@ -6,12 +6,13 @@ use Rattle.std.specs.Option.{option_map}
 use Rattle.std.specs.Cmp.{IsEquivalence, IsTotalOrder, eq_by_cmp_equiv}
 use Rattle.std.specs.Ordering.{eq_by_cmp}
 use Rattle.std.specs.declared.cmp.Ordering.{Ordering}
-use Rattle.broadcast_core.proofs.Distinct.{by_test, or_none, or_right, list_any-append}
+use Rattle.broadcast_core.proofs.Distinct.{by_test, or_right, list_any-append}
 use Rattle.broadcast_core.specs.Carried.{Carried}
 use Rattle.broadcast_core.specs.Codec.{all_taken, whole}
 use Rattle.broadcast_core.specs.CodecLaws.{message_reads_back}
-use Rattle.broadcast_core.specs.Content.{first_places, among, list_at}
+use Rattle.broadcast_core.specs.Content.{first_places, among, list_at, digests_of}
 use Rattle.broadcast_core.specs.Happening.{Happening, peers, broadcast, arrival, subscribe, get, cleanup, taken}
+use Rattle.broadcast_core.proofs.Listed.{list-from, charged-digest}
 use Rattle.broadcast_core.specs.Lists.{list, digest_under, digests_under}
 use Rattle.broadcast_core.specs.Peers.{is_primary, since}
 use Rattle.broadcast_core.specs.declared.codec.CodecError.{CodecError}
@@ -269,9 +270,9 @@ module _ {P : Type 0} (cmp : P → P → Ordering) (total : IsTotalOrder cmp) (w
     own : carried.digest ≡ sha256 carried.message.content
 
   taken-arrived : (n : P) (log : Log P) (p : P) (test : List ℕ → Bool) (e : Happening P Parts (List ℕ) ℕ ℕ) → eq_by_cmp cmp p n ≡ false → Came n log e
-      → list_any test (digest_under (at cmp w n) p (taken (at cmp w n) e)) ≡ true → Arrived n log p test
+      → list_any (λ c. test c.digest) (digest_under (at cmp w n) p (taken (at cmp w n) e)) ≡ true → Arrived n log p test
   taken-arrived n log p test (arrival q c) other came h = by_test (eq_by_cmp cmp p q)
-      (λ t. record { from = q; carried = c; key = t; digest = sym (or_none (test c.digest)) ∙ rw t at h; origin = came.0; own = came.1 })
+      (λ t. record { from = q; carried = c; key = t; digest = charged-digest (at cmp w n) test c (rw t at h); origin = came.0; own = came.1 })
       (λ t. absurd (let no = rw t at h in cc))
   taken-arrived n log p test (broadcast r c) other came h = absurd (let no = rw other at h in cc)
   taken-arrived n log p test (peers ps) other came h = absurd (let no = h in cc)
@@ -280,12 +281,12 @@ module _ {P : Type 0} (cmp : P → P → Ordering) (total : IsTotalOrder cmp) (w
   taken-arrived n log p test (cleanup gone) other came h = absurd (let no = h in cc)
 
   under-arrived : (n : P) (log : Log P) (p : P) (test : List ℕ → Bool) (past : NodeHistory P) → eq_by_cmp cmp p n ≡ false → AllByRecursion (Came n log) past
-      → list_any test (digests_under (at cmp w n) p (since (at cmp w n) p past)) ≡ true → Arrived n log p test
+      → list_any (λ c. test c.digest) (digests_under (at cmp w n) p (since (at cmp w n) p past)) ≡ true → Arrived n log p test
   under-arrived n log p test [] other all h = absurd (let no = h in cc)
   under-arrived n log p test (e ∷ older) other all h = by_test (is_primary (at cmp w n) p (e ∷ older))
       (λ t. let k = rw t at h in
-      let split = sym (list_any-append test (digest_under (at cmp w n) p (taken (at cmp w n) e)) (digests_under (at cmp w n) p (since (at cmp w n) p older))) ∙ k in
-      by_test (list_any test (digest_under (at cmp w n) p (taken (at cmp w n) e)))
+      let split = sym (list_any-append (λ c. test c.digest) (digest_under (at cmp w n) p (taken (at cmp w n) e)) (digests_under (at cmp w n) p (since (at cmp w n) p older))) ∙ k in
+      by_test (list_any (λ c. test c.digest) (digest_under (at cmp w n) p (taken (at cmp w n) e)))
       (λ u. taken-arrived n log p test e other all.0 u)
       (λ u. under-arrived n log p test older other all.1 (rw u at split)))
       (λ t. absurd (let no = rw t at h in cc))
@@ -295,8 +296,8 @@ module _ {P : Type 0} (cmp : P → P → Ordering) (total : IsTotalOrder cmp) (w
       → list_any (eq_by_cmp cmp p) w.hostile ≡ false → among (at cmp w n).same.digest d (list_at (at cmp w n).same core p) ≡ true → was_broadcast cmp w p n d log ≡ true
   origins n log core has p d other clean h =
       let equal : List ℕ → Bool = (at cmp w n).same.digest d in
-      let listed : list_any equal (list (at cmp w n) p (history cmp w n log)) ≡ true = ap (list_any equal) (sym (has.lists p)) ∙ h in
-      let under = any_first (at cmp w n).same.digest equal (digests_under (at cmp w n) p (since (at cmp w n) p (history cmp w n log))) (any_take equal w.deque_size _ listed) in
+      let listed : list_any equal (list (at cmp w n) p (history cmp w n log)) ≡ true = ap (λ cs. list_any equal (digests_of cs)) (sym (has.lists p)) ∙ h in
+      let under = list-from (at cmp w n) equal p (history cmp w n log) listed in
       let a = under-arrived n log p equal (history cmp w n log) other (history-came n log) under in
       elim a.origin [
         | inl hostile ↦ absurd (let no = any-equal (eq_by_cmp cmp) (eq_by_cmp_equiv total) p a.from w.hostile a.key ∙ hostile in cc)

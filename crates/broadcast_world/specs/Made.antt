@@ -24,10 +24,11 @@ module _ {P : Type 0} (cmp : P → P → Ordering) where
       option_map (λ e. e.1) (find (λ e. eq_by_cmp cmp p e.0) (zip world.scene.nodes world.cores))
 
 -- the content of a node without a history
-abbrev pub no_content : {P : Type 0} → P → ℕ → NodeContent P
-no_content own deque_size = record {
+abbrev pub no_content : {P : Type 0} → P → ℕ → ℕ → NodeContent P
+no_content own deque_size byte_budget = record {
   own = own;
   deque_size = deque_size;
+  byte_budget = byte_budget;
   primary = [];
   lists = [];
   cached = [];
@@ -35,7 +36,7 @@ no_content own deque_size = record {
 }
 
 -- one node without a history for each key; its own key is a copy, which equals that given
-abbrev pub AreEmpty : {P : Type 0} → (P → P → Ordering) → ℕ → List P → List (NodeContent P)
+abbrev pub AreEmpty : {P : Type 0} → (P → P → Ordering) → ℕ → ℕ → List P → List (NodeContent P)
     → Type 0
-AreEmpty cmp deque_size nodes cores = AllZip (λ n core.
-    IsTrue (eq_by_cmp cmp n core.own) × (core ≡ no_content core.own deque_size)) nodes cores
+AreEmpty cmp deque_size byte_budget nodes cores = AllZip (λ n core.
+    IsTrue (eq_by_cmp cmp n core.own) × (core ≡ no_content core.own deque_size byte_budget)) nodes cores

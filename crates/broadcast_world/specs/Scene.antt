@@ -10,6 +10,7 @@ pub record Scene (P : Type 0) : Type 0 where
   pub nodes : List P
   pub hostile : List P
   pub deque_size : ℕ
+  pub byte_budget : ℕ
   pub range : RangeCfg
 
 -- what changes besides: the content of each node, and the packets sent so far

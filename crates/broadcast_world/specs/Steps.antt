@@ -3,10 +3,10 @@ use Rattle.std.specs.Prelude.{◌≡◌, ℕ, IsTrue, if◌then◌else◌, List,
 use Rattle.std.specs.List.{AllZip, slice_get}
 use Rattle.std.specs.declared.cmp.Ordering.{Ordering}
 use Rattle.std.specs.Ordering.{eq_by_cmp}
-use Rattle.broadcast_core.specs.Content.{Content, list_at, message_at, waiting_at}
+use Rattle.broadcast_core.specs.Content.{Content, charged_at, message_at, waiting_at}
 use Rattle.broadcast_core.specs.Concerns.{AreEqual}
 use Rattle.broadcast_core.specs.Peers.{primary}
-use Rattle.broadcast_core.specs.Lists.{list}
+use Rattle.broadcast_core.specs.Lists.{charged_list}
 use Rattle.broadcast_core.specs.Cache.{message}
 use Rattle.broadcast_core.specs.Waiting.{waiting_for}
 use Rattle.broadcast_core.specs.TestMessage.{Parts}
@@ -27,8 +27,9 @@ module _ {P : Type 0} (cmp : P → P → Ordering) (w : Scene P) where
   pub record HasNode (n : P) (past : NodeHistory P) (core : NodeContent P) : Type 0 where
     pub own : IsTrue (eq_by_cmp cmp n core.own)
     pub deque_size : core.deque_size ≡ w.deque_size
+    pub byte_budget : core.byte_budget ≡ w.byte_budget
     pub primary : AreEqual (eq_by_cmp cmp) (primary (at cmp w n) past) core.primary
-    pub lists : (p : P) → list_at (at cmp w n).same core p ≡ list (at cmp w n) p past
+    pub lists : (p : P) → charged_at (at cmp w n).same core p ≡ charged_list (at cmp w n) p past
     pub cached : (d : List ℕ) → message_at (at cmp w n).same core d ≡ message (at cmp w n) d past
     pub waiters :
         (d : List ℕ) → waiting_at (at cmp w n).same core d ≡ waiting_for (at cmp w n) d past

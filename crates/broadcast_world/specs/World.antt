@@ -48,7 +48,7 @@ module _ {P : Type 0} (cmp : P → P → Ordering) (w : Scene P) where
 
   -- what the history of the node with this key is read by
   abbrev pub at : P → Setting P Parts (List ℕ)
-  at own = setting own w.deque_size false (same_by cmp (slice_cmp nat_cmp))
+  at own = setting own w.deque_size w.byte_budget false (same_by cmp (slice_cmp nat_cmp))
       (λ m. sha256 m.content) encoding_of (whole (read_message w.range))
 
   -- the node that a key names

@@ -41,12 +41,13 @@ pub fn cores_for<P: PublicKey>(
     alloc: Global,
     nodes: &[P],
     deque_size: usize,
+    byte_budget: u64,
 ) -> Result<Vec<Core<P, TestMessage, u64>>, AllocError>
-    ensures { IfOk result (λ cores. AreEmpty P.cmp deque_size nodes.now cores.items) }
+    ensures { IfOk result (λ cores. AreEmpty P.cmp deque_size byte_budget nodes.now cores.items) }
 {
     let mut cores = Vec::with_capacity(alloc, nodes.len())?;
     for node in nodes {
-        cores.push(Core::new(alloc, node.clone()?, deque_size))?;
+        cores.push(Core::new(alloc, node.clone()?, deque_size, byte_budget))?;
     }
     Ok(cores)
 }

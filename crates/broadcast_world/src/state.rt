@@ -24,6 +24,7 @@ pub struct World<P: PublicKey> {
     nodes: Arc<Set<P>>,
     hostile: Arc<Set<P>>,
     deque_size: usize,
+    byte_budget: u64,
     range: RangeCfg,
     cores: Vec<Core<P, TestMessage, u64>>,
     packets: Vec<Packet<P>>,
@@ -41,6 +42,7 @@ impl<P: PublicKey> Model for World<P> {
         nodes = arc_value it.nodes;
         hostile = arc_value it.hostile;
         deque_size = it.deque_size;
+        byte_budget = it.byte_budget;
         range = it.range;
       };
       cores = it.cores.items;
@@ -53,13 +55,15 @@ impl<P: PublicKey> Model for World<P> {
 impl<P: PublicKey> World<P> {
     /// Creates a world in which nothing has happened and no packet was sent.
     ///
-    /// A hostile key that is listed twice counts once. `SharedKey` is judged first, and does not
-    /// allocate.
+    /// Each node keeps at most `deque_size` digests of each peer, charged at most `byte_budget`
+    /// bytes of their messages' encodings. A hostile key that is listed twice counts once.
+    /// `SharedKey` is judged first, and does not allocate.
     pub fn new(
         alloc: Global,
         nodes: Vec<P>,
         hostile: Vec<P>,
         deque_size: usize,
+        byte_budget: u64,
         range: RangeCfg,
     ) -> Result<Self, WorldError>
         ensures shared { shares_key P.cmp nodes.items hostile.items ≡ true
@@ -76,6 +80,7 @@ impl<P: PublicKey> World<P> {
             → list_any (eq_by_cmp P.cmp q) world.scene.nodes ≡ true
             → list_any (eq_by_cmp P.cmp q) world.scene.hostile ≡ false) }
         ensures deque_size { IfOk result (λ world. world.scene.deque_size ≡ deque_size) }
+        ensures byte_budget { IfOk result (λ world. world.scene.byte_budget ≡ byte_budget) }
         ensures range { IfOk result (λ world. world.scene.range ≡ range) }
         ensures empty { IfOk result (λ world. HasWorld P.cmp [] world) }
     {
@@ -84,7 +89,7 @@ impl<P: PublicKey> World<P> {
         }
         let nodes = set_of(alloc, nodes)?;
         let hostile = set_of(alloc, hostile)?;
-        Ok(World::over(alloc, nodes, hostile, deque_size, range)?)
+        Ok(World::over(alloc, nodes, hostile, deque_size, byte_budget, range)?)
     }
 
     /// Creates a world over these keys in which nothing has happened.
@@ -93,21 +98,24 @@ impl<P: PublicKey> World<P> {
         nodes: Arc<Set<P>>,
         hostile: Arc<Set<P>>,
         deque_size: usize,
+        byte_budget: u64,
         range: RangeCfg,
     ) -> Result<Self, AllocError>
         ensures scene { IfOk result (λ world. world.scene ≡ record {
           nodes = arc_value nodes;
           hostile = arc_value hostile;
           deque_size = deque_size;
+          byte_budget = byte_budget;
           range = range;
         }) }
         ensures empty { IfOk result (λ world. HasWorld P.cmp [] world) }
     {
-        let cores = cores_for(alloc, nodes.as_slice(), deque_size)?;
+        let cores = cores_for(alloc, nodes.as_slice(), deque_size, byte_budget)?;
         Ok(World {
             nodes,
             hostile,
             deque_size,
+            byte_budget,
             range,
             cores,
             packets: Vec::new(alloc),
@@ -121,7 +129,14 @@ impl<P: PublicKey> World<P> {
     {
         let nodes = Arc::try_clone(&self.nodes)?;
         let hostile = Arc::try_clone(&self.hostile)?;
-        World::over(alloc, nodes, hostile, self.deque_size, self.range)
+        World::over(
+            alloc,
+            nodes,
+            hostile,
+            self.deque_size,
+            self.byte_budget,
+            self.range,
+        )
     }
 
     /// Returns the keys of the nodes.

@@ -69,8 +69,8 @@ fn push_honest<'a, P: PublicKey>(
     Ok(())
 }
 
-/// Runs the steps in two new worlds with the same keys: all of them in one, and those that are not
-/// hostile in the other.
+/// Runs the steps in two new worlds with the same keys and limits: all of them in one, and those
+/// that are not hostile in the other.
 ///
 /// The clauses after `without_run` compare both runs after the same steps, hostile ones left out,
 /// as long as no step was refused for memory. Hostile steps change no list of another key. They
@@ -84,6 +84,7 @@ pub fn compare<P: PublicKey>(
     nodes: Vec<P>,
     hostile: Vec<P>,
     deque_size: usize,
+    byte_budget: u64,
     range: RangeCfg,
     steps: &[Step<P>],
 ) -> Result<Comparison<P>, WorldError>
@@ -101,6 +102,7 @@ pub fn compare<P: PublicKey>(
         → list_any (eq_by_cmp P.cmp q) both.with_world.scene.nodes ≡ true
         → list_any (eq_by_cmp P.cmp q) both.with_world.scene.hostile ≡ false) }
     ensures deque_size { IfOk result (λ both. both.with_world.scene.deque_size ≡ deque_size) }
+    ensures byte_budget { IfOk result (λ both. both.with_world.scene.byte_budget ≡ byte_budget) }
     ensures range { IfOk result (λ both. both.with_world.scene.range ≡ range) }
     ensures same_scene { IfOk result (λ both.
         both.without_world.scene ≡ both.with_world.scene) }
@@ -133,7 +135,7 @@ pub fn compare<P: PublicKey>(
         (log_of steps.now both.with_log.answers)
         (log_of (without_hostile steps.now) both.without_log.answers)) }
 {
-    let with_world = World::new(alloc, nodes, hostile, deque_size, range)?;
+    let with_world = World::new(alloc, nodes, hostile, deque_size, byte_budget, range)?;
     let without_world = with_world.anew(alloc)?;
     let both = run_both(alloc, with_world, without_world, steps)?;
     Ok(both)

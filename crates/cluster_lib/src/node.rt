@@ -148,6 +148,7 @@ where
         public_key: mail.key,
         mailbox_size: NonZeroUsize::MIN,
         deque_size,
+        byte_budget: u64::MAX,
         priority: false,
         codec_config,
         peer_provider,

@@ -1,5 +1,7 @@
 //! Types that broadcast messages.
-ghost use Rattle.std.specs.Prelude.{IsTrue, ◌≡◌, ◌↔◌, ◌≢◌};
+ghost use Rattle.std.specs.Prelude.{IsTrue, ◌≡◌, ◌↔◌, ◌≢◌, Result};
+ghost use Rattle.commonware_broadcast.specs.declared.broadcaster.Feedback.{Feedback};
+ghost use Rattle.commonware_broadcast.specs.declared.broadcaster.MailboxError.{MailboxError};
 ghost use Rattle.commonware_broadcast.specs.declared.broadcaster.Feedback.TheVariants.{Closed};
 ghost use Rattle.commonware_broadcast.specs.declared.broadcaster.MailboxError.TheVariants.{Memory};
 
@@ -57,10 +59,15 @@ pub trait Broadcaster: Clone + Send + 'static {
     /// The messages that are broadcast.
     type Message: Write + EncodeSize + Clone + Send + 'static;
 
+    /// Whether this may be the answer to a broadcast of the message to the recipients.
+    ghost may_answer: { Self → Self.Recipients → Self.Message → Result Feedback MailboxError
+        → Type 0 };
+
     /// Queues `message` for `recipients`. After an error nothing is queued.
     fn broadcast(
         &self,
         recipients: Self::Recipients,
         message: Self::Message,
-    ) -> Result<Feedback, MailboxError>;
+    ) -> Result<Feedback, MailboxError>
+        ensures { may_answer self.now recipients message result };
 }

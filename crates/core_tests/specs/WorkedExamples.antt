@@ -1,6 +1,6 @@
 -- Worked examples, computed by the definitions. A message is a pair of numbers, of which the second
--- is its digest.
-use Rattle.std.specs.Prelude.{◌≡◌, ℕ, ◌==◌, false, List, [], ◌∷◌, map, None, Some, Result, Ok, Err}
+-- is its digest. Its encoding is both, and as many zeros as the first says.
+use Rattle.std.specs.Prelude.{◌≡◌, ◌^◌, ◌-◌, ℕ, zero, suc, ◌==◌, false, List, [], ◌∷◌, map, None, Some, Result, Ok, Err}
 use Rattle.broadcast_core.specs.Carried.{Carried}
 use Rattle.broadcast_core.specs.Setting.{Setting, setting}
 use Rattle.broadcast_core.specs.Happening.{History}
@@ -18,7 +18,7 @@ use Rattle.broadcast_core.specs.declared.event.Answer.TheVariants as answer
 use Rattle.broadcast_core.specs.declared.event.Sent.{Sent}
 use Rattle.broadcast_core.specs.declared.ordered.Recipients.TheVariants.{All}
 use Rattle.broadcast_core.specs.declared.outcome.Outcome.{Outcome}
-use Rattle.broadcast_core.specs.declared.outcome.Outcome.TheVariants.{Inserted, Duplicate, Ineligible}
+use Rattle.broadcast_core.specs.declared.outcome.Outcome.TheVariants.{Inserted, Duplicate, Oversize, Ineligible}
 
 abbrev pub Message : Type 0
 Message = ℕ × ℕ
@@ -27,10 +27,14 @@ abbrev reading : List ℕ → Result Message CodecError
 reading (c ∷ x ∷ []) = Ok (c, x)
 reading _ = Err EndOfBuffer
 
+abbrev zeros : ℕ → List ℕ
+zeros zero = []
+zeros (suc n) = 0 ∷ zeros n
+
 -- the own key is 1
-abbrev node : ℕ → Setting ℕ Message ℕ
-node size = setting 1 size false (record { key = ◌==◌; digest = ◌==◌ })
-    (λ m. m.1) (λ m. Some (m.0 ∷ m.1 ∷ [])) reading
+abbrev node : ℕ → ℕ → Setting ℕ Message ℕ
+node size budget = setting 1 size budget false (record { key = ◌==◌; digest = ◌==◌ })
+    (λ m. m.1) (λ m. Some (m.0 ∷ m.1 ∷ zeros m.0)) reading
 
 abbrev Events : Type 0
 Events = List (Event ℕ Message ℕ)
@@ -39,26 +43,35 @@ abbrev Past : Type 0
 Past = History ℕ Message ℕ ℕ ℕ
 
 -- the answers after a history, if no allocation fails
-abbrev answers_after : ℕ → Past → Events → List (Answer Message ℕ)
-answers_after size past [] = []
-answers_after size past (e ∷ es) =
-    answer_to (node size) e past ∷ answers_after size (after (node size) e past) es
+abbrev answers_after : Setting ℕ Message ℕ → Past → Events → List (Answer Message ℕ)
+answers_after s past [] = []
+answers_after s past (e ∷ es) = answer_to s e past ∷ answers_after s (after s e past) es
+
+abbrev answers_within : ℕ → ℕ → Events → List (Answer Message ℕ)
+answers_within size budget es = answers_after (node size budget) [] es
+
+abbrev history_from : Setting ℕ Message ℕ → Past → Events → Past
+history_from s past [] = past
+history_from s past (e ∷ es) = history_from s (after s e past) es
+
+abbrev list_within : ℕ → ℕ → Events → ℕ → List ℕ
+list_within size budget es p = list (node size budget) p (history_from (node size budget) [] es)
+
+-- with the greatest budget
+abbrev unbounded : ℕ → Setting ℕ Message ℕ
+unbounded size = node size (2 ^ 64 - 1)
 
 abbrev pub answers : ℕ → Events → List (Answer Message ℕ)
-answers size es = answers_after size [] es
-
-abbrev history_from : ℕ → Past → Events → Past
-history_from size past [] = past
-history_from size past (e ∷ es) = history_from size (after (node size) e past) es
+answers size es = answers_within size (2 ^ 64 - 1) es
 
 abbrev pub list_of : ℕ → Events → ℕ → List ℕ
-list_of size es p = list (node size) p (history_from size [] es)
+list_of size es p = list_within size (2 ^ 64 - 1) es p
 
 abbrev pub waiters : ℕ → Events → List (ℕ × ℕ)
-waiters size es = map (λ w. (w.waiter, w.digest)) (waiting (node size) (history_from size [] es))
+waiters size es = map (λ w. (w.waiter, w.digest)) (waiting (unbounded size) (history_from (unbounded size) [] es))
 
 abbrev pub sends : ℕ → Events → List (Sent ℕ)
-sends size es = sent (node size) (history_from size [] es)
+sends size es = sent (unbounded size) (history_from (unbounded size) [] es)
 
 abbrev pub message : ℕ → ℕ → Carried Message ℕ
 message c x = record { message = (c, x); digest = x }
@@ -134,3 +147,34 @@ pub record Requests : Type 0 where
       ∷ taken Ineligible (1 ∷ 3 ∷ []) 0 61 ∷ taken Ineligible [] 0 61 ∷ answer.Peers
       ∷ answer.Taken Inserted [] renamed ∷ answer.Answered renamed ∷ answer.Waiting ∷ []
   pub waiting : waiters 2 requests ≡ (5, 61) ∷ []
+
+-- three messages of 9 bytes, of which two fit
+abbrev three : Events
+three = Peers (5 ∷ []) ∷ sends_to 5 7 61 ∷ sends_to 5 7 62 ∷ sends_to 5 7 63 ∷ Get 1 61 ∷ []
+
+-- a message of 10 bytes, which no list has room for, serves its waiter and changes no list
+abbrev oversize : Events
+oversize = Peers (5 ∷ []) ∷ sends_to 5 7 61 ∷ Subscribe 7 78 ∷ sends_to 5 8 78 ∷ Get 8 78 ∷ []
+
+-- a digest is charged as when it was last taken
+abbrev longer : Events
+longer = Peers (5 ∷ []) ∷ sends_to 5 7 62 ∷ sends_to 5 7 78 ∷ sends_to 5 10 78 ∷ Get 1 78 ∷ Get 2 62 ∷ []
+
+-- what has left does not come back where a charge gets less
+abbrev shorter : Events
+shorter = Peers (5 ∷ []) ∷ sends_to 5 7 61 ∷ sends_to 5 10 78 ∷ sends_to 5 7 78 ∷ Get 1 61 ∷ []
+
+pub record Budgets : Type 0 where
+  pub bytes_evict : answers_within 10 20 three ≡ answer.Peers
+      ∷ taken Inserted [] 7 61 ∷ taken Inserted [] 7 62 ∷ taken Inserted [] 7 63 ∷ answer.Got None ∷ []
+  pub two_listed : list_within 10 20 three 5 ≡ 63 ∷ 62 ∷ []
+  pub oversize_serves : answers_within 10 9 oversize ≡ answer.Peers
+      ∷ taken Inserted [] 7 61 ∷ answer.Waiting ∷ taken Oversize (7 ∷ []) 8 78 ∷ answer.Got None ∷ []
+  pub oversize_listed : list_within 10 9 oversize 5 ≡ 61 ∷ []
+  pub longer_answered : answers_within 10 20 longer ≡ answer.Peers
+      ∷ taken Inserted [] 7 62 ∷ taken Inserted [] 7 78 ∷ taken Duplicate [] 10 78
+      ∷ answer.Got (Some (message 7 78)) ∷ answer.Got None ∷ []
+  pub longer_listed : list_within 10 20 longer 5 ≡ 78 ∷ []
+  pub shorter_answered : answers_within 10 20 shorter ≡ answer.Peers
+      ∷ taken Inserted [] 7 61 ∷ taken Inserted [] 10 78 ∷ taken Duplicate [] 7 78 ∷ answer.Got None ∷ []
+  pub shorter_listed : list_within 10 20 shorter 5 ≡ 78 ∷ []

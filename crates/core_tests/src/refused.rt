@@ -22,7 +22,7 @@ fn primary(alloc: Global) -> Result<Set<Key>, AllocError> {
 /// ticket 7 waits for digest 4.
 fn core(alloc: Global) -> Result<Keyed, AllocError> {
     let primary = primary(alloc)?;
-    let mut core = Core::new(alloc, without_copies(0), 2);
+    let mut core = Core::new(alloc, without_copies(0), 2, u64::MAX);
     core.update_primary_peers(primary);
     // A waiter that finds no place is missed below.
     let _ = core.subscribe(4, 7);

@@ -35,7 +35,7 @@ fn events(alloc: Global, number: u8) -> Result<Vec<Event<u64, Even>>, AllocError
 
 fn run_of(alloc: Global, number: u8) -> Result<Run<u64, Even>, AllocError> {
     let events = events(alloc, number)?;
-    run(alloc, 1, 2, true, &(), events)
+    run(alloc, 1, 2, u64::MAX, true, &(), events)
 }
 
 fn is_unencodable(answers: &[Answer<Even>]) -> bool {

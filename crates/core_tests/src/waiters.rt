@@ -49,6 +49,8 @@ enum Call {
     TakeOwn(u8, Outcome, &'static [u64]),
     Get(u8, Option<u8>),
     List(u64, &'static [u8]),
+    /// The answer is the bytes of the key's list.
+    Bytes(u64, u64),
     Cleanup(&'static [u64], u64),
     CleanupBy(u64),
     ClearWaiters,
@@ -61,7 +63,7 @@ enum Call {
 }
 
 /// Calls on a core of the own key 1, whose lists have at most two digests.
-static CALLS: [Call; 53] = [
+static CALLS: [Call; 59] = [
     Call::Peers(&[3, 1]),
     Call::Subscribe(2, 70, false, None),
     Call::Subscribe(2, 50, true, None),
@@ -88,6 +90,13 @@ static CALLS: [Call; 53] = [
     Call::List(1, &[8, 6]),
     Call::List(3, &[6]),
     Call::List(5, &[]),
+    Call::Bytes(1, 2),
+    Call::Bytes(5, 0),
+    // An odd number has no encoding, so that no budget has room for it.
+    Call::Subscribe(7, 80, false, None),
+    Call::Take(3, 7, Outcome::Oversize, &[80]),
+    Call::Bytes(3, 1),
+    Call::Get(7, None),
     Call::Get(4, None),
     Call::Sizes([2, 0, 0, 0]),
     Call::Peers(&[3]),
@@ -137,7 +146,7 @@ impl Room {
     fn new(alloc: Global) -> Result<Room, AllocError> {
         Ok(Room {
             asked: Rc::new(alloc, Cell::new(0))?,
-            core: Core::new(alloc, 1, 2),
+            core: Core::new(alloc, 1, 2, u64::MAX),
         })
     }
 
@@ -162,6 +171,7 @@ impl Room {
     fn shows(&mut self, call: Call) -> bool {
         match call {
             Call::Get(digest, number) => self.number(digest) == number,
+            Call::Bytes(key, bytes) => self.core.bytes(&key) == bytes,
             Call::Cleanup(gone, removed) => self.core.cleanup(gone) == removed,
             Call::CleanupBy(removed) => self.core.cleanup_by() == removed,
             Call::ClearWaiters => self.clear_waiters(),

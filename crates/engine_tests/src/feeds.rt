@@ -49,6 +49,8 @@ impl Feeds {
             public_key: key,
             mailbox_size: sizes.mailbox,
             deque_size: sizes.deque,
+            // That of ten messages of letters.
+            byte_budget: 100,
             priority: key % 2 == 0,
             codec_config: RangeCfg::any(),
             peer_provider,

@@ -88,6 +88,7 @@ impl Sources {
             public_key: 1,
             mailbox_size: NonZeroUsize::MIN,
             deque_size: 10,
+            byte_budget: u64::MAX,
             priority: true,
             codec_config: RangeCfg::any(),
             peer_provider: sets(alloc, self.sets)?,

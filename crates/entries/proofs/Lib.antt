@@ -6,5 +6,6 @@ pub mod Oldest
 pub mod Relinking
 pub mod Runs
 pub mod Stores
+pub mod Sums
 pub mod Walking
 pub mod Tables

@@ -14,7 +14,7 @@ use Rattle.entries.specs.Store.{items_at, nodes, lists_of, has_place, elsewhere,
 use Rattle.entries.proofs.Runs.{Misses-right, walk-run}
 use Rattle.std.proofs.lemmas.Bool.{cases_eq, eq-eqb, ne_eqb}
 
-by_test : {P : Type 0} (b : Bool) → (b ≡ true → P) → (b ≡ false → P) → P
+pub by_test : {P : Type 0} (b : Bool) → (b ≡ true → P) → (b ≡ false → P) → P
 by_test true at_true at_false = at_true refl
 by_test false at_true at_false = at_false refl
 
@@ -97,11 +97,11 @@ module _ {K D : Type 0} where
   pub nodes-is : (mine : K → Bool) (h : ℕ → Option (Entry K D)) (c : Chain) (ns : List (Node D)) → IsLinked mine h c ns → nodes h c ≡ ns
   nodes-is mine h c ns p = rw (p.len, p.newest) (walk-run mine h None ns p.run)
 
-is_at : {A : Type 0} (b : Bool) (x y : A) → b ≡ true → cond b x y ≡ x
+pub is_at : {A : Type 0} (b : Bool) (x y : A) → b ≡ true → cond b x y ≡ x
 is_at true x y e = refl
 is_at false x y e = cc
 
-is_not_at : {A : Type 0} (b : Bool) (x y : A) → b ≡ false → cond b x y ≡ y
+pub is_not_at : {A : Type 0} (b : Bool) (x y : A) → b ≡ false → cond b x y ≡ y
 is_not_at true x y e = cc
 is_not_at false x y e = refl
 
@@ -204,7 +204,7 @@ module _ {K D : Type 0} {same : K → K → Bool} (laws : IsEquivalence same) wh
     pub frame : Frame (same p) h k
 
   -- the chain of another key
-  other_chain : (h k : ℕ → Option (Entry K D)) (es : List (K × Chain)) (p q : K) (c : Chain) → IsStore same h es → Frame (same p) h k → same p q ≡ false → lookup (same q) es ≡ Some c → IsChain (same q) k c (nodes h c)
+  pub other_chain : (h k : ℕ → Option (Entry K D)) (es : List (K × Chain)) (p q : K) (c : Chain) → IsStore same h es → Frame (same p) h k → same p q ≡ false → lookup (same q) es ≡ Some c → IsChain (same q) k c (nodes h c)
   other_chain h k es p q c store frame apart found = IsChain-frame (same p) (same q) h k c (nodes h c) (differ laws p q apart) frame (store.chains q c found)
 
   -- all chains are as they should be

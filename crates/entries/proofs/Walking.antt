@@ -1,22 +1,23 @@
 -- What a walk along a chain finds.
 use Rattle.std.proofs.Common.{◌≡◌, ℕ, zero, suc, List, [], ◌∷◌, ◌++◌, Option, Some, None, refl, sym, ap, ◌∙◌, append_assoc}
+use Rattle.entries.specs.declared.entry.Charged.{Charged}
 use Rattle.entries.specs.declared.entry.Entry.{Entry}
 use Rattle.entries.specs.Linked.{walk, entry_at}
 use Rattle.entries.specs.Store.{digests_of}
 
-module _ {K D : Type 0} (h : ℕ → Option (Entry K D)) where
+module _ {K D : Type 0} (h : ℕ → Option (Entry K (Charged D))) where
   walk-none : (n : ℕ) (at : Option ℕ) → entry_at h at ≡ None → walk h n at ≡ []
   walk-none zero at none = refl
   walk-none (suc n) None none = refl
   walk-none (suc n) (Some i) none = rw none refl
 
-  walk-some : (n : ℕ) (at : Option ℕ) (e : Entry K D) → entry_at h at ≡ Some e → digests_of (walk h (suc n) at) ≡ e.digest ∷ digests_of (walk h n e.older)
+  walk-some : (n : ℕ) (at : Option ℕ) (e : Entry K (Charged D)) → entry_at h at ≡ Some e → digests_of (walk h (suc n) at) ≡ e.digest.digest ∷ digests_of (walk h n e.older)
   walk-some n None e there = cc
   walk-some n (Some i) e there = rw there refl
 
   -- a step of a walk
-  pub step-some : (n : ℕ) (at : Option ℕ) (e : Entry K D) (ds all : List D) → entry_at h at ≡ Some e → ds ++ digests_of (walk h (suc n) at) ≡ all → (ds ++ e.digest ∷ []) ++ digests_of (walk h n e.older) ≡ all
-  step-some n at e ds all there so = append_assoc ds (e.digest ∷ []) (digests_of (walk h n e.older)) ∙ ap (λ l. ds ++ l) (sym (walk-some n at e there)) ∙ so
+  pub step-some : (n : ℕ) (at : Option ℕ) (e : Entry K (Charged D)) (ds all : List D) → entry_at h at ≡ Some e → ds ++ digests_of (walk h (suc n) at) ≡ all → (ds ++ e.digest.digest ∷ []) ++ digests_of (walk h n e.older) ≡ all
+  step-some n at e ds all there so = append_assoc ds (e.digest.digest ∷ []) (digests_of (walk h n e.older)) ∙ ap (λ l. ds ++ l) (sym (walk-some n at e there)) ∙ so
 
   pub step-none : (n : ℕ) (at : Option ℕ) (ds all : List D) → entry_at h at ≡ None → ds ++ digests_of (walk h (suc n) at) ≡ all → ds ++ digests_of (walk h n at) ≡ all
   step-none n at ds all none so = ap (λ l. ds ++ digests_of l) (walk-none n at none ∙ sym (walk-none (suc n) at none)) ∙ so

@@ -1,7 +1,8 @@
 -- The lists of all keys in one heap of places.
 use Rattle.std.specs.Prelude.{◌≡◌, ◌==◌, ℕ, Bool, true, false, not, ◌||◌, if◌then◌else◌, List, [], ◌∷◌, ◌++◌, map, Option, Some, is_some, unwrap_or}
-use Rattle.std.specs.List.{filter, list_any}
+use Rattle.std.specs.List.{filter, list_any, sum_by}
 use Rattle.std.specs.Map.{lookup}
+use Rattle.entries.specs.declared.entry.Charged.{Charged}
 use Rattle.entries.specs.declared.entry.Entry.{Entry}
 use Rattle.entries.specs.declared.entry.Chain.{Chain}
 use Rattle.entries.specs.Linked.{Node, walk, IsChain}
@@ -10,15 +11,15 @@ use Rattle.entries.specs.Linked.{Node, walk, IsChain}
 abbrev pub items_at : {K X : Type 0} → (K → K → Bool) → K → List (K × List X) → List X
 items_at same k es = unwrap_or (lookup (same k) es) []
 
--- the nodes of each key, the newest first, and the place of the next insert
+-- the charged nodes of each key, the newest first, and the place of the next insert
 pub record Listed (K D : Type 0) : Type 0 where
-  pub lists : List (K × List (Node D))
+  pub lists : List (K × List (Node (Charged D)))
   pub vacant : ℕ
 
 module _ {D : Type 0} where
-  -- the digests of nodes
-  abbrev pub digests_of : List (Node D) → List D
-  digests_of ns = map (λ n. n.1) ns
+  -- what stands at nodes
+  abbrev pub values_of : List (Node D) → List D
+  values_of ns = map (λ n. n.1) ns
 
   -- whether the place is one of theirs
   abbrev pub has_place : ℕ → List (Node D) → Bool
@@ -36,6 +37,15 @@ module _ {D : Type 0} where
   pub record IsOldest (n : Node D) (ns : List (Node D)) : Type 0 where
     pub newer : List (Node D)
     pub last : ns ≡ newer ++ n ∷ []
+
+module _ {D : Type 0} where
+  -- the digests of charged nodes
+  abbrev pub digests_of : List (Node (Charged D)) → List D
+  digests_of ns = map (λ c. c.digest) (values_of ns)
+
+  -- the sum of the charges of nodes
+  abbrev pub bytes_of : List (Node (Charged D)) → ℕ
+  bytes_of ns = sum_by (λ c. c.charge) (values_of ns)
 
 module _ {K D : Type 0} where
   -- the nodes of a chain
@@ -77,3 +87,8 @@ module _ {K D : Type 0} where
   -- no entry of the peer's stands at the place
   abbrev pub IsNoPlaceOf : (K → K → Bool) → (ℕ → Option (Entry K D)) → K → ℕ → Type 0
   IsNoPlaceOf same h p place = (e : Entry K D) → h place ≡ Some e → same p e.peer ≡ false
+
+module _ {K D : Type 0} where
+  -- each chain has the sum of its charges
+  pub record IsSummed (same : K → K → Bool) (h : ℕ → Option (Entry K (Charged D))) (es : List (K × Chain)) : Type 0 where
+    pub sums : (p : K) (c : Chain) → lookup (same p) es ≡ Some c → c.bytes ≡ bytes_of (nodes h c)

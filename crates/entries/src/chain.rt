@@ -1,14 +1,16 @@
 //! The chains of peers in one store of places.
 ghost use Rattle.std.specs.Prelude.{◌≡◌, ℕ, Bool, true, Some, None, List, [], ◌∷◌, ◌++◌, ◌+◌, ◌^◌};
-ghost use Rattle.std.specs.Prelude.{◌<◌, OnErr, OnOk, IfOk, IfSome, IfNone};
+ghost use Rattle.std.specs.Prelude.{◌<◌, OnErr, OnOk, IfOk, IsOk, IfSome, IfNone, length};
+ghost use Rattle.std.specs.Option.{option_copied};
 ghost use Rattle.slab.specs.Slab.{get, HasRoomFor};
 ghost use Rattle.entries.specs.Linked.{IsOn, Admits, Promotes, Pushes, Pops, Frees, IsOwned};
-ghost use Rattle.entries.specs.Linked.{HasNodes, SameValues};
+ghost use Rattle.entries.specs.Linked.{HasNodes, SameValues, entry_at};
+ghost use Rattle.entries.specs.Store.{nodes, digests_of};
 
-use crate::entry::{Chain, Entry};
+use crate::entry::{Chain, Charged, Entry};
 use crate::links::{link_front, unlink};
 use slab::Slab;
-use std::alloc::AllocError;
+use std::alloc::{AllocError, Global};
 
 /// Moves a place to the front of its chain, with another digest. Does not allocate.
 pub fn promote<K, D: Drop>(
@@ -18,7 +20,8 @@ pub fn promote<K, D: Drop>(
     digest: D,
 )
     requires { IsOn (get places.old) chain.old place }
-    ensures { Promotes (get places.old) (get places.new) chain.old chain.new place digest }
+    ensures promoted { Promotes (get places.old) (get places.new) chain.old chain.new place digest }
+    ensures bytes { chain.new.bytes ≡ chain.old.bytes }
 {
     unlink(places, chain, place);
     link_front(places, chain, place, digest);
@@ -38,6 +41,7 @@ pub fn push_front<K: Drop, D: Copy>(
     ensures err { OnErr result ((chain.new ≡ chain.old) × SameValues (get places.old)
         (get places.new)
         × (places.new.vacant_key ≡ places.old.vacant_key)) }
+    ensures bytes { chain.new.bytes ≡ chain.old.bytes }
 {
     if chain.len == usize::MAX {
         return Err(AllocError);
@@ -59,7 +63,8 @@ pub fn push_front<K: Drop, D: Copy>(
 /// Takes the oldest place out of a chain, and frees it. Does not allocate.
 pub fn pop_oldest<K: Drop, D>(places: &mut Slab<Entry<K, D>>, chain: &mut Chain) -> Option<D>
     requires { HasNodes (get places.old) chain.old }
-    ensures { Pops (get places.old) (get places.new) chain.old chain.new result }
+    ensures popped { Pops (get places.old) (get places.new) chain.old chain.new result }
+    ensures bytes { chain.new.bytes ≡ chain.old.bytes }
 {
     match chain.oldest {
         None => None,
@@ -77,4 +82,41 @@ pub fn free<K: Drop, D: Drop>(places: &mut Slab<Entry<K, D>>, mut chain: Chain)
     ensures { Frees (get places.old) (get places.new) chain }
 {
     while let Some(_) = pop_oldest(places, &mut chain) {}
+}
+
+/// Returns the digests of a chain, the newest first.
+pub fn collect<K, D: Copy>(
+    alloc: Global,
+    places: &Slab<Entry<K, Charged<D>>>,
+    chain: &Chain,
+) -> Result<Vec<D>, AllocError>
+    requires { chain.now.len ≡ length (nodes (get places.now) chain.now) }
+    ensures digests { IfOk result (λ digests. digests.items ≡ digests_of (nodes
+        (get places.now) chain.now)) }
+    ensures succeeds_on_empty { nodes (get places.now) chain.now ≡ [] → IsOk result }
+{
+    if chain.len == 0 {
+        return Ok(Vec::new(alloc));
+    }
+    let mut digests = Vec::with_capacity(alloc, chain.len)?;
+    let mut at = chain.newest;
+    let mut left = chain.len;
+    while left > 0 {
+        left -= 1;
+        if let Some(entry) = stands_at(places, at) {
+            digests.push(entry.digest.digest)?;
+            at = entry.older;
+        }
+    }
+    Ok(digests)
+}
+
+/// Returns the entry that a link leads to.
+fn stands_at<K, D>(places: &Slab<Entry<K, D>>, at: Option<usize>) -> Option<&Entry<K, D>>
+    ensures { option_copied result ≡ entry_at (get places.now) at }
+{
+    match at {
+        Some(at) => places.get(at),
+        None => None,
+    }
 }

@@ -9,5 +9,6 @@ pub mod links;
 pub mod store;
 pub mod table;
 
+pub use entry::Charged;
 pub use store::Entries;
 pub use table::Table;

@@ -57,6 +57,7 @@ pub fn unlink<K, D>(places: &mut Slab<Entry<K, D>>, chain: &mut Chain, place: us
     requires { IsOn (get places.old) chain.old place }
     ensures unlinked { Unlinks (get places.old) (get places.new) chain.old chain.new place }
     ensures fits { chain.new.len + 1 < 2 ^ 64 }
+    ensures bytes { chain.new.bytes ≡ chain.old.bytes }
 {
     let entry = &places[place];
     let newer = entry.newer;
@@ -77,7 +78,8 @@ pub fn link_front<K, D: Drop>(
 )
     requires free { Admits (get places.old) chain.old place }
     requires fits { chain.old.len + 1 < 2 ^ 64 }
-    ensures { Links (get places.old) (get places.new) chain.old chain.new place digest }
+    ensures linked { Links (get places.old) (get places.new) chain.old chain.new place digest }
+    ensures bytes { chain.new.bytes ≡ chain.old.bytes }
 {
     set_newest(places, place, digest, chain.newest);
     set_newer(places, chain.newest, Some(place));

@@ -5,14 +5,14 @@ ghost use Rattle.std.specs.Prelude.{None, []};
 ghost use Rattle.std.specs.Ordering.{eq_by_cmp};
 ghost use Rattle.std.specs.List.{IsDistinct};
 ghost use Rattle.std.specs.Map.{lookup, keys_of};
-ghost use Rattle.std.specs.Option.{option_copied};
 ghost use Rattle.slab.specs.Slab.{get, SameValues};
-ghost use Rattle.entries.specs.Linked.{IsApart, HasNodes, entry_at};
+ghost use Rattle.entries.specs.Linked.{IsApart, HasNodes};
 ghost use Rattle.entries.specs.Store.{IsStore, IsPlaceOf, IsNoPlaceOf, IsOldest, Puts, Evicts};
-ghost use Rattle.entries.specs.Store.{Removes, nodes, lists_of, items_at, moved, digests_of};
+ghost use Rattle.entries.specs.Store.{Removes, nodes, lists_of, items_at, moved, digests_of, bytes_of};
+ghost use Rattle.entries.specs.Store.{IsSummed};
 
 use crate::chain;
-use crate::entry::{Chain, Entry};
+use crate::entry::{Chain, Charged, Entry};
 use slab::Slab;
 use std::alloc::{AllocError, Global};
 use std::collections::BTreeMap;
@@ -21,14 +21,14 @@ use std::marker::Model;
 /// The digests of each key, the newest first.
 #[derive(Drop)]
 pub struct Entries<K: Ord + Drop, D: Copy> {
-    places: Slab<Entry<K, D>>,
+    places: Slab<Entry<K, Charged<D>>>,
     chains: BTreeMap<K, Chain>,
 }
 
 impl<K: Ord + Drop, D: Copy> Model for Entries<K, D> {
     ghost use Rattle.std.specs.Ordering.{eq_by_cmp};
     ghost use Rattle.slab.specs.Slab.{get};
-    ghost use Rattle.entries.specs.Store.{Listed, lists_of, IsStore};
+    ghost use Rattle.entries.specs.Store.{Listed, lists_of, IsStore, IsSummed};
 
     ghost Value = { Listed K D };
 
@@ -37,7 +37,8 @@ impl<K: Ord + Drop, D: Copy> Model for Entries<K, D> {
       vacant = it.places.vacant_key;
     } };
 
-    ghost invariant = { λ it. IsStore (eq_by_cmp K.cmp) (get it.places) it.chains.entries };
+    ghost invariant = { λ it. IsStore (eq_by_cmp K.cmp) (get it.places) it.chains.entries
+        × IsSummed (eq_by_cmp K.cmp) (get it.places) it.chains.entries };
 }
 
 impl<K: Ord + Drop, D: Copy> Entries<K, D> {
@@ -68,7 +69,7 @@ impl<K: Ord + Drop, D: Copy> Entries<K, D> {
 
     /// Returns the place and the digest of the oldest entry of `peer` if its list has `size`
     /// entries.
-    pub fn oldest_beyond(&self, peer: &K, size: usize) -> Option<(usize, D)>
+    pub fn oldest_beyond(&self, peer: &K, size: usize) -> Option<(usize, Charged<D>)>
         ensures { let ns = items_at (eq_by_cmp K.cmp) peer.now self.now.lists in
             MatchOption result ((length ns < size) ⊎ (ns ≡ [])) (λ n. (size ≤ length ns)
             × IsOldest n ns) }
@@ -79,30 +80,50 @@ impl<K: Ord + Drop, D: Copy> Entries<K, D> {
         }
     }
 
-    /// Moves the entry at `place` to the front of the list of `peer`, with another digest. Does
-    /// nothing if the list has no such entry. Does not allocate.
-    pub fn promote(&mut self, peer: &K, place: usize, digest: D)
+    /// Returns the sum of the charges on the list of `peer`.
+    pub fn bytes(&self, peer: &K) -> u128
+        ensures { result ≡ bytes_of (items_at (eq_by_cmp K.cmp) peer.now self.now.lists) }
+    {
+        match self.chains.get(peer) {
+            Some(chain) => chain.bytes,
+            None => 0,
+        }
+    }
+
+    /// Moves the entry at `place` to the front of the list of `peer`, with another digest and
+    /// charge. Does nothing if the list has no such entry. Returns the sum of the charges on the
+    /// list. Does not allocate.
+    pub fn promote(&mut self, peer: &K, place: usize, digest: Charged<D>) -> u128
+        requires room { bytes_of (items_at (eq_by_cmp K.cmp) peer.now self.old.lists)
+            + digest.charge < 2 ^ 128 }
+        ensures bytes { result ≡ bytes_of (items_at (eq_by_cmp K.cmp) peer.now self.new.lists) }
         ensures moved { let same = eq_by_cmp K.cmp in
             Puts same peer.now (moved place digest
             (items_at same peer.now self.old.lists)) self.old.lists self.new.lists }
         ensures apart { IsApart (items_at (eq_by_cmp K.cmp) peer.now self.old.lists) }
     {
         if is_place_of(&self.places, peer, place) {
-            renew(&mut self.places, &mut self.chains, peer, place, digest);
+            renew(&mut self.places, &mut self.chains, peer, place, digest)
+        } else {
+            self.bytes(peer)
         }
     }
 
-    /// Puts a digest in front of the list of `peer`, and returns its place.
+    /// Puts a digest in front of the list of `peer`, at the place of the next insert. Returns the
+    /// sum of the charges on the list.
     ///
     /// On an allocation failure nothing changes.
-    pub fn insert(&mut self, peer: &K, digest: D) -> Result<usize, AllocError>
+    pub fn insert(&mut self, peer: &K, digest: Charged<D>) -> Result<u128, AllocError>
     where
         K: Clone,
-        requires { (key copy : K) → K.is_clone key copy → eq_by_cmp K.cmp key copy ≡ true }
-        ensures place { IfOk result (λ place. place ≡ self.old.vacant) }
+        requires copies { (key copy : K) → K.is_clone key copy → eq_by_cmp K.cmp key copy ≡ true }
+        requires room { bytes_of (items_at (eq_by_cmp K.cmp) peer.now self.old.lists)
+            + digest.charge < 2 ^ 128 }
+        ensures bytes { IfOk result (λ bytes. bytes
+            ≡ bytes_of (items_at (eq_by_cmp K.cmp) peer.now self.new.lists)) }
         ensures ok { let same = eq_by_cmp K.cmp in
-            IfOk result (λ place. Puts same peer.now
-            ((place, digest) ∷ items_at same peer.now self.old.lists) self.old.lists
+            OnOk result (Puts same peer.now
+            ((self.old.vacant, digest) ∷ items_at same peer.now self.old.lists) self.old.lists
             self.new.lists) }
         ensures err { OnErr result (self.new ≡ self.old) }
     {
@@ -111,12 +132,28 @@ impl<K: Ord + Drop, D: Copy> Entries<K, D> {
     }
 
     /// Removes the oldest digest of `peer`, and returns it. Does not allocate.
-    pub fn evict(&mut self, peer: &K) -> Option<D>
+    pub fn evict(&mut self, peer: &K) -> Option<Charged<D>>
         ensures { let same = eq_by_cmp K.cmp in
             MatchOption result
             ((items_at same peer.now self.old.lists ≡ []) × (self.new.lists ≡ self.old.lists))
             (λ stale. Evicts same peer.now stale self.old.lists self.new.lists) }
     {
+        evict(&mut self.places, &mut self.chains, peer)
+    }
+
+    /// Removes the oldest digest of `peer` if the charges on its list sum to more than `limit`, and
+    /// returns it. Does not allocate.
+    pub fn evict_over(&mut self, peer: &K, limit: u64) -> Option<Charged<D>>
+        ensures { let same = eq_by_cmp K.cmp in
+            MatchOption result
+            ((bytes_of (items_at same peer.now self.old.lists) ≤ limit)
+            × (self.new.lists ≡ self.old.lists))
+            (λ stale. (limit < bytes_of (items_at same peer.now self.old.lists))
+            × Evicts same peer.now stale self.old.lists self.new.lists) }
+    {
+        if self.bytes(peer) <= u128::from(limit) {
+            return None;
+        }
         evict(&mut self.places, &mut self.chains, peer)
     }
 
@@ -136,7 +173,7 @@ impl<K: Ord + Drop, D: Copy> Entries<K, D> {
             → IsOk result }
     {
         match self.chains.get(peer) {
-            Some(chain) => collect(alloc, &self.places, chain),
+            Some(chain) => chain::collect(alloc, &self.places, chain),
             None => Ok(Vec::new(alloc)),
         }
     }
@@ -176,35 +213,50 @@ fn oldest_of<K, D: Copy>(
     }
 }
 
-/// Moves a place of a key to the front of its list, with another digest.
-fn renew<K: Ord, D: Drop>(
-    places: &mut Slab<Entry<K, D>>,
+/// Moves a place of a key to the front of its list, with another digest and charge. Returns the sum
+/// of the charges on the list.
+fn renew<K: Ord, D: Copy>(
+    places: &mut Slab<Entry<K, Charged<D>>>,
     chains: &mut BTreeMap<K, Chain>,
     peer: &K,
     place: usize,
-    digest: D,
-)
+    digest: Charged<D>,
+) -> u128
     requires store { IsStore (eq_by_cmp K.cmp) (get places.old) chains.old.entries }
+    requires summed { IsSummed (eq_by_cmp K.cmp) (get places.old) chains.old.entries }
+    requires room { bytes_of (items_at (eq_by_cmp K.cmp) peer.now (lists_of (get places.old)
+        chains.old.entries)) + digest.charge < 2 ^ 128 }
     requires there { IsPlaceOf (eq_by_cmp K.cmp) (get places.old) peer.now place }
     ensures store { IsStore (eq_by_cmp K.cmp) (get places.new) chains.new.entries }
     ensures lists { let same = eq_by_cmp K.cmp in
         let old = lists_of (get places.old) chains.old.entries in
         Puts same peer.now (moved place digest (items_at same peer.now old)) old (lists_of
         (get places.new) chains.new.entries) }
+    ensures summed { IsSummed (eq_by_cmp K.cmp) (get places.new) chains.new.entries }
+    ensures bytes { result ≡ bytes_of (items_at (eq_by_cmp K.cmp) peer.now (lists_of
+        (get places.new) chains.new.entries)) }
 {
     match chains.get_mut(peer) {
-        Some(chain) => chain::promote(places, chain, place, digest),
-        None => {}
+        Some(chain) => {
+            let was = u128::from(places[place].digest.charge);
+            chain::promote(places, chain, place, digest);
+            let bytes = chain.bytes - was + u128::from(digest.charge);
+            chain.bytes = bytes;
+            bytes
+        }
+        None => 0,
     }
 }
 
 /// Takes the oldest digest of a key's list, if there is one.
-fn evict<K: Ord + Drop, D>(
-    places: &mut Slab<Entry<K, D>>,
+fn evict<K: Ord + Drop, D: Copy>(
+    places: &mut Slab<Entry<K, Charged<D>>>,
     chains: &mut BTreeMap<K, Chain>,
     peer: &K,
-) -> Option<D>
-    requires { IsStore (eq_by_cmp K.cmp) (get places.old) chains.old.entries }
+) -> Option<Charged<D>>
+    requires store { IsStore (eq_by_cmp K.cmp) (get places.old) chains.old.entries }
+    requires summed { IsSummed (eq_by_cmp K.cmp) (get places.old) chains.old.entries }
+    ensures summed { IsSummed (eq_by_cmp K.cmp) (get places.new) chains.new.entries }
     ensures store { IsStore (eq_by_cmp K.cmp) (get places.new) chains.new.entries }
     ensures lists { let old = lists_of (get places.old) chains.old.entries in
         let new = lists_of (get places.new) chains.new.entries in
@@ -213,55 +265,74 @@ fn evict<K: Ord + Drop, D>(
         (λ stale. Evicts (eq_by_cmp K.cmp) peer.now stale old new) }
 {
     match chains.get_mut(peer) {
-        Some(chain) => chain::pop_oldest(places, chain),
+        Some(chain) => match chain::pop_oldest(places, chain) {
+            Some(stale) => {
+                chain.bytes -= u128::from(stale.charge);
+                Some(stale)
+            }
+            None => None,
+        },
         None => None,
     }
 }
 
-/// Puts a digest in front of a key's list, and returns its place.
+/// Puts a digest in front of a key's list, and returns the sum of the charges on it.
 fn add<K: Ord + Clone + Drop, D: Copy>(
-    places: &mut Slab<Entry<K, D>>,
+    places: &mut Slab<Entry<K, Charged<D>>>,
     chains: &mut BTreeMap<K, Chain>,
     peer: &K,
     owner: K,
-    digest: D,
-) -> Result<usize, AllocError>
+    digest: Charged<D>,
+) -> Result<u128, AllocError>
     requires store { IsStore (eq_by_cmp K.cmp) (get places.old) chains.old.entries }
+    requires summed { IsSummed (eq_by_cmp K.cmp) (get places.old) chains.old.entries }
+    requires room { bytes_of (items_at (eq_by_cmp K.cmp) peer.now (lists_of (get places.old)
+        chains.old.entries)) + digest.charge < 2 ^ 128 }
     requires copies { (key copy : K) → K.is_clone key copy → eq_by_cmp K.cmp key copy ≡ true }
     requires owned { eq_by_cmp K.cmp peer.now owner ≡ true }
     ensures store { IsStore (eq_by_cmp K.cmp) (get places.new) chains.new.entries }
-    ensures place { IfOk result (λ place. place ≡ places.old.vacant_key) }
+    ensures summed { IsSummed (eq_by_cmp K.cmp) (get places.new) chains.new.entries }
+    ensures bytes { IfOk result (λ bytes. bytes ≡ bytes_of (items_at (eq_by_cmp K.cmp) peer.now
+        (lists_of (get places.new) chains.new.entries))) }
     ensures ok { let same = eq_by_cmp K.cmp in
         let old = lists_of (get places.old) chains.old.entries in
-        IfOk result (λ place. Puts same peer.now ((place, digest) ∷ items_at same peer.now old)
+        OnOk result (Puts same peer.now
+        ((places.old.vacant_key, digest) ∷ items_at same peer.now old)
         old (lists_of (get places.new) chains.new.entries)) }
     ensures err { OnErr result ((lists_of (get places.new) chains.new.entries ≡ lists_of
         (get places.old) chains.old.entries)
         × (places.new.vacant_key ≡ places.old.vacant_key)) }
 {
     match chains.get_mut(peer) {
-        Some(chain) => chain::push_front(places, chain, owner, digest),
+        Some(chain) => {
+            chain::push_front(places, chain, owner, digest)?;
+            chain.bytes += u128::from(digest.charge);
+            Ok(chain.bytes)
+        }
         None => add_first(places, chains, peer, owner, digest),
     }
 }
 
 /// Puts the first digest on the list of a key that has none.
 fn add_first<K: Ord + Clone + Drop, D: Copy>(
-    places: &mut Slab<Entry<K, D>>,
+    places: &mut Slab<Entry<K, Charged<D>>>,
     chains: &mut BTreeMap<K, Chain>,
     peer: &K,
     owner: K,
-    digest: D,
-) -> Result<usize, AllocError>
+    digest: Charged<D>,
+) -> Result<u128, AllocError>
     requires store { IsStore (eq_by_cmp K.cmp) (get places.old) chains.old.entries }
+    requires summed { IsSummed (eq_by_cmp K.cmp) (get places.old) chains.old.entries }
     requires absent { lookup (eq_by_cmp K.cmp peer.now) chains.old.entries ≡ None }
     requires copies { (key copy : K) → K.is_clone key copy → eq_by_cmp K.cmp key copy ≡ true }
     requires owned { eq_by_cmp K.cmp peer.now owner ≡ true }
     ensures store { IsStore (eq_by_cmp K.cmp) (get places.new) chains.new.entries }
-    ensures place { IfOk result (λ place. place ≡ places.old.vacant_key) }
+    ensures summed { IsSummed (eq_by_cmp K.cmp) (get places.new) chains.new.entries }
+    ensures bytes { IfOk result (λ bytes. bytes ≡ bytes_of (items_at (eq_by_cmp K.cmp) peer.now
+        (lists_of (get places.new) chains.new.entries))) }
     ensures ok { let same = eq_by_cmp K.cmp in
         let old = lists_of (get places.old) chains.old.entries in
-        IfOk result (λ place. Puts same peer.now ((place, digest) ∷ [])
+        OnOk result (Puts same peer.now ((places.old.vacant_key, digest) ∷ [])
         old (lists_of (get places.new) chains.new.entries)) }
     ensures err { OnErr result ((lists_of (get places.new) chains.new.entries ≡ lists_of
         (get places.old) chains.old.entries)
@@ -269,28 +340,33 @@ fn add_first<K: Ord + Clone + Drop, D: Copy>(
 {
     places.reserve(1)?;
     let place = places.vacant_key();
+    let bytes = u128::from(digest.charge);
     let chain = Chain {
         newest: Some(place),
         oldest: Some(place),
         len: 1,
+        bytes,
     };
     chains.insert(peer.clone()?, chain)?;
-    Ok(places.insert_reserved(Entry {
+    places.insert_reserved(Entry {
         peer: owner,
         digest,
         newer: None,
         older: None,
-    }))
+    });
+    Ok(bytes)
 }
 
 /// Frees all places of a key.
-fn close<K: Ord + Drop, D: Drop>(
-    places: &mut Slab<Entry<K, D>>,
+fn close<K: Ord + Drop, D: Copy>(
+    places: &mut Slab<Entry<K, Charged<D>>>,
     chains: &mut BTreeMap<K, Chain>,
     peer: &K,
 )
-    requires { IsStore (eq_by_cmp K.cmp) (get places.old) chains.old.entries }
+    requires store { IsStore (eq_by_cmp K.cmp) (get places.old) chains.old.entries }
+    requires summed { IsSummed (eq_by_cmp K.cmp) (get places.old) chains.old.entries }
     ensures store { IsStore (eq_by_cmp K.cmp) (get places.new) chains.new.entries }
+    ensures summed { IsSummed (eq_by_cmp K.cmp) (get places.new) chains.new.entries }
     ensures lists { Removes (eq_by_cmp K.cmp) peer.now
         (lists_of (get places.old) chains.old.entries) (lists_of
         (get places.new) chains.new.entries) }
@@ -298,42 +374,5 @@ fn close<K: Ord + Drop, D: Drop>(
     match chains.remove(peer) {
         Some(chain) => chain::free(places, chain),
         None => {}
-    }
-}
-
-/// Returns the digests of a chain.
-fn collect<K, D: Copy>(
-    alloc: Global,
-    places: &Slab<Entry<K, D>>,
-    chain: &Chain,
-) -> Result<Vec<D>, AllocError>
-    requires { chain.now.len ≡ length (nodes (get places.now) chain.now) }
-    ensures digests { IfOk result (λ digests. digests.items ≡ digests_of (nodes
-        (get places.now) chain.now)) }
-    ensures succeeds_on_empty { nodes (get places.now) chain.now ≡ [] → IsOk result }
-{
-    if chain.len == 0 {
-        return Ok(Vec::new(alloc));
-    }
-    let mut digests = Vec::with_capacity(alloc, chain.len)?;
-    let mut at = chain.newest;
-    let mut left = chain.len;
-    while left > 0 {
-        left -= 1;
-        if let Some(entry) = stands_at(places, at) {
-            digests.push(entry.digest)?;
-            at = entry.older;
-        }
-    }
-    Ok(digests)
-}
-
-/// Returns the entry that a link leads to.
-fn stands_at<K, D>(places: &Slab<Entry<K, D>>, at: Option<usize>) -> Option<&Entry<K, D>>
-    ensures { option_copied result ≡ entry_at (get places.now) at }
-{
-    match at {
-        Some(at) => places.get(at),
-        None => None,
     }
 }

@@ -1,4 +1,4 @@
-//! Runs a file of events from standard input, as `replay OWN SIZE [MAX]`.
+//! Runs a file of events from standard input, as `replay OWN SIZE [MAX [BUDGET]]`.
 #![tactic(auto)]
 
 use broadcast_text::arguments::read_arguments;

@@ -1,18 +1,30 @@
--- What the arguments mean.
-use Rattle.std.specs.Prelude.{List, ℕ, [], ◌∷◌, ◌^◌, ◌-◌, Option, None, Some}
+-- What the arguments mean: an own key, a size, and perhaps limits, which are the greatest length and the budget.
+use Rattle.std.specs.Prelude.{◌≡◌, ◌≤◌, List, ℕ, [], ◌∷◌, ◌^◌, ◌-◌, length, map}
 use Rattle.std.specs.Fmt.{decimal}
 use Rattle.broadcast_core.specs.declared.codec.RangeCfg.{RangeCfg}
 use Rattle.replay_lib.specs.declared.settings.Settings.{Settings}
 
--- the words of the own key, the size and perhaps the greatest length
-abbrev pub argument_words : ℕ → ℕ → Option ℕ → List (List ℕ)
-argument_words own size None = decimal own ∷ decimal size ∷ []
-argument_words own size (Some max) = decimal own ∷ decimal size ∷ decimal max ∷ []
+-- every length, or each one up to the first limit
+abbrev pub range_of : List ℕ → RangeCfg
+range_of [] = record { min = 0; max = 2 ^ 64 - 1 }
+range_of (max ∷ more) = record { min = 0; max = max }
 
--- every length, or each one up to the greatest
-abbrev pub range_of : Option ℕ → RangeCfg
-range_of None = record { min = 0; max = 2 ^ 64 - 1 }
-range_of (Some max) = record { min = 0; max = max }
+-- the greatest budget, or the second limit
+abbrev pub budget_of : List ℕ → ℕ
+budget_of [] = 2 ^ 64 - 1
+budget_of (max ∷ []) = 2 ^ 64 - 1
+budget_of (max ∷ budget ∷ more) = budget
 
-abbrev pub settings_of : ℕ → ℕ → Option ℕ → Settings
-settings_of own size max = record { own = own; deque_size = size; range = range_of max }
+-- these words spell at most two limits
+pub record AreLimits (words : List (List ℕ)) (limits : List ℕ) : Type 0 where
+  pub spelled : words ≡ map decimal limits
+  pub at_most_two : length limits ≤ 2
+
+-- these words spell an own key, a size and limits
+pub record AreArguments (words : List (List ℕ)) (own size : ℕ) (limits : List ℕ) : Type 0 where
+  pub spelled : words ≡ map decimal (own ∷ size ∷ limits)
+  pub at_most_two : length limits ≤ 2
+
+abbrev pub settings_of : ℕ → ℕ → List ℕ → Settings
+settings_of own size limits =
+    record { own = own; deque_size = size; byte_budget = budget_of limits; range = range_of limits }

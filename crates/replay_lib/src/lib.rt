@@ -90,9 +90,10 @@ fn run_events(
     let Settings {
         own,
         deque_size,
+        byte_budget,
         range,
     } = settings;
-    run(alloc, own, deque_size, false, &range, events)
+    run(alloc, own, deque_size, byte_budget, false, &range, events)
 }
 
 /// Prints the report. All allocations come before the first line, so that a refused one prints

@@ -6,7 +6,7 @@ use std::alloc::{AllocError, Global};
 pub fn take_one(alloc: Global, content: Vec<u8>) -> Result<Taken<u64>, AllocError> {
     let message = Digested::compute(alloc, TestMessage::shared(alloc, content)?)?;
     let primary = Set::from_iter_dedup(vec![in alloc; 1, 5]?)?;
-    let mut core = Core::new(alloc, 1, 10);
+    let mut core = Core::new(alloc, 1, 10, u64::MAX);
     core.update_primary_peers(primary);
     take_awaited(&mut core, &message)
 }

@@ -4,9 +4,9 @@
 //! `c` it is the one that the next event says. After each call the program prints what it returned
 //! and what is left. The gate runs it with growths of the heap refused, and judges what it prints.
 //!
-//! - `core`: a core with the key 1, whose lists have at most SIZE digests. It has no steps: each
-//!   event is a call. A broadcast to one key is taken under it, any other under the own key; a
-//!   cleanup without tickets asks the waiters whether they are closed.
+//! - `core`: a core with the key 1, whose lists have at most SIZE digests, charged at most GREATEST
+//!   bytes. It has no steps: each event is a call. A broadcast to one key is taken under it, any
+//!   other under the own key; a cleanup without tickets asks the waiters whether they are closed.
 //! - `inbox`: an inbox whose ready list has PLACES places, and an overflow. At `h` the overflow
 //!   gets the next event, which finds no room in an inbox; `d` drains it. `t` takes a request from
 //!   the inbox, `s` asks it for a stop, `x` closes it.

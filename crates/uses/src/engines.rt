@@ -49,7 +49,7 @@ where
 }
 
 /// Creates the configuration of a node. All three nodes are primary.
-fn config<T: Drop>(
+pub fn config<T: Drop>(
     alloc: Global,
     key: u64,
     strategy: T,
@@ -61,6 +61,7 @@ fn config<T: Drop>(
         public_key: key,
         mailbox_size: NonZeroUsize::MIN,
         deque_size: 1,
+        byte_budget: u64::MAX,
         priority: false,
         codec_config: RangeCfg::any(),
         peer_provider,

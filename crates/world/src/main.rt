@@ -1,4 +1,4 @@
-//! Takes the steps of a file from standard input, as `world SIZE NODES HOSTILE`.
+//! Takes the steps of a file from standard input, as `world SIZE NODES HOSTILE [BUDGET]`.
 #![tactic(auto)]
 
 use broadcast_text::arguments::read_arguments;

@@ -60,10 +60,11 @@ fn run_both(
         deque_size,
         nodes,
         hostile,
+        byte_budget,
     } = settings;
     let (nodes, hostile) = (nodes.into_vec(), hostile.into_vec());
     let range = RangeCfg::any();
-    compare(alloc, nodes, hostile, deque_size, range, steps).map_err(world_fault)
+    compare(alloc, nodes, hostile, deque_size, byte_budget, range, steps).map_err(world_fault)
 }
 
 /// Prints the report. All allocations come before the first line, so that a refused one prints

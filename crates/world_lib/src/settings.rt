@@ -1,10 +1,10 @@
 //! The arguments of the program.
-ghost use Rattle.std.specs.Prelude.{◌≡◌, ◌<◌, ◌^◌, ℕ, List, IfOk, IfErr, map, string_bytes};
+ghost use Rattle.std.specs.Prelude.{◌≡◌, ◌<◌, ◌^◌, ℕ, List, IfOk, IfErr, IsOk, map, string_bytes};
 ghost use Rattle.std.specs.Fmt.{decimal};
 ghost use Rattle.std.specs.Ordering.{nat_cmp};
 ghost use Rattle.broadcast_text.specs.Recipients.{AreNumbers, IsKeys};
 ghost use Rattle.broadcast_world.specs.Made.{shares_key};
-ghost use Rattle.world_lib.specs.Arguments.{Arguments, HasArguments, IsHostile};
+ghost use Rattle.world_lib.specs.Arguments.{Arguments, HasArguments, IsBudget, IsHostile};
 
 use broadcast_core::Items;
 use broadcast_text::fault::Fault;
@@ -16,7 +16,7 @@ use std::alloc::Global;
 use std::marker::Model;
 
 /// The usage line.
-pub const USAGE: &str = "usage: world SIZE NODES HOSTILE";
+pub const USAGE: &str = "usage: world SIZE NODES HOSTILE [BUDGET]";
 
 /// The settings of a run.
 #[derive(Drop)]
@@ -27,6 +27,8 @@ pub struct Settings {
     pub nodes: Items<u64>,
     /// The hostile keys.
     pub hostile: Items<u64>,
+    /// The most bytes that a list is charged.
+    pub byte_budget: u64,
 }
 
 impl Model for Settings {
@@ -38,11 +40,13 @@ impl Model for Settings {
       deque_size = it.deque_size;
       nodes = it.nodes;
       hostile = it.hostile;
+      byte_budget = it.byte_budget;
     } };
 }
 
 impl Settings {
-    /// Returns the settings of the words `SIZE NODES HOSTILE`.
+    /// Returns the settings of the words `SIZE NODES HOSTILE [BUDGET]`. With no `BUDGET` the budget
+    /// is the greatest.
     ///
     /// # Errors
     ///
@@ -51,36 +55,49 @@ impl Settings {
     pub fn parse(alloc: Global, words: &[String]) -> Result<Settings, Fault>
         ensures spelled_so { IfOk result (HasArguments (map string_bytes words.now)) }
         ensures reads_all_arguments { (it : Arguments) → it.deque_size < 2 ^ 64
-            → AreNumbers it.nodes → AreNumbers it.hostile
+            → it.byte_budget < 2 ^ 64 → AreNumbers it.nodes → AreNumbers it.hostile
             → HasArguments (map string_bytes words.now) it
             → IfErr result (λ fault. fault ≡ Fault.Memory) }
     {
-        let [size, nodes, hostile] = words else {
+        let [size, nodes, hostile, budget @ ..] = words else {
             return Err(Fault::Usage(USAGE));
         };
-        match Settings::read(alloc, size.as_bytes(), nodes.as_bytes(), hostile.as_bytes()) {
+        match Settings::read(alloc, size, nodes, hostile, budget) {
             Ok(settings) => Ok(settings),
             Err(error) => Err(argument_fault(error)),
         }
     }
 
-    /// Returns the settings of a size, nodes and hostile keys.
-    fn read(alloc: Global, size: &[u8], nodes: &[u8], hostile: &[u8]) -> Result<Settings, LineError>
-        ensures size { IfOk result (λ it. size.now ≡ decimal it.deque_size) }
-        ensures nodes { IfOk result (λ it. IsKeys nodes.now it.nodes) }
-        ensures hostile { IfOk result (λ it. IsHostile hostile.now it.hostile) }
+    /// Returns the settings of a size, nodes, hostile keys and perhaps a budget.
+    fn read(
+        alloc: Global,
+        size: &String,
+        nodes: &String,
+        hostile: &String,
+        budget: &[String],
+    ) -> Result<Settings, LineError>
+        ensures size { IfOk result (λ it. string_bytes size.now ≡ decimal it.deque_size) }
+        ensures nodes { IfOk result (λ it. IsKeys (string_bytes nodes.now) it.nodes) }
+        ensures hostile { IfOk result (λ it. IsHostile (string_bytes hostile.now) it.hostile) }
+        ensures budget { IfOk result (λ it. IsBudget (map string_bytes budget.now)
+            it.byte_budget) }
         ensures reads_all_arguments { (it : Arguments) → it.deque_size < 2 ^ 64
-            → AreNumbers it.nodes → AreNumbers it.hostile → size.now ≡ decimal it.deque_size
-            → IsKeys nodes.now it.nodes → IsHostile hostile.now it.hostile
+            → it.byte_budget < 2 ^ 64 → AreNumbers it.nodes → AreNumbers it.hostile
+            → string_bytes size.now ≡ decimal it.deque_size
+            → IsKeys (string_bytes nodes.now) it.nodes
+            → IsHostile (string_bytes hostile.now) it.hostile
+            → IsBudget (map string_bytes budget.now) it.byte_budget
             → IfErr result (λ e. e ≡ LineError.Memory) }
     {
-        let deque_size = expect_number(size)? as usize;
-        let nodes = parse_keys(alloc, nodes)?;
-        let hostile = parse_hostile(alloc, hostile)?;
+        let byte_budget = read_budget(budget)?;
+        let deque_size = expect_number(size.as_bytes())? as usize;
+        let nodes = parse_keys(alloc, nodes.as_bytes())?;
+        let hostile = parse_hostile(alloc, hostile.as_bytes())?;
         Ok(Settings {
             deque_size,
             nodes: Items::from_vec(nodes),
             hostile: Items::from_vec(hostile),
+            byte_budget,
         })
     }
 
@@ -89,6 +106,19 @@ impl Settings {
         ensures { result ≡ shares_key nat_cmp self.now.nodes self.now.hostile }
     {
         shares_key(self.nodes.as_slice(), self.hostile.as_slice())
+    }
+}
+
+/// Returns the budget, or the greatest for no words.
+fn read_budget(words: &[String]) -> Result<u64, LineError>
+    ensures spelled_so { IfOk result (IsBudget (map string_bytes words.now)) }
+    ensures reads_each_number { (n : ℕ) → n < 2 ^ 64 → IsBudget (map string_bytes words.now) n
+        → IsOk result }
+{
+    match words {
+        [] => Ok(u64::MAX),
+        [budget] => expect_number(budget.as_bytes()),
+        _ => Err(LineError::Syntax),
     }
 }
 

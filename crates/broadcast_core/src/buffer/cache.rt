@@ -1,17 +1,19 @@
 //! The lists of the peers, and each listed message once.
-ghost use Rattle.std.specs.Prelude.{◌≡◌, ◌≤◌, ◌<◌, ◌⊎◌, ◌∷◌, ℕ, false, true, not, length, [], None, IsSome};
+ghost use Rattle.std.specs.Prelude.{◌≡◌, ◌≤◌, ◌<◌, ◌+◌, ◌^◌, ◌⊎◌, ◌∷◌, ℕ, false, true, not, length, take, [], None, IsSome};
 ghost use Rattle.std.specs.Prelude.{IfOk, IfSome, OnOk, OnErr, IsOk};
 ghost use Rattle.std.specs.Option.{option_copied};
 ghost use Rattle.std.specs.List.{IsDistinct};
 ghost use Rattle.std.specs.Map.{lookup, keys_of};
 ghost use Rattle.std.specs.Ordering.{eq_by_cmp};
 ghost use Rattle.entries.specs.Table.{place_at, IsPlaced, IsSame};
-ghost use Rattle.broadcast_core.specs.Content.{same_by, among, items_at};
+ghost use Rattle.broadcast_core.specs.Content.{same_by, same_charged, without, at_charge, digests_of, bytes_of};
+ghost use Rattle.broadcast_core.specs.Content.{among, within, fronted, items_at};
+ghost use Rattle.broadcast_core.specs.Stored.{has_digest};
 ghost use Rattle.broadcast_core.specs.Indexed.{Holds};
 
 use crate::digested::{Digested, Digestible};
 use crate::ordered::{PublicKey, Set};
-use entries::{Entries, Table};
+use entries::{Charged, Entries, Table};
 use std::alloc::{AllocError, Global};
 use std::marker::Model;
 
@@ -35,7 +37,7 @@ impl<P: PublicKey, M: Digestible> Model for Cache<P, M> {
 }
 
 impl<P: PublicKey, M: Digestible> Cache<P, M> {
-    ghost use Rattle.broadcast_core.specs.Stored.{Stores, Drops};
+    ghost use Rattle.broadcast_core.specs.Stored.{Stores, Drops, Cuts};
 
     /// Creates an empty cache. Does not allocate.
     pub fn new(alloc: Global) -> Self
@@ -65,109 +67,199 @@ impl<P: PublicKey, M: Digestible> Cache<P, M> {
         self.table.len()
     }
 
-    /// Puts the digest in front of the list of `peer`. Returns whether it is new there.
+    /// Puts the digest in front of the list of `peer`, with its charge, and drops the oldest
+    /// digests beyond the limits. Returns whether the digest is new there.
     pub fn take(
         &mut self,
         peer: &P,
         message: &Digested<M>,
+        charge: u64,
         deque_size: usize,
+        byte_budget: u64,
     ) -> Result<bool, AllocError>
-        requires { length (items_at (eq_by_cmp P.cmp) peer.now self.old.lists) ≤ deque_size }
+        requires size { length (items_at (eq_by_cmp P.cmp) peer.now self.old.lists) ≤ deque_size }
+        requires bytes { bytes_of (items_at (eq_by_cmp P.cmp) peer.now self.old.lists)
+            ≤ byte_budget }
         ensures new { let same = same_by P.cmp M.Digest.cmp in
-            let ds = items_at same.key peer.now self.old.lists in
-            IfOk result (λ new. new ≡ not (among same.digest message.now.digest ds)) }
+            let cs = items_at same.key peer.now self.old.lists in
+            IfOk result (λ new. new ≡ not (has_digest same.digest message.now.digest cs)) }
         ensures ok { let same = same_by P.cmp M.Digest.cmp in
-            OnOk result (Stores same peer.now message.now deque_size self.old self.new) }
+            let cs = items_at same.key peer.now self.old.lists in
+            let c = at_charge message.now.digest charge in
+            OnOk result (Stores same peer.now message.now
+            (fronted same.digest deque_size byte_budget c cs) self.old self.new) }
         ensures err { OnErr result (self.new ≡ self.old) }
 
         // These do not allocate.
         ensures succeeds_on_duplicate { among (eq_by_cmp M.Digest.cmp) message.now.digest
-            (items_at (eq_by_cmp P.cmp) peer.now self.old.lists) ≡ true → IsOk result }
+            (digests_of (items_at (eq_by_cmp P.cmp) peer.now self.old.lists)) ≡ true → IsOk result }
+        ensures succeeds_at_size_zero { deque_size ≡ 0 → IsOk result }
+    {
+        let (is_new, bytes) = self.put(peer, message, charge, deque_size)?;
+        if bytes <= u128::from(byte_budget) {
+            return Ok(is_new);
+        }
+        self.cut(peer, byte_budget);
+        Ok(is_new)
+    }
+
+    /// Puts the digest in front of the list of `peer`, which keeps at most `deque_size` digests.
+    /// Returns whether it is new there, and the sum of the charges on the list.
+    fn put(
+        &mut self,
+        peer: &P,
+        message: &Digested<M>,
+        charge: u64,
+        deque_size: usize,
+    ) -> Result<(bool, u128), AllocError>
+        requires size { length (items_at (eq_by_cmp P.cmp) peer.now self.old.lists) ≤ deque_size }
+        requires room { bytes_of (items_at (eq_by_cmp P.cmp) peer.now self.old.lists) < 2 ^ 64 }
+        ensures new { let same = same_by P.cmp M.Digest.cmp in
+            let cs = items_at same.key peer.now self.old.lists in
+            IfOk result (λ new. new.0 ≡ not (has_digest same.digest message.now.digest cs)) }
+        ensures bytes { IfOk result (λ new. new.1
+            ≡ bytes_of (items_at (eq_by_cmp P.cmp) peer.now self.new.lists)) }
+        ensures ok { let same = same_by P.cmp M.Digest.cmp in
+            let cs = items_at same.key peer.now self.old.lists in
+            let c = at_charge message.now.digest charge in
+            OnOk result (Stores same peer.now message.now
+            (take deque_size (c ∷ without (same_charged same.digest) c cs)) self.old self.new) }
+        ensures err { OnErr result (self.new ≡ self.old) }
+        ensures succeeds_on_duplicate { among (eq_by_cmp M.Digest.cmp) message.now.digest
+            (digests_of (items_at (eq_by_cmp P.cmp) peer.now self.old.lists)) ≡ true → IsOk result }
         ensures succeeds_at_size_zero { deque_size ≡ 0 → IsOk result }
     {
         if deque_size == 0 {
             // No two lists have one key: so says `len`.
             let _lists = self.lists.len();
-            return Ok(true);
+            return Ok((true, 0));
         }
-        match self.replace(peer, message, deque_size)? {
-            Some(is_new) => Ok(is_new),
-            None => self.insert(peer, message),
+        match self.replace(peer, message, charge, deque_size)? {
+            Some(put) => Ok(put),
+            None => self.insert(peer, message, charge),
         }
     }
 
+    /// Drops the oldest digests of `peer` until their charges sum to at most `byte_budget`.
+    fn cut(&mut self, peer: &P, byte_budget: u64)
+        ensures { Cuts (same_by P.cmp M.Digest.cmp) peer.now (within byte_budget
+            (items_at (eq_by_cmp P.cmp) peer.now self.old.lists)) self.old self.new }
+    {
+        while let Some(stale) = self.lists.evict_over(peer, byte_budget) {
+            self.table.remove(stale.digest, peer);
+        }
+        // No two lists have one key: so says `len`.
+        let _new = self.lists.len();
+    }
+
     /// Puts the digest in front of the list of `peer`, if that is full, a new digest in the place
-    /// of the oldest one. Returns whether it is new there, or `None` if the list is not full.
+    /// of the oldest one. Returns whether it is new there, and the sum of the charges, or `None` if
+    /// the list is not full.
     fn replace(
         &mut self,
         peer: &P,
         message: &Digested<M>,
+        charge: u64,
         deque_size: usize,
-    ) -> Result<Option<bool>, AllocError>
-        requires { length (items_at (eq_by_cmp P.cmp) peer.now self.old.lists) ≤ deque_size }
-        ensures not_full { let ds = items_at (eq_by_cmp P.cmp) peer.now self.old.lists in
+    ) -> Result<Option<(bool, u128)>, AllocError>
+        requires size { length (items_at (eq_by_cmp P.cmp) peer.now self.old.lists) ≤ deque_size }
+        requires room { bytes_of (items_at (eq_by_cmp P.cmp) peer.now self.old.lists) < 2 ^ 64 }
+        ensures not_full { let cs = items_at (eq_by_cmp P.cmp) peer.now self.old.lists in
             IfOk result (λ new. new ≡ None
-            → (self.new ≡ self.old) × ((length ds < deque_size) ⊎ (ds ≡ []))) }
+            → (self.new ≡ self.old) × ((length cs < deque_size) ⊎ (cs ≡ []))) }
         ensures new { let same = same_by P.cmp M.Digest.cmp in
-            let ds = items_at same.key peer.now self.old.lists in
-            IfOk result (λ new. IfSome new (λ new. new
-            ≡ not (among same.digest message.now.digest ds))) }
+            let cs = items_at same.key peer.now self.old.lists in
+            IfOk result (λ new. IfSome new (λ new. new.0
+            ≡ not (has_digest same.digest message.now.digest cs))) }
+        ensures bytes { IfOk result (λ new. IfSome new (λ new. new.1
+            ≡ bytes_of (items_at (eq_by_cmp P.cmp) peer.now self.new.lists))) }
         ensures ok { let same = same_by P.cmp M.Digest.cmp in
-            IfOk result (λ new. IsSome new
-            → Stores same peer.now message.now deque_size self.old self.new) }
+            let cs = items_at same.key peer.now self.old.lists in
+            let c = at_charge message.now.digest charge in
+            IfOk result (λ new. IsSome new → Stores same peer.now message.now
+            (take deque_size (c ∷ without (same_charged same.digest) c cs)) self.old self.new) }
         ensures err { OnErr result (self.new ≡ self.old) }
         ensures succeeds_on_duplicate { among (eq_by_cmp M.Digest.cmp) message.now.digest
-            (items_at (eq_by_cmp P.cmp) peer.now self.old.lists) ≡ true → IsOk result }
+            (digests_of (items_at (eq_by_cmp P.cmp) peer.now self.old.lists)) ≡ true → IsOk result }
     {
         let Some(oldest) = self.lists.oldest_beyond(peer, deque_size) else {
             return Ok(None);
         };
+        let (oldest, stale) = (oldest.0, oldest.1.digest);
         let _old = self.lists.len();
-        let found = hold(&mut self.table, peer, message, oldest.0)?;
+        let found = hold(&mut self.table, peer, message, oldest)?;
         if found.is_none() {
-            self.table.remove(oldest.1, peer);
+            self.table.remove(stale, peer);
         }
-        let place = found.unwrap_or(oldest.0);
-        self.lists.promote(peer, place, message.digest());
+        let place = found.unwrap_or(oldest);
+        let charged = Charged {
+            digest: message.digest(),
+            charge,
+        };
+        let bytes = self.lists.promote(peer, place, charged);
         // No two lists have one key: so says `len`.
         let _new = self.lists.len();
-        Ok(Some(found.is_none()))
+        Ok(Some((found.is_none(), bytes)))
     }
 
     /// Puts the digest in front of the list of `peer`, which may get longer. Returns whether it is
-    /// new there.
-    fn insert(&mut self, peer: &P, message: &Digested<M>) -> Result<bool, AllocError>
+    /// new there, and the sum of the charges.
+    fn insert(
+        &mut self,
+        peer: &P,
+        message: &Digested<M>,
+        charge: u64,
+    ) -> Result<(bool, u128), AllocError>
+        requires room { bytes_of (items_at (eq_by_cmp P.cmp) peer.now self.old.lists) < 2 ^ 64 }
         ensures new { let same = same_by P.cmp M.Digest.cmp in
-            let ds = items_at same.key peer.now self.old.lists in
-            IfOk result (λ new. new ≡ not (among same.digest message.now.digest ds)) }
+            let cs = items_at same.key peer.now self.old.lists in
+            IfOk result (λ new. new.0 ≡ not (has_digest same.digest message.now.digest cs)) }
+        ensures bytes { IfOk result (λ new. new.1
+            ≡ bytes_of (items_at (eq_by_cmp P.cmp) peer.now self.new.lists)) }
         ensures ok { let same = same_by P.cmp M.Digest.cmp in
-            let ds = items_at same.key peer.now self.old.lists in
-            OnOk result ((size : ℕ) → length ds < size
-            → Stores same peer.now message.now size self.old self.new) }
+            let cs = items_at same.key peer.now self.old.lists in
+            let c = at_charge message.now.digest charge in
+            OnOk result ((size : ℕ) → length cs < size → Stores same peer.now message.now
+            (take size (c ∷ without (same_charged same.digest) c cs)) self.old self.new) }
         ensures err { OnErr result (self.new ≡ self.old) }
         ensures succeeds_on_duplicate { among (eq_by_cmp M.Digest.cmp) message.now.digest
-            (items_at (eq_by_cmp P.cmp) peer.now self.old.lists) ≡ true → IsOk result }
+            (digests_of (items_at (eq_by_cmp P.cmp) peer.now self.old.lists)) ≡ true → IsOk result }
     {
         let _old = self.lists.len();
         let found = hold(&mut self.table, peer, message, self.lists.vacant())?;
-        if let Some(place) = found {
-            self.lists.promote(peer, place, message.digest());
-        } else if let Err(refused) = self.lists.insert(peer, message.digest()) {
-            self.table.remove(message.digest(), peer);
-            return Err(refused);
-        }
+        let charged = Charged {
+            digest: message.digest(),
+            charge,
+        };
+        let bytes = match found {
+            Some(place) => self.lists.promote(peer, place, charged),
+            None => match self.lists.insert(peer, charged) {
+                Ok(bytes) => bytes,
+                Err(refused) => {
+                    self.table.remove(message.digest(), peer);
+                    return Err(refused);
+                }
+            },
+        };
         // No two lists have one key: so says `len`.
         let _new = self.lists.len();
-        Ok(found.is_none())
+        Ok((found.is_none(), bytes))
+    }
+
+    /// Returns the sum of the charges on the list of `peer`.
+    pub fn bytes(&self, peer: &P) -> u128
+        ensures { result ≡ bytes_of (items_at (eq_by_cmp P.cmp) peer.now self.now.lists) }
+    {
+        self.lists.bytes(peer)
     }
 
     /// Returns the digests on the list of `peer`, newest first.
     pub fn list(&self, alloc: Global, peer: &P) -> Result<Vec<M::Digest>, AllocError>
         ensures digests { IfOk result (λ digests. digests.items
-            ≡ items_at (eq_by_cmp P.cmp) peer.now self.now.lists) }
+            ≡ digests_of (items_at (eq_by_cmp P.cmp) peer.now self.now.lists)) }
         ensures succeeds_on_empty { items_at (eq_by_cmp P.cmp) peer.now self.now.lists ≡ []
             → IsOk result }
-        ensures distinct { IsDistinct (eq_by_cmp M.Digest.cmp)
+        ensures distinct { IsDistinct (same_charged (eq_by_cmp M.Digest.cmp))
             (items_at (eq_by_cmp P.cmp) peer.now self.now.lists) }
     {
         self.lists.list(alloc, peer)
@@ -194,7 +286,7 @@ impl<P: PublicKey, M: Digestible> Cache<P, M> {
         ensures { Drops (same_by P.cmp M.Digest.cmp) (peer.now ∷ []) [] self.old self.new }
     {
         while let Some(stale) = self.lists.evict(peer) {
-            self.table.remove(stale, peer);
+            self.table.remove(stale.digest, peer);
         }
         self.lists.remove(peer);
         // No two lists have one key: so says `len`.

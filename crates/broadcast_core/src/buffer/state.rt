@@ -1,14 +1,16 @@
 //! What a core keeps beside its own key.
-ghost use Rattle.std.specs.Prelude.{◌≡◌, ◌≤◌, true, false, length, if◌then◌else◌, IfOk, OnOk, OnErr, IsOk, MatchBool};
+ghost use Rattle.std.specs.Prelude.{◌≡◌, ◌≤◌, true, false, length, is_some, IfOk, OnOk, OnErr, IsOk, MatchBool};
+ghost use Rattle.std.specs.Option.{option_map};
 ghost use Rattle.std.specs.List.{list_any};
 ghost use Rattle.std.specs.Ordering.{eq_by_cmp};
 ghost use Rattle.broadcast_core.specs.Changes.{IsTaken};
-ghost use Rattle.broadcast_core.specs.Content.{same_by, among, items_at};
-ghost use Rattle.broadcast_core.specs.Stored.{Stores, with_own};
-ghost use Rattle.broadcast_core.specs.declared.outcome.Outcome.TheVariants.{Inserted, Duplicate, Ineligible};
+ghost use Rattle.broadcast_core.specs.Content.{same_by, affordable, among, at_charge, bytes_of, items_at, digests_of};
+ghost use Rattle.broadcast_core.specs.Content.{outcome_of};
+ghost use Rattle.broadcast_core.specs.Stored.{StoresIf, has_digest, with_own};
 
 use crate::buffer::cache::Cache;
 use crate::buffer::waiters::Waiters;
+use crate::codec::EncodeSize;
 use crate::digested::{Digested, Digestible};
 use crate::ordered::{PublicKey, Set};
 use crate::outcome::{Outcome, Taken};
@@ -20,6 +22,8 @@ use std::marker::Model;
 pub struct State<P: PublicKey, M: Digestible, W> {
     /// The most digests on a list.
     pub deque_size: usize,
+    /// The most bytes that a list is charged.
+    pub byte_budget: u64,
     /// The primary keys.
     pub primary: Set<P>,
     /// The lists and the cached messages.
@@ -36,25 +40,30 @@ impl<P: PublicKey, M: Digestible, W> Model for State<P, M, W> {
 
     ghost view = { λ it. record {
       deque_size = it.deque_size;
+      byte_budget = it.byte_budget;
       primary = it.primary;
       stored = it.cache;
       waiters = it.waiters;
     } };
 
     ghost invariant = { λ it. IsCore (same_by P.cmp M.Digest.cmp)
-        it.deque_size it.primary it.cache it.waiters };
+        it.deque_size it.byte_budget it.primary it.cache it.waiters };
 }
 
 impl<P: PublicKey, M: Digestible, W: Drop> State<P, M, W> {
     /// Takes the message under the key, and takes out the waiters of its digest.
     pub fn take(&mut self, peer: &P, message: &Digested<M>) -> Result<Taken<W>, AllocError>
+    where
+        M: EncodeSize,
         ensures { (own : P) → IsTaken (same_by P.cmp M.Digest.cmp) peer.now message.now
+            (option_map length (M.encoding message.now.message))
             (with_own own self.old) (with_own own self.new) result }
     {
         let outcome = store(
             &self.primary,
             &mut self.cache,
             self.deque_size,
+            self.byte_budget,
             peer,
             message,
         )?;
@@ -63,37 +72,66 @@ impl<P: PublicKey, M: Digestible, W: Drop> State<P, M, W> {
     }
 }
 
-/// Puts the digest in front of the list of a primary key.
-fn store<P: PublicKey, M: Digestible>(
+/// Puts the digest in front of the list of a primary key, if its charge is within the budget.
+fn store<P: PublicKey, M: Digestible + EncodeSize>(
     primary: &Set<P>,
     cache: &mut Cache<P, M>,
     deque_size: usize,
+    byte_budget: u64,
     peer: &P,
     message: &Digested<M>,
 ) -> Result<Outcome, AllocError>
-    requires { length (items_at (eq_by_cmp P.cmp) peer.now cache.old.lists) ≤ deque_size }
+    requires size { length (items_at (eq_by_cmp P.cmp) peer.now cache.old.lists) ≤ deque_size }
+    requires bytes { bytes_of (items_at (eq_by_cmp P.cmp) peer.now cache.old.lists) ≤ byte_budget }
     ensures outcome { let same = same_by P.cmp M.Digest.cmp in
-        let ds = items_at same.key peer.now cache.old.lists in
-        IfOk result (λ outcome. outcome ≡ (if list_any (same.key peer.now) primary.now
-        then (if among same.digest message.now.digest ds then Duplicate else Inserted)
-        else Ineligible)) }
+        let charge = option_map length (M.encoding message.now.message) in
+        let cs = items_at same.key peer.now cache.old.lists in
+        IfOk result (λ outcome. outcome ≡ outcome_of (list_any (same.key peer.now) primary.now)
+        (is_some (affordable byte_budget message.now.digest charge))
+        (has_digest same.digest message.now.digest cs)) }
     ensures ok { let same = same_by P.cmp M.Digest.cmp in
+        let charge = option_map length (M.encoding message.now.message) in
         OnOk result (MatchBool (list_any (same.key peer.now) primary.now)
-        (Stores same peer.now message.now deque_size cache.old cache.new)
+        (StoresIf same peer.now message.now deque_size byte_budget
+        (affordable byte_budget message.now.digest charge) cache.old cache.new)
         (cache.new ≡ cache.old)) }
     ensures err { OnErr result (cache.new ≡ cache.old) }
     ensures succeeds_on_duplicate { among (eq_by_cmp M.Digest.cmp) message.now.digest
-        (items_at (eq_by_cmp P.cmp) peer.now cache.old.lists) ≡ true → IsOk result }
+        (digests_of (items_at (eq_by_cmp P.cmp) peer.now cache.old.lists)) ≡ true → IsOk result }
     ensures succeeds_on_ineligible { list_any (eq_by_cmp P.cmp peer.now) primary.now ≡ false
         → IsOk result }
+    ensures succeeds_on_oversize { is_some (affordable byte_budget message.now.digest
+        (option_map length (M.encoding message.now.message))) ≡ false → IsOk result }
     ensures succeeds_at_size_zero { deque_size ≡ 0 → IsOk result }
 {
     if primary.position(peer).is_none() {
         return Ok(Outcome::Ineligible);
     }
-    if cache.take(peer, message, deque_size)? {
+    let Some(charge) = charge_of(message, byte_budget) else {
+        return Ok(Outcome::Oversize);
+    };
+    if cache.take(peer, message, charge, deque_size, byte_budget)? {
         Ok(Outcome::Inserted)
     } else {
         Ok(Outcome::Duplicate)
+    }
+}
+
+/// Returns what the message is charged, if that is within the budget.
+fn charge_of<M: Digestible + EncodeSize>(message: &Digested<M>, byte_budget: u64) -> Option<u64>
+    ensures { affordable byte_budget message.now.digest
+        (option_map length (M.encoding message.now.message))
+        ≡ option_map (at_charge message.now.digest) result }
+{
+    match message.inner().encode_size() {
+        Some(size) => {
+            let charge = size as u64;
+            if charge <= byte_budget {
+                Some(charge)
+            } else {
+                None
+            }
+        }
+        None => None,
     }
 }

@@ -25,8 +25,8 @@ pub fn apply<P: PublicKey, M: Digestible + Codec>(
     cfg: &M::Cfg,
     event: Event<P, M>,
 ) -> (Answer<M>, Option<Sent<P>>)
-    ensures { let s = setting core.old.own core.old.deque_size priority (same_by P.cmp M.Digest.cmp)
-        M.digest_of M.encoding (whole (M.reading cfg.now)) in
+    ensures { let s = setting core.old.own core.old.deque_size core.old.byte_budget priority
+        (same_by P.cmp M.Digest.cmp) M.digest_of M.encoding (whole (M.reading cfg.now)) in
         Follows s event core.old core.new result.0 (option_to_list result.1) }
 {
     match event {
@@ -90,7 +90,8 @@ pub fn payload<P: PublicKey, M: Digestible + Codec>(
     bytes: &[u8],
 ) -> Answer<M>
     ensures { (s : Setting P M M.Digest)
-        → s.same ≡ same_by P.cmp M.Digest.cmp → s.digest_of ≡ M.digest_of
+        → s.same ≡ same_by P.cmp M.Digest.cmp → s.encoding ≡ M.encoding
+        → s.digest_of ≡ M.digest_of
         → s.reading ≡ whole (M.reading cfg.now)
         → Follows s (event.Payload peer.now bytes.now) core.old core.new result [] }
 {

@@ -10,6 +10,8 @@ pub struct Config<P, MCfg, D, T> {
     pub mailbox_size: NonZeroUsize,
     /// The greatest number of digests that are kept of each peer.
     pub deque_size: usize,
+    /// The most bytes that the digests of a peer are charged together.
+    pub byte_budget: u64,
     /// Whether messages are sent as priority.
     pub priority: bool,
     /// What messages may be decoded.

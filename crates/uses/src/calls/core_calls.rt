@@ -41,7 +41,7 @@ pub fn make_all(
     settings: Settings<'_>,
     events: Vec<Event<u64, TestMessage>>,
 ) {
-    let mut core = Core::new(alloc, 1, settings.deque_size);
+    let mut core = Core::new(alloc, 1, settings.deque_size, settings.greatest as u64);
     make_calls(alloc, out, &mut core, events);
     drop::<_>(core);
 }
@@ -128,6 +128,7 @@ fn cleanup(out: &mut Printer, core: &mut TestCore, tickets: &Items<u64>) {
 fn show(alloc: Global, out: &mut Printer, core: &TestCore) {
     for key in 0..KEYS {
         show_list(alloc, out, core, key);
+        out.line("bytes", &core.bytes(&key));
     }
     out.line("cached and awaited", &(core.cached_len(), core.awaited()));
 }

@@ -46,6 +46,7 @@ fn config<T>(settings: Settings<'_>, strategy: T) -> Config<u64, RangeCfg, PeerS
         public_key: 1,
         mailbox_size: settings.places,
         deque_size: settings.deque_size,
+        byte_budget: u64::MAX,
         priority: false,
         codec_config: RangeCfg::new(0, settings.greatest),
         peer_provider: PeerSets::new(),

@@ -27,7 +27,7 @@ pub struct Settings<'a> {
     pub deque_size: usize,
     /// The number of places in a ready list.
     pub places: NonZeroUsize,
-    /// The greatest length that is decoded.
+    /// The greatest length that is decoded, or the byte budget of a core.
     pub greatest: usize,
     /// A letter or a digit for each step.
     pub steps: &'a [u8],

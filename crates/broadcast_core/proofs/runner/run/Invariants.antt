@@ -9,7 +9,7 @@ use Rattle.broadcast_core.proofs.runner.run.Given as goal
 
 abbrev pub invariant-loop-event : goal.invariant-loop-event
 invariant-loop-event g l =
-    let s = setting l.fn.own l.fn.deque_size l.fn.priority (same_by g.P.Ord.cmp g.M.Digest.Ord.cmp) g.M.Digestible.digest_of g.M.Write.encoding (whole (g.M.Read.reading l.fn.cfg)) in
+    let s = setting l.fn.own l.fn.deque_size l.fn.byte_budget l.fn.priority (same_by g.P.Ord.cmp g.M.Digest.Ord.cmp) g.M.Digestible.digest_of g.M.Write.encoding (whole (g.M.Read.reading l.fn.cfg)) in
     record {
       rest : l.yielded ++ into_iter_items l.event-iterator ≡ into_iter_items l.initial.event-iterator;
       left : into_iter_len l.event-iterator ≡ length (into_iter_items l.event-iterator);

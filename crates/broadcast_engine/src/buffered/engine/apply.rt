@@ -18,7 +18,7 @@ use crate::buffered::engine::handler::{
     handle_arrival, handle_get, handle_peers, handle_subscribe,
 };
 use crate::buffered::engine::node::Node;
-use broadcast_core::{Cause, Digestible, PublicKey, Write};
+use broadcast_core::{Cause, Digestible, EncodeSize, PublicKey};
 use commonware_broadcast::buffered::{Message, Reply, Request, Responder};
 use engine_io::{Input, Outlet, Sender, Status, Turn};
 use std::alloc::Global;
@@ -33,7 +33,7 @@ pub(super) fn apply<P, M, S, G, O, N>(
 ) -> Turn
 where
     P: PublicKey,
-    M: Digestible + Write,
+    M: Digestible + EncodeSize,
     S: Responder<Reply<M>> + Drop,
     G: Drop,
     O: Outlet<S, G, Reply<M>, Option<Reply<M>>>,
@@ -74,7 +74,7 @@ fn apply_request<P, M, S, G, O, N>(
 ) -> Turn
 where
     P: PublicKey,
-    M: Digestible + Write,
+    M: Digestible + EncodeSize,
     S: Responder<Reply<M>> + Drop,
     G: Drop,
     O: Outlet<S, G, Reply<M>, Option<Reply<M>>>,

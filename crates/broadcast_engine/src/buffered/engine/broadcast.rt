@@ -12,7 +12,9 @@ ghost use Rattle.broadcast_engine.specs.Ran.{Applied, requested};
 
 use crate::buffered::engine::node::Node;
 use crate::buffered::engine::take::take_own;
-use broadcast_core::{Cause, CodecError, Digested, Digestible, PublicKey, Recipients, Write};
+use broadcast_core::{
+    Cause, CodecError, Digested, Digestible, EncodeSize, PublicKey, Recipients, Write,
+};
 use commonware_broadcast::buffered::{Reply, Responder};
 use engine_io::{Outlet, Sender, Turn};
 use std::alloc::Global;
@@ -29,7 +31,7 @@ pub(super) fn handle_broadcast<P, M, S, G, O, N>(
 ) -> Turn
 where
     P: PublicKey,
-    M: Digestible + Write,
+    M: Digestible + EncodeSize,
     S: Responder<Reply<M>> + Drop,
     O: Outlet<S, G, Reply<M>, Option<Reply<M>>>,
     N: Sender<P>,

@@ -16,7 +16,7 @@ ghost use Rattle.broadcast_engine.specs.Ran.{Steps, requested};
 
 use crate::buffered::engine::node::Node;
 use crate::buffered::engine::take::take;
-use broadcast_core::{Digested, Digestible, Outcome, PublicKey, Set, Subscribed};
+use broadcast_core::{Digested, Digestible, EncodeSize, Outcome, PublicKey, Set, Subscribed};
 use commonware_broadcast::buffered::{Reply, Responder};
 use engine_io::{Metrics, Outlet, Status, Waiter, respond_get, respond_subscribe};
 use std::alloc::{AllocError, Global};
@@ -45,13 +45,14 @@ pub(super) fn handle_arrival<P, M, S, G, O>(
 ) -> Result<Outcome, AllocError>
 where
     P: PublicKey,
-    M: Digestible,
+    M: Digestible + EncodeSize,
     S: Responder<Reply<M>> + Drop,
     O: Outlet<S, G, Reply<M>, Option<Reply<M>>>,
     ensures steps { IfOk result (λ out. (replies : Replies S G M M.Digest)
         × ((s : Setting P M M.Digest) → s.same ≡ same_by P.cmp M.Digest.cmp
+        → s.encoding ≡ M.encoding
         → (past : History P M M.Digest (Asker S) (Asker G)) → HasContent s past node.old.core
-        → (out ≡ outcome s peer.now message.now.digest past)
+        → (out ≡ outcome s peer.now message.now past)
         × Steps s (λ w b. S.may_answer w.responder b) O.told past
         (applied (input.Arrived peer.now message.now) replies) node.old node.new)) }
     ensures unchanged_on_error { OnErr result (node.new ≡ node.old) }
@@ -137,7 +138,9 @@ fn count_received<P: PublicKey>(metrics: &mut Metrics<P>, outcome: Outcome)
 {
     match outcome {
         Outcome::Inserted => metrics.count_receive(Status::Success),
-        Outcome::Duplicate | Outcome::Ineligible => metrics.count_receive(Status::Dropped),
+        Outcome::Duplicate | Outcome::Ineligible | Outcome::Oversize => {
+            metrics.count_receive(Status::Dropped)
+        }
     }
 }
 

@@ -15,7 +15,7 @@ ghost use Rattle.broadcast_engine.specs.Polled.{Started};
 use crate::buffered::engine::apply::apply;
 use crate::buffered::engine::node::Node;
 use crate::buffered::strategy::{Job, Strategy};
-use broadcast_core::{Cause, Digested, Digestible, PublicKey, Write};
+use broadcast_core::{Cause, Digested, Digestible, EncodeSize, PublicKey};
 use commonware_broadcast::buffered::{Reply, Responder};
 use engine_io::{Input, Outlet, Sender, Turn};
 use futures::task::{Context, Poll};
@@ -35,7 +35,7 @@ pub(super) fn poll_job<P, M, S, G, O, N, J>(
 ) -> Poll<Turn>
 where
     P: PublicKey,
-    M: Digestible + Write,
+    M: Digestible + EncodeSize,
     S: Responder<Reply<M>> + Drop,
     G: Drop,
     O: Outlet<S, G, Reply<M>, Option<Reply<M>>>,
@@ -84,7 +84,7 @@ pub(super) fn start_job<P, M, S, G, O, N, T>(
 ) -> Poll<Turn>
 where
     P: PublicKey,
-    M: Digestible + Write,
+    M: Digestible + EncodeSize,
     S: Responder<Reply<M>> + Drop,
     G: Drop,
     O: Outlet<S, G, Reply<M>, Option<Reply<M>>>,
@@ -121,7 +121,7 @@ fn arrive<P, M, S, G, O, N>(
 ) -> Turn
 where
     P: PublicKey,
-    M: Digestible + Write,
+    M: Digestible + EncodeSize,
     S: Responder<Reply<M>> + Drop,
     G: Drop,
     O: Outlet<S, G, Reply<M>, Option<Reply<M>>>,

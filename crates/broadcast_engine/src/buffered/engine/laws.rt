@@ -14,6 +14,7 @@ pub fn new_engine_law<P: PublicKey, M: Digestible, S, G>()
         → core ≡ record {
           own = s.own;
           deque_size = s.deque_size;
+          byte_budget = s.byte_budget;
           primary = [];
           lists = [];
           cached = [];

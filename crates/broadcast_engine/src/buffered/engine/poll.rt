@@ -15,7 +15,7 @@ ghost use Rattle.broadcast_engine.specs.Polled.{Polled};
 use crate::buffered::engine::apply::apply;
 use crate::buffered::engine::handler::cleanup_waiters;
 use crate::buffered::engine::node::Node;
-use broadcast_core::{Digestible, PublicKey, Write};
+use broadcast_core::{Digestible, EncodeSize, PublicKey};
 use commonware_broadcast::buffered::{Message, Reply, Responder};
 use engine_io::{EndCause, Outlet, Provider, Requests, Sender, Turn, next_input};
 use futures::task::{Context, Poll};
@@ -33,7 +33,7 @@ pub(super) fn poll_local<P, M, S, G, O, N, B, Q>(
 ) -> Poll<Result<Turn, EndCause>>
 where
     P: PublicKey,
-    M: Digestible + Write,
+    M: Digestible + EncodeSize,
     S: Responder<Reply<M>> + Drop,
     G: Drop,
     O: Outlet<S, G, Reply<M>, Option<Reply<M>>>,

@@ -18,7 +18,7 @@ use crate::buffered::engine::apply::apply;
 use crate::buffered::engine::job::start_job;
 use crate::buffered::engine::node::Node;
 use crate::buffered::strategy::Strategy;
-use broadcast_core::{Cause, Codec, CodecError, Digestible, PublicKey, Write, decode_cfg};
+use broadcast_core::{Cause, Codec, CodecError, Digestible, EncodeSize, PublicKey, decode_cfg};
 use commonware_broadcast::buffered::{Reply, Responder};
 use engine_io::{Input, Outlet, Sender, Turn};
 use futures::task::{Context, Poll};
@@ -75,7 +75,7 @@ fn refuse<P, M, S, G, O, N>(
 ) -> Turn
 where
     P: PublicKey,
-    M: Digestible + Write,
+    M: Digestible + EncodeSize,
     S: Responder<Reply<M>> + Drop,
     G: Drop,
     O: Outlet<S, G, Reply<M>, Option<Reply<M>>>,

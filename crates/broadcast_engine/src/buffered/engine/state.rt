@@ -74,6 +74,7 @@ impl<P: PublicKey, M: Digestible + Codec, S, O, B, Q, T: Strategy<M>> Engine<P, 
             public_key,
             mailbox_size: _,
             deque_size,
+            byte_budget,
             priority,
             codec_config,
             peer_provider,
@@ -81,7 +82,7 @@ impl<P: PublicKey, M: Digestible + Codec, S, O, B, Q, T: Strategy<M>> Engine<P, 
         } = cfg;
         Engine {
             node: Node {
-                core: Core::new(alloc, public_key, deque_size),
+                core: Core::new(alloc, public_key, deque_size, byte_budget),
                 metrics: Metrics::init(alloc),
                 outlet,
             },

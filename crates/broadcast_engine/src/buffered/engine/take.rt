@@ -1,12 +1,13 @@
 //! Messages are taken, and served to who waits for them.
-ghost use Rattle.std.specs.Prelude.{◌≡◌, List, Option, IfOk, OnErr};
+ghost use Rattle.std.specs.Prelude.{◌≡◌, List, Option, length, IfOk, OnErr};
+ghost use Rattle.std.specs.Option.{option_map};
 ghost use Rattle.broadcast_core.specs.Carried.{Carried};
 ghost use Rattle.broadcast_core.specs.Content.{same_by, outcome_at};
 ghost use Rattle.engine_io.specs.Replies.{Replied, Replies};
 ghost use Rattle.broadcast_engine.specs.Serving.{Serves};
 
 use crate::buffered::engine::node::Node;
-use broadcast_core::{Digested, Digestible, Outcome, PublicKey};
+use broadcast_core::{Digested, Digestible, EncodeSize, Outcome, PublicKey};
 use commonware_broadcast::buffered::Reply;
 use engine_io::{Outlet, copies, respond_waiters};
 use std::alloc::{AllocError, Global};
@@ -21,14 +22,16 @@ pub(super) fn take<P, M, S, G, O>(
 ) -> Result<Outcome, AllocError>
 where
     P: PublicKey,
-    M: Digestible,
+    M: Digestible + EncodeSize,
     S: Drop,
     O: Outlet<S, G, Reply<M>, Option<Reply<M>>>,
     ensures outcome { IfOk result (λ outcome. outcome
-        ≡ outcome_at (same_by P.cmp M.Digest.cmp) node.old.core peer.now message.now.digest) }
+        ≡ outcome_at (same_by P.cmp M.Digest.cmp) node.old.core peer.now message.now.digest
+        (option_map length (M.encoding message.now.message))) }
     ensures serves { IfOk result (λ outcome.
         (replies : Replies S G M M.Digest)
-        × Serves (same_by P.cmp M.Digest.cmp) O.told peer.now message.now replies
+        × Serves (same_by P.cmp M.Digest.cmp) O.told peer.now message.now
+        (option_map length (M.encoding message.now.message)) replies
         node.old node.new) }
     ensures unchanged_on_error { OnErr result (node.new ≡ node.old) }
 {
@@ -47,15 +50,17 @@ pub(super) fn take_own<P, M, S, G, O>(
 ) -> Result<Outcome, AllocError>
 where
     P: PublicKey,
-    M: Digestible,
+    M: Digestible + EncodeSize,
     S: Drop,
     O: Outlet<S, G, Reply<M>, Option<Reply<M>>>,
     ensures outcome { IfOk result (λ outcome. outcome
         ≡ outcome_at (same_by P.cmp M.Digest.cmp) node.old.core
-        node.old.core.own message.now.digest) }
+        node.old.core.own message.now.digest
+        (option_map length (M.encoding message.now.message))) }
     ensures serves { IfOk result (λ outcome.
         (replies : Replies S G M M.Digest)
-        × Serves (same_by P.cmp M.Digest.cmp) O.told node.old.core.own message.now replies
+        × Serves (same_by P.cmp M.Digest.cmp) O.told node.old.core.own message.now
+        (option_map length (M.encoding message.now.message)) replies
         node.old node.new) }
     ensures unchanged_on_error { OnErr result (node.new ≡ node.old) }
 {

@@ -3,4 +3,4 @@ use Rattle.broadcast_world.specs.Made.{AreEmpty}
 use Rattle.broadcast_world.proofs.made.cores_for.Given as goal
 
 abbrev pub invariant-loop-node : goal.invariant-loop-node
-invariant-loop-node g l = AreEmpty g.P.Ord.cmp l.deque_size (take l.node-index l.nodes) l.cores.items
+invariant-loop-node g l = AreEmpty g.P.Ord.cmp l.deque_size l.byte_budget (take l.node-index l.nodes) l.cores.items

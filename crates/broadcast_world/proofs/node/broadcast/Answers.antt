@@ -1,6 +1,7 @@
-use Rattle.std.proofs.Common.{refl}
+use Rattle.std.proofs.Common.{refl, ap}
 use Rattle.std.proofs.lemmas.Cmp.{nat_list_cmp_total}
 use Rattle.broadcast_core.proofs.Lawful.{same_by-lawful}
+use Rattle.broadcast_core.specs.Answers.{answer_to_broadcast}
 use Rattle.broadcast_core.specs.Happening.{broadcast}
 use Rattle.broadcast_core.specs.declared.event.Event.TheVariants.{Broadcast}
 use Rattle.broadcast_core.proofs.Applying.{Applies-taken}
@@ -17,4 +18,4 @@ returns-clause-ok g c = λ w n r bytes encoded.
     let m = c.args.message in
     let taken = c.in_ok-taken.ensures in
     NodeFollows-from g.P.Ord.cmp total w n (event_broadcast r m) _ _ _ _
-    (λ past has. Applies-taken {s = s} refl lawful has {e = Broadcast r m} (broadcast r m) (record { key = c.args.core.now.own; carried = m }) refl refl (rw encoded refl) taken.ok taken.outcome taken.served)
+    (λ past has. Applies-taken {s = s} refl lawful has refl {e = Broadcast r m} (broadcast r m) (record { key = c.args.core.now.own; carried = m }) refl refl (ap (λ b. answer_to_broadcast s r m b past) encoded) taken.ok taken.outcome taken.served)

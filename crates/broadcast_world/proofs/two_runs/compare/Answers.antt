@@ -72,3 +72,6 @@ returns-clause-waits_in_both g c = (laws g c).waits_in_both
 
 pub returns-clause-added_answers : goal.returns-clause-added_answers
 returns-clause-added_answers g c = (laws g c).added_answers
+
+pub returns-clause-byte_budget : goal.returns-clause-byte_budget
+returns-clause-byte_budget g c = ap (λ w. w.byte_budget) (with_scene g c) ∙ c.in_ok-with_world.ensures.byte_budget

@@ -1,5 +1,5 @@
 //! The mailbox through which callers on any thread reach a node.
-ghost use Rattle.std.specs.Prelude.{◌≡◌, IfOk};
+ghost use Rattle.std.specs.Prelude.{◌≡◌, IfOk, ⊤};
 
 use crate::buffered::ingress::get::Get;
 use crate::buffered::ingress::inbox::Inbox;
@@ -100,6 +100,8 @@ where
     type Recipients = Recipients<P>;
 
     type Message = Digested<M>;
+
+    ghost may_answer = { λ _ _ _ _. ⊤ };
 
     /// Queues the message for the recipients. Returns `Closed` after a close.
     fn broadcast(

@@ -12,3 +12,6 @@ returns-clause-stays c = record { answered = refl; listed = refl }
 
 pub returns-clause-requests : goal.returns-clause-requests
 returns-clause-requests c = record { answered = refl; waiting = refl }
+
+pub returns-clause-budgets : goal.returns-clause-budgets
+returns-clause-budgets c = record { bytes_evict = refl; two_listed = refl; oversize_serves = refl; oversize_listed = refl; longer_answered = refl; longer_listed = refl; shorter_answered = refl; shorter_listed = refl }

@@ -12,9 +12,9 @@ remove-digest-requires g c =
     let there = on_there (get c.args.places.now) _ _ (on_oldest (get c.args.places.now) _ _ c.in-Some.is c.requires) in
     is_there (get c.unlink.new.places) c.in-Some.place there.entry (c.unlink.ensures.unlinked.kept ∙ there.there)
 
-pub returns-in-None : goal.returns-in-None
-returns-in-None g c = pops_none (get c.args.places.now) _ c.in-None.is
+pub returns-in-None-clause-popped : goal.returns-in-None-clause-popped
+returns-in-None-clause-popped g c = pops_none (get c.args.places.now) _ c.in-None.is
 
-pub returns-in-Some : goal.returns-in-Some
-returns-in-Some g c =
+pub returns-in-Some-clause-popped : goal.returns-in-Some-clause-popped
+returns-in-Some-clause-popped g c =
     pops (get c.args.places.now) (get c.unlink.new.places) (get c.remove-digest.new.self) _ _ _ c.remove-digest.result c.in-Some.is c.unlink.ensures.unlinked c.remove-digest.ensures.value c.remove-digest.ensures.updates.changed c.remove-digest.ensures.updates.others

@@ -8,13 +8,13 @@ invariant_of-self-inside g c =
     let same = same_by g.P.Ord.cmp g.M.Digest.Ord.cmp in
     let st = c.self-inside.inside.0.1.0 in
     let laws = eq_by_cmp_equiv (g.met.P.Ord g.world.𝓛 g.world.𝓜 g.world.𝓡 (λ s x. x, λ x. x, λ x. x, λ x. x)).total in
-    let keeps = kept same laws st.deque_size c.args.peers st.primary st.cache c.retain_peers.new.self st.waiters c.self-inside.invariant (rw c.as_slice.ensures.keys at c.retain_peers.ensures) in
-    IsCore-kept same laws st.deque_size c.args.peers st.primary st.cache c.retain_peers.new.self st.waiters c.self-inside.invariant keeps
+    let keeps = kept same laws st.deque_size st.byte_budget c.args.peers st.primary st.cache c.retain_peers.new.self st.waiters c.self-inside.invariant (rw c.as_slice.ensures.keys at c.retain_peers.ensures) in
+    IsCore-kept same laws st.deque_size st.byte_budget c.args.peers st.primary st.cache c.retain_peers.new.self st.waiters c.self-inside.invariant keeps
 
 pub returns : goal.returns
 returns g c =
     let same = same_by g.P.Ord.cmp g.M.Digest.Ord.cmp in
     let st = c.self-inside.inside.0.1.0 in
     let laws = eq_by_cmp_equiv (g.met.P.Ord g.world.𝓛 g.world.𝓜 g.world.𝓡 (λ s x. x, λ x. x, λ x. x, λ x. x)).total in
-    let keeps = kept same laws st.deque_size c.args.peers st.primary st.cache c.retain_peers.new.self st.waiters c.self-inside.invariant (rw c.as_slice.ensures.keys at c.retain_peers.ensures) in
-    rw (← c.self.view_is, ← c.self-inside.view_is) (TakesPeers-kept same laws st.deque_size c.args.peers st.primary st.cache c.retain_peers.new.self st.waiters c.self-inside.invariant keeps c.self-inside.inside.0.0)
+    let keeps = kept same laws st.deque_size st.byte_budget c.args.peers st.primary st.cache c.retain_peers.new.self st.waiters c.self-inside.invariant (rw c.as_slice.ensures.keys at c.retain_peers.ensures) in
+    rw (← c.self.view_is, ← c.self-inside.view_is) (TakesPeers-kept same laws st.deque_size st.byte_budget c.args.peers st.primary st.cache c.retain_peers.new.self st.waiters c.self-inside.invariant keeps c.self-inside.inside.0.0)

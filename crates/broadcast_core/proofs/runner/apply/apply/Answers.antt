@@ -12,7 +12,7 @@ pub returns-in-Broadcast : goal.returns-in-Broadcast
 returns-in-Broadcast g c = λ past has. rw c.in-Broadcast.is (c.broadcast.ensures _ refl refl refl past has)
 
 pub returns-in-Payload : goal.returns-in-Payload
-returns-in-Payload g c = λ past has. rw (c.in-Payload.is, ← c.as_slice.ensures) (c.payload.ensures _ refl refl refl past has)
+returns-in-Payload g c = λ past has. rw (c.in-Payload.is, ← c.as_slice.ensures) (c.payload.ensures _ refl refl refl refl past has)
 
 pub returns-in-Subscribe : goal.returns-in-Subscribe
 returns-in-Subscribe g c = λ past has. rw c.in-Subscribe.is (c.subscribe.ensures _ refl past has)

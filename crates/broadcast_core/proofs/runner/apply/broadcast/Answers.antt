@@ -1,6 +1,9 @@
 use Rattle.std.proofs.Common.{◌≡◌, ◌++◌, Some, refl, sym, ap, ◌∙◌, subst}
+use Rattle.std.specs.Prelude.{length}
+use Rattle.std.specs.Option.{option_map}
 use Rattle.broadcast_core.specs.Content.{same_by, outcome_at}
 use Rattle.broadcast_core.specs.Changes.{Takes}
+use Rattle.broadcast_core.specs.Answers.{answer_to_broadcast}
 use Rattle.broadcast_core.specs.HasRun.{Applies}
 use Rattle.broadcast_core.specs.Happening.{broadcast}
 use Rattle.broadcast_core.specs.declared.event.Event.TheVariants.{Broadcast}
@@ -18,7 +21,7 @@ returns-in-Ok-take_own g c = λ s is pr enc past has.
     let r = c.in-Ok-take_own.ensures in
     let w = c.in-Ok.ensures.written in
     let spelled : s.encoding m.message ≡ Some c.write.new.out.items = ap (λ f. f m.message) enc ∙ ap g.M.Write.encoding (sym c.inner.ensures) ∙ w.1 ∙ ap Some (sym (w.2 ∙ ap (λ xs. xs ++ w.0) c.new-bytes.ensures.items)) in
-    let takes = subst (λ o. Takes same o m c.args.core.now c.take_own.new.self) has.own r.ok in
-    let outcome = subst (λ o. c.in-Ok-take_own.taken.outcome ≡ outcome_at same c.args.core.now o m.digest) has.own r.outcome in
-    let applies = Applies-taken is lawful has {e = event} (broadcast c.args.recipients m) (record { key = s.own; carried = m }) refl refl (rw spelled refl) takes outcome r.served in
+    let takes = subst (λ o. Takes same o m (option_map length (g.M.Write.encoding m.message)) c.args.core.now c.take_own.new.self) has.own r.ok in
+    let outcome = subst (λ o. c.in-Ok-take_own.taken.outcome ≡ outcome_at same c.args.core.now o m.digest (option_map length (g.M.Write.encoding m.message))) has.own r.outcome in
+    let applies = Applies-taken is lawful has enc {e = event} (broadcast c.args.recipients m) (record { key = s.own; carried = m }) refl refl (ap (λ b. answer_to_broadcast s c.args.recipients m b past) spelled) takes outcome r.served in
     rw (← pr, c.from_vec.ensures) (subst (λ xs. Applies s past event c.take_own.new.self (Taken c.in-Ok-take_own.taken.outcome c.in-Ok-take_own.taken.served m) xs) (rw spelled refl) applies)

@@ -28,3 +28,6 @@ returns-clause-deque_size g c = ap (λ w. w.deque_size) c.in_ok-over.ensures.sce
 
 pub returns-clause-range : goal.returns-clause-range
 returns-clause-range g c = ap (λ w. w.range) c.in_ok-over.ensures.scene
+
+pub returns-clause-byte_budget : goal.returns-clause-byte_budget
+returns-clause-byte_budget g c = ap (λ w. w.byte_budget) c.in_ok-over.ensures.scene

@@ -13,8 +13,8 @@ pub returns-clause-empty : goal.returns-clause-empty
 returns-clause-empty g c =
     let cmp = g.P.Ord.cmp in
     let nodes = arc_value c.args.nodes in
-    let w : Scene g.row.P.Denot = record { nodes = nodes; hostile = arc_value c.args.hostile; deque_size = c.args.deque_size; range = c.args.range } in
-    let empty = subst (λ ns. AreEmpty cmp c.args.deque_size ns c.in_ok-cores.cores.items) (c.as_slice.ensures.keys ∙ c.deref.ensures) c.in_ok-cores.ensures in
+    let w : Scene g.row.P.Denot = record { nodes = nodes; hostile = arc_value c.args.hostile; deque_size = c.args.deque_size; byte_budget = c.args.byte_budget; range = c.args.range } in
+    let empty = subst (λ ns. AreEmpty cmp c.args.deque_size c.args.byte_budget ns c.in_ok-cores.cores.items) (c.as_slice.ensures.keys ∙ c.deref.ensures) c.in_ok-cores.ensures in
     record {
       cores = contents-empty cmp w nodes c.in_ok-cores.cores.items empty;
       packets = rw c.new.ensures.items tt;

@@ -12,7 +12,7 @@ use Rattle.broadcast_world.proofs.state.World.take.Goals as goal
 
 pub invariant_of-self : goal.invariant_of-self
 invariant_of-self g c =
-    let w : Scene g.row.P.Denot = record { nodes = arc_value c.self.inside.nodes; hostile = arc_value c.self.inside.hostile; deque_size = c.self.inside.deque_size; range = c.self.inside.range } in
+    let w : Scene g.row.P.Denot = record { nodes = arc_value c.self.inside.nodes; hostile = arc_value c.self.inside.hostile; deque_size = c.self.inside.deque_size; byte_budget = c.self.inside.byte_budget; range = c.self.inside.range } in
     let total = (g.met.P.Ord g.world.𝓛 g.world.𝓜 g.world.𝓡 (λ s x. x, λ x. x, λ x. x, λ x. x)).total in
     AtNode-length g.P.Ord.cmp w _ _ _ _ (c.apply.ensures.node w c.self.inside.packets.items (sym c.deref-nodes.ensures) (sym c.deref-hostile.ensures) refl (AreCopies-self g.P.Ord.cmp w total c.self.inside.packets.items)) ∙ c.self.invariant
 
@@ -20,7 +20,7 @@ pub returns : goal.returns
 returns g c = λ log has.
     let cmp = g.P.Ord.cmp in
     let total = (g.met.P.Ord g.world.𝓛 g.world.𝓜 g.world.𝓡 (λ s x. x, λ x. x, λ x. x, λ x. x)).total in
-    let w : Scene g.row.P.Denot = record { nodes = arc_value c.self.inside.nodes; hostile = arc_value c.self.inside.hostile; deque_size = c.self.inside.deque_size; range = c.self.inside.range } in
+    let w : Scene g.row.P.Denot = record { nodes = arc_value c.self.inside.nodes; hostile = arc_value c.self.inside.hostile; deque_size = c.self.inside.deque_size; byte_budget = c.self.inside.byte_budget; range = c.self.inside.range } in
     let step = c.args.step.now in
     let was = subst (λ now. HasWorld cmp log now) (sym c.self.view_is) has in
     subst (λ old. TakesStep cmp log step c.apply.result old (record { scene = w; cores = c.apply.new.cores.items; packets = c.apply.new.packets.items })) c.self.view_is

@@ -6,7 +6,7 @@ use Rattle.entries.proofs.Stores.{list_length, items_at-chain, items_at-none}
 use Rattle.entries.proofs.store.Entries.list.Goals as goal
 
 pub collect-requires : goal.collect-requires
-collect-requires g c = list_length (eq_by_cmp_equiv g.met.K.Ord.total) (get c.self.inside.places) c.self.inside.chains.entries c.args.peer.now c.in-Some.chain.now c.self.invariant (sym c.in-Some.ensures.value)
+collect-requires g c = list_length (eq_by_cmp_equiv g.met.K.Ord.total) (get c.self.inside.places) c.self.inside.chains.entries c.args.peer.now c.in-Some.chain.now c.self.invariant.0 (sym c.in-Some.ensures.value)
 
 pub returns-in-Some-clause-digests : goal.returns-in-Some-clause-digests
 returns-in-Some-clause-digests g c =

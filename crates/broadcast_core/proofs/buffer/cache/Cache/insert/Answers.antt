@@ -2,15 +2,19 @@ use Rattle.std.proofs.Common.{◌≡◌, suc, ◌<◌, ◌∷◌, true, length, 
 use Rattle.std.specs.Prelude.{is_some}
 use Rattle.std.specs.Cmp.{eq_by_cmp_equiv}
 use Rattle.entries.specs.Store.{items_at as nodes_at, Puts}
-use Rattle.broadcast_core.specs.Content.{same_by, items_at}
+use Rattle.broadcast_core.specs.Content.{same_by, at_charge, items_at, bytes_of}
 use Rattle.broadcast_core.specs.Indexed.{digest_lists}
+use Rattle.std.specs.Ordering.{eq_by_cmp}
+use Rattle.std.specs.Prelude.{◌^◌}
+use Rattle.broadcast_core.proofs.Placing.{items_at-digests}
 use Rattle.broadcast_core.proofs.Distinct.{flip-not}
 use Rattle.broadcast_core.proofs.Placing.{distinct-digests, length-digests}
 use Rattle.broadcast_core.proofs.Filling.{Stores-added, Stores-moved, messages-undone, places-undone}
+use Rattle.broadcast_core.proofs.Taking.{among-names}
 use Rattle.broadcast_core.proofs.Holding.{among-indexed, no_duplicate}
 use Rattle.broadcast_core.proofs.Indexing.{IsIndexed-same}
 use Rattle.broadcast_core.proofs.buffer.cache.Cache.insert.Goals as goal
-use Rattle.broadcast_core.proofs.buffer.cache.Cache.insert.Goals.{in-Some, in_default+in_default-insert}
+use Rattle.broadcast_core.proofs.buffer.cache.Cache.insert.Goals.{in-Some, in-None+in-Ok}
 
 pub returns-in_err-found-clause-succeeds_on_duplicate : goal.returns-in_err-found-clause-succeeds_on_duplicate
 returns-in_err-found-clause-succeeds_on_duplicate g c =
@@ -18,7 +22,7 @@ returns-in_err-found-clause-succeeds_on_duplicate g c =
     let key_laws = eq_by_cmp_equiv (g.met.P.Ord g.world.𝓛 g.world.𝓜 g.world.𝓡 (λ s x. x, λ x. x, λ x. x, λ x. x)).total in
     let laws = eq_by_cmp_equiv (g.met.M.Digest.Ord g.world.𝓛 g.world.𝓜 g.world.𝓡 (λ s x. x, λ x. x, λ x. x, λ x. x)).total in
     let has = among-indexed same key_laws laws c.self.inside.lists.lists c.self.inside.table c.self.invariant c.args.message.now.digest c.args.peer.now in
-    rw (← c.self.view_is) (no_duplicate _ _ has c.in_err-found.ensures.fails_for_new_places)
+    rw (← c.self.view_is) (no_duplicate _ _ (among-names same.digest c.args.message.now.digest _ ∙ has) c.in_err-found.ensures.fails_for_new_places)
 
 pub invariant_of-self-in-Err : goal.invariant_of-self-in-Err
 invariant_of-self-in-Err g c =
@@ -26,11 +30,11 @@ invariant_of-self-in-Err g c =
     let key_laws = eq_by_cmp_equiv (g.met.P.Ord g.world.𝓛 g.world.𝓜 g.world.𝓡 (λ s x. x, λ x. x, λ x. x, λ x. x)).total in
     let laws = eq_by_cmp_equiv (g.met.M.Digest.Ord g.world.𝓛 g.world.𝓜 g.world.𝓡 (λ s x. x, λ x. x, λ x. x, λ x. x)).total in
     let order = (g.met.M.Digest.Ord g.world.𝓛 g.world.𝓜 g.world.𝓡 (λ s x. x, λ x. x, λ x. x, λ x. x)).total in
-    let none = sym c.in_ok-found.ensures.found ∙ c.in_default.is in
+    let none = sym c.in_ok-found.ensures.found ∙ c.in-None.is in
     let left = rw c.digest-in-Err.ensures at c.remove.ensures.left in
     rw (c.in-Err.ensures.err) (IsIndexed-same same key_laws laws c.self.inside.lists.lists c.self.inside.table c.remove.new.self c.self.invariant
-    (messages-undone key_laws order c.args.peer.now c.args.message.now c.vacant.result c.self.inside.table c.hold.new.table c.remove.new.self none (c.in_ok-found.ensures.held c.in_default.is) left c.self.invariant.placed c.remove.ensures.placed)
-    (places-undone key_laws order c.args.peer.now c.args.message.now c.vacant.result c.self.inside.table c.hold.new.table c.remove.new.self none (c.in_ok-found.ensures.held c.in_default.is) left)
+    (messages-undone key_laws order c.args.peer.now c.args.message.now c.vacant.result c.self.inside.table c.hold.new.table c.remove.new.self none (c.in_ok-found.ensures.held c.in-None.is) left c.self.invariant.placed c.remove.ensures.placed)
+    (places-undone key_laws order c.args.peer.now c.args.message.now c.vacant.result c.self.inside.table c.hold.new.table c.remove.new.self none (c.in_ok-found.ensures.held c.in-None.is) left)
     c.remove.ensures.placed)
 
 pub returns-in-Err-clause-err : goal.returns-in-Err-clause-err
@@ -39,10 +43,10 @@ returns-in-Err-clause-err g c =
     let key_laws = eq_by_cmp_equiv (g.met.P.Ord g.world.𝓛 g.world.𝓜 g.world.𝓡 (λ s x. x, λ x. x, λ x. x, λ x. x)).total in
     let laws = eq_by_cmp_equiv (g.met.M.Digest.Ord g.world.𝓛 g.world.𝓜 g.world.𝓡 (λ s x. x, λ x. x, λ x. x, λ x. x)).total in
     let order = (g.met.M.Digest.Ord g.world.𝓛 g.world.𝓜 g.world.𝓡 (λ s x. x, λ x. x, λ x. x, λ x. x)).total in
-    let none = sym c.in_ok-found.ensures.found ∙ c.in_default.is in
+    let none = sym c.in_ok-found.ensures.found ∙ c.in-None.is in
     let left = rw c.digest-in-Err.ensures at c.remove.ensures.left in
     rw (c.in-Err.ensures.err, ← c.self.view_is) (ap (λ m. record { lists = digest_lists c.self.inside.lists.lists; messages = m })
-    (messages-undone key_laws order c.args.peer.now c.args.message.now c.vacant.result c.self.inside.table c.hold.new.table c.remove.new.self none (c.in_ok-found.ensures.held c.in_default.is) left c.self.invariant.placed c.remove.ensures.placed))
+    (messages-undone key_laws order c.args.peer.now c.args.message.now c.vacant.result c.self.inside.table c.hold.new.table c.remove.new.self none (c.in_ok-found.ensures.held c.in-None.is) left c.self.invariant.placed c.remove.ensures.placed))
 
 pub returns-in-Err-clause-succeeds_on_duplicate : goal.returns-in-Err-clause-succeeds_on_duplicate
 returns-in-Err-clause-succeeds_on_duplicate g c =
@@ -50,7 +54,7 @@ returns-in-Err-clause-succeeds_on_duplicate g c =
     let key_laws = eq_by_cmp_equiv (g.met.P.Ord g.world.𝓛 g.world.𝓜 g.world.𝓡 (λ s x. x, λ x. x, λ x. x, λ x. x)).total in
     let laws = eq_by_cmp_equiv (g.met.M.Digest.Ord g.world.𝓛 g.world.𝓜 g.world.𝓡 (λ s x. x, λ x. x, λ x. x, λ x. x)).total in
     let has = among-indexed same key_laws laws c.self.inside.lists.lists c.self.inside.table c.self.invariant c.args.message.now.digest c.args.peer.now in
-    rw (← c.self.view_is) (no_duplicate _ _ has (sym c.in_ok-found.ensures.found ∙ c.in_default.is))
+    rw (← c.self.view_is) (no_duplicate _ _ (among-names same.digest c.args.message.now.digest _ ∙ has) (sym c.in_ok-found.ensures.found ∙ c.in-None.is))
 
 pub invariant_of-self-2 : goal.invariant_of-self-2
 invariant_of-self-2 g c =
@@ -62,15 +66,15 @@ invariant_of-self-2 g c =
       | in-Some w ↦
           let some : is_some c.in_ok-found.found ≡ true = ap is_some w.in-Some.is in
           let stays = c.in_ok-found.ensures.stays some in
-          rw (w.self-inside-is, stays) (Stores-moved same key_laws laws c.args.peer.now c.args.message.now (length (items_at same.key c.args.peer.now (digest_lists c.self.inside.lists.lists))) c.self.inside.lists.lists w.promote.new.self.lists c.self.inside.table c.self.invariant distinct
-          (distinct-digests same.key w.promote.new.self.lists (rw w.self-inside-is at c.len-new.ensures.distinct)) w.in-Some.place w.promote.ensures.apart (sym c.in_ok-found.ensures.found ∙ w.in-Some.is)
-          (rw w.digest.ensures at w.promote.ensures.moved) (omega arith)).0
-      | in_default+in_default-insert w ↦
-          let none = sym c.in_ok-found.ensures.found ∙ w.in_default.is in
-          let puts = subst (λ i. Puts same.key c.args.peer.now ((i, c.args.message.now.digest) ∷ nodes_at same.key c.args.peer.now c.self.inside.lists.lists) c.self.inside.lists.lists w.insert.new.self.lists)
-          (w.in_default-insert.ensures.place ∙ sym c.vacant.ensures) (rw w.digest-in_default.ensures at w.in_default-insert.ensures.ok) in
-          rw w.self-inside-is (Stores-added same key_laws laws c.args.peer.now c.args.message.now (suc (length (nodes_at same.key c.args.peer.now c.self.inside.lists.lists))) c.self.inside.lists.lists w.insert.new.self.lists c.self.inside.table c.self.invariant distinct
-          (distinct-digests same.key w.insert.new.self.lists (rw w.self-inside-is at c.len-new.ensures.distinct)) none g.M.Digest.Ord.cmp c.vacant.result c.hold.new.table (c.in_ok-found.ensures.held w.in_default.is)
+          rw (w.self-inside-is, stays) (Stores-moved same key_laws laws c.args.peer.now c.args.message.now c.args.charge (length (items_at same.key c.args.peer.now (digest_lists c.self.inside.lists.lists))) c.self.inside.lists.lists w.promote-bytes.new.self.lists c.self.inside.table c.self.invariant distinct
+          (distinct-digests same.key w.promote-bytes.new.self.lists (rw w.self-inside-is at c.len-new.ensures.distinct)) w.in-Some.place w.promote-bytes.ensures.apart (sym c.in_ok-found.ensures.found ∙ w.in-Some.is)
+          (rw c.digest.ensures at w.promote-bytes.ensures.moved) (omega arith)).0
+      | in-None+in-Ok w ↦
+          let none = sym c.in_ok-found.ensures.found ∙ w.in-None.is in
+          let puts = subst (λ i. Puts same.key c.args.peer.now ((i, at_charge c.args.message.now.digest c.args.charge) ∷ nodes_at same.key c.args.peer.now c.self.inside.lists.lists) c.self.inside.lists.lists w.insert.new.self.lists)
+          (sym c.vacant.ensures) (rw c.digest.ensures at w.in-Ok.ensures.ok) in
+          rw w.self-inside-is (Stores-added same key_laws laws c.args.peer.now c.args.message.now c.args.charge (suc (length (nodes_at same.key c.args.peer.now c.self.inside.lists.lists))) c.self.inside.lists.lists w.insert.new.self.lists c.self.inside.table c.self.invariant distinct
+          (distinct-digests same.key w.insert.new.self.lists (rw w.self-inside-is at c.len-new.ensures.distinct)) none g.M.Digest.Ord.cmp c.vacant.result c.hold.new.table (c.in_ok-found.ensures.held w.in-None.is)
           c.in_ok-found.ensures.placed puts (omega arith)).0
     ]
 
@@ -80,7 +84,7 @@ returns-clause-new g c =
     let key_laws = eq_by_cmp_equiv (g.met.P.Ord g.world.𝓛 g.world.𝓜 g.world.𝓡 (λ s x. x, λ x. x, λ x. x, λ x. x)).total in
     let laws = eq_by_cmp_equiv (g.met.M.Digest.Ord g.world.𝓛 g.world.𝓜 g.world.𝓡 (λ s x. x, λ x. x, λ x. x, λ x. x)).total in
     let has = among-indexed same key_laws laws c.self.inside.lists.lists c.self.inside.table c.self.invariant c.args.message.now.digest c.args.peer.now in
-    let found : c.match-found.found ≡ c.in_ok-found.found = elim c.match-found.branch [ in-Some w ↦ w.found-is ∙ sym w.in-Some.is | in_default+in_default-insert w ↦ w.found-is ] in
+    let found : c.match-found.found ≡ c.in_ok-found.found = elim c.match-found.branch [ in-Some w ↦ w.found-is ∙ sym w.in-Some.is | in-None+in-Ok w ↦ w.found-is ] in
     rw (← c.self.view_is) (flip-not (is_some c.match-found.found) c.is_none.result c.is_none.ensures ∙ ap not (ap is_some (found ∙ c.in_ok-found.ensures.found) ∙ sym has))
 
 pub returns-clause-ok : goal.returns-clause-ok
@@ -94,14 +98,32 @@ returns-clause-ok g c = λ size shorter.
       | in-Some w ↦
           let some : is_some c.in_ok-found.found ≡ true = ap is_some w.in-Some.is in
           let stays = c.in_ok-found.ensures.stays some in
-          rw (w.self-inside-is, stays, ← c.self.view_is) (Stores-moved same key_laws laws c.args.peer.now c.args.message.now size c.self.inside.lists.lists w.promote.new.self.lists c.self.inside.table c.self.invariant distinct
-          (distinct-digests same.key w.promote.new.self.lists (rw w.self-inside-is at c.len-new.ensures.distinct)) w.in-Some.place w.promote.ensures.apart (sym c.in_ok-found.ensures.found ∙ w.in-Some.is)
-          (rw w.digest.ensures at w.promote.ensures.moved) (omega (arith, fits))).1
-      | in_default+in_default-insert w ↦
-          let none = sym c.in_ok-found.ensures.found ∙ w.in_default.is in
-          let puts = subst (λ i. Puts same.key c.args.peer.now ((i, c.args.message.now.digest) ∷ nodes_at same.key c.args.peer.now c.self.inside.lists.lists) c.self.inside.lists.lists w.insert.new.self.lists)
-          (w.in_default-insert.ensures.place ∙ sym c.vacant.ensures) (rw w.digest-in_default.ensures at w.in_default-insert.ensures.ok) in
-          rw (w.self-inside-is, ← c.self.view_is) (Stores-added same key_laws laws c.args.peer.now c.args.message.now size c.self.inside.lists.lists w.insert.new.self.lists c.self.inside.table c.self.invariant distinct
-          (distinct-digests same.key w.insert.new.self.lists (rw w.self-inside-is at c.len-new.ensures.distinct)) none g.M.Digest.Ord.cmp c.vacant.result c.hold.new.table (c.in_ok-found.ensures.held w.in_default.is)
+          rw (w.self-inside-is, stays, ← c.self.view_is) (Stores-moved same key_laws laws c.args.peer.now c.args.message.now c.args.charge size c.self.inside.lists.lists w.promote-bytes.new.self.lists c.self.inside.table c.self.invariant distinct
+          (distinct-digests same.key w.promote-bytes.new.self.lists (rw w.self-inside-is at c.len-new.ensures.distinct)) w.in-Some.place w.promote-bytes.ensures.apart (sym c.in_ok-found.ensures.found ∙ w.in-Some.is)
+          (rw c.digest.ensures at w.promote-bytes.ensures.moved) (omega (arith, fits))).1
+      | in-None+in-Ok w ↦
+          let none = sym c.in_ok-found.ensures.found ∙ w.in-None.is in
+          let puts = subst (λ i. Puts same.key c.args.peer.now ((i, at_charge c.args.message.now.digest c.args.charge) ∷ nodes_at same.key c.args.peer.now c.self.inside.lists.lists) c.self.inside.lists.lists w.insert.new.self.lists)
+          (sym c.vacant.ensures) (rw c.digest.ensures at w.in-Ok.ensures.ok) in
+          rw (w.self-inside-is, ← c.self.view_is) (Stores-added same key_laws laws c.args.peer.now c.args.message.now c.args.charge size c.self.inside.lists.lists w.insert.new.self.lists c.self.inside.table c.self.invariant distinct
+          (distinct-digests same.key w.insert.new.self.lists (rw w.self-inside-is at c.len-new.ensures.distinct)) none g.M.Digest.Ord.cmp c.vacant.result c.hold.new.table (c.in_ok-found.ensures.held w.in-None.is)
           c.in_ok-found.ensures.placed puts (omega (arith, fits, length-digests same.key c.args.peer.now c.self.inside.lists.lists))).1
     ]
+
+pub promote-bytes-requires : goal.promote-bytes-requires
+promote-bytes-requires g c =
+    let room = subst (λ s. bytes_of (items_at (eq_by_cmp g.P.Ord.cmp) c.args.peer.now s.lists) < 2 ^ 64) (sym c.self.view_is) c.requires.room in
+    let is = ap bytes_of (items_at-digests (eq_by_cmp g.P.Ord.cmp) c.args.peer.now c.self.inside.lists.lists) in
+    omega (arith, room, is, c.ranges.charge.fits)
+
+pub insert-requires-clause-room : goal.insert-requires-clause-room
+insert-requires-clause-room g c =
+    let room = subst (λ s. bytes_of (items_at (eq_by_cmp g.P.Ord.cmp) c.args.peer.now s.lists) < 2 ^ 64) (sym c.self.view_is) c.requires.room in
+    let is = ap bytes_of (items_at-digests (eq_by_cmp g.P.Ord.cmp) c.args.peer.now c.self.inside.lists.lists) in
+    omega (arith, room, is, c.ranges.charge.fits)
+
+pub returns-clause-bytes : goal.returns-clause-bytes
+returns-clause-bytes g c = elim c.match-found.branch [
+  | in-Some w ↦ rw (w.bytes-is, w.self-inside-is) (w.promote-bytes.ensures.bytes ∙ sym (ap bytes_of (items_at-digests (eq_by_cmp g.P.Ord.cmp) c.args.peer.now w.promote-bytes.new.self.lists)))
+  | in-None+in-Ok w ↦ rw (w.bytes-is, w.self-inside-is) (w.in-Ok.ensures.bytes ∙ sym (ap bytes_of (items_at-digests (eq_by_cmp g.P.Ord.cmp) c.args.peer.now w.insert.new.self.lists)))
+]

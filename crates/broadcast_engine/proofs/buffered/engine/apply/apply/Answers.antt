@@ -18,7 +18,7 @@ returns-in-Request-clause-applied g c = λ s e encoding priority past has. rw c.
 pub returns-in-Ok-clause-applied : goal.returns-in-Ok-clause-applied
 returns-in-Ok-clause-applied g c = λ s e encoding priority past has.
     let steps = c.in-Ok.ensures.steps in
-    let step = steps.1 s e past has in
+    let step = steps.1 s e encoding past has in
     rw c.in-Arrived.is (Applied-silent s (λ w b. g.S.Responder.may_answer w.responder b) g.O.Outlet.told g.N.Sender.told past (Arrived c.in-Arrived.peer c.in-Arrived.message) steps.0 (turn.Payload c.in-Ok.outcome)
     c.args.node.now c.handle_arrival.new.node c.args.sender.now step.1 (ap (λ o. turn.Payload o ∷ []) (sym step.0)) refl)
 

@@ -21,7 +21,7 @@ returns-in-Ok-take_own-clause-applied g c = λ s e encoding priority past has ti
     let m = c.args.message in
     let spelled : s.encoding m.message ≡ Some c.in-Ok.bytes.items = ap (λ f. f m.message) encoding ∙ c.in-Ok.ensures.ok in
     let serves = c.in-Ok-take_own.ensures.serves in
-    let step = Steps-broadcast e lawful (λ w b. g.S.Responder.may_answer w.responder b) g.O.Outlet.told past c.args.node.now has c.args.recipients m ticket counted
+    let step = Steps-broadcast e lawful (λ w b. g.S.Responder.may_answer w.responder b) g.O.Outlet.told past c.args.node.now has encoding c.args.recipients m ticket counted
     c.take_own.new.node c.in-Ok-take_own.outcome serves.0 serves.1 c.in-Ok-take_own.ensures.outcome (ap is_some spelled) in
     Applied-broadcast s (λ w b. g.S.Responder.may_answer w.responder b) g.O.Outlet.told g.N.Sender.told past c.args.recipients m ticket counted c.in-Ok.bytes.items c.args.priority
     c.in-Ok-take_own.outcome serves.0 c.args.node.now c.take_own.new.node c.args.sender.now c.send.new.self step.1 step.0 spelled priority c.send.ensures
