@@ -176,6 +176,13 @@ def engine_call(rng):
     return f"drive {rng.randrange(1, 4)}" if kind == "drive" else kind
 
 
+def relay_event(rng):
+    """An event, of which more subscribe than of other lists."""
+    if rng.randrange(4) == 0:
+        return f"subscribe {rng.choice(TICKETS)} {content(rng)}"
+    return event(rng)
+
+
 def at_a_poll(line, asked):
     """The lines of an event that an engine takes at one poll. `asked` has the tickets so far."""
     kind, *words = line.split(" ")
@@ -248,6 +255,8 @@ CALLS = {
     "inbox": (lambda rng: f"inbox 0 {rng.choice(SIZES)} 0", [], inbox_call, 12),
     "engine": (lambda rng: f"engine {rng.randrange(3)} {rng.choice(SIZES)} 3", ["peers 1 2"],
                engine_call, 16),
+    "relay": (lambda rng: f"relay {rng.randrange(3)} 1 {rng.choice(BYTE_BUDGETS)}", ["peers 1 2"],
+              relay_event, 12),
 }
 
 

@@ -8,6 +8,7 @@ import functools
 import re
 
 import judge_engine
+import relay_model
 import replay_model as model
 from calls_given import GONE, KEYS
 from inbox_model import Asked, Inbox
@@ -116,11 +117,44 @@ def judge_inbox(lines, given):
         lines.expect(inbox.counts())
 
 
+def refused_places(lines, given):
+    """The places of the last line, each of an event that may allocate as things stand there."""
+    at = len(lines.lines) - 1
+    found = re.fullmatch(r"refused \[((?:\d+, )*\d+)?\]", lines.lines[at - 1])
+    places = [int(place) for place in (found and found[1] or "").split(", ") if place]
+    run = relay_run(given)
+    for place, event in enumerate(given.calls):
+        if place not in places:
+            run.step(event)
+        elif not run.may_be_refused(event):
+            raise Wrong(f"line {at} has the place {place} of an event that does not allocate")
+    if not found or places != sorted(set(places)) or any(it >= len(given.calls) for it in places):
+        raise Wrong(f"line {at} is {lines.lines[at - 1]!r}, not the places of refused events")
+    return places
+
+
+def relay_run(given):
+    return model.Run(OWN, given.size, model.GREATEST, given.greatest)
+
+
+def judge_relay(lines, given):
+    """The relay of the events but the refused ones, or that it failed."""
+    if lines.is_refused("relay AllocError"):
+        return
+    places = refused_places(lines, given)
+    history = [event for place, event in enumerate(given.calls) if place not in places]
+    for digest, message in relay_model.relay_of(relay_run(given), history):
+        lines.expect(f"message ({digest[0]}, {shown(message)})")
+    lines.expect(f"refused {places}")
+    lines.refusals += len(places)
+
+
 JUDGES = {
     "core": judge_core,
     "overflow": judge_overflow,
     "inbox": judge_inbox,
     "engine": judge_engine.judge,
+    "relay": judge_relay,
 }
 
 

@@ -145,6 +145,10 @@ WITH_ONE = (
     + "bytes 0\n" * 4
 )
 
+# The lines of messages of a relay.
+RELAYED_A = "message (202, TestMessage { commitment: [], content: [97] })\n"
+RELAYED_B = "message (62, TestMessage { commitment: [], content: [98] })\n"
+
 # By list of calls: what is wrong, and with it lines of the right output and those in their place.
 OF_CALLS = {
     "core": [
@@ -258,6 +262,48 @@ OF_CALLS = {
             "subscribe Ready(Err(Canceled))\nget Ready(None)\nsent",
             "subscribe Pending\nget Ready(None)\nsent",
         ),
+    ],
+    "relay": [
+        (
+            "the messages have the order of their subscribes",
+            f"{RELAYED_B}{RELAYED_A}",
+            f"{RELAYED_A}{RELAYED_B}",
+        ),
+        (
+            "a subscribe that was answered at once is relayed again",
+            "refused []\n",
+            f"{RELAYED_B}refused []\n",
+        ),
+        (
+            "a refused payload is relayed",
+            f"{RELAYED_B}{RELAYED_A}refused []\n",
+            f"{RELAYED_B}{RELAYED_A}refused [3]\n",
+        ),
+        ("a peer set is refused", "refused []\n", "refused [0]\n"),
+        ("the refused places fall", "refused []\n", "refused [5, 1]\n"),
+        ("a place is refused twice", "refused []\n", "refused [5, 5]\n"),
+        ("a place is behind the last event", "refused []\n", "refused [6]\n"),
+        (
+            "a relay that failed tells messages",
+            "refused []\n",
+            "relay AllocError\n",
+        ),
+    ],
+    "relay-first-message": [
+        (
+            "a second message with a relayed digest is relayed",
+            "refused []\n",
+            "message (45, TestMessage { commitment: [2], content: [120] })\nrefused []\n",
+        ),
+        (
+            "the message that is cached is relayed in place of the first",
+            "commitment: [1]",
+            "commitment: [2]",
+        ),
+    ],
+    "relay-of-nothing": [
+        ("a waiting subscribe is relayed", "refused []\n", f"{RELAYED_A}refused []\n"),
+        ("a get of nothing is refused", "refused []\n", "refused [1]\n"),
     ],
 }
 
@@ -425,11 +471,30 @@ def effects_of(part, calls, lines):
         before = block
 
 
+def effects_on_relay(calls, lines):
+    """Outputs of a relay in which subscribes are refused and are replied to, a peer set is refused,
+    or a message is relayed twice or not at all."""
+    *messages, refused, end = lines
+    subscribes = [place for place, call in enumerate(calls) if call[0] == "subscribe"]
+    sets = [place for place, call in enumerate(calls) if call[0] == "peers"]
+    changed = [[*messages, f"refused [{place}]", end] for place in sets]
+    if messages:
+        changed += [
+            [*messages, f"refused {subscribes}", end],
+            [*messages, messages[0], refused, end],
+            [*messages[1:], refused, end],
+        ]
+    for it in changed:
+        yield 0, len(it) - 1, it
+
+
 def unseen_of_effects(judge, ample):
     """The lines that the judge does not find if they are refused and have their effect."""
     lines = ample.stdout.decode().split("\n")
     if judge.given.part == "engine":
         effects = effects_of_drives(lines)
+    elif judge.given.part == "relay":
+        effects = effects_on_relay(judge.given.calls, lines)
     else:
         effects = effects_of(judge.given.part, judge.given.calls, lines)
     for first, end, changed in effects:

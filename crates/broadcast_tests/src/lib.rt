@@ -1,7 +1,9 @@
-//! Tests of the mailbox and of the programs over their streams.
+//! Tests of the mailbox, of relays and of the programs over their streams.
 #![tactic(auto)]
 
 #[cfg(test)]
 mod mailbox;
+#[cfg(test)]
+mod relays;
 #[cfg(test)]
 mod streams;

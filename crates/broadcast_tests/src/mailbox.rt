@@ -1,9 +1,11 @@
-//! The mailbox: its overflow, its inbox, its calls, what callers are given, and callers on threads.
+//! The mailbox: its overflow, its inbox, its calls, what callers are given, callers on threads, and
+//! relays.
 mod calls;
 mod inbox;
 mod note;
 mod overflow;
 mod polls;
+mod relays;
 mod replies;
 mod threads;
 mod tickets;

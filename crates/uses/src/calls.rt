@@ -15,6 +15,9 @@
 //!   sources; at `e` the sets end, at `f` the network fails. A cleanup drops the futures of its
 //!   numbers, from 0 on; `k` copies the mailbox. A digit drives the engine with this limit, and `w`
 //!   with as many polls as there are steps.
+//! - `relay`: the relay of all events, run with the key 1, lists of SIZE digests, which are charged
+//!   at most GREATEST bytes, and all lengths decoded. It has no steps. The program prints the
+//!   messages and the places of the refused events, or that the call failed.
 //!
 //! In a core and an inbox a caller with a ticket from 100 on is gone. What the calls are given is
 //! made before the first of them. If that fails, the program ends with a fault and prints nothing.
@@ -24,6 +27,7 @@ mod core_calls;
 mod engine_calls;
 mod inbox_calls;
 mod printer;
+mod relay_calls;
 mod requests;
 mod settings;
 
@@ -79,6 +83,7 @@ where
     match settings.part {
         Part::Core => core_calls::make_all(alloc, out, settings, events),
         Part::Inbox => inbox_calls::make_all(alloc, out, settings, events),
+        Part::Relay => relay_calls::make_all(alloc, out, settings, events),
         Part::Engine => return engine_calls::make_all(rt, out, settings, Sequential, events),
     }
     Ok(())

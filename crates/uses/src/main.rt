@@ -11,6 +11,7 @@ mod mailbox;
 mod memory;
 mod node;
 mod note;
+mod relay;
 mod shown;
 
 use anyhow::Error;

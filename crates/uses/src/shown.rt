@@ -1,5 +1,5 @@
 //! What the uses return, as text.
-use super::{cache, engines, mailbox, note};
+use super::{cache, engines, mailbox, note, relay};
 use anyhow::Error;
 use broadcast_core::{Digested, TestMessage};
 use std::alloc::{AllocError, AllocGlobal, Global};
@@ -16,7 +16,8 @@ where
     show_values(rt.alloc(), out)?;
     let asked = mailbox::ask(rt, &message(rt.alloc())?)?;
     writeln!(out, "mailbox: {asked:?}")?;
-    show_engines(rt, out)
+    show_engines(rt, out)?;
+    show_relay(rt, out)
 }
 
 fn show_values<W: Write>(alloc: Global, out: &mut W) -> Result<(), Error> {
@@ -36,6 +37,16 @@ where
         out,
         "engines: {heard:?}\nnode 2: {second:?}\nnode 3: {third:?}"
     )?;
+    Ok(())
+}
+
+fn show_relay<R, W>(rt: &R, out: &mut W) -> Result<(), Error>
+where
+    R: Wait + RandomSource + AllocGlobal + Clone + Send + Drop + 'static,
+    W: Write,
+{
+    let (relayed, turns) = relay::relay_one(rt, &message(rt.alloc())?)?;
+    writeln!(out, "relay: {relayed:?}\nits engine: {turns:?}")?;
     Ok(())
 }
 

@@ -11,12 +11,15 @@ const INBOX: &[u8] = b"inbox";
 
 const ENGINE: &[u8] = b"engine";
 
+const RELAY: &[u8] = b"relay";
+
 /// What is called.
 #[derive(Clone, Copy)]
 pub enum Part {
     Core,
     Inbox,
     Engine,
+    Relay,
 }
 
 /// What is called, and how.
@@ -27,7 +30,7 @@ pub struct Settings<'a> {
     pub deque_size: usize,
     /// The number of places in a ready list.
     pub places: NonZeroUsize,
-    /// The greatest length that is decoded, or the byte budget of a core.
+    /// The greatest length that is decoded, or the byte budget of a core and of a relay.
     pub greatest: usize,
     /// A letter or a digit for each step.
     pub steps: &'a [u8],
@@ -62,6 +65,9 @@ fn part_of(word: &[u8]) -> Option<Part> {
     }
     if word == ENGINE {
         return Some(Part::Engine);
+    }
+    if word == RELAY {
+        return Some(Part::Relay);
     }
     None
 }
