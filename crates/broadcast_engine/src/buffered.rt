@@ -9,8 +9,10 @@ pub mod threaded;
 pub mod worker;
 
 pub use commonware_broadcast::buffered::{
-    Counts, Fixed, Get, Inbox, Incoming, Ingress, Mailbox, Message, Overflow, Pending, Policy,
-    Queued, Reply, Request, Responder, Stopper, Subscription, channel, ticket_law,
+    Account, All, Bookkeeping, Books, Broadcasts, Counts, Fixed, Get, Inbox, Incoming, Ingress,
+    Kind, Mailbox, Message, Overflow, Pending, Policy, Queued, Reply, Request, Responder, Settled,
+    Stopper, Subscription, Taker, Tally, Watch, WatchedEnds, WatchedMailbox, channel, ticket_law,
+    watched_channel,
 };
 pub use config::Config;
 pub use engine::{
@@ -20,9 +22,9 @@ pub use engine_io::{
     Counter, Direct, EndCause, Input, Metrics, NetworkFailed, Outlet, Provider, Receiver, Requests,
     Sender, Sequencer, Status, Turn,
 };
-pub use front::MailboxEngine;
+pub use front::{MailboxEngine, WatchedEngine, WatchedNode};
 pub use gate::{Gate, Open};
-pub use started::{Handle, Prepared};
+pub use started::{Handle, MailboxReport, Prepared};
 pub use strategy::{Done, Job, Sequential, Strategy};
 pub use threaded::{Threaded, Working};
 pub use worker::{DigestOf, Work, Worker};

@@ -1,12 +1,9 @@
 -- What becomes of subscriptions.
-use Rattle.std.specs.Prelude.{ℕ, ◌+◌, ◌-◌, ◌^◌, List, min, sum_by}
+use Rattle.std.specs.Prelude.{◌+◌, List, sum_by}
+use Rattle.commonware_broadcast.specs.Account.{capped}
 use Rattle.cluster_lib.specs.declared.fault.Fault.{Fault}
 use Rattle.cluster_lib.specs.declared.fault.Fault.TheVariants.{Missed}
 use Rattle.cluster_lib.specs.declared.row.Row.{Row}
-
--- a number as far as 64 bits go
-abbrev pub capped : ℕ → ℕ
-capped n = min n (2 ^ 64 - 1)
 
 -- how many were missed, and how many there were
 abbrev pub missed_of : List Row → Fault

@@ -1,13 +1,13 @@
 //! The client of a node.
 use crate::fault::Fault;
-use crate::message::{Digest, broadcast};
-use crate::run::wait_until;
+use crate::message::message_with_digest;
 use crate::settings::Settings;
+use crate::shared::Shared;
+use crate::tally::{Counting, WholeTally};
 use broadcast_core::TestMessage;
-use broadcast_engine::buffered::{Mailbox, Subscription};
+use broadcast_engine::buffered::{Account, Bookkeeping, Mailbox, Subscription};
 use std::alloc::AllocGlobal;
 use std::random::RandomSource;
-use std::sync::atomic::{AtomicU64, Ordering};
 use std::sync::{Arc, Wait};
 use std::time::Clock;
 
@@ -20,24 +20,13 @@ pub struct Seen {
     pub evicted: u64,
 }
 
-/// What all clients share.
-#[derive(Drop)]
-pub struct Shared {
-    /// The digests of the messages of all nodes.
-    pub digests: Vec<Digest>,
-    /// How many clients have subscribed.
-    pub subscribed: AtomicU64,
-    /// How many clients have finished.
-    pub finished: AtomicU64,
-}
-
 /// The client of a node, which it reaches through a mailbox.
 #[derive(Drop)]
-pub struct Client<R> {
+pub struct Client<R, A: Bookkeeping> {
     /// The key of its node.
     pub key: u64,
     /// The mailbox of its node.
-    pub mailbox: Mailbox<u64, TestMessage, R>,
+    pub mailbox: Mailbox<u64, TestMessage, R, A>,
     /// The messages of all nodes.
     pub settings: Settings,
     /// What it shares with the other clients.
@@ -46,41 +35,57 @@ pub struct Client<R> {
     pub rt: R,
 }
 
-impl<R> Client<R>
+impl<R, A, K> Client<R, Counting<A, K>>
 where
-    R: Wait + Clock + RandomSource + AllocGlobal + Clone + Send + 'static,
+    R: Wait + Clock + RandomSource + AllocGlobal,
+    A: Account,
+    K: Account,
 {
-    /// Does all that the client does, and counts itself as finished.
-    pub fn run(&self) -> Result<Seen, Fault> {
-        let seen = self.see();
-        self.shared.finished.fetch_add(1, Ordering::SeqCst);
-        seen
+    /// Does all that the client does, and counts itself as finished. If it fails or a subscription
+    /// was not served, all nodes and clients end. Returns its tally, and what it saw.
+    pub fn run(&self, tally: WholeTally<A>) -> (WholeTally<A>, Result<Seen, Fault>) {
+        let mut tally = tally;
+        let seen = self.see(&mut tally);
+        match &seen {
+            Ok(seen) if seen.served == self.settings.subscriptions() => {
+                self.shared.count_finished();
+            }
+            _ => self.shared.fail(),
+        }
+        (tally, seen)
     }
 
     /// Subscribes to the messages of all nodes, and once all clients have, broadcasts those of its
     /// own node. Waits for all subscriptions, and then asks for each message.
-    fn see(&self) -> Result<Seen, Fault> {
-        let waiting = self.subscribe_all();
-        self.shared.subscribed.fetch_add(1, Ordering::SeqCst);
-        wait_until(&self.rt, &self.shared.subscribed, self.settings.nodes);
-        let served = self.exchange(waiting?)?;
-        let evicted = self.count_missing()?;
+    fn see(&self, tally: &mut WholeTally<A>) -> Result<Seen, Fault> {
+        let waiting = self.subscribe_all(tally)?;
+        self.shared.count_subscribed();
+        self.shared.wait_for_subscribed(&self.rt);
+        let served = self.exchange(tally, waiting)?;
+        let evicted = self.count_missing(tally)?;
         Ok(Seen { served, evicted })
     }
 
     /// Subscribes to the messages of all nodes.
-    fn subscribe_all(&self) -> Result<Vec<Subscription<TestMessage>>, Fault> {
+    fn subscribe_all(
+        &self,
+        tally: &mut WholeTally<A>,
+    ) -> Result<Vec<Subscription<TestMessage>>, Fault> {
         let mut waiting = Vec::new(self.rt.alloc());
         for digest in &self.shared.digests {
-            waiting.push(self.mailbox.subscribe(*digest)?)?;
+            waiting.push(tally.subscribe(&self.mailbox, *digest)?)?;
         }
         Ok(waiting)
     }
 
     /// Broadcasts the messages of its own node, and waits for the subscriptions. Returns how many
     /// were served.
-    fn exchange(&self, waiting: Vec<Subscription<TestMessage>>) -> Result<u64, Fault> {
-        match self.broadcast_own() {
+    fn exchange(
+        &self,
+        tally: &mut WholeTally<A>,
+        waiting: Vec<Subscription<TestMessage>>,
+    ) -> Result<u64, Fault> {
+        match self.broadcast_own(tally) {
             Ok(()) => Ok(wait_all(&self.rt, waiting)),
             Err(fault) => {
                 drop::<_>(waiting);
@@ -90,18 +95,19 @@ where
     }
 
     /// Broadcasts the messages of its own node.
-    fn broadcast_own(&self) -> Result<(), Fault> {
+    fn broadcast_own(&self, tally: &mut WholeTally<A>) -> Result<(), Fault> {
         for number in 1..=self.settings.messages {
-            let _feedback = broadcast(&self.rt, &self.mailbox, self.key, number)?;
+            let message = message_with_digest(self.rt.alloc(), self.key, number)?;
+            let _feedback = tally.broadcast(&self.mailbox, message)?;
         }
         Ok(())
     }
 
     /// Returns how many of the messages of all nodes its node does not have.
-    fn count_missing(&self) -> Result<u64, Fault> {
+    fn count_missing(&self, tally: &mut WholeTally<A>) -> Result<u64, Fault> {
         let mut missing = 0u64;
         for digest in &self.shared.digests {
-            if self.mailbox.get(*digest)?.wait(&self.rt).is_none() {
+            if tally.get(&self.mailbox, *digest)?.wait(&self.rt).is_none() {
                 missing = missing.saturating_add(1);
             }
         }

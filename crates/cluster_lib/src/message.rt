@@ -1,7 +1,7 @@
 //! The messages that the program's nodes broadcast.
 use crate::fault::Fault;
 use broadcast_core::{Digested, Digestible, Recipients, TestMessage};
-use broadcast_engine::buffered::Mailbox;
+use broadcast_engine::buffered::{Bookkeeping, Mailbox};
 use commonware_broadcast::{Broadcaster, Feedback};
 use std::alloc::{AllocError, AllocGlobal, Global};
 use std::sync::Wait;
@@ -44,17 +44,26 @@ fn append_digests(
     Ok(())
 }
 
-/// Broadcasts the message of the node with this number through the mailbox.
-pub fn broadcast<R>(
+/// Returns the message of the node with this number, and its digest.
+pub fn message_with_digest(
+    alloc: Global,
+    node: u64,
+    number: u64,
+) -> Result<Digested<TestMessage>, AllocError> {
+    Digested::compute(alloc, message_of(alloc, node, number)?)
+}
+
+/// Broadcasts the message of the node with this number through the mailbox, without a tally.
+pub fn broadcast<R, A>(
     rt: &R,
-    mailbox: &Mailbox<u64, TestMessage, R>,
+    mailbox: &Mailbox<u64, TestMessage, R, A>,
     node: u64,
     number: u64,
 ) -> Result<Feedback, Fault>
 where
     R: Wait + AllocGlobal + Clone + Send + 'static,
+    A: Bookkeeping + Send + 'static,
 {
-    let alloc = rt.alloc();
-    let message = Digested::compute(alloc, message_of(alloc, node, number)?)?;
+    let message = message_with_digest(rt.alloc(), node, number)?;
     Ok(mailbox.broadcast(Recipients::All, message)?)
 }

@@ -1,47 +1,58 @@
 //! A node whose engine runs in a thread.
+ghost use Rattle.std.specs.Prelude.{◌≡◌, IfOk};
+ghost use Rattle.std.specs.NonZero.{non_zero_u32_get};
+ghost use Rattle.commonware_broadcast.specs.Account.{TallyState};
+
 use crate::network::{Inbound, Mail, Outbound, PeerSets};
 use broadcast_core::{Codec, Digestible};
 use broadcast_engine::buffered::{
-    Config, Engine, Handle, Mailbox, MailboxEngine, Report, StartError, Strategy,
+    Account, All, Bookkeeping, Books, Config, Engine, Handle, Mailbox, MailboxEngine,
+    MailboxReport, StartError, Strategy, Tally, WatchedNode,
 };
 use std::alloc::{AllocError, AllocGlobal};
-use std::num::NonZeroUsize;
+use std::num::{NonZeroU32, NonZeroUsize};
 use std::random::RandomSource;
+use std::sync::ledger::Blank;
 use std::sync::{Arc, Wait};
 use std::thread::Threads;
 
 /// An engine over a network in memory.
-pub type NodeEngine<M, T, R> = MailboxEngine<u64, M, PeerSets<R>, T, R>;
+pub type NodeEngine<M, T, R, A = ()> = MailboxEngine<u64, M, PeerSets<R>, T, R, A>;
 
 /// A node whose engine runs in a thread of its own.
 #[derive(Drop)]
-pub struct Node<M: Digestible, R> {
+pub struct Node<M: Digestible, R, A: Bookkeeping = ()> {
     /// The mailbox of its callers.
-    pub mailbox: Mailbox<u64, M, R>,
+    pub mailbox: Mailbox<u64, M, R, A>,
     /// What it takes.
     pub mail: Arc<Mail>,
     /// Its engine.
-    pub handle: Handle<u64, M, R>,
+    pub handle: Handle<u64, M, R, A>,
 }
 
-impl<M: Digestible, R: Threads + Wait + Drop> Node<M, R> {
+impl<M, R, A> Node<M, R, A>
+where
+    M: Digestible,
+    R: Threads + Wait + Drop,
+    A: Bookkeeping,
+{
     /// Waits for the end of the engine. Returns what it leaves.
-    pub fn join(self, rt: &R) -> Report<u64> {
+    pub fn join(self, rt: &R) -> MailboxReport<u64, M, R, A> {
         let Node { handle, .. } = self;
         handle.join(rt)
     }
 }
 
 /// A node that was started, or the mailbox of one whose engine was not, and why.
-pub type Started<M, R> = Result<Node<M, R>, (Mailbox<u64, M, R>, StartError)>;
+pub type Started<M, R, A = ()> = Result<Node<M, R, A>, (Mailbox<u64, M, R, A>, StartError)>;
 
 /// A node whose engine is not started yet.
 #[derive(Drop)]
-pub struct Prepared<M: Digestible + Codec, T: Strategy<M>, R: Wait> {
+pub struct Prepared<M: Digestible + Codec, T: Strategy<M>, R: Wait, A: Bookkeeping = ()> {
     /// Its engine.
-    pub engine: NodeEngine<M, T, R>,
+    pub engine: NodeEngine<M, T, R, A>,
     /// The mailbox of its callers.
-    pub mailbox: Mailbox<u64, M, R>,
+    pub mailbox: Mailbox<u64, M, R, A>,
     /// What it takes.
     pub mail: Arc<Mail>,
     /// The ends of its network.
@@ -68,19 +79,43 @@ where
         T: Drop,
         R: AllocGlobal + Clone + Drop,
     {
+        let config = config(rt, codec_config, strategy, mail, deque_size)?;
+        let (engine, mailbox) = Engine::new(rt.clone()?, rt.alloc(), config)?;
+        Prepared::over(rt, engine, mailbox, mail, others)
+    }
+}
+
+impl<M, T, R, A> Prepared<M, T, R, A>
+where
+    M: Digestible + Codec,
+    T: Strategy<M>,
+    R: Wait,
+    A: Bookkeeping,
+{
+    /// Prepares the node of this mail, engine and mailbox, which sends to the others.
+    pub fn over(
+        rt: &R,
+        engine: NodeEngine<M, T, R, A>,
+        mailbox: Mailbox<u64, M, R, A>,
+        mail: &Arc<Mail>,
+        others: Vec<Arc<Mail>>,
+    ) -> Result<Self, AllocError>
+    where
+        M::Cfg: Drop,
+        T: Drop,
+        R: Clone + Drop,
+    {
         let network = network(rt, mail, others)?;
-        let own = Arc::try_clone(mail)?;
-        let (engine, mailbox) = engine(rt, codec_config, strategy, mail, deque_size)?;
         Ok(Prepared {
             engine,
             mailbox,
-            mail: own,
+            mail: Arc::try_clone(mail)?,
             network,
         })
     }
 
     /// Starts the engine.
-    pub fn start(self, rt: &R) -> Started<M, R>
+    pub fn start(self, rt: &R) -> Started<M, R, A>
     where
         M: Send + Sync + 'static,
         M::Digest: 'static,
@@ -88,6 +123,8 @@ where
         T: Send + Drop + 'static,
         T::Job: Send + 'static,
         R: Threads + RandomSource + AllocGlobal + Clone + Send + Sync + Drop + 'static,
+        A: Send + 'static,
+        A::Taker: Send + 'static,
     {
         let Prepared {
             engine,
@@ -128,33 +165,96 @@ where
     Ok(prepared.start(rt))
 }
 
-/// Creates the engine of a node, and its mailbox.
-fn engine<M, T, R>(
+/// Starts the node of this mail, engine and mailbox, which sends to the others. Fails if there is
+/// no memory for its network.
+pub fn start_over<M, T, R, A>(
     rt: &R,
-    codec_config: M::Cfg,
+    engine: NodeEngine<M, T, R, A>,
+    mailbox: Mailbox<u64, M, R, A>,
+    mail: &Arc<Mail>,
+    others: Vec<Arc<Mail>>,
+) -> Result<Started<M, R, A>, AllocError>
+where
+    M: Digestible + Codec + Send + Sync + 'static,
+    M::Digest: 'static,
+    M::Cfg: Send + Drop + 'static,
+    T: Strategy<M> + Send + Drop + 'static,
+    T::Job: Send + 'static,
+    R: Threads + Wait + RandomSource + AllocGlobal + Clone + Send + Sync + Drop + 'static,
+    A: Bookkeeping + Send + 'static,
+    A::Taker: Send + 'static,
+{
+    let prepared = Prepared::over(rt, engine, mailbox, mail, others)?;
+    Ok(prepared.start(rt))
+}
+
+/// A node whose mailbox counts every tallied request, if it was started, with its tally.
+pub type Counted<M, R, A, K> = (
+    Started<M, R, Books<A, K, All, <M as Digestible>::Digest>>,
+    Tally<A>,
+);
+
+/// Starts the node of this mail, which sends to the others, and whose mailbox counts every tallied
+/// request. Fails if there is no memory for its engine.
+pub fn start_counting<M, T, R, A, K>(
+    rt: &R,
+    config: Config<u64, M::Cfg, PeerSets<R>, T>,
+    mail: &Arc<Mail>,
+    others: Vec<Arc<Mail>>,
+    parts: NonZeroU32,
+    accepted: Blank,
+    taken: Blank,
+) -> Result<Counted<M, R, A, K>, AllocError>
+where
+    M: Digestible + Codec + Send + Sync + 'static,
+    M::Digest: 'static,
+    M::Cfg: Send + Drop + 'static,
+    T: Strategy<M> + Send + Drop + 'static,
+    T::Job: Send + 'static,
+    R: Threads + Wait + RandomSource + AllocGlobal + Clone + Send + Sync + Drop + 'static,
+    A: Account + Send + Sync + 'static,
+    K: Account + Send + Sync + 'static,
+    requires accepted { (accepted.name ≡ A.name) × (accepted.parts ≡ A.parts) }
+    requires parts { (A.all ≡ A.parts) × (A.parts ≡ non_zero_u32_get parts) }
+    requires taken { (taken.name ≡ K.name) × (taken.parts ≡ K.parts) }
+    requires one { (K.all ≡ K.parts) × (K.parts ≡ 1) }
+    ensures { IfOk result (λ counted. counted.1.parts ≡ A.all) }
+{
+    let node: WatchedNode<u64, M, PeerSets<R>, T, R, A, K, All> = Engine::new_watched(
+        rt.clone()?,
+        rt.alloc(),
+        config,
+        parts,
+        accepted,
+        taken,
+    )?;
+    let (engine, mailbox, tally) = node;
+    Ok((start_over(rt, engine, mailbox, mail, others)?, tally))
+}
+
+/// Creates the configuration of the engine of this mail's node.
+pub fn config<C, T, R>(
+    rt: &R,
+    codec_config: C,
     strategy: T,
     mail: &Arc<Mail>,
     deque_size: usize,
-) -> Result<(NodeEngine<M, T, R>, Mailbox<u64, M, R>), AllocError>
+) -> Result<Config<u64, C, PeerSets<R>, T>, AllocError>
 where
-    M: Digestible + Codec,
-    M::Cfg: Drop,
-    T: Strategy<M> + Drop,
-    R: Wait + AllocGlobal + Clone + Drop,
+    C: Drop,
+    T: Drop,
+    R: Clone + Drop,
 {
-    let peer_provider = peer_sets(rt, mail)?;
-    let own = rt.clone()?;
-    let config = Config {
+    Ok(Config {
         public_key: mail.key,
         mailbox_size: NonZeroUsize::MIN,
         deque_size,
         byte_budget: u64::MAX,
         priority: false,
         codec_config,
-        peer_provider,
+        peer_provider: peer_sets(rt, mail)?,
         strategy,
-    };
-    Engine::new(own, rt.alloc(), config)
+    })
 }
 
 /// Creates what gives a node its peer sets.

@@ -1,88 +1,127 @@
 //! A run of a cluster.
-use crate::client::{Client, Seen, Shared};
 use crate::fault::Fault;
-use crate::message::{broadcast, digests_of, message_of};
+use crate::message::message_of;
 use crate::network::Mail;
-use crate::node::{Node, start};
 use crate::row::Row;
+use crate::session::{NodeSession, Played, STRANGER};
 use crate::settings::Settings;
-use broadcast_core::{CodecError, Items, RangeCfg, Set, TestMessage, Write};
-use broadcast_engine::buffered::{Mailbox, Sequential, StartError};
-use commonware_broadcast::Feedback;
+use crate::settlement::Settlement;
+use crate::shared::Shared;
+use broadcast_core::{CodecError, Items, Set, Write};
 use std::alloc::{AllocError, AllocGlobal, Global};
 use std::random::RandomSource;
-use std::sync::atomic::{AtomicU64, Ordering};
 use std::sync::{Arc, Wait};
 use std::thread::{self, JoinHandle, Threads};
-use std::time::{Clock, Duration};
+use std::time::Clock;
 
-/// A key that no node has, and that no node admits.
-const STRANGER: u64 = 0;
+/// The result of a node's thread.
+type Outcome = Result<Played, Fault>;
 
-/// How often the clients are looked at, a millisecond apart, before the nodes are stopped.
-const LOOKS: u64 = 60_000;
-
-/// The result of a client's thread.
-type Outcome = Result<Seen, Fault>;
-
-/// Runs the nodes of the keys from 1, each in a thread, with a client each in another. Stops them
-/// once all clients have finished, or after a minute. Returns what became of each node.
-pub fn run<R>(rt: &R, settings: Settings) -> Result<Vec<Row>, Fault>
-where
-    R: Threads + Wait + Clock + RandomSource + AllocGlobal + Clone + Send + Sync + Drop + 'static,
-{
-    let mails = mails(rt, settings.nodes)?;
-    let nodes = start_nodes(rt, settings, &mails);
-    drop::<_>(mails);
-    run_nodes(rt, settings, nodes?)
+/// What became of the nodes of a run.
+#[derive(Drop)]
+pub struct Ended {
+    /// What became of each node.
+    pub rows: Vec<Row>,
+    /// What became of the requests of each node's client.
+    pub settlements: Vec<Settlement>,
 }
 
-/// Lets the clients of started nodes run, and stops the nodes once all clients have finished, or
-/// after a minute. Returns what became of each node.
-fn run_nodes<R>(
-    rt: &R,
-    settings: Settings,
-    nodes: Vec<Node<TestMessage, R>>,
-) -> Result<Vec<Row>, Fault>
+/// Runs the nodes of the keys from 1, each with a client. Stops them once all clients have
+/// finished, or one has failed, or after a minute. Returns what became of the nodes.
+pub fn run<R>(rt: &R, settings: Settings) -> Result<Ended, Fault>
 where
     R: Threads + Wait + Clock + RandomSource + AllocGlobal + Clone + Send + Sync + Drop + 'static,
 {
-    let clients = run_clients(rt, settings, &nodes);
-    stop_all(&nodes);
-    match clients {
-        Ok(clients) => rows(rt, settings, nodes, clients),
-        Err(fault) => {
-            drop::<_>(nodes);
-            Err(fault)
+    let shared = Arc::new(rt.alloc(), Shared::new(rt.alloc(), settings)?)?;
+    let mails = mails(rt, settings.nodes)?;
+    let mut threads = Vec::new(rt.alloc());
+    let started = start_all(rt, settings, &shared, &mails, &mut threads);
+    if started.is_err() {
+        shared.fail();
+    }
+    let ended = join_all(rt, threads);
+    started?;
+    ended
+}
+
+/// Starts a thread for each node, and appends it.
+fn start_all<R>(
+    rt: &R,
+    settings: Settings,
+    shared: &Arc<Shared>,
+    mails: &[Arc<Mail>],
+    threads: &mut Vec<JoinHandle<Outcome>>,
+) -> Result<(), Fault>
+where
+    R: Threads + Wait + Clock + RandomSource + AllocGlobal + Clone + Send + Sync + Drop + 'static,
+{
+    for mail in mails {
+        threads.reserve(1)?;
+        let session = NodeSession {
+            mail: Arc::try_clone(mail)?,
+            others: others(rt.alloc(), mail.key, mails)?,
+            settings,
+            shared: Arc::try_clone(shared)?,
+            rt: rt.clone()?,
+        };
+        threads.push_reserved(start(rt, shared, session)?);
+    }
+    Ok(())
+}
+
+/// Starts the thread of a node. If there is none, the session runs on the calling thread, and ends
+/// at once.
+fn start<R>(rt: &R, shared: &Shared, session: NodeSession<R>) -> Result<JoinHandle<Outcome>, Fault>
+where
+    R: Threads + Wait + Clock + RandomSource + AllocGlobal + Clone + Send + Sync + Drop + 'static,
+{
+    match thread::spawn(rt, move || session.play()) {
+        Ok(thread) => Ok(thread),
+        Err(refused) => {
+            shared.fail();
+            let play = refused.value;
+            Err(play().err().unwrap_or(Fault::Thread))
         }
     }
 }
 
-/// Starts the clients, and waits until all have finished, or for a minute.
-fn run_clients<R>(
-    rt: &R,
-    settings: Settings,
-    nodes: &[Node<TestMessage, R>],
-) -> Result<Vec<JoinHandle<Outcome>>, Fault>
+/// Joins the threads of the nodes, also after one of them failed. Returns what became of the nodes,
+/// or the fault of the first that failed.
+fn join_all<R>(rt: &R, threads: Vec<JoinHandle<Outcome>>) -> Result<Ended, Fault>
 where
-    R: Threads + Wait + Clock + RandomSource + AllocGlobal + Clone + Send + Sync + Drop + 'static,
+    R: Threads + AllocGlobal,
 {
-    let shared = shared(rt.alloc(), settings)?;
-    let clients = start_clients(rt, settings, nodes, &shared);
-    if clients.is_ok() {
-        wait_until(rt, &shared.finished, settings.nodes);
+    let mut ended = Ended {
+        rows: Vec::new(rt.alloc()),
+        settlements: Vec::new(rt.alloc()),
+    };
+    let mut outcome = Ok(());
+    for thread in threads {
+        outcome = outcome.and(append(thread.join(rt), &mut ended));
     }
-    clients
+    match outcome {
+        Ok(()) => Ok(ended),
+        Err(fault) => Err(fault),
+    }
 }
 
-/// Creates what the clients share.
-fn shared(alloc: Global, settings: Settings) -> Result<Arc<Shared>, AllocError> {
-    let shared = Shared {
-        digests: digests_of(alloc, settings.nodes, settings.messages)?,
-        subscribed: AtomicU64::new(0),
-        finished: AtomicU64::new(0),
-    };
-    Ok(Arc::new(alloc, shared)?)
+/// Appends what became of a node.
+fn append(outcome: Outcome, ended: &mut Ended) -> Result<(), Fault> {
+    let Played { row, settlement } = outcome?;
+    ended.rows.push(row)?;
+    ended.settlements.push(settlement)?;
+    Ok(())
+}
+
+/// Returns the mail of all nodes but one.
+fn others(alloc: Global, key: u64, mails: &[Arc<Mail>]) -> Result<Vec<Arc<Mail>>, AllocError> {
+    let mut others = Vec::new(alloc);
+    for mail in mails {
+        if mail.key != key {
+            others.push(Arc::try_clone(mail)?)?;
+        }
+    }
+    Ok(others)
 }
 
 /// Creates the mail of each node: all nodes are its peers, and a stranger has sent it a message,
@@ -139,187 +178,4 @@ fn encoded(alloc: Global, number: u64) -> Result<Vec<u8>, CodecError> {
     let mut bytes = Vec::new(alloc);
     message_of(alloc, STRANGER, number)?.write(&mut bytes)?;
     Ok(bytes)
-}
-
-/// Starts the nodes. If one can't be started, those before it are stopped.
-fn start_nodes<R>(
-    rt: &R,
-    settings: Settings,
-    mails: &[Arc<Mail>],
-) -> Result<Vec<Node<TestMessage, R>>, Fault>
-where
-    R: Threads + Wait + RandomSource + AllocGlobal + Clone + Send + Sync + Drop + 'static,
-{
-    let mut nodes = Vec::new(rt.alloc());
-    for mail in mails {
-        if let Err(fault) = start_node(rt, settings, mail, mails, &mut nodes) {
-            stop_all(&nodes);
-            return Err(fault);
-        }
-    }
-    Ok(nodes)
-}
-
-/// Starts the node of the mail, and appends it.
-fn start_node<R>(
-    rt: &R,
-    settings: Settings,
-    mail: &Arc<Mail>,
-    mails: &[Arc<Mail>],
-    nodes: &mut Vec<Node<TestMessage, R>>,
-) -> Result<(), Fault>
-where
-    R: Threads + Wait + RandomSource + AllocGlobal + Clone + Send + Sync + Drop + 'static,
-{
-    nodes.reserve(1)?;
-    let others = others(rt.alloc(), mail.key, mails)?;
-    let size = settings.deque_size;
-    match start(rt, RangeCfg::any(), Sequential, mail, others, size)? {
-        Ok(node) => {
-            nodes.push_reserved(node);
-            Ok(())
-        }
-        Err((mailbox, error)) => Err(not_started(rt, &mailbox, error)),
-    }
-}
-
-/// Returns the fault of a node that was not started. Its mailbox must be closed.
-fn not_started<R>(rt: &R, mailbox: &Mailbox<u64, TestMessage, R>, error: StartError) -> Fault
-where
-    R: Wait + AllocGlobal + Clone + Send + 'static,
-{
-    match broadcast(rt, mailbox, STRANGER, 1) {
-        Ok(Feedback::Closed) => Fault::from(error),
-        Ok(Feedback::Ok | Feedback::Backoff) => Fault::Open,
-        Err(fault) => fault,
-    }
-}
-
-/// Returns the mail of all nodes but one.
-fn others(alloc: Global, key: u64, mails: &[Arc<Mail>]) -> Result<Vec<Arc<Mail>>, AllocError> {
-    let mut others = Vec::new(alloc);
-    for mail in mails {
-        if mail.key != key {
-            others.push(Arc::try_clone(mail)?)?;
-        }
-    }
-    Ok(others)
-}
-
-/// Starts a client for each node.
-fn start_clients<R>(
-    rt: &R,
-    settings: Settings,
-    nodes: &[Node<TestMessage, R>],
-    shared: &Arc<Shared>,
-) -> Result<Vec<JoinHandle<Outcome>>, Fault>
-where
-    R: Threads + Wait + Clock + RandomSource + AllocGlobal + Clone + Send + Sync + Drop + 'static,
-{
-    let mut clients = Vec::new(rt.alloc());
-    for node in nodes {
-        clients.reserve(1)?;
-        clients.push_reserved(start_client(rt, settings, node, shared)?);
-    }
-    Ok(clients)
-}
-
-/// Starts the client of a node.
-fn start_client<R>(
-    rt: &R,
-    settings: Settings,
-    node: &Node<TestMessage, R>,
-    shared: &Arc<Shared>,
-) -> Result<JoinHandle<Outcome>, Fault>
-where
-    R: Threads + Wait + Clock + RandomSource + AllocGlobal + Clone + Send + Sync + Drop + 'static,
-{
-    let client = client_of(rt, settings, node, shared)?;
-    match thread::spawn(rt, move || client.run()) {
-        Ok(thread) => Ok(thread),
-        Err(_) => Err(Fault::Thread),
-    }
-}
-
-/// Creates the client of a node.
-fn client_of<R>(
-    rt: &R,
-    settings: Settings,
-    node: &Node<TestMessage, R>,
-    shared: &Arc<Shared>,
-) -> Result<Client<R>, AllocError>
-where
-    R: Clone + Drop,
-{
-    Ok(Client {
-        key: node.mail.key,
-        mailbox: node.mailbox.clone()?,
-        settings,
-        shared: Arc::try_clone(shared)?,
-        rt: rt.clone()?,
-    })
-}
-
-/// Waits until this many clients have counted themselves, or for a minute.
-pub(crate) fn wait_until(rt: &impl Clock, counted: &AtomicU64, clients: u64) {
-    for _ in 0..LOOKS {
-        if counted.load(Ordering::SeqCst) >= clients {
-            return;
-        }
-        thread::sleep(rt, Duration::from_millis(1));
-    }
-}
-
-/// Asks all nodes to stop.
-fn stop_all<R>(nodes: &[Node<TestMessage, R>])
-where
-    R: Threads + Wait + Drop,
-{
-    for node in nodes {
-        node.handle.stop();
-    }
-}
-
-/// Joins the nodes, which were asked to stop, and their clients, also after one of them failed.
-/// Returns what became of each node, or the fault of the first client that failed.
-fn rows<R>(
-    rt: &R,
-    settings: Settings,
-    nodes: Vec<Node<TestMessage, R>>,
-    clients: Vec<JoinHandle<Outcome>>,
-) -> Result<Vec<Row>, Fault>
-where
-    R: Threads + Wait + AllocGlobal + Drop,
-{
-    let mut rows = Vec::new(rt.alloc());
-    let mut outcome = Ok(());
-    for (node, client) in nodes.into_iter().zip(clients) {
-        outcome = outcome.and(append_row(rt, settings, node, client, &mut rows));
-    }
-    match outcome {
-        Ok(()) => Ok(rows),
-        Err(fault) => Err(fault),
-    }
-}
-
-/// Joins a node, which was asked to stop, and its client. Appends what became of the node.
-fn append_row<R>(
-    rt: &R,
-    settings: Settings,
-    node: Node<TestMessage, R>,
-    client: JoinHandle<Outcome>,
-    rows: &mut Vec<Row>,
-) -> Result<(), Fault>
-where
-    R: Threads + Wait + AllocGlobal + Drop,
-{
-    let key = node.mail.key;
-    let report = node.join(rt);
-    match client.join(rt) {
-        Ok(seen) => {
-            let row = Row::new(key, report.metrics(), seen, settings.subscriptions());
-            rows.push(row).map_err(|_| Fault::Memory)
-        }
-        Err(fault) => Err(fault),
-    }
 }

@@ -1,7 +1,7 @@
 //! The arguments of the program.
 ghost use Rattle.std.specs.Prelude.{◌≡◌, ◌*◌, IfSome, Some, map, string_bytes};
+ghost use Rattle.commonware_broadcast.specs.Account.{capped};
 ghost use Rattle.cluster_lib.specs.Arguments.{IsAllowed, words_of};
-ghost use Rattle.cluster_lib.specs.Rows.{capped};
 
 use crate::fault::Fault;
 use broadcast_text::words::parse_number;

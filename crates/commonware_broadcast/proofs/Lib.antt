@@ -5,3 +5,6 @@ pub mod Refilling
 pub mod Queues
 pub mod TicketCounts
 pub mod TicketRuns
+pub mod Counted
+pub mod Skipping
+pub mod Watching

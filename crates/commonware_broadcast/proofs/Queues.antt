@@ -19,10 +19,10 @@ module _ {T : Type 0} where
       ]
 
   -- one more request in the ready list
-  pub IsSound-ready : (queue : QueueState T) (ready : List (Request T)) (message : T) → IsSound queue → Draws queue queue.next → HasRoom queue → ready ≡ queue.ready ++ record { ticket = queue.next; message = message; counted = false } ∷ []
+  pub IsSound-ready : (queue : QueueState T) (ready : List (Request T)) (message : T) (counted : Bool) → IsSound queue → Draws queue queue.next → HasRoom queue → ready ≡ queue.ready ++ record { ticket = queue.next; message = message; counted = counted } ∷ []
       → IsSound (record queue { ready = ready; next = queue.next + 1 })
-  IsSound-ready queue ready message sound draws room is =
-      let request : Request T = record { ticket = queue.next; message = message; counted = false } in
+  IsSound-ready queue ready message counted sound draws room is =
+      let request : Request T = record { ticket = queue.next; message = message; counted = counted } in
       let all : waiting queue ≡ queue.ready = ap (λ (xs : List (Request T)). queue.ready ++ xs) room.0 ∙ append-nil queue.ready in
       let more : ready ++ queue.overflow ≡ waiting queue ++ request ∷ [] =
       ap (λ (xs : List (Request T)). ready ++ xs) room.0 ∙ append-nil ready ∙ is ∙ ap (λ (xs : List (Request T)). xs ++ request ∷ []) (sym all) in
@@ -36,16 +36,16 @@ module _ {T : Type 0} where
       }
 
   -- one more request in the ready list, pushed with no error
-  pub IsSound-pushed : {E : Type 0} (queue : QueueState T) (ready : List (Request T)) (message : T) (r : Result Unit E)
-      → IsSound queue → Draws queue queue.next → HasRoom queue → false ≡ is_err r → ready ≡ cond (is_ok r) (queue.ready ++ record { ticket = queue.next; message = message; counted = false } ∷ []) queue.ready
+  pub IsSound-pushed : {E : Type 0} (queue : QueueState T) (ready : List (Request T)) (message : T) (counted : Bool) (r : Result Unit E)
+      → IsSound queue → Draws queue queue.next → HasRoom queue → false ≡ is_err r → ready ≡ cond (is_ok r) (queue.ready ++ record { ticket = queue.next; message = message; counted = counted } ∷ []) queue.ready
       → IsSound (record queue { ready = ready; next = queue.next + 1 })
-  IsSound-pushed queue ready message r sound draws room fine is = IsSound-ready queue ready message sound draws room (chosen-ok r _ _ _ fine is)
+  IsSound-pushed queue ready message counted r sound draws room fine is = IsSound-ready queue ready message counted sound draws room (chosen-ok r _ _ _ fine is)
 
   -- one more request in the overflow
-  pub IsSound-overflow : (queue : QueueState T) (overflow : List (Request T)) (message : T) → IsSound queue → Draws queue queue.next → (¬ HasRoom queue) → overflow ≡ queue.overflow ++ record { ticket = queue.next; message = message; counted = false } ∷ []
+  pub IsSound-overflow : (queue : QueueState T) (overflow : List (Request T)) (message : T) (counted : Bool) → IsSound queue → Draws queue queue.next → (¬ HasRoom queue) → overflow ≡ queue.overflow ++ record { ticket = queue.next; message = message; counted = counted } ∷ []
       → IsSound (record queue { overflow = overflow; next = queue.next + 1 })
-  IsSound-overflow queue overflow message sound draws no_room is =
-      let request : Request T = record { ticket = queue.next; message = message; counted = false } in
+  IsSound-overflow queue overflow message counted sound draws no_room is =
+      let request : Request T = record { ticket = queue.next; message = message; counted = counted } in
       let more : queue.ready ++ overflow ≡ waiting queue ++ request ∷ [] =
       ap (λ (xs : List (Request T)). queue.ready ++ xs) is ∙ sym (append_assoc queue.ready queue.overflow (request ∷ [])) in
       record {
@@ -70,13 +70,13 @@ module _ {T : Type 0} where
       })
 
   -- a request that finds no room, handled with no error
-  pub IsSound-handled : {E : Type 0} (answers : Request T → Bool → Type 0) (queue : QueueState T) (overflow : List (Request T)) (message : T) (r : Result Unit E)
-      → IsSound queue → Draws queue queue.next → (¬ HasRoom queue) → false ≡ is_err r → Handles answers queue.overflow (record { ticket = queue.next; message = message; counted = false }) r overflow
+  pub IsSound-handled : {E : Type 0} (answers : Request T → Bool → Type 0) (queue : QueueState T) (overflow : List (Request T)) (message : T) (counted : Bool) (r : Result Unit E)
+      → IsSound queue → Draws queue queue.next → (¬ HasRoom queue) → false ≡ is_err r → Handles answers queue.overflow (record { ticket = queue.next; message = message; counted = counted }) r overflow
       → IsSound (record queue { overflow = overflow; next = queue.next + 1 })
-  IsSound-handled answers queue overflow message r sound draws no_room fine handles =
-      elim (handled-ok answers queue.overflow (record { ticket = queue.next; message = message; counted = false }) r overflow fine handles) [
+  IsSound-handled answers queue overflow message counted r sound draws no_room fine handles =
+      elim (handled-ok answers queue.overflow (record { ticket = queue.next; message = message; counted = counted }) r overflow fine handles) [
         | inl dropped ↦ IsSound-drawn queue overflow sound draws dropped.1
-        | inr kept ↦ IsSound-overflow queue overflow message sound draws no_room kept.1
+        | inr kept ↦ IsSound-overflow queue overflow message counted sound draws no_room kept.1
       ]
 
   nothing_in : (requests : List (Request T)) → length requests ≡ 0 → requests ≡ []

@@ -1,5 +1,5 @@
 -- Tickets that rise.
-use Rattle.std.proofs.Common.{◌≡◌, ℕ, suc, ◌+◌, ◌≤◌, List, [], ◌∷◌, ◌++◌, length, refl, sym, ap, ◌∙◌, subst, arith, append-nil, append_assoc}
+use Rattle.std.proofs.Common.{◌≡◌, ℕ, suc, ◌+◌, ◌≤◌, Bool, List, [], ◌∷◌, ◌++◌, length, refl, sym, ap, ◌∙◌, subst, arith, append-nil, append_assoc}
 use Rattle.std.proofs.lemmas.List.{map-append}
 use Rattle.commonware_broadcast.specs.declared.buffered.ingress.request.Request.{Request}
 use Rattle.commonware_broadcast.specs.Queue.{QueueState, IsRising, request_of, tickets_of, waiting, with_ready, with_overflow}
@@ -45,16 +45,16 @@ module _ {T : Type 0} where
       subst (λ (ts : List ℕ). IsRising low ts (high + 1)) (sym (tickets_of-push requests request ∙ ap (λ (t : ℕ). tickets_of requests ++ t ∷ []) is)) (IsRising-push low (tickets_of requests) high rises)
 
   -- a queue with one more request, in its ready list or in its overflow
-  pub rising-ready : (low : ℕ) (queue : QueueState T) (message : T) → queue.overflow ≡ [] → IsRising low (tickets_of (waiting queue)) queue.next → IsRising low (tickets_of (waiting (with_ready queue message))) (queue.next + 1)
-  rising-ready low queue message none rises =
-      let request : Request T = request_of queue message in
+  pub rising-ready : (low : ℕ) (queue : QueueState T) (message : T) (counted : Bool) → queue.overflow ≡ [] → IsRising low (tickets_of (waiting queue)) queue.next → IsRising low (tickets_of (waiting (with_ready queue message counted))) (queue.next + 1)
+  rising-ready low queue message counted none rises =
+      let request : Request T = request_of queue message counted in
       let before : waiting queue ≡ queue.ready = ap (λ (xs : List (Request T)). queue.ready ++ xs) none ∙ append-nil queue.ready in
       let after : (queue.ready ++ request ∷ []) ++ queue.overflow ≡ queue.ready ++ request ∷ [] = ap (λ (xs : List (Request T)). (queue.ready ++ request ∷ []) ++ xs) none ∙ append-nil (queue.ready ++ request ∷ []) in
       subst (λ (xs : List (Request T)). IsRising low (tickets_of xs) (queue.next + 1)) (sym after) (IsRising-tickets-push low queue.ready request queue.next refl (subst (λ (xs : List (Request T)). IsRising low (tickets_of xs) queue.next) before rises))
 
-  pub rising-overflow : (low : ℕ) (queue : QueueState T) (message : T) → IsRising low (tickets_of (waiting queue)) queue.next → IsRising low (tickets_of (waiting (with_overflow queue message))) (queue.next + 1)
-  rising-overflow low queue message rises =
-      let request : Request T = request_of queue message in
+  pub rising-overflow : (low : ℕ) (queue : QueueState T) (message : T) (counted : Bool) → IsRising low (tickets_of (waiting queue)) queue.next → IsRising low (tickets_of (waiting (with_overflow queue message counted))) (queue.next + 1)
+  rising-overflow low queue message counted rises =
+      let request : Request T = request_of queue message counted in
       subst (λ (xs : List (Request T)). IsRising low (tickets_of xs) (queue.next + 1)) (append_assoc queue.ready queue.overflow (request ∷ [])) (IsRising-tickets-push low (waiting queue) request queue.next refl rises)
 
   -- without a request they still rise

@@ -1,11 +1,11 @@
 -- What the steps of a mailbox do with its tickets.
-use Rattle.std.proofs.Common.{◌≡◌, ℕ, ◌+◌, ◌≤◌, Bool, false, List, [], ◌∷◌, ◌++◌, length, Option, None, Some, Ok, Err, sym, subst, append_assoc, ap, inl, inr, arith, length-append}
+use Rattle.std.proofs.Common.{◌≡◌, ℕ, ◌+◌, ◌≤◌, Bool, List, [], ◌∷◌, ◌++◌, length, Option, None, Some, Ok, Err, sym, subst, append_assoc, ap, inl, inr, arith, length-append}
 use Rattle.std.specs.List.{flat_map}
 use Rattle.commonware_broadcast.specs.declared.buffered.ingress.request.Request.{Request}
 use Rattle.commonware_broadcast.specs.declared.buffered.ingress.queued.Queued.TheVariants as queued
 use Rattle.commonware_broadcast.specs.declared.broadcaster.MailboxError.TheVariants.{Memory, Exhausted}
 use Rattle.commonware_broadcast.specs.Overflow.{Drains, PutsWithin}
-use Rattle.commonware_broadcast.specs.Queue.{QueueState, IsRising, Pops, tickets_of, waiting, with_ready, with_overflow}
+use Rattle.commonware_broadcast.specs.Queue.{QueueState, IsRising, Pops, tickets_of, waiting, request_of, with_ready, with_overflow}
 use Rattle.commonware_broadcast.specs.Mailbox.{MailboxState, empty_mailbox}
 use Rattle.commonware_broadcast.specs.Tickets.{Step, Enqueued, Took, StopRequested, GaveUp, times, drawn_by, taken_by, skipped_by, given_up_by, ends, Moves, Runs, IsLawful}
 use Rattle.commonware_broadcast.proofs.Rising.{IsRising-append, IsRising-higher, IsRising-onward, length-IsRising, length-tickets_of, rising-ready, rising-overflow}
@@ -32,31 +32,31 @@ module _ {T : Type 0} (ticket : ℕ) where
       omega (arith, ap held stays, ap held is, ap (λ (b : Request T). held (b ∷ xs)) same, ap held none)
 
   -- a queue with one more request, in its ready list or in its overflow
-  held-ready : (queue : QueueState T) (message : T) → held (waiting (with_ready queue message)) ≡ held (waiting queue) + times ticket (queue.next ∷ [])
-  held-ready queue message =
-      let request : Request T = record { ticket = queue.next; message = message; counted = false } in
+  held-ready : (queue : QueueState T) (message : T) (counted : Bool) → held (waiting (with_ready queue message counted)) ≡ held (waiting queue) + times ticket (queue.next ∷ [])
+  held-ready queue message counted =
+      let request : Request T = request_of queue message counted in
       omega (arith, held-append (queue.ready ++ request ∷ []) queue.overflow, held-append queue.ready (request ∷ []), held-append queue.ready queue.overflow)
 
-  held-overflow : (queue : QueueState T) (message : T) → held (waiting (with_overflow queue message)) ≡ held (waiting queue) + times ticket (queue.next ∷ [])
-  held-overflow queue message =
-      let request : Request T = record { ticket = queue.next; message = message; counted = false } in
+  held-overflow : (queue : QueueState T) (message : T) (counted : Bool) → held (waiting (with_overflow queue message counted)) ≡ held (waiting queue) + times ticket (queue.next ∷ [])
+  held-overflow queue message counted =
+      let request : Request T = request_of queue message counted in
       omega (arith, held-append queue.ready (queue.overflow ++ request ∷ []), held-append queue.overflow (request ∷ []), held-append queue.ready queue.overflow)
 
 module _ {T : Type 0} (answers : T → Bool → Type 0) where
   -- one step keeps each ticket
   times-Moves : (ticket : ℕ) (old : MailboxState T) (step : Step T) (new : MailboxState T) → Moves answers old step new
       → held ticket (waiting old.queue) + times ticket (drawn_by step) ≡ times ticket (taken_by step) + times ticket (skipped_by step) + held ticket (waiting new.queue) + times ticket (given_up_by step)
-  times-Moves ticket old (Enqueued message (Ok (queued.Ready k))) new ((draws, room, same), state) =
-      omega (arith, ap (λ (q : QueueState T). held ticket (waiting q)) same, held-ready ticket old.queue message, ap (λ (n : ℕ). times ticket (n ∷ [])) draws.next)
-  times-Moves ticket old (Enqueued message (Ok (queued.Overflow k))) new ((draws, no_room, opened, same), state) =
-      omega (arith, ap (λ (q : QueueState T). held ticket (waiting q)) same, held-overflow ticket old.queue message, ap (λ (n : ℕ). times ticket (n ∷ [])) draws.next)
-  times-Moves ticket old (Enqueued message (Ok (queued.Skipped k))) new ((draws, no_room, closed, same), state) =
+  times-Moves ticket old (Enqueued message counted (Ok (queued.Ready k))) new ((draws, room, same), state) =
+      omega (arith, ap (λ (q : QueueState T). held ticket (waiting q)) same, held-ready ticket old.queue message counted, ap (λ (n : ℕ). times ticket (n ∷ [])) draws.next)
+  times-Moves ticket old (Enqueued message counted (Ok (queued.Overflow k))) new ((draws, no_room, opened, same), state) =
+      omega (arith, ap (λ (q : QueueState T). held ticket (waiting q)) same, held-overflow ticket old.queue message counted, ap (λ (n : ℕ). times ticket (n ∷ [])) draws.next)
+  times-Moves ticket old (Enqueued message counted (Ok (queued.Skipped k))) new ((draws, no_room, closed, same), state) =
       omega (arith, ap (λ (q : QueueState T). held ticket (waiting q)) same)
-  times-Moves ticket old (Enqueued message (Ok queued.Closed)) new ((closed, same), state) =
+  times-Moves ticket old (Enqueued message counted (Ok queued.Closed)) new ((closed, same), state) =
       omega (arith, ap (λ (q : QueueState T). held ticket (waiting q)) same)
-  times-Moves ticket old (Enqueued message (Err Memory)) new ((draws, lacks, same), state) =
+  times-Moves ticket old (Enqueued message counted (Err Memory)) new ((draws, lacks, same), state) =
       omega (arith, ap (λ (q : QueueState T). held ticket (waiting q)) same)
-  times-Moves ticket old (Enqueued message (Err Exhausted)) new ((opened, last, same), state) =
+  times-Moves ticket old (Enqueued message counted (Err Exhausted)) new ((opened, last, same), state) =
       omega (arith, ap (λ (q : QueueState T). held ticket (waiting q)) same)
   times-Moves ticket old (Took None skipped) new ((nobody, none, same), state) =
       omega (arith, ap (λ (q : QueueState T). held ticket (waiting q)) same, ap (held ticket) none)
@@ -73,15 +73,15 @@ module _ {T : Type 0} (answers : T → Bool → Type 0) where
 
   -- one step hands out the next tickets
   rising-Moves : (old : MailboxState T) (step : Step T) (new : MailboxState T) → Moves answers old step new → IsRising old.queue.next (drawn_by step) new.queue.next
-  rising-Moves old (Enqueued message (Ok (queued.Ready k))) new ((draws, room, same), state) =
+  rising-Moves old (Enqueued message counted (Ok (queued.Ready k))) new ((draws, room, same), state) =
       (omega (arith, draws.next), omega (arith, draws.next, ap (λ (q : QueueState T). q.next) same))
-  rising-Moves old (Enqueued message (Ok (queued.Overflow k))) new ((draws, no_room, opened, same), state) =
+  rising-Moves old (Enqueued message counted (Ok (queued.Overflow k))) new ((draws, no_room, opened, same), state) =
       (omega (arith, draws.next), omega (arith, draws.next, ap (λ (q : QueueState T). q.next) same))
-  rising-Moves old (Enqueued message (Ok (queued.Skipped k))) new ((draws, no_room, closed, same), state) =
+  rising-Moves old (Enqueued message counted (Ok (queued.Skipped k))) new ((draws, no_room, closed, same), state) =
       (omega (arith, draws.next), omega (arith, draws.next, ap (λ (q : QueueState T). q.next) same))
-  rising-Moves old (Enqueued message (Ok queued.Closed)) new ((closed, same), state) = omega (arith, ap (λ (q : QueueState T). q.next) same)
-  rising-Moves old (Enqueued message (Err Memory)) new ((draws, lacks, same), state) = omega (arith, ap (λ (q : QueueState T). q.next) same)
-  rising-Moves old (Enqueued message (Err Exhausted)) new ((opened, last, same), state) = omega (arith, ap (λ (q : QueueState T). q.next) same)
+  rising-Moves old (Enqueued message counted (Ok queued.Closed)) new ((closed, same), state) = omega (arith, ap (λ (q : QueueState T). q.next) same)
+  rising-Moves old (Enqueued message counted (Err Memory)) new ((draws, lacks, same), state) = omega (arith, ap (λ (q : QueueState T). q.next) same)
+  rising-Moves old (Enqueued message counted (Err Exhausted)) new ((opened, last, same), state) = omega (arith, ap (λ (q : QueueState T). q.next) same)
   rising-Moves old (Took result skipped) new (pops, state) = rising-Took old.queue result skipped new.queue pops
   rising-Moves old StopRequested new same = omega (arith, ap (λ (s : MailboxState T). s.queue.next) same)
   rising-Moves old (GaveUp requests) new (all, (len, same)) = omega (arith, ap (λ (s : MailboxState T). s.queue.next) same)
@@ -89,17 +89,17 @@ module _ {T : Type 0} (answers : T → Bool → Type 0) where
   -- one step counts what it takes, skips and gives up
   counted-Moves : (old : MailboxState T) (step : Step T) (new : MailboxState T) → Moves answers old step new
       → (new.taken ≡ old.taken + length (taken_by step)) × (new.skipped ≡ old.skipped + length (skipped_by step)) × (new.given_up ≡ old.given_up + length (given_up_by step))
-  counted-Moves old (Enqueued message (Ok (queued.Ready k))) new (step, same) =
+  counted-Moves old (Enqueued message counted (Ok (queued.Ready k))) new (step, same) =
       (omega (arith, ap (λ (s : MailboxState T). s.taken) same), omega (arith, ap (λ (s : MailboxState T). s.skipped) same), omega (arith, ap (λ (s : MailboxState T). s.given_up) same))
-  counted-Moves old (Enqueued message (Ok (queued.Overflow k))) new (step, same) =
+  counted-Moves old (Enqueued message counted (Ok (queued.Overflow k))) new (step, same) =
       (omega (arith, ap (λ (s : MailboxState T). s.taken) same), omega (arith, ap (λ (s : MailboxState T). s.skipped) same), omega (arith, ap (λ (s : MailboxState T). s.given_up) same))
-  counted-Moves old (Enqueued message (Ok (queued.Skipped k))) new (step, same) =
+  counted-Moves old (Enqueued message counted (Ok (queued.Skipped k))) new (step, same) =
       (omega (arith, ap (λ (s : MailboxState T). s.taken) same), omega (arith, ap (λ (s : MailboxState T). s.skipped) same), omega (arith, ap (λ (s : MailboxState T). s.given_up) same))
-  counted-Moves old (Enqueued message (Ok queued.Closed)) new (step, same) =
+  counted-Moves old (Enqueued message counted (Ok queued.Closed)) new (step, same) =
       (omega (arith, ap (λ (s : MailboxState T). s.taken) same), omega (arith, ap (λ (s : MailboxState T). s.skipped) same), omega (arith, ap (λ (s : MailboxState T). s.given_up) same))
-  counted-Moves old (Enqueued message (Err Memory)) new (step, same) =
+  counted-Moves old (Enqueued message counted (Err Memory)) new (step, same) =
       (omega (arith, ap (λ (s : MailboxState T). s.taken) same), omega (arith, ap (λ (s : MailboxState T). s.skipped) same), omega (arith, ap (λ (s : MailboxState T). s.given_up) same))
-  counted-Moves old (Enqueued message (Err Exhausted)) new (step, same) =
+  counted-Moves old (Enqueued message counted (Err Exhausted)) new (step, same) =
       (omega (arith, ap (λ (s : MailboxState T). s.taken) same), omega (arith, ap (λ (s : MailboxState T). s.skipped) same), omega (arith, ap (λ (s : MailboxState T). s.given_up) same))
   counted-Moves old (Took None skipped) new (step, same) =
       (omega (arith, ap (λ (s : MailboxState T). s.taken) same, length-tickets_of skipped), omega (arith, ap (λ (s : MailboxState T). s.skipped) same, length-tickets_of skipped), omega (arith, ap (λ (s : MailboxState T). s.given_up) same, length-tickets_of skipped))
@@ -112,17 +112,17 @@ module _ {T : Type 0} (answers : T → Bool → Type 0) where
 
   -- a step leaves the tickets that wait rising, behind those that it takes
   waiting-Moves : (low : ℕ) (old : MailboxState T) (step : Step T) (new : MailboxState T) → IsRising low (tickets_of (waiting old.queue)) old.queue.next → Moves answers old step new → IsRising low (taken_by step ++ tickets_of (waiting new.queue)) new.queue.next
-  waiting-Moves low old (Enqueued message (Ok (queued.Ready k))) new rises ((draws, room, same), state) =
-      subst (λ (q : QueueState T). IsRising low (tickets_of (waiting q)) q.next) (sym same) (rising-ready low old.queue message room.0 rises)
-  waiting-Moves low old (Enqueued message (Ok (queued.Overflow k))) new rises ((draws, no_room, opened, same), state) =
-      subst (λ (q : QueueState T). IsRising low (tickets_of (waiting q)) q.next) (sym same) (rising-overflow low old.queue message rises)
-  waiting-Moves low old (Enqueued message (Ok (queued.Skipped k))) new rises ((draws, no_room, closed, same), state) =
+  waiting-Moves low old (Enqueued message counted (Ok (queued.Ready k))) new rises ((draws, room, same), state) =
+      subst (λ (q : QueueState T). IsRising low (tickets_of (waiting q)) q.next) (sym same) (rising-ready low old.queue message counted room.0 rises)
+  waiting-Moves low old (Enqueued message counted (Ok (queued.Overflow k))) new rises ((draws, no_room, opened, same), state) =
+      subst (λ (q : QueueState T). IsRising low (tickets_of (waiting q)) q.next) (sym same) (rising-overflow low old.queue message counted rises)
+  waiting-Moves low old (Enqueued message counted (Ok (queued.Skipped k))) new rises ((draws, no_room, closed, same), state) =
       subst (λ (q : QueueState T). IsRising low (tickets_of (waiting q)) q.next) (sym same) (IsRising-higher low (tickets_of (waiting old.queue)) old.queue.next (old.queue.next + 1) (omega arith) rises)
-  waiting-Moves low old (Enqueued message (Ok queued.Closed)) new rises ((closed, same), state) =
+  waiting-Moves low old (Enqueued message counted (Ok queued.Closed)) new rises ((closed, same), state) =
       subst (λ (q : QueueState T). IsRising low (tickets_of (waiting q)) q.next) (sym same) rises
-  waiting-Moves low old (Enqueued message (Err Memory)) new rises ((draws, lacks, same), state) =
+  waiting-Moves low old (Enqueued message counted (Err Memory)) new rises ((draws, lacks, same), state) =
       subst (λ (q : QueueState T). IsRising low (tickets_of (waiting q)) q.next) (sym same) rises
-  waiting-Moves low old (Enqueued message (Err Exhausted)) new rises ((opened, last, same), state) =
+  waiting-Moves low old (Enqueued message counted (Err Exhausted)) new rises ((opened, last, same), state) =
       subst (λ (q : QueueState T). IsRising low (tickets_of (waiting q)) q.next) (sym same) rises
   waiting-Moves low old (Took None skipped) new rises ((nobody, none, same), state) =
       subst (λ (q : QueueState T). IsRising low (tickets_of (waiting q)) q.next) (sym same) rises
@@ -138,12 +138,12 @@ module _ {T : Type 0} (answers : T → Bool → Type 0) where
 
   -- a step draws the next tickets
   drawn-Moves : (old : MailboxState T) (step : Step T) (new : MailboxState T) → Moves answers old step new → new.queue.next ≡ old.queue.next + length (drawn_by step)
-  drawn-Moves old (Enqueued message (Ok (queued.Ready k))) new ((draws, room, same), state) = omega (arith, ap (λ (q : QueueState T). q.next) same)
-  drawn-Moves old (Enqueued message (Ok (queued.Overflow k))) new ((draws, no_room, opened, same), state) = omega (arith, ap (λ (q : QueueState T). q.next) same)
-  drawn-Moves old (Enqueued message (Ok (queued.Skipped k))) new ((draws, no_room, closed, same), state) = omega (arith, ap (λ (q : QueueState T). q.next) same)
-  drawn-Moves old (Enqueued message (Ok queued.Closed)) new ((closed, same), state) = omega (arith, ap (λ (q : QueueState T). q.next) same)
-  drawn-Moves old (Enqueued message (Err Memory)) new ((draws, lacks, same), state) = omega (arith, ap (λ (q : QueueState T). q.next) same)
-  drawn-Moves old (Enqueued message (Err Exhausted)) new ((opened, last, same), state) = omega (arith, ap (λ (q : QueueState T). q.next) same)
+  drawn-Moves old (Enqueued message counted (Ok (queued.Ready k))) new ((draws, room, same), state) = omega (arith, ap (λ (q : QueueState T). q.next) same)
+  drawn-Moves old (Enqueued message counted (Ok (queued.Overflow k))) new ((draws, no_room, opened, same), state) = omega (arith, ap (λ (q : QueueState T). q.next) same)
+  drawn-Moves old (Enqueued message counted (Ok (queued.Skipped k))) new ((draws, no_room, closed, same), state) = omega (arith, ap (λ (q : QueueState T). q.next) same)
+  drawn-Moves old (Enqueued message counted (Ok queued.Closed)) new ((closed, same), state) = omega (arith, ap (λ (q : QueueState T). q.next) same)
+  drawn-Moves old (Enqueued message counted (Err Memory)) new ((draws, lacks, same), state) = omega (arith, ap (λ (q : QueueState T). q.next) same)
+  drawn-Moves old (Enqueued message counted (Err Exhausted)) new ((opened, last, same), state) = omega (arith, ap (λ (q : QueueState T). q.next) same)
   drawn-Moves old (Took result skipped) new (pops, state) = omega (arith, Pops-next answers old.queue result skipped new.queue pops)
   drawn-Moves old StopRequested new same = omega (arith, ap (λ (s : MailboxState T). s.queue.next) same)
   drawn-Moves old (GaveUp requests) new (all, (len, same)) = omega (arith, ap (λ (s : MailboxState T). s.queue.next) same)

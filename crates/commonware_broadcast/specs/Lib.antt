@@ -2,11 +2,14 @@ pub mod Message
 pub mod Overflow
 pub mod Queued
 pub mod Queue
+pub mod Skips
 pub mod Mailbox
 pub mod Tickets
 pub mod Asked
 pub mod Waited
 pub mod Attended
+pub mod Watch
+pub mod Account
 pub use Rattle.broadcast_core.specs.Carried
 pub use Rattle.broadcast_core.specs.ByteList
 pub use Rattle.broadcast_core.specs.Codec

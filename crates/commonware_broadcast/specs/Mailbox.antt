@@ -65,9 +65,10 @@ module _ {T : Type 0} where
 
   module _ (answers : T → Bool → Type 0) where
     -- a message is queued, skipped or refused
-    abbrev pub Enqueues : MailboxState T → T → Result Queued MailboxError → MailboxState T → Type 0
-    Enqueues old message result new =
-        Pushes answers old.queue message result new.queue
+    abbrev pub Enqueues :
+        MailboxState T → T → Bool → Result Queued MailboxError → MailboxState T → Type 0
+    Enqueues old message counted result new =
+        Pushes answers old.queue message counted result new.queue
         × (new ≡ record old { queue = new.queue; skipped = old.skipped + count_skipped result })
 
     -- the oldest request is taken, and closed ones of the overflow are skipped
@@ -80,6 +81,15 @@ module _ {T : Type 0} where
           taken = old.taken + count_taken result;
           skipped = old.skipped + length skipped;
         })
+
+    -- the oldest request is taken, whatever is skipped
+    abbrev pub Gives : MailboxState T → Option (Request T) → MailboxState T → Type 0
+    Gives old result new = (skipped : List (Request T)) × Takes old result skipped new
+
+    -- and its ticket and message are given
+    abbrev pub GivesOut : MailboxState T → Option (ℕ × T) → MailboxState T → Type 0
+    GivesOut old result new =
+        (request : Option (Request T)) × Gives old request new × (result ≡ taken_of request)
 
   -- a stop is asked for
   abbrev pub RequestsStop : MailboxState T → MailboxState T → Type 0

@@ -1,5 +1,5 @@
 -- The requests that wait in a mailbox.
-use Rattle.std.specs.Prelude.{◌≡◌, ℕ, ◌+◌, ◌-◌, ◌^◌, ◌<◌, ◌≤◌, ◌⊎◌, Bool, true, false}
+use Rattle.std.specs.Prelude.{◌≡◌, ℕ, ◌+◌, ◌-◌, ◌^◌, ◌<◌, ◌≤◌, ◌⊎◌, if◌then◌else◌, Bool, true, false}
 use Rattle.std.specs.Prelude.{List, [], ◌∷◌, ◌++◌, length, map, Option, None, Some, Result, Ok, Err}
 use Rattle.commonware_broadcast.specs.declared.buffered.ingress.request.Request.{Request}
 use Rattle.commonware_broadcast.specs.declared.buffered.ingress.queued.Queued.{Queued}
@@ -31,6 +31,11 @@ module _ {T : Type 0} where
   abbrev pub tickets_of : List (Request T) → List ℕ
   tickets_of requests = map (λ (request : Request T). request.ticket) requests
 
+  -- how many of them are counted
+  abbrev pub counted_in : List (Request T) → ℕ
+  counted_in [] = 0
+  counted_in (request ∷ requests) = (if request.counted then 1 else 0) + counted_in requests
+
   -- the requests that wait, oldest first
   abbrev pub waiting : QueueState T → List (Request T)
   waiting queue = queue.ready ++ queue.overflow
@@ -56,21 +61,21 @@ module _ {T : Type 0} where
     pub left : queue.next < last_ticket
 
   -- the request that the message becomes once it has drawn the next ticket
-  abbrev pub request_of : QueueState T → T → Request T
-  request_of queue message =
-      record { ticket = queue.next; message = message; counted = false }
+  abbrev pub request_of : QueueState T → T → Bool → Request T
+  request_of queue message counted =
+      record { ticket = queue.next; message = message; counted = counted }
 
   -- the queue with one more request in its ready list
-  abbrev pub with_ready : QueueState T → T → QueueState T
-  with_ready queue message = record queue {
-    ready = queue.ready ++ request_of queue message ∷ [];
+  abbrev pub with_ready : QueueState T → T → Bool → QueueState T
+  with_ready queue message counted = record queue {
+    ready = queue.ready ++ request_of queue message counted ∷ [];
     next = queue.next + 1;
   }
 
   -- the queue with one more request in its overflow
-  abbrev pub with_overflow : QueueState T → T → QueueState T
-  with_overflow queue message = record queue {
-    overflow = queue.overflow ++ request_of queue message ∷ [];
+  abbrev pub with_overflow : QueueState T → T → Bool → QueueState T
+  with_overflow queue message counted = record queue {
+    overflow = queue.overflow ++ request_of queue message counted ∷ [];
     next = queue.next + 1;
   }
 
@@ -80,19 +85,20 @@ module _ {T : Type 0} where
 
   module _ (answers : T → Bool → Type 0) where
     -- what a push may return, and the queue that it leaves
-    abbrev pub Pushes : QueueState T → T → Result Queued MailboxError → QueueState T → Type 0
-    Pushes old message (Ok queued.Closed) new = (old.closed ≡ true) × (new ≡ old)
-    Pushes old message (Err Exhausted) new =
+    abbrev pub Pushes :
+        QueueState T → T → Bool → Result Queued MailboxError → QueueState T → Type 0
+    Pushes old message counted (Ok queued.Closed) new = (old.closed ≡ true) × (new ≡ old)
+    Pushes old message counted (Err Exhausted) new =
         (old.closed ≡ false) × (old.next ≡ last_ticket) × (new ≡ old)
-    Pushes old message (Ok (queued.Ready ticket)) new =
-        Draws old ticket × HasRoom old × (new ≡ with_ready old message)
-    Pushes old message (Ok (queued.Overflow ticket)) new =
+    Pushes old message counted (Ok (queued.Ready ticket)) new =
+        Draws old ticket × HasRoom old × (new ≡ with_ready old message counted)
+    Pushes old message counted (Ok (queued.Overflow ticket)) new =
         Draws old ticket × (¬ HasRoom old) × answers message false
-        × (new ≡ with_overflow old message)
-    Pushes old message (Ok (queued.Skipped ticket)) new =
+        × (new ≡ with_overflow old message counted)
+    Pushes old message counted (Ok (queued.Skipped ticket)) new =
         Draws old ticket × (¬ HasRoom old) × answers message true × (new ≡ with_drawn old)
     -- only a message that finds room, or that answered open, is allocated for
-    Pushes old message (Err Memory) new =
+    Pushes old message counted (Err Memory) new =
         Draws old old.next × (HasRoom old ⊎ answers message false) × (new ≡ old)
 
     -- what a pop may return, what it skips, and the queue that it leaves: the front of the ready

@@ -12,7 +12,7 @@ use Rattle.commonware_broadcast.specs.Mailbox.{counts_of}
 
 -- a call of a mailbox with its result, and with the requests that it skipped or gave up
 pub data Step (T : Type 0) : Type 0 where
-  Enqueued : T → Result Queued MailboxError → Step T
+  Enqueued : T → Bool → Result Queued MailboxError → Step T
   Took : Option (Request T) → List (Request T) → Step T
   StopRequested : Step T
   GaveUp : List (Request T) → Step T
@@ -25,9 +25,9 @@ times ticket (first ∷ tickets) = (if first == ticket then 1 else 0) + times ti
 module _ {T : Type 0} where
   -- the tickets that a call hands out
   abbrev pub drawn_by : Step T → List ℕ
-  drawn_by (Enqueued message (Ok (queued.Ready ticket))) = ticket ∷ []
-  drawn_by (Enqueued message (Ok (queued.Overflow ticket))) = ticket ∷ []
-  drawn_by (Enqueued message (Ok (queued.Skipped ticket))) = ticket ∷ []
+  drawn_by (Enqueued message counted (Ok (queued.Ready ticket))) = ticket ∷ []
+  drawn_by (Enqueued message counted (Ok (queued.Overflow ticket))) = ticket ∷ []
+  drawn_by (Enqueued message counted (Ok (queued.Skipped ticket))) = ticket ∷ []
   drawn_by _ = []
 
   -- the tickets of the requests that a call takes
@@ -37,7 +37,7 @@ module _ {T : Type 0} where
 
   -- the tickets of the requests that a call skips
   abbrev pub skipped_by : Step T → List ℕ
-  skipped_by (Enqueued message (Ok (queued.Skipped ticket))) = ticket ∷ []
+  skipped_by (Enqueued message counted (Ok (queued.Skipped ticket))) = ticket ∷ []
   skipped_by (Took result skipped) = tickets_of skipped
   skipped_by _ = []
 
@@ -55,7 +55,7 @@ module _ {T : Type 0} where
   module _ (answers : T → Bool → Type 0) where
     -- the mailbox may do this step
     abbrev pub Moves : MailboxState T → Step T → MailboxState T → Type 0
-    Moves old (Enqueued message result) new = Enqueues answers old message result new
+    Moves old (Enqueued message counted result) new = Enqueues answers old message counted result new
     Moves old (Took result skipped) new = Takes answers old result skipped new
     Moves old StopRequested new = RequestsStop old new
     Moves old (GaveUp requests) new =

@@ -6,3 +6,4 @@ pub mod FirstSource
 pub mod First
 pub mod ReplyCounts
 pub mod Handing
+pub mod Refused

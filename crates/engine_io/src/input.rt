@@ -1,4 +1,7 @@
 //! What an engine is given, and the result of a turn.
+ghost use Rattle.std.specs.Prelude.{◌≡◌};
+ghost use Rattle.engine_io.specs.Refused.{refuses};
+
 use broadcast_core::{Cause, CodecError, Digested, Digestible, Outcome, PublicKey, Set};
 use commonware_broadcast::buffered::{Message, Request};
 
@@ -34,6 +37,24 @@ pub enum Turn {
     Refused(Cause),
     /// The engine ended.
     Ended(EndCause),
+}
+
+impl Turn {
+    /// Returns whether the input was refused.
+    pub fn is_refused(&self) -> bool
+        ensures { result ≡ refuses self.now }
+    {
+        match self {
+            Turn::Refused(_) => true,
+            Turn::Peers
+            | Turn::Broadcast(_)
+            | Turn::Subscribe
+            | Turn::Get
+            | Turn::Payload(_)
+            | Turn::Invalid(_)
+            | Turn::Ended(_) => false,
+        }
+    }
 }
 
 /// Why an engine ended.

@@ -6,7 +6,7 @@ ghost use Rattle.engine_io.specs.Sources.{given};
 ghost use Rattle.commonware_broadcast.specs.declared.buffered.ingress.request.Request.{Request};
 
 use broadcast_core::Closable;
-use commonware_broadcast::buffered::{Ingress, Request};
+use commonware_broadcast::buffered::{Bookkeeping, Ingress, Request};
 use futures::task::{Context, Poll};
 use std::sync::Wait;
 
@@ -42,13 +42,23 @@ pub trait Requests<T> {
         ensures armed { OnPending result (IsArmed cx.new) }
         ensures kept { Keeps cx.old cx.new };
 
+    /// Tells that the request that was given last was refused, or else applied.
+    fn end(&mut self, _refused: bool)
+        ensures { (requests : List (Request T)) → told self.old requests → told self.new requests }
+    {}
+
     /// Refuses later requests, and gives up those that wait.
     fn close(&mut self)
         ensures { (requests : List (Request T)) → told self.old requests → told self.new requests };
 }
 
 /// Other threads queue the requests, so nothing is told of them.
-impl<T: Closable + Drop, R: Wait> Requests<T> for Ingress<T, R> {
+impl<T, R, A> Requests<T> for Ingress<T, R, A>
+where
+    T: Closable + Drop,
+    R: Wait,
+    A: Bookkeeping,
+{
     ghost told = { λ _ _. ⊤ };
 
     fn stopped(&mut self, cx: &mut Context<'_>) -> bool {
@@ -56,7 +66,11 @@ impl<T: Closable + Drop, R: Wait> Requests<T> for Ingress<T, R> {
     }
 
     fn poll_next(&mut self, cx: &mut Context<'_>) -> Poll<Request<T>> {
-        Ingress::poll_next(self, cx)
+        self.poll_request(cx)
+    }
+
+    fn end(&mut self, refused: bool) {
+        Ingress::end(self, refused);
     }
 
     fn close(&mut self) {

@@ -6,7 +6,7 @@ use crate::buffered::strategy::Strategy;
 use crate::buffered::threaded::Threaded;
 use crate::buffered::worker::Work;
 use broadcast_core::{Codec, Digestible, PublicKey};
-use commonware_broadcast::buffered::{Incoming, Ingress, Reply, Stopper};
+use commonware_broadcast::buffered::{Bookkeeping, Incoming, Ingress, Reply, Stopper};
 use engine_io::{Direct, Provider, Receiver, Sender};
 use futures::channel::oneshot;
 use std::alloc::AllocGlobal;
@@ -16,14 +16,26 @@ use std::thread::{JoinHandle, Threads};
 
 /// An engine that runs in a thread of its own. If it is dropped, the engine runs on.
 #[derive(Drop)]
-pub struct Handle<P: PublicKey, M: Digestible, R> {
-    stopper: Stopper<Incoming<P, M>, R>,
-    thread: JoinHandle<Report<P>>,
+pub struct Handle<P: PublicKey, M: Digestible, R, A: Bookkeeping = ()> {
+    stopper: Stopper<Incoming<P, M>, R, A>,
+    thread: JoinHandle<MailboxReport<P, M, R, A>>,
 }
 
-impl<P: PublicKey, M: Digestible, R: Threads + Wait + Drop> Handle<P, M, R> {
+/// What a started engine of a mailbox leaves.
+pub type MailboxReport<P, M, R, A = ()> = Report<P, Ingress<Incoming<P, M>, R, A>>;
+
+impl<P, M, R, A> Handle<P, M, R, A>
+where
+    P: PublicKey,
+    M: Digestible,
+    R: Threads + Wait + Drop,
+    A: Bookkeeping,
+{
     /// Creates the handle of an engine that runs in `thread`, and whose mailbox has this stopper.
-    pub fn new(stopper: Stopper<Incoming<P, M>, R>, thread: JoinHandle<Report<P>>) -> Self {
+    pub fn new(
+        stopper: Stopper<Incoming<P, M>, R, A>,
+        thread: JoinHandle<MailboxReport<P, M, R, A>>,
+    ) -> Self {
         Handle { stopper, thread }
     }
 
@@ -33,7 +45,7 @@ impl<P: PublicKey, M: Digestible, R: Threads + Wait + Drop> Handle<P, M, R> {
     }
 
     /// Waits for the end of the engine. Returns what it leaves.
-    pub fn join(self, rt: &R) -> Report<P> {
+    pub fn join(self, rt: &R) -> MailboxReport<P, M, R, A> {
         let Handle { stopper, thread } = self;
         let report = thread.join(rt);
         drop::<_>(stopper);
@@ -41,7 +53,7 @@ impl<P: PublicKey, M: Digestible, R: Threads + Wait + Drop> Handle<P, M, R> {
     }
 }
 
-impl<M, B, R, T> MailboxEngine<u64, M, B, T, R>
+impl<M, B, R, T, A> MailboxEngine<u64, M, B, T, R, A>
 where
     M: Digestible + Codec + Send + Sync + 'static,
     M::Digest: 'static,
@@ -49,19 +61,24 @@ where
     B: Provider<u64> + Send + Drop + 'static,
     R: Threads + Wait + RandomSource + AllocGlobal + Clone + Send + Sync + Drop + 'static,
     T: Strategy<M> + Send + Drop + 'static,
+    A: Bookkeeping + Send + 'static,
+    A::Taker: Send + 'static,
 {
     /// Starts the engine in a thread of its own, where it runs until it ends. A job that is pending
     /// is finished before.
     ///
     /// After an error the engine is given up, and its mailbox is closed.
-    pub fn start<N, V>(self, rt: &R, network: (N, V)) -> Result<Handle<u64, M, R>, StartError>
+    pub fn start<N, V>(self, rt: &R, network: (N, V)) -> Result<Handle<u64, M, R, A>, StartError>
     where
         T::Job: Send + 'static,
         N: Sender<u64> + Send + Drop + 'static,
         V: Receiver<u64> + Send + Drop + 'static,
     {
         match self.prepare(rt, network) {
-            Ok(Prepared { ready, stopper }) => start_thread(rt, move || run(ready), stopper),
+            Ok(Prepared { ready, stopper }) => {
+                let (stopper, thread) = start_thread(rt, move || run(ready), stopper)?;
+                Ok(Handle { stopper, thread })
+            }
             Err(error) => Err(error),
         }
     }
@@ -69,19 +86,19 @@ where
 
 /// An engine of a mailbox that is ready for its thread, and what asks it to stop.
 #[derive(Drop)]
-pub struct Prepared<M: Digestible, B, C, T, N, V, R> {
-    ready: ReadyEngine<M, B, C, T, N, V, R>,
-    stopper: Stopper<Incoming<u64, M>, R>,
+pub struct Prepared<M: Digestible, B, C, T, N, V, R, A: Bookkeeping = ()> {
+    ready: ReadyEngine<M, B, C, T, N, V, R, A>,
+    stopper: Stopper<Incoming<u64, M>, R, A>,
 }
 
 /// An engine of a mailbox that is ready for its thread.
-type ReadyEngine<M, B, C, T, N, V, R> = Ready<
+type ReadyEngine<M, B, C, T, N, V, R, A> = Ready<
     u64,
     M,
     oneshot::Sender<Reply<M>>,
     Direct,
     B,
-    Ingress<Incoming<u64, M>, R>,
+    Ingress<Incoming<u64, M>, R, A>,
     C,
     T,
     N,
@@ -89,13 +106,14 @@ type ReadyEngine<M, B, C, T, N, V, R> = Ready<
     R,
 >;
 
-impl<M, B, R, T> MailboxEngine<u64, M, B, T, R>
+impl<M, B, R, T, A> MailboxEngine<u64, M, B, T, R, A>
 where
     M: Digestible + Codec,
     M::Cfg: Drop,
     B: Provider<u64> + Drop,
     T: Strategy<M> + Drop,
     R: Wait + RandomSource + AllocGlobal + Clone + Drop,
+    A: Bookkeeping,
 {
     /// Makes the engine ready for its thread: a job that is pending is finished.
     ///
@@ -104,7 +122,7 @@ where
         self,
         rt: &R,
         network: (N, V),
-    ) -> Result<Prepared<M, B, M::Cfg, T, N, V, R>, StartError>
+    ) -> Result<Prepared<M, B, M::Cfg, T, N, V, R, A>, StartError>
     where
         N: Sender<u64> + Drop,
         V: Receiver<u64> + Drop,
@@ -127,7 +145,7 @@ where
     }
 }
 
-impl<M, B, G, N, V, R> Prepared<M, B, M::Cfg, Threaded<G, R>, N, V, R>
+impl<M, B, G, N, V, R, A> Prepared<M, B, M::Cfg, Threaded<G, R>, N, V, R, A>
 where
     M: Digestible + Codec + Work<G, R> + Send + Sync + 'static,
     M::Digest: 'static,
@@ -137,31 +155,36 @@ where
     N: Sender<u64> + Send + Drop + 'static,
     V: Receiver<u64> + Send + Drop + 'static,
     R: Threads + Wait + RandomSource + AllocGlobal + Clone + Send + Sync + Drop + 'static,
+    A: Bookkeeping + Send + 'static,
+    A::Taker: Send + 'static,
 {
     /// Starts the engine in a thread of its own, which starts those that digest its messages. Jobs
     /// of [`Threaded`] may not move to another thread, so `Engine::start` is not for them.
     ///
     /// After an error the engine is given up, and its mailbox is closed.
-    pub fn start(self, rt: &R) -> Result<Handle<u64, M, R>, StartError> {
+    pub fn start(self, rt: &R) -> Result<Handle<u64, M, R, A>, StartError> {
         let Prepared { ready, stopper } = self;
-        start_thread(rt, move || run(ready), stopper)
+        let (stopper, thread) = start_thread(rt, move || run(ready), stopper)?;
+        Ok(Handle { stopper, thread })
     }
 }
 
 /// Starts the thread of an engine whose mailbox has this stopper.
-fn start_thread<M, F, R>(
+fn start_thread<A, F, I, R, B>(
     rt: &R,
     work: F,
-    stopper: Stopper<Incoming<u64, M>, R>,
-) -> Result<Handle<u64, M, R>, StartError>
+    stopper: Stopper<I, R, B>,
+) -> Result<(Stopper<I, R, B>, JoinHandle<A>), StartError>
 where
-    M: Digestible,
-    F: FnOnce() -> Report<u64> + Send + 'static,
+    A: Send + Drop + 'static,
+    F: FnOnce() -> A + Send + 'static,
+    I: Drop,
     R: Threads + Wait + Drop,
+    B: Bookkeeping,
     requires { F.pre work }
 {
     match spawn(rt, work, &stopper) {
-        Ok(thread) => Ok(Handle { stopper, thread }),
+        Ok(thread) => Ok((stopper, thread)),
         Err(error) => {
             drop::<_>(stopper);
             Err(error)

@@ -31,7 +31,7 @@ struct Row {
     calls: &'static [Call],
 }
 
-static ROWS: [Row; 3] = [
+static ROWS: [Row; 4] = [
     Row {
         name: "closed requests are skipped",
         calls: &[
@@ -76,6 +76,44 @@ static ROWS: [Row; 3] = [
             },
             Call::Len(1),
             Call::DrainAll(&[Kind::Get(3)]),
+            Call::Len(0),
+        ],
+    },
+    Row {
+        name: "every second open request is handed back, with closed ones between them",
+        calls: &[
+            Call::Handle(Kind::Subscribe(1)),
+            Call::Handle(Kind::Get(2)),
+            Call::Handle(Kind::Get(3)),
+            Call::Handle(Kind::Broadcast(4)),
+            Call::Handle(Kind::Subscribe(5)),
+            Call::Handle(Kind::Subscribe(6)),
+            Call::Handle(Kind::Get(7)),
+            Call::Hang(1 << 1 | 1 << 3 | 1 << 6),
+            // The broadcast stays first, with all that waited behind it.
+            Call::Drain {
+                takes: 1,
+                hangs: 0,
+                offered: &[Kind::Get(2), Kind::Broadcast(4)],
+            },
+            Call::Len(4),
+            Call::Drain {
+                takes: 1,
+                hangs: 0,
+                offered: &[Kind::Broadcast(4), Kind::Subscribe(5)],
+            },
+            Call::Len(3),
+            Call::Drain {
+                takes: 1,
+                hangs: 0,
+                offered: &[Kind::Subscribe(5), Kind::Get(7)],
+            },
+            Call::Len(1),
+            Call::Drain {
+                takes: 1,
+                hangs: 0,
+                offered: &[Kind::Get(7)],
+            },
             Call::Len(0),
         ],
     },

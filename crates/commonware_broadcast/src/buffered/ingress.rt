@@ -1,5 +1,7 @@
 //! How callers reach a node: their messages, the inbox that queues them, and both of its ends.
+pub mod account;
 mod attended;
+pub mod books;
 pub mod get;
 pub mod inbox;
 pub mod laws;
@@ -14,7 +16,11 @@ pub mod reply;
 pub mod request;
 pub mod responder;
 mod returns;
+pub mod settled;
 mod shared;
+mod skips;
 pub mod source;
 pub mod stopper;
 pub mod subscription;
+pub mod tally;
+pub mod watch;

@@ -75,13 +75,12 @@ impl<P: PublicKey, M: Digestible + Codec, S, O, B, Q, T: Strategy<M>> Engine<P, 
         }
     }
 
-    /// Takes the counters of the engine, and drops the rest.
-    pub(super) fn into_metrics(self) -> Metrics<P>
+    /// Takes the counters of the engine and its source of requests, and drops the rest.
+    pub(super) fn into_metrics(self) -> (Metrics<P>, Q)
     where
         S: Drop,
         O: Drop,
         B: Drop,
-        Q: Drop,
         T: Drop,
         M::Cfg: Drop,
     {
@@ -94,8 +93,8 @@ impl<P: PublicKey, M: Digestible + Codec, S, O, B, Q, T: Strategy<M>> Engine<P, 
             codec_config,
             strategy,
         } = self.into_parts();
-        drop::<_>((provider, requests, codec_config, strategy));
-        node.into_metrics()
+        drop::<_>((provider, codec_config, strategy));
+        (node.into_metrics(), requests)
     }
 
     /// Ends the engine for this cause: its requests are closed, and its waiters and its job are

@@ -55,7 +55,11 @@ where
 {
     cleanup_waiters(node);
     match next_input(provider, requests, cx) {
-        Poll::Ready(Ok(input)) => Poll::Ready(Ok(apply(node, sender, alloc, priority, input))),
+        Poll::Ready(Ok(input)) => {
+            let turn = apply(node, sender, alloc, priority, input);
+            requests.end(turn.is_refused());
+            Poll::Ready(Ok(turn))
+        }
         Poll::Ready(Err(cause)) => Poll::Ready(Err(cause)),
         Poll::Pending => Poll::Pending,
     }

@@ -1,12 +1,15 @@
 //! An engine that runs in a thread of its own.
-ghost use Rattle.std.specs.Prelude.{◌≡◌};
+ghost use Rattle.std.specs.Prelude.{◌≡◌, ◌+◌, ◌↔◌, true, false, is_err, IfOk, IfErr};
+ghost use Rattle.commonware_broadcast.specs.Watch.{BroadcastsOnly};
 
 use crate::buffered::engine::parts::Parts;
 use crate::buffered::engine::running::run_turns;
 use crate::buffered::engine::state::Engine;
 use crate::buffered::strategy::Strategy;
 use broadcast_core::{Codec, Digestible, PublicKey};
-use commonware_broadcast::buffered::{Message, Reply, Responder, Stopper};
+use commonware_broadcast::buffered::{
+    Account, Bookkeeping, Books, Ingress, Message, Reply, Responder, Settled, Stopper, Tally, Watch,
+};
 use engine_io::{EndCause, Metrics, Outlet, Provider, Receiver, Requests, Sender};
 use std::alloc::AllocGlobal;
 use std::random::RandomSource;
@@ -28,12 +31,13 @@ pub enum StartError {
 
 /// What a started engine leaves.
 #[derive(Drop)]
-pub struct Report<P: PublicKey> {
+pub struct Report<P: PublicKey, Q> {
     cause: EndCause,
     metrics: Metrics<P>,
+    requests: Q,
 }
 
-impl<P: PublicKey> Report<P> {
+impl<P: PublicKey, Q> Report<P, Q> {
     /// Returns why the engine ended.
     pub fn cause(&self) -> EndCause
         ensures { result ≡ self.now.cause }
@@ -46,6 +50,52 @@ impl<P: PublicKey> Report<P> {
         ensures { result.now ≡ self.now.metrics }
     {
         &self.metrics
+    }
+}
+
+impl<P, M, S, G, R, A, K, V> Report<P, Ingress<Message<P, M, S, G>, R, Books<A, K, V, M::Digest>>>
+where
+    P: PublicKey,
+    M: Digestible,
+    S: Responder<Reply<M>> + Drop,
+    G: Responder<Option<Reply<M>>> + Drop,
+    R: Wait + Drop,
+    A: Account,
+    K: Account,
+    V: Watch<M::Digest>,
+{
+    /// Tells what became of the counted requests, of which none is left. Fails only if the tally
+    /// lacks a part.
+    pub fn settle(self, tally: Tally<A>) -> Result<Settled, (Self, Tally<A>)>
+        requires accounts { (A.all ≡ A.parts) × (K.all ≡ K.parts) }
+        ensures whole { (is_err result ≡ false) ↔ (tally.parts ≡ A.parts) }
+        ensures accepted { IfOk result (λ settled. tally.accepted ≡ settled.applied
+            + settled.refused + settled.skipped + settled.given_up) }
+        ensures taken { IfOk result (λ settled.
+            settled.applied + settled.refused ≡ self.requests.taken) }
+        ensures broadcasts { IfOk result (λ settled.
+            BroadcastsOnly V.watched → settled.skipped ≡ 0) }
+        ensures unchanged_on_error { IfErr result (λ both. (both.0 ≡ self) × (both.1 ≡ tally)) }
+    {
+        let Report {
+            cause,
+            metrics,
+            requests,
+        } = self;
+        match requests.settle(tally) {
+            Ok(settled) => {
+                drop::<_>(metrics);
+                Ok(settled)
+            }
+            Err((requests, tally)) => {
+                let report = Report {
+                    cause,
+                    metrics,
+                    requests,
+                };
+                Err((report, tally))
+            }
+        }
     }
 }
 
@@ -126,7 +176,7 @@ where
 /// Runs the engine until it ends. Returns what it leaves.
 pub fn run<P, M, S, G, O, B, Q, T, N, V, R>(
     ready: Ready<P, M, S, O, B, Q, M::Cfg, T, N, V, R>,
-) -> Report<P>
+) -> Report<P, Q>
 where
     P: PublicKey,
     M: Digestible + Codec,
@@ -147,9 +197,11 @@ where
     let cause = run_until_end::<P, M, S, G, O, B, Q, T, N, V, R>(&rt, &mut engine, &mut network);
     drop::<_>(network);
     drop::<_>(rt);
+    let (metrics, requests) = engine.into_metrics();
     Report {
         cause,
-        metrics: engine.into_metrics(),
+        metrics,
+        requests,
     }
 }
 
@@ -183,15 +235,16 @@ where
 
 /// Starts a thread that does `work`, the run of an engine whose mailbox has this stopper. If no
 /// thread can be started, the engine is stopped and ends at once, on the calling thread.
-pub fn spawn<A, F, I, R>(
+pub fn spawn<A, F, I, R, B>(
     rt: &R,
     work: F,
-    stopper: &Stopper<I, R>,
+    stopper: &Stopper<I, R, B>,
 ) -> Result<JoinHandle<A>, StartError>
 where
     A: Send + Drop + 'static,
     F: FnOnce() -> A + Send + 'static,
     R: Threads + Wait,
+    B: Bookkeeping,
     requires { F.pre work }
 {
     match thread::spawn(rt, work) {

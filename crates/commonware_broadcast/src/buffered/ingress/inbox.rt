@@ -2,7 +2,7 @@
 ghost use Rattle.std.specs.Prelude.{◌≡◌, ◌⊎◌, ◌↔◌, List, Option, true, false, Ok, Err, OnErr};
 ghost use Rattle.std.specs.NonZero.{non_zero_usize_get};
 ghost use Rattle.commonware_broadcast.specs.declared.buffered.ingress.request.Request.{Request};
-ghost use Rattle.commonware_broadcast.specs.Queue.{IsSound, HasRoom, last_ticket};
+ghost use Rattle.commonware_broadcast.specs.Queue.{IsSound, HasRoom, last_ticket, counted_in};
 ghost use Rattle.commonware_broadcast.specs.Mailbox.{Enqueues, Takes, RequestsStop, Closes};
 ghost use Rattle.commonware_broadcast.specs.Mailbox.{IsCounted, counts_of, taken_of};
 ghost use Rattle.commonware_broadcast.specs.Mailbox.{empty_mailbox, mailbox_after};
@@ -105,7 +105,7 @@ impl<T: Closable + Drop> Inbox<T> {
     /// Draws a ticket for the message and queues it. If the ready list is full, a closed message is
     /// dropped. After an error the inbox is unchanged.
     pub fn enqueue(&mut self, message: T) -> Result<Queued, MailboxError>
-        ensures step { Enqueues T.may_answer self.old message result self.new }
+        ensures step { Enqueues T.may_answer self.old message false result self.new }
         ensures unchanged_on_error { OnErr result (self.new ≡ self.old) }
 
         // A closed inbox, or one whose tickets are all drawn, does not allocate. Nor does a message
@@ -117,7 +117,14 @@ impl<T: Closable + Drop> Inbox<T> {
         ensures allocates_only_for_open_or_ready { result ≡ Err MailboxError.Memory
             → HasRoom self.old.queue ⊎ T.may_answer message false }
     {
-        let queued = self.queue.push(message);
+        self.enqueue_as(message, false)
+    }
+
+    // Enqueues as `enqueue` does, with this mark on the request.
+    pub(super) fn enqueue_as(&mut self, message: T, counted: bool) -> Result<Queued, MailboxError>
+        ensures { Enqueues T.may_answer self.old message counted result self.new }
+    {
+        let queued = self.queue.push(message, counted);
         if let Ok(Queued::Skipped(_)) = queued {
             self.skipped += 1;
         }
@@ -131,20 +138,25 @@ impl<T: Closable + Drop> Inbox<T> {
             × Takes T.may_answer self.old request skipped self.new
             × (result ≡ taken_of request) }
     {
-        let request = self.take_request()?;
+        let (request, _skipped) = self.take_request();
+        let request = request?;
         Some((request.ticket, request.message))
     }
 
-    // Takes as `take` does, and keeps the mark of the request.
-    pub(super) fn take_request(&mut self) -> Option<Request<T>>
+    // Takes as `take` does, and keeps the mark of the request. Returns also how many counted
+    // requests were skipped.
+    pub(super) fn take_request(&mut self) -> (Option<Request<T>>, u64)
         ensures { (skipped : List (Request T))
-            × Takes T.may_answer self.old result skipped self.new }
+            × Takes T.may_answer self.old result.0 skipped self.new
+            × (result.1 ≡ counted_in skipped) }
     {
-        let (popped, skipped) = self.queue.pop();
-        let request = popped?;
+        let (popped, skips) = self.queue.pop();
+        let Some(request) = popped else {
+            return (None, 0);
+        };
         self.taken += 1;
-        self.skipped += skipped as u64;
-        Some(request)
+        self.skipped += skips.all as u64;
+        (Some(request), skips.counted as u64)
     }
 
     /// Closes the inbox and drops the requests that wait. Returns how many they were.

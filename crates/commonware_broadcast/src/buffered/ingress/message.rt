@@ -1,10 +1,12 @@
 //! The messages of a mailbox's callers.
 ghost use Rattle.std.specs.Prelude.{◌≡◌};
+ghost use Rattle.commonware_broadcast.specs.Watch.{kind_of};
 
 use crate::buffered::ingress::overflow::Policy;
 use crate::buffered::ingress::pending::Pending;
 use crate::buffered::ingress::reply::Reply;
 use crate::buffered::ingress::responder::Responder;
+use crate::buffered::ingress::watch::Kind;
 use broadcast_core::{Closable, Digested, Digestible, PublicKey, Recipients};
 use std::alloc::AllocError;
 
@@ -57,6 +59,19 @@ impl<P, M: Digestible, S, G> Message<P, M, S, G> {
         ensures { result ≡ Message.Get digest responder }
     {
         Message::Get { digest, responder }
+    }
+}
+
+impl<P, M: Digestible, S, G> Message<P, M, S, G> {
+    /// Returns what is asked for.
+    pub fn kind(&self) -> Kind
+        ensures { result ≡ kind_of self.now }
+    {
+        match self {
+            Message::Broadcast { .. } => Kind::Broadcast,
+            Message::Subscribe { .. } => Kind::Subscribe,
+            Message::Get { .. } => Kind::Get,
+        }
     }
 }
 

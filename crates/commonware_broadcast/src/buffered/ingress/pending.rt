@@ -1,10 +1,14 @@
 //! The overflow of a mailbox, which has no bound.
 ghost use Rattle.std.specs.Prelude.{◌≡◌, ◌+◌, ◌^◌, ◌<◌, ◌≤◌, List, [], ◌∷◌, length};
 ghost use Rattle.std.specs.VecDeque.{deque_capacity, deque_len};
+ghost use Rattle.commonware_broadcast.specs.declared.buffered.ingress.request.Request.{Request};
 ghost use Rattle.commonware_broadcast.specs.Overflow.{Handles, Drains, PutsWithin};
+ghost use Rattle.commonware_broadcast.specs.Skips.{IsOf};
 
 use crate::buffered::ingress::overflow::Overflow;
 use crate::buffered::ingress::refill::refill_front;
+use crate::buffered::ingress::request::Request;
+use crate::buffered::ingress::skips::Skips;
 use broadcast_core::Closable;
 use std::alloc::{AllocError, Global};
 use std::collections::VecDeque;
@@ -62,15 +66,18 @@ impl<T: Closable + Drop> Pending<T> {
         self.messages.push_back(message)?;
         Ok(())
     }
+}
 
-    /// Moves messages, oldest first, to the end of the ready list while it has fewer than `size`,
+impl<T: Closable + Drop> Pending<Request<T>> {
+    /// Moves requests, oldest first, to the end of the ready list while it has fewer than `size`,
     /// and drops closed ones. Returns how many were dropped. Does not allocate.
-    pub(super) fn refill(&mut self, ready: &mut VecDeque<T>, size: usize) -> usize
+    pub(super) fn refill(&mut self, ready: &mut VecDeque<Request<T>>, size: usize) -> Skips
         requires { size ≤ deque_capacity ready.old }
-        ensures { (skipped : List T)
-            × Drains T.may_answer (PutsWithin size) ready.old.items self.old
+        ensures { (skipped : List (Request T))
+            × Drains (λ (request : Request T) answer. T.may_answer request.message answer)
+            (PutsWithin size) ready.old.items self.old
             skipped self.new ready.new.items
-            × (result ≡ length skipped) }
+            × IsOf result skipped }
     {
         refill_front(&mut self.messages, ready, size)
     }

@@ -4,12 +4,14 @@ ghost use Rattle.std.specs.NonZero.{non_zero_usize_get};
 ghost use Rattle.commonware_broadcast.specs.declared.buffered.ingress.request.Request.{Request};
 ghost use Rattle.commonware_broadcast.specs.Queue.{Pushes, Pops, Draws, HasRoom, IsSound};
 ghost use Rattle.commonware_broadcast.specs.Queue.{last_ticket, queue_after, shut_down, waiting};
+ghost use Rattle.commonware_broadcast.specs.Skips.{IsOf};
 
 use crate::MailboxError;
 use crate::buffered::ingress::overflow::{Overflow, Policy};
 use crate::buffered::ingress::pending::Pending;
 use crate::buffered::ingress::queued::Queued;
 use crate::buffered::ingress::request::Request;
+use crate::buffered::ingress::skips::Skips;
 use broadcast_core::Closable;
 use std::alloc::Global;
 use std::collections::VecDeque;
@@ -80,8 +82,8 @@ impl<T> Queue<T> {
 
 impl<T: Closable + Drop> Queue<T> {
     /// Draws a ticket for the message and queues it. After an error the queue is unchanged.
-    pub(super) fn push(&mut self, message: T) -> Result<Queued, MailboxError>
-        ensures step { Pushes T.may_answer self.old message result self.new }
+    pub(super) fn push(&mut self, message: T, counted: bool) -> Result<Queued, MailboxError>
+        ensures step { Pushes T.may_answer self.old message counted result self.new }
         ensures drawn { self.new.next ≤ last_ticket }
     {
         if self.closed {
@@ -89,9 +91,9 @@ impl<T: Closable + Drop> Queue<T> {
         } else if self.next == u64::MAX {
             Err(MailboxError::Exhausted)
         } else if self.has_room() {
-            self.push_ready(message)
+            self.push_ready(message, counted)
         } else {
-            self.push_overflow(message)
+            self.push_overflow(message, counted)
         }
     }
 
@@ -103,17 +105,17 @@ impl<T: Closable + Drop> Queue<T> {
     }
 
     // Puts the message into the ready list.
-    fn push_ready(&mut self, message: T) -> Result<Queued, MailboxError>
+    fn push_ready(&mut self, message: T, counted: bool) -> Result<Queued, MailboxError>
         requires draws { Draws self.old self.old.next }
         requires room { HasRoom self.old }
-        ensures step { Pushes T.may_answer self.old message result self.new }
+        ensures step { Pushes T.may_answer self.old message counted result self.new }
         ensures drawn { self.new.next ≤ last_ticket }
     {
         let ticket = self.next;
         let request = Request {
             ticket,
             message,
-            counted: false,
+            counted,
         };
         if self.ready.push_back(request).is_err() {
             return Err(MailboxError::Memory);
@@ -123,10 +125,10 @@ impl<T: Closable + Drop> Queue<T> {
     }
 
     // Hands the message, which finds no room, to the overflow.
-    fn push_overflow(&mut self, message: T) -> Result<Queued, MailboxError>
+    fn push_overflow(&mut self, message: T, counted: bool) -> Result<Queued, MailboxError>
         requires draws { Draws self.old self.old.next }
         requires no_room { ¬ HasRoom self.old }
-        ensures step { Pushes T.may_answer self.old message result self.new }
+        ensures step { Pushes T.may_answer self.old message counted result self.new }
         ensures drawn { self.new.next ≤ last_ticket }
     {
         let ticket = self.next;
@@ -134,7 +136,7 @@ impl<T: Closable + Drop> Queue<T> {
         let request = Request {
             ticket,
             message,
-            counted: false,
+            counted,
         };
         if Policy::handle(&mut self.overflow, request).is_err() {
             return Err(MailboxError::Memory);
@@ -149,17 +151,17 @@ impl<T: Closable + Drop> Queue<T> {
 
     /// Removes and returns the oldest request, if there is one, and fills the ready list from the
     /// overflow. Returns also how many closed requests were dropped on the way.
-    pub(super) fn pop(&mut self) -> (Option<Request<T>>, usize)
+    pub(super) fn pop(&mut self) -> (Option<Request<T>>, Skips)
         ensures step { (skipped : List (Request T))
             × Pops T.may_answer self.old result.0 skipped self.new
-            × (result.1 ≡ length skipped) }
+            × IsOf result.1 skipped }
         ensures drawn { self.new.next ≤ last_ticket }
     {
         let Some(request) = self.ready.pop_front() else {
-            return (None, 0);
+            return (None, Skips::none());
         };
         if self.overflow.is_empty() {
-            return (Some(request), 0);
+            return (Some(request), Skips::none());
         }
         let skipped = self.overflow.refill(&mut self.ready, self.size);
         (Some(request), skipped)

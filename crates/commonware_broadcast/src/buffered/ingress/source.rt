@@ -1,41 +1,70 @@
 //! The end of a mailbox from which its requests are taken.
-ghost use Rattle.std.specs.Prelude.{◌≡◌, ◌+◌, false};
+ghost use Rattle.std.specs.Prelude.{◌≡◌, ◌+◌, ◌↔◌, true, false, is_err, IfOk, IfErr};
 ghost use Rattle.futures.specs.Poll.{OnPending};
 ghost use Rattle.futures.specs.Task.{IsArmed, Keeps};
+ghost use Rattle.commonware_broadcast.specs.Account.{TakerState, counted_of};
+ghost use Rattle.commonware_broadcast.specs.Attended.{ready};
+ghost use Rattle.commonware_broadcast.specs.Watch.{BroadcastsOnly};
 
+use crate::buffered::ingress::account::{Account, Bookkeeping};
+use crate::buffered::ingress::books::Books;
+use crate::buffered::ingress::message::Message;
 use crate::buffered::ingress::queued::Counts;
+use crate::buffered::ingress::reply::Reply;
 use crate::buffered::ingress::request::Request;
+use crate::buffered::ingress::responder::Responder;
+use crate::buffered::ingress::settled::Settled;
 use crate::buffered::ingress::shared::Shared;
 use crate::buffered::ingress::stopper::Stopper;
-use broadcast_core::Closable;
+use crate::buffered::ingress::tally::Tally;
+use crate::buffered::ingress::watch::Watch;
+use broadcast_core::{Closable, Digestible, PublicKey};
 use futures::task::{Context, Poll};
 use std::alloc::AllocError;
+use std::marker::Model;
 use std::sync::{Arc, Wait};
 
 /// The end of a mailbox from which its requests are taken, with messages `T`.
 ///
 /// A call takes the lock of the inbox once, and makes one call of the inbox under it.
 #[derive(Drop)]
-pub struct Ingress<T, R> {
-    inbox: Arc<Shared<T>>,
+pub struct Ingress<T, R, A: Bookkeeping = ()> {
+    inbox: Arc<Shared<T, A>>,
+    taker: A::Taker,
     rt: R,
 }
 
-impl<T, R> Ingress<T, R> {
+impl<T, R, A: Bookkeeping> Model for Ingress<T, R, A> {
+    ghost use Rattle.commonware_broadcast.specs.Account.{TakerState};
+
+    ghost Value = { TakerState };
+
+    ghost view = { λ it. record { taken = A.taken it.taker } };
+}
+
+impl<T, R, A: Bookkeeping> Ingress<T, R, A> {
     // Creates the end that takes from the inbox.
-    pub(super) fn new(rt: R, inbox: Arc<Shared<T>>) -> Self {
-        Ingress { inbox, rt }
+    pub(super) fn new(rt: R, inbox: Arc<Shared<T, A>>, taker: A::Taker) -> Self {
+        Ingress { inbox, taker, rt }
+    }
+
+    /// Counts the request that was taken last as refused, or else as applied, if it is a counted
+    /// one.
+    pub fn end(&mut self, refused: bool)
+        ensures { self.new.taken ≡ self.old.taken }
+    {
+        A::end(&mut self.taker, refused);
     }
 }
 
-impl<T, R: Clone> Ingress<T, R> {
+impl<T, R: Clone, A: Bookkeeping> Ingress<T, R, A> {
     /// Returns a stopper of whoever takes the requests, or an allocation failure.
-    pub fn stopper(&self) -> Result<Stopper<T, R>, AllocError> {
+    pub fn stopper(&self) -> Result<Stopper<T, R, A>, AllocError> {
         Ok(Stopper::new(self.rt.clone()?, Arc::try_clone(&self.inbox)?))
     }
 }
 
-impl<T, R: Wait> Ingress<T, R> {
+impl<T, R: Wait, A: Bookkeeping> Ingress<T, R, A> {
     /// Asks whoever takes the requests to stop. Requests are still queued and taken.
     pub fn request_stop(&self) {
         self.inbox.request_stop(&self.rt);
@@ -64,10 +93,28 @@ impl<T, R: Wait> Ingress<T, R> {
     }
 }
 
+impl<T: Closable + Drop, R: Wait, A: Bookkeeping> Ingress<T, R, A> {
+    /// Removes and returns the oldest request, and counts it if it is a counted one. If none waits,
+    /// the task is woken once one is queued.
+    pub fn poll_request(&mut self, cx: &mut Context<'_>) -> Poll<Request<T>>
+        ensures taken { self.new.taken ≡ self.old.taken + counted_of (ready result) }
+        ensures armed { OnPending result (IsArmed cx.new) }
+        ensures kept { Keeps cx.old cx.new }
+    {
+        self.inbox.poll_next(&self.rt, &mut self.taker, cx)
+    }
+
+    /// Closes the mailbox and drops the requests that wait. Returns how many they were.
+    pub fn close(&self) -> u64 {
+        self.inbox.close(&self.rt)
+    }
+}
+
 impl<T: Closable + Drop, R: Wait> Ingress<T, R> {
     /// Removes the oldest request and returns it with its ticket, or `None` if none waits.
     pub fn take(&self) -> Option<(u64, T)> {
-        self.inbox.take(&self.rt)
+        let mut nobody = ();
+        self.inbox.take(&self.rt, &mut nobody)
     }
 
     /// Removes and returns the oldest request. If none waits, the task is woken once one is queued.
@@ -75,11 +122,48 @@ impl<T: Closable + Drop, R: Wait> Ingress<T, R> {
         ensures armed { OnPending result (IsArmed cx.new) }
         ensures kept { Keeps cx.old cx.new }
     {
-        self.inbox.poll_next(&self.rt, cx)
+        let mut nobody = ();
+        self.inbox.poll_next(&self.rt, &mut nobody, cx)
     }
+}
 
-    /// Closes the mailbox and drops the requests that wait. Returns how many they were.
-    pub fn close(&self) -> u64 {
-        self.inbox.close(&self.rt)
+impl<P, M, S, G, R, A, K, V> Ingress<Message<P, M, S, G>, R, Books<A, K, V, M::Digest>>
+where
+    P: PublicKey,
+    M: Digestible,
+    S: Responder<Reply<M>> + Drop,
+    G: Responder<Option<Reply<M>>> + Drop,
+    R: Wait + Drop,
+    A: Account,
+    K: Account,
+    V: Watch<M::Digest>,
+{
+    /// Closes the mailbox, and tells what became of the counted requests. Fails only if the tally
+    /// lacks a part.
+    pub fn settle(self, tally: Tally<A>) -> Result<Settled, (Self, Tally<A>)>
+        requires accounts { (A.all ≡ A.parts) × (K.all ≡ K.parts) }
+        ensures whole { (is_err result ≡ false) ↔ (tally.parts ≡ A.parts) }
+        ensures accepted { IfOk result (λ settled. tally.accepted ≡ settled.applied
+            + settled.refused + settled.skipped + settled.given_up) }
+        ensures taken { IfOk result (λ settled.
+            settled.applied + settled.refused ≡ self.taken) }
+        ensures broadcasts { IfOk result (λ settled.
+            BroadcastsOnly V.watched → settled.skipped ≡ 0) }
+        ensures unchanged_on_error { IfErr result (λ both. (both.0 ≡ self) × (both.1 ≡ tally)) }
+    {
+        if !tally.is_whole() {
+            return Err((self, tally));
+        }
+        let mut tally = tally;
+        let Ingress {
+            inbox,
+            mut taker,
+            rt,
+        } = self;
+        let settled = inbox.settle(&rt, &mut taker, &mut tally);
+        drop::<_>(inbox);
+        drop::<_>((taker, rt));
+        drop::<_>(tally);
+        Ok(settled)
     }
 }

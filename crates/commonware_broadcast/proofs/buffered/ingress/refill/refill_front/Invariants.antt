@@ -1,18 +1,22 @@
 use Rattle.std.proofs.Common.{◌≡◌, ◌+◌, ◌≤◌, List, length}
 use Rattle.std.specs.VecDeque.{deque_capacity}
+use Rattle.commonware_broadcast.specs.declared.buffered.ingress.request.Request.{Request}
 use Rattle.commonware_broadcast.specs.Overflow.{Drains, PutsWithin}
+use Rattle.commonware_broadcast.specs.Queue.{counted_in}
 use Rattle.commonware_broadcast.proofs.buffered.ingress.refill.refill_front.Given as goal
 
 -- what refilling from the rest comes to is what refilling from all comes to
-abbrev pub invariant-loop-message : goal.invariant-loop-message
-invariant-loop-message g l = record {
+abbrev pub invariant-loop-request : goal.invariant-loop-request
+invariant-loop-request g l = record {
   room : l.size ≤ deque_capacity l.ready;
-  counted : l.skipped + length l.messages.items ≤ length l.fn.messages.items;
+  skips : l.skips.all + length l.requests.items ≤ length l.fn.requests.items;
+  counted : l.skips.counted ≤ l.skips.all;
   goes_on : (skipped new last : List _)
-      → Drains g.T.Closable.may_answer (PutsWithin l.size) l.ready.items l.messages.items skipped new last
-      → (all : List _) × Drains g.T.Closable.may_answer (PutsWithin l.size) l.fn.ready.items l.fn.messages.items all new last
-      × (length all ≡ l.skipped + length skipped);
+      → Drains (λ (request : Request _) answer. g.T.Closable.may_answer request.message answer) (PutsWithin l.size) l.ready.items l.requests.items skipped new last
+      → (all : List _) × Drains (λ (request : Request _) answer. g.T.Closable.may_answer request.message answer) (PutsWithin l.size) l.fn.ready.items l.fn.requests.items all new last
+      × (length all ≡ l.skips.all + length skipped)
+      × (counted_in all ≡ l.skips.counted + counted_in skipped);
 }
 
-abbrev pub decreases-loop-message : goal.decreases-loop-message
-decreases-loop-message g l = length l.messages.items
+abbrev pub decreases-loop-request : goal.decreases-loop-request
+decreases-loop-request g l = length l.requests.items

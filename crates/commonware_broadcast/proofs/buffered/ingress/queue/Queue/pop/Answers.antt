@@ -7,12 +7,12 @@ invariant_of-self g c = rw (← c.in_default.ensures.items) c.self.invariant
 
 pub returns-in_default-clause-step : goal.returns-in_default-clause-step
 returns-in_default-clause-step g c =
-    rw (← c.self.view_is) ([], (nobody_waits _ c.self.invariant (sym c.self.inside.ready.ok.0 ∙ c.in_default.ensures.cases.0), refl, rw (← c.in_default.ensures.items) refl), refl)
+    rw (← c.self.view_is) ([], (nobody_waits _ c.self.invariant (sym c.self.inside.ready.ok.0 ∙ c.in_default.ensures.cases.0), refl, rw (← c.in_default.ensures.items) refl), rw c.none.ensures (record { all = refl; counted = refl }))
 
 pub returns-then-is_empty-clause-step : goal.returns-then-is_empty-clause-step
 returns-then-is_empty-clause-step g c =
     let none : c.self.inside.overflow ≡ [] = c.if-is_empty.ensures.0 refl in
-    rw (← c.self.view_is) ([], (_, c.in-Some.ensures.items, rw none (refl, refl, refl), refl), refl)
+    rw (← c.self.view_is) ([], (_, c.in-Some.ensures.items, rw none (refl, refl, refl), refl), rw c.none-then-is_empty.ensures (record { all = refl; counted = refl }))
 
 pub invariant_of-self-2 : goal.invariant_of-self-2
 invariant_of-self-2 g c =

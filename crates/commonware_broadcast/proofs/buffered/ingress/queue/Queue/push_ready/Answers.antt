@@ -5,4 +5,4 @@ pub invariant_of-self-2 : goal.invariant_of-self-2
 invariant_of-self-2 g c =
     let draws = rw (← c.self.view_is) at c.requires.draws in
     let room = rw (← c.self.view_is) at c.requires.room in
-    IsSound-pushed _ _ c.args.message c.push_back.result c.self.invariant draws room c.if-is_err.ensures.value c.push_back.ensures.items
+    IsSound-pushed _ _ c.args.message c.args.counted c.push_back.result c.self.invariant draws room c.if-is_err.ensures.value c.push_back.ensures.items

@@ -1,0 +1,226 @@
+//! The session of a node and its client.
+ghost use Rattle.std.specs.Prelude.{◌≡◌};
+ghost use Rattle.std.specs.NonZero.{non_zero_u32_get};
+ghost use Rattle.commonware_broadcast.specs.Account.{TallyState, capped};
+ghost use Rattle.cluster_lib.specs.Settlements.{ended};
+
+use crate::client::{Client, Seen};
+use crate::fault::Fault;
+use crate::message::broadcast;
+use crate::network::Mail;
+use crate::node::{Counted, Node, config, start_counting};
+use crate::row::Row;
+use crate::settings::Settings;
+use crate::settlement::Settlement;
+use crate::shared::Shared;
+use crate::tally::{Counting, WholeTally};
+use broadcast_core::{RangeCfg, TestMessage};
+use broadcast_engine::buffered::{
+    Account, Bookkeeping, Mailbox, MailboxReport, Sequential, StartError,
+};
+use commonware_broadcast::Feedback;
+use std::alloc::{AllocError, AllocGlobal};
+use std::marker::Brand;
+use std::num::NonZeroU32;
+use std::random::RandomSource;
+use std::sync::ledger::Blank;
+use std::sync::{Arc, Wait};
+use std::thread::{self, JoinHandle, Threads};
+use std::time::Clock;
+
+/// A key that no node has, and that no node admits.
+pub const STRANGER: u64 = 0;
+
+/// What is left of a client's thread: its tally, and what it saw.
+type Finished<A> = (WholeTally<A>, Result<Seen, Fault>);
+
+/// What became of a node and of its client's requests.
+#[derive(Clone, Copy)]
+pub struct Played {
+    /// What became of the node.
+    pub row: Row,
+    /// What became of the requests.
+    pub settlement: Settlement,
+}
+
+/// The session of a node, which settles the account of its client's requests.
+#[derive(Drop)]
+pub struct NodeSession<R> {
+    /// The mail of the node.
+    pub mail: Arc<Mail>,
+    /// The mail of the other nodes.
+    pub others: Vec<Arc<Mail>>,
+    /// The settings of the run.
+    pub settings: Settings,
+    /// What it shares with the other nodes and with the clients.
+    pub shared: Arc<Shared>,
+    /// The right to start threads and to wait.
+    pub rt: R,
+}
+
+impl<R> NodeSession<R>
+where
+    R: Threads + Wait + Clock + RandomSource + AllocGlobal + Clone + Send + Sync + Drop + 'static,
+{
+    /// Runs the session with a new node. If it fails, all nodes and clients end.
+    pub fn play(self) -> Result<Played, Fault> {
+        let Ok(shared) = Arc::try_clone(&self.shared) else {
+            self.shared.fail();
+            return Err(Fault::Memory);
+        };
+        let played = play_node(self);
+        if played.is_err() {
+            shared.fail();
+        }
+        played
+    }
+}
+
+/// Runs the session with a new node, and picks the ledgers of its account.
+fn play_node<R>(session: NodeSession<R>) -> Result<Played, Fault>
+where
+    R: Threads + Wait + Clock + RandomSource + AllocGlobal + Clone + Send + Sync + Drop + 'static,
+{
+    let parts = NonZeroU32::MIN;
+    let all = parts.get() as u64;
+    play_with::<R, Brand, Brand>(session, parts, Blank::new(all), Blank::new(1))
+}
+
+/// Runs the session with a new node, whose account is in these ledgers.
+fn play_with<R, A, K>(
+    session: NodeSession<R>,
+    parts: NonZeroU32,
+    accepted: Blank,
+    taken: Blank,
+) -> Result<Played, Fault>
+where
+    R: Threads + Wait + Clock + RandomSource + AllocGlobal + Clone + Send + Sync + Drop + 'static,
+    A: Account + Send + Sync + 'static,
+    K: Account + Send + Sync + 'static,
+    requires accepted { (accepted.name ≡ A.name) × (accepted.parts ≡ A.parts) }
+    requires parts { (A.all ≡ A.parts) × (A.parts ≡ non_zero_u32_get parts) }
+    requires taken { (taken.name ≡ K.name) × (taken.parts ≡ K.parts) }
+    requires one { (K.all ≡ K.parts) × (K.parts ≡ 1) }
+{
+    let NodeSession {
+        mail,
+        others,
+        settings,
+        shared,
+        rt,
+    } = session;
+    let config = config(&rt, RangeCfg::any(), Sequential, &mail, settings.deque_size)?;
+    let counted: Counted<TestMessage, R, A, K> = start_counting(
+        &rt, config, &mail, others, parts, accepted, taken,
+    )?;
+    let (started, tally) = counted;
+    let tally = WholeTally::new(tally);
+    match started {
+        Ok(node) => run_node(&rt, settings, &shared, node, tally),
+        Err((mailbox, error)) => Err(not_started(&rt, &mailbox, error)),
+    }
+}
+
+/// Returns the fault of a node that was not started. Its mailbox must be closed.
+fn not_started<R, A>(rt: &R, mailbox: &Mailbox<u64, TestMessage, R, A>, error: StartError) -> Fault
+where
+    R: Wait + AllocGlobal + Clone + Send + 'static,
+    A: Bookkeeping + Send + 'static,
+{
+    match broadcast(rt, mailbox, STRANGER, 1) {
+        Ok(Feedback::Closed) => Fault::from(error),
+        Ok(Feedback::Ok | Feedback::Backoff) => Fault::Open,
+        Err(fault) => fault,
+    }
+}
+
+/// Lets a client use the started node, and stops the node once all clients have finished, or after
+/// a minute. Returns what became of the node.
+fn run_node<R, A, K>(
+    rt: &R,
+    settings: Settings,
+    shared: &Arc<Shared>,
+    node: Node<TestMessage, R, Counting<A, K>>,
+    tally: WholeTally<A>,
+) -> Result<Played, Fault>
+where
+    R: Threads + Wait + Clock + RandomSource + AllocGlobal + Clone + Send + Sync + Drop + 'static,
+    A: Account + Send + Sync + 'static,
+    K: Account + Send + Sync + 'static,
+    requires accounts { (A.all ≡ A.parts) × (K.all ≡ K.parts) }
+{
+    let client = start_client(rt, settings, shared, &node, tally);
+    if client.is_ok() {
+        shared.wait_for_finished(rt);
+    }
+    node.handle.stop();
+    let key = node.mail.key;
+    let report = node.join(rt);
+    let (tally, seen) = client?.join(rt);
+    Ok(settle(key, report, settings, tally, seen?))
+}
+
+/// Starts the client of the node.
+fn start_client<R, A, K>(
+    rt: &R,
+    settings: Settings,
+    shared: &Arc<Shared>,
+    node: &Node<TestMessage, R, Counting<A, K>>,
+    tally: WholeTally<A>,
+) -> Result<JoinHandle<Finished<A>>, Fault>
+where
+    R: Threads + Wait + Clock + RandomSource + AllocGlobal + Clone + Send + Sync + Drop + 'static,
+    A: Account + Send + Sync + 'static,
+    K: Account + Send + Sync + 'static,
+{
+    let client = client_of(rt, settings, shared, node)?;
+    match thread::spawn(rt, move || client.run(tally)) {
+        Ok(thread) => Ok(thread),
+        Err(_) => Err(Fault::Thread),
+    }
+}
+
+/// Creates the client of a node.
+fn client_of<R, A, K>(
+    rt: &R,
+    settings: Settings,
+    shared: &Arc<Shared>,
+    node: &Node<TestMessage, R, Counting<A, K>>,
+) -> Result<Client<R, Counting<A, K>>, AllocError>
+where
+    R: Clone + Drop,
+    A: Account,
+    K: Account,
+{
+    Ok(Client {
+        key: node.mail.key,
+        mailbox: node.mailbox.clone()?,
+        settings,
+        shared: Arc::try_clone(shared)?,
+        rt: rt.clone()?,
+    })
+}
+
+/// Returns what became of a node, of whose account this is the tally, and whose client saw this.
+fn settle<R, A, K>(
+    key: u64,
+    report: MailboxReport<u64, TestMessage, R, Counting<A, K>>,
+    settings: Settings,
+    tally: WholeTally<A>,
+    seen: Seen,
+) -> Played
+where
+    R: Wait + Drop,
+    A: Account,
+    K: Account,
+    requires accounts { (A.all ≡ A.parts) × (K.all ≡ K.parts) }
+{
+    let row = Row::new(key, report.metrics(), seen, settings.subscriptions());
+    let tally = tally.into_inner();
+    let accepted = tally.accepted();
+    let settled = report.settle(tally).unwrap();
+    Played {
+        row,
+        settlement: Settlement::new(accepted, settled),
+    }
+}
