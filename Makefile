@@ -1,10 +1,9 @@
-# `make example` runs the program on an example; `make test` is the merge gate.
-# `make rows`, `make models`, `make growths`, `make devices` and `make bench` want the programs built,
-# as `make test` leaves them.
+# `make example` runs the program on an example; `make test` is the merge gate. `make pictures` draws the
+# pictures of the documents. The others want the programs built, as `make test` leaves them.
 EVENTS ?= examples/two-peers.events
 REPLAY := crates/replay/out/replay
 
-.PHONY: example test rows models growths devices bench
+.PHONY: example test lib border runs generated alloc-failures io-failures pictures bench
 
 # `rt run` proves and builds the program, and prints how; the example is then run by itself.
 example:
@@ -15,21 +14,33 @@ example:
 test:
 	@scripts/gate
 
-rows:
-	@echo "rows: running each program over its rows, as both compilers built it"
-	@scripts/rows
+# The static library for callers in C and Rust, which is linked with `c/liblibc_c.a` of the kit.
+lib:
+	@echo "lib: proving and building crates/broadcast_c/out/libbroadcast_c.a"
+	cd crates/broadcast_c && rt lib
 
-models:
-	@echo "models: running programs over long generated inputs, and comparing them with models"
-	@scripts/models
+border:
+	@echo "border: building the static library by both compilers, and calling it from C and Rust"
+	@scripts/border
 
-growths:
-	@echo "growths: refusing each growth of a program's heap in turn"
-	@scripts/growths
+runs:
+	@echo "runs: running each program over its stored runs, as both compilers built it"
+	@scripts/stored_runs
 
-devices:
-	@echo "devices: letting each read and write of a program go wrong in turn"
-	@scripts/devices
+generated:
+	@echo "generated: running programs over long generated inputs, and comparing them with models"
+	@scripts/generated_runs
+
+alloc-failures:
+	@echo "alloc-failures: refusing each allocation of a program in turn"
+	@scripts/alloc_failures
+
+io-failures:
+	@echo "io-failures: letting each read and write of a program go wrong in turn"
+	@scripts/io_failures
+
+pictures:
+	@scripts/pictures
 
 bench:
 	@echo "bench: timing replay beside a plain Rust program"

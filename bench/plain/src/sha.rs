@@ -53,10 +53,7 @@ fn compress(state: &mut [u32; 8], blocks: &[u8]) {
                     let y = w[(i + 14) % 16];
                     let s0 = x.rotate_right(7) ^ x.rotate_right(18) ^ (x >> 3);
                     let s1 = y.rotate_right(17) ^ y.rotate_right(19) ^ (y >> 10);
-                    w[i] = w[i]
-                        .wrapping_add(s0)
-                        .wrapping_add(w[(i + 9) % 16])
-                        .wrapping_add(s1);
+                    w[i] = w[i].wrapping_add(s0).wrapping_add(w[(i + 9) % 16]).wrapping_add(s1);
                 }
                 let s1 = e.rotate_right(6) ^ e.rotate_right(11) ^ e.rotate_right(25);
                 let ch = g ^ (e & (f ^ g));

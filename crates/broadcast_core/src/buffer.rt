@@ -6,6 +6,7 @@ ghost use Rattle.std.specs.List.{All, IsDistinct};
 ghost use Rattle.std.specs.Map.{keys_of};
 ghost use Rattle.std.specs.Option.{option_copied, option_map};
 ghost use Rattle.std.specs.Ordering.{eq_by_cmp};
+ghost use Rattle.entries.specs.Store.{overlaid};
 ghost use Rattle.broadcast_core.specs.Content.{same_by};
 
 mod cache;
@@ -134,6 +135,17 @@ impl<P: PublicKey, M: Digestible, W: Drop> Core<P, M, W> {
             (list_at same self.now peer.now) }
     {
         self.state.cache.list(alloc, peer)
+    }
+
+    /// Copies the digests on the list of `peer` to the front of `out`, newest first, as many as
+    /// there are places for. Returns how many digests are on the list.
+    pub fn list_into(&self, peer: &P, out: &mut [M::Digest]) -> usize
+        ensures len { let same = same_by P.cmp M.Digest.cmp in
+            result ≡ length (list_at same self.now peer.now) }
+        ensures digests { let same = same_by P.cmp M.Digest.cmp in
+            out.new ≡ overlaid (list_at same self.now peer.now) out.old }
+    {
+        self.state.cache.list_into(peer, out)
     }
 
     /// Returns the sum of the charges of the digests on the list of `peer`.

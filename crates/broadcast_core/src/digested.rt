@@ -1,11 +1,12 @@
 //! Messages with their digests.
-ghost use Rattle.std.specs.Prelude.{◌≡◌, IfOk};
+ghost use Rattle.std.specs.Prelude.{◌≡◌, true, Some, None, is_some, IfOk, Err};
 ghost use Rattle.std.specs.Arc.{arc_value};
 ghost use Rattle.std.specs.Ordering.{on, eq_of_both};
 ghost use Rattle.std.specs.Cmp.Rules.{comparing};
 ghost use Rattle.std.proofs.Common.{rules};
 
 use crate::codec::{CodecError, EncodeSize, Write};
+use crate::event::Cause;
 use std::alloc::{AllocError, Global};
 use std::hash::Hash;
 use std::marker::Model;
@@ -89,6 +90,27 @@ impl<M: Digestible> Digested<M> {
         ensures { IfOk result (λ message. arc_value message ≡ self.now.message) }
     {
         Arc::try_clone(&self.message)
+    }
+}
+
+impl<M: Digestible + Write> Digested<M> {
+    /// Returns the encoding of the message, as it is sent.
+    ///
+    /// # Errors
+    ///
+    /// Fails with [`Cause::Unencodable`] if the message has no encoding, and with
+    /// [`Cause::Memory`] if it has one and an allocation fails.
+    pub fn encode(&self, alloc: Global) -> Result<Vec<u8>, Cause>
+        ensures ok { IfOk result (λ bytes. M.encoding self.now.message ≡ Some bytes.items) }
+        ensures memory { result ≡ Err Cause.Memory → is_some (M.encoding self.now.message) ≡ true }
+        ensures unencodable { result ≡ Err Cause.Unencodable → M.encoding self.now.message ≡ None }
+    {
+        let mut bytes = Vec::new(alloc);
+        match self.message.write(&mut bytes) {
+            Ok(()) => Ok(bytes),
+            Err(CodecError::Unencodable) => Err(Cause::Unencodable),
+            Err(_) => Err(Cause::Memory),
+        }
     }
 }
 

@@ -23,7 +23,7 @@ pub use event::{Answer, Cause, Event, Run, Sent};
 pub use items::Items;
 pub use laws::list_law;
 pub use mocks::TestMessage;
-pub use ordered::{PublicKey, Recipients, Set};
+pub use ordered::{Key, PublicKey, Recipients, Set};
 pub use outcome::{Outcome, Subscribed, Taken};
 pub use requests::{Closable, Ticketed};
 pub use runner::run;

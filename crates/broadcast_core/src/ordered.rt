@@ -1,6 +1,7 @@
 //! Keys of peers, sets of keys, and recipients.
 ghost use Rattle.std.specs.Prelude.{◌≡◌, ◌==◌, true, List, [], length, is_some, IfSome, IfOk, OnOk, IsSomeAnd};
 ghost use Rattle.std.specs.Cmp.Lexicographic.{pointwise, lists_per, lists_equiv};
+ghost use Rattle.std.specs.Cmp.Rules.{comparing};
 ghost use Rattle.std.specs.List.{AllZip, find, list_any, slice_get};
 ghost use Rattle.std.specs.List.Sorted.{IsStrictlySortedBy};
 ghost use Rattle.std.specs.Option.{option_copied};
@@ -23,6 +24,18 @@ pub trait PublicKey: Clone + Ord + Eq + Hash + Send + Drop + 'static {
 
 impl PublicKey for u64 {
     ghost copies = { Prim.search rules };
+}
+
+/// A key of 32 bytes, compared byte by byte. It is laid out as these bytes.
+#[repr(C)]
+#[derive(Clone, Copy, Debug, PartialEq, Eq, PartialOrd, Ord, Hash)]
+pub struct Key {
+    /// The bytes of the key.
+    pub bytes: [u8; 32],
+}
+
+impl PublicKey for Key {
+    ghost copies = { Prim.search (comparing, rules) };
 }
 
 /// The peers that a message is for.

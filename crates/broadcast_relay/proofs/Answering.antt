@@ -1,9 +1,9 @@
 -- How a broadcaster's answers come to an end.
 use Rattle.std.proofs.Common.{◌≡◌, List, [], ◌∷◌, ◌++◌, Option, None, Some, Result, Ok, Err, Bool, false, length, refl, sym, subst, append-nil}
 use Rattle.std.specs.Prelude.{IsTrue, ◌↔◌, ◌≢◌}
-use Rattle.commonware_broadcast.specs.declared.broadcaster.Feedback.{Feedback}
-use Rattle.commonware_broadcast.specs.declared.broadcaster.Feedback.TheVariants.{Closed}
-use Rattle.commonware_broadcast.specs.declared.broadcaster.MailboxError.{MailboxError}
+use Rattle.broadcast_mailbox.specs.declared.broadcaster.Feedback.{Feedback}
+use Rattle.broadcast_mailbox.specs.declared.broadcaster.Feedback.TheVariants.{Closed}
+use Rattle.broadcast_mailbox.specs.declared.broadcaster.MailboxError.{MailboxError}
 use Rattle.broadcast_relay.specs.Answered.{AreAnswered}
 
 pub closed : (f : Feedback) (accepted : Bool) → IsTrue accepted ↔ (f ≢ Closed) → accepted ≡ false → f ≡ Closed

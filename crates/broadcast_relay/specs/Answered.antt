@@ -1,8 +1,8 @@
 -- What a broadcaster answers that is handed messages one after the other.
 use Rattle.std.specs.Prelude.{◌≡◌, List, [], ◌∷◌, Option, None, Some, Result, Ok, Err}
-use Rattle.commonware_broadcast.specs.declared.broadcaster.Feedback.{Feedback}
-use Rattle.commonware_broadcast.specs.declared.broadcaster.Feedback.TheVariants.{Closed}
-use Rattle.commonware_broadcast.specs.declared.broadcaster.MailboxError.{MailboxError}
+use Rattle.broadcast_mailbox.specs.declared.broadcaster.Feedback.{Feedback}
+use Rattle.broadcast_mailbox.specs.declared.broadcaster.Feedback.TheVariants.{Closed}
+use Rattle.broadcast_mailbox.specs.declared.broadcaster.MailboxError.{MailboxError}
 
 module _ {X : Type 0} (may_answer : X → Result Feedback MailboxError → Type 0) where
   -- each message has the answer at its place, up to the first that is refused or finds a closed queue

@@ -4,7 +4,7 @@ ghost use Rattle.broadcast_core.specs.declared.ordered.Recipients.TheVariants as
 ghost use Rattle.broadcast_relay.specs.Answered.{AreAnswered};
 
 use broadcast_core::Recipients;
-use commonware_broadcast::{Broadcaster, Feedback, MailboxError};
+use broadcast_mailbox::{Broadcaster, Feedback, MailboxError};
 use std::alloc::{AllocError, Global};
 
 /// What a broadcaster answered.

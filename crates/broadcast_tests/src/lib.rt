@@ -1,8 +1,10 @@
-//! Tests of the mailbox, of relays and of the programs over their streams.
+//! Tests of the mailbox, of pages, of relays and of the programs over their streams.
 #![tactic(auto)]
 
 #[cfg(test)]
 mod mailbox;
+#[cfg(test)]
+mod pages;
 #[cfg(test)]
 mod relays;
 #[cfg(test)]

@@ -3,7 +3,7 @@
 mod rows;
 mod world_rows;
 
-use commonware_broadcast::buffered::{Fixed, Inbox, Message};
+use broadcast_mailbox::buffered::{Fixed, Inbox, Message};
 use replay_lib::{Request, play_through};
 use rows::{Program, Row, Stream, Through, replay_rows};
 use std::alloc::Global;

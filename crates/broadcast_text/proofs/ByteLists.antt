@@ -1,8 +1,9 @@
 -- Bytes and their digits.
-use Rattle.std.proofs.Common.{◌≢◌, codes, ◌≡◌, ℕ, suc, zero, ◌+◌, ◌*◌, ◌/◌, ◌%◌, ◌<◌, List, [], ◌∷◌, ◌++◌, length, take, drop, slice_index, slice_set, refl, ap, ◌∙◌, arith}
+use Rattle.std.proofs.Common.{◌≢◌, All, codes, ◌≡◌, ℕ, suc, zero, ◌+◌, ◌*◌, ◌/◌, ◌%◌, ◌<◌, List, [], ◌∷◌, ◌++◌, length, take, drop, slice_index, slice_set, refl, ap, ◌∙◌, arith}
 use Rattle.std.proofs.lemmas.List.{append_assoc, take_more, take_more_set, take-append-drop}
 use Rattle.hex.specs.Hex.{encode_with, encode_lower, lower_digits, IsBytes}
-use Rattle.broadcast_text.specs.Words.{byte_list_word}
+use Rattle.std.proofs.lemmas.List.Elements.{All-head, All-tail}
+use Rattle.broadcast_text.specs.Words.{IsHexDigit, SpellsBytes, byte_list_word}
 use Rattle.hex.proofs.HexLemmas.{length-encode_with}
 
 -- digits of bytes in turn are the digits of all
@@ -98,3 +99,46 @@ byte_list_word-digits (b ∷ bytes) word e dash =
 pub front_more : (front rest bytes : List ℕ) (n : ℕ) → front ++ rest ≡ bytes → (front ++ take n rest) ++ drop n rest ≡ bytes
 front_more front rest bytes n e =
     append_assoc front (take n rest) (drop n rest) ∙ ap (λ (xs : List ℕ). front ++ xs) (take-append-drop n rest) ∙ e
+
+-- bytes, and one more
+IsBytes-more : (b : ℕ) (bs : List ℕ) → b < 256 → IsBytes bs → IsBytes (b ∷ bs)
+IsBytes-more b bs h fit zero = h
+IsBytes-more b bs h fit (suc i) = fit i
+
+IsBytes-nil : IsBytes []
+IsBytes-nil i = omega arith
+
+-- pairs of digits spell bytes
+digits_spell : (word : List ℕ) → length word % 2 ≡ 0 → All IsHexDigit word → (bs : List ℕ) × IsBytes bs × (word ≡ encode_lower bs)
+unfolding encode_with
+digits_spell [] even all = ([], IsBytes-nil, refl)
+digits_spell (h ∷ []) even all = absurd (omega (arith, even))
+digits_spell (h ∷ l ∷ word) even all =
+    let high = All-head IsHexDigit h (l ∷ word) all in
+    let rest = All-tail IsHexDigit h (l ∷ word) all in
+    let low = All-head IsHexDigit l word rest in
+    let more = digits_spell word (omega (arith, even)) (All-tail IsHexDigit l word rest) in
+    let hi : (high.0 * 16 + low.0) / 16 ≡ high.0 = omega (arith, low.1) in
+    let lo : (high.0 * 16 + low.0) % 16 ≡ low.0 = omega (arith, low.1) in
+    ((high.0 * 16 + low.0) ∷ more.0, IsBytes-more _ more.0 (omega (arith, high.1, low.1)) more.1, rw (hi, lo, high.2, low.2, ← more.2) refl)
+
+-- the digits of bytes are digits
+spell_digits : (bs : List ℕ) → IsBytes bs → All IsHexDigit (encode_lower bs)
+unfolding encode_with
+spell_digits [] fit k d h = absurd (omega (arith, h))
+spell_digits (b ∷ bs) fit zero d h = (b / 16, omega (arith, fit 0), refl)
+spell_digits (b ∷ bs) fit (suc zero) d h = (b % 16, omega arith, refl)
+spell_digits (b ∷ bs) fit (suc (suc k)) d h = spell_digits bs (λ i. fit (suc i)) k d (omega (arith, h))
+
+-- pairs of digits, and some, are a byte list's word
+pub SpellsBytes-digits : (word : List ℕ) → 0 < length word → length word % 2 ≡ 0 → All IsHexDigit word → SpellsBytes word
+SpellsBytes-digits word some even all =
+    let found = digits_spell word even all in
+    (found.0, found.1, byte_list_word-found found.0 word found.2 some)
+
+-- a byte list's word that is no dash is pairs of digits, and some
+pub SpellsBytes-no_dash : (word : List ℕ) → SpellsBytes word → word ≢ codes "-"
+    → (0 < length word) × (length word % 2 ≡ 0) × All IsHexDigit word
+SpellsBytes-no_dash word (bs, fit, e) dash =
+    let parts = byte_list_word-digits bs word e dash in
+    (parts.1, parts.2, rw parts.0 (spell_digits bs fit))

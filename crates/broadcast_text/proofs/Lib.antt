@@ -4,3 +4,4 @@ pub mod Written
 pub mod Splits
 pub mod Naming
 pub mod Shown
+pub mod Reading

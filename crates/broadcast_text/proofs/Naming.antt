@@ -1,5 +1,5 @@
 -- Recipients and the keys that they name.
-use Rattle.std.proofs.Common.{◌≡◌, ◌≢◌, ℕ, Bool, true, false, cond, List, [], ◌∷◌, ◌++◌, get_or, codes, sym, ap, ◌∙◌, arith}
+use Rattle.std.proofs.Common.{◌≡◌, ◌≢◌, ℕ, Bool, true, false, cond, List, [], ◌∷◌, ◌++◌, get_or, codes, refl, sym, ap, ◌∙◌, arith}
 use Rattle.std.specs.List.{slice_split, onto_first}
 use Rattle.broadcast_core.specs.declared.ordered.Recipients.{Recipients}
 use Rattle.broadcast_core.specs.declared.ordered.Recipients.TheVariants as recipients
@@ -20,6 +20,12 @@ pub IsRecipients-marked : (word text keys : List ℕ) → word ≡ codes "to:" +
 IsRecipients-marked word text [] e is = absurd (split-some _ text is)
 IsRecipients-marked word text (key ∷ []) e is = (text, e, is)
 IsRecipients-marked word text (key ∷ other ∷ keys) e is = ((text, e, is), omega arith)
+
+-- the keys that recipients of keys name
+pub keys_of-recipients_of : (keys : List ℕ) → keys_of (recipients_of keys) ≡ keys
+keys_of-recipients_of [] = refl
+keys_of-recipients_of (key ∷ []) = refl
+keys_of-recipients_of (key ∷ other ∷ keys) = refl
 
 -- a marked word does not name everybody
 marked_ne_all : (text : List ℕ) → codes "to:" ++ text ≢ codes "all"

@@ -4,16 +4,16 @@ use Rattle.std.specs.List.{position_or_len}
 use Rattle.std.specs.Cmp.Lexicographic.{pointwise}
 use Rattle.std.specs.Option.{ok_or}
 use Rattle.std.proofs.Math.Seq.{take-append_seam}
-use Rattle.std.proofs.lemmas.List.{take-append-drop}
+use Rattle.std.proofs.lemmas.List.{take-append-drop, map-append}
 use Rattle.std.proofs.lemmas.List.Splits.{slice_split_none, slice_split_first}
 use Rattle.std.proofs.lemmas.List.Sums.{position_or_len_is}
 use Rattle.std.proofs.lemmas.Slice.Eq.{bytes_eq-Decides}
 use Rattle.std.proofs.lemmas.Grind.{common_steps}
 use Rattle.memchr.specs.Find.{IsFirstByte, is_byte}
-use Rattle.broadcast_text.specs.Words.{words_of, words_left}
+use Rattle.broadcast_text.specs.Words.{SpellNumbers, words_of, words_left}
 use Rattle.broadcast_text.specs.Recipients.{AreNumbers}
 use Rattle.std.specs.Fmt.{decimal}
-use Rattle.std.proofs.lemmas.List.Elements.{All-head, All-tail}
+use Rattle.std.proofs.lemmas.List.Elements.{All-head, All-tail, All-append}
 
 -- a test that is not passed fails
 fails : (b : Bool) → ¬ (b ≡ true) → b ≡ false
@@ -21,7 +21,7 @@ fails true h = absurd (h refl)
 fails false h = refl
 
 -- an element that is there does not depend on what stands for others
-same_at : (text : List ℕ) (k d e : ℕ) → k < length text → get_or text k d ≡ get_or text k e
+pub same_at : (text : List ℕ) (k d e : ℕ) → k < length text → get_or text k d ≡ get_or text k e
 same_at text k d e inside = grind (arith, common_steps)
 
 -- what passes nowhere fails at each place
@@ -66,6 +66,29 @@ strips-found word mark (Some x) r e is h = rw is (mark_found word mark h.0 ∙ a
 pub strips-lacks : {E : Type 0} (word mark : List ℕ) (o : Option (Bor (List ℕ))) (r : Result (Bor (List ℕ)) E) (e : E) → r ≡ ok_or o e → Strips word mark o → IfErr r (λ _. (rest : List ℕ) → word ≢ mark ++ rest)
 strips-lacks word mark None r e is h = rw is (mark_lacks word mark h)
 strips-lacks word mark (Some x) r e is h = rw is tt
+
+-- one more word that spells a number
+pub numbers_more : (numbers : List ℕ) (words : List (List ℕ)) (word : List ℕ) (rest : List (List ℕ)) (n : ℕ) → words ≡ map decimal numbers ++ word ∷ rest → word ≡ decimal n
+    → words ≡ map decimal (numbers ++ n ∷ []) ++ rest
+numbers_more numbers words word rest n e is = e ∙ ap (λ w. map decimal numbers ++ w ∷ rest) is ∙ seam numbers
+  where
+    seam : (ns : List ℕ) → map decimal ns ++ decimal n ∷ rest ≡ map decimal (ns ++ n ∷ []) ++ rest
+    seam [] = refl
+    seam (m ∷ ns) = ap (λ ws. decimal m ∷ ws) (seam ns)
+
+-- what follows a word among the spellings of numbers spells numbers
+pub rest_spells : (numbers : List ℕ) (front : List (List ℕ)) (word : List ℕ) (rest : List (List ℕ)) → AreNumbers numbers → map decimal numbers ≡ front ++ word ∷ rest → SpellNumbers rest
+rest_spells [] [] word rest fit e = cc
+rest_spells [] (w ∷ ws) word rest fit e = cc
+rest_spells (n ∷ ns) [] word rest fit e =
+    let others : map decimal ns ≡ rest = cc in (ns, All-tail (λ m. m < 2 ^ 64) n ns fit, sym others)
+rest_spells (n ∷ ns) (w ∷ ws) word rest fit e =
+    let others : map decimal ns ≡ ws ++ word ∷ rest = cc in rest_spells ns ws word rest (All-tail (λ m. m < 2 ^ 64) n ns fit) others
+
+-- the spellings of some numbers and of others are those of all
+pub numbers_append : (numbers : List ℕ) (words rest : List (List ℕ)) → AreNumbers numbers → words ≡ map decimal numbers ++ rest → SpellNumbers rest → SpellNumbers words
+numbers_append numbers words rest fit e (others, fits, is) =
+    (numbers ++ others, All-append (λ n. n < 2 ^ 64) numbers others fit fits, e ∙ ap (λ ws. map decimal numbers ++ ws) is ∙ sym (map-append decimal numbers others))
 
 -- a word among the spellings of numbers spells one of them
 pub spells_one : (numbers : List ℕ) (front : List (List ℕ)) (word : List ℕ) (rest : List (List ℕ)) → AreNumbers numbers → map decimal numbers ≡ front ++ word ∷ rest

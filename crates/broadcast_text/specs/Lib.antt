@@ -4,3 +4,4 @@ pub mod Message
 pub mod FaultText
 pub mod Printed
 pub mod Lists
+pub mod Lines

@@ -5,6 +5,7 @@ use Rattle.hex.specs.Hex.{IsBytes}
 use Rattle.broadcast_core.specs.Carried.{Carried}
 use Rattle.broadcast_core.specs.TestMessage.{Parts}
 use Rattle.broadcast_text.specs.Words.{byte_list_word}
+use denote.Ref.{Bor}
 
 -- a commitment, a content, and perhaps the content whose digest the message goes by
 pub record Spelled : Type 0 where
@@ -19,6 +20,11 @@ named_words (Some content) = (codes "as:" ++ byte_list_word content) ∷ []
 
 abbrev pub message_words : Spelled → List (List ℕ)
 message_words s = byte_list_word s.commitment ∷ byte_list_word s.content ∷ named_words s.named
+
+-- the last of the words, where it stands
+abbrev pub marked_words : Option (Bor (List ℕ)) → List (List ℕ)
+marked_words None = []
+marked_words (Some word) = (codes "as:" ++ word.now) ∷ []
 
 -- the message and the digest that it goes by
 abbrev pub message_of : Spelled → Carried Parts (List ℕ)

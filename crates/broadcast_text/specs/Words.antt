@@ -1,7 +1,8 @@
 -- How the words of a line are spelled.
-use Rattle.std.specs.Prelude.{List, ℕ, Bool, [], ◌∷◌, ◌==◌, if◌then◌else◌, ◌≡◌, ◌<◌, ◌≤◌, codes, length, slice_index}
+use Rattle.std.specs.Prelude.{List, ℕ, Bool, [], ◌∷◌, ◌==◌, if◌then◌else◌, ◌≡◌, ◌<◌, ◌≤◌, ◌^◌, All, codes, length, map, slice_index}
 use Rattle.std.specs.List.{slice_split}
-use Rattle.hex.specs.Hex.{encode_lower}
+use Rattle.std.specs.Fmt.{decimal}
+use Rattle.hex.specs.Hex.{IsBytes, encode_lower, lower_digits}
 
 -- the words of a text: its parts between separators
 abbrev pub words_of : ℕ → List ℕ → List (List ℕ)
@@ -15,6 +16,18 @@ words_left has_ended separator rest = if has_ended then [] else words_of separat
 abbrev pub byte_list_word : List ℕ → List ℕ
 byte_list_word [] = codes "-"
 byte_list_word (b ∷ bytes) = encode_lower (b ∷ bytes)
+
+-- the word spells bytes
+abbrev pub SpellsBytes : List ℕ → Type 0
+SpellsBytes word = (bytes : List ℕ) × IsBytes bytes × (word ≡ byte_list_word bytes)
+
+-- the byte is a digit of a byte list
+abbrev pub IsHexDigit : ℕ → Type 0
+IsHexDigit byte = (value : ℕ) × (value < 16) × (slice_index lower_digits value ≡ byte)
+
+-- the words spell numbers
+abbrev pub SpellNumbers : List (List ℕ) → Type 0
+SpellNumbers words = (numbers : List ℕ) × All (λ n. n < 2 ^ 64) numbers × (words ≡ map decimal numbers)
 
 -- the byte is a decimal digit
 abbrev pub IsDigit : ℕ → Type 0

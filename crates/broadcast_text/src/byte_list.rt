@@ -1,8 +1,8 @@
 //! Byte lists as words: the bytes in lower-case hexadecimal, or a dash if there are none.
-ghost use Rattle.std.specs.Prelude.{◌≡◌, ◌∷◌, ◌*◌, ◌≤◌, ◌<◌, ℕ, List, true, length, slice_index, IfOk, IfErr, OnOk};
+ghost use Rattle.std.specs.Prelude.{◌≡◌, ◌↔◌, ◌∷◌, ◌*◌, ◌%◌, ◌≤◌, ◌<◌, ℕ, List, All, true, length, slice_index, IfOk, IfErr, OnOk};
 ghost use Rattle.std.specs.Io.KnownBytes.{Appends};
 ghost use Rattle.hex.specs.Hex.{IsBytes, encode_lower, lower_digits};
-ghost use Rattle.broadcast_text.specs.Words.{byte_list_word};
+ghost use Rattle.broadcast_text.specs.Words.{IsHexDigit, SpellsBytes, byte_list_word};
 
 use crate::line_error::LineError;
 use std::alloc::Global;
@@ -27,6 +27,7 @@ pub fn parse_byte_list(alloc: Global, word: &[u8]) -> Result<Vec<u8>, LineError>
     ensures spelled_so { IfOk result (λ bytes. word.now ≡ byte_list_word bytes.items) }
     ensures reads_all_bytes { (bytes : List ℕ) → IsBytes bytes → word.now ≡ byte_list_word bytes
         → IfErr result (λ e. e ≡ LineError.Memory) }
+    ensures no_memory_for_bytes { IfErr result (λ e. e ≡ LineError.Memory → SpellsBytes word.now) }
 {
     if word == NO_BYTES {
         return Ok(Vec::new(alloc));
@@ -34,11 +35,55 @@ pub fn parse_byte_list(alloc: Global, word: &[u8]) -> Result<Vec<u8>, LineError>
     if word.is_empty() || word.len() % 2 != 0 {
         return Err(LineError::Syntax);
     }
-    let mut bytes = vec![in alloc; 0; word.len() / 2]?;
+    let Ok(mut bytes) = vec![in alloc; 0; word.len() / 2] else {
+        return Err(unread_fault(word));
+    };
     if !decode(word, &mut bytes) {
         return Err(LineError::Syntax);
     }
     Ok(bytes)
+}
+
+/// Returns why a word was not read for which there was no memory.
+fn unread_fault(word: &[u8]) -> LineError
+    ensures memory { result ≡ LineError.Memory → SpellsBytes word.now }
+    ensures reads_all_bytes { SpellsBytes word.now → result ≡ LineError.Memory }
+{
+    if is_byte_list(word) {
+        LineError::Memory
+    } else {
+        LineError::Syntax
+    }
+}
+
+/// Returns whether the word spells bytes. Does not allocate.
+pub fn is_byte_list(word: &[u8]) -> bool
+    ensures { result ≡ true ↔ SpellsBytes word.now }
+{
+    word == NO_BYTES || are_digits_of_bytes(word)
+}
+
+/// Returns whether the word has digits alone, and two for each byte.
+fn are_digits_of_bytes(word: &[u8]) -> bool
+    ensures { result ≡ true
+        ↔ (0 < length word.now) × (length word.now % 2 ≡ 0) × All IsHexDigit word.now }
+{
+    if word.is_empty() || word.len() % 2 != 0 {
+        return false;
+    }
+    for digit in word {
+        if !is_digit(*digit) {
+            return false;
+        }
+    }
+    true
+}
+
+/// Returns whether the byte is a lower-case hexadecimal digit.
+fn is_digit(byte: u8) -> bool
+    ensures { result ≡ true ↔ IsHexDigit byte }
+{
+    digit_value(byte) < 16
 }
 
 /// Writes the byte of each two digits to `bytes`. Returns whether all of them are digits.

@@ -1,11 +1,11 @@
 //! Recipients as words.
-ghost use Rattle.std.specs.Prelude.{◌≡◌, ℕ, List, IfOk, IfErr};
+ghost use Rattle.std.specs.Prelude.{◌≡◌, ℕ, List, IsOk, IfOk, IfErr, OnOk};
 ghost use Rattle.broadcast_core.specs.declared.ordered.Recipients.{Recipients as Named};
 ghost use Rattle.broadcast_text.specs.Recipients.{IsKeys, IsRecipients, AreNumbers, keys_of, recipients_of as recipients};
-ghost use Rattle.broadcast_text.specs.declared.line_error.LineError.TheVariants.{Memory};
+ghost use Rattle.broadcast_text.specs.declared.line_error.LineError.TheVariants.{Memory, Syntax};
 
 use crate::line_error::LineError;
-use crate::words::{Words, parse_numbers, strip_mark};
+use crate::words::{Words, judge_numbers, parse_numbers, strip_mark};
 use broadcast_core::{Items, Recipients};
 use std::alloc::Global;
 
@@ -20,6 +20,9 @@ pub fn parse_recipients(alloc: Global, word: &[u8]) -> Result<Recipients<u64>, L
     ensures spelled_so { IfOk result (IsRecipients word.now) }
     ensures reads_all_recipients { (named : Named ℕ) → AreNumbers (keys_of named)
         → IsRecipients word.now named → IfErr result (λ e. e ≡ Memory) }
+    ensures are_numbers { IfOk result (λ named. AreNumbers (keys_of named)) }
+    ensures no_memory_for_recipients { IfErr result (λ e. e ≡ Memory
+        → (named : Named ℕ) × AreNumbers (keys_of named) × IsRecipients word.now named) }
 {
     if word == b"all".as_slice() {
         return Ok(Recipients::All);
@@ -38,8 +41,26 @@ pub fn parse_keys(alloc: Global, text: &[u8]) -> Result<Vec<u64>, LineError>
     ensures spelled_so { IfOk result (λ keys. IsKeys text.now keys.items) }
     ensures reads_all_keys { (keys : List ℕ) → AreNumbers keys → IsKeys text.now keys
         → IfErr result (λ e. e ≡ Memory) }
+    ensures are_numbers { IfOk result (λ keys. AreNumbers keys.items) }
+    ensures no_memory_for_keys { IfErr result (λ e. e ≡ Memory
+        → (keys : List ℕ) × AreNumbers keys × IsKeys text.now keys) }
 {
     parse_numbers(alloc, Words::new(text, b','))
+}
+
+/// Returns `Ok` if the text spells keys, one or more of them, separated by commas. Does not
+/// allocate.
+///
+/// # Errors
+///
+/// Fails with [`LineError::Syntax`] if it spells none.
+pub fn judge_keys(text: &[u8]) -> Result<(), LineError>
+    ensures keys { OnOk result ((keys : List ℕ) × AreNumbers keys × IsKeys text.now keys) }
+    ensures reads_all_keys { (keys : List ℕ) → AreNumbers keys → IsKeys text.now keys
+        → IsOk result }
+    ensures fails_for_syntax { IfErr result (λ e. e ≡ Syntax) }
+{
+    judge_numbers(Words::new(text, b','))
 }
 
 /// Returns the recipients of one or more keys.

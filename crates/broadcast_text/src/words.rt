@@ -1,13 +1,13 @@
 //! Words of a line, and numbers.
-ghost use Rattle.std.specs.Prelude.{◌≡◌, ◌+◌, ◌-◌, ◌*◌, ◌^◌, ◌<◌, ◌≤◌, ℕ, List, [], ◌∷◌, ◌++◌, map, All, Some, IfSome, IfNone, IfOk, IfErr, true, ◌≢◌};
+ghost use Rattle.std.specs.Prelude.{◌≡◌, ◌+◌, ◌-◌, ◌*◌, ◌^◌, ◌<◌, ◌≤◌, ℕ, List, [], ◌∷◌, ◌++◌, map, All, Some, IfSome, IfNone, IfOk, IfErr, OnOk, OnErr, true, ◌≢◌};
 ghost use Rattle.std.specs.Fmt.{decimal};
 ghost use Rattle.memchr.specs.Find.{IsFirstByte, is_byte};
-ghost use Rattle.broadcast_text.specs.Words.{BeginsNumber, IsDigit, words_of};
+ghost use Rattle.broadcast_text.specs.Words.{BeginsNumber, IsDigit, SpellNumbers, words_of};
 ghost use Rattle.broadcast_text.specs.declared.line_error.LineError.TheVariants.{Syntax, Memory};
 
 use crate::line_error::LineError;
 use memchr::memchr;
-use std::alloc::{AllocError, Global};
+use std::alloc::Global;
 use std::marker::Model;
 
 /// How many places of a text are looked at one by one.
@@ -190,13 +190,34 @@ pub fn parse_numbers(alloc: Global, mut words: Words<'_>) -> Result<Vec<u64>, Li
     ensures spelled_so { IfOk result (λ numbers. words.entry ≡ map decimal numbers.items) }
     ensures reads_all_numbers { (numbers : List ℕ) → All (λ n. n < 2 ^ 64) numbers
         → words.entry ≡ map decimal numbers → IfErr result (λ e. e ≡ Memory) }
+    ensures are_numbers { IfOk result (λ numbers. All (λ n. n < 2 ^ 64) numbers.items) }
+    ensures no_memory_for_numbers { IfErr result (λ e. e ≡ Memory → SpellNumbers words.entry) }
 {
     let mut numbers = Vec::new(alloc);
     while let Some(word) = words.take() {
         let number = expect_number(word)?;
-        numbers.push(number).map_err(AllocError::from)?;
+        if numbers.push(number).is_err() {
+            judge_numbers(words)?;
+            return Err(LineError::Memory);
+        }
     }
     Ok(numbers)
+}
+
+/// Returns `Ok` if each word spells a number. Does not allocate.
+///
+/// # Errors
+///
+/// Fails with [`LineError::Syntax`] if a word spells none.
+pub fn judge_numbers(mut words: Words<'_>) -> Result<(), LineError>
+    ensures numbers { OnOk result (SpellNumbers words.entry) }
+    ensures reads_all_numbers { OnErr result (¬ SpellNumbers words.entry) }
+    ensures fails_for_syntax { IfErr result (λ e. e ≡ Syntax) }
+{
+    while let Some(word) = words.take() {
+        expect_number(word)?;
+    }
+    Ok(())
 }
 
 /// Returns what follows the mark.

@@ -12,6 +12,7 @@ use Rattle.broadcast_core.specs.Log.{is_refused}
 use Rattle.broadcast_core.specs.Carried.{Carried}
 use Rattle.broadcast_core.specs.TestMessage.{Parts, encoding_of}
 use Rattle.broadcast_core.specs.declared.ordered.Recipients.{Recipients}
+use Rattle.broadcast_core.specs.declared.event.Cause.{Cause}
 use Rattle.broadcast_core.specs.declared.event.Cause.TheVariants.{Memory, Unencodable}
 use Rattle.broadcast_core.specs.declared.event.Answer.TheVariants.{Refused}
 use Rattle.broadcast_core.proofs.Distinct.{by_test}
@@ -49,9 +50,16 @@ module _ {P : Type 0} (cmp : P → P → Ordering) (w : Scene P) where
       → NodeFollows cmp w n (Broadcast r c) core core (Refused Memory)
   NodeFollows-refused n r c core encoded = λ past has. record { answered = inr (refl, encoded); content = has }
 
-  pub NodeFollows-unencodable : (n : P) (r : Recipients P) (c : Carried Parts (List ℕ)) (core : NodeContent P) → encoding_of c.message ≡ None
+  NodeFollows-unencodable : (n : P) (r : Recipients P) (c : Carried Parts (List ℕ)) (core : NodeContent P) → encoding_of c.message ≡ None
       → NodeFollows cmp w n (Broadcast r c) core core (Refused Unencodable)
   NodeFollows-unencodable n r c core none = λ past has. record { answered = inl (rw none refl); content = has }
+
+  -- nor does a message without an encoding
+  pub NodeFollows-cause : (n : P) (r : Recipients P) (c : Carried Parts (List ℕ)) (core : NodeContent P) (cause : Cause)
+      → (cause ≡ Memory → is_some (encoding_of c.message) ≡ true) → (cause ≡ Unencodable → encoding_of c.message ≡ None)
+      → NodeFollows cmp w n (Broadcast r c) core core (Refused cause)
+  NodeFollows-cause n r c core Memory memory none = NodeFollows-refused n r c core (memory refl)
+  NodeFollows-cause n r c core Unencodable memory none = NodeFollows-unencodable n r c core (none refl)
 
   no_history : (n : P) (core : NodeContent P) → eq_by_cmp cmp n core.own ≡ true → core ≡ no_content core.own w.deque_size w.byte_budget → HasNode cmp w n [] core
   no_history n core own is = subst (HasNode cmp w n []) (sym is) (record {
@@ -97,11 +105,6 @@ module _ {P : Type 0} (cmp : P → P → Ordering) (w : Scene P) where
   pub made_by-quiet : (a : WorldAnswer) (named : Option P) (e : NodeEvent P) (old sent : List (Packet P)) → ((n : P) → packets_by cmp w n e ≡ []) → AreCopies cmp old sent
       → AreCopies cmp old (sent ++ made_by cmp w (unless_refused cmp w a (option_map (λ m. (m, e)) named)))
   made_by-quiet a named e old sent quiet h = subst (λ ps. AreCopies cmp old ps) (sym (ap (λ ps. sent ++ ps) (made_by-none a named e quiet) ∙ append-nil sent)) h
-
-  -- each packet equals itself
-  pub AreCopies-self : IsTotalOrder cmp → (ps : List (Packet P)) → AreCopies cmp ps ps
-  AreCopies-self total [] = tt
-  AreCopies-self total (p ∷ ps) = (((eq_by_cmp_equiv total).refl p.sender, (eq_by_cmp_equiv total).refl p.addressee, refl), AreCopies-self total ps)
 
   -- nothing has happened at any node
   pub contents-empty : (keys : List P) (cores : List (NodeContent P)) → AreEmpty cmp w.deque_size w.byte_budget keys cores → AllZip (λ n core. HasNode cmp w n [] core) keys cores

@@ -1,6 +1,5 @@
 -- One step of a world, from what it makes of one node.
-use Rattle.std.proofs.Common.{◌≡◌, ℕ, false, if◌then◌else◌, List, ◌++◌, length, Option, Some, None, refl, sym, ap, ◌∙◌, subst}
-use Rattle.std.proofs.Math.ListN.{length-set}
+use Rattle.std.proofs.Common.{◌≡◌, ℕ, false, if◌then◌else◌, List, ◌++◌, Option, Some, None, refl, sym, subst}
 use Rattle.std.specs.List.{AllZip, IsDistinct}
 use Rattle.std.specs.Cmp.{IsTotalOrder, eq_by_cmp_equiv}
 use Rattle.std.specs.Ordering.{eq_by_cmp}
@@ -72,8 +71,3 @@ module _ {P : Type 0} (cmp : P → P → Ordering) (w : Scene P) where
             packets = made;
           };
         }
-
-  -- as many contents as before
-  pub AtNode-length : (e : Option (P × NodeEvent P)) (old new : List (NodeContent P)) (a : WorldAnswer) → AtNode cmp w e old new a → length new ≡ length old
-  AtNode-length None old new a done = ap (λ cs. length cs) done.1
-  AtNode-length (Some e) old new a done = ap (λ cs. length cs) done.2.only ∙ length-set old done.2.place done.2.core

@@ -1,5 +1,6 @@
 //! A broadcast at the node that a key names.
 ghost use Rattle.std.specs.Prelude.{◌≡◌, ℕ, ◌≤◌, ◌+◌, ◌++◌, ◌⊎◌, true, List, None, Option, Some, length, is_some, IfErr, IfOk, OnOk, vec_capacity, vec_len};
+ghost use Rattle.std.specs.Arc.{arc_value};
 ghost use Rattle.broadcast_core.specs.TestMessage.{encoding_of};
 ghost use Rattle.broadcast_core.specs.declared.event.Event.TheVariants as event;
 ghost use Rattle.broadcast_core.specs.declared.ordered.Recipients.{Recipients};
@@ -10,7 +11,7 @@ ghost use Rattle.broadcast_world.specs.Steps.{AreCopies, AtNode, NodeFollows};
 ghost use Rattle.broadcast_world.specs.declared.step.WorldAnswer.TheVariants as world;
 
 use crate::node;
-use crate::nodes::place_of;
+use crate::nodes::Nodes;
 use crate::packet::{Packet, addressees, packets_for};
 use crate::step::WorldAnswer;
 use broadcast_core::{
@@ -23,50 +24,35 @@ use std::alloc::{AllocError, Global};
 /// A refused broadcast makes none.
 pub fn broadcast<P: PublicKey>(
     alloc: Global,
-    nodes: &Set<P>,
-    cores: &mut Vec<Core<P, TestMessage, u64>>,
+    nodes: &mut Nodes<P>,
     packets: &mut Vec<Packet<P>>,
     key: &P,
     recipients: &Recipients<P>,
     message: &Digested<TestMessage>,
 ) -> WorldAnswer
-    requires { length cores.old.items ≡ length nodes.now }
-    ensures node { (w : Scene P) → w.nodes ≡ nodes.now
+    ensures keys { nodes.new.keys ≡ nodes.old.keys }
+    ensures node { (w : Scene P) → w.nodes ≡ arc_value nodes.old.keys
         → AtNode P.cmp w (event_at P.cmp w key.now (event.Broadcast recipients.now message.now))
-        cores.old.items cores.new.items result }
-    ensures packets { (w : Scene P) (sent : List (Keyed P)) → w.nodes ≡ nodes.now
+        nodes.old.cores.items nodes.new.cores.items result }
+    ensures packets { (w : Scene P) (sent : List (Keyed P)) → w.nodes ≡ arc_value nodes.old.keys
         → AreCopies P.cmp packets.old.items sent
         → AreCopies P.cmp packets.new.items (sent ++ made_by P.cmp w (unless_refused P.cmp w result
         (event_at P.cmp w key.now (event.Broadcast recipients.now message.now)))) }
 {
-    let Some(place) = place_of(nodes, key) else {
+    let Some(place) = nodes.place_of(key) else {
         return WorldAnswer::NoSuch;
     };
-    let sender = &nodes.as_slice()[place];
-    let bytes = match encode(alloc, message) {
+    let keys: &Set<P> = &nodes.keys;
+    let sender = &keys.as_slice()[place];
+    let bytes = match message.encode(alloc) {
         Ok(bytes) => bytes,
         Err(cause) => return WorldAnswer::Given(Answer::Refused(cause)),
     };
-    match prepare(alloc, nodes, sender, packets, recipients, message, bytes) {
+    match prepare(alloc, keys, sender, packets, recipients, message, bytes) {
         Ok((made, message)) => {
-            WorldAnswer::Given(take(&mut cores[place], packets, made, message))
+            WorldAnswer::Given(take(&mut nodes.cores[place], packets, made, message))
         }
         Err(_) => WorldAnswer::Given(Answer::Refused(Cause::Memory)),
-    }
-}
-
-/// Returns the encoding of the message.
-fn encode(alloc: Global, message: &Digested<TestMessage>) -> Result<Vec<u8>, Cause>
-    ensures ok { IfOk result (λ bytes. encoding_of message.now.message ≡ Some bytes.items) }
-    ensures err { IfErr result (λ cause.
-        ((cause ≡ Cause.Memory) × (is_some (encoding_of message.now.message) ≡ true))
-        ⊎ ((cause ≡ Cause.Unencodable) × (encoding_of message.now.message ≡ None))) }
-{
-    let mut bytes = Vec::new(alloc);
-    match message.inner().write(&mut bytes) {
-        Ok(()) => Ok(bytes),
-        Err(CodecError::Unencodable) => Err(Cause::Unencodable),
-        Err(_) => Err(Cause::Memory),
     }
 }
 

@@ -1,111 +1,128 @@
-//! An event at the node that a key names.
-ghost use Rattle.std.specs.Prelude.{◌≡◌, IsTrue, None, Some, length, MatchOption};
+//! The nodes of a world, and an event at the one that a key names.
+ghost use Rattle.std.specs.Prelude.{◌≡◌, ◌<◌, IsTrue, None, Some, length, IfOk, IfSome, MatchOption};
+ghost use Rattle.std.specs.Arc.{arc_value};
 ghost use Rattle.std.specs.List.{find, slice_get};
 ghost use Rattle.std.specs.Ordering.{eq_by_cmp};
+ghost use Rattle.broadcast_world.specs.Made.{AreEmpty};
 ghost use Rattle.broadcast_world.specs.Scene.{Scene};
 ghost use Rattle.broadcast_world.specs.World.{event_at};
 ghost use Rattle.broadcast_world.specs.Steps.{AtNode};
 ghost use Rattle.broadcast_core.specs.declared.event.Event.TheVariants as event;
 
+use crate::made::cores_for;
 use crate::node;
 use crate::step::WorldAnswer;
 use broadcast_core::{Core, PublicKey, RangeCfg, Set, TestMessage};
-use std::alloc::Global;
+use std::alloc::{AllocError, Global};
+use std::sync::Arc;
 
-/// Makes a copy of these keys the primary ones at the node.
-pub fn peers<P: PublicKey>(
-    nodes: &Set<P>,
-    cores: &mut Vec<Core<P, TestMessage, u64>>,
-    key: &P,
-    peers: &Set<P>,
-) -> WorldAnswer
-    requires { length cores.old.items ≡ length nodes.now }
-    ensures { (w : Scene P) → w.nodes ≡ nodes.now
-        → AtNode P.cmp w (event_at P.cmp w key.now (event.Peers peers.now))
-        cores.old.items cores.new.items result }
-{
-    let Some(place) = place_of(nodes, key) else {
-        return WorldAnswer::NoSuch;
-    };
-    WorldAnswer::Given(node::peers(&mut cores[place], peers))
+/// The keys of the nodes, and the core of each.
+#[derive(Drop)]
+pub struct Nodes<P: PublicKey> {
+    pub keys: Arc<Set<P>>,
+    pub cores: Vec<Core<P, TestMessage, u64>>,
+    ghost one_each: { length cores.items ≡ length (arc_value keys) },
 }
 
-/// Takes the bytes under the peer's key at the node. Both keys may be copies of those meant.
-pub fn payload<P: PublicKey>(
-    alloc: Global,
-    nodes: &Set<P>,
-    cores: &mut Vec<Core<P, TestMessage, u64>>,
-    range: &RangeCfg,
-    key: &P,
-    peer: &P,
-    bytes: &[u8],
-) -> WorldAnswer
-    requires { length cores.old.items ≡ length nodes.now }
-    ensures { (w : Scene P) (n p : P) → w.nodes ≡ nodes.now → w.range ≡ range.now
-        → IsTrue (eq_by_cmp P.cmp n key.now) → IsTrue (eq_by_cmp P.cmp p peer.now)
-        → AtNode P.cmp w (event_at P.cmp w n (event.Payload p bytes.now))
-        cores.old.items cores.new.items result }
-{
-    let Some(place) = place_of(nodes, key) else {
-        return WorldAnswer::NoSuch;
-    };
-    WorldAnswer::Given(node::payload(alloc, &mut cores[place], range, peer, bytes))
-}
+impl<P: PublicKey> Nodes<P> {
+    /// Creates nodes with these keys, each with an empty core.
+    pub fn new(
+        alloc: Global,
+        keys: Arc<Set<P>>,
+        deque_size: usize,
+        byte_budget: u64,
+    ) -> Result<Self, AllocError>
+        ensures keys { IfOk result (λ nodes. nodes.keys ≡ keys) }
+        ensures empty { IfOk result (λ nodes.
+            AreEmpty P.cmp deque_size byte_budget (arc_value keys) nodes.cores.items) }
+    {
+        let cores = cores_for(alloc, keys.as_slice(), deque_size, byte_budget)?;
+        Ok(Nodes { keys, cores })
+    }
 
-/// Answers a subscribe at the node.
-pub fn subscribe<P: PublicKey>(
-    nodes: &Set<P>,
-    cores: &mut Vec<Core<P, TestMessage, u64>>,
-    key: &P,
-    ticket: u64,
-    digest: &[u8; 32],
-) -> WorldAnswer
-    requires { length cores.old.items ≡ length nodes.now }
-    ensures { (w : Scene P) → w.nodes ≡ nodes.now
-        → AtNode P.cmp w (event_at P.cmp w key.now (event.Subscribe ticket digest.now))
-        cores.old.items cores.new.items result }
-{
-    let Some(place) = place_of(nodes, key) else {
-        return WorldAnswer::NoSuch;
-    };
-    WorldAnswer::Given(node::subscribe(&mut cores[place], ticket, digest))
-}
+    /// Returns the place of the node that the key names.
+    pub fn place_of(&self, key: &P) -> Option<usize>
+        ensures node { MatchOption result
+            (find (eq_by_cmp P.cmp key.now) (arc_value self.now.keys) ≡ None) (λ place.
+            (node : P) × (slice_get (arc_value self.now.keys) place ≡ Some node)
+            × (find (eq_by_cmp P.cmp key.now) (arc_value self.now.keys) ≡ Some node)) }
+        ensures core { IfSome result (λ place. place < length self.now.cores.items) }
+    {
+        place_of(&self.keys, key)
+    }
 
-/// Answers a get at the node.
-pub fn get<P: PublicKey>(
-    nodes: &Set<P>,
-    cores: &[Core<P, TestMessage, u64>],
-    key: &P,
-    ticket: u64,
-    digest: &[u8; 32],
-) -> WorldAnswer
-    requires { length cores.now ≡ length nodes.now }
-    ensures { (w : Scene P) → w.nodes ≡ nodes.now
-        → AtNode P.cmp w (event_at P.cmp w key.now (event.Get ticket digest.now))
-        cores.now cores.now result }
-{
-    let Some(place) = place_of(nodes, key) else {
-        return WorldAnswer::NoSuch;
-    };
-    WorldAnswer::Given(node::get(&cores[place], ticket, digest))
-}
+    /// Makes a copy of these keys the primary ones at the node.
+    pub fn peers(&mut self, key: &P, peers: &Set<P>) -> WorldAnswer
+        ensures keys { self.new.keys ≡ self.old.keys }
+        ensures node { (w : Scene P) → w.nodes ≡ arc_value self.old.keys
+            → AtNode P.cmp w (event_at P.cmp w key.now (event.Peers peers.now))
+            self.old.cores.items self.new.cores.items result }
+    {
+        let Some(place) = self.place_of(key) else {
+            return WorldAnswer::NoSuch;
+        };
+        WorldAnswer::Given(node::peers(&mut self.cores[place], peers))
+    }
 
-/// Drops the waiters with these tickets at the node.
-pub fn cleanup<P: PublicKey>(
-    nodes: &Set<P>,
-    cores: &mut Vec<Core<P, TestMessage, u64>>,
-    key: &P,
-    gone: &[u64],
-) -> WorldAnswer
-    requires { length cores.old.items ≡ length nodes.now }
-    ensures { (w : Scene P) → w.nodes ≡ nodes.now
-        → AtNode P.cmp w (event_at P.cmp w key.now (event.Cleanup gone.now))
-        cores.old.items cores.new.items result }
-{
-    let Some(place) = place_of(nodes, key) else {
-        return WorldAnswer::NoSuch;
-    };
-    WorldAnswer::Given(node::cleanup(&mut cores[place], gone))
+    /// Takes the bytes under the peer's key at the node. Both keys may be copies of those meant.
+    pub fn payload(
+        &mut self,
+        alloc: Global,
+        range: &RangeCfg,
+        key: &P,
+        peer: &P,
+        bytes: &[u8],
+    ) -> WorldAnswer
+        ensures keys { self.new.keys ≡ self.old.keys }
+        ensures node { (w : Scene P) (n p : P)
+            → w.nodes ≡ arc_value self.old.keys → w.range ≡ range.now
+            → IsTrue (eq_by_cmp P.cmp n key.now) → IsTrue (eq_by_cmp P.cmp p peer.now)
+            → AtNode P.cmp w (event_at P.cmp w n (event.Payload p bytes.now))
+            self.old.cores.items self.new.cores.items result }
+    {
+        let Some(place) = self.place_of(key) else {
+            return WorldAnswer::NoSuch;
+        };
+        WorldAnswer::Given(node::payload(alloc, &mut self.cores[place], range, peer, bytes))
+    }
+
+    /// Answers a subscribe at the node.
+    pub fn subscribe(&mut self, key: &P, ticket: u64, digest: &[u8; 32]) -> WorldAnswer
+        ensures keys { self.new.keys ≡ self.old.keys }
+        ensures node { (w : Scene P) → w.nodes ≡ arc_value self.old.keys
+            → AtNode P.cmp w (event_at P.cmp w key.now (event.Subscribe ticket digest.now))
+            self.old.cores.items self.new.cores.items result }
+    {
+        let Some(place) = self.place_of(key) else {
+            return WorldAnswer::NoSuch;
+        };
+        WorldAnswer::Given(node::subscribe(&mut self.cores[place], ticket, digest))
+    }
+
+    /// Answers a get at the node.
+    pub fn get(&self, key: &P, ticket: u64, digest: &[u8; 32]) -> WorldAnswer
+        ensures { (w : Scene P) → w.nodes ≡ arc_value self.now.keys
+            → AtNode P.cmp w (event_at P.cmp w key.now (event.Get ticket digest.now))
+            self.now.cores.items self.now.cores.items result }
+    {
+        let Some(place) = self.place_of(key) else {
+            return WorldAnswer::NoSuch;
+        };
+        WorldAnswer::Given(node::get(&self.cores[place], ticket, digest))
+    }
+
+    /// Drops the waiters with these tickets at the node.
+    pub fn cleanup(&mut self, key: &P, gone: &[u64]) -> WorldAnswer
+        ensures keys { self.new.keys ≡ self.old.keys }
+        ensures node { (w : Scene P) → w.nodes ≡ arc_value self.old.keys
+            → AtNode P.cmp w (event_at P.cmp w key.now (event.Cleanup gone.now))
+            self.old.cores.items self.new.cores.items result }
+    {
+        let Some(place) = self.place_of(key) else {
+            return WorldAnswer::NoSuch;
+        };
+        WorldAnswer::Given(node::cleanup(&mut self.cores[place], gone))
+    }
 }
 
 /// Returns the place of the node that the key names.

@@ -1,7 +1,7 @@
 //! A world.
-ghost use Rattle.std.specs.Prelude.{◌≡◌, true, false, [], length, IfOk, Err};
+ghost use Rattle.std.specs.Prelude.{◌≡◌, true, false, [], IfOk, Err};
 ghost use Rattle.std.specs.Arc.{arc_value};
-ghost use Rattle.std.specs.List.{list_any, slice_get};
+ghost use Rattle.std.specs.List.{find, list_any, slice_get};
 ghost use Rattle.std.specs.Option.{option_copied};
 ghost use Rattle.std.specs.Ordering.{eq_by_cmp};
 ghost use Rattle.broadcast_world.specs.World.{Log};
@@ -10,7 +10,8 @@ ghost use Rattle.broadcast_world.specs.Steps.{HasWorld, TakesStep};
 
 use crate::apply::apply;
 use crate::error::WorldError;
-use crate::made::{cores_for, shares_key};
+use crate::made::shares_key;
+use crate::nodes::Nodes;
 use crate::packet::Packet;
 use crate::step::{Step, WorldAnswer};
 use broadcast_core::{Core, PublicKey, RangeCfg, Set, TestMessage};
@@ -21,17 +22,15 @@ use std::sync::Arc;
 /// Nodes, hostile keys, and the packets sent so far.
 #[derive(Drop)]
 pub struct World<P: PublicKey> {
-    nodes: Arc<Set<P>>,
+    nodes: Nodes<P>,
     hostile: Arc<Set<P>>,
     deque_size: usize,
     byte_budget: u64,
     range: RangeCfg,
-    cores: Vec<Core<P, TestMessage, u64>>,
     packets: Vec<Packet<P>>,
 }
 
 impl<P: PublicKey> Model for World<P> {
-    ghost use Rattle.std.specs.Prelude.{◌≡◌, length};
     ghost use Rattle.std.specs.Arc.{arc_value};
     ghost use Rattle.broadcast_world.specs.Scene.{State};
 
@@ -39,17 +38,15 @@ impl<P: PublicKey> Model for World<P> {
 
     ghost view = { λ it. record {
       scene = record {
-        nodes = arc_value it.nodes;
+        nodes = arc_value it.nodes.keys;
         hostile = arc_value it.hostile;
         deque_size = it.deque_size;
         byte_budget = it.byte_budget;
         range = it.range;
       };
-      cores = it.cores.items;
+      cores = it.nodes.cores.items;
       packets = it.packets.items;
     } };
-
-    ghost invariant = { λ it. length it.cores.items ≡ length (arc_value it.nodes) };
 }
 
 impl<P: PublicKey> World<P> {
@@ -76,6 +73,12 @@ impl<P: PublicKey> World<P> {
         ensures hostile { IfOk result (λ world. (q : P)
             → list_any (eq_by_cmp P.cmp q) world.scene.hostile
             ≡ list_any (eq_by_cmp P.cmp q) hostile.items) }
+        ensures nodes_as_given { IfOk result (λ world. (q : P)
+            → find (eq_by_cmp P.cmp q) world.scene.nodes
+            ≡ find (eq_by_cmp P.cmp q) nodes.items) }
+        ensures hostile_as_given { IfOk result (λ world. (q : P)
+            → find (eq_by_cmp P.cmp q) world.scene.hostile
+            ≡ find (eq_by_cmp P.cmp q) hostile.items) }
         ensures apart { IfOk result (λ world. (q : P)
             → list_any (eq_by_cmp P.cmp q) world.scene.nodes ≡ true
             → list_any (eq_by_cmp P.cmp q) world.scene.hostile ≡ false) }
@@ -110,14 +113,12 @@ impl<P: PublicKey> World<P> {
         }) }
         ensures empty { IfOk result (λ world. HasWorld P.cmp [] world) }
     {
-        let cores = cores_for(alloc, nodes.as_slice(), deque_size, byte_budget)?;
         Ok(World {
-            nodes,
+            nodes: Nodes::new(alloc, nodes, deque_size, byte_budget)?,
             hostile,
             deque_size,
             byte_budget,
             range,
-            cores,
             packets: Vec::new(alloc),
         })
     }
@@ -127,7 +128,7 @@ impl<P: PublicKey> World<P> {
         ensures scene { IfOk result (λ world. world.scene ≡ self.now.scene) }
         ensures empty { IfOk result (λ world. HasWorld P.cmp [] world) }
     {
-        let nodes = Arc::try_clone(&self.nodes)?;
+        let nodes = Arc::try_clone(&self.nodes.keys)?;
         let hostile = Arc::try_clone(&self.hostile)?;
         World::over(
             alloc,
@@ -143,18 +144,18 @@ impl<P: PublicKey> World<P> {
     pub fn nodes(&self) -> &Set<P>
         ensures { result.now ≡ self.now.scene.nodes }
     {
-        &self.nodes
+        &self.nodes.keys
     }
 
     /// Returns the core of the node that the key names. Does not allocate.
     pub fn core(&self, key: &P) -> Option<&Core<P, TestMessage, u64>>
         ensures { option_copied result ≡ content_of P.cmp self.now key.now }
     {
-        let nodes: &Set<P> = &self.nodes;
+        let nodes: &Set<P> = &self.nodes.keys;
         let _sorted = nodes.as_slice();
         match nodes.position(key) {
             None => None,
-            Some(place) => core_at(&self.cores, place),
+            Some(place) => core_at(&self.nodes.cores, place),
         }
     }
 
@@ -163,15 +164,14 @@ impl<P: PublicKey> World<P> {
         ensures { (log : Log P) → HasWorld P.cmp log self.old
             → TakesStep P.cmp log step.now result self.old self.new }
     {
-        let nodes: &Set<P> = &self.nodes;
-        let hostile: &Set<P> = &self.hostile;
+        let nodes: &Set<P> = &self.nodes.keys;
         let _sorted = nodes.as_slice();
+        let hostile: &Set<P> = &self.hostile;
         apply(
             alloc,
-            nodes,
+            &mut self.nodes,
             hostile,
             &self.range,
-            &mut self.cores,
             &mut self.packets,
             step,
         )
@@ -180,8 +180,10 @@ impl<P: PublicKey> World<P> {
 
 /// Returns the set of the keys, to be shared.
 fn set_of<P: PublicKey>(alloc: Global, keys: Vec<P>) -> Result<Arc<Set<P>>, AllocError>
-    ensures { IfOk result (λ set. (q : P) → list_any (eq_by_cmp P.cmp q) (arc_value set)
+    ensures members { IfOk result (λ set. (q : P) → list_any (eq_by_cmp P.cmp q) (arc_value set)
         ≡ list_any (eq_by_cmp P.cmp q) keys.items) }
+    ensures first_of_equals { IfOk result (λ set. (q : P) → find (eq_by_cmp P.cmp q) (arc_value set)
+        ≡ find (eq_by_cmp P.cmp q) keys.items) }
 {
     let keys = Set::from_iter_dedup(keys)?;
     Ok(Arc::new(alloc, keys)?)

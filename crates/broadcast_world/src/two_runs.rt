@@ -3,6 +3,7 @@ ghost use Rattle.std.specs.Prelude.{◌≡◌, [], ◌∷◌, ◌++◌, true, fa
 ghost use Rattle.std.specs.List.{list_any};
 ghost use Rattle.std.specs.Ordering.{eq_by_cmp};
 ghost use Rattle.broadcast_world.specs.Made.{shares_key};
+ghost use Rattle.broadcast_world.specs.Broadcasts.{HasOrigins};
 ghost use Rattle.broadcast_world.specs.World.{Log, log_of};
 ghost use Rattle.broadcast_world.specs.Steps.{HasWorld, TakesSteps};
 ghost use Rattle.broadcast_world.specs.TwoRuns.{
@@ -72,7 +73,7 @@ fn push_honest<'a, P: PublicKey>(
 /// Runs the steps in two new worlds with the same keys and limits: all of them in one, and those
 /// that are not hostile in the other.
 ///
-/// The clauses after `without_run` compare both runs after the same steps, hostile ones left out,
+/// The clauses after `clean_origins` compare both runs after the same steps, hostile ones left out,
 /// as long as no step was refused for memory. Hostile steps change no list of another key. They
 /// lose no answer and make none later, and those that they add are to requests for what they sent.
 /// A node caches at most `deque_size` digests more for each of its hostile primary keys. One whose
@@ -110,6 +111,10 @@ pub fn compare<P: PublicKey>(
         IsRun P.cmp steps.now both.with_log.answers both.with_world) }
     ensures without_run { IfOk result (λ both.
         IsRun P.cmp (without_hostile steps.now) both.without_log.answers both.without_world) }
+    ensures origins { IfOk result (λ both. HasOrigins P.cmp both.with_world.scene
+        (log_of steps.now both.with_log.answers) both.with_world.cores) }
+    ensures clean_origins { IfOk result (λ both. HasOrigins P.cmp both.without_world.scene
+        (log_of (without_hostile steps.now) both.without_log.answers) both.without_world.cores) }
     ensures honest_lists { IfOk result (λ both. HasHonestLists P.cmp both.with_world.scene
         (log_of steps.now both.with_log.answers)
         (log_of (without_hostile steps.now) both.without_log.answers)) }

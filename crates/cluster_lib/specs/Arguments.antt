@@ -16,10 +16,13 @@ pub record IsAllowed (it : Settings) : Type 0 where
   pub few_messages : it.messages ≤ 100
   pub size : it.deque_size < 2 ^ 64
 
--- at most 64 clients, and 10 million rounds of at most as many requests
+-- from 1 to 64 clients, and from 1 to 10 million rounds of from 1 to as many requests
 pub record IsAllowedRate (it : Rate) : Type 0 where
+  pub some_client : 1 ≤ it.clients
   pub few_clients : it.clients ≤ 64
+  pub some_round : 1 ≤ it.rounds
   pub few_rounds : it.rounds ≤ 10000000
+  pub some_at_once : 1 ≤ it.depth
   pub few_at_once : it.depth ≤ 10000000
 
 -- the words of a measurement

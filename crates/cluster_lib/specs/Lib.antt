@@ -1,5 +1,8 @@
 pub mod Arguments
 pub mod Faults
+pub mod Measured
+pub mod Outcomes
 pub mod Recipients
 pub mod Rows
 pub mod Settlements
+pub mod Table

@@ -1,6 +1,6 @@
 -- What becomes of subscriptions.
 use Rattle.std.specs.Prelude.{◌+◌, List, sum_by}
-use Rattle.commonware_broadcast.specs.Account.{capped}
+use Rattle.broadcast_mailbox.specs.Account.{capped}
 use Rattle.cluster_lib.specs.declared.fault.Fault.{Fault}
 use Rattle.cluster_lib.specs.declared.fault.Fault.TheVariants.{Missed}
 use Rattle.cluster_lib.specs.declared.row.Row.{Row}

@@ -1,8 +1,8 @@
 -- What becomes of requests.
 use Rattle.std.specs.Prelude.{ℕ, ◌+◌, List, ◌++◌, codes}
 use Rattle.std.specs.Fmt.{decimal}
-use Rattle.commonware_broadcast.specs.Account.{capped}
-use Rattle.commonware_broadcast.specs.declared.buffered.ingress.settled.Settled.{Settled}
+use Rattle.broadcast_mailbox.specs.Account.{capped}
+use Rattle.broadcast_mailbox.specs.declared.buffered.ingress.settled.Settled.{Settled}
 
 -- how many requests these are
 abbrev pub ended : Settled → ℕ

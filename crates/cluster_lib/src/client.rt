@@ -1,11 +1,13 @@
 //! The client of a node.
+ghost use Rattle.std.specs.Prelude.{◌≡◌, IfOk};
+
 use crate::fault::Fault;
 use crate::message::message_with_digest;
 use crate::settings::Settings;
-use crate::shared::Shared;
+use crate::shared::{AllSubscribed, Shared};
 use crate::tally::{Counting, WholeTally};
 use broadcast_core::TestMessage;
-use broadcast_engine::buffered::{Account, Bookkeeping, Mailbox, Subscription};
+use commonware_broadcast::buffered::{Account, Bookkeeping, Mailbox, Subscription};
 use std::alloc::AllocGlobal;
 use std::random::RandomSource;
 use std::sync::{Arc, Wait};
@@ -14,6 +16,8 @@ use std::time::Clock;
 /// What the client of a node saw.
 #[derive(Clone, Copy)]
 pub struct Seen {
+    /// The key of the node.
+    pub node: u64,
     /// How many of its subscriptions were served.
     pub served: u64,
     /// How many of the messages its node did not have any more afterwards.
@@ -43,7 +47,9 @@ where
 {
     /// Does all that the client does, and counts itself as finished. If it fails or a subscription
     /// was not served, all nodes and clients end. Returns its tally, and what it saw.
-    pub fn run(&self, tally: WholeTally<A>) -> (WholeTally<A>, Result<Seen, Fault>) {
+    pub fn run(&self, tally: WholeTally<A>) -> (WholeTally<A>, Result<Seen, Fault>)
+        ensures { IfOk result.1 (λ seen. seen.node ≡ self.now.key) }
+    {
         let mut tally = tally;
         let seen = self.see(&mut tally);
         match &seen {
@@ -57,13 +63,19 @@ where
 
     /// Subscribes to the messages of all nodes, and once all clients have, broadcasts those of its
     /// own node. Waits for all subscriptions, and then asks for each message.
-    fn see(&self, tally: &mut WholeTally<A>) -> Result<Seen, Fault> {
+    fn see(&self, tally: &mut WholeTally<A>) -> Result<Seen, Fault>
+        ensures { IfOk result (λ seen. seen.node ≡ self.now.key) }
+    {
         let waiting = self.subscribe_all(tally)?;
         self.shared.count_subscribed();
-        self.shared.wait_for_subscribed(&self.rt);
-        let served = self.exchange(tally, waiting)?;
+        let all = self.shared.wait_for_subscribed(&self.rt);
+        let served = self.exchange(tally, waiting, all)?;
         let evicted = self.count_missing(tally)?;
-        Ok(Seen { served, evicted })
+        Ok(Seen {
+            node: self.key,
+            served,
+            evicted,
+        })
     }
 
     /// Subscribes to the messages of all nodes.
@@ -79,14 +91,19 @@ where
     }
 
     /// Broadcasts the messages of its own node, and waits for the subscriptions. Returns how many
-    /// were served.
+    /// were served: none if the clients have not all subscribed.
     fn exchange(
         &self,
         tally: &mut WholeTally<A>,
         waiting: Vec<Subscription<TestMessage>>,
+        all: Option<AllSubscribed>,
     ) -> Result<u64, Fault> {
-        match self.broadcast_own(tally) {
-            Ok(()) => Ok(wait_all(&self.rt, waiting)),
+        let told = match all {
+            Some(all) => self.broadcast_own(tally, all),
+            None => Ok(()),
+        };
+        match told {
+            Ok(()) => Ok(count_served(&self.rt, waiting)),
             Err(fault) => {
                 drop::<_>(waiting);
                 Err(fault)
@@ -94,8 +111,8 @@ where
         }
     }
 
-    /// Broadcasts the messages of its own node.
-    fn broadcast_own(&self, tally: &mut WholeTally<A>) -> Result<(), Fault> {
+    /// Broadcasts the messages of its own node, once all clients have subscribed.
+    fn broadcast_own(&self, tally: &mut WholeTally<A>, _all: AllSubscribed) -> Result<(), Fault> {
         for number in 1..=self.settings.messages {
             let message = message_with_digest(self.rt.alloc(), self.key, number)?;
             let _feedback = tally.broadcast(&self.mailbox, message)?;
@@ -116,7 +133,7 @@ where
 }
 
 /// Waits for each subscription. Returns how many were served.
-fn wait_all<R>(rt: &R, waiting: Vec<Subscription<TestMessage>>) -> u64
+pub fn count_served<R>(rt: &R, waiting: Vec<Subscription<TestMessage>>) -> u64
 where
     R: Wait + RandomSource + AllocGlobal,
 {

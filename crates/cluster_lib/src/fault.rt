@@ -3,8 +3,9 @@ ghost use Rattle.std.specs.Prelude.{◌≡◌};
 ghost use Rattle.cluster_lib.specs.Faults.{fault_status};
 ghost use Rattle.cluster_lib.specs.declared.fault.Fault.TheVariants.{Memory};
 
-use broadcast_engine::buffered::StartError;
-use commonware_broadcast::MailboxError;
+use crate::limits::Limits;
+use broadcast_mailbox::MailboxError;
+use commonware_broadcast::buffered::StartError;
 use std::alloc::{AllocError, AllocFailed};
 use std::fmt::{self, Display, Formatter};
 use std::io::Write;
@@ -12,8 +13,10 @@ use std::io::Write;
 /// What ends a run of the program. Its text is that of standard error.
 #[derive(Clone, Copy, Debug)]
 pub enum Fault {
-    /// The arguments are wrong. The text is the usage line.
+    /// The number of arguments is wrong. The text is the usage line.
     Usage(&'static str),
+    /// An argument is no number within its limits.
+    Argument(Limits),
     /// The first number of subscriptions, of the second, were not served.
     Missed(u64, u64),
     /// No thread could be started.
@@ -74,12 +77,17 @@ impl Display for Fault {
     fn fmt<W: fmt::Write>(&self, f: &mut Formatter<W>) -> fmt::Result {
         match self {
             Fault::Usage(line) => f.write_str(line),
-            Fault::Missed(missed, all) => write!(f, "{missed} of {all} subscriptions missed"),
-            Fault::Thread => f.write_str("no thread"),
-            Fault::Open => f.write_str("open mailbox"),
-            Fault::Clock => f.write_str("clock failed"),
-            Fault::Write => f.write_str("write failed"),
-            Fault::Memory => f.write_str("memory"),
+            Fault::Argument(Limits { name, least, most }) => {
+                write!(f, "cluster: {name} must be a number from {least} to {most}")
+            }
+            Fault::Missed(missed, all) => {
+                write!(f, "cluster: {missed} of {all} subscriptions missed")
+            }
+            Fault::Thread => f.write_str("cluster: no thread could be started"),
+            Fault::Open => f.write_str("cluster: the mailbox of an engine that ended is open"),
+            Fault::Clock => f.write_str("cluster: the clock failed"),
+            Fault::Write => f.write_str("cluster: standard output failed"),
+            Fault::Memory => f.write_str("cluster: out of memory"),
         }
     }
 }
@@ -94,7 +102,7 @@ impl Fault {
     {
         match self {
             Fault::Missed(..) => 1,
-            Fault::Usage(_) => 2,
+            Fault::Usage(_) | Fault::Argument(_) => 2,
             Fault::Thread | Fault::Open | Fault::Clock | Fault::Write | Fault::Memory => 3,
         }
     }

@@ -1,6 +1,6 @@
 //! A queue from which one task takes.
-ghost use Rattle.std.specs.Prelude.{◌≡◌};
-ghost use Rattle.futures.specs.Poll.{OnPending};
+ghost use Rattle.std.specs.Prelude.{◌≡◌, [], ◌∷◌, ◌++◌, None, OnOk, OnErr, IfOk};
+ghost use Rattle.futures.specs.Poll.{OnPending, IfReady};
 ghost use Rattle.futures.specs.Task.{IsArmed, Keeps};
 
 use futures::task::{Context, Poll, Source, Waker};
@@ -19,12 +19,19 @@ impl<T> Waiting<T> {
     fn give(&mut self, item: T) -> Result<Option<Waker>, AllocError>
     where
         T: Drop,
+        ensures last { OnOk result (self.new.items.items ≡ self.old.items.items ++ item ∷ []) }
+        ensures wakes { IfOk result (λ woken. woken ≡ self.old.waker) }
+        ensures nobody_waits { OnOk result (self.new.waker ≡ None) }
+        ensures unchanged { OnErr result (self.new.items.items ≡ self.old.items.items) }
     {
         self.items.push_back(item)?;
         Ok(self.waker.take())
     }
 
     fn poll(&mut self, source: &Source, cx: &mut Context<'_>) -> Poll<T>
+        ensures first { IfReady result (λ item.
+            self.old.items.items ≡ item ∷ self.new.items.items) }
+        ensures empty { OnPending result (self.old.items.items ≡ []) }
         ensures armed { OnPending result (IsArmed cx.new) }
         ensures kept { Keeps cx.old cx.new }
     {

@@ -1,8 +1,8 @@
 //! The messages that the program's nodes broadcast.
 use crate::fault::Fault;
 use broadcast_core::{Digested, Digestible, Recipients, TestMessage};
-use broadcast_engine::buffered::{Bookkeeping, Mailbox};
-use commonware_broadcast::{Broadcaster, Feedback};
+use broadcast_mailbox::{Broadcaster, Feedback};
+use commonware_broadcast::buffered::{Bookkeeping, Mailbox};
 use std::alloc::{AllocError, AllocGlobal, Global};
 use std::sync::Wait;
 

@@ -1,11 +1,11 @@
 //! A node whose engine runs in a thread.
 ghost use Rattle.std.specs.Prelude.{◌≡◌, IfOk};
 ghost use Rattle.std.specs.NonZero.{non_zero_u32_get};
-ghost use Rattle.commonware_broadcast.specs.Account.{TallyState};
+ghost use Rattle.broadcast_mailbox.specs.Account.{TallyState};
 
 use crate::network::{Inbound, Mail, Outbound, PeerSets};
 use broadcast_core::{Codec, Digestible};
-use broadcast_engine::buffered::{
+use commonware_broadcast::buffered::{
     Account, All, Bookkeeping, Books, Config, Engine, Handle, Mailbox, MailboxEngine,
     MailboxReport, StartError, Strategy, Tally, WatchedNode,
 };
@@ -15,6 +15,9 @@ use std::random::RandomSource;
 use std::sync::ledger::Blank;
 use std::sync::{Arc, Wait};
 use std::thread::Threads;
+
+/// The number of requests that a mailbox takes before it tells its callers to slow down.
+const MAILBOX_SIZE: usize = 1000;
 
 /// An engine over a network in memory.
 pub type NodeEngine<M, T, R, A = ()> = MailboxEngine<u64, M, PeerSets<R>, T, R, A>;
@@ -247,7 +250,7 @@ where
 {
     Ok(Config {
         public_key: mail.key,
-        mailbox_size: NonZeroUsize::MIN,
+        mailbox_size: NonZeroUsize::MIN.saturating_add(MAILBOX_SIZE - 1),
         deque_size,
         byte_budget: u64::MAX,
         priority: false,
@@ -274,7 +277,6 @@ fn network<R: Clone + Drop>(
     let outbound = Outbound {
         key: mail.key,
         others,
-        lost: 0,
         rt: rt.clone()?,
     };
     let inbound = Inbound {

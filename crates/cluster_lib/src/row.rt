@@ -1,12 +1,15 @@
 //! What became of a node.
-ghost use Rattle.std.specs.Prelude.{◌≡◌, ◌-◌, ◌↔◌, All, IsOk, IfErr};
+ghost use Rattle.std.specs.Prelude.{◌≡◌, ◌-◌, ◌↔◌, All, IsOk, IfErr, OnOk};
+ghost use Rattle.std.specs.List.{flat_map};
+ghost use Rattle.std.specs.Io.KnownBytes.{Appends};
+ghost use Rattle.cluster_lib.specs.Table.{row_text, table_text};
 ghost use Rattle.cluster_lib.specs.Rows.{missed_of};
 ghost use Rattle.engine_io.specs.Counters.{number_of};
 ghost use Rattle.engine_io.specs.declared.metrics.Status.TheVariants.{Success, Dropped, Invalid};
 
 use crate::client::Seen;
 use crate::fault::Fault;
-use broadcast_engine::buffered::{Metrics, Status};
+use commonware_broadcast::buffered::{Metrics, Status};
 use std::io::{self, Write};
 
 /// What became of a node.
@@ -29,9 +32,9 @@ pub struct Row {
 }
 
 impl Row {
-    /// Returns the row of a node whose client made `subscriptions` subscriptions.
-    pub fn new(node: u64, metrics: &Metrics<u64>, seen: Seen, subscriptions: u64) -> Row
-        ensures node { result.node ≡ node }
+    /// Returns the row of a node whose client made `subscriptions` subscriptions and saw this.
+    pub fn new(metrics: &Metrics<u64>, seen: Seen, subscriptions: u64) -> Row
+        ensures node { result.node ≡ seen.node }
         ensures taken { result.taken ≡ number_of Success metrics.now.totals.receive }
         ensures dropped { result.dropped ≡ number_of Dropped metrics.now.totals.receive }
         ensures invalid { result.invalid ≡ number_of Invalid metrics.now.totals.receive }
@@ -40,7 +43,7 @@ impl Row {
         ensures evicted { result.evicted ≡ seen.evicted }
     {
         Row {
-            node,
+            node: seen.node,
             taken: metrics.receive(Status::Success),
             dropped: metrics.receive(Status::Dropped),
             invalid: metrics.receive(Status::Invalid),
@@ -77,8 +80,19 @@ fn missed(rows: &[Row]) -> Fault
 }
 
 /// Writes a line of names, and a line for each row.
-pub fn write_rows<W: Write>(out: &mut W, rows: &[Row]) -> io::Result<()> {
+pub fn write_rows<W: Write>(out: &mut W, rows: &[Row]) -> io::Result<()>
+    ensures { OnOk result (Appends (W.contents out.old) (W.contents out.new)
+        (table_text rows.now)) }
+{
     out.write_all(b"   node   taken dropped invalid  served  missed evicted\n")?;
+    write_lines(out, rows)
+}
+
+/// Writes a line for each row.
+fn write_lines<W: Write>(out: &mut W, rows: &[Row]) -> io::Result<()>
+    ensures { OnOk result (Appends (W.contents out.old) (W.contents out.new)
+        (flat_map row_text rows.now)) }
+{
     for row in rows {
         write_row(out, row)?;
     }
@@ -86,7 +100,10 @@ pub fn write_rows<W: Write>(out: &mut W, rows: &[Row]) -> io::Result<()> {
 }
 
 /// Writes the line of a row.
-fn write_row<W: Write>(out: &mut W, row: &Row) -> io::Result<()> {
+fn write_row<W: Write>(out: &mut W, row: &Row) -> io::Result<()>
+    ensures { OnOk result (Appends (W.contents out.old) (W.contents out.new)
+        (row_text row.now)) }
+{
     write!(out, "{:>7} {:>7} {:>7}", row.node, row.taken, row.dropped)?;
     write!(out, " {:>7} {:>7}", row.invalid, row.served)?;
     writeln!(out, " {:>7} {:>7}", row.missed, row.evicted)

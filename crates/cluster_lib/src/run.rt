@@ -1,11 +1,12 @@
 //! A run of a cluster.
+ghost use Rattle.std.specs.Prelude.{◌≡◌, [], ◌∷◌, ◌++◌, OnOk};
+
+use crate::ended::{Ended, Outcome};
 use crate::fault::Fault;
 use crate::message::message_of;
 use crate::network::Mail;
-use crate::row::Row;
-use crate::session::{NodeSession, Played, STRANGER};
+use crate::session::{NodeSession, STRANGER};
 use crate::settings::Settings;
-use crate::settlement::Settlement;
 use crate::shared::Shared;
 use broadcast_core::{CodecError, Items, Set, Write};
 use std::alloc::{AllocError, AllocGlobal, Global};
@@ -14,34 +15,23 @@ use std::sync::{Arc, Wait};
 use std::thread::{self, JoinHandle, Threads};
 use std::time::Clock;
 
-/// The result of a node's thread.
-type Outcome = Result<Played, Fault>;
-
-/// What became of the nodes of a run.
-#[derive(Drop)]
-pub struct Ended {
-    /// What became of each node.
-    pub rows: Vec<Row>,
-    /// What became of the requests of each node's client.
-    pub settlements: Vec<Settlement>,
-}
-
 /// Runs the nodes of the keys from 1, each with a client. Stops them once all clients have
-/// finished, or one has failed, or after a minute. Returns what became of the nodes.
+/// finished, or one has failed, or all engines are idle. Returns what became of the nodes, or the
+/// first fault.
 pub fn run<R>(rt: &R, settings: Settings) -> Result<Ended, Fault>
 where
     R: Threads + Wait + Clock + RandomSource + AllocGlobal + Clone + Send + Sync + Drop + 'static,
 {
-    let shared = Arc::new(rt.alloc(), Shared::new(rt.alloc(), settings)?)?;
     let mails = mails(rt, settings.nodes)?;
+    let shared = Arc::new(rt.alloc(), Shared::new(rt.alloc(), settings, mails)?)?;
     let mut threads = Vec::new(rt.alloc());
-    let started = start_all(rt, settings, &shared, &mails, &mut threads);
+    let started = start_all(rt, settings, &shared, &mut threads);
     if started.is_err() {
         shared.fail();
     }
-    let ended = join_all(rt, threads);
+    let outcomes = join_all(rt, threads);
     started?;
-    ended
+    Ended::new(rt.alloc(), outcomes?.as_slice())
 }
 
 /// Starts a thread for each node, and appends it.
@@ -49,17 +39,16 @@ fn start_all<R>(
     rt: &R,
     settings: Settings,
     shared: &Arc<Shared>,
-    mails: &[Arc<Mail>],
     threads: &mut Vec<JoinHandle<Outcome>>,
 ) -> Result<(), Fault>
 where
     R: Threads + Wait + Clock + RandomSource + AllocGlobal + Clone + Send + Sync + Drop + 'static,
 {
-    for mail in mails {
+    for mail in &shared.mails {
         threads.reserve(1)?;
         let session = NodeSession {
             mail: Arc::try_clone(mail)?,
-            others: others(rt.alloc(), mail.key, mails)?,
+            others: others(rt.alloc(), mail.key, &shared.mails)?,
             settings,
             shared: Arc::try_clone(shared)?,
             rt: rt.clone()?,
@@ -85,31 +74,27 @@ where
     }
 }
 
-/// Joins the threads of the nodes, also after one of them failed. Returns what became of the nodes,
-/// or the fault of the first that failed.
-fn join_all<R>(rt: &R, threads: Vec<JoinHandle<Outcome>>) -> Result<Ended, Fault>
+/// Joins the threads of the nodes. Returns their outcomes, if there is memory for all.
+fn join_all<R>(rt: &R, threads: Vec<JoinHandle<Outcome>>) -> Result<Vec<Outcome>, AllocError>
 where
     R: Threads + AllocGlobal,
 {
-    let mut ended = Ended {
-        rows: Vec::new(rt.alloc()),
-        settlements: Vec::new(rt.alloc()),
-    };
-    let mut outcome = Ok(());
+    let mut outcomes = Vec::new(rt.alloc());
+    let mut kept = Ok(());
     for thread in threads {
-        outcome = outcome.and(append(thread.join(rt), &mut ended));
+        kept = kept.and(append(&mut outcomes, thread.join(rt)));
     }
-    match outcome {
-        Ok(()) => Ok(ended),
-        Err(fault) => Err(fault),
+    match kept {
+        Ok(()) => Ok(outcomes),
+        Err(error) => Err(error),
     }
 }
 
-/// Appends what became of a node.
-fn append(outcome: Outcome, ended: &mut Ended) -> Result<(), Fault> {
-    let Played { row, settlement } = outcome?;
-    ended.rows.push(row)?;
-    ended.settlements.push(settlement)?;
+/// Appends the outcome of a node.
+fn append(outcomes: &mut Vec<Outcome>, outcome: Outcome) -> Result<(), AllocError>
+    ensures { OnOk result (outcomes.new.items ≡ outcomes.old.items ++ outcome ∷ []) }
+{
+    outcomes.push(outcome)?;
     Ok(())
 }
 

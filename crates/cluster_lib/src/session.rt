@@ -1,7 +1,7 @@
 //! The session of a node and its client.
-ghost use Rattle.std.specs.Prelude.{◌≡◌};
+ghost use Rattle.std.specs.Prelude.{◌≡◌, ◌*◌, ◌-◌};
 ghost use Rattle.std.specs.NonZero.{non_zero_u32_get};
-ghost use Rattle.commonware_broadcast.specs.Account.{TallyState, capped};
+ghost use Rattle.broadcast_mailbox.specs.Account.{TallyState, capped};
 ghost use Rattle.cluster_lib.specs.Settlements.{ended};
 
 use crate::client::{Client, Seen};
@@ -15,10 +15,10 @@ use crate::settlement::Settlement;
 use crate::shared::Shared;
 use crate::tally::{Counting, WholeTally};
 use broadcast_core::{RangeCfg, TestMessage};
-use broadcast_engine::buffered::{
+use broadcast_mailbox::Feedback;
+use commonware_broadcast::buffered::{
     Account, Bookkeeping, Mailbox, MailboxReport, Sequential, StartError,
 };
-use commonware_broadcast::Feedback;
 use std::alloc::{AllocError, AllocGlobal};
 use std::marker::Brand;
 use std::num::NonZeroU32;
@@ -134,8 +134,8 @@ where
     }
 }
 
-/// Lets a client use the started node, and stops the node once all clients have finished, or after
-/// a minute. Returns what became of the node.
+/// Lets a client use the started node, and stops the node once all clients have finished, or one
+/// has failed, or all engines are idle. Returns what became of the node.
 fn run_node<R, A, K>(
     rt: &R,
     settings: Settings,
@@ -154,10 +154,9 @@ where
         shared.wait_for_finished(rt);
     }
     node.handle.stop();
-    let key = node.mail.key;
     let report = node.join(rt);
     let (tally, seen) = client?.join(rt);
-    Ok(settle(key, report, settings, tally, seen?))
+    Ok(settle(report, settings, tally, seen?))
 }
 
 /// Starts the client of the node.
@@ -201,9 +200,9 @@ where
     })
 }
 
-/// Returns what became of a node, of whose account this is the tally, and whose client saw this.
+/// Returns what became of a node that left this report, of whose account this is the tally, and
+/// whose client saw this.
 fn settle<R, A, K>(
-    key: u64,
     report: MailboxReport<u64, TestMessage, R, Counting<A, K>>,
     settings: Settings,
     tally: WholeTally<A>,
@@ -214,8 +213,13 @@ where
     A: Account,
     K: Account,
     requires accounts { (A.all ≡ A.parts) × (K.all ≡ K.parts) }
+    ensures node { result.row.node ≡ seen.node }
+    ensures served { result.row.served ≡ seen.served }
+    ensures missed { result.row.missed
+        ≡ capped (settings.nodes * settings.messages) - seen.served }
+    ensures evicted { result.row.evicted ≡ seen.evicted }
 {
-    let row = Row::new(key, report.metrics(), seen, settings.subscriptions());
+    let row = Row::new(report.metrics(), seen, settings.subscriptions());
     let tally = tally.into_inner();
     let accepted = tally.accepted();
     let settled = report.settle(tally).unwrap();

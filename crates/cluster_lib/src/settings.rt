@@ -1,28 +1,32 @@
-//! The arguments of the program.
-ghost use Rattle.std.specs.Prelude.{◌≡◌, ◌*◌, IfSome, Some, map, string_bytes};
-ghost use Rattle.commonware_broadcast.specs.Account.{capped};
+//! The settings of a run.
+ghost use Rattle.std.specs.Prelude.{◌≡◌, ◌*◌, IfOk, Ok, map, string_bytes};
+ghost use Rattle.broadcast_mailbox.specs.Account.{capped};
 ghost use Rattle.cluster_lib.specs.Arguments.{IsAllowed, words_of};
 
+use crate::arguments::{USAGE, read_number};
 use crate::fault::Fault;
-use broadcast_text::words::parse_number;
-use std::env;
-use std::io::ErrorKind;
-use std::rt::Env;
+use crate::limits::Limits;
 
-/// The usage line.
-pub const USAGE: &str = "usage: cluster NODES MESSAGES SIZE, or cluster rate CLIENTS ROUNDS DEPTH";
+/// The limits of the number of nodes.
+const NODES: Limits = Limits {
+    name: "NODES",
+    least: 2,
+    most: 16,
+};
 
-/// The least number of nodes.
-const LEAST_NODES: u64 = 2;
+/// The limits of the number of messages of a node.
+const MESSAGES: Limits = Limits {
+    name: "MESSAGES",
+    least: 1,
+    most: 100,
+};
 
-/// The greatest number of nodes.
-const MOST_NODES: u64 = 16;
-
-/// The least number of messages of a node.
-const LEAST_MESSAGES: u64 = 1;
-
-/// The greatest number of messages of a node.
-const MOST_MESSAGES: u64 = 100;
+/// The limits of the number of digests in a list.
+const SIZE: Limits = Limits {
+    name: "SIZE",
+    least: 0,
+    most: u64::MAX,
+};
 
 /// The settings of a run.
 #[derive(Clone, Copy)]
@@ -36,26 +40,25 @@ pub struct Settings {
 }
 
 impl Settings {
-    /// Returns the settings of the words `NODES MESSAGES SIZE`, or `None` for other words.
-    pub fn parse(words: &[String]) -> Option<Settings>
-        ensures spelled_so { IfSome result (λ it. map string_bytes words.now ≡ words_of it) }
-        ensures allowed { IfSome result IsAllowed }
+    /// Returns the settings of the words `NODES MESSAGES SIZE`.
+    ///
+    /// # Errors
+    ///
+    /// Fails with [`Fault::Usage`] if these are not three words, and else with [`Fault::Argument`]
+    /// of the first word that is not a number within its limits.
+    pub fn parse(words: &[String]) -> Result<Settings, Fault>
+        ensures spelled_so { IfOk result (λ it. map string_bytes words.now ≡ words_of it) }
+        ensures allowed { IfOk result IsAllowed }
         ensures reads_all_arguments { (it : Settings) → IsAllowed it
-            → map string_bytes words.now ≡ words_of it → result ≡ Some it }
+            → map string_bytes words.now ≡ words_of it → result ≡ Ok it }
     {
         let [nodes, messages, size] = words else {
-            return None;
+            return Err(Fault::Usage(USAGE));
         };
-        let nodes = parse_number(nodes.as_bytes())?;
-        let messages = parse_number(messages.as_bytes())?;
-        let deque_size = parse_number(size.as_bytes())? as usize;
-        if nodes < LEAST_NODES || messages < LEAST_MESSAGES {
-            return None;
-        }
-        if nodes > MOST_NODES || messages > MOST_MESSAGES {
-            return None;
-        }
-        Some(Settings {
+        let nodes = read_number(nodes.as_bytes(), NODES)?;
+        let messages = read_number(messages.as_bytes(), MESSAGES)?;
+        let deque_size = read_number(size.as_bytes(), SIZE)? as usize;
+        Ok(Settings {
             nodes,
             messages,
             deque_size,
@@ -69,20 +72,4 @@ impl Settings {
     {
         self.nodes.saturating_mul(self.messages)
     }
-}
-
-/// Returns the arguments of the process without the program's name.
-///
-/// # Errors
-///
-/// Fails with [`Fault::Usage`] if an argument is not UTF-8, and with [`Fault::Memory`] if an
-/// allocation fails.
-pub fn read_arguments<R: Env + AllocGlobal>(rt: &R) -> Result<Vec<String>, Fault> {
-    let mut words = match env::args(rt) {
-        Ok(words) => words,
-        Err(error) if error.kind() == ErrorKind::OutOfMemory => return Err(Fault::Memory),
-        Err(_) => return Err(Fault::Usage(USAGE)),
-    };
-    let _name = words.next();
-    Ok(words.collect(rt.alloc())?)
 }

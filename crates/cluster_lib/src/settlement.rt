@@ -1,9 +1,9 @@
 //! What became of the requests of clients.
 ghost use Rattle.std.specs.Prelude.{◌≡◌, ◌+◌, sum_by};
-ghost use Rattle.commonware_broadcast.specs.Account.{capped};
+ghost use Rattle.broadcast_mailbox.specs.Account.{capped};
 ghost use Rattle.cluster_lib.specs.Settlements.{ended, settled_both};
 
-use broadcast_engine::buffered::Settled;
+use commonware_broadcast::buffered::Settled;
 use std::fmt::{self, Display, Formatter};
 
 /// How many requests of clients were accepted, and what became of them. Each number is at most

@@ -1,7 +1,9 @@
 //! What the threads of a run share.
 use crate::message::{Digest, digests_of};
+use crate::network::Mail;
 use crate::settings::Settings;
 use std::alloc::{AllocError, Global};
+use std::sync::Arc;
 use std::sync::atomic::{AtomicBool, AtomicU64, Ordering};
 use std::thread;
 use std::time::{Clock, Duration};
@@ -9,9 +11,20 @@ use std::time::{Clock, Duration};
 /// How often a thread looks whether it has to wait any longer, a millisecond apart.
 const LOOKS: u64 = 60_000;
 
+/// After how many looks a thread does not wait any longer, if no engine was polled since.
+const PATIENCE: u64 = 500;
+
+/// Shows that all clients have subscribed.
+#[derive(Drop)]
+pub struct AllSubscribed {
+    _counted: (),
+}
+
 /// What the threads of all nodes and clients share.
 #[derive(Drop)]
 pub struct Shared {
+    /// The mail of all nodes.
+    pub mails: Vec<Arc<Mail>>,
     /// The digests of the messages of all nodes.
     pub digests: Vec<Digest>,
     /// The number of clients.
@@ -26,8 +39,13 @@ pub struct Shared {
 
 impl Shared {
     /// Creates what is shared before any thread runs.
-    pub fn new(alloc: Global, settings: Settings) -> Result<Self, AllocError> {
+    pub fn new(
+        alloc: Global,
+        settings: Settings,
+        mails: Vec<Arc<Mail>>,
+    ) -> Result<Self, AllocError> {
         Ok(Shared {
+            mails,
             digests: digests_of(alloc, settings.nodes, settings.messages)?,
             clients: settings.nodes,
             subscribed: AtomicU64::new(0),
@@ -51,25 +69,47 @@ impl Shared {
         self.failed.store(true, Ordering::SeqCst);
     }
 
-    /// Waits until all clients have subscribed, or a node or a client has failed, or for a minute.
-    pub fn wait_for_subscribed(&self, rt: &impl Clock) {
-        self.wait_for(rt, &self.subscribed);
+    /// Waits until all clients have subscribed. Returns `None` if a node or a client fails before,
+    /// or all engines are idle.
+    pub fn wait_for_subscribed(&self, rt: &impl Clock) -> Option<AllSubscribed> {
+        self.waits_for(rt, &self.subscribed)
+            .then_some(AllSubscribed { _counted: () })
     }
 
-    /// Waits until all clients have finished, or a node or a client has failed, or for a minute.
+    /// Waits until all clients have finished, or a node or a client fails, or all engines are idle.
     pub fn wait_for_finished(&self, rt: &impl Clock) {
-        self.wait_for(rt, &self.finished);
+        let _all = self.waits_for(rt, &self.finished);
     }
 
-    /// Waits until all clients are counted, or a node or a client has failed, or for a minute.
-    fn wait_for(&self, rt: &impl Clock, counted: &AtomicU64) {
+    /// Waits until all clients are counted. Returns `false` if a node or a client fails before, or
+    /// all engines are idle.
+    fn waits_for(&self, rt: &impl Clock, counted: &AtomicU64) -> bool {
+        let mut polls = 0u64;
+        let mut idle = 0u64;
         for _ in 0..LOOKS {
-            if self.failed.load(Ordering::SeqCst)
-                || counted.load(Ordering::SeqCst) >= self.clients
-            {
-                return;
+            if counted.load(Ordering::SeqCst) >= self.clients {
+                return true;
+            }
+            let now = self.polls();
+            idle = if now == polls {
+                idle.saturating_add(1)
+            } else {
+                0
+            };
+            polls = now;
+            if idle > PATIENCE || self.failed.load(Ordering::SeqCst) {
+                return false;
             }
             thread::sleep(rt, Duration::from_millis(1));
         }
+        false
+    }
+    /// Returns how often the engines of all nodes were polled.
+    fn polls(&self) -> u64 {
+        let mut polls = 0u64;
+        for mail in &self.mails {
+            polls = polls.saturating_add(mail.polls.load(Ordering::SeqCst));
+        }
+        polls
     }
 }

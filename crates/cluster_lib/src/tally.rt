@@ -1,11 +1,11 @@
 //! The tally of a client.
 ghost use Rattle.std.specs.Prelude.{◌≡◌};
-ghost use Rattle.commonware_broadcast.specs.Account.{TallyState};
+ghost use Rattle.broadcast_mailbox.specs.Account.{TallyState};
 
 use crate::message::Digest;
 use broadcast_core::{Digested, Recipients, TestMessage};
-use broadcast_engine::buffered::{Account, All, Books, Get, Mailbox, Subscription, Tally};
-use commonware_broadcast::{Feedback, MailboxError};
+use broadcast_mailbox::{Feedback, MailboxError};
+use commonware_broadcast::buffered::{Account, All, Books, Get, Mailbox, Subscription, Tally};
 use std::sync::Wait;
 
 /// The account of a mailbox that counts every tallied request.

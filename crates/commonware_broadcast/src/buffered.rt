@@ -1,24 +1,33 @@
-//! The mailbox of a node that keeps the latest messages of each peer.
-mod ingress;
+//! Broadcasts messages to peers, and buffers what they broadcast.
+pub mod config;
+pub mod engine;
+pub mod front;
+pub mod gate;
+pub mod session;
+pub mod started;
+pub mod strategy;
+pub mod threaded;
+pub mod worker;
 
-pub use ingress::account::{Account, Bookkeeping};
-pub use ingress::books::{Books, Taker};
-pub use ingress::get::Get;
-pub use ingress::inbox::Inbox;
-pub use ingress::laws::ticket_law;
-pub use ingress::mailbox::{
-    Incoming, Mailbox, WatchedEnds, WatchedMailbox, channel, watched_channel,
+pub use crate::mocks;
+pub use broadcast_mailbox::buffered::{
+    Account, All, Bookkeeping, Books, Broadcasts, Counts, Fixed, Get, Inbox, Incoming, Ingress,
+    Kind, Mailbox, Message, Overflow, Pending, Policy, Queued, Reply, Request, Responder, Settled,
+    Stopper, Subscription, Taker, Tally, Watch, WatchedEnds, WatchedMailbox, channel, ticket_law,
+    watched_channel,
 };
-pub use ingress::message::Message;
-pub use ingress::overflow::{Overflow, Policy};
-pub use ingress::pending::Pending;
-pub use ingress::queued::{Counts, Queued};
-pub use ingress::reply::Reply;
-pub use ingress::request::Request;
-pub use ingress::responder::{Fixed, Responder};
-pub use ingress::settled::Settled;
-pub use ingress::source::Ingress;
-pub use ingress::stopper::Stopper;
-pub use ingress::subscription::Subscription;
-pub use ingress::tally::Tally;
-pub use ingress::watch::{All, Broadcasts, Kind, Watch};
+pub use config::Config;
+pub use engine::{
+    Engine, Ready, Report, StartError, drive, make_ready, new_engine_law, run, spawn,
+};
+pub use engine_io::{
+    Counter, Direct, EndCause, Input, Metrics, NetworkFailed, Outlet, Provider, Receiver, Requests,
+    Sender, Sequencer, Status, Turn,
+};
+pub use front::{MailboxEngine, WatchedEngine, WatchedNode};
+pub use gate::{Gate, Open};
+pub use session::{Client, Finished, Session, WatchedClient, run_session};
+pub use started::{Handle, MailboxReport, Prepared};
+pub use strategy::{Done, Job, Sequential, Strategy};
+pub use threaded::{Threaded, Working};
+pub use worker::{DigestOf, Work, Worker};

@@ -1,14 +1,15 @@
-//! Broadcasts messages to peers: the mailbox through which callers on any thread reach a node.
+//! A node that buffers what its peers broadcast: its engine, and the mailbox of its callers.
 #![tactic(auto)]
 
-mod broadcaster;
 pub mod buffered;
+pub mod mocks;
 
-pub use broadcaster::{Broadcaster, Feedback, MailboxError};
-
-// The cache and what it rests on, so that a caller depends on this crate alone.
-pub use broadcast_core::{
-    Answer, Cause, Closable, Codec, CodecError, Core, Digested, Digestible, EncodeSize, Event,
-    Items, Outcome, PublicKey, RangeCfg, Read, Recipients, Run, Sent, Set, Subscribed, Taken,
-    TestMessage, Ticketed, Write, decode_cfg, run,
+// The mailbox, the cache, and what sources of one's own are polled with, so that a caller depends
+// on this crate alone.
+pub use broadcast_core::byte_list;
+pub use broadcast_mailbox::{
+    Answer, Broadcaster, Cause, Closable, Codec, CodecError, Core, Digested, Digestible,
+    EncodeSize, Event, Feedback, Items, MailboxError, Outcome, PublicKey, RangeCfg, Read,
+    Recipients, Run, Sent, Set, Subscribed, Taken, TestMessage, Ticketed, Write, decode_cfg, run,
 };
+pub use futures::task::{Context, Poll, Source, Waker};

@@ -7,3 +7,5 @@ pub mod First
 pub mod ReplyCounts
 pub mod Handing
 pub mod Refused
+pub mod Causes
+pub mod Heard

@@ -13,6 +13,12 @@ pub data Replied (S G A B : Type 0) : Type 0 where
   subscribed : Asker S → A → Bool → Replied S G A B
   got : Asker G → B → Bool → Replied S G A B
 
+-- the reply was delivered or not as its responder may say, by the answers that each may give
+abbrev pub IsAsSaid : {S G A B : Type 0} → (S → Bool → Type 0) → (G → Bool → Type 0)
+    → Replied S G A B → Type 0
+IsAsSaid of_subscribe of_get (subscribed w reply delivered) = of_subscribe w.responder delivered
+IsAsSaid of_subscribe of_get (got v reply delivered) = of_get v.responder delivered
+
 -- the replies of messages, the oldest first
 abbrev pub Replies : (S G M D : Type 0) → Type 0
 Replies S G M D = List (Replied S G (Carried M D) (Option (Carried M D)))

@@ -1,5 +1,5 @@
 -- What a poll of a source gives.
-use Rattle.std.specs.Prelude.{List, [], ◌∷◌, Option, None, Some, Result, Ok, Err}
+use Rattle.std.specs.Prelude.{List, [], ◌∷◌, Option, None, Some, Result, Ok, Err, ⊤}
 use Rattle.futures.specs.declared.task.Poll.{Poll}
 use Rattle.futures.specs.declared.task.Poll.TheVariants.{Ready, Pending}
 
@@ -20,3 +20,9 @@ module _ {A : Type 0} where
   given_ok (Ready (Ok a)) = a ∷ []
   given_ok (Ready (Err e)) = []
   given_ok Pending = []
+
+  -- the poll tells that the source has failed
+  abbrev pub IsFailure : {E : Type 0} → Poll (Result A E) → Type 0
+  IsFailure (Ready (Ok a)) = ⊥
+  IsFailure (Ready (Err e)) = ⊤
+  IsFailure Pending = ⊥

@@ -1,9 +1,10 @@
 //! What a poll of an engine does first.
 ghost use Rattle.std.specs.Prelude.{◌≡◌, List};
 ghost use Rattle.futures.specs.Task.{IsArmed, Keeps};
-ghost use Rattle.commonware_broadcast.specs.declared.buffered.ingress.request.Request.{Request};
+ghost use Rattle.broadcast_mailbox.specs.declared.buffered.ingress.request.Request.{Request};
 ghost use Rattle.engine_io.specs.declared.first.First.TheVariants.{Stop, Sources};
 ghost use Rattle.engine_io.specs.First.{Empties};
+ghost use Rattle.engine_io.specs.Heard.{HearsAll};
 
 use crate::requests::Requests;
 use futures::task::Context;
@@ -32,6 +33,7 @@ pub fn comes_first<P: Drop, J: Drop, T, Q: Requests<T>>(
     ensures tells { (given : List (Request T)) → Q.told requests.old given
         → Q.told requests.new given }
     ensures quiet { Q.quiet requests.new → Q.quiet requests.old }
+    ensures heard_stop { (result ≡ Stop → ⊥) → HearsAll cx.new (Q.needs_stop requests.new) }
     ensures kept { Keeps cx.old cx.new }
 {
     if requests.stopped(cx) {

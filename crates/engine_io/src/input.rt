@@ -3,7 +3,7 @@ ghost use Rattle.std.specs.Prelude.{◌≡◌};
 ghost use Rattle.engine_io.specs.Refused.{refuses};
 
 use broadcast_core::{Cause, CodecError, Digested, Digestible, Outcome, PublicKey, Set};
-use commonware_broadcast::buffered::{Message, Request};
+use broadcast_mailbox::buffered::{Message, Request};
 
 /// One input of an engine.
 #[derive(Drop)]

@@ -1,9 +1,9 @@
 //! Counters of what an engine does.
 //!
 //! Every counter saturates at `u64::MAX`.
-ghost use Rattle.std.specs.Prelude.{◌≡◌, ℕ, ◌+◌, if◌then◌else◌, OnOk, OnErr};
+ghost use Rattle.std.specs.Prelude.{◌≡◌, ℕ, ◌+◌, if◌then◌else◌, true, IsOk, OnOk, OnErr};
 ghost use Rattle.std.specs.Ordering.{eq_by_cmp};
-ghost use Rattle.engine_io.specs.Counters.{no_counts, zero_counters, number_of, raised, added, count_of};
+ghost use Rattle.engine_io.specs.Counters.{no_counts, zero_counters, number_of, raised, added, count_of, has_count};
 
 use broadcast_core::PublicKey;
 use std::alloc::{AllocError, Global};
@@ -131,6 +131,34 @@ impl<P: PublicKey> Metrics<P> {
         }
     }
 
+    /// Returns the number of each peer whose payloads were decoded.
+    pub fn peers(&self) -> &BTreeMap<P, u64>
+        ensures { result.now.entries ≡ self.now.peer }
+    {
+        &self.peer
+    }
+
+    /// Returns how many messages were received, by status.
+    pub fn receive_counter(&self) -> Counter
+        ensures { result ≡ self.now.totals.receive }
+    {
+        self.receive
+    }
+
+    /// Returns how many subscribes ended, by status.
+    pub fn subscribe_counter(&self) -> Counter
+        ensures { result ≡ self.now.totals.subscribe }
+    {
+        self.subscribe
+    }
+
+    /// Returns how many gets ended, by status.
+    pub fn get_counter(&self) -> Counter
+        ensures { result ≡ self.now.totals.get }
+    {
+        self.get
+    }
+
     /// Returns how many messages were received with `status`.
     pub fn receive(&self, status: Status) -> u64
         ensures { result ≡ number_of status self.now.totals.receive }
@@ -159,13 +187,16 @@ impl<P: PublicKey> Metrics<P> {
         self.waiters
     }
 
-    /// Counts a decoded payload of `peer`. After an allocation failure no counter has changed.
+    /// Counts a decoded payload of `peer`. Allocates only for the first one of a peer. After an
+    /// allocation failure no counter has changed.
     pub fn count_peer(&mut self, peer: &P) -> Result<(), AllocError>
         ensures counts_one { OnOk result ((q : P) → let same = eq_by_cmp P.cmp in
             count_of same q self.new.peer
             ≡ (if same peer.now q then raised (count_of same q self.old.peer) 1
             else count_of same q self.old.peer)) }
         ensures totals_stay { self.new.totals ≡ self.old.totals }
+        ensures succeeds_if_counted_before { has_count (eq_by_cmp P.cmp) peer.now self.old.peer
+            ≡ true → IsOk result }
         ensures unchanged_on_error { OnErr result (self.new ≡ self.old) }
     {
         count_key(&mut self.peer, peer)
@@ -219,6 +250,7 @@ fn count_key<K: PublicKey>(numbers: &mut BTreeMap<K, u64>, key: &K) -> Result<()
         count_of same q numbers.new.entries
         ≡ (if same key.now q then raised (count_of same q numbers.old.entries) 1
         else count_of same q numbers.old.entries)) }
+    ensures known { has_count (eq_by_cmp K.cmp) key.now numbers.old.entries ≡ true → IsOk result }
     ensures err { OnErr result (numbers.new.entries ≡ numbers.old.entries) }
 {
     if let Some(number) = numbers.get_mut(key) {

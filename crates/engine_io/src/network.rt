@@ -1,9 +1,11 @@
 //! The peers and the network of an engine.
-ghost use Rattle.std.specs.Prelude.{⊤, ℕ, List, [], ◌∷◌, ◌++◌};
-ghost use Rattle.futures.specs.Poll.{OnPending};
+ghost use Rattle.std.specs.Prelude.{◌≡◌, ⊤, ℕ, List, None, [], ◌∷◌, ◌++◌, OnErr, IfNone};
+ghost use Rattle.futures.specs.Poll.{IfReady, OnPending};
+ghost use Rattle.futures.specs.declared.task.Poll.TheVariants.{Ready};
 ghost use Rattle.futures.specs.Task.{IsArmed, Keeps};
 ghost use Rattle.broadcast_core.specs.declared.event.Sent.{Sent};
-ghost use Rattle.engine_io.specs.Sources.{given_some, given_ok};
+ghost use Rattle.engine_io.specs.Heard.{HearsAll};
+ghost use Rattle.engine_io.specs.Sources.{given_some, given_ok, IsFailure};
 
 use broadcast_core::{Items, PublicKey, Recipients, Set};
 use futures::task::{Context, Poll};
@@ -22,11 +24,23 @@ pub trait Provider<P: PublicKey> {
     /// Whether the provider may have no set to give.
     ghost quiet: { Self → Type 0 } = { λ _. ⊤ };
 
+    /// Whether there are no more sets. A provider that does not tell has none here.
+    ghost ends: { Self → Type 0 } = { λ _. ⊥ };
+
+    /// Whether there may be no more sets. For a provider that does not tell, there may.
+    ghost may_end: { Self → Type 0 } = { λ _. ⊤ };
+
+    /// Holds of each source that wakes who waits for a peer set. By default of no source.
+    ghost needs: { Self → ℕ → Type 0 } = { λ _ _. ⊥ };
+
     /// Returns the next set of primary peers, or `None` once there are no more.
     fn poll_update(&mut self, cx: &mut Context<'_>) -> Poll<Option<Set<P>>>
         ensures tells { (sets : List (List P))
             → told self.old sets → told self.new (sets ++ given_some result) }
         ensures quiet { OnPending result (quiet self.old) }
+        ensures ends { ends self.old → result ≡ Ready None }
+        ensures may_end { IfReady result (λ set. IfNone set (may_end self.old)) }
+        ensures heard { OnPending result (HearsAll cx.new (needs self.new)) }
         ensures armed { OnPending result (IsArmed cx.new) }
         ensures kept { Keeps cx.old cx.new };
 }
@@ -36,10 +50,26 @@ pub trait Receiver<P> {
     /// Whether this may be the list of the payloads that were given, oldest first.
     ghost told: { Self → List (P × List ℕ) → Type 0 };
 
+    /// Whether the receiver may have no payload to give.
+    ghost quiet: { Self → Type 0 } = { λ _. ⊤ };
+
+    /// Whether it has failed. A receiver that does not tell has not, here.
+    ghost fails: { Self → Type 0 } = { λ _. ⊥ };
+
+    /// Whether it may have failed. A receiver that does not tell always may have.
+    ghost may_fail: { Self → Type 0 } = { λ _. ⊤ };
+
+    /// Holds of each source that wakes who waits for a payload. By default of no source.
+    ghost needs: { Self → ℕ → Type 0 } = { λ _ _. ⊥ };
+
     /// Returns the next payload with its sender.
     fn poll_recv(&mut self, cx: &mut Context<'_>) -> Poll<Result<(P, Items<u8>), NetworkFailed>>
         ensures tells { (payloads : List (P × List ℕ))
             → told self.old payloads → told self.new (payloads ++ given_ok result) }
+        ensures quiet { OnPending result (quiet self.old) }
+        ensures fails { fails self.old → IsFailure result }
+        ensures may_fail { IfReady result (λ payload. OnErr payload (may_fail self.old)) }
+        ensures heard { OnPending result (HearsAll cx.new (needs self.new)) }
         ensures armed { OnPending result (IsArmed cx.new) }
         ensures kept { Keeps cx.old cx.new };
 }

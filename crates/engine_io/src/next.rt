@@ -1,19 +1,21 @@
 //! The next input of the node's own sources.
-ghost use Rattle.std.specs.Prelude.{◌≡◌, List, [], ◌∷◌, ◌++◌, Err, IfOk};
+ghost use Rattle.std.specs.Prelude.{◌≡◌, ℕ, List, [], ◌∷◌, ◌++◌, Err, IfOk};
 ghost use Rattle.futures.specs.Poll.{IfReady, OnPending};
 ghost use Rattle.futures.specs.Task.{IsArmed, Keeps};
 ghost use Rattle.futures.specs.declared.task.Poll.TheVariants.{Ready};
-ghost use Rattle.commonware_broadcast.specs.declared.buffered.ingress.message.Message.{Message};
-ghost use Rattle.commonware_broadcast.specs.declared.buffered.ingress.request.Request.{Request};
+ghost use Rattle.broadcast_mailbox.specs.declared.buffered.ingress.message.Message.{Message};
+ghost use Rattle.broadcast_mailbox.specs.declared.buffered.ingress.request.Request.{Request};
 ghost use Rattle.engine_io.specs.Sources.{given_ok};
 ghost use Rattle.engine_io.specs.Inputs.{sets_in, requests_in, payloads_in};
 ghost use Rattle.engine_io.specs.FirstSource.{UnlessPeerSet};
+ghost use Rattle.engine_io.specs.Causes.{EndsBy};
+ghost use Rattle.engine_io.specs.Heard.{HearsAll};
 
 use crate::input::{EndCause, Input};
 use crate::network::Provider;
 use crate::requests::Requests;
 use broadcast_core::{Digestible, PublicKey};
-use commonware_broadcast::buffered::Message;
+use broadcast_mailbox::buffered::Message;
 use futures::task::{Context, Poll};
 
 /// Returns the next peer set, or else the next request. Once there are no more peer sets, the
@@ -36,9 +38,14 @@ where
         → Q.told requests.old before
         → Q.told requests.new (before ++ requests_in (given_ok result)) }
     ensures no_payload { payloads_in (given_ok result) ≡ [] }
-    ensures never_stops { result ≡ Ready (Err EndCause.Stopped) → ⊥ }
+    ensures ends { B.ends provider.old → result ≡ Ready (Err EndCause.PeersClosed) }
+    ensures has_cause { EndsBy result ⊥ (B.may_end provider.old) ⊥ }
     ensures peers_first { UnlessPeerSet result (B.quiet provider.old) }
     ensures requests_first { OnPending result (Q.quiet requests.old) }
+    ensures heard_peers { OnPending result (HearsAll cx.new (B.needs provider.new)) }
+    ensures heard_requests { OnPending result (HearsAll cx.new (Q.needs requests.new)) }
+    ensures same_stop { OnPending result
+        ((source : ℕ) → Q.needs_stop requests.new source → Q.needs_stop requests.old source) }
     ensures armed { OnPending result (IsArmed cx.new) }
     ensures kept { Keeps cx.old cx.new }
 {

@@ -1,8 +1,9 @@
 //! Where an engine's replies go.
-ghost use Rattle.std.specs.Prelude.{⊤, List, [], ◌∷◌, ◌++◌};
-ghost use Rattle.engine_io.specs.Replies.{Replied, subscribed, got};
+ghost use Rattle.std.specs.Prelude.{List, [], ◌∷◌, ◌++◌};
+ghost use Rattle.std.specs.List.{All};
+ghost use Rattle.engine_io.specs.Replies.{IsAsSaid, Replied, subscribed, got};
 
-use commonware_broadcast::buffered::Responder;
+use broadcast_mailbox::buffered::Responder;
 
 /// Hands replies to responders: `S` and `A` are those of subscribes, `G` and `B` those of gets.
 pub trait Outlet<S, G, A, B> {
@@ -25,9 +26,10 @@ pub trait Outlet<S, G, A, B> {
 #[derive(Clone, Copy, Debug, PartialEq, Eq)]
 pub struct Direct;
 
-/// A oneshot's receiver may go away at any time, so nothing is told of the replies.
+/// A reply counts as delivered if its responder accepted it, and else not: these are the replies
+/// that may have been handed out.
 impl<A, B, S: Responder<A>, G: Responder<B>> Outlet<S, G, A, B> for Direct {
-    ghost told = { λ _ _. ⊤ };
+    ghost told = { λ _ replies. All (IsAsSaid S.may_deliver G.may_deliver) replies };
 
     fn subscribed(&mut self, _ticket: u64, to: S, reply: A) -> bool {
         to.send(reply)

@@ -10,7 +10,7 @@ use crate::metrics::{Metrics, Status};
 use crate::outlet::Outlet;
 use crate::waiter::Waiter;
 use broadcast_core::{Digested, Digestible, Items, PublicKey};
-use commonware_broadcast::buffered::Reply;
+use broadcast_mailbox::buffered::Reply;
 use std::alloc::{AllocError, Global};
 
 /// Hands a message to a waiter, and counts whether it was delivered.

@@ -2,11 +2,13 @@
 ghost use Rattle.std.specs.Prelude.{◌≡◌, ⊤, ℕ, List, ◌++◌, true, false};
 ghost use Rattle.futures.specs.Poll.{OnPending};
 ghost use Rattle.futures.specs.Task.{IsArmed, Keeps};
+ghost use Rattle.engine_io.specs.Heard.{HearsAll};
 ghost use Rattle.engine_io.specs.Sources.{given};
-ghost use Rattle.commonware_broadcast.specs.declared.buffered.ingress.request.Request.{Request};
+ghost use Rattle.broadcast_mailbox.specs.Ends.{IngressEnd, SharedInbox};
+ghost use Rattle.broadcast_mailbox.specs.declared.buffered.ingress.request.Request.{Request};
 
 use broadcast_core::Closable;
-use commonware_broadcast::buffered::{Bookkeeping, Ingress, Request};
+use broadcast_mailbox::buffered::{Bookkeeping, Ingress, Request};
 use futures::task::{Context, Poll};
 use std::sync::Wait;
 
@@ -24,12 +26,22 @@ pub trait Requests<T> {
     /// Whether a stop may have been asked for. For a source that does not tell, it may.
     ghost may_stop: { Self → Type 0 } = { λ _. ⊤ };
 
+    /// Whether the requests were closed. A source that does not tell always may have been.
+    ghost closed: { Self → Type 0 } = { λ _. ⊤ };
+
+    /// Holds of each source that wakes who waits for a request. By default of no source.
+    ghost needs: { Self → ℕ → Type 0 } = { λ _ _. ⊥ };
+
+    /// Holds of each source that wakes who waits for the order to stop. By default of no source.
+    ghost needs_stop: { Self → ℕ → Type 0 } = { λ _ _. ⊥ };
+
     /// Returns whether the engine is to stop. If not, the task is woken once it is.
     fn stopped(&mut self, cx: &mut Context<'_>) -> bool
         ensures stops { stops self.old → result ≡ true }
         ensures only_if_asked { result ≡ true → may_stop self.old }
         ensures tells { (requests : List (Request T))
             → told self.old requests → told self.new requests }
+        ensures heard { result ≡ false → HearsAll cx.new (needs_stop self.new) }
         ensures armed { result ≡ false → IsArmed cx.new }
         ensures quiet { quiet self.new → quiet self.old }
         ensures kept { Keeps cx.old cx.new };
@@ -39,6 +51,9 @@ pub trait Requests<T> {
         ensures tells { (requests : List (Request T))
             → told self.old requests → told self.new (requests ++ given result) }
         ensures quiet { OnPending result (quiet self.old) }
+        ensures heard { OnPending result (HearsAll cx.new (needs self.new)) }
+        ensures same_stop { OnPending result
+            ((source : ℕ) → needs_stop self.new source → needs_stop self.old source) }
         ensures armed { OnPending result (IsArmed cx.new) }
         ensures kept { Keeps cx.old cx.new };
 
@@ -49,10 +64,13 @@ pub trait Requests<T> {
 
     /// Refuses later requests, and gives up those that wait.
     fn close(&mut self)
-        ensures { (requests : List (Request T)) → told self.old requests → told self.new requests };
+        ensures closes { closed self.new }
+        ensures tells { (requests : List (Request T))
+            → told self.old requests → told self.new requests };
 }
 
-/// Other threads queue the requests, so nothing is told of them.
+/// Other threads queue the requests, so nothing is told of them. A task that waits is woken by the
+/// inbox of the mailbox.
 impl<T, R, A> Requests<T> for Ingress<T, R, A>
 where
     T: Closable + Drop,
@@ -60,6 +78,10 @@ where
     A: Bookkeeping,
 {
     ghost told = { λ _ _. ⊤ };
+
+    ghost needs = { λ it source. source ≡ it.inbox.queued };
+
+    ghost needs_stop = { λ it source. source ≡ it.inbox.stopped };
 
     fn stopped(&mut self, cx: &mut Context<'_>) -> bool {
         self.poll_stopped(cx)

@@ -2,7 +2,7 @@
 ghost use Rattle.std.specs.Prelude.{◌≡◌};
 
 use broadcast_core::{Closable, Digestible};
-use commonware_broadcast::buffered::{Reply, Responder};
+use broadcast_mailbox::buffered::{Reply, Responder};
 use std::marker::{Model, PhantomData};
 
 /// A subscribe that waits: its ticket, and where the reply goes.

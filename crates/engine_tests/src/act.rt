@@ -3,8 +3,8 @@ use super::asked::Given;
 use super::message::To;
 use super::node::Metric;
 use super::world::{Sizes, World};
-use broadcast_engine::buffered::Turn;
-use commonware_broadcast::Feedback;
+use broadcast_mailbox::Feedback;
+use commonware_broadcast::buffered::Turn;
 use std::alloc::{AllocError, AllocGlobal};
 use std::num::NonZeroUsize;
 use std::process::Abort;
@@ -51,6 +51,8 @@ pub enum Act {
     Stop(u64),
     /// The engine with the greatest key is closed.
     CloseLast,
+    /// The engine with the greatest key is dropped.
+    DropLast,
     /// The engine is polled once: this is its turn, or it is pending.
     Poll(u64, Option<Turn>),
     /// All nodes run until they are pending.

@@ -1,7 +1,7 @@
 //! The futures of gets and subscribes.
 use super::message::letter_of;
 use broadcast_core::TestMessage;
-use commonware_broadcast::buffered::{Get, Subscription};
+use broadcast_mailbox::buffered::{Get, Subscription};
 use futures::executor::block_on;
 use futures::future::poll_immediate;
 use std::alloc::AllocGlobal;

@@ -2,8 +2,8 @@
 use super::message::{To, digest, sending};
 use super::scripts::{Handed, Network, Scripted, Sources};
 use broadcast_core::TestMessage;
-use broadcast_engine::buffered::{Engine, Reply, Turn, drive};
-use broadcast_engine::mocks::{RecordingOutlet, Replied};
+use commonware_broadcast::buffered::{Engine, Reply, Turn, drive};
+use commonware_broadcast::mocks::{RecordingOutlet, Replied};
 use futures::task::{Poll, Solo};
 use std::alloc::{AllocError, Global};
 use std::marker::Model;

@@ -3,7 +3,7 @@ use super::driven::Driven;
 use super::message::To;
 use super::scripts::{Asks, Comes, Peered, Sources};
 use broadcast_core::{CodecError, Outcome};
-use broadcast_engine::buffered::{EndCause, Turn};
+use commonware_broadcast::buffered::{EndCause, Turn};
 use futures::task::{Doorbell, Solo};
 use std::alloc::{AllocError, Global};
 use std::test::Fail;
@@ -24,7 +24,7 @@ struct Row {
     closed: bool,
 }
 
-static ROWS: [Row; 9] = [
+static ROWS: [Row; 10] = [
     Row {
         name: "each drive goes on where the last one stopped, and pending polls count",
         sources: Sources {
@@ -131,6 +131,28 @@ static ROWS: [Row; 9] = [
         )],
         sent: &[],
         replies: &[(2, None, false), (1, Some(b'a'), true)],
+        over: true,
+        closed: false,
+    },
+    Row {
+        name: "a reply to a closed subscribe of a cached message is not delivered",
+        sources: Sources {
+            sets: &[Peered::Set(&[5])],
+            requests: &[Asks::Later, Asks::Later, Asks::Subscribe(b'a', true)],
+            payloads: &[Comes::From(5, b'a')],
+            slow: 0,
+            stops_after: None,
+        },
+        drives: &[(
+            9,
+            &[
+                Turn::Peers,
+                Turn::Payload(Outcome::Inserted),
+                Turn::Subscribe,
+            ],
+        )],
+        sent: &[],
+        replies: &[(2, Some(b'a'), false)],
         over: true,
         closed: false,
     },

@@ -5,7 +5,7 @@ use super::peers::{Feed, Peers};
 use super::wires::place;
 use super::world::Sizes;
 use broadcast_core::RangeCfg;
-use broadcast_engine::buffered::Config;
+use commonware_broadcast::buffered::Config;
 use std::alloc::{AllocError, Global};
 use std::rc::Rc;
 

@@ -4,7 +4,7 @@ ghost use Rattle.futures.specs.Task.{IsArmed, Keeps};
 ghost use Rattle.futures.specs.declared.task.Poll.TheVariants.{Pending};
 
 use broadcast_core::{Digestible, TestMessage};
-use broadcast_engine::buffered::{Job, Strategy};
+use commonware_broadcast::buffered::{Job, Strategy};
 use futures::task::{Context, Poll, Source, Waker};
 use std::alloc::{AllocError, Global};
 use std::cell::Cell;
@@ -83,7 +83,7 @@ impl Strategy<TestMessage> for Gated {
 }
 
 impl Job<TestMessage> for GatedJob {
-    ghost use Rattle.broadcast_engine.specs.Jobs.{HoldsDigested};
+    ghost use Rattle.commonware_broadcast.specs.Jobs.{HoldsDigested};
 
     ghost is_of = { λ job m. HoldsDigested ⟦<TestMessage as Digestible>⟧.digest_of m job.message };
 

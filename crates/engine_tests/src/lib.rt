@@ -36,6 +36,8 @@ mod scripts;
 #[cfg(test)]
 mod task;
 #[cfg(test)]
+mod texts;
+#[cfg(test)]
 mod threads;
 #[cfg(test)]
 mod wakes;

@@ -3,7 +3,7 @@ ghost use Rattle.std.specs.Prelude.{◌≡◌, ⊤, ℕ, List, [], ◌∷◌, �
 ghost use Rattle.broadcast_core.specs.declared.event.Sent.{Sent};
 
 use broadcast_core::{Items, Recipients, Sent};
-use broadcast_engine::buffered::{NetworkFailed, Receiver, Sender};
+use commonware_broadcast::buffered::{NetworkFailed, Receiver, Sender};
 use futures::task::{Context, Poll, Source, Waker};
 use std::alloc::{AllocError, Global};
 use std::collections::VecDeque;

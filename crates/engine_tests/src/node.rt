@@ -3,7 +3,7 @@ use super::job::Gated;
 use super::network::{Inbound, Outbound};
 use super::peers::Peers;
 use broadcast_core::{Codec, Digestible, RangeCfg, TestMessage};
-use broadcast_engine::buffered::{
+use commonware_broadcast::buffered::{
     Config, Engine, Mailbox, MailboxEngine, Metrics, Status, Strategy, Turn,
 };
 use futures::task::{Context, Poll};

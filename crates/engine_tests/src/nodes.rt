@@ -3,7 +3,7 @@ use super::network::{Inbound, Outbound};
 use super::node::{Metric, Node};
 use super::task::Task;
 use super::wires::Wires;
-use broadcast_engine::buffered::Turn;
+use commonware_broadcast::buffered::Turn;
 use futures::task::Poll;
 use std::alloc::{AllocError, AllocGlobal, Global};
 use std::random::RandomSource;
@@ -98,6 +98,11 @@ impl<R: Wait + Clone + Drop> Nodes<R> {
             Some(engine) => engine.stop(),
             None => false,
         }
+    }
+
+    /// Drops the engine with the greatest key. Returns whether there is one.
+    pub fn drop_last(&mut self) -> bool {
+        self.engines.pop().is_some()
     }
 
     /// Closes the engine with the greatest key. Returns whether there is one.

@@ -4,11 +4,11 @@ use super::asked::Given;
 use super::message::To;
 use super::node::Metric;
 use broadcast_core::Outcome;
-use broadcast_engine::buffered::{EndCause, Status, Turn};
-use commonware_broadcast::Feedback;
+use broadcast_mailbox::Feedback;
+use commonware_broadcast::buffered::{EndCause, Status, Turn};
 use std::test::Fail;
 
-static ROWS: [Row; 10] = [
+static ROWS: [Row; 12] = [
     Row {
         name: "a peer set comes before a request, and a request before a payload",
         nodes: 1,
@@ -109,6 +109,22 @@ static ROWS: [Row; 10] = [
             Act::Poll(1, Some(Turn::Get)),
             Act::Counts(1, Metric::Get(Status::Dropped), 1),
             Act::Counts(1, Metric::Get(Status::Failure), 0),
+        ],
+    },
+    Row {
+        name: "a reply to a subscribe that hangs up before its turn is dropped",
+        nodes: 1,
+        sizes: (1024, 10),
+        acts: &[
+            Act::Track(1, &[1]),
+            Act::Run,
+            Act::Broadcast(1, To::All, b'b'),
+            Act::Poll(1, Some(Turn::Broadcast(Outcome::Inserted))),
+            Act::Subscribe(1, b'b'),
+            Act::Hang(0),
+            Act::Poll(1, Some(Turn::Subscribe)),
+            Act::Counts(1, Metric::Subscribe(Status::Dropped), 1),
+            Act::Counts(1, Metric::Subscribe(Status::Success), 0),
         ],
     },
     Row {
@@ -230,6 +246,20 @@ static ROWS: [Row; 10] = [
             Act::Told(1, Feedback::Closed),
             Act::Get(1, b'b'),
             Act::Gives(2, Given::Nothing),
+        ],
+    },
+    Row {
+        name: "an engine that is dropped before its end leaves its mailbox open",
+        nodes: 1,
+        sizes: (1024, 10),
+        acts: &[
+            Act::Subscribe(1, b'a'),
+            Act::Run,
+            Act::Get(1, b'b'),
+            Act::DropLast,
+            Act::Gives(0, Given::Nothing),
+            Act::Gives(1, Given::Waits),
+            Act::Told(1, Feedback::Ok),
         ],
     },
 ];

@@ -4,7 +4,7 @@ ghost use Rattle.futures.specs.Task.{IsArmed, Keeps};
 ghost use Rattle.futures.specs.declared.task.Poll.TheVariants.{Pending};
 
 use broadcast_core::Set;
-use broadcast_engine::buffered::Provider;
+use commonware_broadcast::buffered::Provider;
 use futures::task::{Context, Poll, Source, Waker};
 use std::alloc::{AllocError, Global};
 use std::cell::Cell;

@@ -3,7 +3,7 @@ use super::act::{Act, Row, all_go};
 use super::asked::Given;
 use super::message::To;
 use super::node::Metric;
-use broadcast_engine::buffered::Status;
+use commonware_broadcast::buffered::Status;
 use std::test::Fail;
 
 static ROWS: [Row; 17] = [

@@ -1,8 +1,10 @@
 //! Engines whose sources follow a script.
 use super::message::{To, digest, digested, payload, peers, recipients};
 use broadcast_core::{Items, RangeCfg, Set, TestMessage};
-use broadcast_engine::buffered::{Config, Engine, Fixed, Message, NetworkFailed, Reply, Request};
-use broadcast_engine::mocks::{
+use commonware_broadcast::buffered::{
+    Config, Engine, Fixed, Message, NetworkFailed, Reply, Request,
+};
+use commonware_broadcast::mocks::{
     RecordingOutlet, RecordingSender, Replied, Script, ScriptedRequests, Slow,
 };
 use futures::task::Poll;

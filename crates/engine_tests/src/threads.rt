@@ -1,5 +1,8 @@
 //! Tests of engines and digests on several threads.
 
+mod account;
+mod counts;
+mod ends;
 mod gates;
 mod lock;
 mod nodes;

@@ -2,7 +2,7 @@
 use super::act::{Act, Row, all_go};
 use super::message::To;
 use broadcast_core::Outcome;
-use broadcast_engine::buffered::{EndCause, Turn};
+use commonware_broadcast::buffered::{EndCause, Turn};
 use std::test::Fail;
 
 static ROWS: [Row; 7] = [

@@ -117,6 +117,7 @@ fn goes_inside<R: Wait + Clone + Drop>(
         Act::Counts(key, metric, number) => nodes.counted(place(key), metric, number),
         Act::Stop(key) => nodes.stop(place(key)),
         Act::CloseLast => nodes.close_last(),
+        Act::DropLast => nodes.drop_last(),
         _ => return feeds_one(&mut nodes.wires, feeds, alloc, act),
     })
 }

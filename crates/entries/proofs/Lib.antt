@@ -9,3 +9,4 @@ pub mod Stores
 pub mod Sums
 pub mod Walking
 pub mod Tables
+mod Overlaying

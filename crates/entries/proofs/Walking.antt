@@ -1,5 +1,5 @@
 -- What a walk along a chain finds.
-use Rattle.std.proofs.Common.{◌≡◌, ℕ, zero, suc, List, [], ◌∷◌, ◌++◌, Option, Some, None, refl, sym, ap, ◌∙◌, append_assoc}
+use Rattle.std.proofs.Common.{◌≡◌, ◌≤◌, ◌<◌, ◌+◌, ◌-◌, ℕ, zero, suc, List, [], ◌∷◌, ◌++◌, Option, Some, None, refl, sym, ap, ◌∙◌, append_assoc, arith}
 use Rattle.entries.specs.declared.entry.Charged.{Charged}
 use Rattle.entries.specs.declared.entry.Entry.{Entry}
 use Rattle.entries.specs.Linked.{walk, entry_at}
@@ -21,3 +21,18 @@ module _ {K D : Type 0} (h : ℕ → Option (Entry K (Charged D))) where
 
   pub step-none : (n : ℕ) (at : Option ℕ) (ds all : List D) → entry_at h at ≡ None → ds ++ digests_of (walk h (suc n) at) ≡ all → ds ++ digests_of (walk h n at) ≡ all
   step-none n at ds all none so = ap (λ l. ds ++ digests_of l) (walk-none n at none ∙ sym (walk-none (suc n) at none)) ∙ so
+
+  -- the first digest of what is left of a walk, and the rest
+  pub walk-on : (len i : ℕ) (at : Option ℕ) (e : Entry K (Charged D)) → i < len → entry_at h at ≡ Some e
+      → digests_of (walk h (len - i) at) ≡ e.digest.digest ∷ digests_of (walk h (len - (i + 1)) e.older)
+  walk-on len i at e more there =
+      let left : len - i ≡ suc (len - (i + 1)) = omega (arith, more) in
+      ap (λ n. digests_of (walk h n at)) left ∙ walk-some (len - (i + 1)) at e there
+
+  pub walk-ends : (n : ℕ) (at : Option ℕ) → entry_at h at ≡ None → digests_of (walk h n at) ≡ []
+  walk-ends n at none = ap digests_of (walk-none n at none)
+
+  pub walk-done : (len i : ℕ) (at : Option ℕ) → len ≤ i → digests_of (walk h (len - i) at) ≡ []
+  walk-done len i at done =
+      let left : len - i ≡ 0 = omega (arith, done) in
+      ap (λ n. digests_of (walk h n at)) left

@@ -11,6 +11,12 @@ use Rattle.entries.specs.Linked.{Node, walk, IsChain}
 abbrev pub items_at : {K X : Type 0} → (K → K → Bool) → K → List (K × List X) → List X
 items_at same k es = unwrap_or (lookup (same k) es) []
 
+-- the list over the front of the room, as far as it goes; the rest of the room stays
+abbrev pub overlaid : {X : Type 0} → List X → List X → List X
+overlaid [] room = room
+overlaid (x ∷ xs) [] = []
+overlaid (x ∷ xs) (r ∷ room) = x ∷ overlaid xs room
+
 -- the charged nodes of each key, the newest first, and the place of the next insert
 pub record Listed (K D : Type 0) : Type 0 where
   pub lists : List (K × List (Node (Charged D)))

@@ -5,7 +5,7 @@ ghost use Rattle.std.specs.Option.{option_copied};
 ghost use Rattle.slab.specs.Slab.{get, HasRoomFor};
 ghost use Rattle.entries.specs.Linked.{IsOn, Admits, Promotes, Pushes, Pops, Frees, IsOwned};
 ghost use Rattle.entries.specs.Linked.{HasNodes, SameValues, entry_at};
-ghost use Rattle.entries.specs.Store.{nodes, digests_of};
+ghost use Rattle.entries.specs.Store.{nodes, digests_of, overlaid};
 
 use crate::entry::{Chain, Charged, Entry};
 use crate::links::{link_front, unlink};
@@ -109,6 +109,23 @@ pub fn collect<K, D: Copy>(
         }
     }
     Ok(digests)
+}
+
+/// Copies the digests of a chain to the front of `out`, the newest first, as many as there are
+/// places for.
+pub fn copy_to<K, D: Copy>(places: &Slab<Entry<K, Charged<D>>>, chain: &Chain, out: &mut [D])
+    ensures { out.new ≡ overlaid (digests_of (nodes (get places.now) chain.now)) out.old }
+{
+    let mut at = chain.newest;
+    let mut i = 0;
+    while i < chain.len && i < out.len() {
+        let Some(entry) = stands_at(places, at) else {
+            return;
+        };
+        out[i] = entry.digest.digest;
+        at = entry.older;
+        i += 1;
+    }
 }
 
 /// Returns the entry that a link leads to.

@@ -8,7 +8,7 @@ ghost use Rattle.std.specs.Map.{lookup, keys_of};
 ghost use Rattle.slab.specs.Slab.{get, SameValues};
 ghost use Rattle.entries.specs.Linked.{IsApart, HasNodes};
 ghost use Rattle.entries.specs.Store.{IsStore, IsPlaceOf, IsNoPlaceOf, IsOldest, Puts, Evicts};
-ghost use Rattle.entries.specs.Store.{Removes, nodes, lists_of, items_at, moved, digests_of, bytes_of};
+ghost use Rattle.entries.specs.Store.{Removes, nodes, lists_of, items_at, moved, digests_of, bytes_of, overlaid};
 ghost use Rattle.entries.specs.Store.{IsSummed};
 
 use crate::chain;
@@ -175,6 +175,22 @@ impl<K: Ord + Drop, D: Copy> Entries<K, D> {
         match self.chains.get(peer) {
             Some(chain) => chain::collect(alloc, &self.places, chain),
             None => Ok(Vec::new(alloc)),
+        }
+    }
+
+    /// Copies the digests of `peer` to the front of `out`, the newest first, as many as there are
+    /// places for. Returns how many digests there are. Does not allocate.
+    pub fn list_into(&self, peer: &K, out: &mut [D]) -> usize
+        ensures len { result ≡ length (items_at (eq_by_cmp K.cmp) peer.now self.now.lists) }
+        ensures digests { out.new ≡ overlaid
+            (digests_of (items_at (eq_by_cmp K.cmp) peer.now self.now.lists)) out.old }
+    {
+        match self.chains.get(peer) {
+            Some(chain) => {
+                chain::copy_to(&self.places, chain, out);
+                chain.len
+            }
+            None => 0,
         }
     }
 }

@@ -1,7 +1,7 @@
 -- Broadcasts that pass an inbox.
 use Rattle.std.proofs.Common.{◌≡◌, ℕ, zero, suc, ◌+◌, ◌<◌, ◌≤◌, List, [], ◌∷◌, length, take, get_or, set, refl, sym, ap, ◌∙◌, subst, arith}
 use Rattle.broadcast_core.specs.declared.event.Event.{Event}
-use Rattle.commonware_broadcast.specs.Mailbox.{MailboxState}
+use Rattle.broadcast_mailbox.specs.Mailbox.{MailboxState}
 use Rattle.replay_lib.specs.Loopback.{IsIdle, passed, broadcasts_by, broadcasts_in}
 
 -- an element that is written twice, at last as it was

@@ -7,7 +7,7 @@ use Rattle.broadcast_core.specs.TestMessage.{Parts}
 use Rattle.broadcast_core.specs.declared.ordered.Recipients.{Recipients}
 use Rattle.broadcast_core.specs.declared.event.Event.{Event}
 use Rattle.broadcast_core.specs.declared.event.Event.TheVariants.{Peers, Broadcast, Payload, Subscribe, Get, Cleanup}
-use Rattle.broadcast_text.specs.Words.{byte_list_word}
+use Rattle.broadcast_text.specs.Words.{byte_list_word, words_of}
 use Rattle.broadcast_text.specs.Recipients.{IsRecipients, IsSetOf, AreNumbers, keys_of}
 use Rattle.broadcast_text.specs.Message.{Spelled, AreBytes, message_words, message_of}
 use Rattle.replay_lib.specs.declared.line.Kind.{Kind}
@@ -69,3 +69,11 @@ Fits (payload key bytes) = (key < 2 ^ 64) × IsBytes bytes
 Fits (subscribe ticket content) = (ticket < 2 ^ 64) × IsBytes content
 Fits (get ticket content) = (ticket < 2 ^ 64) × IsBytes content
 Fits (cleanup tickets) = AreNumbers tickets
+
+-- the line means the event
+abbrev pub Means : List ℕ → Event ℕ Parts (List ℕ) → Type 0
+Means line event = (said : Line) × HasWords (words_of 32 line) said × IsEventOf said event
+
+-- the line is one of the format
+abbrev pub IsLine : List ℕ → Type 0
+IsLine line = (said : Line) × Fits said × HasWords (words_of 32 line) said

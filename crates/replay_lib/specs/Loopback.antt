@@ -2,8 +2,8 @@
 use Rattle.std.specs.Prelude.{◌≡◌, ℕ, ◌+◌, ◌≤◌, false, List, [], ◌∷◌}
 use Rattle.broadcast_core.specs.declared.event.Event.{Event}
 use Rattle.broadcast_core.specs.declared.event.Event.TheVariants.{Broadcast}
-use Rattle.commonware_broadcast.specs.Queue.{last_ticket, waiting}
-use Rattle.commonware_broadcast.specs.Mailbox.{MailboxState}
+use Rattle.broadcast_mailbox.specs.Queue.{last_ticket, waiting}
+use Rattle.broadcast_mailbox.specs.Mailbox.{MailboxState}
 
 module _ {P M D : Type 0} where
   -- how many broadcasts an event is

@@ -1,11 +1,33 @@
 //! The events of a reader.
+ghost use Rattle.std.specs.Prelude.{◌≡◌, ℕ, IfSome, IfOk, IfErr};
+ghost use Rattle.broadcast_text.specs.Lines.{AreRead, IsFirstUnread, IsOfReading, lines_of};
+ghost use Rattle.broadcast_text.specs.declared.fault.Fault.TheVariants.{Syntax};
+ghost use Rattle.replay_lib.specs.Line.{IsLine, Means};
+
 use crate::line::parse_line;
 use broadcast_core::{Event, TestMessage};
 use broadcast_text::fault::Fault;
 use broadcast_text::line_error::LineError;
-use broadcast_text::lines::Lines;
-use std::alloc::{AllocError, Global};
+use broadcast_text::lines::{LineFormat, read_all};
+use std::alloc::Global;
 use std::io::Read;
+
+/// The lines of an event file.
+struct EventLines;
+
+impl LineFormat for EventLines {
+    ghost use Rattle.replay_lib.specs.Line.{IsLine, Means};
+
+    type Item = Event<u64, TestMessage>;
+
+    ghost means = { Means };
+
+    ghost spells = { IsLine };
+
+    fn parse(alloc: Global, line: &[u8]) -> Result<Event<u64, TestMessage>, LineError> {
+        parse_line(alloc, line)
+    }
+}
 
 /// Returns the events of the whole input, one for each line.
 ///
@@ -17,23 +39,13 @@ use std::io::Read;
 pub fn read_events<R: Read + Drop>(
     alloc: Global,
     reader: R,
-) -> Result<Vec<Event<u64, TestMessage>>, Fault> {
-    let mut lines = Lines::new(alloc, reader)?;
-    let mut events = Vec::new(alloc);
-    for number in 1..u64::MAX {
-        let Some(line) = lines.next_line()? else {
-            return Ok(events);
-        };
-        match parse_line(alloc, line) {
-            Ok(event) => events.push(event).map_err(AllocError::from)?,
-            Err(LineError::Memory) => return Err(Fault::Memory),
-            Err(LineError::Syntax) => {
-                // A failed read goes before, even if it comes after this line.
-                lines.skip_rest()?;
-                return Err(Fault::Syntax(number));
-            }
-        }
-    }
-    // No vector has room for that many events.
-    Err(Fault::Memory)
+) -> Result<Vec<Event<u64, TestMessage>>, Fault>
+    ensures each_line { IfOk result (λ events. IfSome (R.remaining reader)
+        (λ text. AreRead Means (lines_of text) events.items)) }
+    ensures first_unread { IfErr result (λ fault. (number : ℕ) → fault ≡ Syntax number
+        → IfSome (R.remaining reader)
+        (λ text. IsFirstUnread Means IsLine (lines_of text) number)) }
+    ensures faults { IfErr result IsOfReading }
+{
+    read_all::<EventLines, R>(alloc, reader)
 }

@@ -8,9 +8,9 @@ mod report;
 mod settings;
 
 use broadcast_core::{Event, Run, TestMessage, run};
+use broadcast_mailbox::buffered::Inbox;
 use broadcast_text::fault::Fault;
 use broadcast_text::peer_list::lists_of;
-use commonware_broadcast::buffered::Inbox;
 pub use events::read_events;
 pub use loopback::Request;
 use loopback::loop_back;
@@ -77,7 +77,8 @@ fn passed_events<H: Wait + AllocGlobal, R: Read + Drop>(
     reader: R,
 ) -> Result<Vec<Event<u64, TestMessage>>, Fault> {
     let mut events = read_events(rt.alloc(), reader)?;
-    loop_back(rt, inbox, rt.alloc(), &mut events)?;
+    let mut guard = inbox.lock(rt);
+    loop_back(&mut guard, rt.alloc(), &mut events)?;
     Ok(events)
 }
 

@@ -1,15 +1,14 @@
 //! A line as an event.
 ghost use Rattle.std.specs.Prelude.{◌≡◌, ◌≢◌, ℕ, List, IfOk, IfErr};
 ghost use Rattle.broadcast_core.specs.declared.ordered.Recipients.{Recipients as Named};
-ghost use Rattle.broadcast_text.specs.Words.{words_of};
 ghost use Rattle.broadcast_text.specs.Message.{Spelled};
 ghost use Rattle.broadcast_text.specs.declared.line_error.LineError.TheVariants.{Syntax, Memory};
-ghost use Rattle.replay_lib.specs.Line.{Line, peers, broadcast, payload, subscribe, get, cleanup, kind_word, kind_of, HasWords, HasRest, IsEventOf, Fits};
+ghost use Rattle.replay_lib.specs.Line.{Line, peers, broadcast, payload, subscribe, get, cleanup, kind_word, kind_of, IsLine, Means, HasRest, IsEventOf, Fits};
 
 use broadcast_core::{Event, Items, Set, TestMessage};
 use broadcast_text::byte_list::parse_byte_list;
 use broadcast_text::line_error::LineError;
-use broadcast_text::message::{parse_message, parse_request};
+use broadcast_text::message::{MessageWords, parse_request};
 use broadcast_text::recipients::parse_recipients;
 use broadcast_text::words::{Words, expect_number, parse_numbers};
 use std::alloc::Global;
@@ -52,10 +51,9 @@ pub enum Kind {
 /// Fails with [`LineError::Syntax`] if the words are those of no line, and with
 /// [`LineError::Memory`] if an allocation fails.
 pub fn parse_line(alloc: Global, line: &[u8]) -> Result<Event<u64, TestMessage>, LineError>
-    ensures event_of_line { IfOk result (λ event.
-        (said : Line) × HasWords (words_of 32 line.now) said × IsEventOf said event) }
-    ensures reads_each_line { (said : Line) → Fits said → HasWords (words_of 32 line.now) said
-        → IfErr result (λ e. e ≡ Memory) }
+    ensures event_of_line { IfOk result (Means line.now) }
+    ensures reads_each_line { IfErr result (λ e. IsLine line.now → e ≡ Memory) }
+    ensures no_memory_for_others { IfErr result (λ e. e ≡ Memory → IsLine line.now) }
 {
     let mut words = Words::new(line, b' ');
     let kind = parse_kind(words.expect()?)?;
@@ -100,6 +98,8 @@ fn parse_rest(
         × (kind_of said ≡ kind) × HasRest words.entry said × IsEventOf said event) }
     ensures reads_each_line { (said : Line) → kind_of said ≡ kind → Fits said
         → HasRest words.entry said → IfErr result (λ e. e ≡ Memory) }
+    ensures no_memory_for_a_line { IfErr result (λ e. e ≡ Memory
+        → (said : Line) × (kind_of said ≡ kind) × Fits said × HasRest words.entry said) }
 {
     match kind {
         Kind::Peers => parse_peers(alloc, words),
@@ -117,6 +117,9 @@ fn parse_peers(alloc: Global, words: Words<'_>) -> Result<Event<u64, TestMessage
         × HasRest words.entry (peers keys) × IsEventOf (peers keys) event) }
     ensures reads_each_line { (keys : List ℕ) → Fits (peers keys)
         → HasRest words.entry (peers keys) → IfErr result (λ e. e ≡ Memory) }
+    ensures no_memory_for_a_line { IfErr result (λ e. e ≡ Memory
+        → (keys : List ℕ)
+        × Fits (peers keys) × HasRest words.entry (peers keys)) }
 {
     let keys = parse_numbers(alloc, words)?;
     Ok(Event::Peers(Set::from_iter_dedup(keys)?))
@@ -133,10 +136,14 @@ fn parse_broadcast(
     ensures reads_each_line { (named : Named ℕ) (message : Spelled)
         → Fits (broadcast named message) → HasRest words.entry (broadcast named message)
         → IfErr result (λ e. e ≡ Memory) }
+    ensures no_memory_for_a_line { IfErr result (λ e. e ≡ Memory
+        → (named : Named ℕ) × (message : Spelled)
+        × Fits (broadcast named message) × HasRest words.entry (broadcast named message)) }
 {
-    let recipients = parse_recipients(alloc, words.expect()?)?;
-    let message = parse_message(alloc, words)?;
-    Ok(Event::Broadcast(recipients, message))
+    let recipients = words.expect()?;
+    let message = MessageWords::read(words)?;
+    let recipients = parse_recipients(alloc, recipients)?;
+    Ok(Event::Broadcast(recipients, message.build(alloc)?))
 }
 
 /// Returns the payload of the key and the bytes.
@@ -145,6 +152,9 @@ fn parse_payload(alloc: Global, words: Words<'_>) -> Result<Event<u64, TestMessa
         × HasRest words.entry (payload key bytes) × IsEventOf (payload key bytes) event) }
     ensures reads_each_line { (key : ℕ) (bytes : List ℕ) → Fits (payload key bytes)
         → HasRest words.entry (payload key bytes) → IfErr result (λ e. e ≡ Memory) }
+    ensures no_memory_for_a_line { IfErr result (λ e. e ≡ Memory
+        → (key : ℕ) × (bytes : List ℕ)
+        × Fits (payload key bytes) × HasRest words.entry (payload key bytes)) }
 {
     let (key, bytes) = words.expect_two()?;
     let key = expect_number(key)?;
@@ -159,6 +169,9 @@ fn parse_subscribe(alloc: Global, words: Words<'_>) -> Result<Event<u64, TestMes
         × IsEventOf (subscribe ticket content) event) }
     ensures reads_each_line { (ticket : ℕ) (content : List ℕ) → Fits (subscribe ticket content)
         → HasRest words.entry (subscribe ticket content) → IfErr result (λ e. e ≡ Memory) }
+    ensures no_memory_for_a_line { IfErr result (λ e. e ≡ Memory
+        → (ticket : ℕ) × (content : List ℕ)
+        × Fits (subscribe ticket content) × HasRest words.entry (subscribe ticket content)) }
 {
     let (ticket, digest) = parse_request(alloc, words)?;
     Ok(Event::Subscribe(ticket, digest))
@@ -171,6 +184,9 @@ fn parse_get(alloc: Global, words: Words<'_>) -> Result<Event<u64, TestMessage>,
         × IsEventOf (get ticket content) event) }
     ensures reads_each_line { (ticket : ℕ) (content : List ℕ) → Fits (get ticket content)
         → HasRest words.entry (get ticket content) → IfErr result (λ e. e ≡ Memory) }
+    ensures no_memory_for_a_line { IfErr result (λ e. e ≡ Memory
+        → (ticket : ℕ) × (content : List ℕ)
+        × Fits (get ticket content) × HasRest words.entry (get ticket content)) }
 {
     let (ticket, digest) = parse_request(alloc, words)?;
     Ok(Event::Get(ticket, digest))
@@ -182,6 +198,9 @@ fn parse_cleanup(alloc: Global, words: Words<'_>) -> Result<Event<u64, TestMessa
         × HasRest words.entry (cleanup tickets) × IsEventOf (cleanup tickets) event) }
     ensures reads_each_line { (tickets : List ℕ) → Fits (cleanup tickets)
         → HasRest words.entry (cleanup tickets) → IfErr result (λ e. e ≡ Memory) }
+    ensures no_memory_for_a_line { IfErr result (λ e. e ≡ Memory
+        → (tickets : List ℕ)
+        × Fits (cleanup tickets) × HasRest words.entry (cleanup tickets)) }
 {
     let tickets = parse_numbers(alloc, words)?;
     Ok(Event::Cleanup(Items::from_vec(tickets)))

@@ -1,16 +1,15 @@
 //! Broadcasts through an inbox and back.
 ghost use Rattle.std.specs.Prelude.{◌≡◌, IfOk, OnOk, IfErr};
 ghost use Rattle.replay_lib.specs.Loopback.{IsIdle, passed, broadcasts_by, broadcasts_in};
-ghost use Rattle.commonware_broadcast.specs.declared.broadcaster.MailboxError.TheVariants as mailbox;
+ghost use Rattle.broadcast_mailbox.specs.declared.broadcaster.MailboxError.TheVariants as mailbox;
 ghost use Rattle.broadcast_text.specs.declared.fault.Fault.TheVariants.{Memory, Mailbox as MailboxFailed};
 
 use broadcast_core::{Closable, Event, Items, TestMessage};
+use broadcast_mailbox::MailboxError;
+use broadcast_mailbox::buffered::{Fixed, Inbox, Message, Queued};
 use broadcast_text::fault::Fault;
-use commonware_broadcast::MailboxError;
-use commonware_broadcast::buffered::{Fixed, Inbox, Message, Queued};
 use std::alloc::Global;
 use std::mem;
-use std::sync::{Mutex, Wait};
 
 /// A request of the program. It makes broadcasts alone.
 pub type Request = Message<u64, TestMessage, Fixed, Fixed>;
@@ -23,19 +22,6 @@ pub type Request = Message<u64, TestMessage, Fixed, Fixed>;
 /// refuses a broadcast for another cause, or if a request of others waits in it. Some events may be
 /// lost then.
 pub fn loop_back(
-    rt: &impl Wait,
-    inbox: &Mutex<Inbox<Request>>,
-    alloc: Global,
-    events: &mut [Event<u64, TestMessage>],
-) -> Result<(), Fault>
-    ensures { OnOk result (events.new ≡ events.old) }
-{
-    let mut guard = inbox.lock(rt);
-    pass_all(&mut guard, alloc, events)
-}
-
-/// Passes each broadcast through the inbox.
-fn pass_all(
     inbox: &mut Inbox<Request>,
     alloc: Global,
     events: &mut [Event<u64, TestMessage>],

@@ -15,13 +15,18 @@
 //!   sources; at `e` the sets end, at `f` the network fails. A cleanup drops the futures of its
 //!   numbers, from 0 on; `k` copies the mailbox. A digit drives the engine with this limit, and `w`
 //!   with as many polls as there are steps.
+//! - `account`: a mailbox whose ready list has PLACES places and whose account counts every tallied
+//!   request. Subscribes, gets and broadcasts are made with the tally, whose number is printed; a
+//!   cleanup drops futures. `t` takes a request, `r` tells that the one that was taken last is
+//!   refused, `x` closes the mailbox. In the end the account is settled.
 //! - `relay`: the relay of all events, run with the key 1, lists of SIZE digests, which are charged
 //!   at most GREATEST bytes, and all lengths decoded. It has no steps. The program prints the
 //!   messages and the places of the refused events, or that the call failed.
 //!
-//! In a core and an inbox a caller with a ticket from 100 on is gone. What the calls are given is
-//! made before the first of them. If that fails, the program ends with a fault and prints nothing.
-//! Printing does not allocate.
+//! A letter that is no step of its part is refused. In a core and an inbox a caller with a ticket
+//! from 100 on is gone. What the calls are given is made before the first of them. If that fails,
+//! the program ends with a fault and prints nothing. Printing does not allocate.
+mod account_calls;
 mod callers;
 mod core_calls;
 mod engine_calls;
@@ -30,18 +35,19 @@ mod printer;
 mod relay_calls;
 mod requests;
 mod settings;
+mod usage;
 
 use broadcast_core::{Event, TestMessage};
-use broadcast_engine::buffered::Sequential;
 use broadcast_text::fault::Fault;
+use commonware_broadcast::buffered::Sequential;
 use printer::Printer;
 use replay_lib::read_events;
-pub use settings::USAGE;
 use settings::{Part, Settings};
 use std::alloc::AllocError;
 use std::io::{Stderr, Stdin, Stdout};
 use std::random::RandomSource;
 use std::sync::Wait;
+pub use usage::{USAGE, asks_for_help, help};
 
 /// The keys whose lists and counters are shown.
 const KEYS: u64 = 7;
@@ -51,19 +57,20 @@ pub fn play<H>(rt: &H, words: &[String], reader: Stdin, out: Stdout, err: Stderr
 where
     H: Wait + RandomSource + Clone + Send + Drop + AllocGlobal + 'static,
 {
-    match read_and_make(rt, words, reader, out) {
+    let settings = match Settings::parse(words) {
+        Ok(settings) => settings,
+        Err(refused) => return usage::report(refused, err),
+    };
+    match read_and_make(rt, settings, reader, out) {
         Ok(()) => 0,
         Err(fault) => fault.report(err),
     }
 }
 
-fn read_and_make<H>(rt: &H, words: &[String], reader: Stdin, out: Stdout) -> Result<(), Fault>
+fn read_and_make<H>(rt: &H, settings: Settings<'_>, reader: Stdin, out: Stdout) -> Result<(), Fault>
 where
     H: Wait + RandomSource + Clone + Send + Drop + AllocGlobal + 'static,
 {
-    let Some(settings) = Settings::parse(words) else {
-        return Err(Fault::Usage(USAGE));
-    };
     let mut out = Printer::new(rt.alloc(), out)?;
     let events = read_events(rt.alloc(), reader)?;
     make_calls(rt, &mut out, settings, events)?;
@@ -85,6 +92,7 @@ where
         Part::Inbox => inbox_calls::make_all(alloc, out, settings, events),
         Part::Relay => relay_calls::make_all(alloc, out, settings, events),
         Part::Engine => return engine_calls::make_all(rt, out, settings, Sequential, events),
+        Part::Account => return account_calls::make_all(rt, out, settings, events),
     }
     Ok(())
 }

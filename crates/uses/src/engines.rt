@@ -2,8 +2,8 @@
 use super::memory::{Network, PeerSets};
 use super::node::Node;
 use anyhow::Error;
-use broadcast_engine::buffered::{Config, Mailbox, Sequential, Status, Strategy};
-use broadcast_engine::{Broadcaster, Digested, RangeCfg, Recipients, Set, TestMessage};
+use commonware_broadcast::buffered::{Config, Mailbox, Sequential, Status, Strategy};
+use commonware_broadcast::{Broadcaster, Digested, RangeCfg, Recipients, Set, TestMessage};
 use futures::executor::block_on;
 use std::alloc::{AllocError, AllocGlobal, Global};
 use std::num::NonZeroUsize;

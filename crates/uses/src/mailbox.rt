@@ -1,9 +1,7 @@
 //! A mailbox: callers ask on one end, and whoever takes the requests replies on the other.
 use anyhow::Error;
-use commonware_broadcast::buffered::{
-    Incoming, Ingress, Mailbox, Message, Reply, Responder, channel,
-};
-use commonware_broadcast::{Broadcaster, Digested, Feedback, Recipients, TestMessage};
+use broadcast_mailbox::buffered::{Incoming, Ingress, Mailbox, Message, Reply, Responder, channel};
+use broadcast_mailbox::{Broadcaster, Digested, Feedback, Recipients, TestMessage};
 use futures::executor::block_on;
 use std::alloc::{AllocError, AllocGlobal};
 use std::num::NonZeroUsize;

@@ -1,9 +1,10 @@
 //! Uses of the crates, as a caller writes them. `docs/CALLING.md` quotes these files.
 //!
-//! Without arguments it prints what these uses return. With arguments it makes the [`calls`] of the
-//! libraries that they and standard input list.
+//! Without arguments it prints what these uses return, and with `--help` what the arguments are.
+//! With others it makes the [`calls`] of the libraries that they and standard input list.
 #![tactic(auto)]
 
+mod account;
 mod cache;
 mod calls;
 mod engines;
@@ -16,7 +17,7 @@ mod shown;
 
 use anyhow::Error;
 use broadcast_text::arguments::read_arguments;
-use calls::USAGE;
+use calls::{USAGE, asks_for_help, help};
 use std::process::ExitCode;
 
 fn main(rt: HostRuntime) -> Result<ExitCode, Error> {
@@ -26,6 +27,10 @@ fn main(rt: HostRuntime) -> Result<ExitCode, Error> {
     };
     if words.is_empty() {
         shown::show(&rt, &mut rt.stdout())?;
+        return Ok(ExitCode::SUCCESS);
+    }
+    if asks_for_help(&words) {
+        help(&mut rt.stdout())?;
         return Ok(ExitCode::SUCCESS);
     }
     let status = calls::play(&rt, &words, rt.stdin(), rt.stdout(), rt.stderr());

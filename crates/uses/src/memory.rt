@@ -1,8 +1,8 @@
 //! Sources and sinks of an engine, in memory.
 ghost use Rattle.std.specs.Prelude.{⊤};
 
-use broadcast_engine::buffered::{NetworkFailed, Provider, Receiver, Sender};
-use broadcast_engine::{Items, Recipients, Sent, Set};
+use commonware_broadcast::buffered::{NetworkFailed, Provider, Receiver, Sender};
+use commonware_broadcast::{Items, Recipients, Sent, Set};
 use futures::task::{Context, Poll, Source, Waker};
 use std::alloc::{AllocError, Global};
 use std::cell::Cell;

@@ -1,9 +1,9 @@
 //! A node: an engine with its mailbox.
 use super::memory::{Ends, PeerSets};
-use broadcast_engine::buffered::{
+use commonware_broadcast::buffered::{
     Config, Engine, Mailbox, MailboxEngine, Metrics, Strategy, Turn, drive,
 };
-use broadcast_engine::{Codec, Digestible, RangeCfg, TestMessage};
+use commonware_broadcast::{Codec, Digestible, RangeCfg, TestMessage};
 use futures::task::{Doorbell, Poll, Solo};
 use std::alloc::{AllocError, AllocGlobal, Global};
 use std::marker::Model;

@@ -1,23 +1,25 @@
 //! What the uses return, as text.
-use super::{cache, engines, mailbox, note, relay};
+use super::{account, cache, engines, mailbox, note, relay};
 use anyhow::Error;
 use broadcast_core::{Digested, TestMessage};
 use std::alloc::{AllocError, AllocGlobal, Global};
 use std::io::Write;
 use std::random::RandomSource;
 use std::sync::Wait;
+use std::thread::Threads;
 
 /// Makes the uses, and prints what each returns.
 pub fn show<R, W>(rt: &R, out: &mut W) -> Result<(), Error>
 where
-    R: Wait + RandomSource + AllocGlobal + Clone + Send + Drop + 'static,
+    R: Threads + Wait + RandomSource + AllocGlobal + Clone + Send + Sync + Drop + 'static,
     W: Write,
 {
     show_values(rt.alloc(), out)?;
     let asked = mailbox::ask(rt, &message(rt.alloc())?)?;
     writeln!(out, "mailbox: {asked:?}")?;
     show_engines(rt, out)?;
-    show_relay(rt, out)
+    show_relay(rt, out)?;
+    show_account(rt, out)
 }
 
 fn show_values<W: Write>(alloc: Global, out: &mut W) -> Result<(), Error> {
@@ -47,6 +49,16 @@ where
 {
     let (relayed, turns) = relay::relay_one(rt, &message(rt.alloc())?)?;
     writeln!(out, "relay: {relayed:?}\nits engine: {turns:?}")?;
+    Ok(())
+}
+
+fn show_account<R, W>(rt: &R, out: &mut W) -> Result<(), Error>
+where
+    R: Threads + Wait + RandomSource + AllocGlobal + Clone + Send + Sync + Drop + 'static,
+    W: Write,
+{
+    let left = account::broadcast_and_settle(rt)?;
+    writeln!(out, "account: {left:?}")?;
     Ok(())
 }
 

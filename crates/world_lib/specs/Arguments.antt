@@ -1,7 +1,7 @@
 -- What the arguments mean.
-use Rattle.std.specs.Prelude.{◌≡◌, ◌⊎◌, ◌^◌, ◌-◌, List, ℕ, [], ◌∷◌, codes}
+use Rattle.std.specs.Prelude.{◌≡◌, ◌<◌, ◌⊎◌, ◌^◌, ◌-◌, List, ℕ, [], ◌∷◌, codes}
 use Rattle.std.specs.Fmt.{decimal}
-use Rattle.broadcast_text.specs.Recipients.{IsKeys}
+use Rattle.broadcast_text.specs.Recipients.{AreNumbers, IsKeys}
 
 -- the size, the nodes, the hostile keys and the budget
 pub record Arguments : Type 0 where
@@ -9,6 +9,13 @@ pub record Arguments : Type 0 where
   pub nodes : List ℕ
   pub hostile : List ℕ
   pub byte_budget : ℕ
+
+-- numbers are of 64 bits
+pub record AreFit (it : Arguments) : Type 0 where
+  pub size : it.deque_size < 2 ^ 64
+  pub nodes : AreNumbers it.nodes
+  pub hostile : AreNumbers it.hostile
+  pub budget : it.byte_budget < 2 ^ 64
 
 -- the text spells the hostile keys; a dash stands for none
 abbrev pub IsHostile : List ℕ → List ℕ → Type 0

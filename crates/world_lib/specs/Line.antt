@@ -4,7 +4,7 @@ use Rattle.std.specs.Fmt.{decimal}
 use Rattle.sha2.specs.Sha256.{sha256}
 use Rattle.hex.specs.Hex.{IsBytes}
 use Rattle.broadcast_core.specs.declared.ordered.Recipients.{Recipients}
-use Rattle.broadcast_text.specs.Words.{byte_list_word}
+use Rattle.broadcast_text.specs.Words.{byte_list_word, words_of}
 use Rattle.broadcast_text.specs.Recipients.{IsRecipients, IsSetOf, AreNumbers, keys_of}
 use Rattle.broadcast_text.specs.Message.{Spelled, AreBytes, message_words, message_of}
 use Rattle.broadcast_world.specs.declared.step.Step.{Step}
@@ -80,3 +80,11 @@ Fits (get node ticket content) = (node < 2 ^ 64) × (ticket < 2 ^ 64) × IsBytes
 Fits (cleanup node tickets) = (node < 2 ^ 64) × AreNumbers tickets
 Fits (deliver number) = number < 2 ^ 64
 Fits (hostile from to bytes) = (from < 2 ^ 64) × (to < 2 ^ 64) × IsBytes bytes
+
+-- the line means the step
+abbrev pub Means : List ℕ → Step ℕ → Type 0
+Means line step = (said : Line) × HasWords (words_of 32 line) said × IsStepOf said step
+
+-- the line is one of the format
+abbrev pub IsLine : List ℕ → Type 0
+IsLine line = (said : Line) × Fits said × HasWords (words_of 32 line) said

@@ -1,17 +1,16 @@
 //! A line as a step.
 ghost use Rattle.std.specs.Prelude.{◌≡◌, ◌≢◌, ℕ, List, IfOk, IfErr};
 ghost use Rattle.broadcast_core.specs.declared.ordered.Recipients.{Recipients as Named};
-ghost use Rattle.broadcast_text.specs.Words.{words_of};
 ghost use Rattle.broadcast_text.specs.Message.{Spelled};
 ghost use Rattle.broadcast_text.specs.declared.line_error.LineError.TheVariants.{Syntax, Memory};
 ghost use Rattle.world_lib.specs.Line.{Line, peers, broadcast, subscribe, get, cleanup, deliver};
-ghost use Rattle.world_lib.specs.Line.{hostile, kind_word, kind_of, HasWords, HasRest, IsStepOf};
+ghost use Rattle.world_lib.specs.Line.{hostile, kind_word, kind_of, IsLine, Means, HasRest, IsStepOf};
 ghost use Rattle.world_lib.specs.Line.{Fits};
 
 use broadcast_core::{Items, Set};
 use broadcast_text::byte_list::parse_byte_list;
 use broadcast_text::line_error::LineError;
-use broadcast_text::message::{parse_message, parse_request};
+use broadcast_text::message::{MessageWords, parse_request};
 use broadcast_text::recipients::parse_recipients;
 use broadcast_text::words::{Words, expect_number, parse_numbers};
 use broadcast_world::Step;
@@ -59,10 +58,9 @@ pub enum Kind {
 /// Fails with [`LineError::Syntax`] if the words are those of no line, and with
 /// [`LineError::Memory`] if an allocation fails.
 pub fn parse_line(alloc: Global, line: &[u8]) -> Result<Step<u64>, LineError>
-    ensures step_of_line { IfOk result (λ step.
-        (said : Line) × HasWords (words_of 32 line.now) said × IsStepOf said step) }
-    ensures reads_each_line { (said : Line) → Fits said → HasWords (words_of 32 line.now) said
-        → IfErr result (λ e. e ≡ Memory) }
+    ensures step_of_line { IfOk result (Means line.now) }
+    ensures reads_each_line { IfErr result (λ e. IsLine line.now → e ≡ Memory) }
+    ensures no_memory_for_others { IfErr result (λ e. e ≡ Memory → IsLine line.now) }
 {
     let mut words = Words::new(line, b' ');
     let kind = parse_kind(words.expect()?)?;
@@ -106,6 +104,8 @@ fn parse_rest(alloc: Global, kind: Kind, words: Words<'_>) -> Result<Step<u64>, 
         × (kind_of said ≡ kind) × HasRest words.entry said × IsStepOf said step) }
     ensures reads_each_line { (said : Line) → kind_of said ≡ kind → Fits said
         → HasRest words.entry said → IfErr result (λ e. e ≡ Memory) }
+    ensures no_memory_for_a_line { IfErr result (λ e. e ≡ Memory
+        → (said : Line) × (kind_of said ≡ kind) × Fits said × HasRest words.entry said) }
 {
     match kind {
         Kind::Peers => parse_peers(alloc, words),
@@ -124,6 +124,9 @@ fn parse_peers(alloc: Global, mut words: Words<'_>) -> Result<Step<u64>, LineErr
         × HasRest words.entry (peers node keys) × IsStepOf (peers node keys) step) }
     ensures reads_each_line { (node : ℕ) (keys : List ℕ) → Fits (peers node keys)
         → HasRest words.entry (peers node keys) → IfErr result (λ e. e ≡ Memory) }
+    ensures no_memory_for_a_line { IfErr result (λ e. e ≡ Memory
+        → (node : ℕ) × (keys : List ℕ)
+        × Fits (peers node keys) × HasRest words.entry (peers node keys)) }
 {
     let node = expect_number(words.expect()?)?;
     let keys = parse_numbers(alloc, words)?;
@@ -138,11 +141,16 @@ fn parse_broadcast(alloc: Global, mut words: Words<'_>) -> Result<Step<u64>, Lin
     ensures reads_each_line { (node : ℕ) (named : Named ℕ) (message : Spelled) → Fits
         (broadcast node named message)
         → HasRest words.entry (broadcast node named message) → IfErr result (λ e. e ≡ Memory) }
+    ensures no_memory_for_a_line { IfErr result (λ e. e ≡ Memory
+        → (node : ℕ) × (named : Named ℕ) × (message : Spelled)
+        × Fits (broadcast node named message)
+        × HasRest words.entry (broadcast node named message)) }
 {
     let node = expect_number(words.expect()?)?;
-    let recipients = parse_recipients(alloc, words.expect()?)?;
-    let message = parse_message(alloc, words)?;
-    Ok(Step::Broadcast(node, recipients, message))
+    let recipients = words.expect()?;
+    let message = MessageWords::read(words)?;
+    let recipients = parse_recipients(alloc, recipients)?;
+    Ok(Step::Broadcast(node, recipients, message.build(alloc)?))
 }
 
 /// Returns the subscribe of the ticket and the digest of the content.
@@ -153,6 +161,10 @@ fn parse_subscribe(alloc: Global, mut words: Words<'_>) -> Result<Step<u64>, Lin
     ensures reads_each_line { (node : ℕ) (ticket : ℕ) (content : List ℕ) → Fits
         (subscribe node ticket content)
         → HasRest words.entry (subscribe node ticket content) → IfErr result (λ e. e ≡ Memory) }
+    ensures no_memory_for_a_line { IfErr result (λ e. e ≡ Memory
+        → (node : ℕ) × (ticket : ℕ) × (content : List ℕ)
+        × Fits (subscribe node ticket content)
+        × HasRest words.entry (subscribe node ticket content)) }
 {
     let node = expect_number(words.expect()?)?;
     let (ticket, digest) = parse_request(alloc, words)?;
@@ -166,6 +178,9 @@ fn parse_get(alloc: Global, mut words: Words<'_>) -> Result<Step<u64>, LineError
     ensures reads_each_line { (node : ℕ) (ticket : ℕ) (content : List ℕ) → Fits
         (get node ticket content)
         → HasRest words.entry (get node ticket content) → IfErr result (λ e. e ≡ Memory) }
+    ensures no_memory_for_a_line { IfErr result (λ e. e ≡ Memory
+        → (node : ℕ) × (ticket : ℕ) × (content : List ℕ)
+        × Fits (get node ticket content) × HasRest words.entry (get node ticket content)) }
 {
     let node = expect_number(words.expect()?)?;
     let (ticket, digest) = parse_request(alloc, words)?;
@@ -178,6 +193,9 @@ fn parse_cleanup(alloc: Global, mut words: Words<'_>) -> Result<Step<u64>, LineE
         × HasRest words.entry (cleanup node tickets) × IsStepOf (cleanup node tickets) step) }
     ensures reads_each_line { (node : ℕ) (tickets : List ℕ) → Fits (cleanup node tickets)
         → HasRest words.entry (cleanup node tickets) → IfErr result (λ e. e ≡ Memory) }
+    ensures no_memory_for_a_line { IfErr result (λ e. e ≡ Memory
+        → (node : ℕ) × (tickets : List ℕ)
+        × Fits (cleanup node tickets) × HasRest words.entry (cleanup node tickets)) }
 {
     let node = expect_number(words.expect()?)?;
     let tickets = parse_numbers(alloc, words)?;
@@ -190,6 +208,9 @@ fn parse_deliver(mut words: Words<'_>) -> Result<Step<u64>, LineError>
         × HasRest words.entry (deliver number) × IsStepOf (deliver number) step) }
     ensures reads_each_line { (number : ℕ) → Fits (deliver number)
         → HasRest words.entry (deliver number) → IfErr result (λ e. e ≡ Memory) }
+    ensures no_memory_for_a_line { IfErr result (λ e. e ≡ Memory
+        → (number : ℕ)
+        × Fits (deliver number) × HasRest words.entry (deliver number)) }
 {
     let number = expect_number(words.expect()?)?;
     words.end()?;
@@ -202,6 +223,9 @@ fn parse_hostile(alloc: Global, mut words: Words<'_>) -> Result<Step<u64>, LineE
         × HasRest words.entry (hostile from to bytes) × IsStepOf (hostile from to bytes) step) }
     ensures reads_each_line { (from : ℕ) (to : ℕ) (bytes : List ℕ) → Fits (hostile from to bytes)
         → HasRest words.entry (hostile from to bytes) → IfErr result (λ e. e ≡ Memory) }
+    ensures no_memory_for_a_line { IfErr result (λ e. e ≡ Memory
+        → (from : ℕ) × (to : ℕ) × (bytes : List ℕ)
+        × Fits (hostile from to bytes) × HasRest words.entry (hostile from to bytes)) }
 {
     let from = expect_number(words.expect()?)?;
     let (to, bytes) = words.expect_two()?;

@@ -1,15 +1,15 @@
 //! The arguments of the program.
-ghost use Rattle.std.specs.Prelude.{◌≡◌, ◌<◌, ◌^◌, ℕ, List, IfOk, IfErr, IsOk, map, string_bytes};
+ghost use Rattle.std.specs.Prelude.{◌≡◌, ◌↔◌, ◌<◌, ◌^◌, ℕ, List, IfOk, IfErr, IsOk, OnOk, map, string_bytes};
 ghost use Rattle.std.specs.Fmt.{decimal};
 ghost use Rattle.std.specs.Ordering.{nat_cmp};
 ghost use Rattle.broadcast_text.specs.Recipients.{AreNumbers, IsKeys};
 ghost use Rattle.broadcast_world.specs.Made.{shares_key};
-ghost use Rattle.world_lib.specs.Arguments.{Arguments, HasArguments, IsBudget, IsHostile};
+ghost use Rattle.world_lib.specs.Arguments.{AreFit, Arguments, HasArguments, IsBudget, IsHostile};
 
 use broadcast_core::Items;
 use broadcast_text::fault::Fault;
 use broadcast_text::line_error::LineError;
-use broadcast_text::recipients::parse_keys;
+use broadcast_text::recipients::{judge_keys, parse_keys};
 use broadcast_text::words::expect_number;
 use broadcast_world::{WorldError, shares_key};
 use std::alloc::Global;
@@ -58,6 +58,8 @@ impl Settings {
             → it.byte_budget < 2 ^ 64 → AreNumbers it.nodes → AreNumbers it.hostile
             → HasArguments (map string_bytes words.now) it
             → IfErr result (λ fault. fault ≡ Fault.Memory) }
+        ensures no_memory_for_arguments { IfErr result (λ fault. fault ≡ Fault.Memory
+            → (it : Arguments) × AreFit it × HasArguments (map string_bytes words.now) it) }
     {
         let [size, nodes, hostile, budget @ ..] = words else {
             return Err(Fault::Usage(USAGE));
@@ -88,9 +90,15 @@ impl Settings {
             → IsHostile (string_bytes hostile.now) it.hostile
             → IsBudget (map string_bytes budget.now) it.byte_budget
             → IfErr result (λ e. e ≡ LineError.Memory) }
+        ensures no_memory_for_arguments { IfErr result (λ e. e ≡ LineError.Memory
+            → (it : Arguments) × AreFit it × (string_bytes size.now ≡ decimal it.deque_size)
+            × IsKeys (string_bytes nodes.now) it.nodes
+            × IsHostile (string_bytes hostile.now) it.hostile
+            × IsBudget (map string_bytes budget.now) it.byte_budget) }
     {
         let byte_budget = read_budget(budget)?;
         let deque_size = expect_number(size.as_bytes())? as usize;
+        judge_hostile(hostile.as_bytes())?;
         let nodes = parse_keys(alloc, nodes.as_bytes())?;
         let hostile = parse_hostile(alloc, hostile.as_bytes())?;
         Ok(Settings {
@@ -114,6 +122,7 @@ fn read_budget(words: &[String]) -> Result<u64, LineError>
     ensures spelled_so { IfOk result (IsBudget (map string_bytes words.now)) }
     ensures reads_each_number { (n : ℕ) → n < 2 ^ 64 → IsBudget (map string_bytes words.now) n
         → IsOk result }
+    ensures fails_for_syntax { IfErr result (λ e. e ≡ LineError.Syntax) }
 {
     match words {
         [] => Ok(u64::MAX),
@@ -134,9 +143,22 @@ fn parse_hostile(alloc: Global, word: &[u8]) -> Result<Vec<u64>, LineError>
     parse_keys(alloc, word)
 }
 
+/// Returns `Ok` if the word spells keys with commas between, or is `-`. Does not allocate.
+fn judge_hostile(word: &[u8]) -> Result<(), LineError>
+    ensures keys { OnOk result ((keys : List ℕ) × AreNumbers keys × IsHostile word.now keys) }
+    ensures reads_all_keys { (keys : List ℕ) → AreNumbers keys → IsHostile word.now keys
+        → IsOk result }
+    ensures fails_for_syntax { IfErr result (λ e. e ≡ LineError.Syntax) }
+{
+    if word == b"-".as_slice() {
+        return Ok(());
+    }
+    judge_keys(word)
+}
+
 /// Returns the fault of an argument that was not read.
 fn argument_fault(error: LineError) -> Fault
-    ensures { error ≡ LineError.Memory → result ≡ Fault.Memory }
+    ensures { result ≡ Fault.Memory ↔ error ≡ LineError.Memory }
 {
     match error {
         LineError::Syntax => Fault::Usage(USAGE),

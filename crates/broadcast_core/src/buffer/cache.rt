@@ -5,6 +5,7 @@ ghost use Rattle.std.specs.Option.{option_copied};
 ghost use Rattle.std.specs.List.{IsDistinct};
 ghost use Rattle.std.specs.Map.{lookup, keys_of};
 ghost use Rattle.std.specs.Ordering.{eq_by_cmp};
+ghost use Rattle.entries.specs.Store.{overlaid};
 ghost use Rattle.entries.specs.Table.{place_at, IsPlaced, IsSame};
 ghost use Rattle.broadcast_core.specs.Content.{same_by, same_charged, without, at_charge, digests_of, bytes_of};
 ghost use Rattle.broadcast_core.specs.Content.{among, within, fronted, items_at};
@@ -263,6 +264,16 @@ impl<P: PublicKey, M: Digestible> Cache<P, M> {
             (items_at (eq_by_cmp P.cmp) peer.now self.now.lists) }
     {
         self.lists.list(alloc, peer)
+    }
+
+    /// Copies the digests on the list of `peer` to the front of `out`, newest first, as many as
+    /// there are places for. Returns how many digests are on the list.
+    pub fn list_into(&self, peer: &P, out: &mut [M::Digest]) -> usize
+        ensures len { result ≡ length (items_at (eq_by_cmp P.cmp) peer.now self.now.lists) }
+        ensures digests { out.new ≡ overlaid
+            (digests_of (items_at (eq_by_cmp P.cmp) peer.now self.now.lists)) out.old }
+    {
+        self.lists.list_into(peer, out)
     }
 
     /// Drops the lists of those peers of `was` that are not among `peers`.

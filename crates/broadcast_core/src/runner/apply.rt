@@ -57,12 +57,10 @@ fn broadcast<P: PublicKey, M: Digestible + Codec>(
         → Follows s (event.Broadcast recipients message) core.old core.new
         result.0 (option_to_list result.1) }
 {
-    let mut bytes = Vec::new(alloc);
-    match message.inner().write(&mut bytes) {
-        Ok(()) => {}
-        Err(CodecError::Unencodable) => return (Answer::Refused(Cause::Unencodable), None),
-        Err(_) => return (Answer::Refused(Cause::Memory), None),
-    }
+    let bytes = match message.encode(alloc) {
+        Ok(bytes) => bytes,
+        Err(cause) => return (Answer::Refused(cause), None),
+    };
     match core.take_own(&message) {
         Err(_) => (Answer::Refused(Cause::Memory), None),
         Ok(taken) => {

@@ -1,8 +1,8 @@
 //! What each call of a mailbox queues.
 use super::note::Note;
 use broadcast_core::{Digested, Items, Recipients};
-use commonware_broadcast::buffered::{Counts, Incoming, Ingress, Mailbox, Message, channel};
-use commonware_broadcast::{Broadcaster, Feedback};
+use broadcast_mailbox::buffered::{Counts, Incoming, Ingress, Mailbox, Message, channel};
+use broadcast_mailbox::{Broadcaster, Feedback};
 use std::alloc::{AllocError, AllocGlobal, Global};
 use std::num::NonZeroUsize;
 use std::sync::Wait;

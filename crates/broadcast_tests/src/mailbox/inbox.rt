@@ -1,7 +1,7 @@
 //! Requests in an inbox.
 use super::note::{ClosedDigests, Kind, Plain, kind_of, request};
-use commonware_broadcast::MailboxError;
-use commonware_broadcast::buffered::{Counts, Inbox, Queued};
+use broadcast_mailbox::MailboxError;
+use broadcast_mailbox::buffered::{Counts, Inbox, Queued};
 use std::alloc::{AllocError, Global};
 use std::cell::Cell;
 use std::num::NonZeroUsize;

@@ -2,7 +2,7 @@
 ghost use Rattle.std.specs.Prelude.{◌∷◌, [], Some, ⊤};
 
 use broadcast_core::{CodecError, Digested, Digestible, EncodeSize, Recipients, Write};
-use commonware_broadcast::buffered::{Message, Responder};
+use broadcast_mailbox::buffered::{Message, Responder};
 use std::alloc::{AllocError, Global};
 use std::cell::Cell;
 use std::rc::Rc;

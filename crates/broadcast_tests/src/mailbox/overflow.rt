@@ -1,6 +1,6 @@
 //! Requests in an overflow.
 use super::note::{ClosedDigests, Kind, Plain, kind_of, request};
-use commonware_broadcast::buffered::{Overflow, Pending, Policy};
+use broadcast_mailbox::buffered::{Overflow, Pending, Policy};
 use std::alloc::{AllocError, Global};
 use std::cell::Cell;
 use std::rc::Rc;

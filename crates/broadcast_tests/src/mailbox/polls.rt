@@ -1,7 +1,7 @@
 //! What the futures of a mailbox give, before their reply and after.
 use super::note::Note;
 use broadcast_core::Digested;
-use commonware_broadcast::buffered::{
+use broadcast_mailbox::buffered::{
     Get, Incoming, Ingress, Message, Reply, Responder, Subscription, channel,
 };
 use futures::executor::block_on;

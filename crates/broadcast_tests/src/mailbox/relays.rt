@@ -3,8 +3,8 @@ ghost use Rattle.std.specs.Prelude.{⊤};
 
 use super::note::Note;
 use broadcast_core::{Digested, Recipients};
+use broadcast_mailbox::{Broadcaster, Feedback, MailboxError};
 use broadcast_relay::{Relayed, relay_to};
-use commonware_broadcast::{Broadcaster, Feedback, MailboxError};
 use std::alloc::{AllocError, AllocGlobal, Global};
 use std::sync::{Arc, Mutex, Wait};
 use std::test::Fail;

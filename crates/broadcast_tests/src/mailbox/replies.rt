@@ -1,8 +1,8 @@
 //! Callers that no longer wait, and a closed mailbox.
 use super::note::Note;
 use broadcast_core::{Digested, Recipients};
-use commonware_broadcast::buffered::{Counts, Mailbox, channel};
-use commonware_broadcast::{Broadcaster, Feedback};
+use broadcast_mailbox::buffered::{Counts, Mailbox, channel};
+use broadcast_mailbox::{Broadcaster, Feedback};
 use futures::executor::block_on;
 use std::alloc::{AllocGlobal, Global};
 use std::num::NonZeroUsize;

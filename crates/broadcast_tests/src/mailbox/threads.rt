@@ -1,8 +1,8 @@
 //! Callers on several threads.
 use super::note::{Kind, Note, kind_of};
 use broadcast_core::{Digested, Recipients};
-use commonware_broadcast::Broadcaster;
-use commonware_broadcast::buffered::{Counts, Incoming, Ingress, Mailbox, channel};
+use broadcast_mailbox::Broadcaster;
+use broadcast_mailbox::buffered::{Counts, Incoming, Ingress, Mailbox, channel};
 use std::alloc::{AllocError, Global};
 use std::num::NonZeroUsize;
 use std::sync::Wait;

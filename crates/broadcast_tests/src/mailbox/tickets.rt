@@ -2,8 +2,8 @@
 ghost use Rattle.std.specs.Prelude.{◌≡◌};
 
 use broadcast_core::Closable;
-use commonware_broadcast::MailboxError;
-use commonware_broadcast::buffered::{Counts, Inbox, Queued};
+use broadcast_mailbox::MailboxError;
+use broadcast_mailbox::buffered::{Counts, Inbox, Queued};
 use std::num::NonZeroUsize;
 use std::test::Fail;
 

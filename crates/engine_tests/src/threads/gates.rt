@@ -1,13 +1,14 @@
 //! Two workers that must meet at their gate.
 ghost use Rattle.std.specs.Prelude.{IfOk};
-ghost use Rattle.broadcast_engine.specs.Workers.{IsWorkerOf};
+ghost use Rattle.commonware_broadcast.specs.Workers.{IsWorkerOf};
 
 use super::patient::LIMIT;
+use crate::task::Task;
 use broadcast_core::{Digestible, TestMessage};
-use broadcast_engine::buffered::gate::Gate;
-use broadcast_engine::buffered::strategy::{Job, Strategy};
-use broadcast_engine::buffered::threaded::{Threaded, Working};
-use broadcast_engine::buffered::worker::{Work, Worker};
+use commonware_broadcast::buffered::gate::Gate;
+use commonware_broadcast::buffered::strategy::{Job, Strategy};
+use commonware_broadcast::buffered::threaded::{Threaded, Working};
+use commonware_broadcast::buffered::worker::{Work, Worker};
 use futures::executor::block_on;
 use futures::future::poll_fn;
 use futures::task::{Context, Poll};
@@ -18,6 +19,9 @@ use std::sync::atomic::{AtomicU64, Ordering};
 use std::sync::{Arc, Wait};
 use std::test::Fail;
 use std::thread::{self, Threads};
+
+/// How often a job is polled while its worker waits at the gate.
+const POLLS: u64 = 100;
 
 /// How often a worker gives up its thread after a look. A busy machine may start the other late.
 const YIELDS: u64 = 1000;
@@ -70,9 +74,9 @@ impl<R: Threads> Work<Meeting, R> for TestMessage {
     }
 }
 
-/// Lets two jobs meet. Returns how many workers saw the other, and whether each job gave the digest
-/// of its message.
-fn meet<R>(rt: &R) -> Result<(u64, bool), Fail>
+/// Lets two jobs meet. Returns how many workers saw the other, whether the first was pending until
+/// the second was started, and whether each job gave the digest of its message.
+fn meet<R>(rt: &R) -> Result<(u64, bool, bool), Fail>
 where
     R: Threads + Wait + RandomSource + AllocGlobal + Clone + Drop,
 {
@@ -84,20 +88,42 @@ where
         },
     )?;
     let strategy = Threaded::new(rt.clone()?, rt.alloc(), Arc::try_clone(&gate)?);
-    let equal = digests(rt, &strategy)?;
-    Ok((gate.met.load(Ordering::SeqCst), equal))
+    let (pending, equal) = digests(rt, &strategy)?;
+    Ok((gate.met.load(Ordering::SeqCst), pending, equal))
 }
 
-/// Starts two jobs before it waits for one. Returns whether each gave the digest of its message.
-fn digests<R>(rt: &R, strategy: &Threaded<Meeting, R>) -> Result<bool, Fail>
+/// Starts two jobs before it waits for one. Returns whether the first was pending until then, and
+/// whether each gave the digest of its message.
+fn digests<R>(rt: &R, strategy: &Threaded<Meeting, R>) -> Result<(bool, bool), Fail>
 where
     R: Threads + Wait + RandomSource + AllocGlobal + Clone + Drop,
 {
     let (first, second) = (message(rt.alloc(), 1)?, message(rt.alloc(), 2)?);
     let wanted = (first.digest(), second.digest());
     let mut one = strategy.start(first)?;
+    let pending = is_pending(&mut Task::new(rt)?, &mut one);
     let mut two = strategy.start(second)?;
-    Ok((digest(rt, &mut one)?, digest(rt, &mut two)?) == wanted)
+    Ok((
+        pending,
+        (digest(rt, &mut one)?, digest(rt, &mut two)?) == wanted,
+    ))
+}
+
+/// Polls a job some times. Returns whether it stays pending, and nothing wakes its task.
+fn is_pending<R>(task: &mut Task, job: &mut Working<TestMessage, Meeting, R>) -> bool
+where
+    R: Threads + Drop,
+{
+    for _ in 0..POLLS {
+        let mut cx = task.solo.begin();
+        let polled = job.poll(&mut cx);
+        task.rest.end(cx);
+        task.look();
+        if polled.is_ready() || task.wakes > 0 {
+            return false;
+        }
+    }
+    true
 }
 
 /// Waits for the digest of a job.
@@ -116,6 +142,6 @@ fn message(alloc: Global, content: u8) -> Result<TestMessage, AllocError> {
 
 #[test]
 fn threaded_uses_another_thread(rt: HostRuntime) -> Result<(), Fail> {
-    assert_eq!(rt; meet(&rt)?, (2, true));
+    assert_eq!(rt; meet(&rt)?, (2, true, true));
     Ok(())
 }

@@ -1,13 +1,13 @@
 //! A started node, and what feeds it.
 use super::patient::{LIMIT, Patient, Talk, pause};
 use broadcast_core::{Codec, Digested, Digestible, Items, RangeCfg, Recipients, Set, TestMessage};
-use broadcast_engine::buffered::{
-    Mailbox, NetworkFailed, Open, Strategy, Subscription, Threaded, Work,
-};
-use broadcast_engine::{Broadcaster, Feedback};
 use cluster_lib::fault::Fault;
 use cluster_lib::network::Mail;
 use cluster_lib::node::{Node, Prepared};
+use commonware_broadcast::buffered::{
+    Mailbox, NetworkFailed, Open, Strategy, Subscription, Threaded, Work,
+};
+use commonware_broadcast::{Broadcaster, Feedback};
 use std::alloc::{AllocError, AllocGlobal, Global};
 use std::random::RandomSource;
 use std::sync::{Arc, Wait};
@@ -53,7 +53,7 @@ where
 }
 
 /// Prepares the node of key 1.
-fn prepare<M, T, R>(
+pub fn prepare<M, T, R>(
     rt: &R,
     codec_config: M::Cfg,
     strategy: T,

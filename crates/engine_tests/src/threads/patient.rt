@@ -1,6 +1,6 @@
 //! Jobs that are pending until a caller on another thread was answered.
 use broadcast_core::Digestible;
-use broadcast_engine::buffered::{Job, Strategy};
+use commonware_broadcast::buffered::{Job, Strategy};
 use futures::task::{Context, Poll};
 use std::alloc::{AllocError, AllocGlobal};
 use std::sync::Arc;
@@ -112,7 +112,7 @@ impl<M: Digestible, R: Clock + Clone + Drop> Strategy<M> for Patient<R> {
 }
 
 impl<M: Digestible, R: Clock + Drop> Job<M> for PatientJob<M, R> {
-    ghost use Rattle.broadcast_engine.specs.Jobs.{HoldsDigested};
+    ghost use Rattle.commonware_broadcast.specs.Jobs.{HoldsDigested};
 
     ghost is_of = { λ job m. HoldsDigested M.digest_of m job.message };
 

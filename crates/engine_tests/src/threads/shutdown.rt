@@ -5,10 +5,10 @@ use super::nodes::{
 };
 use super::patient::Talk;
 use broadcast_core::TestMessage;
-use broadcast_engine::Feedback;
-use broadcast_engine::buffered::{EndCause, Mailbox, Sequential, Status, Subscription};
 use cluster_lib::network::Mail;
 use cluster_lib::node::Node;
+use commonware_broadcast::Feedback;
+use commonware_broadcast::buffered::{EndCause, Mailbox, Sequential, Status, Subscription};
 use std::alloc::{AllocError, AllocGlobal};
 use std::random::RandomSource;
 use std::sync::Wait;

@@ -2,10 +2,10 @@
 use super::nodes::{broadcast, fail, gets, send, start_threaded, subscribe, track};
 use super::patient::{LIMIT, pause};
 use broadcast_core::{RangeCfg, TestMessage};
-use broadcast_engine::buffered::{Mailbox, Metrics, Status, Subscription};
 use cluster_lib::fault::Fault;
 use cluster_lib::network::Mail;
 use cluster_lib::node::Node;
+use commonware_broadcast::buffered::{EndCause, Mailbox, Metrics, Status, Subscription};
 use std::alloc::{AllocError, AllocGlobal};
 use std::random::RandomSource;
 use std::sync::atomic::{AtomicU64, Ordering};
@@ -182,14 +182,18 @@ struct Account {
     /// Each payload that was decoded is counted for its peer, and was taken or dropped, but for one
     /// that may have been digested still at the stop.
     payloads: bool,
-    /// No more payloads were counted than were fed.
+    /// No more payloads were counted than were fed, the first one among them.
     fed: bool,
     /// The feeder handed over all.
     all_fed: bool,
+    /// Subscriptions were served, gets found a message, and payloads were taken.
+    busy: bool,
+    /// The engine was stopped.
+    cause: EndCause,
 }
 
 /// Compares what an engine counted with what its callers saw.
-fn account_of(metrics: &Metrics<u64>, ends: Ends, all_fed: bool) -> Account {
+fn account_of(metrics: &Metrics<u64>, cause: EndCause, ends: Ends, all_fed: bool) -> Account {
     let success = metrics.receive(Status::Success);
     let taken = success.saturating_add(metrics.receive(Status::Dropped));
     let decoded = metrics.peer(&5).saturating_add(metrics.peer(&6));
@@ -202,8 +206,10 @@ fn account_of(metrics: &Metrics<u64>, ends: Ends, all_fed: bool) -> Account {
                 metrics.get(Status::Success),
             ),
         payloads: taken == decoded || taken == decoded.saturating_sub(1),
-        fed: fed <= FEEDS * 3,
+        fed: fed <= FEEDS * 3 + 1,
         all_fed,
+        busy: ends.served > 0 && ends.got > 0 && success > 0,
+        cause,
     }
 }
 
@@ -232,7 +238,12 @@ where
 
 /// Stops the node while callers and feeder work at it, and joins them all. Its network fails then,
 /// so that it ends also if it does not stop.
-fn stop<R>(rt: &R, node: Node<TestMessage, R>, workers: Workers) -> Result<Account, Fail>
+fn stop<R>(
+    rt: &R,
+    node: Node<TestMessage, R>,
+    workers: Workers,
+    first: Ends,
+) -> Result<Account, Fail>
 where
     R: Threads + Wait + Drop,
 {
@@ -244,8 +255,28 @@ where
         feeder,
         ..
     } = workers;
-    let ends = join_callers(rt, callers)?;
-    Ok(account_of(report.metrics(), ends, feeder.join(rt)))
+    let mut ends = join_callers(rt, callers)?;
+    ends.served = ends.served.saturating_add(first.served);
+    ends.got = ends.got.saturating_add(first.got);
+    let cause = report.cause();
+    Ok(account_of(report.metrics(), cause, ends, feeder.join(rt)))
+}
+
+/// Lets the node serve a subscription and find a message, before its callers start.
+fn greet<R>(rt: &R, node: &Node<TestMessage, R>) -> Result<Ends, Fail>
+where
+    R: Wait + RandomSource + AllocGlobal,
+{
+    let waiting = subscribe(rt, &node.mailbox, 2)?;
+    track(rt, &node.mail, &[1, 5])?;
+    send(rt, &node.mail, 5, &[0, 0, 0, 0, 0, 0, 0, 1, 2])?;
+    let served = u64::from(waiting.wait(rt).is_ok());
+    let got = u64::from(gets(rt, &node.mailbox, 2)?);
+    Ok(Ends {
+        requests: 0,
+        served,
+        got,
+    })
 }
 
 /// Lets callers and a feeder work at an engine, and stops it once half of the requests are made.
@@ -254,9 +285,10 @@ where
     R: Threads + Wait + Clock + RandomSource + AllocGlobal + Clone + Send + Sync + Drop + 'static,
 {
     let node = start_threaded(rt, RangeCfg::any())?;
+    let first = greet(rt, &node)?;
     let workers = start_workers(rt, &node)?;
     wait_for_half(rt, &workers.made);
-    stop(rt, node, workers)
+    stop(rt, node, workers, first)
 }
 
 #[test]
@@ -267,6 +299,8 @@ fn many_callers_and_a_stop(rt: HostRuntime) -> Result<(), Fail> {
         payloads: true,
         fed: true,
         all_fed: true,
+        busy: true,
+        cause: EndCause::Stopped,
     };
     assert_eq!(rt; soak(&rt)?, expected);
     Ok(())

@@ -2,10 +2,10 @@
 use super::nodes::{broadcast, fail, wait_for_close};
 use super::poor::{Poor, Supply};
 use broadcast_core::{Codec, Digestible, RangeCfg, TestMessage};
-use broadcast_engine::Feedback;
-use broadcast_engine::buffered::{EndCause, Handle, Mailbox, Sequential, StartError};
 use cluster_lib::network::Mail;
 use cluster_lib::node::{Node, Prepared, Started};
+use commonware_broadcast::Feedback;
+use commonware_broadcast::buffered::{EndCause, Handle, Mailbox, Sequential, StartError};
 use std::alloc::{AllocError, AllocGlobal};
 use std::random::RandomSource;
 use std::sync::{Arc, Wait};

@@ -1,7 +1,7 @@
 //! The callers of a mailbox.
 use super::printer::Printer;
 use broadcast_core::{Items, TestMessage};
-use commonware_broadcast::buffered::{Get, Mailbox, Subscription};
+use broadcast_mailbox::buffered::{Get, Mailbox, Subscription};
 use futures::Future;
 use futures::task::{Poll, Solo};
 use std::alloc::{AllocError, Global};
@@ -57,7 +57,7 @@ impl Callers {
     }
 
     /// Keeps a future, and prints how many there are. There is a place for it.
-    fn keep(&mut self, out: &mut Printer, asked: Asked) {
+    pub fn keep(&mut self, out: &mut Printer, asked: Asked) {
         let _pushed = self.asked.push(asked);
         out.line("futures", &self.asked.len());
     }

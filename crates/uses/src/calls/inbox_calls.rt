@@ -3,7 +3,7 @@ use super::printer::Printer;
 use super::requests::{Plain, asked, request_of};
 use super::settings::Settings;
 use broadcast_core::{Event, TestMessage};
-use commonware_broadcast::buffered::{Inbox, Overflow, Pending, Policy};
+use broadcast_mailbox::buffered::{Inbox, Overflow, Pending, Policy};
 use std::alloc::Global;
 use std::vec::IntoIter;
 

@@ -1,6 +1,6 @@
 //! Requests.
 use broadcast_core::{Event, TestMessage};
-use commonware_broadcast::buffered::{Fixed, Message};
+use broadcast_mailbox::buffered::{Fixed, Message};
 
 /// The least ticket of a caller that is gone.
 const GONE: u64 = 100;
@@ -30,7 +30,7 @@ fn responder(ticket: u64) -> Fixed {
 }
 
 /// Returns what the request is, and the first byte of its digest.
-pub fn asked(request: &Plain) -> (&'static str, u8) {
+pub fn asked<S, G>(request: &Message<u64, TestMessage, S, G>) -> (&'static str, u8) {
     match request {
         Message::Broadcast { message, .. } => ("broadcast", message.digest()[0]),
         Message::Subscribe { digest, .. } => ("subscribe", digest[0]),

@@ -2,9 +2,6 @@
 use broadcast_text::words::parse_number;
 use std::num::NonZeroUsize;
 
-/// The usage line.
-pub const USAGE: &str = "usage: uses [PART SIZE PLACES GREATEST STEPS]";
-
 const CORE: &[u8] = b"core";
 
 const INBOX: &[u8] = b"inbox";
@@ -13,6 +10,8 @@ const ENGINE: &[u8] = b"engine";
 
 const RELAY: &[u8] = b"relay";
 
+const ACCOUNT: &[u8] = b"account";
+
 /// What is called.
 #[derive(Clone, Copy)]
 pub enum Part {
@@ -20,6 +19,7 @@ pub enum Part {
     Inbox,
     Engine,
     Relay,
+    Account,
 }
 
 /// What is called, and how.
@@ -36,24 +36,49 @@ pub struct Settings<'a> {
     pub steps: &'a [u8],
 }
 
+/// Why arguments name no calls.
+#[derive(Clone, Copy)]
+pub enum Refused<'a> {
+    /// They are not five words.
+    Words,
+    /// There is no such part.
+    Part(&'a str),
+    /// This argument is no number, or a smaller one than the given.
+    Number(&'static str, u8, &'a str),
+    /// This part has no step of this letter.
+    Step(&'a str, char),
+}
+
 impl<'a> Settings<'a> {
-    /// Returns the settings of the words, or `None` if they say none.
-    pub fn parse(words: &'a [String]) -> Option<Settings<'a>> {
-        let [part, size, places, greatest, steps] = words else {
-            return None;
+    /// Returns the settings of the words.
+    pub fn parse(words: &'a [String]) -> Result<Settings<'a>, Refused<'a>> {
+        let [name, size, places, greatest, steps] = words else {
+            return Err(Refused::Words);
         };
-        Some(Settings {
-            part: part_of(part.as_bytes())?,
-            deque_size: number(size)?,
-            places: NonZeroUsize::new(number(places)?)?,
-            greatest: number(greatest)?,
+        let (name, steps) = (name.as_str(), steps.as_str());
+        let part = part_of(name.as_bytes()).ok_or(Refused::Part(name))?;
+        if let Some(unknown) = unknown_step(part, steps) {
+            return Err(Refused::Step(name, unknown));
+        }
+        Ok(Settings {
+            part,
+            deque_size: number("SIZE", size.as_str())?,
+            places: places_of(places.as_str())?,
+            greatest: number("GREATEST", greatest.as_str())?,
             steps: steps.as_bytes(),
         })
     }
 }
 
-fn number(word: &str) -> Option<usize> {
-    Some(parse_number(word.as_bytes())? as usize)
+fn number<'a>(name: &'static str, word: &'a str) -> Result<usize, Refused<'a>> {
+    match parse_number(word.as_bytes()) {
+        Some(number) => Ok(number as usize),
+        None => Err(Refused::Number(name, 0, word)),
+    }
+}
+
+fn places_of<'a>(word: &'a str) -> Result<NonZeroUsize, Refused<'a>> {
+    NonZeroUsize::new(number("PLACES", word)?).ok_or(Refused::Number("PLACES", 1, word))
 }
 
 fn part_of(word: &[u8]) -> Option<Part> {
@@ -69,5 +94,28 @@ fn part_of(word: &[u8]) -> Option<Part> {
     if word == RELAY {
         return Some(Part::Relay);
     }
+    if word == ACCOUNT {
+        return Some(Part::Account);
+    }
     None
+}
+
+/// Returns the first letter that is no step of the part.
+fn unknown_step(part: Part, steps: &str) -> Option<char> {
+    for letter in steps.chars() {
+        if letter != 'c' && !is_step(part, letter) {
+            return Some(letter);
+        }
+    }
+    None
+}
+
+/// Returns whether the part has this step beside those that take an event.
+fn is_step(part: Part, letter: char) -> bool {
+    match part {
+        Part::Core | Part::Relay => false,
+        Part::Inbox => matches!(letter, 'h' | 'd' | 't' | 's' | 'x'),
+        Part::Engine => matches!(letter, 'k' | 'e' | 'f' | 'w' | '0'..='9'),
+        Part::Account => matches!(letter, 't' | 'r' | 'x'),
+    }
 }

@@ -1,7 +1,7 @@
 use Rattle.std.proofs.Common.{◌≡◌, Result, Ok, Err, sym, ◌∙◌, subst}
 use Rattle.std.specs.Vec.Iter.{into_iter_items}
-use Rattle.commonware_broadcast.specs.declared.broadcaster.Feedback.{Feedback}
-use Rattle.commonware_broadcast.specs.declared.broadcaster.MailboxError.{MailboxError}
+use Rattle.broadcast_mailbox.specs.declared.broadcaster.Feedback.{Feedback}
+use Rattle.broadcast_mailbox.specs.declared.broadcaster.MailboxError.{MailboxError}
 use Rattle.broadcast_core.specs.declared.ordered.Recipients.TheVariants as to
 use Rattle.broadcast_relay.specs.Answered.{AreAnswered}
 use Rattle.broadcast_relay.proofs.Answering.{closed, at-end, at-closed, at-refused}

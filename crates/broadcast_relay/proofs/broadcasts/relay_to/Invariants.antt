@@ -1,8 +1,8 @@
 use Rattle.std.proofs.Common.{◌≡◌, List, None, Option, ◌++◌, length}
 use Rattle.std.specs.Prelude.{◌+◌, ◌≤◌, vec_len, vec_capacity}
 use Rattle.std.specs.Vec.Iter.{into_iter_items, into_iter_len}
-use Rattle.commonware_broadcast.specs.declared.broadcaster.Feedback.{Feedback}
-use Rattle.commonware_broadcast.specs.declared.broadcaster.MailboxError.{MailboxError}
+use Rattle.broadcast_mailbox.specs.declared.broadcaster.Feedback.{Feedback}
+use Rattle.broadcast_mailbox.specs.declared.broadcaster.MailboxError.{MailboxError}
 use Rattle.broadcast_core.specs.declared.ordered.Recipients.TheVariants as to
 use Rattle.broadcast_relay.specs.Answered.{AreAnswered}
 use Rattle.broadcast_relay.proofs.broadcasts.relay_to.Given as goal

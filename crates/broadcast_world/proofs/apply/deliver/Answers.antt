@@ -8,22 +8,22 @@ use Rattle.broadcast_world.specs.declared.step.WorldAnswer.TheVariants.{NoSuch}
 use Rattle.broadcast_world.proofs.Places.{AllZip-none, AllZip-some, read_at, slice_get-past}
 use Rattle.broadcast_world.proofs.apply.deliver.Goals as goal
 
-pub returns-in_default : goal.returns-in_default
-returns-in_default g c = λ w sent is ranged copies.
-    let cores = c.args.cores.now.items in
+pub returns-in_default-clause-node : goal.returns-in_default-clause-node
+returns-in_default-clause-node g c = λ w sent is ranged copies.
+    let cores = c.args.nodes.now.cores.items in
     let none = slice_get-past c.args.packets.now c.args.number c.in_default.ensures.lookup.3 in
     subst (λ p. AtNode g.P.Ord.cmp w (delivery g.P.Ord.cmp w p) cores cores NoSuch) (sym (AllZip-none _ c.args.packets.now sent c.args.number copies none)) (λ i. NoSuch, λ i. cores)
 
-pub returns : goal.returns
-returns g c = λ w sent is ranged copies.
+pub returns-clause-node : goal.returns-clause-node
+returns-clause-node g c = λ w sent is ranged copies.
     let cmp = g.P.Ord.cmp in
     let laws = eq_by_cmp_equiv (g.met.P.Ord g.world.𝓛 g.world.𝓜 g.world.𝓡 (λ s x. x, λ x. x, λ x. x, λ x. x)).total in
     let there = read_at c.args.packets.now c.args.number c.in-Some.packet.now c.in-Some.ensures.lookup.3.0 c.in-Some.ensures.lookup.1 in
     let meant = AllZip-some _ c.args.packets.now sent c.args.number c.in-Some.packet.now copies there in
     let p = meant.0 in
     let packet = c.in-Some.packet.now in
-    let at = c.payload.ensures w p.addressee p.sender is ranged
+    let at = c.payload.ensures.node w p.addressee p.sender is ranged
     (ap (eq_by_cmp cmp p.addressee) c.addressee.ensures ∙ laws.symm p.addressee packet.addressee ∙ meant.2.1)
     (ap (eq_by_cmp cmp p.sender) c.sender.ensures ∙ laws.symm p.sender packet.sender ∙ meant.2.0) in
-    subst (λ o. AtNode cmp w (delivery cmp w o) c.args.cores.now.items c.payload.new.cores.items c.payload.result) (sym meant.1)
-    (subst (λ b. AtNode cmp w (event_at cmp w p.addressee (event.Payload p.sender b)) c.args.cores.now.items c.payload.new.cores.items c.payload.result) (c.bytes.ensures ∙ meant.2.2) at)
+    subst (λ o. AtNode cmp w (delivery cmp w o) c.args.nodes.now.cores.items c.payload.new.self.cores.items c.payload.result) (sym meant.1)
+    (subst (λ b. AtNode cmp w (event_at cmp w p.addressee (event.Payload p.sender b)) c.args.nodes.now.cores.items c.payload.new.self.cores.items c.payload.result) (c.bytes.ensures ∙ meant.2.2) at)

@@ -3,6 +3,7 @@ use Rattle.std.specs.List.{list_any}
 use Rattle.std.specs.Ordering.{eq_by_cmp}
 use Rattle.broadcast_world.specs.TwoRuns.{without_hostile}
 use Rattle.broadcast_world.proofs.Honest.{IsRun-from}
+use Rattle.broadcast_world.proofs.Origins.{HasOrigins-from}
 use Rattle.broadcast_world.specs.World.{log_of}
 use Rattle.broadcast_world.proofs.Requests.{Laws, Laws-from}
 use Rattle.broadcast_world.proofs.two_runs.compare.Given as given
@@ -39,6 +40,16 @@ returns-clause-with_run g c =
 pub returns-clause-without_run : goal.returns-clause-without_run
 returns-clause-without_run g c =
     IsRun-from g.P.Ord.cmp (without_hostile c.args.steps.now) c.in_ok-both.both.without_log.answers _ _ (c.in_ok-both.ensures.without_run [] c.in_ok-without_world.ensures.empty)
+
+pub returns-clause-origins : goal.returns-clause-origins
+returns-clause-origins g c =
+    HasOrigins-from g.P.Ord.cmp (g.met.P.Ord g.world.𝓛 g.world.𝓜 g.world.𝓡 (λ s x. x, λ x. x, λ x. x, λ x. x)).total c.in_ok-both.both.with_world.scene
+    (log_of c.args.steps.now c.in_ok-both.both.with_log.answers) c.in_ok-both.both.with_world.cores (returns-clause-with_run g c).world.cores
+
+pub returns-clause-clean_origins : goal.returns-clause-clean_origins
+returns-clause-clean_origins g c =
+    HasOrigins-from g.P.Ord.cmp (g.met.P.Ord g.world.𝓛 g.world.𝓜 g.world.𝓡 (λ s x. x, λ x. x, λ x. x, λ x. x)).total c.in_ok-both.both.without_world.scene
+    (log_of (without_hostile c.args.steps.now) c.in_ok-both.both.without_log.answers) c.in_ok-both.both.without_world.cores (returns-clause-without_run g c).world.cores
 
 -- both runs compared
 laws : (g : given.Over) (c : goal.In_ok-both g)

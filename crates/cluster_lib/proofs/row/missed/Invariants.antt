@@ -1,6 +1,6 @@
 use Rattle.std.proofs.Common.{◌≡◌, ◌+◌, take}
 use Rattle.std.specs.List.{sum_by}
-use Rattle.commonware_broadcast.specs.Account.{capped}
+use Rattle.broadcast_mailbox.specs.Account.{capped}
 use Rattle.cluster_lib.proofs.row.missed.Given as goal
 
 abbrev pub invariant-loop-row : goal.invariant-loop-row

@@ -1,4 +1,4 @@
-use Rattle.std.proofs.Common.{◌≡◌, ◌++◌, Some, refl, sym, ap, ◌∙◌, subst}
+use Rattle.std.proofs.Common.{◌≡◌, Some, refl, ap, ◌∙◌, subst}
 use Rattle.std.specs.Prelude.{length}
 use Rattle.std.specs.Option.{option_map}
 use Rattle.broadcast_core.specs.Content.{same_by, outcome_at}
@@ -19,8 +19,7 @@ returns-in-Ok-take_own g c = λ s is pr enc past has.
     let m = c.args.message in
     let event = Broadcast c.args.recipients m in
     let r = c.in-Ok-take_own.ensures in
-    let w = c.in-Ok.ensures.written in
-    let spelled : s.encoding m.message ≡ Some c.write.new.out.items = ap (λ f. f m.message) enc ∙ ap g.M.Write.encoding (sym c.inner.ensures) ∙ w.1 ∙ ap Some (sym (w.2 ∙ ap (λ xs. xs ++ w.0) c.new-bytes.ensures.items)) in
+    let spelled : s.encoding m.message ≡ Some c.in-Ok.bytes.items = ap (λ f. f m.message) enc ∙ c.in-Ok.ensures.ok in
     let takes = subst (λ o. Takes same o m (option_map length (g.M.Write.encoding m.message)) c.args.core.now c.take_own.new.self) has.own r.ok in
     let outcome = subst (λ o. c.in-Ok-take_own.taken.outcome ≡ outcome_at same c.args.core.now o m.digest (option_map length (g.M.Write.encoding m.message))) has.own r.outcome in
     let applies = Applies-taken is lawful has enc {e = event} (broadcast c.args.recipients m) (record { key = s.own; carried = m }) refl refl (ap (λ b. answer_to_broadcast s c.args.recipients m b past) spelled) takes outcome r.served in

@@ -1,6 +1,7 @@
-use Rattle.std.proofs.Common.{◌≡◌, ◌<◌, ◌≤◌, List, [], ◌∷◌, ℕ, length, get_or, map, string_bytes, Global, Option, None, Some, IfSome, codes, ◌∙◌, arith}
+use Rattle.std.proofs.Common.{◌≡◌, ◌<◌, ◌≤◌, List, [], ◌∷◌, ℕ, length, get_or, map, string_bytes, Global, Result, Ok, Err, IfOk, codes, ◌∙◌, arith}
 use Rattle.std.specs.Fmt.{decimal}
 use Rattle.cluster_lib.specs.declared.rate.Rate.{Rate}
+use Rattle.cluster_lib.specs.declared.fault.Fault.{Fault}
 use Rattle.cluster_lib.specs.Arguments.{words_of_rate}
 use Rattle.cluster_lib.proofs.rate.Rate.parse.Goals as goal
 
@@ -16,11 +17,11 @@ four_items f (x ∷ y ∷ z ∷ w ∷ []) a b c d least most p q r s = cc
 four_items f (x ∷ y ∷ z ∷ w ∷ v ∷ xs) a b c d least most p q r s = absurd (omega arith)
 
 -- the settings are those of the words
-spelled : (r : Option Rate) (texts : List (List ℕ)) (a b d : List ℕ) → texts ≡ codes "rate" ∷ a ∷ b ∷ d ∷ []
-    → IfSome r (λ it. (a ≡ decimal it.clients) × (b ≡ decimal it.rounds) × (d ≡ decimal it.depth))
-    → IfSome r (λ it. texts ≡ words_of_rate it)
-spelled None texts a b d e p = tt
-spelled (Some it) texts a b d e p = cc (e, p.0, p.1, p.2)
+spelled : (r : Result Rate Fault) (texts : List (List ℕ)) (a b d : List ℕ) → texts ≡ codes "rate" ∷ a ∷ b ∷ d ∷ []
+    → IfOk r (λ it. (a ≡ decimal it.clients) × (b ≡ decimal it.rounds) × (d ≡ decimal it.depth))
+    → IfOk r (λ it. texts ≡ words_of_rate it)
+spelled (Err fault) texts a b d e p = tt
+spelled (Ok it) texts a b d e p = cc (e, p.0, p.1, p.2)
 
 pub returns-then-is_rate-clause-spelled_so : goal.returns-then-is_rate-clause-spelled_so
 returns-then-is_rate-clause-spelled_so c =

@@ -1,0 +1,4 @@
+pub mod CacheBox
+pub mod NodeBox
+pub mod Overlaying
+pub mod Values

@@ -1,0 +1,3 @@
+pub mod Codes
+pub mod Holding
+pub mod Told

@@ -1,0 +1,96 @@
+//! What the exported functions return, as numbers.
+ghost use Rattle.std.specs.Prelude.{◌≡◌};
+ghost use Rattle.broadcast_c.specs.Codes.{answer_code, outcome_code};
+
+use broadcast_core::{Answer, Cause, Outcome};
+use byte_cache::Blob;
+
+/// The call did what it says.
+pub const OK: u32 = 0;
+
+/// An allocation failed.
+pub const MEMORY: u32 = 1;
+
+/// The handle is empty.
+pub const EMPTY: u32 = 2;
+
+/// There is no message or packet.
+pub const NONE: u32 = 3;
+
+/// The room has too few places.
+pub const SHORT: u32 = 4;
+
+/// The ticket waits.
+pub const WAITS: u32 = 5;
+
+/// The digest was put in front of the list.
+pub const INSERTED: u32 = 0;
+
+/// The digest was on the list.
+pub const DUPLICATE: u32 = 1;
+
+/// The key is not primary.
+pub const INELIGIBLE: u32 = 2;
+
+/// The message is charged more than the byte budget.
+pub const OVERSIZE: u32 = 3;
+
+/// The keys are the primary ones.
+pub const ANSWER_PEERS: u32 = 0;
+
+/// The message was taken.
+pub const ANSWER_TAKEN: u32 = 1;
+
+/// The payload does not decode.
+pub const ANSWER_INVALID: u32 = 2;
+
+/// The subscribe waits.
+pub const ANSWER_WAITING: u32 = 3;
+
+/// The subscribe is answered from the cache.
+pub const ANSWER_ANSWERED: u32 = 4;
+
+/// The get is answered with a message.
+pub const ANSWER_GOT: u32 = 5;
+
+/// No message is cached.
+pub const ANSWER_MISSED: u32 = 6;
+
+/// Waiters were dropped.
+pub const ANSWER_REMOVED: u32 = 7;
+
+/// An allocation failed.
+pub const ANSWER_MEMORY: u32 = 8;
+
+/// The message has no encoding.
+pub const ANSWER_UNENCODABLE: u32 = 9;
+
+/// Returns the number of an outcome.
+pub fn code_of_outcome(outcome: Outcome) -> u32
+    ensures { result ≡ outcome_code outcome }
+{
+    match outcome {
+        Outcome::Inserted => INSERTED,
+        Outcome::Duplicate => DUPLICATE,
+        Outcome::Ineligible => INELIGIBLE,
+        Outcome::Oversize => OVERSIZE,
+    }
+}
+
+/// Returns the number of an answer.
+pub fn code_of_answer(answer: &Answer<Blob>) -> u32
+    ensures { result ≡ answer_code answer.now }
+{
+    match answer {
+        Answer::Peers => ANSWER_PEERS,
+        Answer::Taken { .. } => ANSWER_TAKEN,
+        Answer::Invalid(_) => ANSWER_INVALID,
+        Answer::Waiting => ANSWER_WAITING,
+        Answer::Answered(_) => ANSWER_ANSWERED,
+        Answer::Got(Some(_)) => ANSWER_GOT,
+        Answer::Got(None) => ANSWER_MISSED,
+        Answer::Removed(_) => ANSWER_REMOVED,
+        Answer::Refused(Cause::Memory) => ANSWER_MEMORY,
+        Answer::Refused(Cause::Unencodable) => ANSWER_UNENCODABLE,
+    }
+}

@@ -1,0 +1,10 @@
+pub mod Draining
+pub mod Results
+pub mod Rising
+pub mod Refilling
+pub mod Queues
+pub mod TicketCounts
+pub mod TicketRuns
+pub mod Counted
+pub mod Skipping
+pub mod Watching

@@ -1,0 +1,25 @@
+-- What a watch and a tally are told of a request.
+use Rattle.std.proofs.Common.{◌≡◌, Bool, true, Result, Ok, Err, refl}
+use Rattle.broadcast_mailbox.specs.declared.buffered.ingress.message.Message.{Message}
+use Rattle.broadcast_mailbox.specs.declared.buffered.ingress.message.Message.TheVariants as variant
+use Rattle.broadcast_mailbox.specs.declared.buffered.ingress.watch.Kind.{Kind}
+use Rattle.broadcast_mailbox.specs.declared.buffered.ingress.queued.Queued.{Queued}
+use Rattle.broadcast_mailbox.specs.declared.buffered.ingress.queued.Queued.TheVariants as queued
+use Rattle.broadcast_mailbox.specs.declared.broadcaster.MailboxError.{MailboxError}
+use Rattle.broadcast_mailbox.specs.Account.{is_accepted, is_taken_up}
+use Rattle.broadcast_mailbox.specs.Queued.{answer_of}
+use Rattle.broadcast_mailbox.specs.Watch.{is_watched, kind_of}
+
+-- a request that a watch matches has a digest that it matches
+pub watched-digest : {P M S G D : Type 0} (watched : Kind → D → Bool) (message : Message P M S G D) → is_watched watched message ≡ true → (digest : D) × (watched (kind_of message) digest ≡ true)
+watched-digest watched (variant.Broadcast recipients message) is = (message.digest, is)
+watched-digest watched (variant.Subscribe digest responder) is = (digest, is)
+watched-digest watched (variant.Get digest responder) is = (digest, is)
+
+-- a broadcast that was accepted is one that drew a ticket
+pub accepted-answer : (result : Result Queued MailboxError) → is_taken_up (answer_of result) ≡ is_accepted result
+accepted-answer (Ok (queued.Ready ticket)) = refl
+accepted-answer (Ok (queued.Overflow ticket)) = refl
+accepted-answer (Ok (queued.Skipped ticket)) = refl
+accepted-answer (Ok queued.Closed) = refl
+accepted-answer (Err error) = refl

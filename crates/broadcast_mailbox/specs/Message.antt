@@ -1,0 +1,11 @@
+-- Which messages are closed.
+use Rattle.std.specs.Prelude.{◌≡◌, Bool, false}
+use Rattle.broadcast_mailbox.specs.declared.buffered.ingress.message.Message.{Message}
+use Rattle.broadcast_mailbox.specs.declared.buffered.ingress.message.Message.TheVariants as variant
+
+module _ {P M S G D : Type 0} (subscriber : S → Bool → Type 0) (getter : G → Bool → Type 0) where
+  -- a message is closed if its responder says so, and a broadcast is open
+  abbrev pub message_may_answer : Message P M S G D → Bool → Type 0
+  message_may_answer (variant.Broadcast recipients message) answer = answer ≡ false
+  message_may_answer (variant.Subscribe digest responder) answer = subscriber responder answer
+  message_may_answer (variant.Get digest responder) answer = getter responder answer

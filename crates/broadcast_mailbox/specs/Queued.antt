@@ -1,0 +1,20 @@
+-- What the caller of a broadcast is told.
+use Rattle.std.specs.Prelude.{Result, Ok, Err}
+use Rattle.broadcast_mailbox.specs.declared.buffered.ingress.queued.Queued.{Queued}
+use Rattle.broadcast_mailbox.specs.declared.buffered.ingress.queued.Queued.TheVariants as queued
+use Rattle.broadcast_mailbox.specs.declared.broadcaster.Feedback.{Feedback}
+use Rattle.broadcast_mailbox.specs.declared.broadcaster.Feedback.TheVariants as feedback
+use Rattle.broadcast_mailbox.specs.declared.broadcaster.MailboxError.{MailboxError}
+
+-- a message in the ready list is accepted, one that found it full is accepted with a warning to
+-- back off, and one that found the mailbox closed is not accepted
+abbrev pub feedback_of : Queued → Feedback
+feedback_of (queued.Ready ticket) = feedback.Ok
+feedback_of (queued.Overflow ticket) = feedback.Backoff
+feedback_of (queued.Skipped ticket) = feedback.Backoff
+feedback_of queued.Closed = feedback.Closed
+
+-- an error of the inbox is an error of the broadcast
+abbrev pub answer_of : Result Queued MailboxError → Result Feedback MailboxError
+answer_of (Ok queued) = Ok (feedback_of queued)
+answer_of (Err error) = Err error

@@ -1,0 +1,23 @@
+//! How callers reach a node: their messages, the inbox that queues them, and both of its ends.
+pub mod account;
+mod attended;
+pub mod books;
+pub mod get;
+pub mod inbox;
+pub mod ingress_end;
+pub mod laws;
+pub mod mailbox;
+pub mod message;
+pub mod overflow;
+pub mod pending;
+mod queue;
+pub mod queued;
+pub mod reply;
+pub mod request;
+pub mod responder;
+pub mod settled;
+mod shared;
+mod skips;
+pub mod subscription;
+pub mod tally;
+pub mod watch;

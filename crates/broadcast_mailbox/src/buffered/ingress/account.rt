@@ -1,0 +1,67 @@
+//! What a mailbox counts of the requests that are made through tallies.
+ghost use Rattle.std.specs.Prelude.{◌≡◌, ◌≤◌, ◌<◌, ◌+◌, ◌^◌, ℕ};
+ghost use Rattle.broadcast_mailbox.specs.Account.{one_if};
+
+use std::marker::Brand;
+use std::sync::ledger::Ledger;
+
+/// A ledger whose number of parts a type may name.
+pub trait Account: Ledger {
+    /// The number of its parts.
+    ghost all: { ℕ };
+}
+
+impl Account for Brand {
+    ghost all = { 0 };
+}
+
+/// Counts what becomes of the counted requests of a mailbox, under its lock. `()` is for a mailbox
+/// without tallies, and counts nothing.
+pub trait Bookkeeping: Drop {
+    /// What whoever takes the requests holds: how many counted ones it took.
+    type Taker: Drop;
+
+    /// How many counted requests were accepted.
+    ghost accepted: { Self → ℕ };
+
+    /// How many of them wait.
+    ghost waiting: { Self → ℕ };
+
+    /// How many counted requests were taken.
+    ghost taken: { Self.Taker → ℕ };
+
+    /// Counts a request that is taken, if it is a counted one, and counted ones that are skipped.
+    fn take(&mut self, taker: &mut Self::Taker, counted: bool, skipped: u64)
+        requires waited { one_if counted + skipped ≤ waiting self.old }
+        requires few { (waiting self.old ≤ accepted self.old) × (accepted self.old < 2 ^ 64) }
+        ensures waiting { waiting self.new + one_if counted + skipped ≡ waiting self.old }
+        ensures accepted { accepted self.new ≡ accepted self.old }
+        ensures taken { taken taker.new ≡ taken taker.old + one_if counted };
+
+    /// Counts the requests that wait as given up.
+    fn give_up(&mut self)
+        requires few { (waiting self.old ≤ accepted self.old) × (accepted self.old < 2 ^ 64) }
+        ensures waiting { waiting self.new ≡ 0 }
+        ensures accepted { accepted self.new ≡ accepted self.old };
+
+    /// Counts the request that was taken last as refused, or else as applied, if it is a counted
+    /// one that was not counted so before.
+    fn end(taker: &mut Self::Taker, refused: bool)
+        ensures { taken taker.new ≡ taken taker.old };
+}
+
+impl Bookkeeping for () {
+    type Taker = ();
+
+    ghost accepted = { λ _. 0 };
+
+    ghost waiting = { λ _. 0 };
+
+    ghost taken = { λ _. 0 };
+
+    fn take(&mut self, _taker: &mut (), _counted: bool, _skipped: u64) {}
+
+    fn give_up(&mut self) {}
+
+    fn end(_taker: &mut (), _refused: bool) {}
+}

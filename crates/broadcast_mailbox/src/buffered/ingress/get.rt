@@ -1,0 +1,106 @@
+//! The future of a get.
+ghost use Rattle.std.specs.Prelude.{◌≡◌, IfSome};
+ghost use Rattle.broadcast_mailbox.specs.Waited.{get_waited};
+ghost use Rattle.futures.specs.Channel.{completed_source};
+ghost use Rattle.broadcast_mailbox.specs.Asked.{GoesBy, get_returns};
+
+use crate::buffered::ingress::reply::{Reply, Returns};
+use broadcast_core::{Digested, Digestible};
+use futures::Future;
+use futures::channel::oneshot::{Canceled, Receiver};
+use futures::executor::block_on;
+use futures::task::{Context, Poll};
+use std::alloc::AllocGlobal;
+use std::io;
+use std::marker::Model;
+use std::random::RandomSource;
+use std::sync::Wait;
+
+/// A future for the cached message of a digest. Dropping it cancels the request.
+///
+/// It gives `None` if the message is not cached, if the request was dropped, and if the reply goes
+/// by another digest.
+#[derive(Drop)]
+pub struct Get<M: Digestible> {
+    digest: M::Digest,
+    receiver: Receiver<Option<Reply<M>>>,
+}
+
+impl<M: Digestible> Model for Get<M> {
+    ghost use Rattle.futures.specs.Channel.{completed_source};
+    ghost use Rattle.broadcast_mailbox.specs.Asked.{Asked};
+
+    ghost Value = { Asked M.Digest };
+
+    ghost view = { λ g. record { digest = g.digest; source = completed_source g.receiver } };
+}
+
+impl<M: Digestible> Get<M> {
+    // Creates the future of a get of `digest` whose reply comes through the channel.
+    pub(super) fn new(digest: M::Digest, receiver: Receiver<Option<Reply<M>>>) -> Self
+        ensures { result ≡ record { digest = digest; source = completed_source receiver } }
+    {
+        Get { digest, receiver }
+    }
+
+    /// Blocks the calling thread until the reply is there, and returns what the future gives.
+    ///
+    /// Returns `None` also if there is no memory to wait with; then the request is cancelled.
+    pub fn wait<R: Wait + RandomSource + AllocGlobal>(self, rt: &R) -> Option<Digested<M>>
+        ensures { IfSome result (λ message. GoesBy M.Digest.cmp self.digest message) }
+    {
+        waited(block_on(rt, self))
+    }
+}
+
+// Returns the output of the future, or `None` if it could not be waited for.
+fn waited<M: Digestible>(blocked: io::Result<Option<Digested<M>>>) -> Option<Digested<M>>
+    ensures { result ≡ get_waited blocked }
+{
+    match blocked {
+        Ok(outcome) => outcome,
+        Err(_) => None,
+    }
+}
+
+impl<M: Digestible> Future for Get<M> {
+    type Output = Option<Digested<M>>;
+
+    ghost needs = { λ g source. source ≡ g.source };
+
+    ghost gives = { λ g outcome.
+        IfSome outcome (λ message. GoesBy M.Digest.cmp g.digest message) };
+
+    fn poll(&mut self, cx: &mut Context<'_>) -> Poll<Option<Digested<M>>> {
+        let polled = self.receiver.poll(cx);
+        self.returned(polled)
+    }
+}
+
+impl<M: Digestible> Returns for Get<M> {
+    type Reply = Option<Reply<M>>;
+
+    type Output = Option<Digested<M>>;
+
+    ghost returns = { λ future polled. get_returns M.Digest.cmp future.digest polled };
+
+    fn returned(
+        &self,
+        polled: Poll<Result<Option<Reply<M>>, Canceled>>,
+    ) -> Poll<Option<Digested<M>>>
+        ensures { result ≡ get_returns M.Digest.cmp self.now.digest polled }
+    {
+        match polled {
+            Poll::Pending => Poll::Pending,
+            Poll::Ready(Ok(Some(reply))) => {
+                let Reply { digest, message } = reply;
+                if self.digest.cmp(&digest).is_eq() {
+                    Poll::Ready(Some(message))
+                } else {
+                    Poll::Ready(None)
+                }
+            }
+            Poll::Ready(Ok(None)) | Poll::Ready(Err(_)) => Poll::Ready(None),
+        }
+    }
+}

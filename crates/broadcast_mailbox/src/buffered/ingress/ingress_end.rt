@@ -1,0 +1,211 @@
+//! The end of a mailbox from which its requests are taken, and what asks for a stop there.
+ghost use Rattle.std.specs.Prelude.{◌≡◌, ◌+◌, ◌↔◌, true, false, is_err, IfOk, IfErr};
+ghost use Rattle.futures.specs.Poll.{OnPending};
+ghost use Rattle.std.specs.Arc.{arc_value};
+ghost use Rattle.futures.specs.Task.{Hears, IsArmed, Keeps};
+ghost use Rattle.broadcast_mailbox.specs.Account.{counted_of};
+ghost use Rattle.broadcast_mailbox.specs.Attended.{ready};
+ghost use Rattle.broadcast_mailbox.specs.Ends.{IngressEnd, MailboxEnd, SharedInbox};
+ghost use Rattle.broadcast_mailbox.specs.Watch.{BroadcastsOnly};
+
+use crate::buffered::ingress::account::{Account, Bookkeeping};
+use crate::buffered::ingress::books::Books;
+use crate::buffered::ingress::message::Message;
+use crate::buffered::ingress::queued::Counts;
+use crate::buffered::ingress::reply::Reply;
+use crate::buffered::ingress::request::Request;
+use crate::buffered::ingress::responder::Responder;
+use crate::buffered::ingress::settled::Settled;
+use crate::buffered::ingress::shared::Shared;
+use crate::buffered::ingress::tally::Tally;
+use crate::buffered::ingress::watch::Watch;
+use broadcast_core::{Closable, Digestible, PublicKey};
+use futures::task::{Context, Poll};
+use std::alloc::AllocError;
+use std::marker::Model;
+use std::sync::{Arc, Wait};
+
+/// The end of a mailbox from which its requests are taken, with messages `T`.
+///
+/// A call takes the lock of the inbox once, and makes one call of the inbox under it.
+#[derive(Drop)]
+pub struct Ingress<T, R, A: Bookkeeping = ()> {
+    inbox: Arc<Shared<T, A>>,
+    taker: A::Taker,
+    rt: R,
+}
+
+impl<T, R, A: Bookkeeping> Model for Ingress<T, R, A> {
+    ghost use Rattle.std.specs.Arc.{arc_value};
+    ghost use Rattle.broadcast_mailbox.specs.Ends.{IngressEnd};
+
+    ghost Value = { IngressEnd };
+
+    ghost view = { λ it. record { inbox = arc_value it.inbox; taken = A.taken it.taker } };
+}
+
+impl<T, R, A: Bookkeeping> Ingress<T, R, A> {
+    // Creates the end that takes from the inbox.
+    pub(super) fn new(rt: R, inbox: Arc<Shared<T, A>>, taker: A::Taker) -> Self
+        ensures { result.inbox ≡ arc_value inbox }
+    {
+        Ingress { inbox, taker, rt }
+    }
+
+    /// Counts the request that was taken last as refused, or else as applied, if it is a counted
+    /// one.
+    pub fn end(&mut self, refused: bool)
+        ensures { self.new ≡ self.old }
+    {
+        A::end(&mut self.taker, refused);
+    }
+}
+
+impl<T, R: Clone, A: Bookkeeping> Ingress<T, R, A> {
+    /// Returns a stopper of whoever takes the requests, or an allocation failure.
+    pub fn stopper(&self) -> Result<Stopper<T, R, A>, AllocError>
+        ensures same_inbox { IfOk result (λ stopper. stopper.inbox ≡ self.now.inbox) }
+    {
+        Ok(Stopper::new(self.rt.clone()?, Arc::try_clone(&self.inbox)?))
+    }
+}
+
+impl<T, R: Wait, A: Bookkeeping> Ingress<T, R, A> {
+    /// Asks whoever takes the requests to stop. Requests are still queued and taken.
+    pub fn request_stop(&self) {
+        self.inbox.request_stop(&self.rt);
+    }
+
+    /// Returns whether a stop was asked for.
+    pub fn stop_requested(&self) -> bool {
+        self.inbox.stop_requested(&self.rt)
+    }
+
+    /// Returns whether a stop was asked for. If not, the task is woken once it is.
+    pub fn poll_stopped(&self, cx: &mut Context<'_>) -> bool
+        ensures heard { result ≡ false → Hears cx.new self.now.inbox.stopped }
+        ensures armed { result ≡ false → IsArmed cx.new }
+        ensures kept { Keeps cx.old cx.new }
+    {
+        self.inbox.poll_stopped(&self.rt, cx)
+    }
+
+    /// Returns how many requests were accepted, and what became of them.
+    pub fn counts(&self) -> Counts
+        // Every accepted request was taken, was skipped, waits or was given up.
+        ensures add_up { result.accepted
+            ≡ result.taken + result.skipped + result.waiting + result.given_up }
+    {
+        self.inbox.counts(&self.rt)
+    }
+}
+
+impl<T: Closable + Drop, R: Wait, A: Bookkeeping> Ingress<T, R, A> {
+    /// Removes and returns the oldest request, and counts it if it is a counted one. If none waits,
+    /// the task is woken once one is queued.
+    pub fn poll_request(&mut self, cx: &mut Context<'_>) -> Poll<Request<T>>
+        ensures taken { self.new.taken ≡ self.old.taken + counted_of (ready result) }
+        ensures same_inbox { self.new.inbox ≡ self.old.inbox }
+        ensures heard { OnPending result (Hears cx.new self.new.inbox.queued) }
+        ensures armed { OnPending result (IsArmed cx.new) }
+        ensures kept { Keeps cx.old cx.new }
+    {
+        self.inbox.poll_next(&self.rt, &mut self.taker, cx)
+    }
+
+    /// Closes the mailbox and drops the requests that wait. Returns how many they were.
+    pub fn close(&self) -> u64 {
+        self.inbox.close(&self.rt)
+    }
+}
+
+impl<T: Closable + Drop, R: Wait> Ingress<T, R> {
+    /// Removes the oldest request and returns it with its ticket, or `None` if none waits.
+    pub fn take(&self) -> Option<(u64, T)> {
+        let mut nobody = ();
+        self.inbox.take(&self.rt, &mut nobody)
+    }
+
+    /// Removes and returns the oldest request. If none waits, the task is woken once one is queued.
+    pub fn poll_next(&self, cx: &mut Context<'_>) -> Poll<Request<T>>
+        ensures heard { OnPending result (Hears cx.new self.now.inbox.queued) }
+        ensures armed { OnPending result (IsArmed cx.new) }
+        ensures kept { Keeps cx.old cx.new }
+    {
+        let mut nobody = ();
+        self.inbox.poll_next(&self.rt, &mut nobody, cx)
+    }
+}
+
+impl<P, M, S, G, R, A, K, V> Ingress<Message<P, M, S, G>, R, Books<A, K, V, M::Digest>>
+where
+    P: PublicKey,
+    M: Digestible,
+    S: Responder<Reply<M>> + Drop,
+    G: Responder<Option<Reply<M>>> + Drop,
+    R: Wait + Drop,
+    A: Account,
+    K: Account,
+    V: Watch<M::Digest>,
+{
+    /// Closes the mailbox, and tells what became of the counted requests. Fails only if the tally
+    /// lacks a part.
+    pub fn settle(self, tally: Tally<A>) -> Result<Settled, (Self, Tally<A>)>
+        requires accounts { (A.all ≡ A.parts) × (K.all ≡ K.parts) }
+        ensures whole { (is_err result ≡ false) ↔ (tally.parts ≡ A.parts) }
+        ensures accepted { IfOk result (λ settled. tally.accepted ≡ settled.applied
+            + settled.refused + settled.skipped + settled.given_up) }
+        ensures taken { IfOk result (λ settled.
+            settled.applied + settled.refused ≡ self.taken) }
+        ensures broadcasts { IfOk result (λ settled.
+            BroadcastsOnly V.watched → settled.skipped ≡ 0) }
+        ensures unchanged_on_error { IfErr result (λ both. (both.0 ≡ self) × (both.1 ≡ tally)) }
+    {
+        if !tally.is_whole() {
+            return Err((self, tally));
+        }
+        let mut tally = tally;
+        let Ingress {
+            inbox,
+            mut taker,
+            rt,
+        } = self;
+        let settled = inbox.settle(&rt, &mut taker, &mut tally);
+        drop::<_>(inbox);
+        drop::<_>((taker, rt));
+        drop::<_>(tally);
+        Ok(settled)
+    }
+}
+
+/// Asks whoever takes the requests of a mailbox to stop. It may be used on any thread.
+#[derive(Drop)]
+pub struct Stopper<T, R, A: Bookkeeping = ()> {
+    inbox: Arc<Shared<T, A>>,
+    rt: R,
+}
+
+impl<T, R, A: Bookkeeping> Model for Stopper<T, R, A> {
+    ghost use Rattle.std.specs.Arc.{arc_value};
+    ghost use Rattle.broadcast_mailbox.specs.Ends.{MailboxEnd};
+
+    ghost Value = { MailboxEnd };
+
+    ghost view = { λ it. record { inbox = arc_value it.inbox } };
+}
+
+impl<T, R, A: Bookkeeping> Stopper<T, R, A> {
+    // Creates a stopper of whoever takes from the inbox.
+    pub(super) fn new(rt: R, inbox: Arc<Shared<T, A>>) -> Self
+        ensures { result.inbox ≡ arc_value inbox }
+    {
+        Stopper { inbox, rt }
+    }
+}
+
+impl<T, R: Wait, A: Bookkeeping> Stopper<T, R, A> {
+    /// Asks whoever takes the requests to stop, and wakes it. Does not allocate.
+    pub fn request_stop(&self) {
+        self.inbox.request_stop(&self.rt);
+    }
+}

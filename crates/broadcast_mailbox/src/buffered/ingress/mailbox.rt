@@ -1,0 +1,263 @@
+//! The mailbox through which callers on any thread reach a node.
+ghost use Rattle.std.specs.Prelude.{◌≡◌, IfOk, OnErr, ⊤};
+ghost use Rattle.std.specs.NonZero.{non_zero_u32_get};
+ghost use Rattle.broadcast_mailbox.specs.Account.{MayCount, TallyState, is_taken_up, tallied};
+ghost use Rattle.broadcast_mailbox.specs.Ends.{IngressEnd, MailboxEnd};
+
+use crate::buffered::ingress::account::{Account, Bookkeeping};
+use crate::buffered::ingress::books::Books;
+use crate::buffered::ingress::get::Get;
+use crate::buffered::ingress::inbox::Inbox;
+use crate::buffered::ingress::ingress_end::Ingress;
+use crate::buffered::ingress::message::Message;
+use crate::buffered::ingress::queued::Queued;
+use crate::buffered::ingress::reply::Reply;
+use crate::buffered::ingress::shared::Shared;
+use crate::buffered::ingress::subscription::Subscription;
+use crate::buffered::ingress::tally::Tally;
+use crate::buffered::ingress::watch::{Kind, Watch};
+use crate::{Broadcaster, Feedback, MailboxError};
+use broadcast_core::{Digested, Digestible, EncodeSize, PublicKey, Recipients, Write};
+use futures::channel::oneshot;
+use std::alloc::{AllocError, Global};
+use std::marker::Model;
+use std::num::{NonZeroU32, NonZeroUsize};
+use std::sync::ledger::Blank;
+use std::sync::{Arc, Wait};
+
+/// A message of a mailbox's caller, whose reply goes through a channel.
+pub type Incoming<P, M> = Message<
+    P,
+    M,
+    oneshot::Sender<Reply<M>>,
+    oneshot::Sender<Option<Reply<M>>>,
+>;
+
+/// Creates a mailbox whose ready list has `mailbox_size` places, and the ingress that takes what
+/// is queued through it.
+pub fn channel<P, M, R>(
+    rt: R,
+    alloc: Global,
+    mailbox_size: NonZeroUsize,
+) -> Result<(Mailbox<P, M, R>, Ingress<Incoming<P, M>, R>), AllocError>
+where
+    P: PublicKey,
+    M: Digestible,
+    R: Clone + Drop,
+    ensures same_inbox { IfOk result (λ ends. ends.0.inbox ≡ ends.1.inbox) }
+{
+    let inbox = Arc::new(alloc, Shared::new(Inbox::new(alloc, mailbox_size), ()))?;
+    let ingress = Ingress::new(rt.clone()?, Arc::try_clone(&inbox)?, ());
+    Ok((Mailbox { inbox, alloc, rt }, ingress))
+}
+
+/// The ends of a mailbox that counts the tallied requests that the watch `V` matches, and the tally
+/// that has all parts.
+pub type WatchedEnds<P, M, R, A, K, V> = (
+    WatchedMailbox<P, M, R, A, K, V>,
+    Ingress<Incoming<P, M>, R, Books<A, K, V, <M as Digestible>::Digest>>,
+    Tally<A>,
+);
+
+/// A mailbox that counts the tallied requests that the watch `V` matches.
+pub type WatchedMailbox<P, M, R, A, K, V> = Mailbox<
+    P,
+    M,
+    R,
+    Books<A, K, V, <M as Digestible>::Digest>,
+>;
+
+/// Creates a mailbox as `channel` does, that counts tallied requests, with a tally of `parts`
+/// parts.
+pub fn watched_channel<P, M, R, A, K, V>(
+    rt: R,
+    alloc: Global,
+    mailbox_size: NonZeroUsize,
+    parts: NonZeroU32,
+    accepted: Blank,
+    taken: Blank,
+) -> Result<WatchedEnds<P, M, R, A, K, V>, AllocError>
+where
+    P: PublicKey,
+    M: Digestible,
+    R: Clone + Drop,
+    A: Account,
+    K: Account,
+    V: Watch<M::Digest>,
+    requires accepted { (accepted.name ≡ A.name) × (accepted.parts ≡ A.parts) }
+    requires parts { (A.all ≡ A.parts) × (A.parts ≡ non_zero_u32_get parts) }
+    requires taken { (taken.name ≡ K.name) × (taken.parts ≡ K.parts) }
+    requires one { (K.all ≡ K.parts) × (K.parts ≡ 1) }
+    ensures same_inbox { IfOk result (λ ends. ends.0.inbox ≡ ends.1.inbox) }
+    ensures whole { IfOk result (λ ends.
+        ends.2 ≡ record { accepted = 0; parts = non_zero_u32_get parts }) }
+{
+    let (books, tally, taking) = Books::<A, K, V, M::Digest>::open(
+        accepted,
+        taken,
+        parts.get() as u64,
+    );
+    let inbox = Arc::new(alloc, Shared::new(Inbox::new(alloc, mailbox_size), books))?;
+    let ingress = Ingress::new(rt.clone()?, Arc::try_clone(&inbox)?, taking);
+    Ok((Mailbox { inbox, alloc, rt }, ingress, tally))
+}
+
+/// The mailbox of a node. Copies of it may be used on any thread.
+///
+/// A call takes the lock of the inbox once, makes one call of the inbox under it, and wakes the
+/// task that takes the requests after it has let the lock go.
+#[derive(Drop)]
+pub struct Mailbox<P: PublicKey, M: Digestible, R, A: Bookkeeping = ()> {
+    inbox: Arc<Shared<Incoming<P, M>, A>>,
+    alloc: Global,
+    rt: R,
+}
+
+impl<P: PublicKey, M: Digestible, R, A: Bookkeeping> Model for Mailbox<P, M, R, A> {
+    ghost use Rattle.std.specs.Arc.{arc_value};
+    ghost use Rattle.broadcast_mailbox.specs.Ends.{MailboxEnd};
+
+    ghost Value = { MailboxEnd };
+
+    ghost view = { λ it. record { inbox = arc_value it.inbox } };
+}
+
+impl<P, M, R, A> Mailbox<P, M, R, A>
+where
+    P: PublicKey,
+    M: Digestible,
+    R: Wait,
+    A: Bookkeeping,
+{
+    /// Requests the message of `digest`, which is sent at once if it is cached, and else when it
+    /// arrives.
+    ///
+    /// After an error nothing is queued. After a close the subscription ends as canceled.
+    pub fn subscribe(&self, digest: M::Digest) -> Result<Subscription<M>, MailboxError>
+        ensures { IfOk result (λ subscription. subscription.digest ≡ digest) }
+    {
+        let (responder, receiver) = oneshot::channel(self.alloc)?;
+        let request = Message::subscribe(digest, responder);
+        let _queued = self.inbox.enqueue(&self.rt, request)?;
+        Ok(Subscription::new(digest, receiver))
+    }
+
+    /// Requests the message of `digest` if it is cached.
+    ///
+    /// After an error nothing is queued. After a close the reply is `None`.
+    pub fn get(&self, digest: M::Digest) -> Result<Get<M>, MailboxError>
+        ensures { IfOk result (λ get. get.digest ≡ digest) }
+    {
+        let (responder, receiver) = oneshot::channel(self.alloc)?;
+        let request = Message::get(digest, responder);
+        let _queued = self.inbox.enqueue(&self.rt, request)?;
+        Ok(Get::new(digest, receiver))
+    }
+}
+
+impl<P, M, R, A, K, V> Mailbox<P, M, R, Books<A, K, V, M::Digest>>
+where
+    P: PublicKey,
+    M: Digestible,
+    R: Wait,
+    A: Account,
+    K: Account,
+    V: Watch<M::Digest>,
+{
+    /// Broadcasts as `broadcast` does. The tally is one higher exactly if the request was accepted
+    /// and the watch matches it.
+    pub fn broadcast_as(
+        &self,
+        tally: &mut Tally<A>,
+        recipients: Recipients<P>,
+        message: Digested<M>,
+    ) -> Result<Feedback, MailboxError>
+        ensures { tally.new
+            ≡ tallied (V.watched Kind.Broadcast message.digest) (is_taken_up result) tally.old }
+    {
+        let counted = V::matches(Kind::Broadcast, &message.digest());
+        let request = Message::broadcast(recipients, message);
+        Queued::answer(self.inbox.enqueue_as(&self.rt, request, counted, tally))
+    }
+
+    /// Subscribes as `subscribe` does. The tally is one higher exactly if the request was accepted
+    /// and the watch matches it; after a close, none is accepted.
+    pub fn subscribe_as(
+        &self,
+        tally: &mut Tally<A>,
+        digest: M::Digest,
+    ) -> Result<Subscription<M>, MailboxError>
+        ensures digest { IfOk result (λ subscription. subscription.digest ≡ digest) }
+        ensures counts { IfOk result (λ _.
+            MayCount (V.watched Kind.Subscribe digest) tally.old tally.new) }
+        ensures unchanged_on_error { OnErr result (tally.new ≡ tally.old) }
+    {
+        let (responder, receiver) = oneshot::channel(self.alloc)?;
+        let counted = V::matches(Kind::Subscribe, &digest);
+        let request = Message::subscribe(digest, responder);
+        let _queued = self.inbox.enqueue_as(&self.rt, request, counted, tally)?;
+        Ok(Subscription::new(digest, receiver))
+    }
+
+    /// Gets as `get` does. The tally is one higher exactly if the request was accepted and the
+    /// watch matches it; after a close, none is accepted.
+    pub fn get_as(&self, tally: &mut Tally<A>, digest: M::Digest) -> Result<Get<M>, MailboxError>
+        ensures digest { IfOk result (λ get. get.digest ≡ digest) }
+        ensures counts { IfOk result (λ _.
+            MayCount (V.watched Kind.Get digest) tally.old tally.new) }
+        ensures unchanged_on_error { OnErr result (tally.new ≡ tally.old) }
+    {
+        let (responder, receiver) = oneshot::channel(self.alloc)?;
+        let counted = V::matches(Kind::Get, &digest);
+        let request = Message::get(digest, responder);
+        let _queued = self.inbox.enqueue_as(&self.rt, request, counted, tally)?;
+        Ok(Get::new(digest, receiver))
+    }
+}
+
+impl<P, M, R, A> Clone for Mailbox<P, M, R, A>
+where
+    P: PublicKey,
+    M: Digestible,
+    R: Clone,
+    A: Bookkeeping,
+{
+    ghost is_clone = { λ mailbox copy. copy.inbox ≡ mailbox.inbox };
+
+    /// Returns a mailbox over the same inbox, or an allocation failure.
+    fn clone(&self) -> Result<Self, AllocError> {
+        Ok(Mailbox {
+            inbox: Arc::try_clone(&self.inbox)?,
+            alloc: self.alloc,
+            rt: self.rt.clone()?,
+        })
+    }
+}
+
+impl<P, M, R, A> Broadcaster for Mailbox<P, M, R, A>
+where
+    P: PublicKey,
+    M: Digestible + Send + Sync + 'static,
+    R: Wait + Clone + Send + 'static,
+    A: Bookkeeping + Send + 'static,
+    Digested<M>: Write + EncodeSize,
+{
+    type Recipients = Recipients<P>;
+
+    type Message = Digested<M>;
+
+    ghost may_answer = { λ _ _ _ _. ⊤ };
+
+    /// Queues the message for the recipients. Returns `Closed` after a close.
+    fn broadcast(
+        &self,
+        recipients: Recipients<P>,
+        message: Digested<M>,
+    ) -> Result<Feedback, MailboxError> {
+        let request = Message::Broadcast {
+            recipients,
+            message,
+        };
+        Queued::answer(self.inbox.enqueue(&self.rt, request))
+    }
+}

@@ -1,0 +1,111 @@
+//! The messages of a mailbox's callers.
+ghost use Rattle.std.specs.Prelude.{◌≡◌};
+ghost use Rattle.broadcast_mailbox.specs.Watch.{kind_of};
+
+use crate::buffered::ingress::overflow::Policy;
+use crate::buffered::ingress::pending::Pending;
+use crate::buffered::ingress::reply::Reply;
+use crate::buffered::ingress::responder::Responder;
+use crate::buffered::ingress::watch::Kind;
+use broadcast_core::{Closable, Digested, Digestible, PublicKey, Recipients};
+use std::alloc::AllocError;
+
+/// A message of a mailbox's caller, generic over where the replies go.
+#[derive(Drop)]
+pub enum Message<P, M: Digestible, S, G> {
+    /// Broadcast a message.
+    Broadcast {
+        /// Whom the message is for.
+        recipients: Recipients<P>,
+        /// The message.
+        message: Digested<M>,
+    },
+    /// Reply with the message of a digest, at once or when it arrives.
+    Subscribe {
+        /// The digest.
+        digest: M::Digest,
+        /// Where the reply goes.
+        responder: S,
+    },
+    /// Reply with the message of a digest, or with `None` if it is not cached.
+    Get {
+        /// The digest.
+        digest: M::Digest,
+        /// Where the reply goes.
+        responder: G,
+    },
+}
+
+impl<P, M: Digestible, S, G> Message<P, M, S, G> {
+    /// Creates a request to broadcast `message` to `recipients`.
+    pub fn broadcast(recipients: Recipients<P>, message: Digested<M>) -> Self
+        ensures { result ≡ Message.Broadcast recipients message }
+    {
+        Message::Broadcast {
+            recipients,
+            message,
+        }
+    }
+
+    /// Creates a request for the message of `digest`, at once or when it arrives.
+    pub fn subscribe(digest: M::Digest, responder: S) -> Self
+        ensures { result ≡ Message.Subscribe digest responder }
+    {
+        Message::Subscribe { digest, responder }
+    }
+
+    /// Creates a request for the message of `digest` if it is cached.
+    pub fn get(digest: M::Digest, responder: G) -> Self
+        ensures { result ≡ Message.Get digest responder }
+    {
+        Message::Get { digest, responder }
+    }
+}
+
+impl<P, M: Digestible, S, G> Message<P, M, S, G> {
+    /// Returns what is asked for.
+    pub fn kind(&self) -> Kind
+        ensures { result ≡ kind_of self.now }
+    {
+        match self {
+            Message::Broadcast { .. } => Kind::Broadcast,
+            Message::Subscribe { .. } => Kind::Subscribe,
+            Message::Get { .. } => Kind::Get,
+        }
+    }
+}
+
+/// A message is closed if its responder is. A broadcast is never closed.
+impl<P, M, S, G> Closable for Message<P, M, S, G>
+where
+    P: PublicKey,
+    M: Digestible,
+    S: Responder<Reply<M>>,
+    G: Responder<Option<Reply<M>>>,
+{
+    ghost use Rattle.broadcast_mailbox.specs.Message.{message_may_answer};
+
+    ghost may_answer = { message_may_answer S.may_answer G.may_answer };
+
+    fn is_closed(&self) -> bool {
+        match self {
+            Message::Broadcast { .. } => false,
+            Message::Subscribe { responder, .. } => responder.is_closed(),
+            Message::Get { responder, .. } => responder.is_closed(),
+        }
+    }
+}
+
+impl<P, M, S, G> Policy for Message<P, M, S, G>
+where
+    P: PublicKey,
+    M: Digestible,
+    S: Responder<Reply<M>> + Drop,
+    G: Responder<Option<Reply<M>>> + Drop,
+{
+    type Overflow = Pending<Self>;
+
+    fn handle(overflow: &mut Pending<Self>, message: Self) -> Result<(), AllocError> {
+        overflow.append(message)
+    }
+}

@@ -1,0 +1,172 @@
+//! The inbox that the ends of a mailbox share.
+ghost use Rattle.std.specs.Prelude.{◌≡◌, ◌+◌, [], true, false};
+ghost use Rattle.futures.specs.Poll.{OnPending};
+ghost use Rattle.futures.specs.Task.{Hears, IsArmed, Keeps};
+ghost use Rattle.broadcast_mailbox.specs.Queue.{waiting};
+ghost use Rattle.broadcast_mailbox.specs.Attended.{ready};
+ghost use Rattle.broadcast_mailbox.specs.Ends.{SharedInbox};
+ghost use Rattle.broadcast_mailbox.specs.Account.{TallyState, counted_of, is_accepted, tallied};
+ghost use Rattle.broadcast_mailbox.specs.Watch.{BroadcastsOnly, is_watched};
+
+use crate::MailboxError;
+use crate::buffered::ingress::account::{Account, Bookkeeping};
+use crate::buffered::ingress::attended::Attended;
+use crate::buffered::ingress::books::{Books, Taker};
+use crate::buffered::ingress::inbox::Inbox;
+use crate::buffered::ingress::message::Message;
+use crate::buffered::ingress::queued::{Counts, Queued};
+use crate::buffered::ingress::reply::Reply;
+use crate::buffered::ingress::request::Request;
+use crate::buffered::ingress::responder::Responder;
+use crate::buffered::ingress::settled::Settled;
+use crate::buffered::ingress::tally::Tally;
+use crate::buffered::ingress::watch::Watch;
+use broadcast_core::{Closable, Digestible, PublicKey};
+use futures::task::{Context, Poll, Source};
+use std::marker::Model;
+use std::sync::{Mutex, Wait};
+
+/// The inbox that the ends of a mailbox share.
+///
+/// A call takes the lock once, and makes one call of the inbox under it. The task that takes the
+/// requests is woken after the lock is let go.
+#[derive(Drop)]
+pub(super) struct Shared<T, A: Bookkeeping> {
+    // Fires once a request is queued.
+    queued: Source,
+    // Fires once a stop is requested.
+    stopped: Source,
+    state: Mutex<Attended<T, A>>,
+}
+
+impl<T, A: Bookkeeping> Model for Shared<T, A> {
+    ghost use Rattle.broadcast_mailbox.specs.Ends.{SharedInbox};
+
+    ghost Value = { SharedInbox };
+
+    ghost view = { λ it. record { queued = it.queued.id; stopped = it.stopped.id } };
+}
+
+impl<T, A: Bookkeeping> Shared<T, A> {
+    /// Shares the inbox.
+    pub(super) fn new(inbox: Inbox<T>, account: A) -> Self
+        requires nothing_waits { waiting inbox.queue ≡ [] }
+        requires nothing_counted { (A.waiting account ≡ 0) × (A.accepted account ≡ 0) }
+    {
+        Shared {
+            queued: Source::new(),
+            stopped: Source::new(),
+            state: Mutex::new(Attended::new(inbox, account)),
+        }
+    }
+
+    /// Requests a stop.
+    pub(super) fn request_stop(&self, rt: &impl Wait) {
+        let woken = self.state.lock(rt).request_stop();
+        drop(woken);
+    }
+
+    /// Returns whether a stop was requested.
+    pub(super) fn stop_requested(&self, rt: &impl Wait) -> bool {
+        self.state.lock(rt).stop_requested()
+    }
+
+    /// Returns whether a stop was requested. If not, the task is woken once one is.
+    pub(super) fn poll_stopped(&self, rt: &impl Wait, cx: &mut Context<'_>) -> bool
+        ensures heard { result ≡ false → Hears cx.new self.now.stopped }
+        ensures armed { result ≡ false → IsArmed cx.new }
+        ensures kept { Keeps cx.old cx.new }
+    {
+        self.state.lock(rt).poll_stopped(cx, &self.stopped)
+    }
+
+    /// Returns how many requests were accepted, and what became of them.
+    pub(super) fn counts(&self, rt: &impl Wait) -> Counts
+        ensures { result.accepted
+            ≡ result.taken + result.skipped + result.waiting + result.given_up }
+    {
+        self.state.lock(rt).counts()
+    }
+}
+
+impl<T: Closable + Drop, A: Bookkeeping> Shared<T, A> {
+    /// Queues a message.
+    pub(super) fn enqueue(&self, rt: &impl Wait, message: T) -> Result<Queued, MailboxError> {
+        let (queued, woken) = self.state.lock(rt).enqueue(message);
+        drop(woken);
+        queued
+    }
+
+    /// Takes the oldest request. If none waits, the task is woken once one is queued.
+    pub(super) fn poll_next(
+        &self,
+        rt: &impl Wait,
+        taker: &mut A::Taker,
+        cx: &mut Context<'_>,
+    ) -> Poll<Request<T>>
+        ensures taken { A.taken taker.new ≡ A.taken taker.old + counted_of (ready result) }
+        ensures heard { OnPending result (Hears cx.new self.now.queued) }
+        ensures armed { OnPending result (IsArmed cx.new) }
+        ensures kept { Keeps cx.old cx.new }
+    {
+        self.state.lock(rt).poll_next(taker, cx, &self.queued)
+    }
+
+    /// Takes the oldest request, or `None` if none waits.
+    pub(super) fn take(&self, rt: &impl Wait, taker: &mut A::Taker) -> Option<(u64, T)> {
+        self.state.lock(rt).take(taker)
+    }
+
+    /// Closes the inbox. Returns how many requests were given up.
+    pub(super) fn close(&self, rt: &impl Wait) -> u64 {
+        let (given_up, woken) = self.state.lock(rt).close();
+        drop(woken);
+        given_up
+    }
+}
+
+impl<P, M, S, G, A, K, V> Shared<Message<P, M, S, G>, Books<A, K, V, M::Digest>>
+where
+    P: PublicKey,
+    M: Digestible,
+    S: Responder<Reply<M>> + Drop,
+    G: Responder<Option<Reply<M>>> + Drop,
+    A: Account,
+    K: Account,
+    V: Watch<M::Digest>,
+{
+    /// Queues a message for a tally, which counts it if it is accepted and `counted`.
+    pub(super) fn enqueue_as(
+        &self,
+        rt: &impl Wait,
+        message: Message<P, M, S, G>,
+        counted: bool,
+        tally: &mut Tally<A>,
+    ) -> Result<Queued, MailboxError>
+        requires { counted ≡ is_watched V.watched message }
+        ensures { tally.new ≡ tallied counted (is_accepted result) tally.old }
+    {
+        let (queued, woken) = self.state.lock(rt).enqueue_as(message, counted, tally);
+        drop(woken);
+        queued
+    }
+
+    /// Closes the inbox and settles its account with the tally that has all parts.
+    pub(super) fn settle(
+        &self,
+        rt: &impl Wait,
+        taker: &mut Taker<K>,
+        tally: &mut Tally<A>,
+    ) -> Settled
+        requires accounts { (A.all ≡ A.parts) × (K.all ≡ K.parts) }
+        requires whole { tally.old.parts ≡ A.all }
+        ensures accepted { tally.old.accepted
+            ≡ result.applied + result.refused + result.skipped + result.given_up }
+        ensures taken { result.applied + result.refused ≡ taker.old.share.amount }
+        ensures broadcasts { BroadcastsOnly V.watched → result.skipped ≡ 0 }
+    {
+        let (settled, woken) = self.state.lock(rt).settle(taker, tally);
+        drop(woken);
+        settled
+    }
+}

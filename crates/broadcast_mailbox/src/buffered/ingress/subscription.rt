@@ -1,0 +1,106 @@
+//! The future of a subscribe.
+ghost use Rattle.std.specs.Prelude.{◌≡◌, IfOk};
+ghost use Rattle.broadcast_mailbox.specs.Waited.{subscription_waited};
+ghost use Rattle.futures.specs.Channel.{completed_source};
+ghost use Rattle.broadcast_mailbox.specs.Asked.{GoesBy, subscription_returns};
+
+use crate::buffered::ingress::reply::{Reply, Returns};
+use broadcast_core::{Digested, Digestible};
+use futures::Future;
+use futures::channel::oneshot::{Canceled, Receiver};
+use futures::executor::block_on;
+use futures::task::{Context, Poll};
+use std::alloc::AllocGlobal;
+use std::io;
+use std::marker::Model;
+use std::random::RandomSource;
+use std::sync::Wait;
+
+/// A future for the message of a digest. Dropping it cancels the request.
+///
+/// It ends as canceled if the request was dropped, and if the reply goes by another digest.
+#[derive(Drop)]
+pub struct Subscription<M: Digestible> {
+    digest: M::Digest,
+    receiver: Receiver<Reply<M>>,
+}
+
+impl<M: Digestible> Model for Subscription<M> {
+    ghost use Rattle.futures.specs.Channel.{completed_source};
+    ghost use Rattle.broadcast_mailbox.specs.Asked.{Asked};
+
+    ghost Value = { Asked M.Digest };
+
+    ghost view = { λ s. record { digest = s.digest; source = completed_source s.receiver } };
+}
+
+impl<M: Digestible> Subscription<M> {
+    // Creates the future of a subscribe to `digest` whose reply comes through the channel.
+    pub(super) fn new(digest: M::Digest, receiver: Receiver<Reply<M>>) -> Self
+        ensures { result ≡ record { digest = digest; source = completed_source receiver } }
+    {
+        Subscription { digest, receiver }
+    }
+
+    /// Blocks the calling thread until the message is there, and returns what the future gives.
+    ///
+    /// It ends as canceled also if there is no memory to wait with.
+    pub fn wait<R: Wait + RandomSource + AllocGlobal>(self, rt: &R) -> Result<Digested<M>, Canceled>
+        ensures { IfOk result (λ message. GoesBy M.Digest.cmp self.digest message) }
+    {
+        waited(block_on(rt, self))
+    }
+}
+
+// Returns the output of the future, or that it is canceled if it could not be waited for.
+fn waited<M: Digestible>(
+    blocked: io::Result<Result<Digested<M>, Canceled>>,
+) -> Result<Digested<M>, Canceled>
+    ensures { result ≡ subscription_waited blocked }
+{
+    match blocked {
+        Ok(outcome) => outcome,
+        Err(_) => Err(Canceled),
+    }
+}
+
+impl<M: Digestible> Future for Subscription<M> {
+    type Output = Result<Digested<M>, Canceled>;
+
+    ghost needs = { λ s source. source ≡ s.source };
+
+    ghost gives = { λ s outcome. IfOk outcome (λ message. GoesBy M.Digest.cmp s.digest message) };
+
+    fn poll(&mut self, cx: &mut Context<'_>) -> Poll<Result<Digested<M>, Canceled>> {
+        let polled = self.receiver.poll(cx);
+        self.returned(polled)
+    }
+}
+
+impl<M: Digestible> Returns for Subscription<M> {
+    type Reply = Reply<M>;
+
+    type Output = Result<Digested<M>, Canceled>;
+
+    ghost returns = { λ future polled. subscription_returns M.Digest.cmp future.digest polled };
+
+    fn returned(
+        &self,
+        polled: Poll<Result<Reply<M>, Canceled>>,
+    ) -> Poll<Result<Digested<M>, Canceled>>
+        ensures { result ≡ subscription_returns M.Digest.cmp self.now.digest polled }
+    {
+        match polled {
+            Poll::Pending => Poll::Pending,
+            Poll::Ready(Ok(reply)) => {
+                let Reply { digest, message } = reply;
+                if self.digest.cmp(&digest).is_eq() {
+                    Poll::Ready(Ok(message))
+                } else {
+                    Poll::Ready(Err(Canceled))
+                }
+            }
+            Poll::Ready(Err(canceled)) => Poll::Ready(Err(canceled)),
+        }
+    }
+}

@@ -1,0 +1,101 @@
+//! Messages that are bytes.
+ghost use Rattle.std.specs.Prelude.{◌≡◌, IfOk};
+ghost use Rattle.sha2.specs.Sha256.{sha256};
+ghost use Rattle.byte_cache.specs.Blob.{encoding_of, read_blob, blob_within, blob_refusals, blob_reads_back};
+
+use broadcast_core::{Codec, CodecError, Digestible, EncodeSize, RangeCfg, Read, Write, byte_list};
+use sha2::{Digest, Sha256};
+use std::alloc::{AllocError, Global};
+use std::marker::Model;
+
+/// A message of bytes, encoded as one list. Its own digest is the SHA-256 of the bytes.
+#[derive(Debug, Drop)]
+pub struct Blob {
+    bytes: Vec<u8>,
+}
+
+/// Contracts see a message as its bytes.
+impl Model for Blob {
+    ghost use Rattle.std.specs.Prelude.{ℕ, List};
+
+    ghost Value = { List ℕ };
+
+    ghost view = { λ blob. blob.bytes.items };
+}
+
+impl Blob {
+    /// Creates a message of a copy of the bytes.
+    pub fn copied(alloc: Global, bytes: &[u8]) -> Result<Self, AllocError>
+        ensures { IfOk result (λ blob. blob ≡ bytes.now) }
+    {
+        Ok(Blob {
+            bytes: Vec::from_slice(alloc, bytes)?,
+        })
+    }
+
+    /// Returns the bytes.
+    pub fn as_slice(&self) -> &[u8]
+        ensures { result.now ≡ self.now }
+    {
+        &self.bytes
+    }
+}
+
+impl Digestible for Blob {
+    type Digest = [u8; 32];
+
+    ghost digest_of = { sha256 };
+
+    /// Computes the SHA-256 of the bytes.
+    fn digest(&self) -> [u8; 32] {
+        Sha256::digest(&self.bytes)
+    }
+}
+
+impl Write for Blob {
+    ghost encoding = { encoding_of };
+
+    /// Appends the length in four bytes, highest first, and then the bytes. More than 4,294,967,295
+    /// bytes have no encoding.
+    fn write(&self, out: &mut Vec<u8>) -> Result<(), CodecError> {
+        let size = self.encode_size().ok_or(CodecError::Unencodable)?;
+        out.reserve(size)?;
+        byte_list::write_reserved(&self.bytes, out);
+        Ok(())
+    }
+}
+
+impl EncodeSize for Blob {
+    /// Returns the length of the encoding.
+    fn encode_size(&self) -> Option<usize> {
+        byte_list::encode_size(&self.bytes)
+    }
+}
+
+impl Read for Blob {
+    /// The lengths that a message may have.
+    type Cfg = RangeCfg;
+
+    ghost reading = { read_blob };
+
+    /// Returns the number of bytes that the message at the front takes.
+    fn layout(buf: &[u8], cfg: &RangeCfg) -> Result<usize, CodecError> {
+        let (_, rest) = byte_list::read_cfg(buf, cfg)?;
+        Ok(buf.len() - rest.len())
+    }
+
+    /// Reads the message at the front, and returns it with the number of bytes that it takes.
+    fn read_cfg(alloc: Global, buf: &[u8], cfg: &RangeCfg) -> Result<(Self, usize), CodecError> {
+        let (bytes, rest) = byte_list::read_cfg(buf, cfg)?;
+        let blob = Blob::copied(alloc, bytes)?;
+        Ok((blob, buf.len() - rest.len()))
+    }
+
+    ghost within = { blob_within };
+
+    ghost refusals = { blob_refusals };
+}
+
+impl Codec for Blob {
+    ghost reads_back = { blob_reads_back };
+}

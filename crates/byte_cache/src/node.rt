@@ -1,0 +1,185 @@
+//! A node that broadcasts messages, without a network of its own.
+ghost use Rattle.std.specs.Prelude.{◌≡◌, List, [], IfOk, OnErr, OnOk, None};
+ghost use Rattle.std.specs.Option.{option_copied};
+ghost use Rattle.sha2.specs.Sha256.{sha256};
+ghost use Rattle.broadcast_core.specs.Content.{same_by};
+ghost use Rattle.broadcast_core.specs.declared.event.Event.TheVariants as event;
+ghost use Rattle.broadcast_core.specs.declared.event.Answer.TheVariants as answer;
+ghost use Rattle.byte_cache.specs.Changes.{HasApplied, HaveSameKeys, message_of, recipients_of, served_of};
+
+use crate::blob::Blob;
+use broadcast_core::runner::apply::apply;
+use broadcast_core::{Answer, Core, Digested, Event, Items, Key, RangeCfg, Recipients, Sent, Set};
+use std::alloc::{AllocError, Global};
+
+/// A node that is handed events. It keeps the answer to the last one and what that one sends.
+///
+/// After an `Err`, which is an allocation failure, nothing has changed.
+#[derive(Drop)]
+pub struct Node {
+    /// The lists, the messages and the waiters, which are tickets.
+    pub core: Core<Key, Blob, u64>,
+    /// The lengths of the messages that payloads decode to.
+    pub lengths: RangeCfg,
+    /// The answer to the last event; before the first it is that to a peer set.
+    pub answer: Answer<Blob>,
+    /// What the last event sends.
+    pub packet: Option<Sent<Key>>,
+}
+
+impl Node {
+    /// Creates a node with the key `own` that keeps at most `deque_size` digests a peer, which are
+    /// charged at most `byte_budget` bytes together. It decodes messages of at most `max_len`
+    /// bytes.
+    pub fn new(alloc: Global, own: Key, deque_size: usize, byte_budget: u64, max_len: usize) -> Self
+        ensures core { result.core ≡ record {
+          own = own;
+          deque_size = deque_size;
+          byte_budget = byte_budget;
+          primary = [];
+          lists = [];
+          cached = [];
+          waiters = [];
+        } }
+        ensures lengths { result.lengths ≡ record { min = 0; max = max_len } }
+        ensures answer { result.answer ≡ answer.Peers }
+        ensures packet { result.packet ≡ None }
+    {
+        Node {
+            core: Core::new(alloc, own, deque_size, byte_budget),
+            lengths: RangeCfg::new(0, max_len),
+            answer: Answer::Peers,
+            packet: None,
+        }
+    }
+
+    // Applies the event, and keeps its answer and what it sends.
+    fn apply(&mut self, alloc: Global, event: Event<Key, Blob>)
+        ensures { let same = same_by ⟦<Key as Ord>⟧.cmp ⟦<[u8; 32] as Ord>⟧.cmp in
+            HasApplied same event self.old self.new }
+    {
+        let (answer, packet) = apply(alloc, &mut self.core, false, &self.lengths, event);
+        self.answer = answer;
+        self.packet = packet;
+    }
+
+    /// The keys become the primary ones. They may come in any order, and repeat.
+    pub fn peers(&mut self, alloc: Global, keys: &[Key]) -> Result<(), AllocError>
+        ensures applied { let same = same_by ⟦<Key as Ord>⟧.cmp ⟦<[u8; 32] as Ord>⟧.cmp in
+            OnOk result ((set : List Key) × HaveSameKeys same set keys.now
+            × HasApplied same (event.Peers set) self.old self.new) }
+        ensures refused { OnErr result (self.new ≡ self.old) }
+    {
+        let peers = Set::from_iter_dedup(Vec::from_slice(alloc, keys)?)?;
+        self.apply(alloc, Event::Peers(peers));
+        Ok(())
+    }
+
+    /// Broadcasts the bytes, by their SHA-256, to all peers, or to `keys` if `all` is false.
+    pub fn broadcast(
+        &mut self,
+        alloc: Global,
+        all: bool,
+        keys: &[Key],
+        bytes: &[u8],
+    ) -> Result<(), AllocError>
+        ensures applied { let same = same_by ⟦<Key as Ord>⟧.cmp ⟦<[u8; 32] as Ord>⟧.cmp in
+            OnOk result (HasApplied same (event.Broadcast (recipients_of all keys.now)
+            (record { message = bytes.now; digest = sha256 bytes.now })) self.old self.new) }
+        ensures refused { OnErr result (self.new ≡ self.old) }
+    {
+        let recipients = recipients(alloc, all, keys)?;
+        let message = Digested::compute(alloc, Blob::copied(alloc, bytes)?)?;
+        self.apply(alloc, Event::Broadcast(recipients, message));
+        Ok(())
+    }
+
+    /// Broadcasts the bytes, which go by the digest here.
+    pub fn broadcast_as(
+        &mut self,
+        alloc: Global,
+        all: bool,
+        keys: &[Key],
+        digest: [u8; 32],
+        bytes: &[u8],
+    ) -> Result<(), AllocError>
+        ensures applied { let same = same_by ⟦<Key as Ord>⟧.cmp ⟦<[u8; 32] as Ord>⟧.cmp in
+            OnOk result (HasApplied same (event.Broadcast (recipients_of all keys.now)
+            (record { message = bytes.now; digest = digest })) self.old self.new) }
+        ensures refused { OnErr result (self.new ≡ self.old) }
+    {
+        let recipients = recipients(alloc, all, keys)?;
+        let message = Digested::precomputed(alloc, Blob::copied(alloc, bytes)?, digest)?;
+        self.apply(alloc, Event::Broadcast(recipients, message));
+        Ok(())
+    }
+
+    /// The peer sent these bytes.
+    pub fn payload(&mut self, alloc: Global, peer: &Key, bytes: &[u8]) -> Result<(), AllocError>
+        ensures applied { let same = same_by ⟦<Key as Ord>⟧.cmp ⟦<[u8; 32] as Ord>⟧.cmp in
+            OnOk result (HasApplied same (event.Payload peer.now bytes.now) self.old self.new) }
+        ensures refused { OnErr result (self.new ≡ self.old) }
+    {
+        let bytes = Items::from_vec(Vec::from_slice(alloc, bytes)?);
+        self.apply(alloc, Event::Payload(*peer, bytes));
+        Ok(())
+    }
+
+    /// The ticket waits for the message of the digest, unless it is cached.
+    pub fn subscribe(&mut self, alloc: Global, ticket: u64, digest: [u8; 32])
+        ensures { let same = same_by ⟦<Key as Ord>⟧.cmp ⟦<[u8; 32] as Ord>⟧.cmp in
+            HasApplied same (event.Subscribe ticket digest) self.old self.new }
+    {
+        self.apply(alloc, Event::Subscribe(ticket, digest));
+    }
+
+    /// The cached message of the digest is asked for.
+    pub fn get(&mut self, alloc: Global, ticket: u64, digest: [u8; 32])
+        ensures { let same = same_by ⟦<Key as Ord>⟧.cmp ⟦<[u8; 32] as Ord>⟧.cmp in
+            HasApplied same (event.Get ticket digest) self.old self.new }
+    {
+        self.apply(alloc, Event::Get(ticket, digest));
+    }
+
+    /// The waiters with these tickets are gone.
+    pub fn cleanup(&mut self, alloc: Global, tickets: &[u64]) -> Result<(), AllocError>
+        ensures applied { let same = same_by ⟦<Key as Ord>⟧.cmp ⟦<[u8; 32] as Ord>⟧.cmp in
+            OnOk result (HasApplied same (event.Cleanup tickets.now) self.old self.new) }
+        ensures refused { OnErr result (self.new ≡ self.old) }
+    {
+        let tickets = Items::from_vec(Vec::from_slice(alloc, tickets)?);
+        self.apply(alloc, Event::Cleanup(tickets));
+        Ok(())
+    }
+
+    /// Returns the message of the last answer, if that has one.
+    pub fn message(&self) -> Option<&Digested<Blob>>
+        ensures { option_copied result ≡ message_of self.now.answer }
+    {
+        match &self.answer {
+            Answer::Taken { message, .. } | Answer::Answered(message) => Some(message),
+            Answer::Got(found) => found.as_ref(),
+            _ => None,
+        }
+    }
+
+    /// Returns the tickets that the last event served, in the order of their subscribes.
+    pub fn served(&self) -> &[u64]
+        ensures { result.now ≡ served_of self.now.answer }
+    {
+        match &self.answer {
+            Answer::Taken { served, .. } => served.as_slice(),
+            _ => &[],
+        }
+    }
+}
+
+/// Returns all peers as recipients, or these.
+fn recipients(alloc: Global, all: bool, keys: &[Key]) -> Result<Recipients<Key>, AllocError>
+    ensures { IfOk result (λ recipients. recipients ≡ recipients_of all keys.now) }
+{
+    if all {
+        return Ok(Recipients::All);
+    }
+    Ok(Recipients::Some(Items::from_vec(Vec::from_slice(alloc, keys)?)))
+}

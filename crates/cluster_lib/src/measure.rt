@@ -1,0 +1,277 @@
+//! How many requests a started engine answers.
+ghost use Rattle.std.specs.Prelude.{◌≡◌, ◌*◌, ◌/◌, IfOk, IfErr, Err, Ok, OnOk, length, max, ◌+◌, [], ◌∷◌, ◌++◌};
+ghost use Rattle.std.specs.Io.KnownBytes.{Appends};
+ghost use Rattle.std.specs.Duration.{as_nanos};
+ghost use Rattle.broadcast_mailbox.specs.Account.{capped};
+ghost use Rattle.cluster_lib.specs.Measured.{measured_text};
+
+use crate::fault::Fault;
+use crate::message::{Digest, broadcast, digest_of};
+use crate::node::{Node, start};
+use crate::rate::Rate;
+use crate::run::mail_of;
+use broadcast_core::{RangeCfg, TestMessage};
+use commonware_broadcast::buffered::{Get, Mailbox, Sequential};
+use std::alloc::AllocGlobal;
+use std::fmt::{self, Display, Formatter};
+use std::io;
+use std::random::RandomSource;
+use std::sync::atomic::{AtomicBool, Ordering};
+use std::sync::{Arc, Wait};
+use std::thread::{self, JoinHandle, Threads};
+use std::time::{Clock, Duration, Instant};
+
+/// What was measured.
+#[derive(Clone, Copy)]
+pub struct Measured {
+    /// The number of requests that were answered.
+    pub answered: u64,
+    /// The milliseconds that this took.
+    pub milliseconds: u64,
+    /// The number of requests that were answered in a second.
+    pub per_second: u64,
+}
+
+impl Measured {
+    /// Returns what was measured, if the answers took this time.
+    fn new(answered: u64, took: Duration) -> Measured
+        ensures answered { result.answered ≡ answered }
+        ensures milliseconds { result.milliseconds ≡ capped (as_nanos took / 1000000) }
+        ensures per_second { result.per_second
+            ≡ capped (answered * 1000) / max result.milliseconds 1 }
+    {
+        let milliseconds = u64::try_from(took.as_millis()).unwrap_or(u64::MAX);
+        Measured {
+            answered,
+            milliseconds,
+            per_second: answered.saturating_mul(1000) / milliseconds.max(1),
+        }
+    }
+}
+
+impl Display for Measured {
+    ghost use Rattle.std.specs.Prelude.{Some};
+
+    ghost output = { λ it. Some (measured_text it) };
+
+    fn fmt<W: fmt::Write>(&self, f: &mut Formatter<W>) -> fmt::Result {
+        write!(
+            f,
+            "{} answered in {} ms, {} a second",
+            self.answered, self.milliseconds, self.per_second
+        )
+    }
+}
+
+/// Lets the clients get a message from one started engine. The time counts from before the first
+/// client is started to the end of the last. If a client fails, all of them end.
+pub fn measure<R>(rt: &R, rate: Rate) -> Result<Measured, Fault>
+where
+    R: Threads + Wait + Clock + RandomSource + AllocGlobal + Clone + Send + Sync + Drop + 'static,
+{
+    let node = start_alone(rt)?;
+    let measured = measure_node(rt, rate, &node);
+    node.handle.stop();
+    drop::<_>(node.join(rt));
+    measured
+}
+
+/// Starts a node that has no other peers.
+fn start_alone<R>(rt: &R) -> Result<Node<TestMessage, R>, Fault>
+where
+    R: Threads + Wait + RandomSource + AllocGlobal + Clone + Send + Sync + Drop + 'static,
+{
+    let mail = mail_of(rt, 1, 1)?;
+    let others = Vec::new(rt.alloc());
+    match start(rt, RangeCfg::any(), Sequential, &mail, others, 1)? {
+        Ok(node) => Ok(node),
+        Err((_, error)) => Err(Fault::from(error)),
+    }
+}
+
+/// Lets the clients get a message from the node, which broadcast it.
+fn measure_node<R>(rt: &R, rate: Rate, node: &Node<TestMessage, R>) -> Result<Measured, Fault>
+where
+    R: Threads + Wait + Clock + RandomSource + AllocGlobal + Clone + Send + Sync + Drop + 'static,
+{
+    let _feedback = broadcast(rt, &node.mailbox, 1, 1)?;
+    time(rt, rate, &node.mailbox)
+}
+
+/// Starts the clients, and waits for them. Returns what was measured.
+fn time<R>(rt: &R, rate: Rate, mailbox: &Mailbox<u64, TestMessage, R>) -> Result<Measured, Fault>
+where
+    R: Threads + Wait + Clock + RandomSource + AllocGlobal + Clone + Send + Sync + Drop + 'static,
+{
+    let Ok(began) = Instant::now(rt) else {
+        return Err(Fault::Clock);
+    };
+    let answered = run_clients(rt, rate, mailbox)?;
+    match began.elapsed(rt) {
+        Ok(took) => Ok(Measured::new(answered, took)),
+        Err(_) => Err(Fault::Clock),
+    }
+}
+
+/// The result of a client's thread: how many requests were answered.
+type Answered = Result<u64, Fault>;
+
+/// Starts the clients, and joins them, also after one of them failed. Returns how many requests
+/// were answered.
+fn run_clients<R>(rt: &R, rate: Rate, mailbox: &Mailbox<u64, TestMessage, R>) -> Answered
+where
+    R: Threads + Wait + RandomSource + AllocGlobal + Clone + Send + Sync + Drop + 'static,
+{
+    let failed = Arc::new(rt.alloc(), AtomicBool::new(false))?;
+    let mut clients = Vec::new(rt.alloc());
+    let started = start_clients(rt, rate, mailbox, &failed, &mut clients);
+    if started.is_err() {
+        failed.store(true, Ordering::SeqCst);
+    }
+    let answered = join_clients(rt, clients);
+    started?;
+    answered
+}
+
+/// Starts the clients, and appends their threads.
+fn start_clients<R>(
+    rt: &R,
+    rate: Rate,
+    mailbox: &Mailbox<u64, TestMessage, R>,
+    failed: &Arc<AtomicBool>,
+    clients: &mut Vec<JoinHandle<Answered>>,
+) -> Result<(), Fault>
+where
+    R: Threads + Wait + RandomSource + AllocGlobal + Clone + Send + Sync + Drop + 'static,
+{
+    for _ in 0..rate.clients {
+        clients.reserve(1)?;
+        let client = GetClient {
+            rate,
+            mailbox: mailbox.clone()?,
+            failed: Arc::try_clone(failed)?,
+            rt: rt.clone()?,
+        };
+        clients.push_reserved(start_client(rt, client)?);
+    }
+    Ok(())
+}
+
+/// Starts a client.
+fn start_client<R>(rt: &R, client: GetClient<R>) -> Result<JoinHandle<Answered>, Fault>
+where
+    R: Threads + Wait + RandomSource + AllocGlobal + Clone + Send + Sync + Drop + 'static,
+{
+    match thread::spawn(rt, move || client.run()) {
+        Ok(thread) => Ok(thread),
+        Err(_) => Err(Fault::Thread),
+    }
+}
+
+/// Joins the clients. Returns how many requests were answered, or the fault of the first client
+/// that failed.
+fn join_clients(rt: &impl Threads, clients: Vec<JoinHandle<Answered>>) -> Answered {
+    let mut answered = Ok(0u64);
+    for client in clients {
+        answered = sum(answered, client.join(rt));
+    }
+    answered
+}
+
+/// Returns how many requests were answered of both, or the first fault.
+fn sum(one: Answered, other: Answered) -> Answered
+    ensures first { IfErr one (λ fault. result ≡ Err fault) }
+    ensures second { IfOk one (λ _. IfErr other (λ fault. result ≡ Err fault)) }
+    ensures sum { IfOk one (λ n. IfOk other (λ m. result ≡ Ok (capped (n + m)))) }
+{
+    let one = one?;
+    let other = other?;
+    Ok(one.saturating_add(other))
+}
+
+/// A client that gets the one message of a node.
+#[derive(Drop)]
+struct GetClient<R> {
+    /// How often it gets the message.
+    rate: Rate,
+    /// The mailbox of the node.
+    mailbox: Mailbox<u64, TestMessage, R>,
+    /// Whether a client has failed.
+    failed: Arc<AtomicBool>,
+    /// The right to wait.
+    rt: R,
+}
+
+impl<R> GetClient<R>
+where
+    R: Wait + RandomSource + AllocGlobal,
+{
+    /// Makes all requests. If it fails, all clients end. Returns how many were answered with the
+    /// message.
+    fn run(&self) -> Answered {
+        let answered = self.ask();
+        if answered.is_err() {
+            self.failed.store(true, Ordering::SeqCst);
+        }
+        answered
+    }
+
+    /// Makes the requests of all rounds, until a client fails. Returns how many were answered.
+    fn ask(&self) -> Answered {
+        let digest = digest_of(self.rt.alloc(), 1, 1)?;
+        let mut answered = 0u64;
+        for _ in 0..self.rate.rounds {
+            if self.failed.load(Ordering::SeqCst) {
+                return Ok(answered);
+            }
+            answered = answered.saturating_add(self.ask_at_once(digest)?);
+        }
+        Ok(answered)
+    }
+
+    /// Makes the requests of a round, and waits for them. Returns how many were answered.
+    fn ask_at_once(&self, digest: Digest) -> Answered {
+        let gets = gets(&self.rt, self.rate.depth, &self.mailbox, digest)?;
+        Ok(count_answered(&self.rt, gets))
+    }
+}
+
+/// Makes requests for the digest.
+fn gets<R>(
+    rt: &R,
+    depth: u64,
+    mailbox: &Mailbox<u64, TestMessage, R>,
+    digest: Digest,
+) -> Result<Vec<Get<TestMessage>>, Fault>
+where
+    R: Wait + AllocGlobal,
+    ensures { IfOk result (λ gets. length gets.items ≡ depth) }
+{
+    let mut gets = Vec::new(rt.alloc());
+    for _ in 0..depth {
+        gets.push(mailbox.get(digest)?)?;
+    }
+    Ok(gets)
+}
+
+/// Waits for the requests. Returns how many were answered with the message.
+pub fn count_answered<R>(rt: &R, gets: Vec<Get<TestMessage>>) -> u64
+where
+    R: Wait + RandomSource + AllocGlobal,
+{
+    let mut answered = 0u64;
+    for get in gets {
+        if get.wait(rt).is_some() {
+            answered = answered.saturating_add(1);
+        }
+    }
+    answered
+}
+
+/// Writes what was measured in one line.
+pub fn write_measured<W: io::Write>(out: &mut W, measured: Measured) -> io::Result<()>
+    ensures { OnOk result (Appends (W.contents out.old) (W.contents out.new)
+        (measured_text measured ++ 10 ∷ [])) }
+{
+    writeln!(out, "{measured}")
+}

@@ -1,0 +1,119 @@
+-- What steps tell: their turns, and whose messages they read.
+use Rattle.std.proofs.Common.{◌≡◌, List, [], ◌∷◌, ◌++◌, None, refl, sym, ap, ◌∙◌, append-nil, append_assoc}
+use Rattle.futures.specs.declared.task.Poll.{Poll}
+use Rattle.futures.specs.declared.task.Poll.TheVariants.{Ready, Pending}
+use Rattle.broadcast_core.specs.Setting.{Setting}
+use Rattle.broadcast_core.specs.Happening.{History}
+use Rattle.engine_io.specs.declared.input.Input.{Input}
+use Rattle.engine_io.specs.declared.input.Turn.{Turn}
+use Rattle.engine_io.specs.Sources.{given, given_ok}
+use Rattle.engine_io.specs.Replies.{Asker}
+use Rattle.commonware_broadcast.specs.EngineHistory.{Step, swept, applied, refused, decoded, uncounted, ended, happenings, inputs, inputs_at, read_from, read_from_at, end_of, turns, turns_at}
+use Rattle.commonware_broadcast.specs.Ran.{IsOf}
+use Rattle.commonware_broadcast.specs.Fetched.{goes_on}
+use Rattle.commonware_broadcast.specs.Polled.{Tells}
+use Rattle.commonware_broadcast.proofs.Composing.{history-append}
+
+-- the turn of an engine that goes on
+pub given-going_on : (result : Poll Turn) → given_ok (goes_on result) ≡ given result
+given-going_on (Ready turn) = refl
+given-going_on Pending = refl
+
+-- what follows an empty list is the whole
+none-before : {A : Type 0} (xs ys : List A) → xs ++ ys ≡ [] → xs ≡ []
+none-before [] ys h = refl
+none-before (x ∷ xs) ys h = absurd (let no : x ∷ (xs ++ ys) ≡ [] = h in cc)
+
+none-after : {A : Type 0} (xs ys : List A) → xs ++ ys ≡ [] → ys ≡ []
+none-after [] ys h = h
+none-after (x ∷ xs) ys h = absurd (let no : x ∷ (xs ++ ys) ≡ [] = h in cc)
+
+module _ {P M D S G : Type 0} where
+  pub inputs-append : (later earlier : List (Step P M D S G)) → inputs (later ++ earlier) ≡ inputs earlier ++ inputs later
+  inputs-append [] earlier = sym (append-nil (inputs earlier))
+  inputs-append (step ∷ later) earlier = ap (λ is. is ++ inputs_at step) (inputs-append later earlier) ∙ append_assoc (inputs earlier) (inputs later) (inputs_at step)
+
+  pub read_from-append : (later earlier : List (Step P M D S G)) → read_from (later ++ earlier) ≡ read_from earlier ++ read_from later
+  read_from-append [] earlier = sym (append-nil (read_from earlier))
+  read_from-append (step ∷ later) earlier = ap (λ ps. ps ++ read_from_at step) (read_from-append later earlier) ∙ append_assoc (read_from earlier) (read_from later) (read_from_at step)
+
+  -- the newest step is among the later ones, if the earlier ones are no end
+  pub end_of-append : (later earlier : List (Step P M D S G)) → end_of earlier ≡ None → end_of (later ++ earlier) ≡ end_of later
+  end_of-append [] earlier h = h
+  end_of-append (swept test ∷ later) earlier h = refl
+  end_of-append (applied input replies ∷ later) earlier h = refl
+  end_of-append (refused input cause ∷ later) earlier h = refl
+  end_of-append (decoded p ∷ later) earlier h = refl
+  end_of-append (uncounted p c ∷ later) earlier h = refl
+  end_of-append (ended cause ∷ later) earlier h = refl
+
+  -- the step of an input
+  pub input-at : (input : Input P M S G D) (step : Step P M D S G) → IsOf input step → inputs_at step ≡ input ∷ []
+  input-at input (applied given replies) h = ap (λ i. i ∷ []) h
+  input-at input (refused given cause) h = ap (λ i. i ∷ []) h
+  input-at input (swept other) h = absurd h
+  input-at input (decoded p) h = absurd h
+  input-at input (uncounted p c) h = absurd h
+  input-at input (ended cause) h = absurd h
+
+  reads-none : (input : Input P M S G D) (step : Step P M D S G) → IsOf input step → read_from_at step ≡ []
+  reads-none input (applied given replies) h = refl
+  reads-none input (refused given cause) h = refl
+  reads-none input (swept other) h = absurd h
+  reads-none input (decoded p) h = absurd h
+  reads-none input (uncounted p c) h = absurd h
+  reads-none input (ended cause) h = absurd h
+
+  goes-on-at : (input : Input P M S G D) (step : Step P M D S G) (steps : List (Step P M D S G)) → IsOf input step → end_of (step ∷ steps) ≡ None
+  goes-on-at input (applied given replies) steps h = refl
+  goes-on-at input (refused given cause) steps h = refl
+  goes-on-at input (swept other) steps h = absurd h
+  goes-on-at input (decoded p) steps h = absurd h
+  goes-on-at input (uncounted p c) steps h = absurd h
+  goes-on-at input (ended cause) steps h = absurd h
+
+module _ {P M D S G : Type 0} (s : Setting P M D) where
+  pub turns-append : (later earlier : List (Step P M D S G)) (past : History P M D (Asker S) (Asker G))
+      → turns s (later ++ earlier) past ≡ turns s earlier past ++ turns s later (happenings earlier ++ past)
+  turns-append [] earlier past = sym (append-nil (turns s earlier past))
+  turns-append (step ∷ later) earlier past =
+      ap (λ ts. ts ++ turns_at s step (happenings (later ++ earlier) ++ past)) (turns-append later earlier past)
+      ∙ append_assoc (turns s earlier past) (turns s later (happenings earlier ++ past)) (turns_at s step (happenings (later ++ earlier) ++ past))
+      ∙ ap (λ hs. turns s earlier past ++ (turns s later (happenings earlier ++ past) ++ turns_at s step hs)) (history-append later earlier past)
+
+  -- a step without a turn has no input
+  silent-at : (step : Step P M D S G) (past : History P M D (Asker S) (Asker G)) → turns_at s step past ≡ [] → inputs_at step ≡ []
+  silent-at (swept test) past h = refl
+  silent-at (applied input replies) past h = absurd (let no : _ ∷ [] ≡ [] = h in cc)
+  silent-at (refused input cause) past h = absurd (let no : _ ∷ [] ≡ [] = h in cc)
+  silent-at (decoded p) past h = refl
+  silent-at (uncounted p c) past h = absurd (let no : _ ∷ [] ≡ [] = h in cc)
+  silent-at (ended cause) past h = refl
+
+  pub silent : (steps : List (Step P M D S G)) (past : History P M D (Asker S) (Asker G)) → turns s steps past ≡ [] → inputs steps ≡ []
+  silent [] past h = refl
+  silent (step ∷ steps) past h =
+      ap (λ is. is ++ inputs_at step) (silent steps past (none-before (turns s steps past) (turns_at s step (happenings steps ++ past)) h))
+      ∙ silent-at step (happenings steps ++ past) (none-after (turns s steps past) (turns_at s step (happenings steps ++ past)) h)
+
+  -- nothing was done
+  pub Tells-none : (past : History P M D (Asker S) (Asker G)) (listed : List Turn) → listed ≡ [] → Tells s past [] listed []
+  Tells-none past listed none = record { turned = sym none; goes_on = refl; read = refl }
+
+  -- the step of an input, after others that have no turn
+  pub Tells-input : (past : History P M D (Asker S) (Asker G)) (input : Input P M S G D) (turn : Turn) (step : Step P M D S G) (steps : List (Step P M D S G)) (peers : List P)
+      → turns s steps past ≡ [] → read_from steps ≡ peers → IsOf input step → turns_at s step (happenings steps ++ past) ≡ turn ∷ [] → Tells s past (step ∷ steps) (turn ∷ []) peers
+  Tells-input past input turn step steps peers none read of_input turned = record {
+    turned = ap (λ ts. ts ++ turns_at s step (happenings steps ++ past)) none ∙ turned;
+    goes_on = goes-on-at input step steps of_input;
+    read = ap (λ ps. read_from steps ++ ps) (reads-none input step of_input) ∙ append-nil (read_from steps) ∙ read;
+  }
+
+  -- steps, and then more
+  pub Tells-more : (past : History P M D (Asker S) (Asker G)) (earlier later : List (Step P M D S G)) (first second : List Turn) (peers more : List P)
+      → Tells s past earlier first peers → Tells s (happenings earlier ++ past) later second more → Tells s past (later ++ earlier) (first ++ second) (peers ++ more)
+  Tells-more past earlier later first second peers more one two = record {
+    turned = turns-append later earlier past ∙ ap (λ ts. ts ++ turns s later (happenings earlier ++ past)) one.turned ∙ ap (λ ts. first ++ ts) two.turned;
+    goes_on = end_of-append later earlier one.goes_on ∙ two.goes_on;
+    read = read_from-append later earlier ∙ ap (λ ps. ps ++ read_from later) one.read ∙ ap (λ ps. peers ++ ps) two.read;
+  }

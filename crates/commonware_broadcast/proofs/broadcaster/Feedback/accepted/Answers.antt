@@ -1,5 +1,0 @@
-use Rattle.std.proofs.Common.{rules}
-use Rattle.commonware_broadcast.proofs.broadcaster.Feedback.accepted.Goals as goal
-
-pub returns-in-Closed : goal.returns-in-Closed
-returns-in-Closed g = search rules

@@ -1,0 +1,125 @@
+use Rattle.std.proofs.Common.{◌≡◌, ◌++◌, ◌∙◌, None, [], ◌∷◌, suc, length, length-append, refl, sym, ap, subst, append-nil, arith}
+use Rattle.broadcast_core.specs.Codec.{whole}
+use Rattle.broadcast_core.specs.Content.{same_by}
+use Rattle.engine_io.specs.Sources.{given}
+use Rattle.commonware_broadcast.specs.EngineState.{TellsEnd, Went}
+use Rattle.commonware_broadcast.specs.EngineHistory.{end_told}
+use Rattle.engine_io.specs.declared.input.Turn.TheVariants.{Ended}
+use Rattle.futures.specs.declared.task.Poll.TheVariants.{Ready, Pending}
+use Rattle.std.specs.List.{All}
+use Rattle.std.proofs.lemmas.List.Elements.{All-push}
+use Rattle.commonware_broadcast.proofs.Going.{Went-still}
+use Rattle.commonware_broadcast.specs.Polls.{Polls}
+use Rattle.commonware_broadcast.proofs.Polls.{Polls-more}
+use Rattle.commonware_broadcast.proofs.Driving.{AlwaysWent-more, Turned-listed, none_unless, no_end}
+use Rattle.commonware_broadcast.proofs.buffered.engine.driver.drive.Goals as goal
+
+pub loop-poll-init : goal.loop-poll-init
+loop-poll-init g c = record {
+  went = λ s e encoding priority own reading past has before held.
+      Went-still s (λ w b. g.S.Responder.may_answer w.responder b) g.O.Outlet.told g.N.Sender.told g.T.Job.Job.is_of g.R.Receiver.told g.B.Provider.told g.Q.Requests.told past before
+      c.args.engine.now c.args.network.now c.in_ok-turns.turns.items has held (λ _. c.in_ok-turns.ensures.items);
+  drove = λ count is.
+      subst (λ n. Polls (same_by g.P.Ord.cmp g.M.Digest.Ord.cmp) g.M.Write.encoding g.M.Digestible.digest_of (λ cfg. whole (g.M.Read.reading cfg)) (λ w b. g.S.Responder.may_answer w.responder b) g.T.Job.Job.is_of g.O.Outlet g.N.Sender g.R.Receiver g.B.Provider g.Q.Requests n c.args.engine.now c.args.engine.now c.args.network.now c.args.network.now c.in_ok-turns.turns.items) (sym is) (refl, refl, c.in_ok-turns.ensures.items);
+  priority = refl;
+  codec_config = refl;
+  strategy = refl;
+  kept = λ fact h. h;
+  unended = λ h. h;
+  going = λ h. absurd (omega (arith, h));
+  still = λ cause at. (refl, refl, refl);
+  none_ends = subst (λ l. All (λ t. end_told t ≡ None) l) (sym c.in_ok-turns.ensures.items) (λ k d h. absurd (omega (arith, h)));
+  short = λ h. absurd (omega (arith, h));
+  few = omega (arith, ap length c.in_ok-turns.ensures.items);
+  fits = omega (arith, c.in_ok-turns.ensures.len);
+  room = c.in_ok-turns.ensures.capacity;
+}
+
+pub push_reserved-requires : goal.push_reserved-requires
+push_reserved-requires g c = omega (arith, c.loop-poll.invariant.fits, c.loop-poll.invariant.room, c.loop-poll-test.true)
+
+pub loop-poll-preserved : goal.loop-poll-preserved
+loop-poll-preserved g c = let at = c.loop-poll.invariant in record {
+  went = (λ s e encoding priority own reading past has before held. subst (λ l. Went s (λ w b. g.S.Responder.may_answer w.responder b) g.O.Outlet.told g.N.Sender.told g.T.Job.Job.is_of g.R.Receiver.told g.B.Provider.told g.Q.Requests.told past before c.args.engine.now c.poll.new.self c.args.network.now c.poll.new.network l) (sym c.push_reserved.ensures.items)
+      (AlwaysWent-more (same_by g.P.Ord.cmp g.M.Digest.Ord.cmp) g.M.Write.encoding g.M.Digestible.digest_of (λ cfg. whole (g.M.Read.reading cfg))
+      (λ w b. g.S.Responder.may_answer w.responder b) g.O.Outlet.told g.N.Sender.told g.T.Job.Job.is_of g.R.Receiver.told g.B.Provider.told g.Q.Requests.told
+      c.args.engine.now c.loop-poll.engine c.poll.new.self c.args.network.now c.loop-poll.network c.poll.new.network c.loop-poll.turns.items (c.in-Ready.turn ∷ [])
+      at.unended at.went at.priority at.codec_config
+      (λ s e encoding priority own reading past has before held. Turned-listed s (λ w b. g.S.Responder.may_answer w.responder b) g.O.Outlet.told g.N.Sender.told g.T.Job.Job.is_of g.R.Receiver.told g.B.Provider.told g.Q.Requests.told
+      past before _ _ _ _ _ (c.in-Ready.turn ∷ []) (ap given c.in-Ready.is) (c.poll.ensures.polled.turned s e encoding priority own reading past has before held))
+      s e encoding priority own reading past has before held));
+  drove = λ count is.
+      let next : suc c.loop-poll._poll ≡ count = omega (arith, is) in
+      subst (λ n. Polls (same_by g.P.Ord.cmp g.M.Digest.Ord.cmp) g.M.Write.encoding g.M.Digestible.digest_of (λ cfg. whole (g.M.Read.reading cfg)) (λ w b. g.S.Responder.may_answer w.responder b) g.T.Job.Job.is_of g.O.Outlet g.N.Sender g.R.Receiver g.B.Provider g.Q.Requests n c.args.engine.now c.poll.new.self c.args.network.now c.poll.new.network c.push_reserved.new.self.items) next
+      (subst (λ l. Polls (same_by g.P.Ord.cmp g.M.Digest.Ord.cmp) g.M.Write.encoding g.M.Digestible.digest_of (λ cfg. whole (g.M.Read.reading cfg)) (λ w b. g.S.Responder.may_answer w.responder b) g.T.Job.Job.is_of g.O.Outlet g.N.Sender g.R.Receiver g.B.Provider g.Q.Requests (suc c.loop-poll._poll) c.args.engine.now c.poll.new.self c.args.network.now c.poll.new.network l) (ap (λ r. c.loop-poll.turns.items ++ given r) c.in-Ready.is ∙ sym c.push_reserved.ensures.items)
+      (Polls-more (same_by g.P.Ord.cmp g.M.Digest.Ord.cmp) g.M.Write.encoding g.M.Digestible.digest_of (λ cfg. whole (g.M.Read.reading cfg)) (λ w b. g.S.Responder.may_answer w.responder b) g.T.Job.Job.is_of g.O.Outlet g.N.Sender g.R.Receiver g.B.Provider g.Q.Requests c.loop-poll._poll c.args.engine.now c.loop-poll.engine c.poll.new.self c.args.network.now c.loop-poll.network c.poll.new.network c.loop-poll.turns.items c.poll.result
+      (at.drove c.loop-poll._poll refl) c.poll.ensures.polled));
+  priority = c.poll.ensures.polled.keeps_priority ∙ at.priority;
+  codec_config = c.poll.ensures.polled.keeps_codec_config ∙ at.codec_config;
+  strategy = c.poll.ensures.polled.keeps_strategy ∙ at.strategy;
+  kept = λ fact h. c.poll.ensures.kept fact (at.kept fact h);
+  unended = λ _. none_unless c.poll.new.self.end (λ cause ended. c.in_default-turn.not-Ended cause (let e : Ready c.in-Ready.turn ≡ Ready (Ended cause) = sym c.in-Ready.is ∙ c.poll.ensures.polled.tells_its_end cause ended in cc));
+  going = λ _. none_unless c.poll.new.self.end (λ cause ended. c.in_default-turn.not-Ended cause (let e : Ready c.in-Ready.turn ≡ Ready (Ended cause) = sym c.in-Ready.is ∙ c.poll.ensures.polled.tells_its_end cause ended in cc));
+  still = λ cause ended. absurd (c.in_default-turn.not-Ended cause (let e : Ready c.in-Ready.turn ≡ Ready (Ended cause) = sym c.in-Ready.is ∙ (c.poll.ensures.polled.same_after_end cause (ap (λ k. k.end) (at.still cause ended).1 ∙ ended)).0 in cc));
+  none_ends = subst (λ l. All (λ t. end_told t ≡ None) l) (sym c.push_reserved.ensures.items) (All-push (λ t. end_told t ≡ None) c.loop-poll.turns.items c.in-Ready.turn at.none_ends (no_end c.in-Ready.turn c.in_default-turn.not-Ended));
+  short = λ h. c.poll.ensures.kept _ (at.short (omega (arith, h, ap length c.push_reserved.ensures.items, length-append c.loop-poll.turns.items (c.in-Ready.turn ∷ []))));
+  few = omega (arith, at.few, ap length c.push_reserved.ensures.items, length-append c.loop-poll.turns.items (c.in-Ready.turn ∷ []));
+  fits = omega (arith, at.fits, c.push_reserved.ensures.len);
+  room = omega (arith, at.room, c.push_reserved.ensures.capacity);
+}
+
+pub loop-poll-preserved-in_default : goal.loop-poll-preserved-in_default
+loop-poll-preserved-in_default g c = let at = c.loop-poll.invariant in record {
+  went = (λ s e encoding priority own reading past has before held. subst (λ l. Went s (λ w b. g.S.Responder.may_answer w.responder b) g.O.Outlet.told g.N.Sender.told g.T.Job.Job.is_of g.R.Receiver.told g.B.Provider.told g.Q.Requests.told past before c.args.engine.now c.poll.new.self c.args.network.now c.poll.new.network l) (append-nil c.loop-poll.turns.items)
+      (AlwaysWent-more (same_by g.P.Ord.cmp g.M.Digest.Ord.cmp) g.M.Write.encoding g.M.Digestible.digest_of (λ cfg. whole (g.M.Read.reading cfg))
+      (λ w b. g.S.Responder.may_answer w.responder b) g.O.Outlet.told g.N.Sender.told g.T.Job.Job.is_of g.R.Receiver.told g.B.Provider.told g.Q.Requests.told
+      c.args.engine.now c.loop-poll.engine c.poll.new.self c.args.network.now c.loop-poll.network c.poll.new.network c.loop-poll.turns.items ([])
+      at.unended at.went at.priority at.codec_config
+      (λ s e encoding priority own reading past has before held. Turned-listed s (λ w b. g.S.Responder.may_answer w.responder b) g.O.Outlet.told g.N.Sender.told g.T.Job.Job.is_of g.R.Receiver.told g.B.Provider.told g.Q.Requests.told
+      past before _ _ _ _ _ ([]) (ap given c.in_default.is) (c.poll.ensures.polled.turned s e encoding priority own reading past has before held))
+      s e encoding priority own reading past has before held));
+  drove = λ count is.
+      let next : suc c.loop-poll._poll ≡ count = omega (arith, is) in
+      subst (λ n. Polls (same_by g.P.Ord.cmp g.M.Digest.Ord.cmp) g.M.Write.encoding g.M.Digestible.digest_of (λ cfg. whole (g.M.Read.reading cfg)) (λ w b. g.S.Responder.may_answer w.responder b) g.T.Job.Job.is_of g.O.Outlet g.N.Sender g.R.Receiver g.B.Provider g.Q.Requests n c.args.engine.now c.poll.new.self c.args.network.now c.poll.new.network c.loop-poll.turns.items) next
+      (subst (λ l. Polls (same_by g.P.Ord.cmp g.M.Digest.Ord.cmp) g.M.Write.encoding g.M.Digestible.digest_of (λ cfg. whole (g.M.Read.reading cfg)) (λ w b. g.S.Responder.may_answer w.responder b) g.T.Job.Job.is_of g.O.Outlet g.N.Sender g.R.Receiver g.B.Provider g.Q.Requests (suc c.loop-poll._poll) c.args.engine.now c.poll.new.self c.args.network.now c.poll.new.network l) (ap (λ r. c.loop-poll.turns.items ++ given r) c.in_default.is ∙ append-nil c.loop-poll.turns.items)
+      (Polls-more (same_by g.P.Ord.cmp g.M.Digest.Ord.cmp) g.M.Write.encoding g.M.Digestible.digest_of (λ cfg. whole (g.M.Read.reading cfg)) (λ w b. g.S.Responder.may_answer w.responder b) g.T.Job.Job.is_of g.O.Outlet g.N.Sender g.R.Receiver g.B.Provider g.Q.Requests c.loop-poll._poll c.args.engine.now c.loop-poll.engine c.poll.new.self c.args.network.now c.loop-poll.network c.poll.new.network c.loop-poll.turns.items c.poll.result
+      (at.drove c.loop-poll._poll refl) c.poll.ensures.polled));
+  priority = c.poll.ensures.polled.keeps_priority ∙ at.priority;
+  codec_config = c.poll.ensures.polled.keeps_codec_config ∙ at.codec_config;
+  strategy = c.poll.ensures.polled.keeps_strategy ∙ at.strategy;
+  kept = λ fact h. c.poll.ensures.kept fact (at.kept fact h);
+  unended = λ _. none_unless c.poll.new.self.end (λ cause ended. let e : Pending ≡ Ready (Ended cause) = sym c.in_default.is ∙ c.poll.ensures.polled.tells_its_end cause ended in cc);
+  going = λ _. none_unless c.poll.new.self.end (λ cause ended. let e : Pending ≡ Ready (Ended cause) = sym c.in_default.is ∙ c.poll.ensures.polled.tells_its_end cause ended in cc);
+  still = λ cause ended. absurd (let e : Pending ≡ Ready (Ended cause) = sym c.in_default.is ∙ (c.poll.ensures.polled.same_after_end cause (ap (λ k. k.end) (at.still cause ended).1 ∙ ended)).0 in cc);
+  none_ends = at.none_ends;
+  short = λ _. c.in_default.ensures.armed;
+  few = omega (arith, at.few);
+  fits = omega (arith, at.fits);
+  room = at.room;
+}
+
+pub returns-in-Ended-clause-went : goal.returns-in-Ended-clause-went
+returns-in-Ended-clause-went g c = let at = c.loop-poll.invariant in
+    (λ s e encoding priority own reading past has before held. subst (λ l. Went s (λ w b. g.S.Responder.may_answer w.responder b) g.O.Outlet.told g.N.Sender.told g.T.Job.Job.is_of g.R.Receiver.told g.B.Provider.told g.Q.Requests.told past before c.args.engine.now c.poll.new.self c.args.network.now c.poll.new.network l) (sym c.push_reserved.ensures.items)
+    (AlwaysWent-more (same_by g.P.Ord.cmp g.M.Digest.Ord.cmp) g.M.Write.encoding g.M.Digestible.digest_of (λ cfg. whole (g.M.Read.reading cfg))
+    (λ w b. g.S.Responder.may_answer w.responder b) g.O.Outlet.told g.N.Sender.told g.T.Job.Job.is_of g.R.Receiver.told g.B.Provider.told g.Q.Requests.told
+    c.args.engine.now c.loop-poll.engine c.poll.new.self c.args.network.now c.loop-poll.network c.poll.new.network c.loop-poll.turns.items (c.in-Ready.turn ∷ [])
+    at.unended at.went at.priority at.codec_config
+    (λ s e encoding priority own reading past has before held. Turned-listed s (λ w b. g.S.Responder.may_answer w.responder b) g.O.Outlet.told g.N.Sender.told g.T.Job.Job.is_of g.R.Receiver.told g.B.Provider.told g.Q.Requests.told
+    past before _ _ _ _ _ (c.in-Ready.turn ∷ []) (ap given c.in-Ready.is) (c.poll.ensures.polled.turned s e encoding priority own reading past has before held))
+    s e encoding priority own reading past has before held))
+
+pub returns-in-Ended-clause-ends_with_last_turn : goal.returns-in-Ended-clause-ends_with_last_turn
+returns-in-Ended-clause-ends_with_last_turn g c = λ _.
+    subst (λ e. TellsEnd e c.push_reserved.new.self.items) (sym (c.poll.ensures.polled.ends_as_told c.in-Ended.field-0 (c.in-Ready.is ∙ ap Ready c.in-Ended.is)))
+    (c.loop-poll.turns.items, c.push_reserved.ensures.items ∙ ap (λ t. c.loop-poll.turns.items ++ t ∷ []) c.in-Ended.is, c.loop-poll.invariant.none_ends)
+
+pub returns-in-Ended-clause-drove : goal.returns-in-Ended-clause-drove
+returns-in-Ended-clause-drove g c = let at = c.loop-poll.invariant in record {
+  count = suc c.loop-poll._poll;
+  polls = (subst (λ l. Polls (same_by g.P.Ord.cmp g.M.Digest.Ord.cmp) g.M.Write.encoding g.M.Digestible.digest_of (λ cfg. whole (g.M.Read.reading cfg)) (λ w b. g.S.Responder.may_answer w.responder b) g.T.Job.Job.is_of g.O.Outlet g.N.Sender g.R.Receiver g.B.Provider g.Q.Requests (suc c.loop-poll._poll) c.args.engine.now c.poll.new.self c.args.network.now c.poll.new.network l) (ap (λ r. c.loop-poll.turns.items ++ given r) c.in-Ready.is ∙ sym c.push_reserved.ensures.items)
+      (Polls-more (same_by g.P.Ord.cmp g.M.Digest.Ord.cmp) g.M.Write.encoding g.M.Digestible.digest_of (λ cfg. whole (g.M.Read.reading cfg)) (λ w b. g.S.Responder.may_answer w.responder b) g.T.Job.Job.is_of g.O.Outlet g.N.Sender g.R.Receiver g.B.Provider g.Q.Requests c.loop-poll._poll c.args.engine.now c.loop-poll.engine c.poll.new.self c.args.network.now c.loop-poll.network c.poll.new.network c.loop-poll.turns.items c.poll.result
+      (at.drove c.loop-poll._poll refl) c.poll.ensures.polled));
+  at_most = omega (arith, c.loop-poll-test.true);
+  all_unless_ended = λ none. absurd (let no = sym none ∙ c.poll.ensures.polled.ends_as_told c.in-Ended.field-0 (c.in-Ready.is ∙ ap Ready c.in-Ended.is) in cc);
+}

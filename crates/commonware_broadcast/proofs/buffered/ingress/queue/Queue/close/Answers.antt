@@ -1,5 +1,0 @@
-use Rattle.std.proofs.Common.{rules}
-use Rattle.commonware_broadcast.proofs.buffered.ingress.queue.Queue.close.Goals as goal
-
-pub returns-clause-after : goal.returns-clause-after
-returns-clause-after g c = search rules

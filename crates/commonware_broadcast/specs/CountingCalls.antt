@@ -1,0 +1,40 @@
+-- What the calls of an engine's counters make of them, for one step.
+use Rattle.std.specs.Prelude.{◌∷◌, length}
+use Rattle.broadcast_core.specs.Setting.{Setting}
+use Rattle.broadcast_core.specs.Happening.{History, cleanup}
+use Rattle.broadcast_core.specs.Waiting.{waiting, awaited}
+use Rattle.broadcast_core.specs.HasContent.{named_by}
+use Rattle.broadcast_core.specs.Answers.{outcome}
+use Rattle.broadcast_core.specs.declared.outcome.Outcome.{Outcome}
+use Rattle.broadcast_core.specs.declared.outcome.Outcome.TheVariants.{Inserted, Duplicate, Ineligible, Oversize}
+use Rattle.engine_io.specs.declared.input.Input.{Input}
+use Rattle.engine_io.specs.declared.input.Input.TheVariants.{Arrived, Invalid}
+use Rattle.engine_io.specs.declared.metrics.Status.TheVariants.{Success, Dropped}
+use Rattle.engine_io.specs.declared.metrics.Status.TheVariants as status
+use Rattle.engine_io.specs.Counters.{Totals, added}
+use Rattle.engine_io.specs.Replies.{Asker}
+use Rattle.engine_io.specs.ReplyCounts.{count_replies}
+use Rattle.commonware_broadcast.specs.EngineHistory.{Step, swept, applied}
+
+-- a message that was received is counted by its outcome
+abbrev pub count_outcome : Outcome → Totals → Totals
+count_outcome Inserted t = record t { receive = added Success 1 t.receive }
+count_outcome Duplicate t = record t { receive = added Dropped 1 t.receive }
+count_outcome Ineligible t = record t { receive = added Dropped 1 t.receive }
+count_outcome Oversize t = record t { receive = added Dropped 1 t.receive }
+
+module _ {P M D S G : Type 0} (s : Setting P M D) where
+  -- what an input counts, besides replies
+  abbrev pub count_input : Input P M S G D → History P M D (Asker S) (Asker G) → Totals → Totals
+  count_input (Arrived p c) past t = count_outcome (outcome s p c past) t
+  count_input (Invalid error) past t = record t { receive = added status.Invalid 1 t.receive }
+  count_input _ past t = t
+
+  -- what a step counts after a history; an end counts nothing
+  abbrev pub count : Step P M D S G → History P M D (Asker S) (Asker G) → Totals → Totals
+  count (swept test) past t = record t {
+    subscribe = added Dropped (named_by test (waiting s past)) t.subscribe;
+    waiters = length (awaited s (cleanup test ∷ past));
+  }
+  count (applied input replies) past t = count_input input past (count_replies replies t)
+  count _ past t = t

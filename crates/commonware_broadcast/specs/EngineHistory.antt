@@ -1,0 +1,125 @@
+-- What an engine did: a list of steps, the newest first, and what is read off it.
+use Rattle.std.specs.Prelude.{◌≡◌, ℕ, Bool, true, List, [], ◌∷◌, ◌++◌, Option, None, Some}
+use Rattle.broadcast_core.specs.Carried.{Carried}
+use Rattle.broadcast_core.specs.Setting.{Setting}
+use Rattle.broadcast_core.specs.Happening.{Happening, History, peers, broadcast, arrival, subscribe, get, cleanup}
+use Rattle.broadcast_core.specs.Answers.{outcome}
+use Rattle.broadcast_core.specs.declared.event.Cause.{Cause}
+use Rattle.broadcast_core.specs.declared.event.Cause.TheVariants.{Memory}
+use Rattle.broadcast_mailbox.specs.declared.buffered.ingress.message.Message.{Message}
+use Rattle.broadcast_mailbox.specs.declared.buffered.ingress.message.Message.TheVariants.{Broadcast, Subscribe, Get}
+use Rattle.engine_io.specs.declared.input.EndCause.{EndCause}
+use Rattle.engine_io.specs.declared.input.Input.{Input}
+use Rattle.engine_io.specs.declared.input.Input.TheVariants.{Peers, Request, Arrived, Invalid}
+use Rattle.engine_io.specs.declared.input.Turn.{Turn}
+use Rattle.engine_io.specs.declared.input.Turn.TheVariants as turn
+use Rattle.engine_io.specs.Replies.{Asker, Replies}
+
+pub data Step (P M D S G : Type 0) : Type 0 where
+  -- the waiters that the test names answered closed, and were dropped
+  swept : (ℕ → Asker S → Bool) → Step P M D S G
+  -- the input was applied, and these replies were handed out
+  applied : Input P M S G D → Replies S G M D → Step P M D S G
+  -- the input was refused, and changed nothing
+  refused : Input P M S G D → Cause → Step P M D S G
+  -- a payload of the peer was decoded
+  decoded : P → Step P M D S G
+  -- a payload of the peer is this message, and was refused for memory before it was counted
+  uncounted : P → Carried M D → Step P M D S G
+  -- the engine ended for this cause, and dropped all waiters
+  ended : EndCause → Step P M D S G
+
+module _ {P M D S G : Type 0} where
+  -- a request, under its ticket
+  abbrev pub asked : ℕ → Message P M S G D → Happening P M D (Asker S) (Asker G)
+  asked ticket (Broadcast r c) = broadcast r c
+  asked ticket (Subscribe d responder) =
+      subscribe (record { ticket = ticket; responder = responder }) d
+  asked ticket (Get d responder) = get (record { ticket = ticket; responder = responder }) d
+
+  -- what happens at an input; a payload that is no message is no happening
+  abbrev pub happening_of : Input P M S G D → History P M D (Asker S) (Asker G)
+  happening_of (Peers ps) = peers ps ∷ []
+  happening_of (Request request) = asked request.ticket request.message ∷ []
+  happening_of (Arrived p c) = arrival p c ∷ []
+  happening_of (Invalid error) = []
+
+  abbrev pub happenings_at : Step P M D S G → History P M D (Asker S) (Asker G)
+  happenings_at (swept test) = cleanup test ∷ []
+  happenings_at (applied input replies) = happening_of input
+  happenings_at (ended cause) = cleanup (λ n w. true) ∷ []
+  happenings_at _ = []
+
+  -- the happenings of the steps, the newest first
+  abbrev pub happenings : List (Step P M D S G) → History P M D (Asker S) (Asker G)
+  happenings [] = []
+  happenings (step ∷ steps) = happenings_at step ++ happenings steps
+
+  abbrev pub inputs_at : Step P M D S G → List (Input P M S G D)
+  inputs_at (applied input replies) = input ∷ []
+  inputs_at (refused input cause) = input ∷ []
+  inputs_at (uncounted p c) = Arrived p c ∷ []
+  inputs_at _ = []
+
+  -- the inputs of the steps, refused ones too, the oldest first
+  abbrev pub inputs : List (Step P M D S G) → List (Input P M S G D)
+  inputs [] = []
+  inputs (step ∷ steps) = inputs steps ++ inputs_at step
+
+  abbrev pub handed_out_at : Step P M D S G → Replies S G M D
+  handed_out_at (applied input replies) = replies
+  handed_out_at _ = []
+
+  -- the replies that were handed out, the oldest first
+  abbrev pub handed_out : List (Step P M D S G) → Replies S G M D
+  handed_out [] = []
+  handed_out (step ∷ steps) = handed_out steps ++ handed_out_at step
+
+  abbrev pub read_from_at : Step P M D S G → List P
+  read_from_at (decoded p) = p ∷ []
+  read_from_at (uncounted p c) = p ∷ []
+  read_from_at _ = []
+
+  -- the senders of the payloads that are messages, counted or not, the oldest first
+  abbrev pub read_from : List (Step P M D S G) → List P
+  read_from [] = []
+  read_from (step ∷ steps) = read_from steps ++ read_from_at step
+
+  -- why the newest step ended the engine, if it did
+  abbrev pub end_of : List (Step P M D S G) → Option EndCause
+  end_of (ended cause ∷ steps) = Some cause
+  end_of _ = None
+
+  -- the oldest step is a cleanup of the waiters that answered closed
+  abbrev pub IsSweptFirst : List (Step P M D S G) → Type 0
+  IsSweptFirst steps = (test : ℕ → Asker S → Bool) × (later : List (Step P M D S G))
+      × (steps ≡ later ++ swept test ∷ [])
+
+module _ {P M D S G : Type 0} (s : Setting P M D) where
+  abbrev pub turn_of_request : Message P M S G D → History P M D (Asker S) (Asker G) → Turn
+  turn_of_request (Broadcast r c) past = turn.Broadcast (outcome s s.own c past)
+  turn_of_request (Subscribe d responder) past = turn.Subscribe
+  turn_of_request (Get d responder) past = turn.Get
+
+  abbrev pub turn_of_input : Input P M S G D → History P M D (Asker S) (Asker G) → Turn
+  turn_of_input (Peers ps) past = turn.Peers
+  turn_of_input (Request request) past = turn_of_request request.message past
+  turn_of_input (Arrived p c) past = turn.Payload (outcome s p c past)
+  turn_of_input (Invalid error) past = turn.Invalid error
+
+  abbrev pub turns_at : Step P M D S G → History P M D (Asker S) (Asker G) → List Turn
+  turns_at (applied input replies) past = turn_of_input input past ∷ []
+  turns_at (refused input cause) past = turn.Refused cause ∷ []
+  turns_at (uncounted p c) past = turn.Refused Memory ∷ []
+  turns_at (ended cause) past = turn.Ended cause ∷ []
+  turns_at _ past = []
+
+  -- the turns of the steps after a history, the oldest first
+  abbrev pub turns : List (Step P M D S G) → History P M D (Asker S) (Asker G) → List Turn
+  turns [] past = []
+  turns (step ∷ steps) past = turns steps past ++ turns_at step (happenings steps ++ past)
+
+-- why the engine ended, if the turn tells that
+abbrev pub end_told : Turn → Option EndCause
+end_told (turn.Ended cause) = Some cause
+end_told _ = None

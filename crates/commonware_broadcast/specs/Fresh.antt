@@ -1,0 +1,31 @@
+-- An engine to which nothing has happened.
+use Rattle.std.specs.Prelude.{[], None}
+use Rattle.commonware_broadcast.specs.declared.buffered.config.Config.{Config}
+use Rattle.engine_io.specs.Counters.{zero_counters}
+use Rattle.commonware_broadcast.specs.EngineState.{EngineState}
+
+-- no primary peers, an empty cache, no waiters, all counters zero, no job, and no end
+abbrev pub fresh : {P M S O D J B Q C T : Type 0} → Config P C B T → Q → O
+    → EngineState P M S O D J B Q C T
+fresh cfg requests outlet = record {
+  node = record {
+    core = record {
+      own = cfg.public_key;
+      deque_size = cfg.deque_size;
+      byte_budget = cfg.byte_budget;
+      primary = [];
+      lists = [];
+      cached = [];
+      waiters = [];
+    };
+    metrics = zero_counters;
+    outlet = outlet;
+  };
+  provider = cfg.peer_provider;
+  requests = requests;
+  job = None;
+  end = None;
+  priority = cfg.priority;
+  codec_config = cfg.codec_config;
+  strategy = cfg.strategy;
+}

@@ -1,0 +1,85 @@
+//! Polls after polls.
+ghost use Rattle.std.specs.Prelude.{◌≡◌, ◌<◌, ◌≤◌, Option, Some, None, [], ◌∷◌, length, IfOk, OnErr};
+ghost use Rattle.std.specs.List.{All};
+ghost use Rattle.futures.specs.Task.{IsArmed, Keeps};
+ghost use Rattle.broadcast_core.specs.Codec.{whole};
+ghost use Rattle.broadcast_core.specs.Content.{same_by};
+ghost use Rattle.broadcast_core.specs.Setting.{Setting};
+ghost use Rattle.broadcast_core.specs.Happening.{History};
+ghost use Rattle.broadcast_core.specs.HasContent.{HasContent};
+ghost use Rattle.engine_io.specs.declared.input.Turn.TheVariants as turn;
+ghost use Rattle.engine_io.specs.declared.input.EndCause.{EndCause};
+ghost use Rattle.engine_io.specs.Replies.{Asker};
+ghost use Rattle.commonware_broadcast.specs.Taken.{Holds};
+ghost use Rattle.commonware_broadcast.specs.Polls.{Drove};
+ghost use Rattle.commonware_broadcast.specs.EngineState.{TellsEnd, Went};
+
+use crate::buffered::engine::state::Engine;
+use crate::buffered::strategy::Strategy;
+use broadcast_core::{Codec, Digestible, PublicKey};
+use broadcast_mailbox::buffered::{Message, Reply, Responder};
+use engine_io::{Outlet, Provider, Receiver, Requests, Sender, Turn};
+use futures::task::{Context, Poll};
+use std::alloc::{AllocError, Global};
+
+/// Polls the engine `limit` times, or until it ends. Returns the turns that were ready, in order.
+///
+/// Fails if the places for the turns can't be allocated, which is tried before the first poll.
+pub fn drive<P, M, S, G, O, B, Q, T, N, R>(
+    alloc: Global,
+    engine: &mut Engine<P, M, S, O, B, Q, T>,
+    cx: &mut Context<'_>,
+    network: &mut (N, R),
+    limit: usize,
+) -> Result<Vec<Turn>, AllocError>
+where
+    P: PublicKey,
+    M: Digestible + Codec,
+    S: Responder<Reply<M>> + Drop,
+    G: Drop,
+    O: Outlet<S, G, Reply<M>, Option<Reply<M>>>,
+    B: Provider<P>,
+    Q: Requests<Message<P, M, S, G>>,
+    T: Strategy<M>,
+    N: Sender<P>,
+    R: Receiver<P>,
+    ensures went { IfOk result (λ turns. (s : Setting P M M.Digest)
+        → s.same ≡ same_by P.cmp M.Digest.cmp
+        → s.encoding ≡ M.encoding → s.priority ≡ engine.old.priority → s.digest_of ≡ M.digest_of
+        → s.reading ≡ whole (M.reading engine.old.codec_config)
+        → (past : History P M M.Digest (Asker S) (Asker G))
+        → HasContent s past engine.old.node.core → (before : Option (P × M))
+        → Holds T.Job.is_of engine.old.end engine.old.job before
+        → Went s (λ w b. S.may_answer w.responder b) O.told N.told T.Job.is_of R.told B.told
+        Q.told past before engine.old engine.new network.old network.new turns.items) }
+    ensures drove { IfOk result (λ turns.
+        Drove (same_by P.cmp M.Digest.cmp) M.encoding M.digest_of (λ cfg. whole (M.reading cfg))
+        (λ w b. S.may_answer w.responder b) T.Job.is_of O.Outlet N.Sender R.Receiver B.Provider
+        Q.Requests limit engine.old engine.new network.old network.new turns.items) }
+    ensures at_most_limit { IfOk result (λ turns. length turns.items ≤ limit) }
+    ensures ends_with_last_turn { IfOk result (λ turns.
+        0 < limit → TellsEnd engine.new.end turns.items) }
+    ensures armed_if_short { IfOk result (λ turns. length turns.items < limit
+        → engine.new.end ≡ None → IsArmed cx.new) }
+    ensures same_after_end { (cause : EndCause) → engine.old.end ≡ Some cause
+        → (engine.new ≡ engine.old) × (network.new ≡ network.old)
+        × IfOk result (λ turns. 0 < limit → turns.items ≡ turn.Ended cause ∷ []) }
+    ensures unchanged_on_error { OnErr result ((engine.new ≡ engine.old)
+        × (network.new ≡ network.old) × (cx.new ≡ cx.old)) }
+    ensures keeps_priority { engine.new.priority ≡ engine.old.priority }
+    ensures keeps_codec_config { engine.new.codec_config ≡ engine.old.codec_config }
+    ensures keeps_strategy { engine.new.strategy ≡ engine.old.strategy }
+    ensures kept { Keeps cx.old cx.new }
+{
+    let mut turns = Vec::with_capacity(alloc, limit)?;
+    for _poll in 0..limit {
+        let Poll::Ready(turn) = engine.poll::<G, N, R>(alloc, cx, network) else {
+            continue;
+        };
+        turns.push_reserved(turn);
+        if let Turn::Ended(_) = turn {
+            return Ok(turns);
+        }
+    }
+    Ok(turns)
+}

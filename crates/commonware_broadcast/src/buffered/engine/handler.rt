@@ -1,0 +1,178 @@
+//! One input.
+ghost use Rattle.std.specs.Prelude.{◌≡◌, ℕ, Bool, true, List, [], is_some, IfOk, OnOk, OnErr};
+ghost use Rattle.broadcast_core.specs.Carried.{Carried};
+ghost use Rattle.broadcast_core.specs.Content.{same_by, message_at};
+ghost use Rattle.broadcast_core.specs.Setting.{Setting};
+ghost use Rattle.broadcast_core.specs.Happening.{History};
+ghost use Rattle.broadcast_core.specs.HasContent.{HasContent};
+ghost use Rattle.broadcast_core.specs.Answers.{outcome};
+ghost use Rattle.broadcast_mailbox.specs.declared.buffered.ingress.message.Message.TheVariants as request;
+ghost use Rattle.engine_io.specs.declared.input.EndCause.{EndCause};
+ghost use Rattle.engine_io.specs.declared.input.Input.TheVariants as input;
+ghost use Rattle.engine_io.specs.Replies.{Asker, Replied, Replies};
+ghost use Rattle.commonware_broadcast.specs.EngineHistory.{applied, swept, ended};
+ghost use Rattle.commonware_broadcast.specs.CountingCalls.{count_outcome};
+ghost use Rattle.commonware_broadcast.specs.Ran.{Steps, requested};
+
+use crate::buffered::engine::node::Node;
+use crate::buffered::engine::take::take;
+use broadcast_core::{Digested, Digestible, EncodeSize, Outcome, PublicKey, Set, Subscribed};
+use broadcast_mailbox::buffered::{Reply, Responder};
+use engine_io::{Metrics, Outlet, Status, Waiter, respond_get, respond_subscribe};
+use std::alloc::{AllocError, Global};
+
+/// Replaces the primary peers.
+pub(super) fn handle_peers<P, M, S, G, O>(node: &mut Node<P, M, S, O>, peers: Set<P>)
+where
+    P: PublicKey,
+    M: Digestible,
+    S: Responder<Reply<M>> + Drop,
+    O: Outlet<S, G, Reply<M>, Option<Reply<M>>>,
+    ensures { (s : Setting P M M.Digest) → s.same ≡ same_by P.cmp M.Digest.cmp
+        → (past : History P M M.Digest (Asker S) (Asker G)) → HasContent s past node.old.core
+        → Steps s (λ w b. S.may_answer w.responder b) O.told past
+        (applied (input.Peers peers) []) node.old node.new }
+{
+    node.core.update_primary_peers(peers);
+}
+
+/// Takes a message of a peer. After an allocation failure nothing has changed.
+pub(super) fn handle_arrival<P, M, S, G, O>(
+    node: &mut Node<P, M, S, O>,
+    alloc: Global,
+    peer: &P,
+    message: &Digested<M>,
+) -> Result<Outcome, AllocError>
+where
+    P: PublicKey,
+    M: Digestible + EncodeSize,
+    S: Responder<Reply<M>> + Drop,
+    O: Outlet<S, G, Reply<M>, Option<Reply<M>>>,
+    ensures steps { IfOk result (λ out. (replies : Replies S G M M.Digest)
+        × ((s : Setting P M M.Digest) → s.same ≡ same_by P.cmp M.Digest.cmp
+        → s.encoding ≡ M.encoding
+        → (past : History P M M.Digest (Asker S) (Asker G)) → HasContent s past node.old.core
+        → (out ≡ outcome s peer.now message.now past)
+        × Steps s (λ w b. S.may_answer w.responder b) O.told past
+        (applied (input.Arrived peer.now message.now) replies) node.old node.new)) }
+    ensures unchanged_on_error { OnErr result (node.new ≡ node.old) }
+{
+    let outcome = take(node, alloc, peer, message)?;
+    count_received(&mut node.metrics, outcome);
+    Ok(outcome)
+}
+
+/// Answers a subscribe from the cache, or lets it wait. After an allocation failure nothing has
+/// changed, and the responder is dropped.
+pub(super) fn handle_subscribe<P, M, S, G, O>(
+    node: &mut Node<P, M, S, O>,
+    ticket: u64,
+    responder: S,
+    digest: M::Digest,
+) -> Result<(), AllocError>
+where
+    P: PublicKey,
+    M: Digestible,
+    S: Responder<Reply<M>> + Drop,
+    O: Outlet<S, G, Reply<M>, Option<Reply<M>>>,
+    ensures steps { OnOk result ((replies : Replies S G M M.Digest)
+        × ((s : Setting P M M.Digest) → s.same ≡ same_by P.cmp M.Digest.cmp
+        → (past : History P M M.Digest (Asker S) (Asker G)) → HasContent s past node.old.core
+        → (counted : Bool) → Steps s (λ w b. S.may_answer w.responder b) O.told past
+        (applied (requested ticket counted (request.Subscribe digest responder)) replies)
+        node.old node.new)) }
+    ensures unchanged_on_error { OnErr result (node.new ≡ node.old) }
+{
+    match node.core.subscribe(digest, Waiter::new(ticket, responder)) {
+        Ok(Subscribed::Answered(waiter, message)) => {
+            respond_subscribe(&mut node.metrics, &mut node.outlet, waiter, message);
+            Ok(())
+        }
+        Ok(Subscribed::Waiting) => Ok(()),
+        Err(_) => Err(AllocError),
+    }
+}
+
+/// Answers a get from the cache. After an allocation failure nothing has changed, and the responder
+/// is dropped.
+pub(super) fn handle_get<P, M, S, G, O>(
+    node: &mut Node<P, M, S, O>,
+    ticket: u64,
+    responder: G,
+    digest: M::Digest,
+) -> Result<(), AllocError>
+where
+    P: PublicKey,
+    M: Digestible,
+    S: Responder<Reply<M>> + Drop,
+    G: Drop,
+    O: Outlet<S, G, Reply<M>, Option<Reply<M>>>,
+    ensures steps { OnOk result ((replies : Replies S G M M.Digest)
+        × ((s : Setting P M M.Digest) → s.same ≡ same_by P.cmp M.Digest.cmp
+        → (past : History P M M.Digest (Asker S) (Asker G)) → HasContent s past node.old.core
+        → (counted : Bool) → Steps s (λ w b. S.may_answer w.responder b) O.told past
+        (applied (requested ticket counted (request.Get digest responder)) replies)
+        node.old node.new)) }
+    ensures unchanged_on_error { OnErr result (node.new ≡ node.old) }
+    ensures fails_only_if_cached { OnErr result
+        (is_some (message_at (same_by P.cmp M.Digest.cmp) node.old.core digest) ≡ true) }
+{
+    let found = match node.core.get(&digest) {
+        Some(message) => Some(message.clone()?),
+        None => None,
+    };
+    respond_get(
+        &mut node.metrics,
+        &mut node.outlet,
+        ticket,
+        responder,
+        found,
+    );
+    Ok(())
+}
+
+/// Counts a message of a peer by its outcome.
+fn count_received<P: PublicKey>(metrics: &mut Metrics<P>, outcome: Outcome)
+    ensures { metrics.new
+        ≡ record metrics.old { totals = count_outcome outcome metrics.old.totals } }
+{
+    match outcome {
+        Outcome::Inserted => metrics.count_receive(Status::Success),
+        Outcome::Duplicate | Outcome::Ineligible | Outcome::Oversize => {
+            metrics.count_receive(Status::Dropped)
+        }
+    }
+}
+
+/// Drops the waiters that answer closed, counts them, and sets the gauge. Does not allocate.
+pub(super) fn cleanup_waiters<P, M, S, G, O>(node: &mut Node<P, M, S, O>)
+where
+    P: PublicKey,
+    M: Digestible,
+    S: Responder<Reply<M>> + Drop,
+    O: Outlet<S, G, Reply<M>, Option<Reply<M>>>,
+    ensures { (s : Setting P M M.Digest) → s.same ≡ same_by P.cmp M.Digest.cmp
+        → (past : History P M M.Digest (Asker S) (Asker G)) → HasContent s past node.old.core
+        → (test : ℕ → Asker S → Bool)
+        × Steps s (λ w b. S.may_answer w.responder b) O.told past (swept test) node.old node.new }
+{
+    let dropped = node.core.cleanup_by();
+    node.metrics.count_subscribe(Status::Dropped, dropped);
+    node.metrics.set_waiters(node.core.awaited() as u64);
+}
+
+/// Drops all waiters, and counts none. Does not allocate.
+pub(super) fn drop_waiters<P, M, S, G, O>(node: &mut Node<P, M, S, O>)
+where
+    P: PublicKey,
+    M: Digestible,
+    S: Responder<Reply<M>> + Drop,
+    O: Outlet<S, G, Reply<M>, Option<Reply<M>>>,
+    ensures ended { (s : Setting P M M.Digest) → s.same ≡ same_by P.cmp M.Digest.cmp
+        → (past : History P M M.Digest (Asker S) (Asker G)) → HasContent s past node.old.core
+        → (cause : EndCause)
+        → Steps s (λ w b. S.may_answer w.responder b) O.told past (ended cause) node.old node.new }
+    ensures counts_none { node.new.metrics ≡ node.old.metrics }
+{
+    node.core.clear_waiters();
+}

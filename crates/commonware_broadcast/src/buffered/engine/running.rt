@@ -1,0 +1,110 @@
+//! An engine that runs until it ends.
+ghost use Rattle.std.specs.Prelude.{◌≡◌, true, Some, None, Ok};
+ghost use Rattle.futures.specs.declared.task.Poll.TheVariants.{Ready};
+ghost use Rattle.futures.specs.Poll.{OnPending};
+ghost use Rattle.futures.specs.Task.{IsArmed, Keeps};
+ghost use Rattle.broadcast_core.specs.Codec.{whole};
+ghost use Rattle.broadcast_core.specs.Content.{same_by};
+ghost use Rattle.engine_io.specs.declared.input.EndCause.{EndCause};
+ghost use Rattle.commonware_broadcast.specs.Polls.{Took};
+
+use crate::buffered::engine::state::Engine;
+use crate::buffered::strategy::Strategy;
+use broadcast_core::{Codec, Digestible, PublicKey};
+use broadcast_mailbox::buffered::{Message, Reply, Responder};
+use engine_io::{EndCause, Outlet, Provider, Receiver, Requests, Sender, Turn};
+use futures::task::{Context, Doorbell, Poll, Queue};
+use std::alloc::{AllocGlobal, Global};
+use std::io;
+use std::random::RandomSource;
+use std::sync::Wait;
+
+/// The turns that a poll takes at most before it lets other tasks run.
+const TURNS: u64 = 128;
+
+/// Polls the engine until it ends, until it is pending, or, if `until_idle`, until it has no job.
+fn poll_turns<P, M, S, G, O, B, Q, T, N, R>(
+    engine: &mut Engine<P, M, S, O, B, Q, T>,
+    alloc: Global,
+    network: &mut (N, R),
+    cx: &mut Context<'_>,
+    until_idle: bool,
+) -> Poll<Option<EndCause>>
+where
+    P: PublicKey,
+    M: Digestible + Codec,
+    S: Responder<Reply<M>> + Drop,
+    G: Drop,
+    O: Outlet<S, G, Reply<M>, Option<Reply<M>>>,
+    B: Provider<P>,
+    Q: Requests<Message<P, M, S, G>>,
+    T: Strategy<M>,
+    N: Sender<P>,
+    R: Receiver<P>,
+    ensures took { Took (same_by P.cmp M.Digest.cmp) M.encoding M.digest_of
+        (λ cfg. whole (M.reading cfg)) (λ w b. S.may_answer w.responder b) T.Job.is_of
+        O.Outlet N.Sender R.Receiver B.Provider Q.Requests
+        engine.old engine.new network.old network.new }
+    ensures ended { (cause : EndCause) → result ≡ Ready (Some cause)
+        → engine.new.end ≡ Some cause }
+    ensures idle { result ≡ Ready None → (until_idle ≡ true) × (engine.new.job ≡ None) }
+    ensures armed { OnPending result (IsArmed cx.new) }
+    ensures kept { Keeps cx.old cx.new }
+{
+    for _ in 0..TURNS {
+        if until_idle && engine.job.is_none() {
+            return Poll::Ready(None);
+        }
+        match engine.poll::<G, N, R>(alloc, cx, network) {
+            Poll::Ready(Turn::Ended(cause)) => return Poll::Ready(Some(cause)),
+            Poll::Ready(_) => {}
+            Poll::Pending => return Poll::Pending,
+        }
+    }
+    cx.yield_now()
+}
+
+/// Runs the engine until it ends, or, if `until_idle`, until it has no job. Returns the cause of
+/// its end, if it ended. If the thread can't wait, the engine stays as its polls left it.
+pub(super) fn run_turns<P, M, S, G, O, B, Q, T, N, R, W>(
+    rt: &W,
+    engine: &mut Engine<P, M, S, O, B, Q, T>,
+    network: &mut (N, R),
+    until_idle: bool,
+) -> io::Result<Option<EndCause>>
+where
+    P: PublicKey,
+    M: Digestible + Codec,
+    S: Responder<Reply<M>> + Drop,
+    G: Drop,
+    O: Outlet<S, G, Reply<M>, Option<Reply<M>>>,
+    B: Provider<P>,
+    Q: Requests<Message<P, M, S, G>>,
+    T: Strategy<M>,
+    N: Sender<P>,
+    R: Receiver<P>,
+    W: Wait + RandomSource + AllocGlobal,
+    ensures took { Took (same_by P.cmp M.Digest.cmp) M.encoding M.digest_of
+        (λ cfg. whole (M.reading cfg)) (λ w b. S.may_answer w.responder b) T.Job.is_of
+        O.Outlet N.Sender R.Receiver B.Provider Q.Requests
+        engine.old engine.new network.old network.new }
+    ensures ended { (cause : EndCause) → result ≡ Ok (Some cause) → engine.new.end ≡ Some cause }
+    ensures idle { result ≡ Ok None → (until_idle ≡ true) × (engine.new.job ≡ None) }
+{
+    let alloc = rt.alloc();
+    let queue = Queue::new(rt, Doorbell::parking())?;
+    queue.add()?.schedule();
+    for _ in rt.forever() {
+        let Some(mut cx) = queue.next(rt) else {
+            return Err(io::Error::other("the queue of an engine was shut down"));
+        };
+        let polled = poll_turns::<P, M, S, G, O, B, Q, T, N, R>(
+            engine, alloc, network, &mut cx, until_idle,
+        );
+        cx.end(&polled);
+        if let Poll::Ready(cause) = polled {
+            return Ok(cause);
+        }
+    }
+    unreachable!()
+}

@@ -1,0 +1,224 @@
+//! The engine: its polls, and its end.
+ghost use Rattle.std.specs.Prelude.{◌≡◌, Option, Some, None, []};
+ghost use Rattle.futures.specs.Poll.{OnPending};
+ghost use Rattle.futures.specs.Task.{IsArmed, Keeps};
+ghost use Rattle.broadcast_core.specs.Codec.{whole};
+ghost use Rattle.broadcast_core.specs.Content.{same_by};
+ghost use Rattle.broadcast_core.specs.Setting.{Setting};
+ghost use Rattle.broadcast_core.specs.Happening.{History};
+ghost use Rattle.broadcast_core.specs.HasContent.{HasContent};
+ghost use Rattle.engine_io.specs.declared.input.Turn.TheVariants as turn;
+ghost use Rattle.engine_io.specs.declared.input.EndCause.{EndCause};
+ghost use Rattle.engine_io.specs.Replies.{Asker};
+ghost use Rattle.commonware_broadcast.specs.EngineHistory.{end_told};
+ghost use Rattle.commonware_broadcast.specs.Ran.{Applied};
+ghost use Rattle.commonware_broadcast.specs.Polls.{IsPoll};
+ghost use Rattle.commonware_broadcast.specs.Fresh.{fresh};
+ghost use Rattle.commonware_broadcast.specs.Waits.{Waits};
+
+use crate::buffered::config::Config;
+use crate::buffered::engine::apply::apply;
+use crate::buffered::engine::handler::drop_waiters;
+use crate::buffered::engine::job::clear;
+use crate::buffered::engine::node::Node;
+use crate::buffered::engine::open::poll_open;
+use crate::buffered::strategy::Strategy;
+use broadcast_core::{Codec, Core, Digestible, PublicKey};
+use broadcast_mailbox::buffered::{Message, Reply, Responder};
+use engine_io::{EndCause, Input, Metrics, Outlet, Provider, Receiver, Requests, Sender, Turn};
+use futures::task::{Context, Poll};
+use std::alloc::Global;
+use std::marker::Model;
+
+/// An engine: it applies requests, peer sets and payloads to the cache of a node, one at a poll.
+#[derive(Drop)]
+pub struct Engine<P: PublicKey, M: Digestible + Codec, S, O, B, Q, T: Strategy<M>> {
+    pub(super) node: Node<P, M, S, O>,
+    pub(super) provider: B,
+    pub(super) requests: Q,
+    pub(super) job: Option<(P, T::Job)>,
+    pub(super) end: Option<EndCause>,
+    pub(super) priority: bool,
+    pub(super) codec_config: M::Cfg,
+    pub(super) strategy: T,
+}
+
+impl<P: PublicKey, M: Digestible + Codec, S, O, B, Q, T: Strategy<M>> Model
+    for Engine<P, M, S, O, B, Q, T> {
+    ghost use Rattle.commonware_broadcast.specs.EngineState.{EngineState};
+
+    ghost Value = { EngineState P M S O M.Digest T.Job B Q M.Cfg T };
+
+    ghost view = { λ it. record {
+      node = it.node;
+      provider = it.provider;
+      requests = it.requests;
+      job = it.job;
+      end = it.end;
+      priority = it.priority;
+      codec_config = it.codec_config;
+      strategy = it.strategy;
+    } };
+}
+
+impl<P: PublicKey, M: Digestible + Codec, S, O, B, Q, T: Strategy<M>> Engine<P, M, S, O, B, Q, T> {
+    /// Creates an engine to which nothing has happened, over these requests. Does not allocate.
+    pub fn over(alloc: Global, cfg: Config<P, M::Cfg, B, T>, requests: Q, outlet: O) -> Self
+    where
+        S: Drop,
+        ensures { result ≡ fresh cfg requests outlet }
+    {
+        let Config {
+            public_key,
+            mailbox_size: _,
+            deque_size,
+            byte_budget,
+            priority,
+            codec_config,
+            peer_provider,
+            strategy,
+        } = cfg;
+        Engine {
+            node: Node {
+                core: Core::new(alloc, public_key, deque_size, byte_budget),
+                metrics: Metrics::init(alloc),
+                outlet,
+            },
+            provider: peer_provider,
+            requests,
+            job: None,
+            end: None,
+            priority,
+            codec_config,
+            strategy,
+        }
+    }
+
+    /// Returns where replies go.
+    pub fn outlet(&self) -> &O
+        ensures { result.now ≡ self.now.node.outlet }
+    {
+        &self.node.outlet
+    }
+
+    /// Returns what gives the primary peers.
+    pub fn provider(&self) -> &B
+        ensures { result.now ≡ self.now.provider }
+    {
+        &self.provider
+    }
+
+    /// Returns where requests come from.
+    pub fn requests(&self) -> &Q
+        ensures { result.now ≡ self.now.requests }
+    {
+        &self.requests
+    }
+
+    /// Returns the counters.
+    pub fn metrics(&self) -> &Metrics<P>
+        ensures { result.now ≡ self.now.node.metrics }
+    {
+        &self.node.metrics
+    }
+
+    /// Applies one input. After an end the input is dropped, and the turn is that end.
+    ///
+    /// `Input::Invalid` is for a payload that is no message, so not for `CodecError::Memory`.
+    pub fn apply<G, N>(&mut self, alloc: Global, input: Input<P, M, S, G>, sender: &mut N) -> Turn
+    where
+        S: Responder<Reply<M>> + Drop,
+        G: Drop,
+        O: Outlet<S, G, Reply<M>, Option<Reply<M>>>,
+        N: Sender<P>,
+        ensures applied { self.old.end ≡ None
+            → (s : Setting P M M.Digest) → s.same ≡ same_by P.cmp M.Digest.cmp
+            → s.encoding ≡ M.encoding → s.priority ≡ self.old.priority
+            → (past : History P M M.Digest (Asker S) (Asker G))
+            → HasContent s past self.old.node.core
+            → Applied s (λ w b. S.may_answer w.responder b) O.told N.told past input result
+            self.old.node self.new.node sender.old sender.new }
+        ensures same_after_end { (cause : EndCause) → self.old.end ≡ Some cause
+            → (result ≡ turn.Ended cause) × (self.new ≡ self.old) × (sender.new ≡ sender.old) }
+        ensures tells_no_end { self.old.end ≡ None → end_told result ≡ None }
+        ensures keeps_all_else { self.new ≡ record self.old { node = self.new.node } }
+    {
+        match self.end {
+            Some(cause) => {
+                drop::<_>(input);
+                Turn::Ended(cause)
+            }
+            None => apply(&mut self.node, sender, alloc, self.priority, input),
+        }
+    }
+
+    /// Does what an end does: closes the requests, and drops all waiters.
+    pub fn close<G>(mut self)
+    where
+        S: Drop,
+        O: Drop,
+        B: Drop,
+        Q: Requests<Message<P, M, S, G>> + Drop,
+        T: Drop,
+        M::Cfg: Drop,
+    {
+        self.requests.close();
+        drop::<_>(self);
+    }
+
+    /// Polls the engine. It takes at most one input: a peer set, or else a request, or else a
+    /// payload. A stop, the end of the peer sets and a failure of the network end it, and every
+    /// later poll returns the same. A pending poll has registered with each source that it looked
+    /// at.
+    pub fn poll<G, N, R>(
+        &mut self,
+        alloc: Global,
+        cx: &mut Context<'_>,
+        network: &mut (N, R),
+    ) -> Poll<Turn>
+    where
+        S: Responder<Reply<M>> + Drop,
+        G: Drop,
+        O: Outlet<S, G, Reply<M>, Option<Reply<M>>>,
+        N: Sender<P>,
+        R: Receiver<P>,
+        B: Provider<P>,
+        Q: Requests<Message<P, M, S, G>>,
+        ensures polled { IsPoll (same_by P.cmp M.Digest.cmp) M.encoding M.digest_of
+            (λ cfg. whole (M.reading cfg)) (λ w b. S.may_answer w.responder b) T.Job.is_of
+            O.Outlet N.Sender R.Receiver B.Provider Q.Requests
+            self.old self.new network.old network.new result }
+        ensures waits { OnPending result (Waits T.Job.needs R.Receiver B.Provider Q.Requests
+            cx.new self.old self.new network.new) }
+        ensures armed { OnPending result (IsArmed cx.new) }
+        ensures kept { Keeps cx.old cx.new }
+    {
+        if let Some(cause) = self.end {
+            return Poll::Ready(Turn::Ended(cause));
+        }
+        let result = poll_open(
+            &mut self.node,
+            &mut self.provider,
+            &mut self.requests,
+            &mut network.0,
+            &mut network.1,
+            &mut self.job,
+            cx,
+            alloc,
+            self.priority,
+            &self.strategy,
+            &self.codec_config,
+        );
+        match result {
+            Poll::Ready(Ok(turn)) => Poll::Ready(turn),
+            Poll::Ready(Err(cause)) => {
+                self.requests.close();
+                drop_waiters(&mut self.node);
+                clear(&mut self.job);
+                self.end = Some(cause);
+                Poll::Ready(Turn::Ended(cause))
+            }
+            Poll::Pending => Poll::Pending,
+        }
+    }
+}

@@ -1,0 +1,282 @@
+//! An engine that runs in a thread of its own.
+ghost use Rattle.std.specs.Prelude.{◌≡◌, ◌+◌, ◌↔◌, true, false, Some, None, is_err, IfOk, OnOk, IfErr};
+ghost use Rattle.broadcast_core.specs.Codec.{whole};
+ghost use Rattle.broadcast_core.specs.Content.{same_by};
+ghost use Rattle.commonware_broadcast.specs.Parts.{ready_engine};
+ghost use Rattle.commonware_broadcast.specs.Polls.{Left, Settled as IsSettled, Took};
+ghost use Rattle.broadcast_mailbox.specs.Watch.{BroadcastsOnly};
+
+use crate::buffered::engine::parts::Parts;
+use crate::buffered::engine::running::run_turns;
+use crate::buffered::engine::state::Engine;
+use crate::buffered::strategy::Strategy;
+use broadcast_core::{Codec, Digestible, PublicKey};
+use broadcast_mailbox::buffered::{
+    Account, Bookkeeping, Books, Ingress, Message, Reply, Responder, Settled, Stopper, Tally, Watch,
+};
+use engine_io::{EndCause, Metrics, Outlet, Provider, Receiver, Requests, Sender};
+use std::alloc::AllocGlobal;
+use std::random::RandomSource;
+use std::sync::Wait;
+use std::thread;
+use std::thread::{JoinHandle, Threads};
+use thiserror::Error;
+
+/// Why an engine was not started. It is given up then, and its mailbox is closed.
+#[derive(Clone, Copy, Debug, PartialEq, Eq, Error)]
+pub enum StartError {
+    /// An allocation failed.
+    #[error("out of memory")]
+    Memory,
+    /// No thread could be started.
+    #[error("no thread could be started")]
+    Spawn,
+}
+
+/// What a started engine leaves.
+#[derive(Drop)]
+pub struct Report<P: PublicKey, Q> {
+    cause: EndCause,
+    metrics: Metrics<P>,
+    requests: Q,
+}
+
+impl<P: PublicKey, Q> Report<P, Q> {
+    /// Returns why the engine ended.
+    pub fn cause(&self) -> EndCause
+        ensures { result ≡ self.now.cause }
+    {
+        self.cause
+    }
+
+    /// Returns the counters.
+    pub fn metrics(&self) -> &Metrics<P>
+        ensures { result.now ≡ self.now.metrics }
+    {
+        &self.metrics
+    }
+}
+
+impl<P, M, S, G, R, A, K, V> Report<P, Ingress<Message<P, M, S, G>, R, Books<A, K, V, M::Digest>>>
+where
+    P: PublicKey,
+    M: Digestible,
+    S: Responder<Reply<M>> + Drop,
+    G: Responder<Option<Reply<M>>> + Drop,
+    R: Wait + Drop,
+    A: Account,
+    K: Account,
+    V: Watch<M::Digest>,
+{
+    /// Tells what became of the counted requests, of which none is left. Fails only if the tally
+    /// lacks a part.
+    pub fn settle(self, tally: Tally<A>) -> Result<Settled, (Self, Tally<A>)>
+        requires accounts { (A.all ≡ A.parts) × (K.all ≡ K.parts) }
+        ensures whole { (is_err result ≡ false) ↔ (tally.parts ≡ A.parts) }
+        ensures accepted { IfOk result (λ settled. tally.accepted ≡ settled.applied
+            + settled.refused + settled.skipped + settled.given_up) }
+        ensures taken { IfOk result (λ settled.
+            settled.applied + settled.refused ≡ self.requests.taken) }
+        ensures broadcasts { IfOk result (λ settled.
+            BroadcastsOnly V.watched → settled.skipped ≡ 0) }
+        ensures unchanged_on_error { IfErr result (λ both. (both.0 ≡ self) × (both.1 ≡ tally)) }
+    {
+        let Report {
+            cause,
+            metrics,
+            requests,
+        } = self;
+        match requests.settle(tally) {
+            Ok(settled) => {
+                drop::<_>(metrics);
+                Ok(settled)
+            }
+            Err((requests, tally)) => {
+                let report = Report {
+                    cause,
+                    metrics,
+                    requests,
+                };
+                Err((report, tally))
+            }
+        }
+    }
+}
+
+/// An engine without a job, with its network, which may move to the thread that runs it.
+#[derive(Drop)]
+pub struct Ready<P: PublicKey, M: Digestible, S, O, B, Q, C, T, N, V, R> {
+    parts: Parts<P, M, S, O, B, Q, C, T>,
+    network: (N, V),
+    rt: R,
+}
+
+/// Makes an engine ready for its thread: a job that is pending is finished, since a job may not
+/// move to another thread. After an error the engine has ended, and its requests are closed.
+pub fn make_ready<P, M, S, G, O, B, Q, T, N, V, R>(
+    rt: &R,
+    engine: Engine<P, M, S, O, B, Q, T>,
+    network: (N, V),
+) -> Result<Ready<P, M, S, O, B, Q, M::Cfg, T, N, V, R>, StartError>
+where
+    P: PublicKey,
+    M: Digestible + Codec,
+    M::Cfg: Drop,
+    S: Responder<Reply<M>> + Drop,
+    G: Drop,
+    O: Outlet<S, G, Reply<M>, Option<Reply<M>>> + Drop,
+    B: Provider<P> + Drop,
+    Q: Requests<Message<P, M, S, G>> + Drop,
+    T: Strategy<M> + Drop,
+    N: Sender<P> + Drop,
+    V: Receiver<P> + Drop,
+    R: Wait + RandomSource + AllocGlobal + Clone + Drop,
+    ensures { IfOk result (λ ready. IsSettled (same_by P.cmp M.Digest.cmp) M.encoding M.digest_of
+        (λ cfg. whole (M.reading cfg)) (λ w b. S.may_answer w.responder b) T.Job.is_of
+        O.Outlet N.Sender V.Receiver B.Provider Q.Requests
+        engine (ready_engine ready) network ready.network) }
+{
+    let mut engine = engine;
+    let mut network = network;
+    match settle::<P, M, S, G, O, B, Q, T, N, V, R>(rt, &mut engine, &mut network) {
+        Ok(rt) => Ok(Ready {
+            parts: engine.into_parts(),
+            network,
+            rt,
+        }),
+        Err(error) => {
+            drop::<_>(engine);
+            drop::<_>(network);
+            Err(error)
+        }
+    }
+}
+
+/// Finishes the job, and returns the handle of the engine's thread. After an error the engine has
+/// ended.
+fn settle<P, M, S, G, O, B, Q, T, N, V, R>(
+    rt: &R,
+    engine: &mut Engine<P, M, S, O, B, Q, T>,
+    network: &mut (N, V),
+) -> Result<R, StartError>
+where
+    P: PublicKey,
+    M: Digestible + Codec,
+    S: Responder<Reply<M>> + Drop,
+    G: Drop,
+    O: Outlet<S, G, Reply<M>, Option<Reply<M>>>,
+    B: Provider<P>,
+    Q: Requests<Message<P, M, S, G>>,
+    T: Strategy<M>,
+    N: Sender<P>,
+    V: Receiver<P>,
+    R: Wait + RandomSource + AllocGlobal + Clone,
+    ensures took { OnOk result (Took (same_by P.cmp M.Digest.cmp) M.encoding M.digest_of
+        (λ cfg. whole (M.reading cfg)) (λ w b. S.may_answer w.responder b) T.Job.is_of
+        O.Outlet N.Sender V.Receiver B.Provider Q.Requests
+        engine.old engine.new network.old network.new) }
+    ensures settled { OnOk result (engine.new.end ≡ None → engine.new.job ≡ None) }
+{
+    if run_turns::<P, M, S, G, O, B, Q, T, N, V, R>(rt, engine, network, true).is_ok() {
+        if let Ok(own) = rt.clone() {
+            return Ok(own);
+        }
+    }
+    engine.give_up::<G>(EndCause::WaitFailed);
+    Err(StartError::Memory)
+}
+
+/// Runs the engine until it ends. Returns what it leaves.
+pub fn run<P, M, S, G, O, B, Q, T, N, V, R>(
+    ready: Ready<P, M, S, O, B, Q, M::Cfg, T, N, V, R>,
+) -> Report<P, Q>
+where
+    P: PublicKey,
+    M: Digestible + Codec,
+    M::Cfg: Drop,
+    S: Responder<Reply<M>> + Drop,
+    G: Drop,
+    O: Outlet<S, G, Reply<M>, Option<Reply<M>>> + Drop,
+    B: Provider<P> + Drop,
+    Q: Requests<Message<P, M, S, G>> + Drop,
+    T: Strategy<M> + Drop,
+    N: Sender<P> + Drop,
+    V: Receiver<P> + Drop,
+    R: Wait + RandomSource + AllocGlobal + Drop,
+    ensures left { Left (same_by P.cmp M.Digest.cmp) M.encoding M.digest_of
+        (λ cfg. whole (M.reading cfg)) (λ w b. S.may_answer w.responder b) T.Job.is_of
+        O.Outlet N.Sender V.Receiver B.Provider Q.Requests
+        (ready_engine ready) ready.network result.cause result.metrics }
+{
+    let Ready { parts, network, rt } = ready;
+    let mut engine = Engine::from_parts(parts);
+    let mut network = network;
+    let cause = run_until_end::<P, M, S, G, O, B, Q, T, N, V, R>(&rt, &mut engine, &mut network);
+    drop::<_>(network);
+    drop::<_>(rt);
+    let (metrics, requests) = engine.into_metrics();
+    Report {
+        cause,
+        metrics,
+        requests,
+    }
+}
+
+/// Runs the engine until it ends, and returns why. If its thread can't wait, it is given up.
+fn run_until_end<P, M, S, G, O, B, Q, T, N, V, R>(
+    rt: &R,
+    engine: &mut Engine<P, M, S, O, B, Q, T>,
+    network: &mut (N, V),
+) -> EndCause
+where
+    P: PublicKey,
+    M: Digestible + Codec,
+    S: Responder<Reply<M>> + Drop,
+    G: Drop,
+    O: Outlet<S, G, Reply<M>, Option<Reply<M>>>,
+    B: Provider<P>,
+    Q: Requests<Message<P, M, S, G>>,
+    T: Strategy<M>,
+    N: Sender<P>,
+    V: Receiver<P>,
+    R: Wait + RandomSource + AllocGlobal,
+    ensures left { Left (same_by P.cmp M.Digest.cmp) M.encoding M.digest_of
+        (λ cfg. whole (M.reading cfg)) (λ w b. S.may_answer w.responder b) T.Job.is_of
+        O.Outlet N.Sender V.Receiver B.Provider Q.Requests
+        engine.old network.old result engine.new.node.metrics }
+    ensures ends { engine.new.end ≡ Some result }
+{
+    match run_turns::<P, M, S, G, O, B, Q, T, N, V, R>(rt, engine, network, false) {
+        Ok(Some(cause)) => cause,
+        _ => {
+            engine.give_up::<G>(EndCause::WaitFailed);
+            EndCause::WaitFailed
+        }
+    }
+}
+
+/// Starts a thread that does `work`, the run of an engine whose mailbox has this stopper. If no
+/// thread can be started, the engine is stopped and ends at once, on the calling thread.
+pub fn spawn<A, F, I, R, B>(
+    rt: &R,
+    work: F,
+    stopper: &Stopper<I, R, B>,
+) -> Result<JoinHandle<A>, StartError>
+where
+    A: Send + Drop + 'static,
+    F: FnOnce() -> A + Send + 'static,
+    R: Threads + Wait,
+    B: Bookkeeping,
+    requires { F.pre work }
+{
+    match thread::spawn(rt, work) {
+        Ok(thread) => Ok(thread),
+        Err(refused) => {
+            // A stop is looked at first, so this run ends the engine at once.
+            stopper.request_stop();
+            let work = refused.value;
+            drop(work());
+            Err(StartError::Spawn)
+        }
+    }
+}

@@ -1,0 +1,142 @@
+//! A client of a session.
+ghost use Rattle.std.specs.Prelude.{◌≡◌, IfOk, OnErr};
+ghost use Rattle.broadcast_mailbox.specs.Account.{TallyState, MayCount, capped, is_taken_up, tallied};
+ghost use Rattle.broadcast_mailbox.specs.declared.buffered.ingress.watch.Kind.TheVariants as kind;
+
+use broadcast_core::{Digested, Digestible, PublicKey, Recipients};
+use broadcast_mailbox::buffered::{
+    Account, Bookkeeping, Books, Get, Incoming, Mailbox, Stopper, Subscription, Tally, Watch,
+};
+use broadcast_mailbox::{Feedback, MailboxError};
+use std::alloc::AllocError;
+use std::marker::Model;
+use std::sync::{Arc, Wait};
+
+/// A client of a node, whose mailbox has the account `B`. It makes requests, and counts those that
+/// were accepted and that the watch matches.
+///
+/// Contracts see what it counted.
+#[derive(Drop)]
+pub struct Client<P: PublicKey, M: Digestible, R, A: Account, B: Bookkeeping> {
+    ends: Ends<P, M, R, B>,
+    tally: Tally<A>,
+}
+
+/// A client of a node that counts the requests that the watch `V` matches.
+pub type WatchedClient<P, M, R, A, K, V> = Client<
+    P,
+    M,
+    R,
+    A,
+    Books<A, K, V, <M as Digestible>::Digest>,
+>;
+
+impl<P: PublicKey, M: Digestible, R, A: Account, B: Bookkeeping> Model for Client<P, M, R, A, B> {
+    ghost use Rattle.std.specs.Prelude.{◌≡◌};
+    ghost use Rattle.broadcast_mailbox.specs.Account.{TallyState};
+
+    ghost Value = { TallyState };
+
+    ghost view = { λ client. client.tally };
+
+    ghost invariant = { λ client. client.tally.parts ≡ 1 };
+}
+
+impl<P: PublicKey, M: Digestible, R: Drop, A: Account, B: Bookkeeping> Client<P, M, R, A, B> {
+    /// Creates a client that reaches the node by `ends`, and has one part of the tally.
+    pub(super) fn new(ends: Ends<P, M, R, B>, tally: Tally<A>) -> Self
+        requires { tally.parts ≡ 1 }
+        ensures { result ≡ tally }
+    {
+        Client { ends, tally }
+    }
+
+    /// Returns the tally.
+    pub(super) fn into_tally(self) -> Tally<A>
+        ensures same { result ≡ self }
+        ensures one_part { result.parts ≡ 1 }
+    {
+        let Client { ends, tally } = self;
+        drop::<_>(ends);
+        tally
+    }
+}
+
+impl<P, M, R, A, K, V> WatchedClient<P, M, R, A, K, V>
+where
+    P: PublicKey,
+    M: Digestible,
+    R: Wait,
+    A: Account,
+    K: Account,
+    V: Watch<M::Digest>,
+{
+    /// Broadcasts the message, as [`Broadcaster::broadcast`](crate::Broadcaster) does.
+    pub fn broadcast(
+        &mut self,
+        recipients: Recipients<P>,
+        message: Digested<M>,
+    ) -> Result<Feedback, MailboxError>
+        ensures { self.new
+            ≡ tallied (V.watched kind.Broadcast message.digest) (is_taken_up result) self.old }
+    {
+        self.ends
+            .mailbox
+            .broadcast_as(&mut self.tally, recipients, message)
+    }
+
+    /// Requests the message of `digest`, at once or when it arrives, as `Mailbox::subscribe` does.
+    pub fn subscribe(&mut self, digest: M::Digest) -> Result<Subscription<M>, MailboxError>
+        ensures digest { IfOk result (λ subscription. subscription.digest ≡ digest) }
+        ensures counts { IfOk result (λ _.
+            MayCount (V.watched kind.Subscribe digest) self.old self.new) }
+        ensures unchanged_on_error { OnErr result (self.new ≡ self.old) }
+    {
+        self.ends.mailbox.subscribe_as(&mut self.tally, digest)
+    }
+
+    /// Requests the message of `digest` if it is cached, as `Mailbox::get` does.
+    pub fn get(&mut self, digest: M::Digest) -> Result<Get<M>, MailboxError>
+        ensures digest { IfOk result (λ get. get.digest ≡ digest) }
+        ensures counts { IfOk result (λ _. MayCount (V.watched kind.Get digest) self.old self.new) }
+        ensures unchanged_on_error { OnErr result (self.new ≡ self.old) }
+    {
+        self.ends.mailbox.get_as(&mut self.tally, digest)
+    }
+
+    /// Returns how many of its requests were counted, and at most `u64::MAX`.
+    pub fn accepted(&self) -> u64
+        ensures { result ≡ capped self.now.accepted }
+    {
+        self.tally.accepted()
+    }
+
+    /// Asks the engine to stop. Does not wait for its end.
+    pub fn stop(&self) {
+        self.ends.stopper.request_stop();
+    }
+}
+
+/// What every client reaches the node by.
+#[derive(Drop)]
+pub(super) struct Ends<P: PublicKey, M: Digestible, R, B: Bookkeeping> {
+    pub mailbox: Mailbox<P, M, R, B>,
+    pub stopper: Arc<Stopper<Incoming<P, M>, R, B>>,
+}
+
+/// What the clients of a node that counts requests reach it by.
+pub(super) type WatchedEnds<M, R, A, K, V> = Ends<
+    u64,
+    M,
+    R,
+    Books<A, K, V, <M as Digestible>::Digest>,
+>;
+
+impl<P: PublicKey, M: Digestible, R: Clone, B: Bookkeeping> Clone for Ends<P, M, R, B> {
+    fn clone(&self) -> Result<Self, AllocError> {
+        Ok(Ends {
+            mailbox: self.mailbox.clone()?,
+            stopper: Arc::try_clone(&self.stopper)?,
+        })
+    }
+}

@@ -1,0 +1,210 @@
+//! The node of a session, from its start to the settlement of its account.
+ghost use Rattle.std.specs.Prelude.{◌≡◌, ◌+◌, ◌≤◌, [], length, vec_len, vec_capacity, IfOk};
+ghost use Rattle.std.specs.NonZero.{non_zero_u32_get};
+ghost use Rattle.broadcast_mailbox.specs.Account.{TallyState};
+ghost use Rattle.broadcast_mailbox.specs.Watch.{BroadcastsOnly};
+ghost use Rattle.commonware_broadcast.specs.Sessions.{AddsUp};
+
+use super::client::{Client, Ends, WatchedEnds};
+use super::threads::{abandon, join_clients, run_client, start_others};
+use super::{Finished, Session};
+use crate::buffered::config::Config;
+use crate::buffered::engine::{Engine, StartError};
+use crate::buffered::front::{WatchedEngine, WatchedNode};
+use crate::buffered::started::{Handle, MailboxReport};
+use crate::buffered::strategy::Strategy;
+use broadcast_core::{Codec, Digestible};
+use broadcast_mailbox::buffered::{Account, Books, Tally, Watch};
+use engine_io::{Provider, Receiver, Sender};
+use std::alloc::{AllocError, AllocGlobal, Global};
+use std::num::NonZeroU32;
+use std::random::RandomSource;
+use std::sync::ledger::Blank;
+use std::sync::{Arc, Wait};
+use std::thread::Threads;
+
+/// Runs the session, whose account has these ledgers.
+pub(super) fn run_with<S, M, B, T, N, V, R, A, K>(
+    rt: &R,
+    cfg: Config<u64, M::Cfg, B, T>,
+    network: (N, V),
+    clients: NonZeroU32,
+    session: S,
+    accepted: Blank,
+    taken: Blank,
+) -> Result<Finished<S::Output>, StartError>
+where
+    S: Session<u64, M, R> + Send + Sync + Drop + 'static,
+    S::Watch: Send + 'static,
+    S::Output: Send + 'static,
+    M: Digestible + Codec + Send + Sync + 'static,
+    M::Digest: Send + 'static,
+    M::Cfg: Send + Drop + 'static,
+    B: Provider<u64> + Send + Drop + 'static,
+    T: Strategy<M> + Send + Drop + 'static,
+    T::Job: Send + 'static,
+    N: Sender<u64> + Send + Drop + 'static,
+    V: Receiver<u64> + Send + Drop + 'static,
+    R: Threads + Wait + RandomSource + AllocGlobal + Clone + Send + Sync + Drop + 'static,
+    A: Account + Send + Sync + 'static,
+    K: Account + Send + Sync + 'static,
+    requires accepted { (accepted.name ≡ A.name) × (accepted.parts ≡ A.parts) }
+    requires parts { (A.all ≡ A.parts) × (A.parts ≡ non_zero_u32_get clients) }
+    requires taken { (taken.name ≡ K.name) × (taken.parts ≡ K.parts) }
+    requires one { (K.all ≡ K.parts) × (K.parts ≡ 1) }
+    ensures settled { IfOk result (λ finished. AddsUp finished.accepted finished.settled) }
+    ensures broadcasts { IfOk result (λ finished.
+        BroadcastsOnly S.Watch.watched → finished.settled.skipped ≡ 0) }
+    ensures outputs { IfOk result (λ finished.
+        length finished.outputs.items ≡ non_zero_u32_get clients) }
+{
+    let Ok((session, outputs)) = reserve(rt.alloc(), session, clients.get()) else {
+        return Err(StartError::Memory);
+    };
+    let Ok(made) = make::<M, B, T, R, A, K, S::Watch>(rt, cfg, clients, accepted, taken) else {
+        return Err(StartError::Memory);
+    };
+    let (engine, ends, tally) = made;
+    match engine.start(rt, network) {
+        Ok(handle) => play::<S, M, R, A, K>(rt, handle, ends, session, outputs, tally, clients),
+        Err(error) => Err(error),
+    }
+}
+
+/// Shares the session, with room for what `clients` clients leave.
+fn reserve<S, R, M>(
+    alloc: Global,
+    session: S,
+    clients: u32,
+) -> Result<(Arc<S>, Vec<S::Output>), AllocError>
+where
+    S: Session<u64, M, R> + Drop,
+    M: Digestible,
+    R: Wait,
+    ensures room { IfOk result (λ both. vec_len both.1 + clients ≤ vec_capacity both.1) }
+    ensures empty { IfOk result (λ both. both.1.items ≡ []) }
+{
+    let outputs = Vec::with_capacity(alloc, clients as usize)?;
+    Ok((Arc::new(alloc, session)?, outputs))
+}
+
+/// An engine, what its clients reach it by, and the tally that has all parts.
+type Made<M, B, T, R, A, K, W> = (
+    WatchedEngine<u64, M, B, T, R, A, K, W>,
+    WatchedEnds<M, R, A, K, W>,
+    Tally<A>,
+);
+
+/// Creates an engine and what its clients reach it by.
+fn make<M, B, T, R, A, K, W>(
+    rt: &R,
+    cfg: Config<u64, M::Cfg, B, T>,
+    clients: NonZeroU32,
+    accepted: Blank,
+    taken: Blank,
+) -> Result<Made<M, B, T, R, A, K, W>, AllocError>
+where
+    M: Digestible + Codec,
+    M::Cfg: Drop,
+    B: Drop,
+    T: Strategy<M> + Drop,
+    R: AllocGlobal + Clone + Drop,
+    A: Account,
+    K: Account,
+    W: Watch<M::Digest>,
+    requires accepted { (accepted.name ≡ A.name) × (accepted.parts ≡ A.parts) }
+    requires parts { (A.all ≡ A.parts) × (A.parts ≡ non_zero_u32_get clients) }
+    requires taken { (taken.name ≡ K.name) × (taken.parts ≡ K.parts) }
+    requires one { (K.all ≡ K.parts) × (K.parts ≡ 1) }
+    ensures { IfOk result (λ made. made.2.parts ≡ non_zero_u32_get clients) }
+{
+    let node: WatchedNode<u64, M, B, T, R, A, K, W> = Engine::new_watched(
+        rt.clone()?,
+        rt.alloc(),
+        cfg,
+        clients,
+        accepted,
+        taken,
+    )?;
+    let (engine, mailbox, tally) = node;
+    let stopper = Arc::new(rt.alloc(), engine.requests().stopper()?)?;
+    Ok((engine, Ends { mailbox, stopper }, tally))
+}
+
+/// Lets the clients use the started engine, and settles their account. If a client can't be
+/// started, the others and the engine end.
+fn play<S, M, R, A, K>(
+    rt: &R,
+    handle: Handle<u64, M, R, Books<A, K, S::Watch, M::Digest>>,
+    ends: WatchedEnds<M, R, A, K, S::Watch>,
+    session: Arc<S>,
+    outputs: Vec<S::Output>,
+    tally: Tally<A>,
+    clients: NonZeroU32,
+) -> Result<Finished<S::Output>, StartError>
+where
+    S: Session<u64, M, R> + Send + Sync + Drop + 'static,
+    S::Watch: Send + 'static,
+    S::Output: Send + 'static,
+    M: Digestible + Send + Sync + 'static,
+    M::Digest: Send + 'static,
+    R: Threads + Wait + AllocGlobal + Clone + Send + Sync + Drop + 'static,
+    A: Account + Send + Sync + 'static,
+    K: Account + Send + Sync + 'static,
+    requires accounts { (A.all ≡ A.parts) × (K.all ≡ K.parts) }
+    requires parts { (A.parts ≡ non_zero_u32_get clients) × (tally.parts ≡ A.parts) }
+    requires room { vec_len outputs + non_zero_u32_get clients ≤ vec_capacity outputs }
+    requires empty { outputs.items ≡ [] }
+    ensures settled { IfOk result (λ finished. AddsUp finished.accepted finished.settled) }
+    ensures broadcasts { IfOk result (λ finished.
+        BroadcastsOnly S.Watch.watched → finished.settled.skipped ≡ 0) }
+    ensures outputs { IfOk result (λ finished.
+        length finished.outputs.items ≡ non_zero_u32_get clients) }
+{
+    let mut tally = tally;
+    let mut threads = Vec::new(rt.alloc());
+    let others = clients.get() - 1;
+    match start_others::<S, M, R, A, K>(rt, &session, &ends, &mut tally, &mut threads, others) {
+        Ok(()) => {
+            let first = run_client::<S, M, R, A, K>(session, 0, Client::new(ends, tally));
+            let (tally, outputs) = join_clients(rt, first, threads, outputs);
+            handle.stop();
+            Ok(finish::<M, R, A, K, S::Watch, S::Output>(handle.join(rt), tally, outputs))
+        }
+        Err(error) => {
+            handle.stop();
+            abandon(rt, threads);
+            drop::<_>(handle.join(rt));
+            Err(error)
+        }
+    }
+}
+
+/// Settles the account.
+fn finish<M, R, A, K, W, O>(
+    report: MailboxReport<u64, M, R, Books<A, K, W, M::Digest>>,
+    tally: Tally<A>,
+    outputs: Vec<O>,
+) -> Finished<O>
+where
+    M: Digestible,
+    R: Wait + Drop,
+    A: Account,
+    K: Account,
+    W: Watch<M::Digest>,
+    requires accounts { (A.all ≡ A.parts) × (K.all ≡ K.parts) }
+    requires whole { tally.parts ≡ A.parts }
+    ensures settled { AddsUp result.accepted result.settled }
+    ensures broadcasts { BroadcastsOnly W.watched → result.settled.skipped ≡ 0 }
+    ensures outputs { result.outputs ≡ outputs }
+{
+    let cause = report.cause();
+    let accepted = tally.accepted();
+    let settled = report.settle(tally).unwrap();
+    Finished {
+        outputs,
+        cause,
+        accepted,
+        settled,
+    }
+}

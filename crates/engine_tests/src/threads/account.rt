@@ -1,0 +1,3 @@
+//! Accounts of tallied requests.
+mod clients;
+mod quiet;

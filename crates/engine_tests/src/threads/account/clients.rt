@@ -1,0 +1,201 @@
+//! Clients on several threads, and one that stops the engine meanwhile.
+use super::quiet::{Silence, Void, config};
+use crate::message::{digest, digested};
+use broadcast_core::{Recipients, TestMessage};
+use broadcast_mailbox::MailboxError;
+use commonware_broadcast::buffered::{
+    Account, All, Broadcasts, EndCause, Finished, Kind, Sequential, Session, Watch, WatchedClient,
+    run_session,
+};
+use std::alloc::{AllocGlobal, Global};
+use std::marker::PhantomData;
+use std::num::NonZeroU32;
+use std::random::RandomSource;
+use std::sync::Wait;
+use std::test::Fail;
+use std::thread::Threads;
+
+/// How many clients make requests. The next one stops the engine.
+const ASKING: u32 = 4;
+
+/// How often each of them makes three requests.
+const ROUNDS: u8 = 34;
+
+/// A digest that no message has.
+const NOBODYS: [u8; 32] = [7; 32];
+
+/// Counts the tallied subscribes to one digest.
+struct Nobodys;
+
+impl Watch<[u8; 32]> for Nobodys {
+    ghost use Rattle.engine_tests.specs.Watches.{is_subscribe_to};
+    ghost use Rattle.engine_tests.specs.declared.threads.account.clients.TheConstants.{NOBODYS};
+
+    ghost watched = { is_subscribe_to NOBODYS };
+
+    fn matches(kind: Kind, digest: &[u8; 32]) -> bool {
+        match kind {
+            Kind::Subscribe => *digest == NOBODYS,
+            Kind::Broadcast | Kind::Get => false,
+        }
+    }
+}
+
+/// A session whose account has the watch.
+#[derive(Drop)]
+struct Asking<R, V> {
+    rt: R,
+    of: PhantomData<V>,
+}
+
+/// What a client leaves: how many of its broadcasts it was told are accepted.
+type Told = Result<u64, MailboxError>;
+
+impl<R, V> Session<u64, TestMessage, R> for Asking<R, V>
+where
+    R: Wait + RandomSource + AllocGlobal,
+    V: Watch<[u8; 32]>,
+{
+    type Watch = V;
+
+    type Output = Told;
+
+    fn run<A: Account, K: Account>(
+        &self,
+        number: u32,
+        client: &mut WatchedClient<u64, TestMessage, R, A, K, V>,
+    ) -> Told {
+        if number < ASKING {
+            ask_often(self.rt.alloc(), client)
+        } else {
+            ask_and_stop(&self.rt, client)
+        }
+    }
+}
+
+/// Makes all requests of a client.
+fn ask_often<R, A, K, V>(
+    alloc: Global,
+    client: &mut WatchedClient<u64, TestMessage, R, A, K, V>,
+) -> Told
+where
+    R: Wait,
+    A: Account,
+    K: Account,
+    V: Watch<[u8; 32]>,
+{
+    let mut told = 0u64;
+    for round in 0..ROUNDS {
+        told = told.saturating_add(ask(alloc, client, round)?);
+    }
+    Ok(told)
+}
+
+/// Makes a request of each kind, and drops the futures. Returns 1 if the broadcast is accepted.
+fn ask<R, A, K, V>(
+    alloc: Global,
+    client: &mut WatchedClient<u64, TestMessage, R, A, K, V>,
+    letter: u8,
+) -> Told
+where
+    R: Wait,
+    A: Account,
+    K: Account,
+    V: Watch<[u8; 32]>,
+{
+    let message = digested(alloc, letter, letter)?;
+    drop::<_>(client.get(message.digest())?);
+    drop::<_>(client.subscribe(NOBODYS)?);
+    let feedback = client.broadcast(Recipients::All, message)?;
+    Ok(u64::from(feedback.accepted()))
+}
+
+/// Makes a request of each kind, waits for the reply to a get, and stops the engine.
+fn ask_and_stop<R, A, K, V>(
+    rt: &R,
+    client: &mut WatchedClient<u64, TestMessage, R, A, K, V>,
+) -> Told
+where
+    R: Wait + RandomSource + AllocGlobal,
+    A: Account,
+    K: Account,
+    V: Watch<[u8; 32]>,
+{
+    let told = ask(rt.alloc(), client, 0)?;
+    let get = client.get(digest(rt.alloc(), 0)?)?;
+    drop::<_>(get.wait(rt));
+    client.stop();
+    Ok(told)
+}
+
+/// Runs a session. Returns how many broadcasts its clients were told are accepted, and what else it
+/// leaves.
+fn run<V, R>(rt: &R) -> Result<(u64, Finished<Told>), Fail>
+where
+    V: Watch<[u8; 32]> + Send + Sync + 'static,
+    R: Threads + Wait + RandomSource + AllocGlobal + Clone + Send + Sync + Drop + 'static,
+{
+    let session: Asking<R, V> = Asking {
+        rt: rt.clone()?,
+        of: PhantomData,
+    };
+    let clients = NonZeroU32::new(ASKING + 1).unwrap();
+    let finished = run_session(
+        rt,
+        config(Sequential),
+        (Void, Silence::new()),
+        clients,
+        session,
+    )?;
+    Ok((told_by_all(&finished)?, finished))
+}
+
+/// Returns how many broadcasts all clients were told are accepted.
+fn told_by_all(finished: &Finished<Told>) -> Told {
+    let mut all = 0u64;
+    for told in &finished.outputs {
+        all = all.saturating_add((*told)?);
+    }
+    Ok(all)
+}
+
+/// Returns whether a session ended by the stop, and as many requests were counted as were applied,
+/// refused, skipped or given up, but not none.
+fn adds_up(finished: &Finished<Told>) -> bool {
+    let it = finished.settled;
+    let ends = [it.applied, it.refused, it.skipped, it.given_up];
+    let mut sum = 0u64;
+    for number in ends {
+        sum = sum.saturating_add(number);
+    }
+    finished.cause == EndCause::Stopped && finished.accepted == sum && sum > 0
+}
+
+#[test]
+fn all_requests_of_four_threads_are_accounted_for(rt: HostRuntime) -> Result<(), Fail> {
+    let (told, finished) = run::<All, HostRuntime>(&rt)?;
+    assert!(rt; adds_up(&finished));
+    // The client that stops the engine also makes a subscribe and two gets, and waits for the last.
+    assert!(rt; finished.accepted >= told.saturating_add(3));
+    // Its broadcast and its last get are applied; a request without a caller may be skipped.
+    assert!(rt; finished.settled.applied >= 2);
+    Ok(())
+}
+
+#[test]
+fn broadcasts_of_four_threads_are_those_that_they_were_told_of(
+    rt: HostRuntime,
+) -> Result<(), Fail> {
+    let (told, finished) = run::<Broadcasts, HostRuntime>(&rt)?;
+    assert!(rt; adds_up(&finished));
+    assert_eq!(rt; finished.accepted, told);
+    assert_eq!(rt; finished.settled.skipped, 0);
+    Ok(())
+}
+
+#[test]
+fn subscribes_of_four_threads_to_one_digest_are_accounted_for(rt: HostRuntime) -> Result<(), Fail> {
+    let (_told, finished) = run::<Nobodys, HostRuntime>(&rt)?;
+    assert!(rt; adds_up(&finished));
+    Ok(())
+}

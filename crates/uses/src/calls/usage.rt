@@ -1,0 +1,77 @@
+//! How the program is called, and what it says of arguments that name no calls.
+use super::settings::Refused;
+use std::io::{self, Write};
+
+/// The usage line.
+pub const USAGE: &str = "usage: uses [PART SIZE PLACES GREATEST STEPS]";
+
+/// The argument that asks for the help.
+const HELP: &[u8] = b"--help";
+
+/// The status of a run whose arguments name no calls.
+const WRONG: u8 = 2;
+
+/// Returns whether the arguments ask for the help.
+pub fn asks_for_help(words: &[String]) -> bool {
+    match words {
+        [word] => word.as_bytes() == HELP,
+        _ => false,
+    }
+}
+
+/// Writes what the arguments are.
+pub fn help<W: Write>(out: &mut W) -> io::Result<()> {
+    writeln!(out, "{USAGE}")?;
+    writeln!(
+        out,
+        "Without arguments: what the uses of the crates return."
+    )?;
+    help_with_numbers(out)?;
+    help_with_steps(out)
+}
+
+fn help_with_numbers<W: Write>(out: &mut W) -> io::Result<()> {
+    writeln!(
+        out,
+        "  PART      core, inbox, engine, relay or account: what is called"
+    )?;
+    writeln!(out, "  SIZE      the greatest number of digests in a list")?;
+    writeln!(
+        out,
+        "  PLACES    the number of places in a ready list, from 1 on"
+    )?;
+    writeln!(
+        out,
+        "  GREATEST  the greatest length that is decoded, or a byte budget"
+    )
+}
+
+fn help_with_steps<W: Write>(out: &mut W) -> io::Result<()> {
+    writeln!(
+        out,
+        "  STEPS     a letter for each call; c takes the next line of input"
+    )?;
+    writeln!(
+        out,
+        "            inbox: h d t s x; engine: k e f w 0..9; account: t r x"
+    )?;
+    writeln!(out, "Standard input: events, as docs/REPLAY.md has them.")
+}
+
+/// Writes why the arguments are refused, and returns the exit status. A failure to write is
+/// ignored.
+pub fn report<E: Write + Drop>(refused: Refused<'_>, mut err: E) -> u8 {
+    let _ = match refused {
+        Refused::Words => writeln!(err, "{USAGE}"),
+        Refused::Part(name) => writeln!(err, "uses: there is no part {name}"),
+        Refused::Number(argument, least, word) => {
+            writeln!(
+                err,
+                "uses: {argument} is no number from {least} to {}: {word}",
+                u64::MAX
+            )
+        }
+        Refused::Step(part, letter) => writeln!(err, "uses: {part} has no step {letter}"),
+    };
+    WRONG
+}
