@@ -2,7 +2,7 @@
 use Rattle.std.proofs.Common.{◌≡◌, ℕ, true, List, ◌++◌, length, Ok, Err, sym, ap, ◌∙◌}
 use Rattle.std.proofs.lemmas.Bool.{ltb-true}
 use Rattle.broadcast_core.specs.declared.codec.CodecError.{CodecError}
-use Rattle.broadcast_core.specs.declared.codec.CodecError.TheVariants.{EndOfBuffer, InvalidLength, ExtraData, Unencodable, Memory}
+use Rattle.broadcast_core.specs.declared.codec.CodecError.TheVariants.{EndOfBuffer, InvalidLength, Invalid, ExtraData, Unencodable, Memory}
 use Rattle.broadcast_core.specs.declared.codec.RangeCfg.{RangeCfg}
 use Rattle.broadcast_core.specs.ByteList.{NoneStands, contains, has_spelling, spelled, read_list}
 use Rattle.broadcast_core.specs.Codec.{IsRefusal}
@@ -12,6 +12,7 @@ refusal_of : (range : RangeCfg) (bytes : List ℕ) (e : CodecError)
     → NoneStands range bytes e → IsRefusal e
 refusal_of range bytes EndOfBuffer why = tt
 refusal_of range bytes (InvalidLength n) why = tt
+refusal_of range bytes (Invalid reason) why = absurd why
 refusal_of range bytes (ExtraData n) why = absurd why
 refusal_of range bytes Unencodable why = absurd why
 refusal_of range bytes Memory why = absurd why

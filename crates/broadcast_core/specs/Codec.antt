@@ -1,7 +1,7 @@
 -- What reading and writing return.
 use Rattle.std.specs.Prelude.{◌≡◌, ℕ, ◌-◌, ◌==◌, ◌⊎◌, if◌then◌else◌, List, ◌++◌, length, Option, Some, Result, Ok, Err, IsOk}
 use Rattle.broadcast_core.specs.declared.codec.CodecError.{CodecError}
-use Rattle.broadcast_core.specs.declared.codec.CodecError.TheVariants.{EndOfBuffer, InvalidLength, ExtraData, Unencodable, Memory}
+use Rattle.broadcast_core.specs.declared.codec.CodecError.TheVariants.{EndOfBuffer, InvalidLength, Invalid, ExtraData, Unencodable, Memory}
 
 -- the number of bytes that a value takes, of a reading of value and number
 abbrev pub layout_of : {M : Type 0} → Result (M × ℕ) CodecError → Result ℕ CodecError
@@ -31,6 +31,7 @@ GivesOrLacks result read = (result ≡ read) ⊎ ((result ≡ Err Memory) × IsO
 abbrev pub IsRefusal : CodecError → Type 0
 IsRefusal EndOfBuffer = Unit {0}
 IsRefusal (InvalidLength n) = Unit {0}
+IsRefusal (Invalid reason) = Unit {0}
 IsRefusal _ = ⊥
 
 -- writing appends the encoding, or fails and changes nothing

@@ -6,7 +6,7 @@ use Rattle.std.proofs.lemmas.List.{take_at, drop_at, length-append, length-drop}
 use Rattle.byteorder.specs.Endian.{big_bytes, big_number}
 use Rattle.byteorder.specs.Numbers.{big_number-reads_back, length-bytes_high_first}
 use Rattle.broadcast_core.specs.declared.codec.CodecError.{CodecError}
-use Rattle.broadcast_core.specs.declared.codec.CodecError.TheVariants.{EndOfBuffer, InvalidLength, ExtraData, Unencodable, Memory}
+use Rattle.broadcast_core.specs.declared.codec.CodecError.TheVariants.{EndOfBuffer, InvalidLength, Invalid, ExtraData, Unencodable, Memory}
 use Rattle.broadcast_core.specs.declared.codec.RangeCfg.{RangeCfg}
 use Rattle.broadcast_core.specs.ByteList.{◌>>=◌, contains, has_spelling, spelled, NoneStands, read_length, read_bytes, read_list}
 use Rattle.broadcast_core.specs.Codec.{IsRefusal}
@@ -93,6 +93,7 @@ none_refuses : (range : RangeCfg) (bytes : List ℕ) (e : CodecError) → NoneSt
     → IsRefusal e
 none_refuses range bytes EndOfBuffer why = tt
 none_refuses range bytes (InvalidLength n) why = tt
+none_refuses range bytes (Invalid reason) why = absurd why
 none_refuses range bytes (ExtraData n) why = absurd why
 none_refuses range bytes Unencodable why = absurd why
 none_refuses range bytes Memory why = absurd why

@@ -18,6 +18,9 @@ pub enum CodecError {
     /// A length is out of its range.
     #[error("a length of {0} is out of the range")]
     InvalidLength(usize),
+    /// The message type refuses the bytes for a reason of its own, which has this number.
+    #[error("the message is invalid: reason {0}")]
+    Invalid(u32),
     /// This number of bytes follows the message.
     #[error("{0} bytes are left over")]
     ExtraData(usize),
@@ -112,7 +115,7 @@ pub trait Read {
     ghost within: { (cfg : Self.Cfg) (bytes : List ℕ) (v : Self) (n : ℕ)
         → reading cfg bytes ≡ Ok (v, n) → n ≤ length bytes };
 
-    /// The bytes end too early, or a length is out of its range.
+    /// The bytes end too early, a length is out of its range, or there is a reason of the type's own.
     ghost refusals: { (cfg : Self.Cfg) (bytes : List ℕ) (e : CodecError)
         → reading cfg bytes ≡ Err e → IsRefusal e };
 }

@@ -16,7 +16,7 @@ use std::hash::Hash;
 use std::marker::Model;
 
 /// The key of a peer. Keys that compare equal are the same key.
-pub trait PublicKey: Clone + Ord + Eq + Hash + Send + Drop + 'static {
+pub trait PublicKey: Clone + Ord + Eq + Hash + Drop {
     /// A copy of a key equals it.
     ghost copies: { (key copy : Self) → Self.is_clone key copy
         → eq_by_cmp Self.cmp key copy ≡ true };

@@ -29,6 +29,7 @@ outcome_word Oversize = codes "oversize"
 abbrev pub refusal_words : CodecError → List (List ℕ)
 refusal_words codec.EndOfBuffer = codes "EndOfBuffer" ∷ []
 refusal_words (codec.InvalidLength length) = codes "InvalidLength" ∷ decimal length ∷ []
+refusal_words (codec.Invalid reason) = codes "Invalid" ∷ decimal reason ∷ []
 refusal_words (codec.ExtraData count) = codes "ExtraData" ∷ decimal count ∷ []
 refusal_words codec.Unencodable = codes "Unencodable" ∷ []
 refusal_words codec.Memory = codes "Memory" ∷ []

@@ -73,6 +73,7 @@ fn write_invalid<W: Write>(out: &mut W, refusal: CodecError) -> io::Result<()>
     match refusal {
         CodecError::EndOfBuffer => out.write_all(b"invalid EndOfBuffer\n"),
         CodecError::InvalidLength(length) => writeln!(out, "invalid InvalidLength {length}"),
+        CodecError::Invalid(reason) => writeln!(out, "invalid Invalid {reason}"),
         CodecError::ExtraData(count) => writeln!(out, "invalid ExtraData {count}"),
         CodecError::Unencodable => out.write_all(b"invalid Unencodable\n"),
         CodecError::Memory => out.write_all(b"invalid Memory\n"),

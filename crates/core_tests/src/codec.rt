@@ -1,4 +1,5 @@
 //! Encodings, digests and refusals of test messages, compared with known bytes.
+use crate::even::Even;
 use broadcast_core::CodecError::{EndOfBuffer, ExtraData, InvalidLength};
 use broadcast_core::{
     CodecError, Digested, Digestible, EncodeSize, RangeCfg, Read, TestMessage, Write, decode_cfg,
@@ -259,9 +260,10 @@ fn a_shared_message_commits_to_its_content(rt: HostRuntime) -> Result<(), Fail> 
     Ok(())
 }
 
-static TEXTS: [(CodecError, &str); 5] = [
+static TEXTS: [(CodecError, &str); 6] = [
     (EndOfBuffer, "the bytes end too early"),
     (InvalidLength(4), "a length of 4 is out of the range"),
+    (CodecError::Invalid(7), "the message is invalid: reason 7"),
     (ExtraData(2), "2 bytes are left over"),
     (CodecError::Unencodable, "the message has no encoding"),
     (CodecError::Memory, "out of memory"),
@@ -280,6 +282,25 @@ fn refusals_are_printed(rt: HostRuntime) -> Result<(), Fail> {
     for (refusal, text) in texts() {
         let printed = is_printed(rt.alloc(), *refusal, text)?;
         assert!(rt; printed, "{text}");
+    }
+    Ok(())
+}
+
+/// Bytes, and the even number that they are, or why they are none.
+static NUMBERS: [(&[u8], Result<Even, CodecError>); 3] = [
+    (&[], Err(EndOfBuffer)),
+    (&[4], Ok(Even(4))),
+    (&[5], Err(CodecError::Invalid(5))),
+];
+
+fn numbers() -> &'static [(&'static [u8], Result<Even, CodecError>)] {
+    &NUMBERS
+}
+
+#[test]
+fn a_message_refuses_bytes_for_a_reason_of_its_own(rt: HostRuntime) -> Result<(), Fail> {
+    for (bytes, read) in numbers() {
+        assert_eq!(rt; decode_cfg(rt.alloc(), bytes, &()), *read);
     }
     Ok(())
 }

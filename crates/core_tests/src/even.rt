@@ -4,7 +4,7 @@ ghost use Rattle.core_tests.specs.Even.{encoding_of, even_at, even_within, even_
 use broadcast_core::{Codec, CodecError, Digestible, EncodeSize, Read, Write};
 use std::alloc::Global;
 
-/// A number whose encoding is one byte if it is even. An odd number has no encoding.
+/// A number whose encoding is one byte if it is even. An odd number has no encoding, and is not read.
 #[derive(Clone, Copy, Debug, PartialEq, Eq)]
 pub struct Even(pub u8);
 
@@ -33,17 +33,18 @@ impl Read for Even {
     ghost reading = { λ _. even_at };
 
     fn layout(buf: &[u8], _cfg: &()) -> Result<usize, CodecError> {
-        if buf.is_empty() {
-            Err(CodecError::EndOfBuffer)
-        } else {
-            Ok(1)
+        match buf {
+            [] => Err(CodecError::EndOfBuffer),
+            [number, ..] if *number % 2 == 0 => Ok(1),
+            [number, ..] => Err(CodecError::Invalid(u32::from(*number))),
         }
     }
 
     fn read_cfg(_alloc: Global, buf: &[u8], _cfg: &()) -> Result<(Self, usize), CodecError> {
         match buf {
             [] => Err(CodecError::EndOfBuffer),
-            [number, ..] => Ok((Even(*number), 1)),
+            [number, ..] if *number % 2 == 0 => Ok((Even(*number), 1)),
+            [number, ..] => Err(CodecError::Invalid(u32::from(*number))),
         }
     }
 

@@ -7,7 +7,7 @@ use Rattle.broadcast_core.proofs.runner.run.Goals as goal
 
 pub loop-event-init : goal.loop-event-init
 loop-event-init g c =
-    let lawful = same_by-lawful (g.met.P.Ord g.world.𝓛 g.world.𝓜 g.world.𝓡 (λ s x. x, λ x. x, λ x. x, λ x. x)).total (g.met.M.Digest.Ord g.world.𝓛 g.world.𝓜 g.world.𝓡 (λ s x. x, λ x. x, λ x. x, λ x. x)).total in
+    let lawful = same_by-lawful g.met.P.Ord.total (g.met.M.Digest.Ord g.world.𝓛 g.world.𝓜 g.world.𝓡 (λ s x. x, λ x. x, λ x. x, λ x. x)).total in
     let gives = c.into_iter-event-iterator.ensures.into_iter_gives in
     record {
       rest = refl;
@@ -20,7 +20,7 @@ loop-event-init g c =
 
 pub loop-event-preserved : goal.loop-event-preserved
 loop-event-preserved g c =
-    let lawful = same_by-lawful (g.met.P.Ord g.world.𝓛 g.world.𝓜 g.world.𝓡 (λ s x. x, λ x. x, λ x. x, λ x. x)).total (g.met.M.Digest.Ord g.world.𝓛 g.world.𝓜 g.world.𝓡 (λ s x. x, λ x. x, λ x. x, λ x. x)).total in
+    let lawful = same_by-lawful g.met.P.Ord.total (g.met.M.Digest.Ord g.world.𝓛 g.world.𝓜 g.world.𝓡 (λ s x. x, λ x. x, λ x. x, λ x. x)).total in
     let at = c.loop-event in
     let e = c.in-Some.event in
     let steps = c.in-Some.ensures.steps in

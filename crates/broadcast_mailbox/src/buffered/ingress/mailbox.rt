@@ -236,7 +236,7 @@ where
 
 impl<P, M, R, A> Broadcaster for Mailbox<P, M, R, A>
 where
-    P: PublicKey,
+    P: PublicKey + Send + 'static,
     M: Digestible + Send + Sync + 'static,
     R: Wait + Clone + Send + 'static,
     A: Bookkeeping + Send + 'static,

@@ -17,7 +17,7 @@ returns-in_default-clause-node g c = λ w sent is ranged copies.
 pub returns-clause-node : goal.returns-clause-node
 returns-clause-node g c = λ w sent is ranged copies.
     let cmp = g.P.Ord.cmp in
-    let laws = eq_by_cmp_equiv (g.met.P.Ord g.world.𝓛 g.world.𝓜 g.world.𝓡 (λ s x. x, λ x. x, λ x. x, λ x. x)).total in
+    let laws = eq_by_cmp_equiv g.met.P.Ord.total in
     let there = read_at c.args.packets.now c.args.number c.in-Some.packet.now c.in-Some.ensures.lookup.3.0 c.in-Some.ensures.lookup.1 in
     let meant = AllZip-some _ c.args.packets.now sent c.args.number c.in-Some.packet.now copies there in
     let p = meant.0 in

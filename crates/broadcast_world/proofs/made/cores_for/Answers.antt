@@ -11,7 +11,7 @@ loop-node-preserved g c =
     let i = c.loop-node.node-index in
     let node = c.node-item.result in
     let copy = c.in_ok-clone.field-0 in
-    let copied : eq_by_cmp cmp node copy ≡ true = (g.met.P.PublicKey g.world.𝓛 g.world.𝓜 g.world.𝓡 (λ s x. x, λ x. x, λ x. x, λ x. x)).copies _ _ c.in_ok-clone.ensures.cases in
+    let copied : eq_by_cmp cmp node copy ≡ true = g.met.P.PublicKey.copies _ _ c.in_ok-clone.ensures.cases in
     let more : take (i + 1) c.args.nodes.now ≡ take i c.args.nodes.now ++ node ∷ [] = take_more c.args.nodes.now i node c.loop-node-test.true ∙ ap (λ n. take i c.args.nodes.now ++ n ∷ []) (sym c.node-item.is) in
     subst (λ ns. AreEmpty cmp c.args.deque_size c.args.byte_budget ns c.push.new.self.items) (sym more)
     (subst (λ cs. AreEmpty cmp c.args.deque_size c.args.byte_budget (take i c.args.nodes.now ++ node ∷ []) cs) (sym (c.in_ok-push.ensures.items ∙ ap (λ core. c.loop-node.cores.items ++ core ∷ []) c.new.ensures))

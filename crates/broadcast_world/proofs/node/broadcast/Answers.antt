@@ -12,7 +12,7 @@ use Rattle.broadcast_world.proofs.node.broadcast.Goals as goal
 
 pub returns-clause-ok : goal.returns-clause-ok
 returns-clause-ok g c = λ w n r bytes encoded.
-    let total = (g.met.P.Ord g.world.𝓛 g.world.𝓜 g.world.𝓡 (λ s x. x, λ x. x, λ x. x, λ x. x)).total in
+    let total = g.met.P.Ord.total in
     let lawful = same_by-lawful total nat_list_cmp_total in
     let s = at g.P.Ord.cmp w c.args.core.now.own in
     let m = c.args.message in

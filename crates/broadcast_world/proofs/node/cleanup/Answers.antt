@@ -8,7 +8,7 @@ use Rattle.broadcast_world.proofs.node.cleanup.Goals as goal
 
 pub returns : goal.returns
 returns g c = λ w n.
-    let total = (g.met.P.Ord g.world.𝓛 g.world.𝓜 g.world.𝓡 (λ s x. x, λ x. x, λ x. x, λ x. x)).total in
+    let total = g.met.P.Ord.total in
     let lawful = same_by-lawful total nat_list_cmp_total in
     NodeFollows-from g.P.Ord.cmp total w n (event_cleanup c.args.gone.now) _ _ _ []
     (λ past has. Applies-cleanup refl lawful has c.args.gone.now c.cleanup.result c.cleanup.ensures.dropped c.cleanup.ensures.distinct c.cleanup.ensures.removed)

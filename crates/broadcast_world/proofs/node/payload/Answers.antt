@@ -8,6 +8,6 @@ use Rattle.broadcast_world.proofs.node.payload.Goals as goal
 
 pub returns : goal.returns
 returns g c = λ w n p ranged equal.
-    let total = (g.met.P.Ord g.world.𝓛 g.world.𝓜 g.world.𝓡 (λ s x. x, λ x. x, λ x. x, λ x. x)).total in
+    let total = g.met.P.Ord.total in
     NodeFollows-from g.P.Ord.cmp total w n (event_payload p c.args.peer.now equal c.args.bytes.now) _ _ _ []
     (c.payload.ensures (at g.P.Ord.cmp w c.args.core.now.own) refl refl refl (ap (λ r. whole (read_message r)) ranged))

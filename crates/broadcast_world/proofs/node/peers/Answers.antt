@@ -9,8 +9,8 @@ use Rattle.broadcast_world.proofs.node.peers.Goals as goal
 
 pub returns-in-Ok : goal.returns-in-Ok
 returns-in-Ok g c = λ w n.
-    let total = (g.met.P.Ord g.world.𝓛 g.world.𝓜 g.world.𝓡 (λ s x. x, λ x. x, λ x. x, λ x. x)).total in
+    let total = g.met.P.Ord.total in
     let lawful = same_by-lawful total nat_list_cmp_total in
-    let copies = (g.met.P.PublicKey g.world.𝓛 g.world.𝓜 g.world.𝓡 (λ s x. x, λ x. x, λ x. x, λ x. x)).copies in
+    let copies = g.met.P.PublicKey.copies in
     NodeFollows-from g.P.Ord.cmp total w n (event_peers c.args.peers.now c.in-Ok.peers (AllZip-weaker _ _ c.args.peers.now c.in-Ok.peers copies c.in-Ok.ensures.cases)) _ _ _ []
     (λ past has. Applies-peers refl lawful has c.update_primary_peers.ensures)

@@ -2,4 +2,4 @@ use Rattle.broadcast_world.proofs.Places.{find-placed}
 use Rattle.broadcast_world.proofs.nodes.place_of.Goals as goal
 
 pub returns : goal.returns
-returns g c = find-placed (g.met.P.Ord g.world.𝓛 g.world.𝓜 g.world.𝓡 (λ s x. x, λ x. x, λ x. x, λ x. x)).total c.args.key.now c.args.nodes.now c.position.result c.as_slice-sorted.ensures.sorted c.position.ensures.place c.position.ensures.some
+returns g c = find-placed g.met.P.Ord.total c.args.key.now c.args.nodes.now c.position.result c.as_slice-sorted.ensures.sorted c.position.ensures.place c.position.ensures.some

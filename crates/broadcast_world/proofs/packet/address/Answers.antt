@@ -23,7 +23,7 @@ bounds-as_slice-place g c = omega (arith, slice_get_within c.args.nodes.now c.in
 pub returns-then-is_same : goal.returns-then-is_same
 returns-then-is_same g c = λ w is keys h.
     let same = eq_by_cmp g.P.Ord.cmp in
-    let total = (g.met.P.Ord g.world.𝓛 g.world.𝓜 g.world.𝓡 (λ s x. x, λ x. x, λ x. x, λ x. x)).total in
+    let total = g.met.P.Ord.total in
     let laws = eq_by_cmp_equiv total in
     let x = c.in-Some.ensures.0 in
     let n = c.args.sender.now in
@@ -44,7 +44,7 @@ returns-then-is_same g c = λ w is keys h.
 pub returns : goal.returns
 returns g c = λ w is keys h.
     let same = eq_by_cmp g.P.Ord.cmp in
-    let total = (g.met.P.Ord g.world.𝓛 g.world.𝓜 g.world.𝓡 (λ s x. x, λ x. x, λ x. x, λ x. x)).total in
+    let total = g.met.P.Ord.total in
     let laws = eq_by_cmp_equiv total in
     let x = c.in-Some.ensures.0 in
     let n = c.args.sender.now in
@@ -52,7 +52,7 @@ returns g c = λ w is keys h.
     let named = filter_map (node g.P.Ord.cmp w) keys in
     let read : c.index-as_slice-place.result ≡ x = key_read c.as_slice.result.now c.args.nodes.now c.in-Some.place x c.index-as_slice-place.result c.in-Some.ensures.1 c.as_slice.ensures.keys c.index-as_slice-place.is in
     let some = addressed-some g.P.Ord.cmp w n c.args.key.now x keys (rw is c.in-Some.ensures.2) in
-    let copied : same c.in_ok-clone.field-0 x ≡ true = laws.symm c.in_ok-clone.field-0 x ∙ ap (λ y. same y c.in_ok-clone.field-0) (sym read) ∙ (g.met.P.PublicKey g.world.𝓛 g.world.𝓜 g.world.𝓡 (λ s x. x, λ x. x, λ x. x, λ x. x)).copies _ _ c.in_ok-clone.ensures.cases in
+    let copied : same c.in_ok-clone.field-0 x ≡ true = laws.symm c.in_ok-clone.field-0 x ∙ ap (λ y. same y c.in_ok-clone.field-0) (sym read) ∙ g.met.P.PublicKey.copies _ _ c.in_ok-clone.ensures.cases in
     let other : same n x ≡ false = ap (same n) (sym read) ∙ sym c.is_same.ensures ∙ c.if-is_same.false in
     let fresh : list_any (λ k. same k x) to ≡ false =
     ap (λ y. list_any (λ k. same k y) to) (sym read) ∙ ap (λ ys. list_any (λ k. same k c.index-as_slice-place.result) ys) (sym c.deref.ensures.value) ∙ sym c.is_among.ensures ∙ c.if-is_among.false in

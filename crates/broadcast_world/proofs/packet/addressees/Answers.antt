@@ -15,7 +15,7 @@ returns-in_ok-address-in-One g c = λ w is. rw c.in-One.is (c.in_ok-address-in-O
 pub returns-in-All : goal.returns-in-All
 returns-in-All g c = λ w is.
     let cmp = g.P.Ord.cmp in
-    let total = (g.met.P.Ord g.world.𝓛 g.world.𝓜 g.world.𝓡 (λ s x. x, λ x. x, λ x. x, λ x. x)).total in
+    let total = g.met.P.Ord.total in
     let n = c.args.sender.now in
     let apart = subst (λ ns. IsDistinct (eq_by_cmp cmp) ns) (sym is) (IsDistinct-from_sorted cmp c.args.nodes.now c.as_slice.ensures.sorted) in
     let all : without (eq_by_cmp cmp) n c.as_slice.result.now ≡ addressed cmp w n c.args.recipients.now =

@@ -8,15 +8,15 @@ use Rattle.broadcast_world.proofs.packet.packets_for.Goals as goal
 
 pub loop-node-preserved : goal.loop-node-preserved
 loop-node-preserved g c = λ w.
-    let laws = eq_by_cmp_equiv (g.met.P.Ord g.world.𝓛 g.world.𝓜 g.world.𝓡 (λ s x. x, λ x. x, λ x. x, λ x. x)).total in
-    let copies = (g.met.P.PublicKey g.world.𝓛 g.world.𝓜 g.world.𝓡 (λ s x. x, λ x. x, λ x. x, λ x. x)).copies in
+    let laws = eq_by_cmp_equiv g.met.P.Ord.total in
+    let copies = g.met.P.PublicKey.copies in
     packets-push g.P.Ord.cmp w c.args.sender.now c.args.nodes.now c.loop-node.node-index c.node-item.result _ _ c.in_ok-bytes.bytes.value _ c.loop-node.packets.items c.push.new.self.items
     c.loop-node-test.true (c.loop-node.invariant w) c.in_ok-push.ensures.items c.node-item.is (laws.symm _ _ ∙ copies _ _ c.in_ok-clone.ensures.cases) (laws.symm _ _ ∙ copies _ _ c.in_ok-clone-2.ensures.cases) c.in_ok-try_clone.ensures
 
 pub returns : goal.returns
 returns g c = λ w to is.
     let cmp = g.P.Ord.cmp in
-    let total = (g.met.P.Ord g.world.𝓛 g.world.𝓜 g.world.𝓡 (λ s x. x, λ x. x, λ x. x, λ x. x)).total in
+    let total = g.met.P.Ord.total in
     let end = take_all c.loop-node.node-index c.args.nodes.now (omega arith) in
     let bytes : c.in_ok-bytes.bytes.value ≡ c.args.bytes.items = c.in_ok-bytes.ensures.ok ∙ c.from_vec.ensures in
     packets-copied cmp w total c.args.sender.now c.args.bytes.items c.loop-node.packets.items c.args.nodes.now to

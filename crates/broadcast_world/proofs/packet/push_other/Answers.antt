@@ -14,10 +14,10 @@ returns-then-is_same g c = λ given h.
 pub returns : goal.returns
 returns g c = λ given h.
     let same = eq_by_cmp g.P.Ord.cmp in
-    let laws = eq_by_cmp_equiv (g.met.P.Ord g.world.𝓛 g.world.𝓜 g.world.𝓡 (λ s x. x, λ x. x, λ x. x, λ x. x)).total in
+    let laws = eq_by_cmp_equiv g.met.P.Ord.total in
     let copy = c.in_ok-clone.field-0 in
     let key = c.args.key.now in
-    let copied : same copy key ≡ true = laws.symm copy key ∙ (g.met.P.PublicKey g.world.𝓛 g.world.𝓜 g.world.𝓡 (λ s x. x, λ x. x, λ x. x, λ x. x)).copies _ _ c.in_ok-clone.ensures.cases in
+    let copied : same copy key ≡ true = laws.symm copy key ∙ g.met.P.PublicKey.copies _ _ c.in_ok-clone.ensures.cases in
     let other : same c.args.sender.now key ≡ false = sym c.is_same.ensures ∙ c.if-is_same.false in
     rw other (subst (λ ps. AreEqual same ps (given ++ key ∷ [])) (sym c.in_ok-push.ensures.items)
     (AllZip-append _ c.args.to.now.items given (copy ∷ []) (key ∷ []) h (copied, tt)))

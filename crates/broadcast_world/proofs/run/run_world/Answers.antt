@@ -24,5 +24,5 @@ returns-clause-ok g c = λ log has.
 
 pub returns-clause-origins : goal.returns-clause-origins
 returns-clause-origins g c = λ log has.
-    let total = (g.met.P.Ord g.world.𝓛 g.world.𝓜 g.world.𝓡 (λ s x. x, λ x. x, λ x. x, λ x. x)).total in
+    let total = g.met.P.Ord.total in
     HasOrigins-from g.P.Ord.cmp total c.loop-step.world.scene (log_of c.args.steps.now c.from_vec.result ++ log) c.loop-step.world.cores (returns-clause-ok g c log has).world.cores

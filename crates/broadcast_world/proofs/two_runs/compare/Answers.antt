@@ -43,19 +43,19 @@ returns-clause-without_run g c =
 
 pub returns-clause-origins : goal.returns-clause-origins
 returns-clause-origins g c =
-    HasOrigins-from g.P.Ord.cmp (g.met.P.Ord g.world.𝓛 g.world.𝓜 g.world.𝓡 (λ s x. x, λ x. x, λ x. x, λ x. x)).total c.in_ok-both.both.with_world.scene
+    HasOrigins-from g.P.Ord.cmp g.met.P.Ord.total c.in_ok-both.both.with_world.scene
     (log_of c.args.steps.now c.in_ok-both.both.with_log.answers) c.in_ok-both.both.with_world.cores (returns-clause-with_run g c).world.cores
 
 pub returns-clause-clean_origins : goal.returns-clause-clean_origins
 returns-clause-clean_origins g c =
-    HasOrigins-from g.P.Ord.cmp (g.met.P.Ord g.world.𝓛 g.world.𝓜 g.world.𝓡 (λ s x. x, λ x. x, λ x. x, λ x. x)).total c.in_ok-both.both.without_world.scene
+    HasOrigins-from g.P.Ord.cmp g.met.P.Ord.total c.in_ok-both.both.without_world.scene
     (log_of (without_hostile c.args.steps.now) c.in_ok-both.both.without_log.answers) c.in_ok-both.both.without_world.cores (returns-clause-without_run g c).world.cores
 
 -- both runs compared
 laws : (g : given.Over) (c : goal.In_ok-both g)
     → Laws g.P.Ord.cmp c.in_ok-both.both.with_world.scene (log_of c.args.steps.now c.in_ok-both.both.with_log.answers) (log_of (without_hostile c.args.steps.now) c.in_ok-both.both.without_log.answers)
 laws g c =
-    Laws-from g.P.Ord.cmp (g.met.P.Ord g.world.𝓛 g.world.𝓜 g.world.𝓡 (λ s x. x, λ x. x, λ x. x, λ x. x)).total
+    Laws-from g.P.Ord.cmp g.met.P.Ord.total
     c.args.steps.now (without_hostile c.args.steps.now) c.in_ok-both.both.with_log.answers c.in_ok-both.both.without_log.answers _ _ _ _
     (c.in_ok-both.ensures.with_run [] c.in_ok-with_world.ensures.empty) (c.in_ok-both.ensures.without_run [] c.in_ok-without_world.ensures.empty)
     c.in_ok-without_world.ensures.scene c.in_ok-with_world.ensures.apart

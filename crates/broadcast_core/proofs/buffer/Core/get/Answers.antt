@@ -8,5 +8,5 @@ pub returns-clause-cached_iff_listed : goal.returns-clause-cached_iff_listed
 returns-clause-cached_iff_listed g c =
     let same = same_by g.P.Ord.cmp g.M.Digest.Ord.cmp in
     let st = c.self-inside.inside.0.1.0 in
-    let laws = eq_by_cmp_equiv (g.met.P.Ord g.world.𝓛 g.world.𝓜 g.world.𝓡 (λ s x. x, λ x. x, λ x. x, λ x. x)).total in
+    let laws = eq_by_cmp_equiv g.met.P.Ord.total in
     rw (← c.self.view_is, ← c.self-inside.view_is) (c.self-inside.invariant.messages c.args.digest.now ∙ stored-listed same laws st.deque_size st.byte_budget st.primary st.cache c.self-inside.invariant c.args.digest.now)

@@ -7,7 +7,7 @@ pub invariant_of-self-inside : goal.invariant_of-self-inside
 invariant_of-self-inside g c =
     let same = same_by g.P.Ord.cmp g.M.Digest.Ord.cmp in
     let st = c.self-inside.inside.0.1.0 in
-    let laws = eq_by_cmp_equiv (g.met.P.Ord g.world.𝓛 g.world.𝓜 g.world.𝓡 (λ s x. x, λ x. x, λ x. x, λ x. x)).total in
+    let laws = eq_by_cmp_equiv g.met.P.Ord.total in
     let keeps = kept same laws st.deque_size st.byte_budget c.args.peers st.primary st.cache c.retain_peers.new.self st.waiters c.self-inside.invariant (rw c.as_slice.ensures.keys at c.retain_peers.ensures) in
     IsCore-kept same laws st.deque_size st.byte_budget c.args.peers st.primary st.cache c.retain_peers.new.self st.waiters c.self-inside.invariant keeps
 
@@ -15,6 +15,6 @@ pub returns : goal.returns
 returns g c =
     let same = same_by g.P.Ord.cmp g.M.Digest.Ord.cmp in
     let st = c.self-inside.inside.0.1.0 in
-    let laws = eq_by_cmp_equiv (g.met.P.Ord g.world.𝓛 g.world.𝓜 g.world.𝓡 (λ s x. x, λ x. x, λ x. x, λ x. x)).total in
+    let laws = eq_by_cmp_equiv g.met.P.Ord.total in
     let keeps = kept same laws st.deque_size st.byte_budget c.args.peers st.primary st.cache c.retain_peers.new.self st.waiters c.self-inside.invariant (rw c.as_slice.ensures.keys at c.retain_peers.ensures) in
     rw (← c.self.view_is, ← c.self-inside.view_is) (TakesPeers-kept same laws st.deque_size st.byte_budget c.args.peers st.primary st.cache c.retain_peers.new.self st.waiters c.self-inside.invariant keeps c.self-inside.inside.0.0)

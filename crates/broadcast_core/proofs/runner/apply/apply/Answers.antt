@@ -5,7 +5,7 @@ use Rattle.broadcast_core.proofs.runner.apply.apply.Goals as goal
 
 pub returns-in-Peers : goal.returns-in-Peers
 returns-in-Peers g c = λ past has.
-    let lawful = same_by-lawful (g.met.P.Ord g.world.𝓛 g.world.𝓜 g.world.𝓡 (λ s x. x, λ x. x, λ x. x, λ x. x)).total (g.met.M.Digest.Ord g.world.𝓛 g.world.𝓜 g.world.𝓡 (λ s x. x, λ x. x, λ x. x, λ x. x)).total in
+    let lawful = same_by-lawful g.met.P.Ord.total (g.met.M.Digest.Ord g.world.𝓛 g.world.𝓜 g.world.𝓡 (λ s x. x, λ x. x, λ x. x, λ x. x)).total in
     rw c.in-Peers.is (Applies-peers refl lawful has c.update_primary_peers.ensures)
 
 pub returns-in-Broadcast : goal.returns-in-Broadcast

@@ -13,7 +13,7 @@ use Rattle.broadcast_core.proofs.runner.apply.cleanup.Goals as goal
 
 pub returns : goal.returns
 returns g c = λ s is past has.
-    let lawful = same_by-lawful (g.met.P.Ord g.world.𝓛 g.world.𝓜 g.world.𝓡 (λ s x. x, λ x. x, λ x. x, λ x. x)).total (g.met.M.Digest.Ord g.world.𝓛 g.world.𝓜 g.world.𝓡 (λ s x. x, λ x. x, λ x. x, λ x. x)).total in
+    let lawful = same_by-lawful g.met.P.Ord.total (g.met.M.Digest.Ord g.world.𝓛 g.world.𝓜 g.world.𝓡 (λ s x. x, λ x. x, λ x. x, λ x. x)).total in
     let same = same_by g.P.Ord.cmp g.M.Digest.Ord.cmp in
     let sorted = c.deref.result.now in
     let moved : IsPermutation c.args.gone sorted = rw (c.into_vec-gone.ensures, ← c.deref.ensures.value) at c.sort_unstable.ensures.permutation in

@@ -10,7 +10,7 @@ use Rattle.broadcast_core.proofs.runner.apply.payload.Goals as goal
 
 pub returns-in-Err : goal.returns-in-Err
 returns-in-Err g c = λ s is enc dg rd past has.
-    let lawful = same_by-lawful (g.met.P.Ord g.world.𝓛 g.world.𝓜 g.world.𝓡 (λ s x. x, λ x. x, λ x. x, λ x. x)).total (g.met.M.Digest.Ord g.world.𝓛 g.world.𝓜 g.world.𝓡 (λ s x. x, λ x. x, λ x. x, λ x. x)).total in
+    let lawful = same_by-lawful g.met.P.Ord.total (g.met.M.Digest.Ord g.world.𝓛 g.world.𝓜 g.world.𝓡 (λ s x. x, λ x. x, λ x. x, λ x. x)).total in
     elim c.in-Err.ensures [
       | inl h ↦
           let read : s.reading c.args.bytes.now ≡ Err c.in-Err.refusal = ap (λ f. f c.args.bytes.now) rd ∙ sym h in
@@ -25,7 +25,7 @@ returns-in-Err g c = λ s is enc dg rd past has.
 
 pub returns-in-Ok-take : goal.returns-in-Ok-take
 returns-in-Ok-take g c = λ s is enc dg rd past has.
-    let lawful = same_by-lawful (g.met.P.Ord g.world.𝓛 g.world.𝓜 g.world.𝓡 (λ s x. x, λ x. x, λ x. x, λ x. x)).total (g.met.M.Digest.Ord g.world.𝓛 g.world.𝓜 g.world.𝓡 (λ s x. x, λ x. x, λ x. x, λ x. x)).total in
+    let lawful = same_by-lawful g.met.P.Ord.total (g.met.M.Digest.Ord g.world.𝓛 g.world.𝓜 g.world.𝓡 (λ s x. x, λ x. x, λ x. x, λ x. x)).total in
     let r = c.in-Ok-take.ensures in
     let carried : c.in-Ok-compute.message ≡ own_digested s c.in-Ok.message = c.in-Ok-compute.ensures ∙ ap (λ f. record { message = c.in-Ok.message; digest = f c.in-Ok.message }) (sym dg) in
     let read : s.reading c.args.bytes.now ≡ Ok c.in-Ok.message = ap (λ f. f c.args.bytes.now) rd ∙ elim c.in-Ok.ensures [ inl h ↦ sym h | inr lacks ↦ absurd (let h = lacks.0 in cc) ] in

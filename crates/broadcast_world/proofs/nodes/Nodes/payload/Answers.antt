@@ -10,7 +10,7 @@ use Rattle.broadcast_world.proofs.nodes.Nodes.payload.Goals as goal
 
 pub returns-in_default-clause-node : goal.returns-in_default-clause-node
 returns-in_default-clause-node g c = λ w n p is ranged named from.
-    let total = (g.met.P.Ord g.world.𝓛 g.world.𝓜 g.world.𝓡 (λ s x. x, λ x. x, λ x. x, λ x. x)).total in
+    let total = g.met.P.Ord.total in
     subst (λ e. AtNode g.P.Ord.cmp w e c.args.self.now.cores.items c.args.self.now.cores.items NoSuch) (sym (event_at-equal g.P.Ord.cmp w total n c.args.key.now (event.Payload p c.args.bytes.now) named))
     (AtNode-none g.P.Ord.cmp w _ _ _ (rw is c.in_default.ensures.node))
 
@@ -19,7 +19,7 @@ index_mut-requires g c = omega (arith, c.in-Some.ensures.core, c.args.self.now.c
 
 pub returns-clause-node : goal.returns-clause-node
 returns-clause-node g c = λ w n p is ranged named from.
-    let total = (g.met.P.Ord g.world.𝓛 g.world.𝓜 g.world.𝓡 (λ s x. x, λ x. x, λ x. x, λ x. x)).total in
+    let total = g.met.P.Ord.total in
     let cores = c.args.self.now.cores.items in
     subst (λ e. AtNode g.P.Ord.cmp w e cores (slice_set cores c.in-Some.place c.payload.new.core) (Given c.payload.result)) (sym (event_at-equal g.P.Ord.cmp w total n c.args.key.now (event.Payload p c.args.bytes.now) named))
     (AtNode-given g.P.Ord.cmp w (node g.P.Ord.cmp w c.args.key.now) c.in-Some.ensures.node.0 (event.Payload p c.args.bytes.now) c.in-Some.place cores c.index_mut.result.now c.payload.new.core c.payload.result

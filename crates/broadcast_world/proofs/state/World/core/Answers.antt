@@ -13,7 +13,7 @@ use Rattle.broadcast_world.proofs.state.World.core.Goals as goal
 pub returns-in-None : goal.returns-in-None
 returns-in-None g c =
     let cmp = g.P.Ord.cmp in
-    let total = (g.met.P.Ord g.world.𝓛 g.world.𝓜 g.world.𝓡 (λ s x. x, λ x. x, λ x. x, λ x. x)).total in
+    let total = g.met.P.Ord.total in
     let nodes = arc_value c.self.inside.nodes.keys in
     let none = ap (λ ns. list_any (eq_by_cmp cmp c.args.key.now) ns) (sym c.deref-nodes.ensures) ∙ sym c.in-None.ensures.some in
     subst (λ now. None ≡ content_of cmp now c.args.key.now) c.self.view_is
@@ -22,7 +22,7 @@ returns-in-None g c =
 pub returns-in-Some : goal.returns-in-Some
 returns-in-Some g c =
     let cmp = g.P.Ord.cmp in
-    let total = (g.met.P.Ord g.world.𝓛 g.world.𝓜 g.world.𝓡 (λ s x. x, λ x. x, λ x. x, λ x. x)).total in
+    let total = g.met.P.Ord.total in
     let nodes = arc_value c.self.inside.nodes.keys in
     let key = c.args.key.now in
     let place = c.in-Some.place in

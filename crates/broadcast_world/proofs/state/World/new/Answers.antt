@@ -9,7 +9,7 @@ use Rattle.broadcast_world.proofs.state.World.new.Goals as goal
 
 pub returns-clause-apart : goal.returns-clause-apart
 returns-clause-apart g c = λ q here.
-    let total = (g.met.P.Ord g.world.𝓛 g.world.𝓜 g.world.𝓡 (λ s x. x, λ x. x, λ x. x, λ x. x)).total in
+    let total = g.met.P.Ord.total in
     let none = sym c.shares_key.ensures ∙ c.if-shares_key.false in
     let same = eq_by_cmp g.P.Ord.cmp in
     let scene = c.in_ok-over.ensures.scene in

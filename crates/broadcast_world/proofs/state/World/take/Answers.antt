@@ -12,7 +12,7 @@ use Rattle.broadcast_world.proofs.state.World.take.Goals as goal
 pub returns : goal.returns
 returns g c = λ log has.
     let cmp = g.P.Ord.cmp in
-    let total = (g.met.P.Ord g.world.𝓛 g.world.𝓜 g.world.𝓡 (λ s x. x, λ x. x, λ x. x, λ x. x)).total in
+    let total = g.met.P.Ord.total in
     let w : Scene g.row.P.Denot = record { nodes = arc_value c.self.inside.nodes.keys; hostile = arc_value c.self.inside.hostile; deque_size = c.self.inside.deque_size; byte_budget = c.self.inside.byte_budget; range = c.self.inside.range } in
     let step = c.args.step.now in
     let was = subst (λ now. HasWorld cmp log now) (sym c.self.view_is) has in

@@ -11,7 +11,7 @@ loop-stale-init g c = Shortening-start (same_by g.P.Ord.cmp g.M.Digest.Ord.cmp) 
 pub loop-stale-preserved : goal.loop-stale-preserved
 loop-stale-preserved g c =
     let same = same_by g.P.Ord.cmp g.M.Digest.Ord.cmp in
-    let key_laws = eq_by_cmp_equiv (g.met.P.Ord g.world.𝓛 g.world.𝓜 g.world.𝓡 (λ s x. x, λ x. x, λ x. x, λ x. x)).total in
+    let key_laws = eq_by_cmp_equiv g.met.P.Ord.total in
     let laws = eq_by_cmp_equiv (g.met.M.Digest.Ord g.world.𝓛 g.world.𝓜 g.world.𝓡 (λ s x. x, λ x. x, λ x. x, λ x. x)).total in
     Shortening-step same key_laws laws c.args.peer.now c.args.byte_budget c.self.inside.lists.lists c.loop-stale.self-inside.lists.lists c.evict_over.new.self.lists c.self.inside.table c.loop-stale.self-inside.table c.remove.new.self c.loop-stale.invariant
     c.in-Some.stale c.in-Some.ensures.0 c.in-Some.ensures.1 c.remove.ensures.left c.remove.ensures.placed
@@ -19,7 +19,7 @@ loop-stale-preserved g c =
 pub loop-stale-smaller : goal.loop-stale-smaller
 loop-stale-smaller g c =
     let same = same_by g.P.Ord.cmp g.M.Digest.Ord.cmp in
-    let key_laws = eq_by_cmp_equiv (g.met.P.Ord g.world.𝓛 g.world.𝓜 g.world.𝓡 (λ s x. x, λ x. x, λ x. x, λ x. x)).total in
+    let key_laws = eq_by_cmp_equiv g.met.P.Ord.total in
     let laws = eq_by_cmp_equiv (g.met.M.Digest.Ord g.world.𝓛 g.world.𝓜 g.world.𝓡 (λ s x. x, λ x. x, λ x. x, λ x. x)).total in
     Clearing-shorter same key_laws laws c.args.peer.now c.self.inside.lists.lists c.loop-stale.self-inside.lists.lists c.evict_over.new.self.lists c.self.inside.table c.loop-stale.self-inside.table c.remove.new.self c.loop-stale.invariant.clearing
     c.in-Some.stale c.in-Some.ensures.1
@@ -30,7 +30,7 @@ invariant_of-self g c = rw c.in_default.ensures.1 c.loop-stale.invariant.clearin
 pub returns : goal.returns
 returns g c =
     let same = same_by g.P.Ord.cmp g.M.Digest.Ord.cmp in
-    let key_laws = eq_by_cmp_equiv (g.met.P.Ord g.world.𝓛 g.world.𝓜 g.world.𝓡 (λ s x. x, λ x. x, λ x. x, λ x. x)).total in
+    let key_laws = eq_by_cmp_equiv g.met.P.Ord.total in
     let laws = eq_by_cmp_equiv (g.met.M.Digest.Ord g.world.𝓛 g.world.𝓜 g.world.𝓡 (λ s x. x, λ x. x, λ x. x, λ x. x)).total in
     let distinct = distinct-digests same.key c.loop-stale.self-inside.lists.lists (rw c.in_default.ensures.1 at c.len-new.ensures.distinct) in
     rw (← c.self.view_is) (Cuts-made same key_laws laws c.args.peer.now c.args.byte_budget c.self.inside.lists.lists c.loop-stale.self-inside.lists.lists c.evict_over.new.self.lists c.self.inside.table c.loop-stale.self-inside.table c.loop-stale.self-inside.table c.loop-stale.invariant

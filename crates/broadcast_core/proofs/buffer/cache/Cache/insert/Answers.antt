@@ -19,7 +19,7 @@ use Rattle.broadcast_core.proofs.buffer.cache.Cache.insert.Goals.{in-Some, in-No
 pub returns-in_err-found-clause-succeeds_on_duplicate : goal.returns-in_err-found-clause-succeeds_on_duplicate
 returns-in_err-found-clause-succeeds_on_duplicate g c =
     let same = same_by g.P.Ord.cmp g.M.Digest.Ord.cmp in
-    let key_laws = eq_by_cmp_equiv (g.met.P.Ord g.world.𝓛 g.world.𝓜 g.world.𝓡 (λ s x. x, λ x. x, λ x. x, λ x. x)).total in
+    let key_laws = eq_by_cmp_equiv g.met.P.Ord.total in
     let laws = eq_by_cmp_equiv (g.met.M.Digest.Ord g.world.𝓛 g.world.𝓜 g.world.𝓡 (λ s x. x, λ x. x, λ x. x, λ x. x)).total in
     let has = among-indexed same key_laws laws c.self.inside.lists.lists c.self.inside.table c.self.invariant c.args.message.now.digest c.args.peer.now in
     rw (← c.self.view_is) (no_duplicate _ _ (among-names same.digest c.args.message.now.digest _ ∙ has) c.in_err-found.ensures.fails_for_new_places)
@@ -27,7 +27,7 @@ returns-in_err-found-clause-succeeds_on_duplicate g c =
 pub invariant_of-self-in-Err : goal.invariant_of-self-in-Err
 invariant_of-self-in-Err g c =
     let same = same_by g.P.Ord.cmp g.M.Digest.Ord.cmp in
-    let key_laws = eq_by_cmp_equiv (g.met.P.Ord g.world.𝓛 g.world.𝓜 g.world.𝓡 (λ s x. x, λ x. x, λ x. x, λ x. x)).total in
+    let key_laws = eq_by_cmp_equiv g.met.P.Ord.total in
     let laws = eq_by_cmp_equiv (g.met.M.Digest.Ord g.world.𝓛 g.world.𝓜 g.world.𝓡 (λ s x. x, λ x. x, λ x. x, λ x. x)).total in
     let order = (g.met.M.Digest.Ord g.world.𝓛 g.world.𝓜 g.world.𝓡 (λ s x. x, λ x. x, λ x. x, λ x. x)).total in
     let none = sym c.in_ok-found.ensures.found ∙ c.in-None.is in
@@ -40,7 +40,7 @@ invariant_of-self-in-Err g c =
 pub returns-in-Err-clause-err : goal.returns-in-Err-clause-err
 returns-in-Err-clause-err g c =
     let same = same_by g.P.Ord.cmp g.M.Digest.Ord.cmp in
-    let key_laws = eq_by_cmp_equiv (g.met.P.Ord g.world.𝓛 g.world.𝓜 g.world.𝓡 (λ s x. x, λ x. x, λ x. x, λ x. x)).total in
+    let key_laws = eq_by_cmp_equiv g.met.P.Ord.total in
     let laws = eq_by_cmp_equiv (g.met.M.Digest.Ord g.world.𝓛 g.world.𝓜 g.world.𝓡 (λ s x. x, λ x. x, λ x. x, λ x. x)).total in
     let order = (g.met.M.Digest.Ord g.world.𝓛 g.world.𝓜 g.world.𝓡 (λ s x. x, λ x. x, λ x. x, λ x. x)).total in
     let none = sym c.in_ok-found.ensures.found ∙ c.in-None.is in
@@ -51,7 +51,7 @@ returns-in-Err-clause-err g c =
 pub returns-in-Err-clause-succeeds_on_duplicate : goal.returns-in-Err-clause-succeeds_on_duplicate
 returns-in-Err-clause-succeeds_on_duplicate g c =
     let same = same_by g.P.Ord.cmp g.M.Digest.Ord.cmp in
-    let key_laws = eq_by_cmp_equiv (g.met.P.Ord g.world.𝓛 g.world.𝓜 g.world.𝓡 (λ s x. x, λ x. x, λ x. x, λ x. x)).total in
+    let key_laws = eq_by_cmp_equiv g.met.P.Ord.total in
     let laws = eq_by_cmp_equiv (g.met.M.Digest.Ord g.world.𝓛 g.world.𝓜 g.world.𝓡 (λ s x. x, λ x. x, λ x. x, λ x. x)).total in
     let has = among-indexed same key_laws laws c.self.inside.lists.lists c.self.inside.table c.self.invariant c.args.message.now.digest c.args.peer.now in
     rw (← c.self.view_is) (no_duplicate _ _ (among-names same.digest c.args.message.now.digest _ ∙ has) (sym c.in_ok-found.ensures.found ∙ c.in-None.is))
@@ -59,7 +59,7 @@ returns-in-Err-clause-succeeds_on_duplicate g c =
 pub invariant_of-self-2 : goal.invariant_of-self-2
 invariant_of-self-2 g c =
     let same = same_by g.P.Ord.cmp g.M.Digest.Ord.cmp in
-    let key_laws = eq_by_cmp_equiv (g.met.P.Ord g.world.𝓛 g.world.𝓜 g.world.𝓡 (λ s x. x, λ x. x, λ x. x, λ x. x)).total in
+    let key_laws = eq_by_cmp_equiv g.met.P.Ord.total in
     let laws = eq_by_cmp_equiv (g.met.M.Digest.Ord g.world.𝓛 g.world.𝓜 g.world.𝓡 (λ s x. x, λ x. x, λ x. x, λ x. x)).total in
     let distinct = distinct-digests same.key c.self.inside.lists.lists c.len-old.ensures.distinct in
     elim c.match-found.branch [
@@ -81,7 +81,7 @@ invariant_of-self-2 g c =
 pub returns-clause-new : goal.returns-clause-new
 returns-clause-new g c =
     let same = same_by g.P.Ord.cmp g.M.Digest.Ord.cmp in
-    let key_laws = eq_by_cmp_equiv (g.met.P.Ord g.world.𝓛 g.world.𝓜 g.world.𝓡 (λ s x. x, λ x. x, λ x. x, λ x. x)).total in
+    let key_laws = eq_by_cmp_equiv g.met.P.Ord.total in
     let laws = eq_by_cmp_equiv (g.met.M.Digest.Ord g.world.𝓛 g.world.𝓜 g.world.𝓡 (λ s x. x, λ x. x, λ x. x, λ x. x)).total in
     let has = among-indexed same key_laws laws c.self.inside.lists.lists c.self.inside.table c.self.invariant c.args.message.now.digest c.args.peer.now in
     let found : c.match-found.found ≡ c.in_ok-found.found = elim c.match-found.branch [ in-Some w ↦ w.found-is ∙ sym w.in-Some.is | in-None+in-Ok w ↦ w.found-is ] in
@@ -90,7 +90,7 @@ returns-clause-new g c =
 pub returns-clause-ok : goal.returns-clause-ok
 returns-clause-ok g c = λ size shorter.
     let same = same_by g.P.Ord.cmp g.M.Digest.Ord.cmp in
-    let key_laws = eq_by_cmp_equiv (g.met.P.Ord g.world.𝓛 g.world.𝓜 g.world.𝓡 (λ s x. x, λ x. x, λ x. x, λ x. x)).total in
+    let key_laws = eq_by_cmp_equiv g.met.P.Ord.total in
     let laws = eq_by_cmp_equiv (g.met.M.Digest.Ord g.world.𝓛 g.world.𝓜 g.world.𝓡 (λ s x. x, λ x. x, λ x. x, λ x. x)).total in
     let fits = subst (λ s. length (items_at same.key c.args.peer.now s.lists) < size) (sym c.self.view_is) shorter in
     let distinct = distinct-digests same.key c.self.inside.lists.lists c.len-old.ensures.distinct in

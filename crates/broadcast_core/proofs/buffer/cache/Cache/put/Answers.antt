@@ -9,7 +9,7 @@ use Rattle.broadcast_core.proofs.buffer.cache.Cache.put.Goals as goal
 pub returns-then-deque_size-eq0-clause-ok : goal.returns-then-deque_size-eq0-clause-ok
 returns-then-deque_size-eq0-clause-ok g c =
     let same = same_by g.P.Ord.cmp g.M.Digest.Ord.cmp in
-    let key_laws = eq_by_cmp_equiv (g.met.P.Ord g.world.𝓛 g.world.𝓜 g.world.𝓡 (λ s x. x, λ x. x, λ x. x, λ x. x)).total in
+    let key_laws = eq_by_cmp_equiv g.met.P.Ord.total in
     let laws = eq_by_cmp_equiv (g.met.M.Digest.Ord g.world.𝓛 g.world.𝓜 g.world.𝓡 (λ s x. x, λ x. x, λ x. x, λ x. x)).total in
     let fits = subst (λ s. length (items_at same.key c.args.peer.now s.lists) ≤ c.args.deque_size) (sym c.self.view_is) c.requires.size in
     let distinct = distinct-digests same.key c.self.inside.lists.lists c.len-lists.ensures.distinct in

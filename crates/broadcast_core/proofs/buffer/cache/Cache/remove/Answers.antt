@@ -12,7 +12,7 @@ loop-stale-init g c = Clearing-start (same_by g.P.Ord.cmp g.M.Digest.Ord.cmp) c.
 pub loop-stale-preserved : goal.loop-stale-preserved
 loop-stale-preserved g c =
     let same = same_by g.P.Ord.cmp g.M.Digest.Ord.cmp in
-    let key_laws = eq_by_cmp_equiv (g.met.P.Ord g.world.𝓛 g.world.𝓜 g.world.𝓡 (λ s x. x, λ x. x, λ x. x, λ x. x)).total in
+    let key_laws = eq_by_cmp_equiv g.met.P.Ord.total in
     let laws = eq_by_cmp_equiv (g.met.M.Digest.Ord g.world.𝓛 g.world.𝓜 g.world.𝓡 (λ s x. x, λ x. x, λ x. x, λ x. x)).total in
     Clearing-step same key_laws laws c.args.peer.now c.self.inside.lists.lists c.loop-stale.self-inside.lists.lists c.evict.new.self.lists c.self.inside.table c.loop-stale.self-inside.table c.remove.new.self c.loop-stale.invariant
     c.in-Some.stale c.in-Some.ensures c.remove.ensures.left c.remove.ensures.placed
@@ -20,7 +20,7 @@ loop-stale-preserved g c =
 pub loop-stale-smaller : goal.loop-stale-smaller
 loop-stale-smaller g c =
     let same = same_by g.P.Ord.cmp g.M.Digest.Ord.cmp in
-    let key_laws = eq_by_cmp_equiv (g.met.P.Ord g.world.𝓛 g.world.𝓜 g.world.𝓡 (λ s x. x, λ x. x, λ x. x, λ x. x)).total in
+    let key_laws = eq_by_cmp_equiv g.met.P.Ord.total in
     let laws = eq_by_cmp_equiv (g.met.M.Digest.Ord g.world.𝓛 g.world.𝓜 g.world.𝓡 (λ s x. x, λ x. x, λ x. x, λ x. x)).total in
     Clearing-shorter same key_laws laws c.args.peer.now c.self.inside.lists.lists c.loop-stale.self-inside.lists.lists c.evict.new.self.lists c.self.inside.table c.loop-stale.self-inside.table c.remove.new.self c.loop-stale.invariant
     c.in-Some.stale c.in-Some.ensures
@@ -28,7 +28,7 @@ loop-stale-smaller g c =
 pub invariant_of-self : goal.invariant_of-self
 invariant_of-self g c =
     let same = same_by g.P.Ord.cmp g.M.Digest.Ord.cmp in
-    let key_laws = eq_by_cmp_equiv (g.met.P.Ord g.world.𝓛 g.world.𝓜 g.world.𝓡 (λ s x. x, λ x. x, λ x. x, λ x. x)).total in
+    let key_laws = eq_by_cmp_equiv g.met.P.Ord.total in
     let laws = eq_by_cmp_equiv (g.met.M.Digest.Ord g.world.𝓛 g.world.𝓜 g.world.𝓡 (λ s x. x, λ x. x, λ x. x, λ x. x)).total in
     (Clearing-end same key_laws laws c.args.peer.now c.self.inside.lists.lists c.loop-stale.self-inside.lists.lists c.evict.new.self.lists c.self.inside.table c.loop-stale.self-inside.table c.loop-stale.self-inside.table c.loop-stale.invariant
     c.remove-2.new.self.lists c.in_default.ensures.0 c.in_default.ensures.1 c.remove-2.ensures).0
@@ -36,7 +36,7 @@ invariant_of-self g c =
 pub returns : goal.returns
 returns g c =
     let same = same_by g.P.Ord.cmp g.M.Digest.Ord.cmp in
-    let key_laws = eq_by_cmp_equiv (g.met.P.Ord g.world.𝓛 g.world.𝓜 g.world.𝓡 (λ s x. x, λ x. x, λ x. x, λ x. x)).total in
+    let key_laws = eq_by_cmp_equiv g.met.P.Ord.total in
     let laws = eq_by_cmp_equiv (g.met.M.Digest.Ord g.world.𝓛 g.world.𝓜 g.world.𝓡 (λ s x. x, λ x. x, λ x. x, λ x. x)).total in
     let cleared = Clearing-end same key_laws laws c.args.peer.now c.self.inside.lists.lists c.loop-stale.self-inside.lists.lists c.evict.new.self.lists c.self.inside.table c.loop-stale.self-inside.table c.loop-stale.self-inside.table c.loop-stale.invariant
     c.remove-2.new.self.lists c.in_default.ensures.0 c.in_default.ensures.1 c.remove-2.ensures in

@@ -31,7 +31,7 @@ returns-in_default-clause-not_full g c = λ _. (
 pub returns-in_err-found-clause-succeeds_on_duplicate : goal.returns-in_err-found-clause-succeeds_on_duplicate
 returns-in_err-found-clause-succeeds_on_duplicate g c =
     let same = same_by g.P.Ord.cmp g.M.Digest.Ord.cmp in
-    let key_laws = eq_by_cmp_equiv (g.met.P.Ord g.world.𝓛 g.world.𝓜 g.world.𝓡 (λ s x. x, λ x. x, λ x. x, λ x. x)).total in
+    let key_laws = eq_by_cmp_equiv g.met.P.Ord.total in
     let laws = eq_by_cmp_equiv (g.met.M.Digest.Ord g.world.𝓛 g.world.𝓜 g.world.𝓡 (λ s x. x, λ x. x, λ x. x, λ x. x)).total in
     let has = among-indexed same key_laws laws c.self.inside.lists.lists c.self.inside.table c.self.invariant c.args.message.now.digest c.args.peer.now in
     rw (← c.self.view_is) (no_duplicate _ _ (among-names same.digest c.args.message.now.digest _ ∙ has) c.in_err-found.ensures.fails_for_new_places)
@@ -39,7 +39,7 @@ returns-in_err-found-clause-succeeds_on_duplicate g c =
 pub invariant_of-self-2 : goal.invariant_of-self-2
 invariant_of-self-2 g c =
     let same = same_by g.P.Ord.cmp g.M.Digest.Ord.cmp in
-    let key_laws = eq_by_cmp_equiv (g.met.P.Ord g.world.𝓛 g.world.𝓜 g.world.𝓡 (λ s x. x, λ x. x, λ x. x, λ x. x)).total in
+    let key_laws = eq_by_cmp_equiv g.met.P.Ord.total in
     let laws = eq_by_cmp_equiv (g.met.M.Digest.Ord g.world.𝓛 g.world.𝓜 g.world.𝓡 (λ s x. x, λ x. x, λ x. x, λ x. x)).total in
     let fits = subst (λ s. length (items_at same.key c.args.peer.now s.lists) ≤ c.args.deque_size) (sym c.self.view_is) c.requires.size in
     let distinct = distinct-digests same.key c.self.inside.lists.lists c.len-old.ensures.distinct in
@@ -64,7 +64,7 @@ invariant_of-self-2 g c =
 pub returns-clause-new : goal.returns-clause-new
 returns-clause-new g c =
     let same = same_by g.P.Ord.cmp g.M.Digest.Ord.cmp in
-    let key_laws = eq_by_cmp_equiv (g.met.P.Ord g.world.𝓛 g.world.𝓜 g.world.𝓡 (λ s x. x, λ x. x, λ x. x, λ x. x)).total in
+    let key_laws = eq_by_cmp_equiv g.met.P.Ord.total in
     let laws = eq_by_cmp_equiv (g.met.M.Digest.Ord g.world.𝓛 g.world.𝓜 g.world.𝓡 (λ s x. x, λ x. x, λ x. x, λ x. x)).total in
     let has = among-indexed same key_laws laws c.self.inside.lists.lists c.self.inside.table c.self.invariant c.args.message.now.digest c.args.peer.now in
     rw (← c.self.view_is) (flip-not (is_some c.in_ok-found.found) c.is_none-2.result c.is_none-2.ensures ∙ ap not (ap is_some c.in_ok-found.ensures.found ∙ sym has))
@@ -72,7 +72,7 @@ returns-clause-new g c =
 pub returns-clause-ok : goal.returns-clause-ok
 returns-clause-ok g c = λ _.
     let same = same_by g.P.Ord.cmp g.M.Digest.Ord.cmp in
-    let key_laws = eq_by_cmp_equiv (g.met.P.Ord g.world.𝓛 g.world.𝓜 g.world.𝓡 (λ s x. x, λ x. x, λ x. x, λ x. x)).total in
+    let key_laws = eq_by_cmp_equiv g.met.P.Ord.total in
     let laws = eq_by_cmp_equiv (g.met.M.Digest.Ord g.world.𝓛 g.world.𝓜 g.world.𝓡 (λ s x. x, λ x. x, λ x. x, λ x. x)).total in
     let fits = subst (λ s. length (items_at same.key c.args.peer.now s.lists) ≤ c.args.deque_size) (sym c.self.view_is) c.requires.size in
     let distinct = distinct-digests same.key c.self.inside.lists.lists c.len-old.ensures.distinct in

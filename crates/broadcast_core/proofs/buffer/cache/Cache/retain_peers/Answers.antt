@@ -10,7 +10,7 @@ use Rattle.broadcast_core.proofs.buffer.cache.Cache.retain_peers.Goals.{then-not
 pub loop-peer-preserved : goal.loop-peer-preserved
 loop-peer-preserved g c =
     let same = same_by g.P.Ord.cmp g.M.Digest.Ord.cmp in
-    let key_laws = eq_by_cmp_equiv (g.met.P.Ord g.world.𝓛 g.world.𝓜 g.world.𝓡 (λ s x. x, λ x. x, λ x. x, λ x. x)).total in
+    let key_laws = eq_by_cmp_equiv g.met.P.Ord.total in
     let seen = take c.loop-peer.peer-index c.args.was.now in
     let more : take (c.loop-peer.peer-index + 1) c.args.was.now ≡ seen ++ c.peer-item.result ∷ [] =
     take_more c.args.was.now c.loop-peer.peer-index c.peer-item.result c.loop-peer-test.true ∙ ap (λ p. seen ++ p ∷ []) (sym c.peer-item.is) in
@@ -26,7 +26,7 @@ loop-peer-preserved g c =
 pub returns : goal.returns
 returns g c =
     let same = same_by g.P.Ord.cmp g.M.Digest.Ord.cmp in
-    let key_laws = eq_by_cmp_equiv (g.met.P.Ord g.world.𝓛 g.world.𝓜 g.world.𝓡 (λ s x. x, λ x. x, λ x. x, λ x. x)).total in
+    let key_laws = eq_by_cmp_equiv g.met.P.Ord.total in
     let laws = eq_by_cmp_equiv (g.met.M.Digest.Ord g.world.𝓛 g.world.𝓜 g.world.𝓡 (λ s x. x, λ x. x, λ x. x, λ x. x)).total in
     let all = take_all c.loop-peer.peer-index c.args.was.now (omega arith) in
     let dropping = subst (λ ps. Dropping same ps c.args.peers.now c.args.self.now c.loop-peer.self) all c.loop-peer.invariant in

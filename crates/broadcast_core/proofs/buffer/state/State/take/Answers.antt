@@ -9,7 +9,7 @@ use Rattle.broadcast_core.proofs.buffer.state.State.take.Goals as goal
 pub invariant_of-self-2 : goal.invariant_of-self-2
 invariant_of-self-2 g c =
     let same = same_by g.P.Ord.cmp g.M.Digest.Ord.cmp in
-    let key_laws = eq_by_cmp_equiv (g.met.P.Ord g.world.𝓛 g.world.𝓜 g.world.𝓡 (λ s x. x, λ x. x, λ x. x, λ x. x)).total in
+    let key_laws = eq_by_cmp_equiv g.met.P.Ord.total in
     let laws = eq_by_cmp_equiv (g.met.M.Digest.Ord g.world.𝓛 g.world.𝓜 g.world.𝓡 (λ s x. x, λ x. x, λ x. x, λ x. x)).total in
     let waits = rw c.digest.ensures at c.take-served.ensures.left in
     IsCore-taken same key_laws c.self.inside.deque_size c.self.inside.byte_budget laws c.args.peer.now c.args.message.now c.self.inside.primary c.self.inside.cache c.store.new.cache
@@ -18,7 +18,7 @@ invariant_of-self-2 g c =
 pub returns : goal.returns
 returns g c = λ own.
     let same = same_by g.P.Ord.cmp g.M.Digest.Ord.cmp in
-    let key_laws = eq_by_cmp_equiv (g.met.P.Ord g.world.𝓛 g.world.𝓜 g.world.𝓡 (λ s x. x, λ x. x, λ x. x, λ x. x)).total in
+    let key_laws = eq_by_cmp_equiv g.met.P.Ord.total in
     let laws = eq_by_cmp_equiv (g.met.M.Digest.Ord g.world.𝓛 g.world.𝓜 g.world.𝓡 (λ s x. x, λ x. x, λ x. x, λ x. x)).total in
     let waits = rw c.digest.ensures at c.take-served.ensures.left in
     rw (← c.self.view_is) (record {

@@ -29,7 +29,7 @@ returns-in-Arrived-clause-applied g c = λ s e encoding priority past has.
 
 pub returns-clause-applied : goal.returns-clause-applied
 returns-clause-applied g c = λ s e encoding priority past has.
-    let lawful = same_by-lawful (g.met.P.Ord g.world.𝓛 g.world.𝓜 g.world.𝓡 (λ s x. x, λ x. x, λ x. x, λ x. x)).total (g.met.M.Digest.Ord g.world.𝓛 g.world.𝓜 g.world.𝓡 (λ s x. x, λ x. x, λ x. x, λ x. x)).total in
+    let lawful = same_by-lawful g.met.P.Ord.total (g.met.M.Digest.Ord g.world.𝓛 g.world.𝓜 g.world.𝓡 (λ s x. x, λ x. x, λ x. x, λ x. x)).total in
     rw c.in-Invalid.is (Applied-silent s (λ w b. g.S.Responder.may_answer w.responder b) g.O.Outlet.told g.N.Sender.told past (Invalid c.in-Invalid.error) [] (turn.Invalid c.in-Invalid.error)
     c.args.node.now (record c.args.node.now { metrics = c.count_receive.new.self }) c.args.sender.now
     (Steps-invalid e lawful (λ w b. g.S.Responder.may_answer w.responder b) g.O.Outlet.told past c.args.node.now has c.in-Invalid.error c.count_receive.new.self c.count_receive.ensures) refl refl)

@@ -17,7 +17,7 @@ returns-in-Err-clause-applied g c = λ s e encoding priority past has ticket cou
 
 pub returns-in-Ok-take_own-clause-applied : goal.returns-in-Ok-take_own-clause-applied
 returns-in-Ok-take_own-clause-applied g c = λ s e encoding priority past has ticket counted.
-    let lawful = same_by-lawful (g.met.P.Ord g.world.𝓛 g.world.𝓜 g.world.𝓡 (λ s x. x, λ x. x, λ x. x, λ x. x)).total (g.met.M.Digest.Ord g.world.𝓛 g.world.𝓜 g.world.𝓡 (λ s x. x, λ x. x, λ x. x, λ x. x)).total in
+    let lawful = same_by-lawful g.met.P.Ord.total (g.met.M.Digest.Ord g.world.𝓛 g.world.𝓜 g.world.𝓡 (λ s x. x, λ x. x, λ x. x, λ x. x)).total in
     let m = c.args.message in
     let spelled : s.encoding m.message ≡ Some c.in-Ok.bytes.items = ap (λ f. f m.message) encoding ∙ c.in-Ok.ensures.ok in
     let serves = c.in-Ok-take_own.ensures.serves in

@@ -18,7 +18,7 @@ returns-clause-steps g c =
     ] in (
       got (record { ticket = c.args.ticket; responder = c.args.responder }) c.match-get.found handed.0 ∷ [],
       λ s e past has counted.
-          let lawful = same_by-lawful (g.met.P.Ord g.world.𝓛 g.world.𝓜 g.world.𝓡 (λ s x. x, λ x. x, λ x. x, λ x. x)).total (g.met.M.Digest.Ord g.world.𝓛 g.world.𝓜 g.world.𝓡 (λ s x. x, λ x. x, λ x. x, λ x. x)).total in
+          let lawful = same_by-lawful g.met.P.Ord.total (g.met.M.Digest.Ord g.world.𝓛 g.world.𝓜 g.world.𝓡 (λ s x. x, λ x. x, λ x. x, λ x. x)).total in
           Steps-got e lawful (λ w b. g.S.Responder.may_answer w.responder b) g.O.Outlet.told past c.args.node.now has
           (record { ticket = c.args.ticket; responder = c.args.responder }) c.args.digest handed.0 counted c.match-get.found c.respond_get.new.outlet c.respond_get.new.metrics found handed.1,
     )

@@ -16,7 +16,7 @@ returns-in-Ok-Answered-clause-steps g c =
     let is = rw c.in-Ok-Answered.field-0-is at c.in-Ok-Answered.ensures.ok in (
       replies,
       λ s e past has counted.
-          let lawful = same_by-lawful (g.met.P.Ord g.world.𝓛 g.world.𝓜 g.world.𝓡 (λ s x. x, λ x. x, λ x. x, λ x. x)).total (g.met.M.Digest.Ord g.world.𝓛 g.world.𝓜 g.world.𝓡 (λ s x. x, λ x. x, λ x. x, λ x. x)).total in
+          let lawful = same_by-lawful g.met.P.Ord.total (g.met.M.Digest.Ord g.world.𝓛 g.world.𝓜 g.world.𝓡 (λ s x. x, λ x. x, λ x. x, λ x. x)).total in
           Steps-subscribed e lawful (λ w b. g.S.Responder.may_answer w.responder b) g.O.Outlet.told past c.args.node.now has
           (record { ticket = c.args.ticket; responder = c.args.responder }) c.args.digest c.subscribe.new.self (outcome.Answered c.in-Ok-Answered.waiter x) replies counted
           c.respond_subscribe.new.outlet c.respond_subscribe.new.metrics
@@ -29,7 +29,7 @@ returns-in-Ok-Waiting-clause-steps g c =
     let is = rw c.in-Ok-Waiting.field-0-is at c.in-Ok-Waiting.ensures.ok in (
       [],
       λ s e past has counted.
-          let lawful = same_by-lawful (g.met.P.Ord g.world.𝓛 g.world.𝓜 g.world.𝓡 (λ s x. x, λ x. x, λ x. x, λ x. x)).total (g.met.M.Digest.Ord g.world.𝓛 g.world.𝓜 g.world.𝓡 (λ s x. x, λ x. x, λ x. x, λ x. x)).total in
+          let lawful = same_by-lawful g.met.P.Ord.total (g.met.M.Digest.Ord g.world.𝓛 g.world.𝓜 g.world.𝓡 (λ s x. x, λ x. x, λ x. x, λ x. x)).total in
           Steps-subscribed e lawful (λ w b. g.S.Responder.may_answer w.responder b) g.O.Outlet.told past c.args.node.now has
           (record { ticket = c.args.ticket; responder = c.args.responder }) c.args.digest c.subscribe.new.self outcome.Waiting [] counted
           c.args.node.now.outlet c.args.node.now.metrics
