@@ -2,9 +2,10 @@
 ghost use Rattle.std.specs.Prelude.{◌≡◌, IfSome};
 ghost use Rattle.broadcast_mailbox.specs.Waited.{get_waited};
 ghost use Rattle.futures.specs.Channel.{completed_source};
+ghost use Rattle.futures.specs.Poll.{IfReady};
 ghost use Rattle.broadcast_mailbox.specs.Asked.{GoesBy, get_returns};
 
-use crate::buffered::ingress::reply::{Reply, Returns};
+use crate::buffered::ingress::reply::{Reply, Returns, try_receive};
 use broadcast_core::{Digested, Digestible};
 use futures::Future;
 use futures::channel::oneshot::{Canceled, Receiver};
@@ -50,6 +51,17 @@ impl<M: Digestible> Get<M> {
         ensures { IfSome result (λ message. GoesBy M.Digest.cmp self.digest message) }
     {
         waited(block_on(rt, self))
+    }
+
+    /// Returns what the future gives, or that it is pending while the reply is not there. Waits for
+    /// nobody. Once the reply was returned, later calls give `None`.
+    pub fn try_wait(&mut self) -> Poll<Option<Digested<M>>>
+        ensures gives { IfReady result (λ outcome.
+            IfSome outcome (λ message. GoesBy M.Digest.cmp self.old.digest message)) }
+        ensures same { self.new ≡ self.old }
+    {
+        let received = try_receive(&mut self.receiver);
+        self.returned(received)
     }
 }
 

@@ -1,5 +1,6 @@
 //! The reply to a request, and what a future makes of it.
 ghost use Rattle.std.specs.Prelude.{◌≡◌, Result};
+ghost use Rattle.futures.specs.Channel.{completed_source};
 ghost use Rattle.futures.specs.declared.task.Poll.{Poll};
 ghost use Rattle.futures.specs.declared.channel.oneshot.Canceled.{Canceled};
 ghost use Rattle.std.specs.Ordering.{on, eq_of_both};
@@ -7,7 +8,7 @@ ghost use Rattle.std.specs.Cmp.Rules.{comparing};
 ghost use Rattle.std.proofs.Common.{rules};
 
 use broadcast_core::{Digested, Digestible};
-use futures::channel::oneshot::Canceled;
+use futures::channel::oneshot::{Canceled, Receiver};
 use futures::task::Poll;
 use std::alloc::AllocError;
 use std::marker::Model;
@@ -97,4 +98,15 @@ pub(super) trait Returns {
     /// Returns what a poll returns if the channel returned `polled`.
     fn returned(&self, polled: Poll<Result<Self::Reply, Canceled>>) -> Poll<Self::Output>
         ensures { result ≡ returns self.now polled };
+}
+
+/// Returns what a poll of the channel would return, and registers nobody.
+pub(super) fn try_receive<T: Drop>(receiver: &mut Receiver<T>) -> Poll<Result<T, Canceled>>
+    ensures { completed_source receiver.new ≡ completed_source receiver.old }
+{
+    match receiver.try_recv() {
+        Ok(Some(reply)) => Poll::Ready(Ok(reply)),
+        Ok(None) => Poll::Pending,
+        Err(canceled) => Poll::Ready(Err(canceled)),
+    }
 }

@@ -2,9 +2,10 @@
 ghost use Rattle.std.specs.Prelude.{◌≡◌, IfOk};
 ghost use Rattle.broadcast_mailbox.specs.Waited.{subscription_waited};
 ghost use Rattle.futures.specs.Channel.{completed_source};
+ghost use Rattle.futures.specs.Poll.{IfReady};
 ghost use Rattle.broadcast_mailbox.specs.Asked.{GoesBy, subscription_returns};
 
-use crate::buffered::ingress::reply::{Reply, Returns};
+use crate::buffered::ingress::reply::{Reply, Returns, try_receive};
 use broadcast_core::{Digested, Digestible};
 use futures::Future;
 use futures::channel::oneshot::{Canceled, Receiver};
@@ -49,6 +50,17 @@ impl<M: Digestible> Subscription<M> {
         ensures { IfOk result (λ message. GoesBy M.Digest.cmp self.digest message) }
     {
         waited(block_on(rt, self))
+    }
+
+    /// Returns what the future gives, or that it is pending while the message is not there. Waits
+    /// for nobody. Once the message was returned, later calls give that it is canceled.
+    pub fn try_wait(&mut self) -> Poll<Result<Digested<M>, Canceled>>
+        ensures gives { IfReady result (λ outcome.
+            IfOk outcome (λ message. GoesBy M.Digest.cmp self.old.digest message)) }
+        ensures same { self.new ≡ self.old }
+    {
+        let received = try_receive(&mut self.receiver);
+        self.returned(received)
     }
 }
 
