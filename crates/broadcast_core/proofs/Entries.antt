@@ -9,7 +9,7 @@ use Rattle.std.specs.Ordering.{is_eq}
 use Rattle.std.proofs.lemmas.Cmp.{tied_itself}
 use Rattle.broadcast_core.proofs.Distinct.{by_test}
 
-by_order : {G : Type 0} (r s : Ordering) → s ≡ r → (s ≡ Less → G) → (s ≡ Equal → G) → (s ≡ Greater → G) → G
+pub by_order : {G : Type 0} (r s : Ordering) → s ≡ r → (s ≡ Less → G) → (s ≡ Equal → G) → (s ≡ Greater → G) → G
 by_order Less s e l m n = l e
 by_order Equal s e l m n = m e
 by_order Greater s e l m n = n e

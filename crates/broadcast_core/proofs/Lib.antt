@@ -5,6 +5,7 @@ pub mod Distinct
 pub mod Gone
 pub mod Entries
 pub mod WaitersLemmas
+pub mod Cleaning
 pub mod Taking
 pub mod Placing
 pub mod Indexing

@@ -1,7 +1,7 @@
 -- Who waits, after a push, a take and a cleanup.
-use Rattle.std.proofs.Common.{◌≡◌, ℕ, ◌+◌, ◌-◌, ◌<◌, ◌≤◌, Bool, true, false, not, cond, List, [], ◌∷◌, ◌++◌, length, length-append, Option, Some, None, refl, sym, ap, ◌∙◌, subst, arith, inl, inr}
+use Rattle.std.proofs.Common.{◌≡◌, ◌+◌, ◌<◌, ◌≤◌, Bool, true, false, not, cond, List, [], ◌∷◌, ◌++◌, length, length-append, Option, Some, None, refl, sym, ap, ◌∙◌, subst, arith, inl, inr}
 use Rattle.std.specs.Prelude.{nat_lt, unwrap_or}
-use Rattle.std.specs.List.{filter, count_by, sum_by, IsDistinct, AllByRecursion, items_where_true}
+use Rattle.std.specs.List.{filter, count_by, IsDistinct, AllByRecursion, items_where_true}
 use Rattle.std.specs.List.Retain.{IsFiltered, ReturnsInTurn}
 use Rattle.std.specs.List.Sorted.{IsStrictlySortedBy}
 use Rattle.std.specs.Map.{lookup, keys_of}
@@ -15,7 +15,7 @@ use Rattle.std.proofs.lemmas.List.Filters.{length-filter_both}
 use Rattle.std.proofs.lemmas.List.Sums.{sum_by-cons, length-filter}
 use Rattle.std.proofs.lemmas.Map.Keys.{IsDistinct-from_sorted, IsDistinct-head, IsDistinct-tail}
 use Rattle.broadcast_core.specs.Content.{items_at}
-use Rattle.broadcast_core.specs.Waiters.{NoneEmpty, AreAwaited, waiting_in, is_gone, gone_from, DropsClosed}
+use Rattle.broadcast_core.specs.Waiters.{NoneEmpty, AreAwaited, waiting_in, DropsClosed}
 use Rattle.broadcast_core.proofs.Distinct.{by_test}
 use Rattle.broadcast_core.proofs.Entries.{lookup-equal}
 
@@ -152,21 +152,6 @@ module _ {D W : Type 0} (R : List W → List W → Type 0) where
       (λ s. rw s (sum_by-cons (λ (x : D × List W). length x.1) (e.0, w) rest))
       (λ s. rw s (let none : length w ≡ 0 = ap length (nothing_from w s) in omega (arith, none)))
 
-  -- as many are gone as are gone from each list
-  pub waiting-kept : (n : List W → ℕ) → ((v w : List W) → R v w → length w + n v ≡ length v) → (es kept : List (D × List W)) → Kept R es kept
-      → waiting_in kept + sum_by (λ e. n e.1) es ≡ waiting_in es
-  waiting-kept n less [] kept h = rw h refl
-  waiting-kept n less (e ∷ es) kept (w, rest, r, more, is) =
-      omega (
-        arith,
-        ap waiting_in is,
-        waiting-cons w e rest,
-        less e.1 w r,
-        waiting-kept n less es rest more,
-        sum_by-cons (λ (x : D × List W). n x.1) e es,
-        sum_by-cons (λ (x : D × List W). length x.1) e es,
-      )
-
   pub waiting-fewer : ((v w : List W) → R v w → length w ≤ length v) → (es kept : List (D × List W)) → Kept R es kept → waiting_in kept ≤ waiting_in es
   waiting-fewer less [] kept h = rw h (omega arith)
   waiting-fewer less (e ∷ es) kept (w, rest, r, more, is) =
@@ -175,20 +160,6 @@ module _ {D W : Type 0} (R : List W → List W → Type 0) where
 -- those that pass and those that fail
 pub length-filter_not : {W : Type 0} (p : W → Bool) (xs : List W) → length (filter (λ x. not (p x)) xs) + count_by p xs ≡ length xs
 length-filter_not p xs = omega (arith, length-filter_both p (λ x. not (p x)) (λ x. refl) xs, length-filter p xs)
-
--- what a cleanup of the tickets leaves of a list
-abbrev pub Leaves : {W : Type 0} → (W → ℕ) → List ℕ → List W → List W → Type 0
-Leaves ticket_of gone v w = w ≡ filter (λ x. not (is_gone ticket_of gone x)) v
-
-pub gone-counted : {D W : Type 0} (ticket_of : W → ℕ) (gone : List ℕ) (es kept : List (D × List W)) → Kept (Leaves ticket_of gone) es kept
-    → waiting_in kept + gone_from ticket_of gone es ≡ waiting_in es
-gone-counted ticket_of gone es kept h =
-    waiting-kept (Leaves ticket_of gone) (count_by (is_gone ticket_of gone))
-    (λ v w r. ap (λ x. length x + count_by (is_gone ticket_of gone) v) r ∙ length-filter_not (is_gone ticket_of gone) v) es kept h
-
--- what so many fewer are
-pub fewer_counted : (before after gone : ℕ) → after + gone ≡ before → before - after ≡ gone
-fewer_counted before after gone h = omega arith
 
 module _ {W : Type 0} (answers : W → Bool → Type 0) where
   pub length-DropsClosed : (xs ys : List W) → DropsClosed answers xs ys → length ys ≤ length xs

@@ -1,5 +1,5 @@
 -- The waiters, by digest, and the effect of a cleanup on them.
-use Rattle.std.specs.Prelude.{◌≡◌, ℕ, ◌-◌, ◌<◌, ◌^◌, ◌==◌, min, Bool, true, false, List, [], ◌∷◌, length, Some, ◌⊎◌}
+use Rattle.std.specs.Prelude.{◌≡◌, ℕ, ◌-◌, ◌<◌, ◌^◌, ◌==◌, min, Bool, true, false, if◌then◌else◌, List, [], ◌∷◌, length, Option, None, Some, ◌⊎◌}
 use Rattle.std.specs.List.{list_any, count_by, sum_by}
 use Rattle.std.specs.List.Sorted.{IsStrictlySortedBy}
 use Rattle.std.specs.Map.{lookup, keys_of}
@@ -27,6 +27,11 @@ is_gone ticket_of gone w = list_any (λ t. ticket_of w == t) gone
 -- the number of waiters whose tickets are gone
 abbrev pub gone_from : {D W : Type 0} → (W → ℕ) → List ℕ → List (D × List W) → ℕ
 gone_from ticket_of gone es = sum_by (λ e. count_by (is_gone ticket_of gone) e.1) es
+
+-- the first digest of which a waiter passes the test
+abbrev pub first_with : {D W : Type 0} → (W → Bool) → List (D × List W) → Option D
+first_with test [] = None
+first_with test (e ∷ es) = if list_any test e.1 then Some e.0 else first_with test es
 
 -- each waiter is asked once, in order, and those that are closed are dropped
 abbrev pub DropsClosed : {W : Type 0} → (W → Bool → Type 0) → List W → List W → Type 0

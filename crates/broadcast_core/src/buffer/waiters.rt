@@ -1,10 +1,12 @@
 //! The waiters, by digest.
 ghost use Rattle.std.specs.Prelude.{◌≡◌, ℕ, ◌+◌, ◌++◌, [], ◌∷◌, not, nat_lt, length, if◌then◌else◌, OnOk, IfErr};
-ghost use Rattle.std.specs.List.{filter, IsDistinct};
+ghost use Rattle.std.specs.List.{filter, count_by, list_any, IsDistinct};
+ghost use Rattle.std.specs.BTreeMap.Range.{entries_between};
+ghost use Rattle.std.specs.declared.ops.Bound.TheVariants.{Unbounded};
 ghost use Rattle.std.specs.Map.{keys_of};
 ghost use Rattle.std.specs.Ordering.{eq_by_cmp};
 ghost use Rattle.broadcast_core.specs.Content.{items_at};
-ghost use Rattle.broadcast_core.specs.Waiters.{NoneEmpty, waiting_in, is_gone, gone_from, DropsClosed, counted};
+ghost use Rattle.broadcast_core.specs.Waiters.{NoneEmpty, AreAwaited, waiting_in, is_gone, gone_from, first_with, DropsClosed, counted};
 
 use crate::buffer::gone::Gone;
 use crate::items::Items;
@@ -12,6 +14,7 @@ use crate::requests::{Closable, Ticketed};
 use std::alloc::{AllocError, Global};
 use std::collections::BTreeMap;
 use std::marker::Model;
+use std::ops::Bound;
 
 /// The waiters of each digest, in the order in which they came.
 #[derive(Drop)]
@@ -115,11 +118,15 @@ impl<D: Ord + Copy, W: Drop> Waiters<D, W> {
         ensures distinct { IsDistinct (eq_by_cmp D.cmp) (keys_of self.old) }
         ensures distinct_left { IsDistinct (eq_by_cmp D.cmp) (keys_of self.new) }
     {
-        let before = total(&self.by_digest);
         let gone = Gone::new(gone);
-        self.by_digest
-            .retain(|_, waiters| drop_gone(waiters, &gone));
-        clamped(before - total(&self.by_digest))
+        let mut removed = 0u64;
+        let mut after = Bound::Unbounded;
+        while let Some(digest) = next_gone(&self.by_digest, after, &gone) {
+            let dropped = drop_gone(&mut self.by_digest, &digest, &gone);
+            removed = removed.saturating_add(dropped as u64);
+            after = Bound::Excluded(digest);
+        }
+        removed
     }
 
     /// Drops every waiter that is closed, asking each of them once. Returns how many, saturating at
@@ -174,13 +181,66 @@ fn clamped(number: u128) -> u64
     u64::try_from(number).unwrap_or(u64::MAX)
 }
 
-/// Drops the waiters whose ticket is in `gone`. Returns whether any is left.
-fn drop_gone<W: Ticketed + Drop>(waiters: &mut Items<W>, gone: &Gone<'_>) -> bool
-    ensures kept { waiters.new ≡ filter (λ w. not (is_gone W.ticket_of gone.now w)) waiters.old }
-    ensures left { result ≡ nat_lt 0 (length waiters.new) }
+/// Returns the first digest behind the bound that has a waiter whose ticket is in `gone`.
+fn next_gone<D: Ord + Copy, W: Ticketed>(
+    by_digest: &BTreeMap<D, Items<W>>,
+    after: Bound<D>,
+    gone: &Gone<'_>,
+) -> Option<D>
+    ensures { result ≡ first_with (is_gone W.ticket_of gone.now)
+        (entries_between D.cmp after Unbounded by_digest.now.entries) }
+{
+    for (digest, waiters) in by_digest.range((after, Bound::Unbounded)) {
+        if any_gone(waiters, gone) {
+            return Some(*digest);
+        }
+    }
+    None
+}
+
+/// Returns whether the ticket of a waiter is in `gone`.
+fn any_gone<W: Ticketed>(waiters: &Items<W>, gone: &Gone<'_>) -> bool
+    ensures { result ≡ list_any (is_gone W.ticket_of gone.now) waiters.now }
+{
+    waiters.iter().any(|waiter| gone.has(waiter.ticket()))
+}
+
+/// Drops the waiters of `digest` whose ticket is in `gone`. Returns how many.
+fn drop_gone<D: Ord + Copy, W: Ticketed + Drop>(
+    by_digest: &mut BTreeMap<D, Items<W>>,
+    digest: &D,
+    gone: &Gone<'_>,
+) -> usize
+    requires { AreAwaited D.cmp by_digest.old.entries }
+    ensures awaited { AreAwaited D.cmp by_digest.new.entries }
+    ensures lists { let same = eq_by_cmp D.cmp in
+        (e : D) → items_at same e by_digest.new.entries
+        ≡ (if same digest.now e
+        then filter (λ w. not (is_gone W.ticket_of gone.now w))
+        (items_at same e by_digest.old.entries)
+        else items_at same e by_digest.old.entries) }
+    ensures dropped { result ≡ count_by (is_gone W.ticket_of gone.now)
+        (items_at (eq_by_cmp D.cmp) digest.now by_digest.old.entries) }
+    ensures removed { gone_from W.ticket_of gone.now by_digest.new.entries + result
+        ≡ gone_from W.ticket_of gone.now by_digest.old.entries }
+{
+    let Some(waiters) = by_digest.get_mut(digest) else {
+        return 0;
+    };
+    let before = waiters.len();
+    retain_waiting(waiters, gone);
+    let left = waiters.len();
+    if left == 0 {
+        by_digest.remove(digest);
+    }
+    before - left
+}
+
+/// Drops the waiters whose ticket is in `gone`.
+fn retain_waiting<W: Ticketed + Drop>(waiters: &mut Items<W>, gone: &Gone<'_>)
+    ensures { waiters.new ≡ filter (λ w. not (is_gone W.ticket_of gone.now w)) waiters.old }
 {
     waiters.retain(|waiter| !gone.has(waiter.ticket()));
-    waiters.len() > 0
 }
 
 /// Drops the waiters that are closed. Returns whether any is left.

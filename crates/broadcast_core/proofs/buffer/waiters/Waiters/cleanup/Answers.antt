@@ -1,35 +1,38 @@
-use Rattle.std.proofs.Common.{rules, refl, arith, ap, ◌∙◌, ◌-◌}
-use Rattle.std.specs.Cmp.{eq_by_cmp_equiv}
-use Rattle.broadcast_core.specs.Waiters.{waiting_in, gone_from, counted}
-use Rattle.broadcast_core.proofs.WaitersLemmas.{Kept-from_retain, Leaves, gone-counted, fewer_counted, AreAwaited-kept, lists-kept, digests_apart}
+use Rattle.std.proofs.Common.{sym}
+use Rattle.broadcast_core.specs.Waiters.{is_gone}
+use Rattle.broadcast_core.proofs.WaitersLemmas.{digests_apart}
+use Rattle.broadcast_core.proofs.Cleaning.{Cleaning-start, Cleaning-step, smaller, all_kept, all_removed}
 use Rattle.broadcast_core.proofs.buffer.waiters.Waiters.cleanup.Goals as goal
 
-pub overflow_sub-before : goal.overflow_sub-before
-overflow_sub-before g c =
-    let kept = Kept-from_retain _ (Leaves g.W.Ticketed.ticket_of c.args.gone.now) _ (λ k v b w f' t. search rules) c.self.inside.by_digest.entries c.retain.new.self.entries c.retain.ensures.filtered in
-    omega (arith, gone-counted g.W.Ticketed.ticket_of c.args.gone.now c.self.inside.by_digest.entries c.retain.new.self.entries kept, c.total.ensures, c.total-before.ensures)
+pub loop-digest-init : goal.loop-digest-init
+loop-digest-init g c = Cleaning-start g.met.D.Ord.total (is_gone g.W.Ticketed.ticket_of c.new-gone.result) c.self.inside.by_digest.entries c.self.invariant
 
-pub invariant_of-self : goal.invariant_of-self
-invariant_of-self g c =
-    let kept = Kept-from_retain _ (Leaves g.W.Ticketed.ticket_of c.args.gone.now) _ (λ k v b w f' t. search rules) c.self.inside.by_digest.entries c.retain.new.self.entries c.retain.ensures.filtered in
-    AreAwaited-kept (Leaves g.W.Ticketed.ticket_of c.args.gone.now) c.self.inside.by_digest.entries c.retain.new.self.entries kept c.retain.ensures.ordered
+pub loop-digest-preserved : goal.loop-digest-preserved
+loop-digest-preserved g c =
+    let test = is_gone g.W.Ticketed.ticket_of c.new-gone.result in
+    let dropped = c.drop_gone-dropped.ensures in
+    rw c.saturating_add-removed.ensures (Cleaning-step g.met.D.Ord.total test c.self.inside.by_digest.entries c.loop-digest.self-inside.by_digest.entries c.drop_gone-dropped.new.by_digest.entries
+    c.loop-digest.after c.loop-digest.removed c.drop_gone-dropped.result c.in-Some.digest c.loop-digest.invariant (sym c.in-Some.ensures) dropped.awaited dropped.lists dropped.removed)
+
+pub loop-digest-smaller : goal.loop-digest-smaller
+loop-digest-smaller g c =
+    let test = is_gone g.W.Ticketed.ticket_of c.new-gone.result in
+    let dropped = c.drop_gone-dropped.ensures in
+    smaller g.met.D.Ord.total test c.self.inside.by_digest.entries c.loop-digest.self-inside.by_digest.entries c.drop_gone-dropped.new.by_digest.entries
+    c.loop-digest.after c.loop-digest.removed c.drop_gone-dropped.result c.in-Some.digest c.loop-digest.invariant (sym c.in-Some.ensures) dropped.dropped dropped.removed
 
 pub returns-clause-kept : goal.returns-clause-kept
 returns-clause-kept g c =
-    let kept = Kept-from_retain _ (Leaves g.W.Ticketed.ticket_of c.args.gone.now) _ (λ k v b w f' t. search rules) c.self.inside.by_digest.entries c.retain.new.self.entries c.retain.ensures.filtered in
-    rw (← c.self.view_is) (λ e. lists-kept (Leaves g.W.Ticketed.ticket_of c.args.gone.now) (eq_by_cmp_equiv g.met.D.Ord.total) refl e c.self.inside.by_digest.entries c.retain.new.self.entries (digests_apart c.self.inside.by_digest.entries c.self.invariant) kept)
+    rw (← c.self.view_is, ← c.new-gone.ensures) (all_kept g.met.D.Ord.total (is_gone g.W.Ticketed.ticket_of c.new-gone.result) c.self.inside.by_digest.entries c.loop-digest.self-inside.by_digest.entries
+    c.loop-digest.after c.loop-digest.removed c.loop-digest.invariant (sym c.in_default.ensures))
 
 pub returns-clause-removed : goal.returns-clause-removed
 returns-clause-removed g c =
-    let kept = Kept-from_retain _ (Leaves g.W.Ticketed.ticket_of c.args.gone.now) _ (λ k v b w f' t. search rules) c.self.inside.by_digest.entries c.retain.new.self.entries c.retain.ensures.filtered in
-    let less = gone-counted g.W.Ticketed.ticket_of c.args.gone.now c.self.inside.by_digest.entries c.retain.new.self.entries kept in
-    rw (← c.self.view_is) (c.clamped.ensures ∙ ap counted (ap (λ n. n - c.total.result) c.total-before.ensures ∙ ap (λ n. waiting_in c.self.inside.by_digest.entries - n) c.total.ensures
-    ∙ fewer_counted (waiting_in c.self.inside.by_digest.entries) (waiting_in c.retain.new.self.entries) (gone_from g.W.Ticketed.ticket_of c.args.gone.now c.self.inside.by_digest.entries) less))
+    rw (← c.self.view_is, ← c.new-gone.ensures) (all_removed g.met.D.Ord.total (is_gone g.W.Ticketed.ticket_of c.new-gone.result) c.self.inside.by_digest.entries c.loop-digest.self-inside.by_digest.entries
+    c.loop-digest.after c.loop-digest.removed c.loop-digest.invariant (sym c.in_default.ensures))
 
 pub returns-clause-distinct : goal.returns-clause-distinct
 returns-clause-distinct g c = rw (← c.self.view_is) (digests_apart c.self.inside.by_digest.entries c.self.invariant)
 
 pub returns-clause-distinct_left : goal.returns-clause-distinct_left
-returns-clause-distinct_left g c =
-    let kept = Kept-from_retain _ (Leaves g.W.Ticketed.ticket_of c.args.gone.now) _ (λ k v b w f' t. search rules) c.self.inside.by_digest.entries c.retain.new.self.entries c.retain.ensures.filtered in
-    digests_apart c.retain.new.self.entries (AreAwaited-kept (Leaves g.W.Ticketed.ticket_of c.args.gone.now) c.self.inside.by_digest.entries c.retain.new.self.entries kept c.retain.ensures.ordered)
+returns-clause-distinct_left g c = digests_apart c.loop-digest.self-inside.by_digest.entries c.loop-digest.invariant.awaited
