@@ -18,8 +18,9 @@ pub struct NetworkFailed;
 
 /// Gives the primary peers, again at each change.
 pub trait Provider<P: PublicKey> {
-    /// Whether this may be the list of the sets that were given, oldest first.
-    ghost told: { Self → List (List P) → Type 0 };
+    /// Whether this may be the list of the sets that were given, oldest first. By default any
+    /// may be.
+    ghost told: { Self → List (List P) → Type 0 } = { λ _ _. ⊤ };
 
     /// Whether the provider may have no set to give.
     ghost quiet: { Self → Type 0 } = { λ _. ⊤ };
@@ -47,8 +48,9 @@ pub trait Provider<P: PublicKey> {
 
 /// Receives payloads of peers.
 pub trait Receiver<P> {
-    /// Whether this may be the list of the payloads that were given, oldest first.
-    ghost told: { Self → List (P × List ℕ) → Type 0 };
+    /// Whether this may be the list of the payloads that were given, oldest first. By default any
+    /// may be.
+    ghost told: { Self → List (P × List ℕ) → Type 0 } = { λ _ _. ⊤ };
 
     /// Whether the receiver may have no payload to give.
     ghost quiet: { Self → Type 0 } = { λ _. ⊤ };
@@ -76,8 +78,9 @@ pub trait Receiver<P> {
 
 /// Sends encoded messages to peers.
 pub trait Sender<P> {
-    /// Whether this may be the list of what was sent, oldest first.
-    ghost told: { Self → List (Sent P) → Type 0 };
+    /// Whether this may be the list of what was sent, oldest first. By default any
+    /// may be.
+    ghost told: { Self → List (Sent P) → Type 0 } = { λ _ _. ⊤ };
 
     /// Hands over `bytes` to be sent to `recipients`, as priority if `priority` is true.
     fn send(&mut self, recipients: Recipients<P>, bytes: Vec<u8>, priority: bool)
