@@ -10,15 +10,17 @@ use std::collections::BTreeMap;
 use std::io::{self, Write};
 
 /// The lines that come before the numbers of a name.
-const PEER: &[u8] =
-    b"# TYPE peer counter\n# HELP peer Number of broadcasts received by peer.\n";
+const PEER: &[u8] = b"# TYPE peer counter\n# HELP peer Number of broadcasts received by peer.\n";
+
 const RECEIVE: &[u8] =
     b"# TYPE receive counter\n# HELP receive Number of received messages by status.\n";
+
 const SUBSCRIBE: &[u8] =
     b"# TYPE subscribe counter\n# HELP subscribe Number of subscribe requests by status.\n";
+
 const GET: &[u8] = b"# TYPE get counter\n# HELP get Number of get requests by status.\n";
-const WAITERS: &[u8] =
-    b"# TYPE waiters gauge\n# HELP waiters Number of digests being awaited.\n";
+
+const WAITERS: &[u8] = b"# TYPE waiters gauge\n# HELP waiters Number of digests being awaited.\n";
 
 /// Writes the counters as OpenMetrics text, from the first line to `# EOF`. The peers come in
 /// ascending order, each with its key as the label `sequencer`; every other counter has its status
@@ -100,12 +102,7 @@ fn write_statuses<W: Write>(out: &mut W, name: &[u8], counter: Counter) -> io::R
 }
 
 /// Writes the line of a status.
-fn write_status<W: Write>(
-    out: &mut W,
-    name: &[u8],
-    status: &[u8],
-    number: u64,
-) -> io::Result<()>
+fn write_status<W: Write>(out: &mut W, name: &[u8], status: &[u8], number: u64) -> io::Result<()>
     ensures { OnOk result (Appends (W.contents out.old) (W.contents out.new)
         (status_line name.now status.now number)) }
 {

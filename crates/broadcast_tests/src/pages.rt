@@ -29,9 +29,10 @@ const TOTALS: &[u8] = b"# TYPE receive counter\n\
     waiters 7\n\
     # EOF\n";
 
-const HEAD: &[u8] =
-    b"# TYPE peer counter\n# HELP peer Number of broadcasts received by peer.\n";
+const HEAD: &[u8] = b"# TYPE peer counter\n# HELP peer Number of broadcasts received by peer.\n";
+
 const NUMBERS: &[u8] = b"peer_total{sequencer=\"5\"} 2\npeer_total{sequencer=\"12\"} 1\n";
+
 const BYTES: &[u8] = b"peer_total{sequencer=\"\
     0000000000000000000000000000000000000000000000000000000000000000\"} 2\n\
     peer_total{sequencer=\"\
@@ -58,16 +59,13 @@ fn count_requests<P: KeyText>(metrics: &mut Metrics<P>) {
     metrics.set_waiters(7);
 }
 
-fn is_page<P: KeyText>(
-    alloc: Global,
-    twice: &P,
-    once: &P,
-    peers: &[u8],
-) -> io::Result<bool> {
+fn is_page<P: KeyText>(alloc: Global, twice: &P, once: &P, peers: &[u8]) -> io::Result<bool> {
     let metrics = counted(alloc, twice, once)?;
     let mut page = Vec::new(alloc);
     write_page(&mut page, &metrics)?;
-    let rest = page.strip_prefix(HEAD).and_then(|rest| rest.strip_prefix(peers));
+    let rest = page
+        .strip_prefix(HEAD)
+        .and_then(|rest| rest.strip_prefix(peers));
     Ok(rest == Some(TOTALS))
 }
 

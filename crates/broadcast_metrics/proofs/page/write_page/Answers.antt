@@ -5,7 +5,7 @@ use Rattle.broadcast_metrics.proofs.page.write_page.Goals as goal
 pub returns : goal.returns
 returns g c = rw (← c.peers.ensures)
     (on_ok_then c.write_all-2.result
-        (λ end. Appends-append _ _ _ _ _ c.in_ok-write_all.ensures.bytes
-            (Appends-append _ _ _ _ _ c.in_ok-write_peers.ensures
-            (Appends-append _ _ _ _ _ c.in_ok-write_totals.ensures end)))
-        c.write_all-2.ensures.bytes)
+    (λ end. Appends-append _ _ _ _ _ c.in_ok-write_all.ensures.bytes
+    (Appends-append _ _ _ _ _ c.in_ok-write_peers.ensures
+    (Appends-append _ _ _ _ _ c.in_ok-write_totals.ensures end)))
+    c.write_all-2.ensures.bytes)

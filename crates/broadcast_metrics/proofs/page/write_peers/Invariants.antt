@@ -9,4 +9,4 @@ invariant-loop-peer g l =
     (goal.iterator-loop-peer g).can_next l.peer-iterator ×
     (goal.iterator-loop-peer g).is_finite l.peer-iterator ×
     ((held : Option (List ℕ)) → Appends (g.W.Write.contents l.out) held (flat_map (peer_line g.P.KeyText.text) l.peer-iterator)
-        → Appends (g.W.Write.contents l.initial.out) held (flat_map (peer_line g.P.KeyText.text) l.peers.entries))
+    → Appends (g.W.Write.contents l.initial.out) held (flat_map (peer_line g.P.KeyText.text) l.peers.entries))
