@@ -1,7 +1,7 @@
 -- Even numbers as bytes.
-use Rattle.std.proofs.Common.{◌≡◌, ℕ, ◌%◌, ◌≤◌, if◌then◌else◌, ◌==◌, Bool, true, false, List, [], ◌∷◌, ◌++◌, length, Option, Some, None, Result, Ok, Err, sym, ap, ◌∙◌, subst, ⊎_elim, arith}
+use Rattle.std.proofs.Common.{◌≡◌, ℕ, ◌%◌, ◌≤◌, if◌then◌else◌, ◌==◌, Bool, true, false, List, [], ◌∷◌, ◌++◌, length, Option, Some, None, Result, Ok, Err, sym, ap, ◌∙◌, subst, arith}
 use Rattle.broadcast_core.specs.Codec.{IsRefusal}
-use Rattle.broadcast_core.specs.CodecLaws.{chosen_err, chosen_ok, ok_is}
+use Rattle.broadcast_core.specs.CodecLaws.{chosen_ok, ok_is}
 use Rattle.broadcast_core.specs.declared.codec.CodecError.{CodecError}
 use Rattle.broadcast_core.specs.declared.codec.CodecError.TheVariants.{EndOfBuffer, Invalid}
 use Rattle.core_tests.specs.declared.even.Even.{Even}
@@ -21,13 +21,14 @@ even_within (number ∷ rest) v n e =
     let is = chosen_ok (number % 2 == 0) (Invalid number) (Ok (record { 0 = number }, 1)) (v, n) e in
     let one = ap (λ (r : Even × ℕ). r.1) (ok_is (record { 0 = number }, 1) (v, n) is.1) in omega (arith, one)
 
+-- a number is refused only if it is odd, by itself
+odd_refused : (number : ℕ) (b : Bool) (v : Even × ℕ) (e : CodecError) → (if b then Ok v else Err (Invalid number)) ≡ Err e → IsRefusal e
+odd_refused number true v e h = absurd cc
+odd_refused number false v e h = let same : Invalid number ≡ e = cc in subst IsRefusal same tt
+
 pub even_refusals : (bytes : List ℕ) (e : CodecError) → even_at bytes ≡ Err e → IsRefusal e
 even_refusals [] e h = let same : EndOfBuffer ≡ e = cc in subst IsRefusal same tt
-even_refusals (number ∷ rest) e h =
-    ⊎_elim
-    (λ even. absurd (let never = even.1 in cc))
-    (λ odd. subst IsRefusal odd.1 tt)
-    (chosen_err (number % 2 == 0) (Invalid number) e (Ok (record { 0 = number }, 1)) h)
+even_refusals (number ∷ rest) e h = odd_refused number (number % 2 == 0) (record { 0 = number }, 1) e h
 
 -- an encoding is the number alone
 even_spelled : (v : Even) (b : Bool) (encoded : List ℕ) → (if b then Some (v.0 ∷ []) else None) ≡ Some encoded → encoded ≡ v.0 ∷ []

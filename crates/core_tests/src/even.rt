@@ -4,7 +4,7 @@ ghost use Rattle.core_tests.specs.Even.{encoding_of, even_at, even_within, even_
 use broadcast_core::{Codec, CodecError, Digestible, EncodeSize, Read, Write};
 use std::alloc::Global;
 
-/// A number whose encoding is one byte if it is even. An odd number has no encoding, and is not read.
+/// A number whose encoding is one byte if it is even. An odd one has no encoding, and is refused.
 #[derive(Clone, Copy, Debug, PartialEq, Eq)]
 pub struct Even(pub u8);
 
