@@ -11,8 +11,8 @@ KINDS = {
     "program": ("#e6f4ec", "#2f7d5b"),
     "tests": ("#f4f1e8", "#a08443"),
 }
-# Libraries for callers, which no other crate of the repository names.
-FOR_CALLERS = ("broadcast_relay",)
+# Libraries that no other crate of the repository names.
+ALONE = ("proved_examples",)
 
 
 def read(text):
@@ -23,7 +23,7 @@ def read(text):
     below = {name: [it for it in deps if it in named] for name, deps in named.items()}
     used = {it for deps in below.values() for it in deps}
     static = {head.split()[0] for head, _ in given if "staticlib" in head.split()}
-    return below, {name: kind_of(name, {*used, *static, *FOR_CALLERS}) for name in named}
+    return below, {name: kind_of(name, {*used, *static, *ALONE}) for name in named}
 
 
 def kind_of(name, libraries):
