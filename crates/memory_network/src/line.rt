@@ -1,0 +1,82 @@
+//! A queue from which one task takes.
+ghost use Rattle.std.specs.Prelude.{◌≡◌, [], ◌∷◌, ◌++◌, None, OnOk, OnErr, IfOk};
+ghost use Rattle.futures.specs.Poll.{OnPending, IfReady};
+ghost use Rattle.futures.specs.Task.{IsArmed, Keeps};
+
+use futures::task::{Context, Poll, Source, Waker};
+use std::alloc::{AllocError, Global};
+use std::collections::VecDeque;
+use std::sync::{Mutex, Wait};
+
+/// What waits in a line, and who waits for it.
+#[derive(Drop)]
+struct Waiting<T> {
+    items: VecDeque<T>,
+    waker: Option<Waker>,
+}
+
+impl<T> Waiting<T> {
+    fn give(&mut self, item: T) -> Result<Option<Waker>, AllocError>
+    where
+        T: Drop,
+        ensures last { OnOk result (self.new.items.items ≡ self.old.items.items ++ item ∷ []) }
+        ensures wakes { IfOk result (λ woken. woken ≡ self.old.waker) }
+        ensures nobody_waits { OnOk result (self.new.waker ≡ None) }
+        ensures unchanged { OnErr result (self.new.items.items ≡ self.old.items.items) }
+    {
+        self.items.push_back(item)?;
+        Ok(self.waker.take())
+    }
+
+    fn poll(&mut self, source: &Source, cx: &mut Context<'_>) -> Poll<T>
+        ensures first { IfReady result (λ item.
+            self.old.items.items ≡ item ∷ self.new.items.items) }
+        ensures empty { OnPending result (self.old.items.items ≡ []) }
+        ensures armed { OnPending result (IsArmed cx.new) }
+        ensures kept { Keeps cx.old cx.new }
+    {
+        match self.items.pop_front() {
+            Some(item) => Poll::Ready(item),
+            None => cx.register(source, &mut self.waker),
+        }
+    }
+}
+
+/// A queue from which one task takes. Any thread may put items into it.
+#[derive(Drop)]
+pub struct Line<T> {
+    // Fires once an item is there.
+    given: Source,
+    waiting: Mutex<Waiting<T>>,
+}
+
+impl<T> Line<T> {
+    /// Creates an empty line.
+    pub fn new(alloc: Global) -> Self {
+        Line {
+            given: Source::new(),
+            waiting: Mutex::new(Waiting {
+                items: VecDeque::new(alloc),
+                waker: None,
+            }),
+        }
+    }
+
+    /// Puts an item at the end, and wakes the task that waits.
+    pub fn give(&self, rt: &impl Wait, item: T) -> Result<(), AllocError>
+    where
+        T: Drop,
+    {
+        let woken = self.waiting.lock(rt).give(item)?;
+        drop(woken);
+        Ok(())
+    }
+
+    /// Takes the item in front. If there is none, the task is woken once there is.
+    pub fn poll(&self, rt: &impl Wait, cx: &mut Context<'_>) -> Poll<T>
+        ensures armed { OnPending result (IsArmed cx.new) }
+        ensures kept { Keeps cx.old cx.new }
+    {
+        self.waiting.lock(rt).poll(&self.given, cx)
+    }
+}
