@@ -3,7 +3,7 @@
 EVENTS ?= examples/two-peers.events
 REPLAY := crates/replay/out/replay
 
-.PHONY: example test lib border runs generated alloc-failures io-failures pictures bench
+.PHONY: example test lib border runs generated alloc-failures io-failures wrong-bodies pictures bench
 
 # `rt run` proves and builds the program, and prints how; the example is then run by itself.
 example:
@@ -38,6 +38,10 @@ alloc-failures:
 io-failures:
 	@echo "io-failures: letting each read and write of a program go wrong in turn"
 	@scripts/io_failures
+
+wrong-bodies:
+	@echo "wrong-bodies: building bodies that the prover accepts, and running what must refuse them"
+	@scripts/wrong_bodies
 
 pictures:
 	@scripts/pictures
