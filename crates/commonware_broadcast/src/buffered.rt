@@ -27,7 +27,7 @@ pub use engine_io::{
 pub use front::{MailboxEngine, WatchedEngine, WatchedNode};
 pub use gate::{Gate, Open};
 pub use session::{Client, Finished, Session, WatchedClient, run_session};
-pub use started::{Handle, MailboxReport, Prepared};
+pub use started::{Handle, MailboxReport, Prepared, start_threaded};
 pub use strategy::{Done, Job, Sequential, Strategy};
 pub use threaded::{Threaded, Working};
 pub use worker::{DigestOf, Work, Worker};

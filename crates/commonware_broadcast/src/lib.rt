@@ -6,7 +6,7 @@ pub mod mocks;
 
 // The mailbox, the cache, and what sources of one's own are polled with, so that a caller depends
 // on this crate alone.
-pub use broadcast_core::byte_list;
+pub use broadcast_core::{Key, byte_list};
 pub use broadcast_mailbox::{
     Answer, Broadcaster, Cause, Closable, Codec, CodecError, Core, Digested, Digestible,
     EncodeSize, Event, Feedback, Items, MailboxError, Outcome, PublicKey, RangeCfg, Read,

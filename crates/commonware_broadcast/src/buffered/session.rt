@@ -60,25 +60,26 @@ pub struct Finished<O> {
 ///
 /// Fails if something can't be allocated, or a thread can't be started. Then the clients that run
 /// find the mailbox closed, and all threads are joined.
-pub fn run_session<S, M, B, T, N, V, R>(
+pub fn run_session<P, S, M, B, T, N, V, R>(
     rt: &R,
-    cfg: Config<u64, M::Cfg, B, T>,
+    cfg: Config<P, M::Cfg, B, T>,
     network: (N, V),
     clients: NonZeroU32,
     session: S,
 ) -> Result<Finished<S::Output>, StartError>
 where
-    S: Session<u64, M, R> + Send + Sync + Drop + 'static,
+    P: PublicKey + Send + 'static,
+    S: Session<P, M, R> + Send + Sync + Drop + 'static,
     S::Watch: Send + 'static,
     S::Output: Send + 'static,
     M: Digestible + Codec + Send + Sync + 'static,
     M::Digest: Send + 'static,
     M::Cfg: Send + Drop + 'static,
-    B: Provider<u64> + Send + Drop + 'static,
+    B: Provider<P> + Send + Drop + 'static,
     T: Strategy<M> + Send + Drop + 'static,
     T::Job: Send + 'static,
-    N: Sender<u64> + Send + Drop + 'static,
-    V: Receiver<u64> + Send + Drop + 'static,
+    N: Sender<P> + Send + Drop + 'static,
+    V: Receiver<P> + Send + Drop + 'static,
     R: Threads + Wait + RandomSource + AllocGlobal + Clone + Send + Sync + Drop + 'static,
     ensures settled { IfOk result (λ finished. AddsUp finished.accepted finished.settled) }
     ensures broadcasts { IfOk result (λ finished.
@@ -88,7 +89,7 @@ where
 {
     let accepted = Blank::new(clients.get() as u64);
     let taken = Blank::new(1);
-    run_with::<S, M, B, T, N, V, R, Brand, Brand>(
+    run_with::<P, S, M, B, T, N, V, R, Brand, Brand>(
         rt, cfg, network, clients, session, accepted, taken,
     )
 }

@@ -1,15 +1,16 @@
 //! A started engine.
-use crate::buffered::engine::{Ready, Report, StartError, make_ready, run, spawn};
+use crate::buffered::config::Config;
+use crate::buffered::engine::{Engine, Ready, Report, StartError, make_ready, run, spawn};
 use crate::buffered::front::MailboxEngine;
 use crate::buffered::gate::Gate;
 use crate::buffered::strategy::Strategy;
 use crate::buffered::threaded::Threaded;
 use crate::buffered::worker::Work;
 use broadcast_core::{Codec, Digestible, PublicKey};
-use broadcast_mailbox::buffered::{Bookkeeping, Incoming, Ingress, Reply, Stopper};
+use broadcast_mailbox::buffered::{Bookkeeping, Incoming, Ingress, Mailbox, Reply, Stopper};
 use engine_io::{Direct, Provider, Receiver, Sender};
 use futures::channel::oneshot;
-use std::alloc::AllocGlobal;
+use std::alloc::{AllocError, AllocGlobal};
 use std::random::RandomSource;
 use std::sync::Wait;
 use std::thread::{JoinHandle, Threads};
@@ -53,12 +54,13 @@ where
     }
 }
 
-impl<M, B, R, T, A> MailboxEngine<u64, M, B, T, R, A>
+impl<P, M, B, R, T, A> MailboxEngine<P, M, B, T, R, A>
 where
+    P: PublicKey + Send + 'static,
     M: Digestible + Codec + Send + Sync + 'static,
     M::Digest: 'static,
     M::Cfg: Send + Drop + 'static,
-    B: Provider<u64> + Send + Drop + 'static,
+    B: Provider<P> + Send + Drop + 'static,
     R: Threads + Wait + RandomSource + AllocGlobal + Clone + Send + Sync + Drop + 'static,
     T: Strategy<M> + Send + Drop + 'static,
     A: Bookkeeping + Send + 'static,
@@ -68,11 +70,11 @@ where
     /// is finished before.
     ///
     /// After an error the engine is given up, and its mailbox is closed.
-    pub fn start<N, V>(self, rt: &R, network: (N, V)) -> Result<Handle<u64, M, R, A>, StartError>
+    pub fn start<N, V>(self, rt: &R, network: (N, V)) -> Result<Handle<P, M, R, A>, StartError>
     where
         T::Job: Send + 'static,
-        N: Sender<u64> + Send + Drop + 'static,
-        V: Receiver<u64> + Send + Drop + 'static,
+        N: Sender<P> + Send + Drop + 'static,
+        V: Receiver<P> + Send + Drop + 'static,
     {
         match self.prepare(rt, network) {
             Ok(Prepared { ready, stopper }) => {
@@ -86,19 +88,19 @@ where
 
 /// An engine of a mailbox that is ready for its thread, and what asks it to stop.
 #[derive(Drop)]
-pub struct Prepared<M: Digestible, B, C, T, N, V, R, A: Bookkeeping = ()> {
-    ready: ReadyEngine<M, B, C, T, N, V, R, A>,
-    stopper: Stopper<Incoming<u64, M>, R, A>,
+pub struct Prepared<P: PublicKey, M: Digestible, B, C, T, N, V, R, A: Bookkeeping = ()> {
+    ready: ReadyEngine<P, M, B, C, T, N, V, R, A>,
+    stopper: Stopper<Incoming<P, M>, R, A>,
 }
 
 /// An engine of a mailbox that is ready for its thread.
-type ReadyEngine<M, B, C, T, N, V, R, A> = Ready<
-    u64,
+type ReadyEngine<P, M, B, C, T, N, V, R, A> = Ready<
+    P,
     M,
     oneshot::Sender<Reply<M>>,
     Direct,
     B,
-    Ingress<Incoming<u64, M>, R, A>,
+    Ingress<Incoming<P, M>, R, A>,
     C,
     T,
     N,
@@ -106,11 +108,12 @@ type ReadyEngine<M, B, C, T, N, V, R, A> = Ready<
     R,
 >;
 
-impl<M, B, R, T, A> MailboxEngine<u64, M, B, T, R, A>
+impl<P, M, B, R, T, A> MailboxEngine<P, M, B, T, R, A>
 where
+    P: PublicKey,
     M: Digestible + Codec,
     M::Cfg: Drop,
-    B: Provider<u64> + Drop,
+    B: Provider<P> + Drop,
     T: Strategy<M> + Drop,
     R: Wait + RandomSource + AllocGlobal + Clone + Drop,
     A: Bookkeeping,
@@ -122,10 +125,10 @@ where
         self,
         rt: &R,
         network: (N, V),
-    ) -> Result<Prepared<M, B, M::Cfg, T, N, V, R, A>, StartError>
+    ) -> Result<Prepared<P, M, B, M::Cfg, T, N, V, R, A>, StartError>
     where
-        N: Sender<u64> + Drop,
-        V: Receiver<u64> + Drop,
+        N: Sender<P> + Drop,
+        V: Receiver<P> + Drop,
     {
         match self.requests().stopper() {
             Ok(stopper) => match make_ready(rt, self, network) {
@@ -145,15 +148,16 @@ where
     }
 }
 
-impl<M, B, G, N, V, R, A> Prepared<M, B, M::Cfg, Threaded<G, R>, N, V, R, A>
+impl<P, M, B, G, N, V, R, A> Prepared<P, M, B, M::Cfg, Threaded<G, R>, N, V, R, A>
 where
+    P: PublicKey + Send + 'static,
     M: Digestible + Codec + Work<G, R> + Send + Sync + 'static,
     M::Digest: 'static,
     M::Cfg: Send + Drop + 'static,
-    B: Provider<u64> + Send + Drop + 'static,
+    B: Provider<P> + Send + Drop + 'static,
     G: Gate + Send + Sync + Drop + 'static,
-    N: Sender<u64> + Send + Drop + 'static,
-    V: Receiver<u64> + Send + Drop + 'static,
+    N: Sender<P> + Send + Drop + 'static,
+    V: Receiver<P> + Send + Drop + 'static,
     R: Threads + Wait + RandomSource + AllocGlobal + Clone + Send + Sync + Drop + 'static,
     A: Bookkeeping + Send + 'static,
     A::Taker: Send + 'static,
@@ -162,11 +166,54 @@ where
     /// of [`Threaded`] may not move to another thread, so `Engine::start` is not for them.
     ///
     /// After an error the engine is given up, and its mailbox is closed.
-    pub fn start(self, rt: &R) -> Result<Handle<u64, M, R, A>, StartError> {
+    pub fn start(self, rt: &R) -> Result<Handle<P, M, R, A>, StartError> {
         let Prepared { ready, stopper } = self;
         let (stopper, thread) = start_thread(rt, move || run(ready), stopper)?;
         Ok(Handle { stopper, thread })
     }
+}
+
+/// Creates an engine whose messages are digested on other threads, and its mailbox, and starts it
+/// in a thread of its own, where it runs until it ends.
+///
+/// Fails if an allocation fails or no thread can be started. Then there is no engine.
+pub fn start_threaded<P, M, B, G, N, V, R>(
+    rt: &R,
+    cfg: Config<P, M::Cfg, B, Threaded<G, R>>,
+    network: (N, V),
+) -> Result<(Handle<P, M, R>, Mailbox<P, M, R>), StartError>
+where
+    P: PublicKey + Send + 'static,
+    M: Digestible + Codec + Work<G, R> + Send + Sync + 'static,
+    M::Digest: 'static,
+    M::Cfg: Send + Drop + 'static,
+    B: Provider<P> + Send + Drop + 'static,
+    G: Gate + Send + Sync + Drop + 'static,
+    N: Sender<P> + Send + Drop + 'static,
+    V: Receiver<P> + Send + Drop + 'static,
+    R: Threads + Wait + RandomSource + AllocGlobal + Clone + Send + Sync + Drop + 'static,
+{
+    let Ok((engine, mailbox)) = new_engine(rt, cfg) else {
+        return Err(StartError::Memory);
+    };
+    let handle = engine.prepare(rt, network)?.start(rt)?;
+    Ok((handle, mailbox))
+}
+
+/// Creates an engine and its mailbox.
+fn new_engine<P, M, B, T, R>(
+    rt: &R,
+    cfg: Config<P, M::Cfg, B, T>,
+) -> Result<(MailboxEngine<P, M, B, T, R>, Mailbox<P, M, R>), AllocError>
+where
+    P: PublicKey,
+    M: Digestible + Codec,
+    M::Cfg: Drop,
+    B: Drop,
+    T: Strategy<M> + Drop,
+    R: AllocGlobal + Clone + Drop,
+{
+    Engine::new(rt.clone()?, rt.alloc(), cfg)
 }
 
 /// Starts the thread of an engine whose mailbox has this stopper.

@@ -125,8 +125,8 @@ pub(super) struct Ends<P: PublicKey, M: Digestible, R, B: Bookkeeping> {
 }
 
 /// What the clients of a node that counts requests reach it by.
-pub(super) type WatchedEnds<M, R, A, K, V> = Ends<
-    u64,
+pub(super) type WatchedEnds<P, M, R, A, K, V> = Ends<
+    P,
     M,
     R,
     Books<A, K, V, <M as Digestible>::Digest>,

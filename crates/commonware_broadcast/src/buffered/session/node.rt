@@ -13,7 +13,7 @@ use crate::buffered::engine::{Engine, StartError};
 use crate::buffered::front::{WatchedEngine, WatchedNode};
 use crate::buffered::started::{Handle, MailboxReport};
 use crate::buffered::strategy::Strategy;
-use broadcast_core::{Codec, Digestible};
+use broadcast_core::{Codec, Digestible, PublicKey};
 use broadcast_mailbox::buffered::{Account, Books, Tally, Watch};
 use engine_io::{Provider, Receiver, Sender};
 use std::alloc::{AllocError, AllocGlobal, Global};
@@ -24,9 +24,9 @@ use std::sync::{Arc, Wait};
 use std::thread::Threads;
 
 /// Runs the session, whose account has these ledgers.
-pub(super) fn run_with<S, M, B, T, N, V, R, A, K>(
+pub(super) fn run_with<P, S, M, B, T, N, V, R, A, K>(
     rt: &R,
-    cfg: Config<u64, M::Cfg, B, T>,
+    cfg: Config<P, M::Cfg, B, T>,
     network: (N, V),
     clients: NonZeroU32,
     session: S,
@@ -34,17 +34,18 @@ pub(super) fn run_with<S, M, B, T, N, V, R, A, K>(
     taken: Blank,
 ) -> Result<Finished<S::Output>, StartError>
 where
-    S: Session<u64, M, R> + Send + Sync + Drop + 'static,
+    P: PublicKey + Send + 'static,
+    S: Session<P, M, R> + Send + Sync + Drop + 'static,
     S::Watch: Send + 'static,
     S::Output: Send + 'static,
     M: Digestible + Codec + Send + Sync + 'static,
     M::Digest: Send + 'static,
     M::Cfg: Send + Drop + 'static,
-    B: Provider<u64> + Send + Drop + 'static,
+    B: Provider<P> + Send + Drop + 'static,
     T: Strategy<M> + Send + Drop + 'static,
     T::Job: Send + 'static,
-    N: Sender<u64> + Send + Drop + 'static,
-    V: Receiver<u64> + Send + Drop + 'static,
+    N: Sender<P> + Send + Drop + 'static,
+    V: Receiver<P> + Send + Drop + 'static,
     R: Threads + Wait + RandomSource + AllocGlobal + Clone + Send + Sync + Drop + 'static,
     A: Account + Send + Sync + 'static,
     K: Account + Send + Sync + 'static,
@@ -61,24 +62,25 @@ where
     let Ok((session, outputs)) = reserve(rt.alloc(), session, clients.get()) else {
         return Err(StartError::Memory);
     };
-    let Ok(made) = make::<M, B, T, R, A, K, S::Watch>(rt, cfg, clients, accepted, taken) else {
+    let Ok(made) = make::<P, M, B, T, R, A, K, S::Watch>(rt, cfg, clients, accepted, taken) else {
         return Err(StartError::Memory);
     };
     let (engine, ends, tally) = made;
     match engine.start(rt, network) {
-        Ok(handle) => play::<S, M, R, A, K>(rt, handle, ends, session, outputs, tally, clients),
+        Ok(handle) => play::<P, S, M, R, A, K>(rt, handle, ends, session, outputs, tally, clients),
         Err(error) => Err(error),
     }
 }
 
 /// Shares the session, with room for what `clients` clients leave.
-fn reserve<S, R, M>(
+fn reserve<P, S, R, M>(
     alloc: Global,
     session: S,
     clients: u32,
 ) -> Result<(Arc<S>, Vec<S::Output>), AllocError>
 where
-    S: Session<u64, M, R> + Drop,
+    P: PublicKey,
+    S: Session<P, M, R> + Drop,
     M: Digestible,
     R: Wait,
     ensures room { IfOk result (λ both. vec_len both.1 + clients ≤ vec_capacity both.1) }
@@ -89,21 +91,22 @@ where
 }
 
 /// An engine, what its clients reach it by, and the tally that has all parts.
-type Made<M, B, T, R, A, K, W> = (
-    WatchedEngine<u64, M, B, T, R, A, K, W>,
-    WatchedEnds<M, R, A, K, W>,
+type Made<P, M, B, T, R, A, K, W> = (
+    WatchedEngine<P, M, B, T, R, A, K, W>,
+    WatchedEnds<P, M, R, A, K, W>,
     Tally<A>,
 );
 
 /// Creates an engine and what its clients reach it by.
-fn make<M, B, T, R, A, K, W>(
+fn make<P, M, B, T, R, A, K, W>(
     rt: &R,
-    cfg: Config<u64, M::Cfg, B, T>,
+    cfg: Config<P, M::Cfg, B, T>,
     clients: NonZeroU32,
     accepted: Blank,
     taken: Blank,
-) -> Result<Made<M, B, T, R, A, K, W>, AllocError>
+) -> Result<Made<P, M, B, T, R, A, K, W>, AllocError>
 where
+    P: PublicKey,
     M: Digestible + Codec,
     M::Cfg: Drop,
     B: Drop,
@@ -118,7 +121,7 @@ where
     requires one { (K.all ≡ K.parts) × (K.parts ≡ 1) }
     ensures { IfOk result (λ made. made.2.parts ≡ non_zero_u32_get clients) }
 {
-    let node: WatchedNode<u64, M, B, T, R, A, K, W> = Engine::new_watched(
+    let node: WatchedNode<P, M, B, T, R, A, K, W> = Engine::new_watched(
         rt.clone()?,
         rt.alloc(),
         cfg,
@@ -133,17 +136,18 @@ where
 
 /// Lets the clients use the started engine, and settles their account. If a client can't be
 /// started, the others and the engine end.
-fn play<S, M, R, A, K>(
+fn play<P, S, M, R, A, K>(
     rt: &R,
-    handle: Handle<u64, M, R, Books<A, K, S::Watch, M::Digest>>,
-    ends: WatchedEnds<M, R, A, K, S::Watch>,
+    handle: Handle<P, M, R, Books<A, K, S::Watch, M::Digest>>,
+    ends: WatchedEnds<P, M, R, A, K, S::Watch>,
     session: Arc<S>,
     outputs: Vec<S::Output>,
     tally: Tally<A>,
     clients: NonZeroU32,
 ) -> Result<Finished<S::Output>, StartError>
 where
-    S: Session<u64, M, R> + Send + Sync + Drop + 'static,
+    P: PublicKey + Send + 'static,
+    S: Session<P, M, R> + Send + Sync + Drop + 'static,
     S::Watch: Send + 'static,
     S::Output: Send + 'static,
     M: Digestible + Send + Sync + 'static,
@@ -164,12 +168,12 @@ where
     let mut tally = tally;
     let mut threads = Vec::new(rt.alloc());
     let others = clients.get() - 1;
-    match start_others::<S, M, R, A, K>(rt, &session, &ends, &mut tally, &mut threads, others) {
+    match start_others::<P, S, M, R, A, K>(rt, &session, &ends, &mut tally, &mut threads, others) {
         Ok(()) => {
-            let first = run_client::<S, M, R, A, K>(session, 0, Client::new(ends, tally));
+            let first = run_client::<P, S, M, R, A, K>(session, 0, Client::new(ends, tally));
             let (tally, outputs) = join_clients(rt, first, threads, outputs);
             handle.stop();
-            Ok(finish::<M, R, A, K, S::Watch, S::Output>(handle.join(rt), tally, outputs))
+            Ok(finish::<P, M, R, A, K, S::Watch, S::Output>(handle.join(rt), tally, outputs))
         }
         Err(error) => {
             handle.stop();
@@ -181,12 +185,13 @@ where
 }
 
 /// Settles the account.
-fn finish<M, R, A, K, W, O>(
-    report: MailboxReport<u64, M, R, Books<A, K, W, M::Digest>>,
+fn finish<P, M, R, A, K, W, O>(
+    report: MailboxReport<P, M, R, Books<A, K, W, M::Digest>>,
     tally: Tally<A>,
     outputs: Vec<O>,
 ) -> Finished<O>
 where
+    P: PublicKey,
     M: Digestible,
     R: Wait + Drop,
     A: Account,

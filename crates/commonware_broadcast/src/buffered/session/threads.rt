@@ -5,7 +5,7 @@ ghost use Rattle.broadcast_mailbox.specs.Account.{TallyState};
 use super::Session;
 use super::client::{Client, WatchedClient, WatchedEnds};
 use crate::buffered::engine::StartError;
-use broadcast_core::Digestible;
+use broadcast_core::{Digestible, PublicKey};
 use broadcast_mailbox::buffered::{Account, Tally};
 use std::alloc::{AllocError, AllocGlobal};
 use std::sync::{Arc, Wait};
@@ -21,16 +21,17 @@ pub(super) struct Left<A: Account, O> {
 
 /// Starts the threads of the clients with the numbers from 1, of which there are `others`. Each
 /// gets a part of the tally.
-pub(super) fn start_others<S, M, R, A, K>(
+pub(super) fn start_others<P, S, M, R, A, K>(
     rt: &R,
     session: &Arc<S>,
-    ends: &WatchedEnds<M, R, A, K, S::Watch>,
+    ends: &WatchedEnds<P, M, R, A, K, S::Watch>,
     tally: &mut Tally<A>,
     threads: &mut Vec<JoinHandle<Left<A, S::Output>>>,
     others: u32,
 ) -> Result<(), StartError>
 where
-    S: Session<u64, M, R> + Send + Sync + Drop + 'static,
+    P: PublicKey + Send + 'static,
+    S: Session<P, M, R> + Send + Sync + Drop + 'static,
     S::Watch: Send + 'static,
     S::Output: Send + 'static,
     M: Digestible + Send + Sync + 'static,
@@ -48,21 +49,28 @@ where
         let Ok(()) = threads.reserve(1) else {
             return Err(StartError::Memory);
         };
-        threads.push_reserved(start_client::<S, M, R, A, K>(rt, session, ends, other + 1, part)?);
+        threads.push_reserved(start_client::<P, S, M, R, A, K>(
+            rt,
+            session,
+            ends,
+            other + 1,
+            part,
+        )?);
     }
     Ok(())
 }
 
 /// Starts the thread of the client of this number.
-fn start_client<S, M, R, A, K>(
+fn start_client<P, S, M, R, A, K>(
     rt: &R,
     session: &Arc<S>,
-    ends: &WatchedEnds<M, R, A, K, S::Watch>,
+    ends: &WatchedEnds<P, M, R, A, K, S::Watch>,
     number: u32,
     tally: Tally<A>,
 ) -> Result<JoinHandle<Left<A, S::Output>>, StartError>
 where
-    S: Session<u64, M, R> + Send + Sync + Drop + 'static,
+    P: PublicKey + Send + 'static,
+    S: Session<P, M, R> + Send + Sync + Drop + 'static,
     S::Watch: Send + 'static,
     S::Output: Send + 'static,
     M: Digestible + Send + Sync + 'static,
@@ -72,13 +80,13 @@ where
     K: Account + Send + Sync + 'static,
     requires { tally.parts ≡ 1 }
 {
-    let Ok((session, ends)) = copies::<S, M, R, A, K>(session, ends) else {
+    let Ok((session, ends)) = copies::<P, S, M, R, A, K>(session, ends) else {
         return Err(StartError::Memory);
     };
     let client = Client::new(ends, tally);
     match thread::spawn(
         rt,
-        move || run_client::<S, M, R, A, K>(session, number, client),
+        move || run_client::<P, S, M, R, A, K>(session, number, client),
     ) {
         Ok(thread) => Ok(thread),
         Err(refused) => {
@@ -89,12 +97,13 @@ where
 }
 
 /// Copies what a client needs.
-fn copies<S, M, R, A, K>(
+fn copies<P, S, M, R, A, K>(
     session: &Arc<S>,
-    ends: &WatchedEnds<M, R, A, K, S::Watch>,
-) -> Result<(Arc<S>, WatchedEnds<M, R, A, K, S::Watch>), AllocError>
+    ends: &WatchedEnds<P, M, R, A, K, S::Watch>,
+) -> Result<(Arc<S>, WatchedEnds<P, M, R, A, K, S::Watch>), AllocError>
 where
-    S: Session<u64, M, R> + Drop,
+    P: PublicKey,
+    S: Session<P, M, R> + Drop,
     M: Digestible,
     R: Wait + Clone + Drop,
     A: Account,
@@ -105,13 +114,14 @@ where
 }
 
 /// Does what a client does.
-pub(super) fn run_client<S, M, R, A, K>(
+pub(super) fn run_client<P, S, M, R, A, K>(
     session: Arc<S>,
     number: u32,
-    client: WatchedClient<u64, M, R, A, K, S::Watch>,
+    client: WatchedClient<P, M, R, A, K, S::Watch>,
 ) -> Left<A, S::Output>
 where
-    S: Session<u64, M, R> + Drop,
+    P: PublicKey,
+    S: Session<P, M, R> + Drop,
     M: Digestible,
     R: Wait + Drop,
     A: Account,
