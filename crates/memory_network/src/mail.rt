@@ -81,8 +81,6 @@ impl<P: PublicKey, R: Clone + Drop> PeerSets<P, R> {
 }
 
 impl<P: PublicKey, R: Wait> Provider<P> for PeerSets<P, R> {
-    ghost told = { λ _ _. ⊤ };
-
     fn poll_update(&mut self, cx: &mut Context<'_>) -> Poll<Option<Set<P>>> {
         self.mail.polls.fetch_add(1, Ordering::SeqCst);
         match self.mail.sets.poll(&self.rt, cx) {
@@ -110,8 +108,6 @@ impl<P: PublicKey, R: Clone + Drop> Inbound<P, R> {
 }
 
 impl<P: PublicKey, R: Wait> Receiver<P> for Inbound<P, R> {
-    ghost told = { λ _ _. ⊤ };
-
     fn poll_recv(&mut self, cx: &mut Context<'_>) -> Poll<Received<P>> {
         self.mail.payloads.poll(&self.rt, cx)
     }
@@ -170,8 +166,6 @@ impl<P: PublicKey, R: Wait> Outbound<P, R> {
 
 // A trait's method at a generic key may not send the key to another thread.
 impl<R: Wait> Sender<u64> for Outbound<u64, R> {
-    ghost told = { λ _ _. ⊤ };
-
     fn send(&mut self, recipients: Recipients<u64>, bytes: Vec<u8>, _priority: bool)
         ensures { ⊤ }
     {
@@ -180,8 +174,6 @@ impl<R: Wait> Sender<u64> for Outbound<u64, R> {
 }
 
 impl<R: Wait> Sender<Key> for Outbound<Key, R> {
-    ghost told = { λ _ _. ⊤ };
-
     fn send(&mut self, recipients: Recipients<Key>, bytes: Vec<u8>, _priority: bool)
         ensures { ⊤ }
     {
