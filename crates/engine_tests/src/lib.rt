@@ -30,6 +30,8 @@ mod passing;
 #[cfg(test)]
 mod peers;
 #[cfg(test)]
+mod recipients;
+#[cfg(test)]
 mod scenarios;
 #[cfg(test)]
 mod scripts;

@@ -59,15 +59,10 @@ pub type Handed = Replied<Fixed, Fixed, Reply<TestMessage>, Option<Reply<TestMes
 pub type Wanted = Message<u64, TestMessage, Fixed, Fixed>;
 
 /// An engine whose sources follow a script. Its node has key 1, and its lists have ten places.
-pub type Scripted = Engine<
-    u64,
-    TestMessage,
-    Fixed,
-    Outlet,
-    Script<Option<Set<u64>>>,
-    ScriptedRequests<Wanted>,
-    Slow,
->;
+pub type Scripted = Engine<u64, TestMessage, Fixed, Outlet, Sets, ScriptedRequests<Wanted>, Slow>;
+
+/// The peer sets of a scripted engine.
+pub type Sets = Script<Option<Set<u64>>>;
 
 /// The network of a scripted engine.
 pub type Network = (
@@ -82,10 +77,7 @@ impl Sources {
     }
 
     /// Creates the configuration of an engine.
-    pub fn config(
-        &self,
-        alloc: Global,
-    ) -> Result<Config<u64, RangeCfg, Script<Option<Set<u64>>>, Slow>, AllocError> {
+    pub fn config(&self, alloc: Global) -> Result<Config<u64, RangeCfg, Sets, Slow>, AllocError> {
         Ok(Config {
             public_key: 1,
             mailbox_size: NonZeroUsize::MIN,
@@ -106,7 +98,7 @@ impl Sources {
 }
 
 /// Creates the script of peer sets.
-fn sets(alloc: Global, results: &[Peered]) -> Result<Script<Option<Set<u64>>>, AllocError> {
+fn sets(alloc: Global, results: &[Peered]) -> Result<Sets, AllocError> {
     let mut polls = Vec::new(alloc);
     for one in results {
         polls.push(set(alloc, *one)?)?;

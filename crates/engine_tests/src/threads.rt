@@ -4,6 +4,7 @@ mod account;
 mod counts;
 mod ends;
 mod gates;
+mod keys;
 mod lock;
 mod nodes;
 mod patient;

@@ -29,7 +29,7 @@ static ROWS: [Row; 20] = [
     Row(Call::ToAll, 0, false),
     Row(Call::ToAll, 0, true),
     Row(Call::ToAll, 1, false),
-    Row(Call::ToAll, 1001, true),
+    Row(Call::ToAll, 5001, true),
     Row(Call::ToSome, 0, false),
     Row(Call::ToSome, 0, true),
     Row(Call::ToSome, 1, false),
@@ -45,7 +45,7 @@ static ROWS: [Row; 20] = [
     Row(Call::Get, 0, false),
     Row(Call::Get, 0, true),
     Row(Call::Get, 1, false),
-    Row(Call::Get, 1001, true),
+    Row(Call::Get, 5001, true),
 ];
 
 fn rows() -> &'static [Row] {

@@ -6,6 +6,7 @@ use broadcast_mailbox::buffered::{
 };
 use futures::executor::block_on;
 use futures::future::poll_immediate;
+use futures::task::Poll;
 use std::alloc::{AllocGlobal, Global};
 use std::num::NonZeroUsize;
 use std::random::RandomSource;
@@ -88,12 +89,15 @@ fn given_to_subscribe<R: Wait + RandomSource + AllocGlobal>(
     end: End,
 ) -> Result<Option<Option<u64>>, Fail> {
     let before = block_on(rt, poll_immediate(&mut subscription))?;
+    let is_early = subscription.try_wait().is_ready();
     end_request(ingress, rt.alloc(), end)?;
-    let after = block_on(rt, poll_immediate(&mut subscription))?;
-    if before.is_some() {
+    if before.is_some() || is_early {
         return Ok(None);
     }
-    Ok(after.map(|output| output.ok().map(|message| message.digest())))
+    match subscription.try_wait() {
+        Poll::Ready(output) => Ok(Some(output.ok().map(|message| message.digest()))),
+        Poll::Pending => Ok(None),
+    }
 }
 
 /// What the get gives once its request ended, or `None` if it was not pending before, or still is.
@@ -104,12 +108,15 @@ fn given_to_get<R: Wait + RandomSource + AllocGlobal>(
     end: End,
 ) -> Result<Option<Option<u64>>, Fail> {
     let before = block_on(rt, poll_immediate(&mut get))?;
+    let is_early = get.try_wait().is_ready();
     end_request(ingress, rt.alloc(), end)?;
-    let after = block_on(rt, poll_immediate(&mut get))?;
-    if before.is_some() {
+    if before.is_some() || is_early {
         return Ok(None);
     }
-    Ok(after.map(|output| output.map(|message| message.digest())))
+    match get.try_wait() {
+        Poll::Ready(output) => Ok(Some(output.map(|message| message.digest()))),
+        Poll::Pending => Ok(None),
+    }
 }
 
 /// Ends the request that waits.

@@ -1,48 +1,70 @@
 //! How a started engine ends that nobody stops.
-use super::nodes::{broadcast, fail, start};
+use super::nodes::{broadcast, fail, gets, start};
 use super::patient::pause;
 use broadcast_core::TestMessage;
+use cluster_lib::fault::Fault;
+use cluster_lib::network::Mail;
 use cluster_lib::node::Node;
-use commonware_broadcast::buffered::{EndCause, Sequential};
+use commonware_broadcast::buffered::{EndCause, Mailbox, Sequential};
 use std::alloc::AllocGlobal;
 use std::random::RandomSource;
+use std::sync::atomic::Ordering;
 use std::sync::{Arc, Wait};
 use std::test::Fail;
 use std::thread::{self, JoinHandle, Threads};
 use std::time::Clock;
 
-/// Lets the network of a node fail a while after this call, from another thread, which returns
-/// whether a broadcast was accepted before.
-fn fail_later<R>(rt: &R, node: &Node<TestMessage, R>) -> Result<JoinHandle<bool>, Fail>
+/// Returns whether an engine that has answered is not polled while nothing happens.
+fn is_idle(clock: &impl Clock, mail: &Mail) -> bool {
+    let polls = mail.polls.load(Ordering::SeqCst);
+    for _ in 0..20 {
+        pause(clock);
+    }
+    // It may be polled once more after its answer.
+    mail.polls.load(Ordering::SeqCst) <= polls.saturating_add(1)
+}
+
+/// Lets the network of a node fail after a while. Returns whether its engine was idle in it, and
+/// accepted a broadcast before the failure.
+fn fail_later<R>(rt: &R, mailbox: &Mailbox<u64, TestMessage, R>, mail: &Mail) -> Result<bool, Fault>
 where
-    R: Threads + Wait + Clock + AllocGlobal + Clone + Send + Sync + Drop + 'static,
+    R: Wait + Clock + RandomSource + AllocGlobal + Clone + Send + 'static,
+{
+    let _found = gets(rt, mailbox, 1)?;
+    let is_idle = is_idle(rt, mail);
+    let feedback = broadcast(rt, mailbox, 1)?;
+    fail(rt, mail)?;
+    Ok(is_idle && feedback.accepted())
+}
+
+/// Starts a thread that lets the network of a node fail later.
+fn start_failing<R>(
+    rt: &R,
+    node: &Node<TestMessage, R>,
+) -> Result<JoinHandle<Result<bool, Fault>>, Fail>
+where
+    R: Threads + Wait + Clock + RandomSource + AllocGlobal + Clone + Send + Sync + Drop + 'static,
 {
     let mailbox = node.mailbox.clone()?;
     let mail = Arc::try_clone(&node.mail)?;
     let own = rt.clone()?;
-    Ok(thread::spawn(rt, move || {
-        for _ in 0..20 {
-            pause(&own);
-        }
-        let accepted = broadcast(&own, &mailbox, 1).is_ok_and(|feedback| feedback.accepted());
-        accepted && fail(&own, &mail).is_ok()
-    })?)
+    Ok(thread::spawn(rt, move || fail_later(&own, &mailbox, &mail))?)
 }
 
-/// Joins an engine whose network fails later. Returns whether it took a broadcast before, and why
-/// it ended.
+/// Joins an engine whose network fails later. Returns whether it was idle before and accepted a
+/// broadcast, and why it ended.
 fn join<R>(rt: &R) -> Result<(bool, EndCause), Fail>
 where
     R: Threads + Wait + Clock + RandomSource + AllocGlobal + Clone + Send + Sync + Drop + 'static,
 {
     let node = start(rt, Sequential)?;
-    let failing = fail_later(rt, &node)?;
+    let failing = start_failing(rt, &node)?;
     let cause = node.join(rt).cause();
-    Ok((failing.join(rt), cause))
+    Ok((failing.join(rt)?, cause))
 }
 
 #[test]
-fn a_join_asks_for_nothing(rt: HostRuntime) -> Result<(), Fail> {
+fn an_engine_waits_idle_until_its_end(rt: HostRuntime) -> Result<(), Fail> {
     assert_eq!(rt; join(&rt)?, (true, EndCause::NetworkFailed));
     Ok(())
 }

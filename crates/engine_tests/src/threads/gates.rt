@@ -33,17 +33,26 @@ struct Meeting {
     met: AtomicU64,
 }
 
-impl Gate for Meeting {
-    fn pass(&self) {
-        self.entered.fetch_add(1, Ordering::SeqCst);
+impl Meeting {
+    /// Waits until this many workers have entered. Returns whether they have.
+    fn waits_for(&self, workers: u64) -> bool {
         for _ in 0..LIMIT {
-            if self.entered.load(Ordering::SeqCst) >= 2 {
-                self.met.fetch_add(1, Ordering::SeqCst);
-                return;
+            if self.entered.load(Ordering::SeqCst) >= workers {
+                return true;
             }
             for _ in 0..YIELDS {
                 thread::yield_now();
             }
+        }
+        false
+    }
+}
+
+impl Gate for Meeting {
+    fn pass(&self) {
+        self.entered.fetch_add(1, Ordering::SeqCst);
+        if self.waits_for(2) {
+            self.met.fetch_add(1, Ordering::SeqCst);
         }
     }
 }
@@ -88,20 +97,20 @@ where
         },
     )?;
     let strategy = Threaded::new(rt.clone()?, rt.alloc(), Arc::try_clone(&gate)?);
-    let (pending, equal) = digests(rt, &strategy)?;
+    let (pending, equal) = digests(rt, &gate, &strategy)?;
     Ok((gate.met.load(Ordering::SeqCst), pending, equal))
 }
 
-/// Starts two jobs before it waits for one. Returns whether the first was pending until then, and
-/// whether each gave the digest of its message.
-fn digests<R>(rt: &R, strategy: &Threaded<Meeting, R>) -> Result<(bool, bool), Fail>
+/// Starts two jobs before it waits for one, the second once a worker waits at the gate. Returns
+/// whether the first was pending until then, and whether each gave the digest of its message.
+fn digests<R>(rt: &R, gate: &Meeting, strategy: &Threaded<Meeting, R>) -> Result<(bool, bool), Fail>
 where
     R: Threads + Wait + RandomSource + AllocGlobal + Clone + Drop,
 {
     let (first, second) = (message(rt.alloc(), 1)?, message(rt.alloc(), 2)?);
     let wanted = (first.digest(), second.digest());
     let mut one = strategy.start(first)?;
-    let pending = is_pending(&mut Task::new(rt)?, &mut one);
+    let pending = gate.waits_for(1) && is_pending(&mut Task::new(rt)?, &mut one);
     let mut two = strategy.start(second)?;
     Ok((
         pending,

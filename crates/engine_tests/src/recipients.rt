@@ -1,0 +1,84 @@
+//! The nodes to which a network in memory hands a payload.
+use super::message::{To, recipients};
+use super::task::Task;
+use cluster_lib::network::{Mail, Outbound};
+use commonware_broadcast::buffered::Sender;
+use futures::task::Poll;
+use std::alloc::{AllocError, AllocGlobal, Global};
+use std::random::RandomSource;
+use std::sync::{Arc, Wait};
+use std::test::Fail;
+
+/// Recipients, and which of the nodes 2, 3 and 4 are handed a payload of the node 1.
+struct Row(To, &'static [u64]);
+
+static ROWS: [Row; 5] = [
+    Row(To::All, &[2, 3, 4]),
+    Row(To::One(3), &[3]),
+    Row(To::One(1), &[]),
+    Row(To::Some(&[4, 9, 2]), &[2, 4]),
+    Row(To::Some(&[]), &[]),
+];
+
+fn rows() -> &'static [Row] {
+    &ROWS
+}
+
+/// Creates the mail of the nodes 2, 3 and 4.
+fn mails(alloc: Global) -> Result<Vec<Arc<Mail>>, AllocError> {
+    let mut mails = Vec::new(alloc);
+    for key in 2..5 {
+        mails.push(Arc::new(alloc, Mail::new(alloc, key))?)?;
+    }
+    Ok(mails)
+}
+
+/// Sends a byte to the recipients. Returns the keys of the nodes that were handed it.
+fn handed<R>(rt: &R, to: To) -> Result<Vec<u64>, Fail>
+where
+    R: Wait + RandomSource + AllocGlobal + Clone + Drop,
+{
+    let mut network = Outbound {
+        key: 1,
+        others: mails(rt.alloc())?,
+        rt: rt.clone()?,
+    };
+    let bytes = Vec::from_slice(rt.alloc(), &[7])?;
+    network.send(recipients(rt.alloc(), to)?, bytes, false);
+    Ok(holders(rt, &network.others)?)
+}
+
+/// Returns the keys of the nodes that were handed the byte.
+fn holders<R>(rt: &R, mails: &[Arc<Mail>]) -> Result<Vec<u64>, AllocError>
+where
+    R: Wait + RandomSource + AllocGlobal,
+{
+    let mut task = Task::new(rt)?;
+    let mut keys = Vec::new(rt.alloc());
+    for mail in mails {
+        if has_byte(rt, &mut task, mail) {
+            keys.push(mail.key)?;
+        }
+    }
+    Ok(keys)
+}
+
+/// Returns whether the node was handed the byte.
+fn has_byte<R: Wait>(rt: &R, task: &mut Task, mail: &Mail) -> bool {
+    let mut cx = task.solo.begin();
+    let polled = mail.payloads.poll(rt, &mut cx);
+    task.rest.end(cx);
+    match polled {
+        Poll::Ready(Ok((key, bytes))) => key == 1 && bytes.as_slice() == [7].as_slice(),
+        _ => false,
+    }
+}
+
+#[test]
+fn recipients_alone_are_handed_a_payload(rt: HostRuntime) -> Result<(), Fail> {
+    for (place, row) in rows().iter().enumerate() {
+        let Row(to, keys) = row;
+        assert!(rt; handed(&rt, *to)?.as_slice() == *keys, "row {place}");
+    }
+    Ok(())
+}
