@@ -12,7 +12,7 @@ KINDS = {
     "tests": ("#f4f1e8", "#a08443"),
 }
 # Libraries that no other crate of the repository names.
-ALONE = ("proved_examples", "memory_network")
+ALONE = ("proved_examples",)
 
 
 def read(text):

@@ -2,7 +2,6 @@ pub mod Arguments
 pub mod Faults
 pub mod Measured
 pub mod Outcomes
-pub mod Recipients
 pub mod Rows
 pub mod Settlements
 pub mod Table

@@ -9,9 +9,10 @@ use crate::fault::Fault;
 use crate::message::{Digest, broadcast, digest_of};
 use crate::node::{Node, start};
 use crate::rate::Rate;
-use crate::run::mail_of;
+use crate::run::keys;
 use broadcast_core::{RangeCfg, TestMessage};
 use commonware_broadcast::buffered::{Get, Mailbox, Sequential};
+use memory_network::Mail;
 use std::alloc::AllocGlobal;
 use std::fmt::{self, Display, Formatter};
 use std::io;
@@ -81,7 +82,8 @@ fn start_alone<R>(rt: &R) -> Result<Node<TestMessage, R>, Fault>
 where
     R: Threads + Wait + RandomSource + AllocGlobal + Clone + Send + Sync + Drop + 'static,
 {
-    let mail = mail_of(rt, 1, 1)?;
+    let mail = Arc::new(rt.alloc(), Mail::new(rt.alloc(), 1))?;
+    mail.set_peers(rt, keys(rt.alloc(), 1)?)?;
     let others = Vec::new(rt.alloc());
     match start(rt, RangeCfg::any(), Sequential, &mail, others, 1)? {
         Ok(node) => Ok(node),

@@ -3,12 +3,12 @@ ghost use Rattle.std.specs.Prelude.{◌≡◌, IfOk};
 ghost use Rattle.std.specs.NonZero.{non_zero_u32_get};
 ghost use Rattle.broadcast_mailbox.specs.Account.{TallyState};
 
-use crate::network::{Inbound, Mail, Outbound, PeerSets};
 use broadcast_core::{Codec, Digestible};
 use commonware_broadcast::buffered::{
     Account, All, Bookkeeping, Books, Config, Engine, Handle, Mailbox, MailboxEngine,
     MailboxReport, StartError, Strategy, Tally, WatchedNode,
 };
+use memory_network::{Inbound, Mail, Outbound, PeerSets};
 use std::alloc::{AllocError, AllocGlobal};
 use std::num::{NonZeroU32, NonZeroUsize};
 use std::random::RandomSource;
@@ -20,7 +20,7 @@ use std::thread::Threads;
 const MAILBOX_SIZE: usize = 1000;
 
 /// An engine over a network in memory.
-pub type NodeEngine<M, T, R, A = ()> = MailboxEngine<u64, M, PeerSets<R>, T, R, A>;
+pub type NodeEngine<M, T, R, A = ()> = MailboxEngine<u64, M, PeerSets<u64, R>, T, R, A>;
 
 /// A node whose engine runs in a thread of its own.
 #[derive(Drop)]
@@ -28,7 +28,7 @@ pub struct Node<M: Digestible, R, A: Bookkeeping = ()> {
     /// The mailbox of its callers.
     pub mailbox: Mailbox<u64, M, R, A>,
     /// What it takes.
-    pub mail: Arc<Mail>,
+    pub mail: Arc<Mail<u64>>,
     /// Its engine.
     pub handle: Handle<u64, M, R, A>,
 }
@@ -57,9 +57,9 @@ pub struct Prepared<M: Digestible + Codec, T: Strategy<M>, R: Wait, A: Bookkeepi
     /// The mailbox of its callers.
     pub mailbox: Mailbox<u64, M, R, A>,
     /// What it takes.
-    pub mail: Arc<Mail>,
+    pub mail: Arc<Mail<u64>>,
     /// The ends of its network.
-    pub network: (Outbound<R>, Inbound<R>),
+    pub network: (Outbound<u64, R>, Inbound<u64, R>),
 }
 
 impl<M, T, R> Prepared<M, T, R>
@@ -73,8 +73,8 @@ where
         rt: &R,
         codec_config: M::Cfg,
         strategy: T,
-        mail: &Arc<Mail>,
-        others: Vec<Arc<Mail>>,
+        mail: &Arc<Mail<u64>>,
+        others: Vec<Arc<Mail<u64>>>,
         deque_size: usize,
     ) -> Result<Self, AllocError>
     where
@@ -100,20 +100,22 @@ where
         rt: &R,
         engine: NodeEngine<M, T, R, A>,
         mailbox: Mailbox<u64, M, R, A>,
-        mail: &Arc<Mail>,
-        others: Vec<Arc<Mail>>,
+        mail: &Arc<Mail<u64>>,
+        others: Vec<Arc<Mail<u64>>>,
     ) -> Result<Self, AllocError>
     where
         M::Cfg: Drop,
         T: Drop,
         R: Clone + Drop,
     {
-        let network = network(rt, mail, others)?;
         Ok(Prepared {
             engine,
             mailbox,
             mail: Arc::try_clone(mail)?,
-            network,
+            network: (
+                Outbound::new(rt, &mail.key, others)?,
+                Inbound::new(rt, mail)?,
+            ),
         })
     }
 
@@ -152,8 +154,8 @@ pub fn start<M, T, R>(
     rt: &R,
     codec_config: M::Cfg,
     strategy: T,
-    mail: &Arc<Mail>,
-    others: Vec<Arc<Mail>>,
+    mail: &Arc<Mail<u64>>,
+    others: Vec<Arc<Mail<u64>>>,
     deque_size: usize,
 ) -> Result<Started<M, R>, AllocError>
 where
@@ -174,8 +176,8 @@ pub fn start_over<M, T, R, A>(
     rt: &R,
     engine: NodeEngine<M, T, R, A>,
     mailbox: Mailbox<u64, M, R, A>,
-    mail: &Arc<Mail>,
-    others: Vec<Arc<Mail>>,
+    mail: &Arc<Mail<u64>>,
+    others: Vec<Arc<Mail<u64>>>,
 ) -> Result<Started<M, R, A>, AllocError>
 where
     M: Digestible + Codec + Send + Sync + 'static,
@@ -201,9 +203,9 @@ pub type Counted<M, R, A, K> = (
 /// request. Fails if there is no memory for its engine.
 pub fn start_counting<M, T, R, A, K>(
     rt: &R,
-    config: Config<u64, M::Cfg, PeerSets<R>, T>,
-    mail: &Arc<Mail>,
-    others: Vec<Arc<Mail>>,
+    config: Config<u64, M::Cfg, PeerSets<u64, R>, T>,
+    mail: &Arc<Mail<u64>>,
+    others: Vec<Arc<Mail<u64>>>,
     parts: NonZeroU32,
     accepted: Blank,
     taken: Blank,
@@ -223,7 +225,7 @@ where
     requires one { (K.all ≡ K.parts) × (K.parts ≡ 1) }
     ensures { IfOk result (λ counted. counted.1.parts ≡ A.all) }
 {
-    let node: WatchedNode<u64, M, PeerSets<R>, T, R, A, K, All> = Engine::new_watched(
+    let node: WatchedNode<u64, M, PeerSets<u64, R>, T, R, A, K, All> = Engine::new_watched(
         rt.clone()?,
         rt.alloc(),
         config,
@@ -240,9 +242,9 @@ pub fn config<C, T, R>(
     rt: &R,
     codec_config: C,
     strategy: T,
-    mail: &Arc<Mail>,
+    mail: &Arc<Mail<u64>>,
     deque_size: usize,
-) -> Result<Config<u64, C, PeerSets<R>, T>, AllocError>
+) -> Result<Config<u64, C, PeerSets<u64, R>, T>, AllocError>
 where
     C: Drop,
     T: Drop,
@@ -255,33 +257,7 @@ where
         byte_budget: u64::MAX,
         priority: false,
         codec_config,
-        peer_provider: peer_sets(rt, mail)?,
+        peer_provider: PeerSets::new(rt, mail)?,
         strategy,
     })
-}
-
-/// Creates what gives a node its peer sets.
-fn peer_sets<R: Clone + Drop>(rt: &R, mail: &Arc<Mail>) -> Result<PeerSets<R>, AllocError> {
-    Ok(PeerSets {
-        mail: Arc::try_clone(mail)?,
-        rt: rt.clone()?,
-    })
-}
-
-/// Creates the ends of a node's network.
-fn network<R: Clone + Drop>(
-    rt: &R,
-    mail: &Arc<Mail>,
-    others: Vec<Arc<Mail>>,
-) -> Result<(Outbound<R>, Inbound<R>), AllocError> {
-    let outbound = Outbound {
-        key: mail.key,
-        others,
-        rt: rt.clone()?,
-    };
-    let inbound = Inbound {
-        mail: Arc::try_clone(mail)?,
-        rt: rt.clone()?,
-    };
-    Ok((outbound, inbound))
 }

@@ -4,11 +4,11 @@ ghost use Rattle.std.specs.Prelude.{◌≡◌, [], ◌∷◌, ◌++◌, OnOk};
 use crate::ended::{Ended, Outcome};
 use crate::fault::Fault;
 use crate::message::message_of;
-use crate::network::Mail;
 use crate::session::{NodeSession, STRANGER};
 use crate::settings::Settings;
 use crate::shared::Shared;
-use broadcast_core::{CodecError, Items, Set, Write};
+use broadcast_core::{CodecError, Set, Write};
+use memory_network::{Mail, Network};
 use std::alloc::{AllocError, AllocGlobal, Global};
 use std::random::RandomSource;
 use std::sync::{Arc, Wait};
@@ -22,8 +22,8 @@ pub fn run<R>(rt: &R, settings: Settings) -> Result<Ended, Fault>
 where
     R: Threads + Wait + Clock + RandomSource + AllocGlobal + Clone + Send + Sync + Drop + 'static,
 {
-    let mails = mails(rt, settings.nodes)?;
-    let shared = Arc::new(rt.alloc(), Shared::new(rt.alloc(), settings, mails)?)?;
+    let network = disturbed_network(rt, settings.nodes)?;
+    let shared = Arc::new(rt.alloc(), Shared::new(rt.alloc(), settings, network)?)?;
     let mut threads = Vec::new(rt.alloc());
     let started = start_all(rt, settings, &shared, &mut threads);
     if started.is_err() {
@@ -44,11 +44,11 @@ fn start_all<R>(
 where
     R: Threads + Wait + Clock + RandomSource + AllocGlobal + Clone + Send + Sync + Drop + 'static,
 {
-    for mail in &shared.mails {
+    for mail in shared.network.mails() {
         threads.reserve(1)?;
         let session = NodeSession {
             mail: Arc::try_clone(mail)?,
-            others: others(rt.alloc(), mail.key, &shared.mails)?,
+            others: shared.network.others(rt.alloc(), &mail.key)?,
             settings,
             shared: Arc::try_clone(shared)?,
             rt: rt.clone()?,
@@ -98,43 +98,18 @@ fn append(outcomes: &mut Vec<Outcome>, outcome: Outcome) -> Result<(), AllocErro
     Ok(())
 }
 
-/// Returns the mail of all nodes but one.
-fn others(alloc: Global, key: u64, mails: &[Arc<Mail>]) -> Result<Vec<Arc<Mail>>, AllocError> {
-    let mut others = Vec::new(alloc);
-    for mail in mails {
-        if mail.key != key {
-            others.push(Arc::try_clone(mail)?)?;
-        }
+/// Creates the network of the nodes with the keys from 1. A stranger has sent each of them a
+/// message, and a byte that is no message.
+fn disturbed_network<R: Wait + AllocGlobal>(rt: &R, nodes: u64) -> Result<Network<u64>, Fault> {
+    let network = Network::new(rt, &keys(rt.alloc(), nodes)?)?;
+    for mail in network.mails() {
+        disturb(rt, mail)?;
     }
-    Ok(others)
+    Ok(network)
 }
 
-/// Creates the mail of each node: all nodes are its peers, and a stranger has sent it a message,
-/// and a byte that is no message.
-fn mails<R: Wait + AllocGlobal>(rt: &R, nodes: u64) -> Result<Vec<Arc<Mail>>, Fault> {
-    let mut mails = Vec::new(rt.alloc());
-    for key in 1..=nodes {
-        mails.reserve(1)?;
-        let mail = mail_of(rt, key, nodes)?;
-        disturb(rt, &mail)?;
-        mails.push_reserved(mail);
-    }
-    Ok(mails)
-}
-
-/// Creates the mail of the node of the key, whose peers are the nodes of the keys from 1.
-pub(crate) fn mail_of<R: Wait + AllocGlobal>(
-    rt: &R,
-    key: u64,
-    nodes: u64,
-) -> Result<Arc<Mail>, AllocError> {
-    let mail = Arc::new(rt.alloc(), Mail::new(rt.alloc(), key))?;
-    mail.sets.give(rt, peers(rt.alloc(), nodes)?)?;
-    Ok(mail)
-}
-
-/// Returns the keys of all nodes.
-fn peers(alloc: Global, nodes: u64) -> Result<Set<u64>, AllocError> {
+/// Returns the keys of the nodes.
+pub(crate) fn keys(alloc: Global, nodes: u64) -> Result<Set<u64>, AllocError> {
     let mut keys = Vec::new(alloc);
     for key in 1..=nodes {
         keys.push(key)?;
@@ -143,19 +118,13 @@ fn peers(alloc: Global, nodes: u64) -> Result<Set<u64>, AllocError> {
 }
 
 /// Sends a node what a stranger sends.
-fn disturb<R: Wait + AllocGlobal>(rt: &R, mail: &Mail) -> Result<(), Fault> {
+fn disturb<R: Wait + AllocGlobal>(rt: &R, mail: &Mail<u64>) -> Result<(), Fault> {
     let Ok(bytes) = encoded(rt.alloc(), mail.key) else {
         return Err(Fault::Memory);
     };
-    hand(rt, mail, bytes)?;
-    hand(rt, mail, Vec::from_slice(rt.alloc(), &[0xff])?)?;
+    mail.deliver(rt, STRANGER, bytes)?;
+    mail.deliver(rt, STRANGER, Vec::from_slice(rt.alloc(), &[0xff])?)?;
     Ok(())
-}
-
-/// Sends a node the bytes of a stranger.
-fn hand<R: Wait>(rt: &R, mail: &Mail, bytes: Vec<u8>) -> Result<(), AllocError> {
-    let payload = (STRANGER, Items::from_vec(bytes));
-    mail.payloads.give(rt, Ok(payload))
 }
 
 /// Returns the encoding of the stranger's message with this number.

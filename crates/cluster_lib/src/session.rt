@@ -7,7 +7,6 @@ ghost use Rattle.cluster_lib.specs.Settlements.{ended};
 use crate::client::{Client, Seen};
 use crate::fault::Fault;
 use crate::message::broadcast;
-use crate::network::Mail;
 use crate::node::{Counted, Node, config, start_counting};
 use crate::row::Row;
 use crate::settings::Settings;
@@ -19,6 +18,7 @@ use broadcast_mailbox::Feedback;
 use commonware_broadcast::buffered::{
     Account, Bookkeeping, Mailbox, MailboxReport, Sequential, StartError,
 };
+use memory_network::Mail;
 use std::alloc::{AllocError, AllocGlobal};
 use std::marker::Brand;
 use std::num::NonZeroU32;
@@ -47,9 +47,9 @@ pub struct Played {
 #[derive(Drop)]
 pub struct NodeSession<R> {
     /// The mail of the node.
-    pub mail: Arc<Mail>,
+    pub mail: Arc<Mail<u64>>,
     /// The mail of the other nodes.
-    pub others: Vec<Arc<Mail>>,
+    pub others: Vec<Arc<Mail<u64>>>,
     /// The settings of the run.
     pub settings: Settings,
     /// What it shares with the other nodes and with the clients.

@@ -1,9 +1,8 @@
 //! What the threads of a run share.
 use crate::message::{Digest, digests_of};
-use crate::network::Mail;
 use crate::settings::Settings;
+use memory_network::Network;
 use std::alloc::{AllocError, Global};
-use std::sync::Arc;
 use std::sync::atomic::{AtomicBool, AtomicU64, Ordering};
 use std::thread;
 use std::time::{Clock, Duration};
@@ -23,8 +22,8 @@ pub struct AllSubscribed {
 /// What the threads of all nodes and clients share.
 #[derive(Drop)]
 pub struct Shared {
-    /// The mail of all nodes.
-    pub mails: Vec<Arc<Mail>>,
+    /// The network of the nodes.
+    pub network: Network<u64>,
     /// The digests of the messages of all nodes.
     pub digests: Vec<Digest>,
     /// The number of clients.
@@ -42,10 +41,10 @@ impl Shared {
     pub fn new(
         alloc: Global,
         settings: Settings,
-        mails: Vec<Arc<Mail>>,
+        network: Network<u64>,
     ) -> Result<Self, AllocError> {
         Ok(Shared {
-            mails,
+            network,
             digests: digests_of(alloc, settings.nodes, settings.messages)?,
             clients: settings.nodes,
             subscribed: AtomicU64::new(0),
@@ -107,7 +106,7 @@ impl Shared {
     /// Returns how often the engines of all nodes were polled.
     fn polls(&self) -> u64 {
         let mut polls = 0u64;
-        for mail in &self.mails {
+        for mail in self.network.mails() {
             polls = polls.saturating_add(mail.polls.load(Ordering::SeqCst));
         }
         polls

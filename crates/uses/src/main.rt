@@ -1,4 +1,5 @@
-//! Uses of the crates, as a caller writes them. `docs/CALLING.md` quotes these files.
+//! Uses of the crates, as a caller writes them. Begin with [`two_nodes`]. `docs/CALLING.md` quotes
+//! these files.
 //!
 //! Without arguments it prints what these uses return, and with `--help` what the arguments are.
 //! With others it makes the [`calls`] of the libraries that they and standard input list.
@@ -14,6 +15,7 @@ mod node;
 mod note;
 mod relay;
 mod shown;
+mod two_nodes;
 
 use anyhow::Error;
 use broadcast_text::arguments::read_arguments;

@@ -1,5 +1,5 @@
 //! What the uses return, as text.
-use super::{account, cache, engines, mailbox, note, relay};
+use super::{account, cache, engines, mailbox, note, relay, two_nodes};
 use anyhow::Error;
 use broadcast_core::{Digested, TestMessage};
 use std::alloc::{AllocError, AllocGlobal, Global};
@@ -14,12 +14,23 @@ where
     R: Threads + Wait + RandomSource + AllocGlobal + Clone + Send + Sync + Drop + 'static,
     W: Write,
 {
+    show_two_nodes(rt, out)?;
     show_values(rt.alloc(), out)?;
     let asked = mailbox::ask(rt, &message(rt.alloc())?)?;
     writeln!(out, "mailbox: {asked:?}")?;
     show_engines(rt, out)?;
     show_relay(rt, out)?;
     show_account(rt, out)
+}
+
+fn show_two_nodes<R, W>(rt: &R, out: &mut W) -> Result<(), Error>
+where
+    R: Threads + Wait + RandomSource + AllocGlobal + Clone + Send + Sync + Drop + 'static,
+    W: Write,
+{
+    let (received, cause) = two_nodes::pass_on(rt, message(rt.alloc())?)?;
+    writeln!(out, "two nodes: {:?}, {cause:?}", received.inner().content)?;
+    Ok(())
 }
 
 fn show_values<W: Write>(alloc: Global, out: &mut W) -> Result<(), Error> {

@@ -1,11 +1,11 @@
 //! How a started engine ends that nobody stops.
-use super::nodes::{broadcast, fail, gets, start};
+use super::nodes::{broadcast, gets, start};
 use super::patient::pause;
 use broadcast_core::TestMessage;
 use cluster_lib::fault::Fault;
-use cluster_lib::network::Mail;
 use cluster_lib::node::Node;
 use commonware_broadcast::buffered::{EndCause, Mailbox, Sequential};
+use memory_network::Mail;
 use std::alloc::AllocGlobal;
 use std::random::RandomSource;
 use std::sync::atomic::Ordering;
@@ -15,7 +15,7 @@ use std::thread::{self, JoinHandle, Threads};
 use std::time::Clock;
 
 /// Returns whether an engine that has answered is not polled while nothing happens.
-fn is_idle(clock: &impl Clock, mail: &Mail) -> bool {
+fn is_idle(clock: &impl Clock, mail: &Mail<u64>) -> bool {
     let polls = mail.polls.load(Ordering::SeqCst);
     for _ in 0..20 {
         pause(clock);
@@ -26,14 +26,18 @@ fn is_idle(clock: &impl Clock, mail: &Mail) -> bool {
 
 /// Lets the network of a node fail after a while. Returns whether its engine was idle in it, and
 /// accepted a broadcast before the failure.
-fn fail_later<R>(rt: &R, mailbox: &Mailbox<u64, TestMessage, R>, mail: &Mail) -> Result<bool, Fault>
+fn fail_later<R>(
+    rt: &R,
+    mailbox: &Mailbox<u64, TestMessage, R>,
+    mail: &Mail<u64>,
+) -> Result<bool, Fault>
 where
     R: Wait + Clock + RandomSource + AllocGlobal + Clone + Send + 'static,
 {
     let _found = gets(rt, mailbox, 1)?;
     let is_idle = is_idle(rt, mail);
     let feedback = broadcast(rt, mailbox, 1)?;
-    fail(rt, mail)?;
+    mail.fail(rt)?;
     Ok(is_idle && feedback.accepted())
 }
 

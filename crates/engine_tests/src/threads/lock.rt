@@ -1,5 +1,5 @@
 //! A broadcast that is answered while a job is pending.
-use super::nodes::{broadcast, fail, hold, start_patient, subscribe};
+use super::nodes::{broadcast, hold, start_patient, subscribe};
 use super::patient::Talk;
 use broadcast_core::TestMessage;
 use cluster_lib::node::Node;
@@ -53,7 +53,7 @@ where
     hold(rt, &node.mail, talk)?;
     let accepted = broadcast(rt, &node.mailbox, 1)?.accepted();
     talk.answer();
-    fail(rt, &node.mail)?;
+    node.mail.fail(rt)?;
     Ok(accepted)
 }
 

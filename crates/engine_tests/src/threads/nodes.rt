@@ -1,13 +1,11 @@
 //! A started node, and what feeds it.
 use super::patient::{LIMIT, Patient, Talk, pause};
-use broadcast_core::{Codec, Digested, Digestible, Items, RangeCfg, Recipients, Set, TestMessage};
+use broadcast_core::{Codec, Digested, Digestible, RangeCfg, Recipients, Set, TestMessage};
 use cluster_lib::fault::Fault;
-use cluster_lib::network::Mail;
 use cluster_lib::node::{Node, Prepared};
-use commonware_broadcast::buffered::{
-    Mailbox, NetworkFailed, Open, Strategy, Subscription, Threaded, Work,
-};
+use commonware_broadcast::buffered::{Mailbox, Open, Strategy, Subscription, Threaded, Work};
 use commonware_broadcast::{Broadcaster, Feedback};
+use memory_network::Mail;
 use std::alloc::{AllocError, AllocGlobal, Global};
 use std::random::RandomSource;
 use std::sync::{Arc, Wait};
@@ -80,7 +78,11 @@ where
 }
 
 /// Lets a job be pending at the node, which has the peer 5. It is of the message of the letter 2.
-pub fn hold<R: Wait + Clock + AllocGlobal>(rt: &R, mail: &Mail, talk: &Talk) -> Result<(), Fail> {
+pub fn hold<R: Wait + Clock + AllocGlobal>(
+    rt: &R,
+    mail: &Mail<u64>,
+    talk: &Talk,
+) -> Result<(), Fail> {
     track(rt, mail, &[1, 5])?;
     send(rt, mail, 5, &[0, 0, 0, 0, 0, 0, 0, 1, 2])?;
     if talk.wait_for_job(rt) {
@@ -91,25 +93,23 @@ pub fn hold<R: Wait + Clock + AllocGlobal>(rt: &R, mail: &Mail, talk: &Talk) -> 
 }
 
 /// Tells the node its peers.
-pub fn track<R: Wait + AllocGlobal>(rt: &R, mail: &Mail, keys: &[u64]) -> Result<(), AllocError> {
+pub fn track<R: Wait + AllocGlobal>(
+    rt: &R,
+    mail: &Mail<u64>,
+    keys: &[u64],
+) -> Result<(), AllocError> {
     let set = Set::from_iter_dedup(Vec::from_slice(rt.alloc(), keys)?)?;
-    mail.sets.give(rt, set)
+    mail.set_peers(rt, set)
 }
 
 /// Sends the node a payload of the peer.
 pub fn send<R: Wait + AllocGlobal>(
     rt: &R,
-    mail: &Mail,
+    mail: &Mail<u64>,
     peer: u64,
     bytes: &[u8],
 ) -> Result<(), AllocError> {
-    let bytes = Items::from_vec(Vec::from_slice(rt.alloc(), bytes)?);
-    mail.payloads.give(rt, Ok((peer, bytes)))
-}
-
-/// Lets the network of the node fail once its payloads are taken, which ends its engine.
-pub fn fail<R: Wait>(rt: &R, mail: &Mail) -> Result<(), AllocError> {
-    mail.payloads.give(rt, Err(NetworkFailed))
+    mail.deliver(rt, peer, Vec::from_slice(rt.alloc(), bytes)?)
 }
 
 /// Broadcasts the message of the letter.

@@ -1,14 +1,13 @@
 //! Started engines that end.
 use super::nodes::{
-    broadcast, digest, fail, gets, hold, send, start, start_patient, subscribe, track,
-    wait_for_close,
+    broadcast, digest, gets, hold, send, start, start_patient, subscribe, track, wait_for_close,
 };
 use super::patient::Talk;
 use broadcast_core::TestMessage;
-use cluster_lib::network::Mail;
 use cluster_lib::node::Node;
 use commonware_broadcast::Feedback;
 use commonware_broadcast::buffered::{EndCause, Mailbox, Sequential, Status, Subscription};
+use memory_network::Mail;
 use std::alloc::{AllocError, AllocGlobal};
 use std::random::RandomSource;
 use std::sync::Wait;
@@ -86,7 +85,7 @@ where
 {
     let closed = wait_for_close(rt, &node.mailbox)?;
     let prompt = closed && !talk.gave_up();
-    fail(rt, &node.mail)?;
+    node.mail.fail(rt)?;
     Ok(prompt)
 }
 
@@ -131,7 +130,7 @@ fn a_stopped_engine_ends_promptly_and_answers_nothing(rt: HostRuntime) -> Result
 }
 
 /// Sends the node of key 1 a payload of a peer that is no message, and one that is.
-fn feed<R: Wait + AllocGlobal>(rt: &R, mail: &Mail) -> Result<(), AllocError> {
+fn feed<R: Wait + AllocGlobal>(rt: &R, mail: &Mail<u64>) -> Result<(), AllocError> {
     track(rt, mail, &[1, 5])?;
     send(rt, mail, 5, &[9])?;
     send(rt, mail, 5, &[0, 0, 0, 0, 0, 0, 0, 1, 2])
@@ -164,7 +163,7 @@ where
     feed(rt, &node.mail)?;
     let message = waiting.wait(rt)?;
     node.handle.stop();
-    fail(rt, &node.mail)?;
+    node.mail.fail(rt)?;
     Ok(message.digest().cmp(&digest(rt.alloc(), 2)?).is_eq())
 }
 

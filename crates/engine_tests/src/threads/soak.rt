@@ -1,11 +1,11 @@
 //! Many callers of one started engine, which digests on other threads and is stopped in the middle.
-use super::nodes::{broadcast, fail, gets, send, start_threaded, subscribe, track};
+use super::nodes::{broadcast, gets, send, start_threaded, subscribe, track};
 use super::patient::{LIMIT, pause};
 use broadcast_core::{RangeCfg, TestMessage};
 use cluster_lib::fault::Fault;
-use cluster_lib::network::Mail;
 use cluster_lib::node::Node;
 use commonware_broadcast::buffered::{EndCause, Mailbox, Metrics, Status, Subscription};
+use memory_network::Mail;
 use std::alloc::{AllocError, AllocGlobal};
 use std::random::RandomSource;
 use std::sync::atomic::{AtomicU64, Ordering};
@@ -139,7 +139,7 @@ fn join_callers(rt: &impl Threads, callers: Vec<JoinHandle<Outcome>>) -> Result<
 
 /// Feeds the node in rounds: a peer set, and payloads that are a message of a peer, a message of a
 /// stranger, and no message.
-fn feed<R: Wait + AllocGlobal>(rt: &R, mail: &Mail) -> Result<(), AllocError> {
+fn feed<R: Wait + AllocGlobal>(rt: &R, mail: &Mail<u64>) -> Result<(), AllocError> {
     for round in 0..FEEDS {
         let letter = (round % 192) as u8;
         let message = [0, 0, 0, 0, 0, 0, 0, 1, letter];
@@ -153,7 +153,7 @@ fn feed<R: Wait + AllocGlobal>(rt: &R, mail: &Mail) -> Result<(), AllocError> {
 }
 
 /// Starts the feeder. Its thread returns whether all was handed over.
-fn start_feeder<R>(rt: &R, mail: &Arc<Mail>) -> Result<JoinHandle<bool>, Fail>
+fn start_feeder<R>(rt: &R, mail: &Arc<Mail<u64>>) -> Result<JoinHandle<bool>, Fail>
 where
     R: Threads + Wait + AllocGlobal + Clone + Send + Sync + Drop + 'static,
 {
@@ -248,7 +248,7 @@ where
     R: Threads + Wait + Drop,
 {
     node.handle.stop();
-    fail(rt, &node.mail)?;
+    node.mail.fail(rt)?;
     let report = node.join(rt);
     let Workers {
         callers,

@@ -1,11 +1,11 @@
 //! Engines that can't be started, or can't wait once they are.
-use super::nodes::{broadcast, fail, wait_for_close};
+use super::nodes::{broadcast, wait_for_close};
 use super::poor::{Poor, Supply};
 use broadcast_core::{Codec, Digestible, RangeCfg, TestMessage};
-use cluster_lib::network::Mail;
 use cluster_lib::node::{Node, Prepared, Started};
 use commonware_broadcast::Feedback;
 use commonware_broadcast::buffered::{EndCause, Handle, Mailbox, Sequential, StartError};
+use memory_network::Mail;
 use std::alloc::{AllocError, AllocGlobal};
 use std::random::RandomSource;
 use std::sync::{Arc, Wait};
@@ -63,7 +63,7 @@ fn cases() -> &'static [Case] {
 fn stop<R>(
     rt: &R,
     mailbox: &Mailbox<u64, TestMessage, R>,
-    mail: &Mail,
+    mail: &Mail<u64>,
     handle: Handle<u64, TestMessage, R>,
 ) -> Result<EndCause, Fail>
 where
@@ -71,7 +71,7 @@ where
 {
     handle.stop();
     let _closed = wait_for_close(rt, mailbox)?;
-    fail(rt, mail)?;
+    mail.fail(rt)?;
     Ok(handle.join(rt).cause())
 }
 
