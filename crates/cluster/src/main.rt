@@ -2,11 +2,15 @@
 #![tactic(auto)]
 
 use cluster_lib::{play, read_arguments};
+use std::io::IsTerminal;
 use std::process::ExitCode;
 
 fn main(rt: HostRuntime) -> ExitCode {
     let status = match read_arguments(&rt) {
-        Ok(words) => play(&rt, &words, rt.stdout(), rt.stderr()),
+        Ok(words) => {
+            let terminal = rt.stderr().is_terminal().then_some(rt.stderr());
+            play(&rt, &words, rt.stdout(), rt.stderr(), terminal)
+        }
         Err(fault) => fault.report(rt.stderr()),
     };
     ExitCode::from(status)

@@ -86,6 +86,7 @@ where
         let mut waiting = Vec::new(self.rt.alloc());
         for digest in &self.shared.digests {
             waiting.push(tally.subscribe(&self.mailbox, *digest)?)?;
+            self.shared.progress.count(1);
         }
         Ok(waiting)
     }
@@ -116,6 +117,7 @@ where
         for number in 1..=self.settings.messages {
             let message = message_with_digest(self.rt.alloc(), self.key, number)?;
             let _feedback = tally.broadcast(&self.mailbox, message)?;
+            self.shared.progress.count(1);
         }
         Ok(())
     }
@@ -127,6 +129,7 @@ where
             if tally.get(&self.mailbox, *digest)?.wait(&self.rt).is_none() {
                 missing = missing.saturating_add(1);
             }
+            self.shared.progress.count(1);
         }
         Ok(missing)
     }

@@ -9,6 +9,7 @@ pub mod limits;
 pub mod measure;
 pub mod message;
 pub mod node;
+pub mod progress;
 pub mod rate;
 pub mod row;
 pub mod run;
@@ -23,65 +24,90 @@ use arguments::{HELP, is_help};
 use ended::finish;
 use fault::Fault;
 use measure::{measure, write_measured};
+use progress::{Progress, show};
 use rate::{Rate, is_rate};
 use run::run;
 use settings::Settings;
 use std::io::Write;
 use std::random::RandomSource;
-use std::sync::Wait;
+use std::sync::{Arc, Wait};
 use std::thread::Threads;
 use std::time::Clock;
 
 /// Does what the words say: runs a cluster and writes a line for each node and one for the account
 /// to `out`, or measures how many requests an engine answers, or prints what the arguments are.
-/// Writes a fault to `err`. Returns the exit status. The words are the arguments without the
-/// program's name.
-pub fn play<R, W, E>(rt: &R, words: &[String], out: W, err: E) -> u8
+/// Writes a fault to `err`, and the progress of a long run to `terminal`, if there is one. Returns
+/// the exit status. The words are the arguments without the program's name.
+pub fn play<R, W, E>(rt: &R, words: &[String], out: W, err: E, terminal: Option<E>) -> u8
 where
     R: Threads + Wait + Clock + RandomSource + AllocGlobal + Clone + Send + Sync + Drop + 'static,
     W: Write + Drop,
-    E: Write + Drop,
+    E: Write + Send + Drop + 'static,
 {
     let mut out = out;
-    match play_words(rt, words, &mut out) {
+    match play_words(rt, words, &mut out, terminal) {
         Ok(()) => 0,
         Err(fault) => fault.report(err),
     }
 }
 
 /// Does what the words say.
-fn play_words<R, W>(rt: &R, words: &[String], out: &mut W) -> Result<(), Fault>
+fn play_words<R, W, E>(
+    rt: &R,
+    words: &[String],
+    out: &mut W,
+    terminal: Option<E>,
+) -> Result<(), Fault>
 where
     R: Threads + Wait + Clock + RandomSource + AllocGlobal + Clone + Send + Sync + Drop + 'static,
     W: Write,
+    E: Write + Send + Drop + 'static,
 {
     match words {
         [word] if is_help(word.as_bytes()) => {
             out.write_all(HELP.as_bytes()).map_err(|_| Fault::Write)
         }
-        [first, ..] if is_rate(first.as_bytes()) => play_rate(rt, words, out),
-        _ => play_run(rt, words, out),
+        [first, ..] if is_rate(first.as_bytes()) => play_rate(rt, words, out, terminal),
+        _ => play_run(rt, words, out, terminal),
     }
 }
 
 /// Runs a cluster, and writes what became of it.
-fn play_run<R, W>(rt: &R, words: &[String], out: &mut W) -> Result<(), Fault>
+fn play_run<R, W, E>(
+    rt: &R,
+    words: &[String],
+    out: &mut W,
+    terminal: Option<E>,
+) -> Result<(), Fault>
 where
     R: Threads + Wait + Clock + RandomSource + AllocGlobal + Clone + Send + Sync + Drop + 'static,
     W: Write,
+    E: Write + Send + Drop + 'static,
 {
     let settings = Settings::parse(words)?;
-    let ended = run(rt, settings)?;
-    finish(rt.alloc(), &ended, out)
+    let progress = Arc::new(rt.alloc(), Progress::new(settings.requests()))?;
+    let shown = show(rt, &progress, terminal);
+    let ended = run(rt, settings, &progress);
+    progress.end(rt, shown);
+    finish(rt.alloc(), &ended?, out)
 }
 
 /// Makes a measurement, and writes it.
-fn play_rate<R, W>(rt: &R, words: &[String], out: &mut W) -> Result<(), Fault>
+fn play_rate<R, W, E>(
+    rt: &R,
+    words: &[String],
+    out: &mut W,
+    terminal: Option<E>,
+) -> Result<(), Fault>
 where
     R: Threads + Wait + Clock + RandomSource + AllocGlobal + Clone + Send + Sync + Drop + 'static,
     W: Write,
+    E: Write + Send + Drop + 'static,
 {
     let rate = Rate::parse(words)?;
-    let measured = measure(rt, rate)?;
-    write_measured(out, measured).map_err(|_| Fault::Write)
+    let progress = Arc::new(rt.alloc(), Progress::new(rate.gets()))?;
+    let shown = show(rt, &progress, terminal);
+    let measured = measure(rt, rate, &progress);
+    progress.end(rt, shown);
+    write_measured(out, measured?).map_err(|_| Fault::Write)
 }

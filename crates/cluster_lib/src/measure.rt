@@ -8,6 +8,7 @@ ghost use Rattle.cluster_lib.specs.Measured.{measured_text};
 use crate::fault::Fault;
 use crate::message::{Digest, broadcast, digest_of};
 use crate::node::{Node, start};
+use crate::progress::Progress;
 use crate::rate::Rate;
 use crate::run::keys;
 use broadcast_core::{RangeCfg, TestMessage};
@@ -66,12 +67,12 @@ impl Display for Measured {
 
 /// Lets the clients get a message from one started engine. The time counts from before the first
 /// client is started to the end of the last. If a client fails, all of them end.
-pub fn measure<R>(rt: &R, rate: Rate) -> Result<Measured, Fault>
+pub fn measure<R>(rt: &R, rate: Rate, progress: &Arc<Progress>) -> Result<Measured, Fault>
 where
     R: Threads + Wait + Clock + RandomSource + AllocGlobal + Clone + Send + Sync + Drop + 'static,
 {
     let node = start_alone(rt)?;
-    let measured = measure_node(rt, rate, &node);
+    let measured = measure_node(rt, rate, progress, &node);
     node.handle.stop();
     drop::<_>(node.join(rt));
     measured
@@ -92,23 +93,33 @@ where
 }
 
 /// Lets the clients get a message from the node, which broadcast it.
-fn measure_node<R>(rt: &R, rate: Rate, node: &Node<TestMessage, R>) -> Result<Measured, Fault>
+fn measure_node<R>(
+    rt: &R,
+    rate: Rate,
+    progress: &Arc<Progress>,
+    node: &Node<TestMessage, R>,
+) -> Result<Measured, Fault>
 where
     R: Threads + Wait + Clock + RandomSource + AllocGlobal + Clone + Send + Sync + Drop + 'static,
 {
     let _feedback = broadcast(rt, &node.mailbox, 1, 1)?;
-    time(rt, rate, &node.mailbox)
+    time(rt, rate, progress, &node.mailbox)
 }
 
 /// Starts the clients, and waits for them. Returns what was measured.
-fn time<R>(rt: &R, rate: Rate, mailbox: &Mailbox<u64, TestMessage, R>) -> Result<Measured, Fault>
+fn time<R>(
+    rt: &R,
+    rate: Rate,
+    progress: &Arc<Progress>,
+    mailbox: &Mailbox<u64, TestMessage, R>,
+) -> Result<Measured, Fault>
 where
     R: Threads + Wait + Clock + RandomSource + AllocGlobal + Clone + Send + Sync + Drop + 'static,
 {
     let Ok(began) = Instant::now(rt) else {
         return Err(Fault::Clock);
     };
-    let answered = run_clients(rt, rate, mailbox)?;
+    let answered = run_clients(rt, rate, progress, mailbox)?;
     match began.elapsed(rt) {
         Ok(took) => Ok(Measured::new(answered, took)),
         Err(_) => Err(Fault::Clock),
@@ -120,13 +131,18 @@ type Answered = Result<u64, Fault>;
 
 /// Starts the clients, and joins them, also after one of them failed. Returns how many requests
 /// were answered.
-fn run_clients<R>(rt: &R, rate: Rate, mailbox: &Mailbox<u64, TestMessage, R>) -> Answered
+fn run_clients<R>(
+    rt: &R,
+    rate: Rate,
+    progress: &Arc<Progress>,
+    mailbox: &Mailbox<u64, TestMessage, R>,
+) -> Answered
 where
     R: Threads + Wait + RandomSource + AllocGlobal + Clone + Send + Sync + Drop + 'static,
 {
     let failed = Arc::new(rt.alloc(), AtomicBool::new(false))?;
     let mut clients = Vec::new(rt.alloc());
-    let started = start_clients(rt, rate, mailbox, &failed, &mut clients);
+    let started = start_clients(rt, rate, progress, mailbox, &failed, &mut clients);
     if started.is_err() {
         failed.store(true, Ordering::SeqCst);
     }
@@ -139,6 +155,7 @@ where
 fn start_clients<R>(
     rt: &R,
     rate: Rate,
+    progress: &Arc<Progress>,
     mailbox: &Mailbox<u64, TestMessage, R>,
     failed: &Arc<AtomicBool>,
     clients: &mut Vec<JoinHandle<Answered>>,
@@ -152,6 +169,7 @@ where
             rate,
             mailbox: mailbox.clone()?,
             failed: Arc::try_clone(failed)?,
+            progress: Arc::try_clone(progress)?,
             rt: rt.clone()?,
         };
         clients.push_reserved(start_client(rt, client)?);
@@ -200,6 +218,8 @@ struct GetClient<R> {
     mailbox: Mailbox<u64, TestMessage, R>,
     /// Whether a client has failed.
     failed: Arc<AtomicBool>,
+    /// How many gets the clients have made.
+    progress: Arc<Progress>,
     /// The right to wait.
     rt: R,
 }
@@ -227,6 +247,7 @@ where
                 return Ok(answered);
             }
             answered = answered.saturating_add(self.ask_at_once(digest)?);
+            self.progress.count(self.rate.depth);
         }
         Ok(answered)
     }

@@ -76,6 +76,12 @@ impl Rate {
             depth: read_number(depth, DEPTH)?,
         })
     }
+
+    /// Returns how many gets all clients make.
+    pub fn gets(&self) -> u64 {
+        let rounds = self.clients.saturating_mul(self.rounds);
+        rounds.saturating_mul(self.depth)
+    }
 }
 
 /// Returns whether the word is the one that stands before the settings.

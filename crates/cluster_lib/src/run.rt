@@ -4,6 +4,7 @@ ghost use Rattle.std.specs.Prelude.{◌≡◌, [], ◌∷◌, ◌++◌, OnOk};
 use crate::ended::{Ended, Outcome};
 use crate::fault::Fault;
 use crate::message::message_of;
+use crate::progress::Progress;
 use crate::session::{NodeSession, STRANGER};
 use crate::settings::Settings;
 use crate::shared::Shared;
@@ -18,12 +19,13 @@ use std::time::Clock;
 /// Runs the nodes of the keys from 1, each with a client. Stops them once all clients have
 /// finished, or one has failed, or all engines are idle. Returns what became of the nodes, or the
 /// first fault.
-pub fn run<R>(rt: &R, settings: Settings) -> Result<Ended, Fault>
+pub fn run<R>(rt: &R, settings: Settings, progress: &Arc<Progress>) -> Result<Ended, Fault>
 where
     R: Threads + Wait + Clock + RandomSource + AllocGlobal + Clone + Send + Sync + Drop + 'static,
 {
     let network = disturbed_network(rt, settings.nodes)?;
-    let shared = Arc::new(rt.alloc(), Shared::new(rt.alloc(), settings, network)?)?;
+    let shared = Shared::new(rt.alloc(), settings, network, Arc::try_clone(progress)?)?;
+    let shared = Arc::new(rt.alloc(), shared)?;
     let mut threads = Vec::new(rt.alloc());
     let started = start_all(rt, settings, &shared, &mut threads);
     if started.is_err() {

@@ -72,4 +72,12 @@ impl Settings {
     {
         self.nodes.saturating_mul(self.messages)
     }
+
+    /// Returns how many requests the clients make: each subscribes to each message and gets it, and
+    /// broadcasts those of its node.
+    pub fn requests(&self) -> u64 {
+        let subscriptions = self.subscriptions().saturating_mul(self.nodes);
+        let broadcasts = self.subscriptions();
+        subscriptions.saturating_mul(2).saturating_add(broadcasts)
+    }
 }

@@ -1,17 +1,19 @@
 //! What the threads of a run share.
 use crate::message::{Digest, digests_of};
+use crate::progress::Progress;
 use crate::settings::Settings;
 use memory_network::Network;
 use std::alloc::{AllocError, Global};
+use std::sync::Arc;
 use std::sync::atomic::{AtomicBool, AtomicU64, Ordering};
 use std::thread;
 use std::time::{Clock, Duration};
 
-/// How often a thread looks whether it has to wait any longer, a millisecond apart.
-const LOOKS: u64 = 60_000;
+/// The milliseconds that a thread waits at most.
+const LONGEST_WAIT: u64 = 60_000;
 
-/// After how many looks a thread does not wait any longer, if no engine was polled since.
-const PATIENCE: u64 = 500;
+/// The milliseconds without a poll of any engine after which a thread does not wait any longer.
+const LONGEST_IDLE: u64 = 500;
 
 /// Shows that all clients have subscribed.
 #[derive(Drop)]
@@ -26,6 +28,8 @@ pub struct Shared {
     pub network: Network<u64>,
     /// The digests of the messages of all nodes.
     pub digests: Vec<Digest>,
+    /// How many requests the clients have made.
+    pub progress: Arc<Progress>,
     /// The number of clients.
     clients: u64,
     /// How many clients have subscribed.
@@ -42,10 +46,12 @@ impl Shared {
         alloc: Global,
         settings: Settings,
         network: Network<u64>,
+        progress: Arc<Progress>,
     ) -> Result<Self, AllocError> {
         Ok(Shared {
             network,
             digests: digests_of(alloc, settings.nodes, settings.messages)?,
+            progress,
             clients: settings.nodes,
             subscribed: AtomicU64::new(0),
             finished: AtomicU64::new(0),
@@ -85,7 +91,7 @@ impl Shared {
     fn waits_for(&self, rt: &impl Clock, counted: &AtomicU64) -> bool {
         let mut polls = 0u64;
         let mut idle = 0u64;
-        for _ in 0..LOOKS {
+        for _ in 0..LONGEST_WAIT {
             if counted.load(Ordering::SeqCst) >= self.clients {
                 return true;
             }
@@ -96,13 +102,14 @@ impl Shared {
                 0
             };
             polls = now;
-            if idle > PATIENCE || self.failed.load(Ordering::SeqCst) {
+            if idle > LONGEST_IDLE || self.failed.load(Ordering::SeqCst) {
                 return false;
             }
             thread::sleep(rt, Duration::from_millis(1));
         }
         false
     }
+
     /// Returns how often the engines of all nodes were polled.
     fn polls(&self) -> u64 {
         let mut polls = 0u64;

@@ -50,23 +50,22 @@ pub enum Refused<'a> {
 }
 
 impl<'a> Settings<'a> {
-    /// Returns the settings of the words.
+    /// Returns the settings of the words. Fails with the first that is wrong.
     pub fn parse(words: &'a [String]) -> Result<Settings<'a>, Refused<'a>> {
         let [name, size, places, greatest, steps] = words else {
             return Err(Refused::Words);
         };
-        let (name, steps) = (name.as_str(), steps.as_str());
-        let part = part_of(name.as_bytes()).ok_or(Refused::Part(name))?;
-        if let Some(unknown) = unknown_step(part, steps) {
-            return Err(Refused::Step(name, unknown));
-        }
-        Ok(Settings {
-            part,
+        let settings = Settings {
+            part: part_of(name.as_bytes()).ok_or(Refused::Part(name.as_str()))?,
             deque_size: number("SIZE", size.as_str())?,
             places: places_of(places.as_str())?,
             greatest: number("GREATEST", greatest.as_str())?,
             steps: steps.as_bytes(),
-        })
+        };
+        match unknown_step(settings.part, steps.as_str()) {
+            Some(unknown) => Err(Refused::Step(name.as_str(), unknown)),
+            None => Ok(settings),
+        }
     }
 }
 
@@ -78,7 +77,10 @@ fn number<'a>(name: &'static str, word: &'a str) -> Result<usize, Refused<'a>> {
 }
 
 fn places_of<'a>(word: &'a str) -> Result<NonZeroUsize, Refused<'a>> {
-    NonZeroUsize::new(number("PLACES", word)?).ok_or(Refused::Number("PLACES", 1, word))
+    match parse_number(word.as_bytes()).and_then(|number| NonZeroUsize::new(number as usize)) {
+        Some(places) => Ok(places),
+        None => Err(Refused::Number("PLACES", 1, word)),
+    }
 }
 
 fn part_of(word: &[u8]) -> Option<Part> {

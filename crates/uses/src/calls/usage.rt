@@ -5,6 +5,9 @@ use std::io::{self, Write};
 /// The usage line.
 pub const USAGE: &str = "usage: uses [PART SIZE PLACES GREATEST STEPS]";
 
+/// The names of the parts.
+const PARTS: &str = "core, inbox, engine, relay and account";
+
 /// The argument that asks for the help.
 const HELP: &[u8] = b"--help";
 
@@ -31,10 +34,7 @@ pub fn help<W: Write>(out: &mut W) -> io::Result<()> {
 }
 
 fn help_with_numbers<W: Write>(out: &mut W) -> io::Result<()> {
-    writeln!(
-        out,
-        "  PART      core, inbox, engine, relay or account: what is called"
-    )?;
+    writeln!(out, "  PART      what is called, of {PARTS}")?;
     writeln!(out, "  SIZE      the greatest number of digests in a list")?;
     writeln!(
         out,
@@ -63,7 +63,7 @@ fn help_with_steps<W: Write>(out: &mut W) -> io::Result<()> {
 pub fn report<E: Write + Drop>(refused: Refused<'_>, mut err: E) -> u8 {
     let _ = match refused {
         Refused::Words => writeln!(err, "{USAGE}"),
-        Refused::Part(name) => writeln!(err, "uses: there is no part {name}"),
+        Refused::Part(word) => writeln!(err, "uses: PART is none of {PARTS}: {word}"),
         Refused::Number(argument, least, word) => {
             writeln!(
                 err,
@@ -71,7 +71,9 @@ pub fn report<E: Write + Drop>(refused: Refused<'_>, mut err: E) -> u8 {
                 u64::MAX
             )
         }
-        Refused::Step(part, letter) => writeln!(err, "uses: {part} has no step {letter}"),
+        Refused::Step(part, letter) => {
+            writeln!(err, "uses: STEPS: {part} has no step {letter} (see --help)")
+        }
     };
     WRONG
 }
