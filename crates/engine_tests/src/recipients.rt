@@ -1,10 +1,11 @@
 //! The nodes to which a network in memory hands a payload.
 use super::message::{To, recipients};
 use super::task::Task;
-use cluster_lib::network::{Mail, Outbound};
+use broadcast_core::Set;
 use commonware_broadcast::buffered::Sender;
 use futures::task::Poll;
-use std::alloc::{AllocError, AllocGlobal, Global};
+use memory_network::{Mail, Network};
+use std::alloc::{AllocError, AllocGlobal};
 use std::random::RandomSource;
 use std::sync::{Arc, Wait};
 use std::test::Fail;
@@ -24,32 +25,21 @@ fn rows() -> &'static [Row] {
     &ROWS
 }
 
-/// Creates the mail of the nodes 2, 3 and 4.
-fn mails(alloc: Global) -> Result<Vec<Arc<Mail>>, AllocError> {
-    let mut mails = Vec::new(alloc);
-    for key in 2..5 {
-        mails.push(Arc::new(alloc, Mail::new(alloc, key))?)?;
-    }
-    Ok(mails)
-}
-
-/// Sends a byte to the recipients. Returns the keys of the nodes that were handed it.
+/// Sends a byte of node 1 to the recipients. Returns the keys of the nodes that were handed it.
 fn handed<R>(rt: &R, to: To) -> Result<Vec<u64>, Fail>
 where
     R: Wait + RandomSource + AllocGlobal + Clone + Drop,
 {
-    let mut network = Outbound {
-        key: 1,
-        others: mails(rt.alloc())?,
-        rt: rt.clone()?,
-    };
+    let keys = Set::from_iter_dedup(Vec::from_slice(rt.alloc(), &[1, 2, 3, 4])?)?;
+    let network = Network::new(rt, &keys)?;
+    let mut ends = network.join(rt, &1)?;
     let bytes = Vec::from_slice(rt.alloc(), &[7])?;
-    network.send(recipients(rt.alloc(), to)?, bytes, false);
-    Ok(holders(rt, &network.others)?)
+    ends.sender.send(recipients(rt.alloc(), to)?, bytes, false);
+    Ok(holders(rt, network.mails())?)
 }
 
 /// Returns the keys of the nodes that were handed the byte.
-fn holders<R>(rt: &R, mails: &[Arc<Mail>]) -> Result<Vec<u64>, AllocError>
+fn holders<R>(rt: &R, mails: &[Arc<Mail<u64>>]) -> Result<Vec<u64>, AllocError>
 where
     R: Wait + RandomSource + AllocGlobal,
 {
@@ -64,7 +54,7 @@ where
 }
 
 /// Returns whether the node was handed the byte.
-fn has_byte<R: Wait>(rt: &R, task: &mut Task, mail: &Mail) -> bool {
+fn has_byte<R: Wait>(rt: &R, task: &mut Task, mail: &Mail<u64>) -> bool {
     let mut cx = task.solo.begin();
     let polled = mail.payloads.poll(rt, &mut cx);
     task.rest.end(cx);
