@@ -8,9 +8,8 @@ use broadcast_core::{Codec, Digested, Digestible, Recipients};
 use broadcast_mailbox::MailboxError;
 use commonware_broadcast::buffered::{
     Account, All, Books, Config, EndCause, Engine, Get, Handle, MailboxReport, Settled, Status,
-    Tally, WatchedEngine, WatchedMailbox, WatchedNode, drive,
+    Strategy, Tally, WatchedEngine, WatchedMailbox, WatchedNode, drive,
 };
-use commonware_broadcast::mocks::Slow;
 use futures::task::{Doorbell, Poll, Solo};
 use std::alloc::AllocGlobal;
 use std::marker::Brand;
@@ -160,15 +159,17 @@ where
 }
 
 /// Lets an engine end after three requests, and picks the ledgers of its account. It is generic in
-/// the message, since the check refuses a function that makes an engine for `TestMessage`.
-fn end<M, R>(
+/// message and strategy, since the check refuses a function that makes an engine of named ones.
+fn end<M, T, R>(
     rt: &R,
     row: &Row,
-    cfg: Config<u64, M::Cfg, Sets, Slow>,
+    cfg: Config<u64, M::Cfg, Sets, T>,
     network: Network,
     message: Digested<M>,
 ) -> Result<Ending, Fail>
 where
+    T: Strategy<M> + Send + Drop + 'static,
+    T::Job: Send + 'static,
     M: Digestible + Codec + Send + Sync + 'static,
     M::Digest: Send + 'static,
     M::Cfg: Send + Drop + 'static,
@@ -177,14 +178,14 @@ where
     let parts = NonZeroU32::new(2).unwrap();
     let accepted = Blank::new(parts.get() as u64);
     let taken = Blank::new(1);
-    end_with::<M, R, Brand, Brand>(rt, row, cfg, network, message, parts, accepted, taken)
+    end_with::<M, T, R, Brand, Brand>(rt, row, cfg, network, message, parts, accepted, taken)
 }
 
 /// Lets an engine end after three requests, whose account has these ledgers.
-fn end_with<M, R, A, K>(
+fn end_with<M, T, R, A, K>(
     rt: &R,
     row: &Row,
-    cfg: Config<u64, M::Cfg, Sets, Slow>,
+    cfg: Config<u64, M::Cfg, Sets, T>,
     network: Network,
     message: Digested<M>,
     parts: NonZeroU32,
@@ -192,6 +193,8 @@ fn end_with<M, R, A, K>(
     taken: Blank,
 ) -> Result<Ending, Fail>
 where
+    T: Strategy<M> + Send + Drop + 'static,
+    T::Job: Send + 'static,
     M: Digestible + Codec + Send + Sync + 'static,
     M::Digest: Send + 'static,
     M::Cfg: Send + Drop + 'static,
@@ -203,7 +206,7 @@ where
     requires taken { (taken.name ≡ K.name) × (taken.parts ≡ K.parts) }
     requires one { (K.all ≡ K.parts) × (K.parts ≡ 1) }
 {
-    let node: WatchedNode<u64, M, Sets, Slow, R, A, K, All> = Engine::new_watched(
+    let node: WatchedNode<u64, M, Sets, T, R, A, K, All> = Engine::new_watched(
         rt.clone()?,
         rt.alloc(),
         cfg,
@@ -248,13 +251,15 @@ where
 type Left<M, R, A, K> = MailboxReport<u64, M, R, Books<A, K, All, <M as Digestible>::Digest>>;
 
 /// Polls the engine, and starts it, and lets it end.
-fn run<M, R, A, K>(
+fn run<M, T, R, A, K>(
     rt: &R,
     row: &Row,
-    engine: WatchedEngine<u64, M, Sets, Slow, R, A, K, All>,
+    engine: WatchedEngine<u64, M, Sets, T, R, A, K, All>,
     network: Network,
 ) -> Result<Left<M, R, A, K>, Fail>
 where
+    T: Strategy<M> + Send + Drop + 'static,
+    T::Job: Send + 'static,
     M: Digestible + Codec + Send + Sync + 'static,
     M::Digest: Send + 'static,
     M::Cfg: Send + Drop + 'static,
@@ -273,13 +278,14 @@ where
 }
 
 /// Polls the engine this many times.
-fn poll_often<M, R, A, K>(
+fn poll_often<M, T, R, A, K>(
     rt: &R,
     polls: usize,
-    engine: &mut WatchedEngine<u64, M, Sets, Slow, R, A, K, All>,
+    engine: &mut WatchedEngine<u64, M, Sets, T, R, A, K, All>,
     network: &mut Network,
 ) -> Result<(), Fail>
 where
+    T: Strategy<M>,
     M: Digestible + Codec,
     R: Wait + RandomSource + AllocGlobal + Drop,
     A: Account,
