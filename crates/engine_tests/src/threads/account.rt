@@ -1,4 +1,3 @@
 //! Accounts of tallied requests.
 mod clients;
-mod endings;
 mod quiet;

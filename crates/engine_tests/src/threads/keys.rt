@@ -1,22 +1,17 @@
 //! Engines in threads whose peers have keys of 32 bytes.
 use super::nodes::digest;
-use broadcast_core::{Codec, Digestible, Items, Key, RangeCfg, Set, TestMessage};
+use broadcast_core::{Codec, Digestible, Key, RangeCfg, Set, TestMessage};
 use commonware_broadcast::buffered::{
-    Config, EndCause, Engine, Handle, Mailbox, NetworkFailed, Open, Sequential, Status, Threaded,
-    Work, start_threaded,
+    Config, EndCause, Engine, Handle, Mailbox, Open, Sequential, Status, Threaded, Work,
+    start_threaded,
 };
-use commonware_broadcast::mocks::{RecordingSender, Script};
-use futures::task::Poll;
-use std::alloc::{AllocError, AllocGlobal, Global};
+use memory_network::{Ends, Network};
+use std::alloc::AllocGlobal;
 use std::num::NonZeroUsize;
 use std::random::RandomSource;
 use std::sync::{Arc, Wait};
 use std::test::Fail;
 use std::thread::Threads;
-
-type Sets = Script<Option<Set<Key>>>;
-
-type Payloads = Script<Result<(Key, Items<u8>), NetworkFailed>>;
 
 type Running<M, R> = (Handle<Key, M, R>, Mailbox<Key, M, R>);
 
@@ -25,51 +20,45 @@ fn key(byte: u8) -> Key {
     Key { bytes: [byte; 32] }
 }
 
-/// Creates the configuration of the node of key 1, whose peer is key 5.
-fn config<C: Drop, T: Drop>(
-    alloc: Global,
-    codec_config: C,
-    strategy: T,
-) -> Result<Config<Key, C, Sets, T>, AllocError> {
-    let peers = Set::from_iter_dedup(Vec::from_slice(alloc, &[key(1), key(5)])?)?;
-    let mut sets = Vec::new(alloc);
-    sets.push(Poll::Ready(Some(peers)))?;
-    Ok(Config {
+/// Returns what the node of key 1 has of a network with the node of key 5, which sends it the
+/// message of the letter 2.
+fn ends<R: Wait + AllocGlobal + Clone + Drop>(rt: &R) -> Result<Ends<Key, R>, Fail> {
+    let keys = Set::from_iter_dedup(Vec::from_slice(rt.alloc(), &[key(1), key(5)])?)?;
+    let ends = Network::new(rt, &keys)?.join(rt, &key(1))?;
+    let bytes = Vec::from_slice(rt.alloc(), &[0, 0, 0, 0, 0, 0, 0, 1, 2])?;
+    ends.mail.deliver(rt, key(5), bytes)?;
+    Ok(ends)
+}
+
+/// Returns the configuration of the node of key 1.
+fn config<C, B, T>(codec_config: C, peer_provider: B, strategy: T) -> Config<Key, C, B, T> {
+    Config {
         public_key: key(1),
         mailbox_size: NonZeroUsize::MIN,
         deque_size: 4,
         byte_budget: u64::MAX,
         priority: false,
         codec_config,
-        peer_provider: Script::new(sets),
+        peer_provider,
         strategy,
-    })
-}
-
-/// Creates a network that receives the message of the letter 2 from key 5.
-fn network(alloc: Global) -> Result<(RecordingSender<Key>, Payloads), AllocError> {
-    let bytes = Items::from_vec(Vec::from_slice(alloc, &[0, 0, 0, 0, 0, 0, 0, 1, 2])?);
-    let mut payloads = Vec::new(alloc);
-    payloads.push(Poll::Ready(Ok((key(5), bytes))))?;
-    Ok((RecordingSender::new(alloc), Script::new(payloads)))
+    }
 }
 
 /// Starts an engine that digests messages itself.
-fn sequential<M, R>(rt: &R, codec_config: M::Cfg) -> Result<Running<M, R>, Fail>
+fn sequential<M, R>(rt: &R, ends: Ends<Key, R>, codec_config: M::Cfg) -> Result<Running<M, R>, Fail>
 where
     M: Digestible + Codec + Send + Sync + 'static,
     M::Digest: 'static,
     M::Cfg: Send + Drop + 'static,
     R: Threads + Wait + RandomSource + AllocGlobal + Clone + Send + Sync + Drop + 'static,
 {
-    let cfg = config(rt.alloc(), codec_config, Sequential)?;
-    let network = network(rt.alloc())?;
+    let cfg = config(codec_config, ends.provider, Sequential);
     let (engine, mailbox) = Engine::new(rt.clone()?, rt.alloc(), cfg)?;
-    Ok((engine.start(rt, network)?, mailbox))
+    Ok((engine.start(rt, (ends.sender, ends.receiver))?, mailbox))
 }
 
 /// Starts an engine whose messages are digested on other threads.
-fn threaded<M, R>(rt: &R, codec_config: M::Cfg) -> Result<Running<M, R>, Fail>
+fn threaded<M, R>(rt: &R, ends: Ends<Key, R>, codec_config: M::Cfg) -> Result<Running<M, R>, Fail>
 where
     M: Digestible + Codec + Work<Open, R> + Send + Sync + 'static,
     M::Digest: 'static,
@@ -78,8 +67,8 @@ where
 {
     let gate = Arc::new(rt.alloc(), Open)?;
     let strategy = Threaded::new(rt.clone()?, rt.alloc(), gate);
-    let cfg = config(rt.alloc(), codec_config, strategy)?;
-    Ok(start_threaded(rt, cfg, network(rt.alloc())?)?)
+    let cfg = config(codec_config, ends.provider, strategy);
+    Ok(start_threaded(rt, cfg, (ends.sender, ends.receiver))?)
 }
 
 /// Subscribes to the message of the letter 2, and stops the engine. Returns whether the message
@@ -102,8 +91,8 @@ fn start_both<R>(rt: &R) -> Result<bool, Fail>
 where
     R: Threads + Wait + RandomSource + AllocGlobal + Clone + Send + Sync + Drop + 'static,
 {
-    let alone = receives(rt, sequential(rt, RangeCfg::any())?)?;
-    Ok(alone && receives(rt, threaded(rt, RangeCfg::any())?)?)
+    let alone = receives(rt, sequential(rt, ends(rt)?, RangeCfg::any())?)?;
+    Ok(alone && receives(rt, threaded(rt, ends(rt)?, RangeCfg::any())?)?)
 }
 
 #[test]
