@@ -6,6 +6,7 @@ pub mod get;
 pub mod inbox;
 pub mod ingress_end;
 pub mod laws;
+mod limit;
 pub mod mailbox;
 pub mod message;
 pub mod overflow;

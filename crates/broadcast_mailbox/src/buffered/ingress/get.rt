@@ -1,10 +1,11 @@
 //! The future of a get.
-ghost use Rattle.std.specs.Prelude.{◌≡◌, IfSome};
+ghost use Rattle.std.specs.Prelude.{◌≡◌, IfSome, IfOk, IfErr};
 ghost use Rattle.broadcast_mailbox.specs.Waited.{get_waited};
 ghost use Rattle.futures.specs.Channel.{completed_source};
 ghost use Rattle.futures.specs.Poll.{IfReady};
 ghost use Rattle.broadcast_mailbox.specs.Asked.{GoesBy, get_returns};
 
+use crate::buffered::ingress::limit::Limit;
 use crate::buffered::ingress::reply::{Reply, Returns, try_receive};
 use broadcast_core::{Digested, Digestible};
 use futures::Future;
@@ -16,6 +17,7 @@ use std::io;
 use std::marker::Model;
 use std::random::RandomSource;
 use std::sync::Wait;
+use std::time::{Clock, Duration};
 
 /// A future for the cached message of a digest. Dropping it cancels the request.
 ///
@@ -51,6 +53,33 @@ impl<M: Digestible> Get<M> {
         ensures { IfSome result (λ message. GoesBy M.Digest.cmp self.digest message) }
     {
         waited(block_on(rt, self))
+    }
+
+    /// Waits for the reply for no longer than `limit`, and returns what the future gives, or an
+    /// `Err` with the future if the reply is not there by then.
+    ///
+    /// It looks once a millisecond, needs no memory, and returns the `Err` also if the clock can't
+    /// be read.
+    pub fn wait_timeout(
+        self,
+        clock: &impl Clock,
+        limit: Duration,
+    ) -> Result<Option<Digested<M>>, Self>
+        ensures gives { IfOk result (λ outcome.
+            IfSome outcome (λ message. GoesBy M.Digest.cmp self.digest message)) }
+        ensures same_after_limit { IfErr result (λ get. get ≡ self) }
+    {
+        let mut get = self;
+        let limit = Limit::new(clock, limit);
+        for _ in 0..u64::MAX {
+            if let Poll::Ready(outcome) = get.try_wait() {
+                return Ok(outcome);
+            }
+            if !limit.pause(clock) {
+                break;
+            }
+        }
+        Err(get)
     }
 
     /// Returns what the future gives, or that it is pending while the reply is not there. Waits for

@@ -1,10 +1,11 @@
 //! The future of a subscribe.
-ghost use Rattle.std.specs.Prelude.{◌≡◌, IfOk};
+ghost use Rattle.std.specs.Prelude.{◌≡◌, IfOk, IfErr};
 ghost use Rattle.broadcast_mailbox.specs.Waited.{subscription_waited};
 ghost use Rattle.futures.specs.Channel.{completed_source};
 ghost use Rattle.futures.specs.Poll.{IfReady};
 ghost use Rattle.broadcast_mailbox.specs.Asked.{GoesBy, subscription_returns};
 
+use crate::buffered::ingress::limit::Limit;
 use crate::buffered::ingress::reply::{Reply, Returns, try_receive};
 use broadcast_core::{Digested, Digestible};
 use futures::Future;
@@ -16,6 +17,7 @@ use std::io;
 use std::marker::Model;
 use std::random::RandomSource;
 use std::sync::Wait;
+use std::time::{Clock, Duration};
 
 /// A future for the message of a digest. Dropping it cancels the request.
 ///
@@ -50,6 +52,33 @@ impl<M: Digestible> Subscription<M> {
         ensures { IfOk result (λ message. GoesBy M.Digest.cmp self.digest message) }
     {
         waited(block_on(rt, self))
+    }
+
+    /// Waits for the message for no longer than `limit`, and returns what the future gives, or an
+    /// `Err` with the future if the message is not there by then.
+    ///
+    /// It looks once a millisecond, needs no memory, and returns the `Err` also if the clock can't
+    /// be read.
+    pub fn wait_timeout(
+        self,
+        clock: &impl Clock,
+        limit: Duration,
+    ) -> Result<Result<Digested<M>, Canceled>, Self>
+        ensures gives { IfOk result (λ outcome.
+            IfOk outcome (λ message. GoesBy M.Digest.cmp self.digest message)) }
+        ensures same_after_limit { IfErr result (λ subscription. subscription ≡ self) }
+    {
+        let mut subscription = self;
+        let limit = Limit::new(clock, limit);
+        for _ in 0..u64::MAX {
+            if let Poll::Ready(outcome) = subscription.try_wait() {
+                return Ok(outcome);
+            }
+            if !limit.pause(clock) {
+                break;
+            }
+        }
+        Err(subscription)
     }
 
     /// Returns what the future gives, or that it is pending while the message is not there. Waits
