@@ -1,5 +1,6 @@
 -- The counters of peers.
-use Rattle.std.proofs.Common.{◌≡◌, ℕ, Bool, true, if◌then◌else◌, cond, List, Some, None, refl, sym, ap, ◌∙◌}
+use Rattle.std.proofs.Common.{◌≡◌, ℕ, Bool, true, if◌then◌else◌, cond, List, [], ◌∷◌, Some, None, refl, sym, ap, ◌∙◌}
+use Rattle.std.specs.List.{AllZip}
 use Rattle.std.specs.Cmp.{IsEquivalence}
 use Rattle.std.specs.Map.{lookup}
 use Rattle.broadcast_core.proofs.Distinct.{by_test}
@@ -17,3 +18,14 @@ module _ {P : Type 0} {same : P → P → Bool} (laws : IsEquivalence same) wher
       rw found (by_test (same p q)
       (λ t. let missing : lookup (same q) es ≡ None = lookup-same (same q) (same p) es (λ x. sym (laws.congr p q x t)) ∙ none in rw (t, missing) refl)
       (λ t. rw t refl))
+
+  -- a map whose keys are copies, with the numbers of the keys, gives each peer its number
+  pub found-copied : (is_clone : P → P → Type 0) → ((key copy : P) → is_clone key copy → same key copy ≡ true)
+      → (es fs : List (P × ℕ)) → AllZip (λ e f. is_clone e.0 f.0 × (f.1 ≡ e.1)) es fs
+      → (q : P) → lookup (same q) fs ≡ lookup (same q) es
+  found-copied is_clone copies [] [] cloned q = refl
+  found-copied is_clone copies [] (f ∷ fs) cloned q = absurd cloned
+  found-copied is_clone copies (e ∷ es) [] cloned q = absurd cloned
+  found-copied is_clone copies (e ∷ es) (f ∷ fs) cloned q =
+      let here : same q f.0 ≡ same q e.0 = laws.symm q f.0 ∙ sym (laws.congr e.0 f.0 q (copies e.0 f.0 cloned.0.0)) ∙ laws.symm e.0 q in
+      rw (here, cloned.0.1, found-copied is_clone copies es fs cloned.1 q) refl

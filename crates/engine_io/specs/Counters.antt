@@ -1,5 +1,5 @@
 -- What an engine counts: each number stops at the greatest of 64 bits.
-use Rattle.std.specs.Prelude.{ℕ, ◌+◌, ◌-◌, ◌^◌, min, Bool, true, false, List, [], unwrap_or, is_some}
+use Rattle.std.specs.Prelude.{◌≡◌, ℕ, ◌+◌, ◌-◌, ◌^◌, min, Bool, true, false, List, [], unwrap_or, is_some}
 use Rattle.std.specs.Map.{lookup}
 use Rattle.engine_io.specs.declared.metrics.Counter.{Counter}
 use Rattle.engine_io.specs.declared.metrics.Status.{Status}
@@ -52,6 +52,12 @@ count_of same p numbers = unwrap_or (lookup (same p) numbers) 0
 -- whether a peer has a number
 abbrev pub has_count : {P : Type 0} → (P → P → Bool) → P → List (P × ℕ) → Bool
 has_count same p numbers = is_some (lookup (same p) numbers)
+
+module _ {P : Type 0} (same : P → P → Bool) where
+  -- counters that are a copy of others: the totals and the number of each peer
+  pub record IsCopy (c copy : Counters P) : Type 0 where
+    pub totals : copy.totals ≡ c.totals
+    pub peers : (p : P) → count_of same p copy.peer ≡ count_of same p c.peer
 
 -- what is counted: a payload of a peer that was decoded, and by its status a message that was
 -- received, the reply to a subscribe, the reply to a get

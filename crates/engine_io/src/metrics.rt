@@ -107,6 +107,24 @@ impl<P: PublicKey> Model for Metrics<P> {
     } };
 }
 
+impl<P: PublicKey> Clone for Metrics<P> {
+    ghost use Rattle.std.specs.Ordering.{eq_by_cmp};
+    ghost use Rattle.engine_io.specs.Counters.{IsCopy};
+
+    ghost is_clone = { IsCopy (eq_by_cmp P.cmp) };
+
+    /// Returns a copy of the counters, or an allocation failure.
+    fn clone(&self) -> Result<Self, AllocError> {
+        Ok(Metrics {
+            peer: self.peer.clone()?,
+            receive: self.receive,
+            subscribe: self.subscribe,
+            get: self.get,
+            waiters: self.waiters,
+        })
+    }
+}
+
 impl<P: PublicKey> Metrics<P> {
     /// Creates counters that are all zero. Does not allocate.
     pub fn init(alloc: Global) -> Self
