@@ -1,5 +1,5 @@
 //! Clients on several threads, and one that stops the engine meanwhile.
-use super::quiet::{Silence, Void, config};
+use super::quiet::{Gives, Sets, Void, Wire, config};
 use crate::message::{digest, digested};
 use broadcast_core::{Recipients, TestMessage};
 use broadcast_mailbox::MailboxError;
@@ -139,14 +139,10 @@ where
         rt: rt.clone()?,
         of: PhantomData,
     };
+    let sets = Sets::new(rt.alloc(), Gives::Nothing)?;
+    let wire = Wire::new(rt.alloc(), Gives::Nothing)?;
     let clients = NonZeroU32::new(ASKING + 1).unwrap();
-    let finished = run_session(
-        rt,
-        config(Sequential),
-        (Void, Silence::new()),
-        clients,
-        session,
-    )?;
+    let finished = run_session(rt, config(sets, Sequential), (Void, wire), clients, session)?;
     Ok((told_by_all(&finished)?, finished))
 }
 

@@ -1,56 +1,100 @@
-//! A node that has no peers.
+//! A node to whose clients alone something happens, or to which one thing more does.
 ghost use Rattle.std.specs.Prelude.{⊤};
 
+use crate::message::{payload, peers};
 use broadcast_core::{Items, RangeCfg, Recipients, Set};
 use commonware_broadcast::buffered::{Config, NetworkFailed, Provider, Receiver, Sender};
 use futures::task::{Context, Poll, Source, Waker};
+use std::alloc::{AllocError, Global};
 use std::num::NonZeroUsize;
 
-/// Gives no peer sets.
+/// The key of the only peer.
+const PEER: u64 = 5;
+
+/// What the sources of a node give.
+#[derive(Clone, Copy, PartialEq, Eq)]
+pub enum Gives {
+    /// Nothing.
+    Nothing,
+    /// At the second poll, that there are no more peer sets.
+    EndOfSets,
+    /// That the network failed.
+    Failure,
+    /// A peer, and a payload of it.
+    Payload,
+}
+
+/// The peer sets of a node.
 #[derive(Drop)]
-pub struct NoSets {
+pub struct Sets {
+    first: Option<Set<u64>>,
+    gives: Gives,
+    is_polled: bool,
     never: Source,
     waker: Option<Waker>,
 }
 
-impl NoSets {
-    pub fn new() -> Self {
-        NoSets {
+impl Sets {
+    pub fn new(alloc: Global, gives: Gives) -> Result<Self, AllocError> {
+        let first = match gives {
+            Gives::Payload => Some(peers(alloc, &[PEER])?),
+            _ => None,
+        };
+        Ok(Sets {
+            first,
+            gives,
+            is_polled: false,
             never: Source::new(),
             waker: None,
-        }
+        })
     }
 }
 
-impl Provider<u64> for NoSets {
-    ghost told = { λ _ _. ⊤ };
-
+impl Provider<u64> for Sets {
     fn poll_update(&mut self, cx: &mut Context<'_>) -> Poll<Option<Set<u64>>> {
+        if let Some(set) = self.first.take() {
+            return Poll::Ready(Some(set));
+        }
+        if self.is_polled && self.gives == Gives::EndOfSets {
+            return Poll::Ready(None);
+        }
+        self.is_polled = true;
         cx.register(&self.never, &mut self.waker)
     }
 }
 
-/// Receives nothing.
+/// What the network of a node gives.
+type Received = Result<(u64, Items<u8>), NetworkFailed>;
+
+/// The payloads of a node.
 #[derive(Drop)]
-pub struct Silence {
+pub struct Wire {
+    first: Option<Received>,
     never: Source,
     waker: Option<Waker>,
 }
 
-impl Silence {
-    pub fn new() -> Self {
-        Silence {
+impl Wire {
+    pub fn new(alloc: Global, gives: Gives) -> Result<Self, AllocError> {
+        let first = match gives {
+            Gives::Payload => Some(Ok((PEER, Items::from_vec(payload(alloc, b'a')?)))),
+            Gives::Failure => Some(Err(NetworkFailed)),
+            _ => None,
+        };
+        Ok(Wire {
+            first,
             never: Source::new(),
             waker: None,
-        }
+        })
     }
 }
 
-impl Receiver<u64> for Silence {
-    ghost told = { λ _ _. ⊤ };
-
-    fn poll_recv(&mut self, cx: &mut Context<'_>) -> Poll<Result<(u64, Items<u8>), NetworkFailed>> {
-        cx.register(&self.never, &mut self.waker)
+impl Receiver<u64> for Wire {
+    fn poll_recv(&mut self, cx: &mut Context<'_>) -> Poll<Received> {
+        match self.first.take() {
+            Some(received) => Poll::Ready(received),
+            None => cx.register(&self.never, &mut self.waker),
+        }
     }
 }
 
@@ -59,8 +103,6 @@ impl Receiver<u64> for Silence {
 pub struct Void;
 
 impl Sender<u64> for Void {
-    ghost told = { λ _ _. ⊤ };
-
     fn send(&mut self, recipients: Recipients<u64>, bytes: Vec<u8>, _priority: bool)
         ensures { ⊤ }
     {
@@ -69,7 +111,7 @@ impl Sender<u64> for Void {
 }
 
 /// Creates the configuration of the node of key 1. Its mailbox has a ready list of one place.
-pub fn config<T: Drop>(strategy: T) -> Config<u64, RangeCfg, NoSets, T> {
+pub fn config<T: Drop>(sets: Sets, strategy: T) -> Config<u64, RangeCfg, Sets, T> {
     Config {
         public_key: 1,
         mailbox_size: NonZeroUsize::MIN,
@@ -77,7 +119,7 @@ pub fn config<T: Drop>(strategy: T) -> Config<u64, RangeCfg, NoSets, T> {
         byte_budget: u64::MAX,
         priority: false,
         codec_config: RangeCfg::any(),
-        peer_provider: NoSets::new(),
+        peer_provider: sets,
         strategy,
     }
 }
