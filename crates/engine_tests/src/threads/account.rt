@@ -1,3 +1,4 @@
 //! Accounts of tallied requests.
 mod clients;
+mod joins;
 mod quiet;
