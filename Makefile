@@ -40,7 +40,7 @@ io-failures:
 	@scripts/io_failures
 
 wrong-bodies:
-	@echo "wrong-bodies: building bodies that the prover accepts, and running what must refuse them"
+	@echo "wrong-bodies: building wrong bodies that the prover accepts, and running what must refuse each"
 	@scripts/wrong_bodies
 
 pictures:

@@ -8,7 +8,7 @@ from dataclasses import dataclass
 
 from models import replay as model
 from inputs.calls import KEYS
-from models.inbox import Asked, Inbox
+from models.inbox import Asked, Inbox, recipients
 from judges.lines import elements, shown
 
 UPDATES = ("peers", "end")
@@ -48,11 +48,8 @@ class Request(Asked):
 
     def sent(self):
         """What is sent of a broadcast."""
-        keys = self.to.split(",")
-        named = f"One({self.to})" if len(keys) == 1 else f"Some({elements(keys)})"
-        to = "All" if self.to == "all" else named
         data = elements(map(str, self.message.encoding))
-        return f"Sent {{ recipients: {to}, bytes: {data}, priority: false }}"
+        return f"Sent {{ recipients: {recipients(self.to)}, bytes: {data}, priority: false }}"
 
 
 def debugged(error):

@@ -5,6 +5,13 @@ from dataclasses import dataclass
 from inputs.calls import GONE
 
 
+def recipients(to):
+    """Recipients, as the programs print them."""
+    keys = to.split(",")
+    named = f"One({to})" if len(keys) == 1 else f"Some(Items {{ elements: [{', '.join(keys)}] }})"
+    return "All" if to == "all" else named
+
+
 @dataclass
 class Asked:
     """A request, with what it asks and whether its responder is closed."""
@@ -15,10 +22,11 @@ class Asked:
 
     @staticmethod
     def of(event):
-        """The request that the event is. The program shows the first byte of its digest."""
+        """The request that the event is. The program shows the first byte of its digest, and its recipients."""
         kind, first, *_, digest = event
         closed = kind != "broadcast" and first >= GONE
-        return Asked(kind, f'("{kind}", {digest[0]})', closed)
+        to = f"Some({recipients(first)})" if kind == "broadcast" else "None"
+        return Asked(kind, f'("{kind}", {digest[0]}, {to})', closed)
 
 
 class Inbox:

@@ -1,4 +1,5 @@
 //! Accounts of tallied requests.
 mod clients;
 mod endings;
+mod joins;
 mod quiet;

@@ -17,7 +17,7 @@ use std::time::Clock;
 /// Returns whether an engine that has answered is not polled while nothing happens.
 fn is_idle(clock: &impl Clock, mail: &Mail<u64>) -> bool {
     let polls = mail.polls.load(Ordering::SeqCst);
-    for _ in 0..20 {
+    for _ in 0..200 {
         pause(clock);
     }
     // It may be polled once more after its answer.

@@ -1,5 +1,5 @@
 //! Requests.
-use broadcast_core::{Event, TestMessage};
+use broadcast_core::{Event, Recipients, TestMessage};
 use broadcast_mailbox::buffered::{Fixed, Message};
 
 /// The least ticket of a caller that is gone.
@@ -29,11 +29,16 @@ fn responder(ticket: u64) -> Fixed {
     }
 }
 
-/// Returns what the request is, and the first byte of its digest.
-pub fn asked<S, G>(request: &Message<u64, TestMessage, S, G>) -> (&'static str, u8) {
+/// Returns what the request is, the first byte of its digest, and the recipients of a broadcast.
+pub fn asked<S, G>(
+    request: &Message<u64, TestMessage, S, G>,
+) -> (&'static str, u8, Option<&Recipients<u64>>) {
     match request {
-        Message::Broadcast { message, .. } => ("broadcast", message.digest()[0]),
-        Message::Subscribe { digest, .. } => ("subscribe", digest[0]),
-        Message::Get { digest, .. } => ("get", digest[0]),
+        Message::Broadcast {
+            recipients,
+            message,
+        } => ("broadcast", message.digest()[0], Some(recipients)),
+        Message::Subscribe { digest, .. } => ("subscribe", digest[0], None),
+        Message::Get { digest, .. } => ("get", digest[0], None),
     }
 }

@@ -1,6 +1,7 @@
 //! Clients on several threads, and one that stops the engine meanwhile.
 use super::quiet::{Gives, Sets, Void, Wire, config};
 use crate::message::{digest, digested};
+use crate::threads::patient::{LIMIT, pause};
 use broadcast_core::{Recipients, TestMessage};
 use broadcast_mailbox::MailboxError;
 use commonware_broadcast::buffered::{
@@ -14,6 +15,7 @@ use std::random::RandomSource;
 use std::sync::Wait;
 use std::test::Fail;
 use std::thread::Threads;
+use std::time::Clock;
 
 /// How many clients make requests. The next one stops the engine.
 const ASKING: u32 = 4;
@@ -48,27 +50,30 @@ struct Asking<R, V> {
     of: PhantomData<V>,
 }
 
-/// What a client leaves: how many of its broadcasts it was told are accepted.
-type Told = Result<u64, MailboxError>;
+/// How many of its broadcasts a client was told are accepted.
+pub type Told = Result<u64, MailboxError>;
+
+/// What a client leaves: its number, and what it was told.
+type Left = (u32, Told);
 
 impl<R, V> Session<u64, TestMessage, R> for Asking<R, V>
 where
-    R: Wait + RandomSource + AllocGlobal,
+    R: Wait + Clock + RandomSource + AllocGlobal,
     V: Watch<[u8; 32]>,
 {
     type Watch = V;
 
-    type Output = Told;
+    type Output = Left;
 
     fn run<A: Account, K: Account>(
         &self,
         number: u32,
         client: &mut WatchedClient<u64, TestMessage, R, A, K, V>,
-    ) -> Told {
+    ) -> Left {
         if number < ASKING {
-            ask_often(self.rt.alloc(), client)
+            (number, ask_often(self.rt.alloc(), client))
         } else {
-            ask_and_stop(&self.rt, client)
+            (number, ask_and_stop(&self.rt, client))
         }
     }
 }
@@ -116,7 +121,7 @@ fn ask_and_stop<R, A, K, V>(
     client: &mut WatchedClient<u64, TestMessage, R, A, K, V>,
 ) -> Told
 where
-    R: Wait + RandomSource + AllocGlobal,
+    R: Wait + Clock + RandomSource + AllocGlobal,
     A: Account,
     K: Account,
     V: Watch<[u8; 32]>,
@@ -125,15 +130,37 @@ where
     let get = client.get(digest(rt.alloc(), 0)?)?;
     drop::<_>(get.wait(rt));
     client.stop();
-    Ok(told)
+    Ok(told.saturating_add(broadcast_until_closed(rt, client)?))
+}
+
+/// Broadcasts until the mailbox is closed, as it is soon after a stop. Returns how many broadcasts
+/// are accepted. A mailbox that stays open is told as one without tickets.
+pub fn broadcast_until_closed<R, A, K, V>(
+    rt: &R,
+    client: &mut WatchedClient<u64, TestMessage, R, A, K, V>,
+) -> Told
+where
+    R: Wait + Clock + AllocGlobal,
+    A: Account,
+    K: Account,
+    V: Watch<[u8; 32]>,
+{
+    for accepted in 0..LIMIT {
+        let message = digested(rt.alloc(), 0, 0)?;
+        if !client.broadcast(Recipients::All, message)?.accepted() {
+            return Ok(accepted);
+        }
+        pause(rt);
+    }
+    Err(MailboxError::Exhausted)
 }
 
 /// Runs a session. Returns how many broadcasts its clients were told are accepted, and what else it
 /// leaves.
-fn run<V, R>(rt: &R) -> Result<(u64, Finished<Told>), Fail>
+fn run<V, R>(rt: &R) -> Result<(u64, Finished<Left>), Fail>
 where
     V: Watch<[u8; 32]> + Send + Sync + 'static,
-    R: Threads + Wait + RandomSource + AllocGlobal + Clone + Send + Sync + Drop + 'static,
+    R: Threads + Wait + Clock + RandomSource + AllocGlobal + Clone + Send + Sync + Drop + 'static,
 {
     let session: Asking<R, V> = Asking {
         rt: rt.clone()?,
@@ -147,17 +174,29 @@ where
 }
 
 /// Returns how many broadcasts all clients were told are accepted.
-fn told_by_all(finished: &Finished<Told>) -> Told {
+fn told_by_all(finished: &Finished<Left>) -> Told {
     let mut all = 0u64;
-    for told in &finished.outputs {
+    for (_, told) in &finished.outputs {
         all = all.saturating_add((*told)?);
     }
     Ok(all)
 }
 
+/// Returns whether the clients had the numbers from 0, and left their outputs in this order.
+fn are_in_order(outputs: &[Left]) -> bool {
+    let mut next = 0u32;
+    for (number, _) in outputs {
+        if *number != next {
+            return false;
+        }
+        next = next.saturating_add(1);
+    }
+    next == ASKING + 1
+}
+
 /// Returns whether a session ended by the stop, and as many requests were counted as were applied,
 /// refused, skipped or given up, but not none.
-fn adds_up(finished: &Finished<Told>) -> bool {
+fn adds_up(finished: &Finished<Left>) -> bool {
     let it = finished.settled;
     let ends = [it.applied, it.refused, it.skipped, it.given_up];
     let mut sum = 0u64;
@@ -170,7 +209,7 @@ fn adds_up(finished: &Finished<Told>) -> bool {
 #[test]
 fn all_requests_of_four_threads_are_accounted_for(rt: HostRuntime) -> Result<(), Fail> {
     let (told, finished) = run::<All, HostRuntime>(&rt)?;
-    assert!(rt; adds_up(&finished));
+    assert!(rt; adds_up(&finished) && are_in_order(&finished.outputs));
     // The client that stops the engine also makes a subscribe and two gets, and waits for the last.
     assert!(rt; finished.accepted >= told.saturating_add(3));
     // Its broadcast and its last get are applied; a request without a caller may be skipped.

@@ -1,0 +1,131 @@
+//! Sessions of which a client can't be started.
+use super::clients::broadcast_until_closed;
+use super::quiet::{Gives, Sets, Void, Wire, config};
+use crate::threads::patient::pause;
+use crate::threads::poor::{Poor, Supply};
+use broadcast_core::TestMessage;
+use commonware_broadcast::buffered::{
+    Account, All, Sequential, Session, WatchedClient, run_session,
+};
+use std::alloc::AllocGlobal;
+use std::num::NonZeroU32;
+use std::random::RandomSource;
+use std::sync::atomic::{AtomicU64, Ordering};
+use std::sync::{Arc, Wait};
+use std::test::Fail;
+use std::thread::Threads;
+use std::time::Clock;
+
+/// How many clients there are.
+const CLIENTS: u32 = 4;
+
+/// With how many copies of the runtime a session is tried, at most.
+const COPIES: u64 = 100;
+
+/// How many clients have begun, and how many have ended.
+#[derive(Drop)]
+struct Counts {
+    begun: AtomicU64,
+    ended: AtomicU64,
+}
+
+/// A session whose clients stay until the mailbox is closed, and a while longer. The first one
+/// stops the engine.
+#[derive(Drop)]
+struct Staying<R> {
+    counts: Arc<Counts>,
+    rt: R,
+}
+
+impl<R> Session<u64, TestMessage, R> for Staying<R>
+where
+    R: Wait + Clock + AllocGlobal,
+{
+    type Watch = All;
+
+    type Output = ();
+
+    fn run<A: Account, K: Account>(
+        &self,
+        number: u32,
+        client: &mut WatchedClient<u64, TestMessage, R, A, K, All>,
+    ) {
+        self.counts.begun.fetch_add(1, Ordering::SeqCst);
+        if number == 0 {
+            client.stop();
+        }
+        let _told = broadcast_until_closed(&self.rt, client);
+        for _ in 0..50 {
+            pause(&self.rt);
+        }
+        self.counts.ended.fetch_add(1, Ordering::SeqCst);
+    }
+}
+
+/// Runs a session with this many copies of the runtime. Returns whether it was finished, and how
+/// many clients had begun and ended then.
+fn attempt<R>(rt: &R, copies: u64) -> Result<(bool, u64, u64), Fail>
+where
+    R: Threads + Wait + Clock + RandomSource + AllocGlobal + Clone + Send + Sync + Drop + 'static,
+{
+    let poor = Poor {
+        rt: rt.clone()?,
+        supply: Supply::new(rt.alloc())?,
+    };
+    let counts = Arc::new(rt.alloc(), Counts::new())?;
+    let session = Staying {
+        counts: Arc::try_clone(&counts)?,
+        rt: poor.clone()?,
+    };
+    let is_finished = runs(&poor, session, copies)?;
+    Ok((
+        is_finished,
+        counts.begun.load(Ordering::SeqCst),
+        counts.ended.load(Ordering::SeqCst),
+    ))
+}
+
+/// Runs the session with this many copies of the runtime. Returns whether it was finished.
+fn runs<R>(poor: &Poor<R>, session: Staying<Poor<R>>, copies: u64) -> Result<bool, Fail>
+where
+    R: Threads + Wait + Clock + RandomSource + AllocGlobal + Clone + Send + Sync + Drop + 'static,
+{
+    let sets = Sets::new(poor.alloc(), Gives::Nothing)?;
+    let wire = Wire::new(poor.alloc(), Gives::Nothing)?;
+    let clients = NonZeroU32::new(CLIENTS).unwrap();
+    poor.supply.leave(copies, 1000);
+    let finished = run_session(
+        poor,
+        config(sets, Sequential),
+        (Void, wire),
+        clients,
+        session,
+    );
+    Ok(finished.is_ok())
+}
+
+impl Counts {
+    /// Counts no client.
+    fn new() -> Self {
+        Counts {
+            begun: AtomicU64::new(0),
+            ended: AtomicU64::new(0),
+        }
+    }
+}
+
+#[test]
+fn clients_of_a_session_that_fails_are_joined(rt: HostRuntime) -> Result<(), Fail> {
+    let mut most = 0u64;
+    for copies in 0..COPIES {
+        let (is_finished, begun, ended) = attempt(&rt, copies)?;
+        assert_eq!(rt; begun, ended, "{copies} copies");
+        if is_finished {
+            // Some of the clients of a session that failed had begun.
+            assert_eq!(rt; (ended, most > 0), (u64::from(CLIENTS), true));
+            return Ok(());
+        }
+        most = most.max(ended);
+    }
+    Err("no session is finished")?
+}
