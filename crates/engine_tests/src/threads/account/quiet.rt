@@ -23,8 +23,6 @@ impl NoSets {
 }
 
 impl Provider<u64> for NoSets {
-    ghost told = { λ _ _. ⊤ };
-
     fn poll_update(&mut self, cx: &mut Context<'_>) -> Poll<Option<Set<u64>>> {
         cx.register(&self.never, &mut self.waker)
     }
@@ -47,8 +45,6 @@ impl Silence {
 }
 
 impl Receiver<u64> for Silence {
-    ghost told = { λ _ _. ⊤ };
-
     fn poll_recv(&mut self, cx: &mut Context<'_>) -> Poll<Result<(u64, Items<u8>), NetworkFailed>> {
         cx.register(&self.never, &mut self.waker)
     }
@@ -59,8 +55,6 @@ impl Receiver<u64> for Silence {
 pub struct Void;
 
 impl Sender<u64> for Void {
-    ghost told = { λ _ _. ⊤ };
-
     fn send(&mut self, recipients: Recipients<u64>, bytes: Vec<u8>, _priority: bool)
         ensures { ⊤ }
     {
