@@ -6,7 +6,7 @@ use crate::message::message_with_digest;
 use crate::settings::Settings;
 use crate::shared::{AllSubscribed, Shared};
 use crate::tally::{Counting, WholeTally};
-use broadcast_core::TestMessage;
+use broadcast_core::{Key, TestMessage};
 use commonware_broadcast::buffered::{Account, Bookkeeping, Mailbox, Subscription};
 use std::alloc::AllocGlobal;
 use std::random::RandomSource;
@@ -27,10 +27,10 @@ pub struct Seen {
 /// The client of a node, which it reaches through a mailbox.
 #[derive(Drop)]
 pub struct Client<R, A: Bookkeeping> {
-    /// The key of its node.
-    pub key: u64,
+    /// The number of its node.
+    pub number: u64,
     /// The mailbox of its node.
-    pub mailbox: Mailbox<u64, TestMessage, R, A>,
+    pub mailbox: Mailbox<Key, TestMessage, R, A>,
     /// The messages of all nodes.
     pub settings: Settings,
     /// What it shares with the other clients.
@@ -48,7 +48,7 @@ where
     /// Does all that the client does, and counts itself as finished. If it fails or a subscription
     /// was not served, all nodes and clients end. Returns its tally, and what it saw.
     pub fn run(&self, tally: WholeTally<A>) -> (WholeTally<A>, Result<Seen, Fault>)
-        ensures { IfOk result.1 (λ seen. seen.node ≡ self.now.key) }
+        ensures { IfOk result.1 (λ seen. seen.node ≡ self.now.number) }
     {
         let mut tally = tally;
         let seen = self.see(&mut tally);
@@ -64,7 +64,7 @@ where
     /// Subscribes to the messages of all nodes, and once all clients have, broadcasts those of its
     /// own node. Waits for all subscriptions, and then asks for each message.
     fn see(&self, tally: &mut WholeTally<A>) -> Result<Seen, Fault>
-        ensures { IfOk result (λ seen. seen.node ≡ self.now.key) }
+        ensures { IfOk result (λ seen. seen.node ≡ self.now.number) }
     {
         let waiting = self.subscribe_all(tally)?;
         self.shared.count_subscribed();
@@ -72,7 +72,7 @@ where
         let served = self.exchange(tally, waiting, all)?;
         let evicted = self.count_missing(tally)?;
         Ok(Seen {
-            node: self.key,
+            node: self.number,
             served,
             evicted,
         })
@@ -115,7 +115,7 @@ where
     /// Broadcasts the messages of its own node, once all clients have subscribed.
     fn broadcast_own(&self, tally: &mut WholeTally<A>, _all: AllSubscribed) -> Result<(), Fault> {
         for number in 1..=self.settings.messages {
-            let message = message_with_digest(self.rt.alloc(), self.key, number)?;
+            let message = message_with_digest(self.rt.alloc(), self.number, number)?;
             let _feedback = tally.broadcast(&self.mailbox, message)?;
             self.shared.progress.count(1);
         }

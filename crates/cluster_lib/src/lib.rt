@@ -5,6 +5,7 @@ pub mod arguments;
 pub mod client;
 pub mod ended;
 pub mod fault;
+pub mod keys;
 pub mod limits;
 pub mod measure;
 pub mod message;

@@ -6,12 +6,12 @@ ghost use Rattle.broadcast_mailbox.specs.Account.{capped};
 ghost use Rattle.cluster_lib.specs.Measured.{measured_text};
 
 use crate::fault::Fault;
+use crate::keys::{key_of, keys_of};
 use crate::message::{Digest, broadcast, digest_of};
 use crate::node::{Node, start};
 use crate::progress::Progress;
 use crate::rate::Rate;
-use crate::run::keys;
-use broadcast_core::{RangeCfg, TestMessage};
+use broadcast_core::{Key, RangeCfg, TestMessage};
 use commonware_broadcast::buffered::{Get, Mailbox, Sequential};
 use memory_network::Mail;
 use std::alloc::AllocGlobal;
@@ -83,8 +83,8 @@ fn start_alone<R>(rt: &R) -> Result<Node<TestMessage, R>, Fault>
 where
     R: Threads + Wait + RandomSource + AllocGlobal + Clone + Send + Sync + Drop + 'static,
 {
-    let mail = Arc::new(rt.alloc(), Mail::new(rt.alloc(), 1))?;
-    mail.set_peers(rt, keys(rt.alloc(), 1)?)?;
+    let mail = Arc::new(rt.alloc(), Mail::new(rt.alloc(), key_of(1)))?;
+    mail.set_peers(rt, keys_of(rt.alloc(), 1)?)?;
     let others = Vec::new(rt.alloc());
     match start(rt, RangeCfg::any(), Sequential, &mail, others, 1)? {
         Ok(node) => Ok(node),
@@ -111,7 +111,7 @@ fn time<R>(
     rt: &R,
     rate: Rate,
     progress: &Arc<Progress>,
-    mailbox: &Mailbox<u64, TestMessage, R>,
+    mailbox: &Mailbox<Key, TestMessage, R>,
 ) -> Result<Measured, Fault>
 where
     R: Threads + Wait + Clock + RandomSource + AllocGlobal + Clone + Send + Sync + Drop + 'static,
@@ -135,7 +135,7 @@ fn run_clients<R>(
     rt: &R,
     rate: Rate,
     progress: &Arc<Progress>,
-    mailbox: &Mailbox<u64, TestMessage, R>,
+    mailbox: &Mailbox<Key, TestMessage, R>,
 ) -> Answered
 where
     R: Threads + Wait + RandomSource + AllocGlobal + Clone + Send + Sync + Drop + 'static,
@@ -156,7 +156,7 @@ fn start_clients<R>(
     rt: &R,
     rate: Rate,
     progress: &Arc<Progress>,
-    mailbox: &Mailbox<u64, TestMessage, R>,
+    mailbox: &Mailbox<Key, TestMessage, R>,
     failed: &Arc<AtomicBool>,
     clients: &mut Vec<JoinHandle<Answered>>,
 ) -> Result<(), Fault>
@@ -215,7 +215,7 @@ struct GetClient<R> {
     /// How often it gets the message.
     rate: Rate,
     /// The mailbox of the node.
-    mailbox: Mailbox<u64, TestMessage, R>,
+    mailbox: Mailbox<Key, TestMessage, R>,
     /// Whether a client has failed.
     failed: Arc<AtomicBool>,
     /// How many gets the clients have made.
@@ -263,7 +263,7 @@ where
 fn gets<R>(
     rt: &R,
     depth: u64,
-    mailbox: &Mailbox<u64, TestMessage, R>,
+    mailbox: &Mailbox<Key, TestMessage, R>,
     digest: Digest,
 ) -> Result<Vec<Get<TestMessage>>, Fault>
 where

@@ -1,6 +1,6 @@
 //! The messages that the program's nodes broadcast.
 use crate::fault::Fault;
-use broadcast_core::{Digested, Digestible, Recipients, TestMessage};
+use broadcast_core::{Digested, Digestible, Key, Recipients, TestMessage};
 use broadcast_mailbox::{Broadcaster, Feedback};
 use commonware_broadcast::buffered::{Bookkeeping, Mailbox};
 use std::alloc::{AllocError, AllocGlobal, Global};
@@ -9,8 +9,8 @@ use std::sync::Wait;
 /// The name of a message.
 pub type Digest = [u8; 32];
 
-/// Creates the message of the node with this number. Its content has the key of the node and the
-/// number, eight bytes each.
+/// Creates the message of the node with this number. Its content has the number of the node and that
+/// of the message, eight bytes each.
 pub fn message_of(alloc: Global, node: u64, number: u64) -> Result<TestMessage, AllocError> {
     let mut content = Vec::from_slice(alloc, &node.to_be_bytes())?;
     content.extend_from_slice(&number.to_be_bytes())?;
@@ -56,7 +56,7 @@ pub fn message_with_digest(
 /// Broadcasts the message of the node with this number through the mailbox, without a tally.
 pub fn broadcast<R, A>(
     rt: &R,
-    mailbox: &Mailbox<u64, TestMessage, R, A>,
+    mailbox: &Mailbox<Key, TestMessage, R, A>,
     node: u64,
     number: u64,
 ) -> Result<Feedback, Fault>

@@ -3,7 +3,7 @@ ghost use Rattle.std.specs.Prelude.{◌≡◌, IfOk};
 ghost use Rattle.std.specs.NonZero.{non_zero_u32_get};
 ghost use Rattle.broadcast_mailbox.specs.Account.{TallyState};
 
-use broadcast_core::{Codec, Digestible};
+use broadcast_core::{Codec, Digestible, Key};
 use commonware_broadcast::buffered::{
     Account, All, Bookkeeping, Books, Config, Engine, Handle, Mailbox, MailboxEngine,
     MailboxReport, StartError, Strategy, Tally, WatchedNode,
@@ -20,17 +20,17 @@ use std::thread::Threads;
 const MAILBOX_SIZE: usize = 1000;
 
 /// An engine over a network in memory.
-pub type NodeEngine<M, T, R, A = ()> = MailboxEngine<u64, M, PeerSets<u64, R>, T, R, A>;
+pub type NodeEngine<M, T, R, A = ()> = MailboxEngine<Key, M, PeerSets<Key, R>, T, R, A>;
 
 /// A node whose engine runs in a thread of its own.
 #[derive(Drop)]
 pub struct Node<M: Digestible, R, A: Bookkeeping = ()> {
     /// The mailbox of its callers.
-    pub mailbox: Mailbox<u64, M, R, A>,
+    pub mailbox: Mailbox<Key, M, R, A>,
     /// What it takes.
-    pub mail: Arc<Mail<u64>>,
+    pub mail: Arc<Mail<Key>>,
     /// Its engine.
-    pub handle: Handle<u64, M, R, A>,
+    pub handle: Handle<Key, M, R, A>,
 }
 
 impl<M, R, A> Node<M, R, A>
@@ -40,14 +40,14 @@ where
     A: Bookkeeping,
 {
     /// Waits for the end of the engine. Returns what it leaves.
-    pub fn join(self, rt: &R) -> MailboxReport<u64, M, R, A> {
+    pub fn join(self, rt: &R) -> MailboxReport<Key, M, R, A> {
         let Node { handle, .. } = self;
         handle.join(rt)
     }
 }
 
 /// A node that was started, or the mailbox of one whose engine was not, and why.
-pub type Started<M, R, A = ()> = Result<Node<M, R, A>, (Mailbox<u64, M, R, A>, StartError)>;
+pub type Started<M, R, A = ()> = Result<Node<M, R, A>, (Mailbox<Key, M, R, A>, StartError)>;
 
 /// A node whose engine is not started yet.
 #[derive(Drop)]
@@ -55,11 +55,11 @@ pub struct Prepared<M: Digestible + Codec, T: Strategy<M>, R: Wait, A: Bookkeepi
     /// Its engine.
     pub engine: NodeEngine<M, T, R, A>,
     /// The mailbox of its callers.
-    pub mailbox: Mailbox<u64, M, R, A>,
+    pub mailbox: Mailbox<Key, M, R, A>,
     /// What it takes.
-    pub mail: Arc<Mail<u64>>,
+    pub mail: Arc<Mail<Key>>,
     /// The ends of its network.
-    pub network: (Outbound<u64, R>, Inbound<u64, R>),
+    pub network: (Outbound<Key, R>, Inbound<Key, R>),
 }
 
 impl<M, T, R> Prepared<M, T, R>
@@ -73,8 +73,8 @@ where
         rt: &R,
         codec_config: M::Cfg,
         strategy: T,
-        mail: &Arc<Mail<u64>>,
-        others: Vec<Arc<Mail<u64>>>,
+        mail: &Arc<Mail<Key>>,
+        others: Vec<Arc<Mail<Key>>>,
         deque_size: usize,
     ) -> Result<Self, AllocError>
     where
@@ -99,9 +99,9 @@ where
     pub fn over(
         rt: &R,
         engine: NodeEngine<M, T, R, A>,
-        mailbox: Mailbox<u64, M, R, A>,
-        mail: &Arc<Mail<u64>>,
-        others: Vec<Arc<Mail<u64>>>,
+        mailbox: Mailbox<Key, M, R, A>,
+        mail: &Arc<Mail<Key>>,
+        others: Vec<Arc<Mail<Key>>>,
     ) -> Result<Self, AllocError>
     where
         M::Cfg: Drop,
@@ -154,8 +154,8 @@ pub fn start<M, T, R>(
     rt: &R,
     codec_config: M::Cfg,
     strategy: T,
-    mail: &Arc<Mail<u64>>,
-    others: Vec<Arc<Mail<u64>>>,
+    mail: &Arc<Mail<Key>>,
+    others: Vec<Arc<Mail<Key>>>,
     deque_size: usize,
 ) -> Result<Started<M, R>, AllocError>
 where
@@ -175,9 +175,9 @@ where
 pub fn start_over<M, T, R, A>(
     rt: &R,
     engine: NodeEngine<M, T, R, A>,
-    mailbox: Mailbox<u64, M, R, A>,
-    mail: &Arc<Mail<u64>>,
-    others: Vec<Arc<Mail<u64>>>,
+    mailbox: Mailbox<Key, M, R, A>,
+    mail: &Arc<Mail<Key>>,
+    others: Vec<Arc<Mail<Key>>>,
 ) -> Result<Started<M, R, A>, AllocError>
 where
     M: Digestible + Codec + Send + Sync + 'static,
@@ -203,9 +203,9 @@ pub type Counted<M, R, A, K> = (
 /// request. Fails if there is no memory for its engine.
 pub fn start_counting<M, T, R, A, K>(
     rt: &R,
-    config: Config<u64, M::Cfg, PeerSets<u64, R>, T>,
-    mail: &Arc<Mail<u64>>,
-    others: Vec<Arc<Mail<u64>>>,
+    config: Config<Key, M::Cfg, PeerSets<Key, R>, T>,
+    mail: &Arc<Mail<Key>>,
+    others: Vec<Arc<Mail<Key>>>,
     parts: NonZeroU32,
     accepted: Blank,
     taken: Blank,
@@ -225,7 +225,7 @@ where
     requires one { (K.all ≡ K.parts) × (K.parts ≡ 1) }
     ensures { IfOk result (λ counted. counted.1.parts ≡ A.all) }
 {
-    let node: WatchedNode<u64, M, PeerSets<u64, R>, T, R, A, K, All> = Engine::new_watched(
+    let node: WatchedNode<Key, M, PeerSets<Key, R>, T, R, A, K, All> = Engine::new_watched(
         rt.clone()?,
         rt.alloc(),
         config,
@@ -242,9 +242,9 @@ pub fn config<C, T, R>(
     rt: &R,
     codec_config: C,
     strategy: T,
-    mail: &Arc<Mail<u64>>,
+    mail: &Arc<Mail<Key>>,
     deque_size: usize,
-) -> Result<Config<u64, C, PeerSets<u64, R>, T>, AllocError>
+) -> Result<Config<Key, C, PeerSets<Key, R>, T>, AllocError>
 where
     C: Drop,
     T: Drop,

@@ -9,13 +9,14 @@ ghost use Rattle.engine_io.specs.declared.metrics.Status.TheVariants.{Success, D
 
 use crate::client::Seen;
 use crate::fault::Fault;
+use broadcast_core::Key;
 use commonware_broadcast::buffered::{Metrics, Status};
 use std::io::{self, Write};
 
 /// What became of a node.
 #[derive(Clone, Copy)]
 pub struct Row {
-    /// Its key.
+    /// Its number.
     pub node: u64,
     /// How many messages of peers it took into its lists.
     pub taken: u64,
@@ -33,7 +34,7 @@ pub struct Row {
 
 impl Row {
     /// Returns the row of a node whose client made `subscriptions` subscriptions and saw this.
-    pub fn new(metrics: &Metrics<u64>, seen: Seen, subscriptions: u64) -> Row
+    pub fn new(metrics: &Metrics<Key>, seen: Seen, subscriptions: u64) -> Row
         ensures node { result.node ≡ seen.node }
         ensures taken { result.taken ≡ number_of Success metrics.now.totals.receive }
         ensures dropped { result.dropped ≡ number_of Dropped metrics.now.totals.receive }

@@ -3,12 +3,13 @@ ghost use Rattle.std.specs.Prelude.{◌≡◌, [], ◌∷◌, ◌++◌, OnOk};
 
 use crate::ended::{Ended, Outcome};
 use crate::fault::Fault;
+use crate::keys::{key_of, keys_of};
 use crate::message::message_of;
 use crate::progress::Progress;
 use crate::session::{NodeSession, STRANGER};
 use crate::settings::Settings;
 use crate::shared::Shared;
-use broadcast_core::{CodecError, Set, Write};
+use broadcast_core::{CodecError, Key, Write};
 use memory_network::{Mail, Network};
 use std::alloc::{AllocError, AllocGlobal, Global};
 use std::random::RandomSource;
@@ -16,7 +17,7 @@ use std::sync::{Arc, Wait};
 use std::thread::{self, JoinHandle, Threads};
 use std::time::Clock;
 
-/// Runs the nodes of the keys from 1, each with a client. Stops them once all clients have
+/// Runs the nodes of the numbers from 1, each with a client. Stops them once all clients have
 /// finished, or one has failed, or all engines are idle. Returns what became of the nodes, or the
 /// first fault.
 pub fn run<R>(rt: &R, settings: Settings, progress: &Arc<Progress>) -> Result<Ended, Fault>
@@ -46,9 +47,10 @@ fn start_all<R>(
 where
     R: Threads + Wait + Clock + RandomSource + AllocGlobal + Clone + Send + Sync + Drop + 'static,
 {
-    for mail in shared.network.mails() {
+    for (place, mail) in shared.network.mails().iter().enumerate() {
         threads.reserve(1)?;
         let session = NodeSession {
+            number: place.saturating_add(1) as u64,
             mail: Arc::try_clone(mail)?,
             others: shared.network.others(rt.alloc(), &mail.key)?,
             settings,
@@ -100,38 +102,29 @@ fn append(outcomes: &mut Vec<Outcome>, outcome: Outcome) -> Result<(), AllocErro
     Ok(())
 }
 
-/// Creates the network of the nodes with the keys from 1. A stranger has sent each of them a
+/// Creates the network of the nodes with the numbers from 1. A stranger has sent each of them a
 /// message, and a byte that is no message.
-fn disturbed_network<R: Wait + AllocGlobal>(rt: &R, nodes: u64) -> Result<Network<u64>, Fault> {
-    let network = Network::new(rt, &keys(rt.alloc(), nodes)?)?;
+fn disturbed_network<R: Wait + AllocGlobal>(rt: &R, nodes: u64) -> Result<Network<Key>, Fault> {
+    let network = Network::new(rt, &keys_of(rt.alloc(), nodes)?)?;
     for mail in network.mails() {
         disturb(rt, mail)?;
     }
     Ok(network)
 }
 
-/// Returns the keys of the nodes.
-pub(crate) fn keys(alloc: Global, nodes: u64) -> Result<Set<u64>, AllocError> {
-    let mut keys = Vec::new(alloc);
-    for key in 1..=nodes {
-        keys.push(key)?;
-    }
-    Set::from_iter_dedup(keys)
-}
-
 /// Sends a node what a stranger sends.
-fn disturb<R: Wait + AllocGlobal>(rt: &R, mail: &Mail<u64>) -> Result<(), Fault> {
-    let Ok(bytes) = encoded(rt.alloc(), mail.key) else {
+fn disturb<R: Wait + AllocGlobal>(rt: &R, mail: &Mail<Key>) -> Result<(), Fault> {
+    let Ok(bytes) = encoded(rt.alloc()) else {
         return Err(Fault::Memory);
     };
-    mail.deliver(rt, STRANGER, bytes)?;
-    mail.deliver(rt, STRANGER, Vec::from_slice(rt.alloc(), &[0xff])?)?;
+    mail.deliver(rt, key_of(STRANGER), bytes)?;
+    mail.deliver(rt, key_of(STRANGER), Vec::from_slice(rt.alloc(), &[0xff])?)?;
     Ok(())
 }
 
-/// Returns the encoding of the stranger's message with this number.
-fn encoded(alloc: Global, number: u64) -> Result<Vec<u8>, CodecError> {
+/// Returns the encoding of the stranger's message.
+fn encoded(alloc: Global) -> Result<Vec<u8>, CodecError> {
     let mut bytes = Vec::new(alloc);
-    message_of(alloc, STRANGER, number)?.write(&mut bytes)?;
+    message_of(alloc, STRANGER, 1)?.write(&mut bytes)?;
     Ok(bytes)
 }

@@ -13,7 +13,7 @@ use crate::settings::Settings;
 use crate::settlement::Settlement;
 use crate::shared::Shared;
 use crate::tally::{Counting, WholeTally};
-use broadcast_core::{RangeCfg, TestMessage};
+use broadcast_core::{Key, RangeCfg, TestMessage};
 use broadcast_mailbox::Feedback;
 use commonware_broadcast::buffered::{
     Account, Bookkeeping, Mailbox, MailboxReport, Sequential, StartError,
@@ -28,7 +28,7 @@ use std::sync::{Arc, Wait};
 use std::thread::{self, JoinHandle, Threads};
 use std::time::Clock;
 
-/// A key that no node has, and that no node admits.
+/// The number of a stranger, whose key no node has, and no node admits.
 pub const STRANGER: u64 = 0;
 
 /// What is left of a client's thread: its tally, and what it saw.
@@ -46,10 +46,12 @@ pub struct Played {
 /// The session of a node, which settles the account of its client's requests.
 #[derive(Drop)]
 pub struct NodeSession<R> {
+    /// The number of the node.
+    pub number: u64,
     /// The mail of the node.
-    pub mail: Arc<Mail<u64>>,
+    pub mail: Arc<Mail<Key>>,
     /// The mail of the other nodes.
-    pub others: Vec<Arc<Mail<u64>>>,
+    pub others: Vec<Arc<Mail<Key>>>,
     /// The settings of the run.
     pub settings: Settings,
     /// What it shares with the other nodes and with the clients.
@@ -103,6 +105,7 @@ where
     requires one { (K.all ≡ K.parts) × (K.parts ≡ 1) }
 {
     let NodeSession {
+        number,
         mail,
         others,
         settings,
@@ -116,13 +119,13 @@ where
     let (started, tally) = counted;
     let tally = WholeTally::new(tally);
     match started {
-        Ok(node) => run_node(&rt, settings, &shared, node, tally),
+        Ok(node) => run_node(&rt, number, settings, &shared, node, tally),
         Err((mailbox, error)) => Err(not_started(&rt, &mailbox, error)),
     }
 }
 
 /// Returns the fault of a node that was not started. Its mailbox must be closed.
-fn not_started<R, A>(rt: &R, mailbox: &Mailbox<u64, TestMessage, R, A>, error: StartError) -> Fault
+fn not_started<R, A>(rt: &R, mailbox: &Mailbox<Key, TestMessage, R, A>, error: StartError) -> Fault
 where
     R: Wait + AllocGlobal + Clone + Send + 'static,
     A: Bookkeeping + Send + 'static,
@@ -134,10 +137,11 @@ where
     }
 }
 
-/// Lets a client use the started node, and stops the node once all clients have finished, or one
+/// Lets a client use the started node of this number, and stops the node once all clients have finished, or one
 /// has failed, or all engines are idle. Returns what became of the node.
 fn run_node<R, A, K>(
     rt: &R,
+    number: u64,
     settings: Settings,
     shared: &Arc<Shared>,
     node: Node<TestMessage, R, Counting<A, K>>,
@@ -149,7 +153,7 @@ where
     K: Account + Send + Sync + 'static,
     requires accounts { (A.all ≡ A.parts) × (K.all ≡ K.parts) }
 {
-    let client = start_client(rt, settings, shared, &node, tally);
+    let client = start_client(rt, number, settings, shared, &node, tally);
     if client.is_ok() {
         shared.wait_for_finished(rt);
     }
@@ -162,6 +166,7 @@ where
 /// Starts the client of the node.
 fn start_client<R, A, K>(
     rt: &R,
+    number: u64,
     settings: Settings,
     shared: &Arc<Shared>,
     node: &Node<TestMessage, R, Counting<A, K>>,
@@ -172,7 +177,7 @@ where
     A: Account + Send + Sync + 'static,
     K: Account + Send + Sync + 'static,
 {
-    let client = client_of(rt, settings, shared, node)?;
+    let client = client_of(rt, number, settings, shared, node)?;
     match thread::spawn(rt, move || client.run(tally)) {
         Ok(thread) => Ok(thread),
         Err(_) => Err(Fault::Thread),
@@ -182,6 +187,7 @@ where
 /// Creates the client of a node.
 fn client_of<R, A, K>(
     rt: &R,
+    number: u64,
     settings: Settings,
     shared: &Arc<Shared>,
     node: &Node<TestMessage, R, Counting<A, K>>,
@@ -192,7 +198,7 @@ where
     K: Account,
 {
     Ok(Client {
-        key: node.mail.key,
+        number,
         mailbox: node.mailbox.clone()?,
         settings,
         shared: Arc::try_clone(shared)?,
@@ -203,7 +209,7 @@ where
 /// Returns what became of a node that left this report, of whose account this is the tally, and
 /// whose client saw this.
 fn settle<R, A, K>(
-    report: MailboxReport<u64, TestMessage, R, Counting<A, K>>,
+    report: MailboxReport<Key, TestMessage, R, Counting<A, K>>,
     settings: Settings,
     tally: WholeTally<A>,
     seen: Seen,

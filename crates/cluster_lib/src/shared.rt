@@ -2,6 +2,7 @@
 use crate::message::{Digest, digests_of};
 use crate::progress::Progress;
 use crate::settings::Settings;
+use broadcast_core::Key;
 use memory_network::Network;
 use std::alloc::{AllocError, Global};
 use std::sync::Arc;
@@ -25,7 +26,7 @@ pub struct AllSubscribed {
 #[derive(Drop)]
 pub struct Shared {
     /// The network of the nodes.
-    pub network: Network<u64>,
+    pub network: Network<Key>,
     /// The digests of the messages of all nodes.
     pub digests: Vec<Digest>,
     /// How many requests the clients have made.
@@ -45,7 +46,7 @@ impl Shared {
     pub fn new(
         alloc: Global,
         settings: Settings,
-        network: Network<u64>,
+        network: Network<Key>,
         progress: Arc<Progress>,
     ) -> Result<Self, AllocError> {
         Ok(Shared {

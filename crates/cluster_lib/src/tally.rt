@@ -3,7 +3,7 @@ ghost use Rattle.std.specs.Prelude.{◌≡◌};
 ghost use Rattle.broadcast_mailbox.specs.Account.{TallyState};
 
 use crate::message::Digest;
-use broadcast_core::{Digested, Recipients, TestMessage};
+use broadcast_core::{Digested, Key, Recipients, TestMessage};
 use broadcast_mailbox::{Feedback, MailboxError};
 use commonware_broadcast::buffered::{Account, All, Books, Get, Mailbox, Subscription, Tally};
 use std::sync::Wait;
@@ -12,7 +12,7 @@ use std::sync::Wait;
 pub type Counting<A, K> = Books<A, K, All, Digest>;
 
 /// A mailbox that counts every tallied request.
-type CountingMailbox<R, A, K> = Mailbox<u64, TestMessage, R, Counting<A, K>>;
+type CountingMailbox<R, A, K> = Mailbox<Key, TestMessage, R, Counting<A, K>>;
 
 /// A tally that has all parts of its account.
 #[derive(Drop)]

@@ -1,5 +1,5 @@
 //! The two ends of a network in memory.
-ghost use Rattle.std.specs.Prelude.{◌≡◌, ⊤, ℕ, List, [], ◌∷◌, ◌++◌, false};
+ghost use Rattle.std.specs.Prelude.{◌≡◌, ℕ, List, [], ◌∷◌, ◌++◌, false};
 ghost use Rattle.broadcast_core.specs.declared.event.Sent.{Sent};
 
 use broadcast_core::{Items, Recipients, Sent};
@@ -95,8 +95,6 @@ impl Inbound {
 }
 
 impl Receiver<u64> for Inbound {
-    ghost told = { λ _ _. ⊤ };
-
     fn poll_recv(&mut self, cx: &mut Context<'_>) -> Poll<Result<(u64, Items<u8>), NetworkFailed>> {
         if let Some(payload) = self.payloads.pop_front() {
             return Poll::Ready(Ok(payload));

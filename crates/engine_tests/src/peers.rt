@@ -1,5 +1,5 @@
 //! A provider that is fed from outside.
-ghost use Rattle.std.specs.Prelude.{◌≡◌, ⊤};
+ghost use Rattle.std.specs.Prelude.{◌≡◌};
 ghost use Rattle.futures.specs.Task.{IsArmed, Keeps};
 ghost use Rattle.futures.specs.declared.task.Poll.TheVariants.{Pending};
 
@@ -67,8 +67,6 @@ impl Feed {
 pub struct Peers(pub Rc<Feed>);
 
 impl Provider<u64> for Peers {
-    ghost told = { λ _ _. ⊤ };
-
     fn poll_update(&mut self, cx: &mut Context<'_>) -> Poll<Option<Set<u64>>> {
         match self.0.next.replace(None) {
             Some(Update::Set(peers)) => Poll::Ready(Some(peers)),

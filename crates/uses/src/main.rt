@@ -1,21 +1,10 @@
-//! Uses of the crates, as a caller writes them. Begin with [`two_nodes`]. `docs/CALLING.md` quotes
-//! these files.
-//!
-//! Without arguments it prints what these uses return, and with `--help` what the arguments are.
-//! With others it makes the [`calls`] of the libraries that they and standard input list.
+//! Makes the [`calls`] of the libraries that its arguments and standard input list. The gate runs it
+//! with allocations refused.
 #![tactic(auto)]
 
-mod account;
-mod cache;
 mod calls;
-mod engines;
-mod mailbox;
 mod memory;
 mod node;
-mod note;
-mod relay;
-mod shown;
-mod two_nodes;
 
 use anyhow::Error;
 use broadcast_text::arguments::read_arguments;
@@ -27,10 +16,6 @@ fn main(rt: HostRuntime) -> Result<ExitCode, Error> {
         Ok(words) => words,
         Err(fault) => return Ok(ExitCode::from(fault.report(rt.stderr()))),
     };
-    if words.is_empty() {
-        shown::show(&rt, &mut rt.stdout())?;
-        return Ok(ExitCode::SUCCESS);
-    }
     if asks_for_help(&words) {
         help(&mut rt.stdout())?;
         return Ok(ExitCode::SUCCESS);

@@ -35,8 +35,6 @@ impl PeerSets {
 }
 
 impl Provider<u64> for PeerSets {
-    ghost told = { λ _ _. ⊤ };
-
     fn poll_update(&mut self, cx: &mut Context<'_>) -> Poll<Option<Set<u64>>> {
         match self.next.replace(None) {
             Some(next) => Poll::Ready(next),
@@ -53,8 +51,6 @@ pub struct Outbox {
 }
 
 impl Sender<u64> for Outbox {
-    ghost told = { λ _ _. ⊤ };
-
     /// Keeps the message. It is lost if there is no memory for it.
     fn send(&mut self, recipients: Recipients<u64>, bytes: Vec<u8>, priority: bool)
         ensures { ⊤ }
@@ -94,8 +90,6 @@ impl Arrivals {
 }
 
 impl Receiver<u64> for Arrivals {
-    ghost told = { λ _ _. ⊤ };
-
     fn poll_recv(&mut self, cx: &mut Context<'_>) -> Poll<Received> {
         match self.received.pop_front() {
             Some(received) => Poll::Ready(received),
@@ -116,47 +110,4 @@ pub fn ends(alloc: Global) -> Ends {
     };
     let sent = VecDeque::new(alloc);
     (Outbox { sent }, arrivals)
-}
-
-/// The ends of the nodes with the keys from 1.
-#[derive(Drop)]
-pub struct Network {
-    /// The ends, in the order of the keys.
-    pub ends: Vec<Ends>,
-}
-
-impl Network {
-    /// Creates the ends of `number` nodes.
-    pub fn new(alloc: Global, number: u64) -> Result<Self, AllocError> {
-        let mut all = Vec::new(alloc);
-        for _ in 0..number {
-            all.push(ends(alloc))?;
-        }
-        Ok(Network { ends: all })
-    }
-
-    /// Delivers the oldest message of each node to all other nodes.
-    pub fn deliver(&mut self) -> Result<(), AllocError> {
-        for place in 0..self.ends.len() {
-            if let Some(sent) = self.next(place) {
-                self.hand_over(place, &sent.bytes)?;
-            }
-        }
-        Ok(())
-    }
-
-    /// Removes and returns the oldest message of the node.
-    fn next(&mut self, place: usize) -> Option<Sent<u64>> {
-        self.ends.get_mut(place)?.0.sent.pop_front()
-    }
-
-    /// Hands the bytes of the node at the place to all other nodes.
-    fn hand_over(&mut self, from: usize, bytes: &Items<u8>) -> Result<(), AllocError> {
-        for (place, (_, arrivals)) in self.ends.iter_mut().enumerate() {
-            if place != from {
-                arrivals.push(Ok((from.saturating_add(1) as u64, bytes.clone()?)))?;
-            }
-        }
-        Ok(())
-    }
 }

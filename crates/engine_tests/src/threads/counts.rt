@@ -1,6 +1,6 @@
 //! What the callers of a node count once it is stopped.
 use super::nodes::{broadcast, digest, gets, start, track};
-use broadcast_core::TestMessage;
+use broadcast_core::{Key, TestMessage};
 use cluster_lib::client::count_served;
 use cluster_lib::measure::count_answered;
 use commonware_broadcast::buffered::{Get, Mailbox, Sequential, Subscription};
@@ -45,7 +45,7 @@ struct Asked {
 
 impl Asked {
     /// Subscribes to the letters, and gets them.
-    fn new<R>(rt: &R, mailbox: &Mailbox<u64, TestMessage, R>) -> Result<Self, Fail>
+    fn new<R>(rt: &R, mailbox: &Mailbox<Key, TestMessage, R>) -> Result<Self, Fail>
     where
         R: Wait + AllocGlobal,
     {

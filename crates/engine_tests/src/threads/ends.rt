@@ -1,7 +1,7 @@
 //! How a started engine ends that nobody stops.
 use super::nodes::{broadcast, gets, start};
 use super::patient::pause;
-use broadcast_core::TestMessage;
+use broadcast_core::{Key, TestMessage};
 use cluster_lib::fault::Fault;
 use cluster_lib::node::Node;
 use commonware_broadcast::buffered::{EndCause, Mailbox, Sequential};
@@ -15,7 +15,7 @@ use std::thread::{self, JoinHandle, Threads};
 use std::time::Clock;
 
 /// Returns whether an engine that has answered is not polled while nothing happens.
-fn is_idle(clock: &impl Clock, mail: &Mail<u64>) -> bool {
+fn is_idle(clock: &impl Clock, mail: &Mail<Key>) -> bool {
     let polls = mail.polls.load(Ordering::SeqCst);
     for _ in 0..200 {
         pause(clock);
@@ -28,8 +28,8 @@ fn is_idle(clock: &impl Clock, mail: &Mail<u64>) -> bool {
 /// accepted a broadcast before the failure.
 fn fail_later<R>(
     rt: &R,
-    mailbox: &Mailbox<u64, TestMessage, R>,
-    mail: &Mail<u64>,
+    mailbox: &Mailbox<Key, TestMessage, R>,
+    mail: &Mail<Key>,
 ) -> Result<bool, Fault>
 where
     R: Wait + Clock + RandomSource + AllocGlobal + Clone + Send + 'static,

@@ -1,6 +1,6 @@
-//! Engines in threads whose peers have keys of 32 bytes.
+//! Engines in threads whose peers have numbers as keys.
 use super::nodes::digest;
-use broadcast_core::{Codec, Digestible, Key, RangeCfg, Set, TestMessage};
+use broadcast_core::{Codec, Digestible, RangeCfg, Set, TestMessage};
 use commonware_broadcast::buffered::{
     Config, EndCause, Engine, Handle, Mailbox, Open, Sequential, Status, Threaded, Work,
     start_threaded,
@@ -13,27 +13,22 @@ use std::sync::{Arc, Wait};
 use std::test::Fail;
 use std::thread::Threads;
 
-type Running<M, R> = (Handle<Key, M, R>, Mailbox<Key, M, R>);
-
-/// Returns the key whose bytes are all this one.
-fn key(byte: u8) -> Key {
-    Key { bytes: [byte; 32] }
-}
+type Running<M, R> = (Handle<u64, M, R>, Mailbox<u64, M, R>);
 
 /// Returns what the node of key 1 has of a network with the node of key 5, which sends it the
 /// message of the letter 2.
-fn ends<R: Wait + AllocGlobal + Clone + Drop>(rt: &R) -> Result<Ends<Key, R>, Fail> {
-    let keys = Set::from_iter_dedup(Vec::from_slice(rt.alloc(), &[key(1), key(5)])?)?;
-    let ends = Network::new(rt, &keys)?.join(rt, &key(1))?;
+fn ends<R: Wait + AllocGlobal + Clone + Drop>(rt: &R) -> Result<Ends<u64, R>, Fail> {
+    let keys = Set::from_iter_dedup(Vec::from_slice(rt.alloc(), &[1, 5])?)?;
+    let ends = Network::new(rt, &keys)?.join(rt, &1)?;
     let bytes = Vec::from_slice(rt.alloc(), &[0, 0, 0, 0, 0, 0, 0, 1, 2])?;
-    ends.mail.deliver(rt, key(5), bytes)?;
+    ends.mail.deliver(rt, 5, bytes)?;
     Ok(ends)
 }
 
 /// Returns the configuration of the node of key 1.
-fn config<C, B, T>(codec_config: C, peer_provider: B, strategy: T) -> Config<Key, C, B, T> {
+fn config<C, B, T>(codec_config: C, peer_provider: B, strategy: T) -> Config<u64, C, B, T> {
     Config {
-        public_key: key(1),
+        public_key: 1,
         mailbox_size: NonZeroUsize::MIN,
         deque_size: 4,
         byte_budget: u64::MAX,
@@ -45,7 +40,7 @@ fn config<C, B, T>(codec_config: C, peer_provider: B, strategy: T) -> Config<Key
 }
 
 /// Starts an engine that digests messages itself.
-fn sequential<M, R>(rt: &R, ends: Ends<Key, R>, codec_config: M::Cfg) -> Result<Running<M, R>, Fail>
+fn sequential<M, R>(rt: &R, ends: Ends<u64, R>, codec_config: M::Cfg) -> Result<Running<M, R>, Fail>
 where
     M: Digestible + Codec + Send + Sync + 'static,
     M::Digest: 'static,
@@ -58,7 +53,7 @@ where
 }
 
 /// Starts an engine whose messages are digested on other threads.
-fn threaded<M, R>(rt: &R, ends: Ends<Key, R>, codec_config: M::Cfg) -> Result<Running<M, R>, Fail>
+fn threaded<M, R>(rt: &R, ends: Ends<u64, R>, codec_config: M::Cfg) -> Result<Running<M, R>, Fail>
 where
     M: Digestible + Codec + Work<Open, R> + Send + Sync + 'static,
     M::Digest: 'static,
@@ -82,7 +77,7 @@ where
     handle.stop();
     let report = handle.join(rt);
     let metrics = report.metrics();
-    let counted = (metrics.peer(&key(5)), metrics.receive(Status::Success));
+    let counted = (metrics.peer(&5), metrics.receive(Status::Success));
     Ok(came && report.cause() == EndCause::Stopped && counted == (1, 1))
 }
 
@@ -96,7 +91,7 @@ where
 }
 
 #[test]
-fn engines_of_keys_of_32_bytes_are_started(rt: HostRuntime) -> Result<(), Fail> {
+fn engines_of_keys_that_are_numbers_are_started(rt: HostRuntime) -> Result<(), Fail> {
     assert!(rt; start_both(&rt)?);
     Ok(())
 }

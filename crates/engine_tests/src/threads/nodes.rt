@@ -1,7 +1,8 @@
 //! A started node, and what feeds it.
 use super::patient::{LIMIT, Patient, Talk, pause};
-use broadcast_core::{Codec, Digested, Digestible, RangeCfg, Recipients, Set, TestMessage};
+use broadcast_core::{Codec, Digested, Digestible, Key, RangeCfg, Recipients, Set, TestMessage};
 use cluster_lib::fault::Fault;
+use cluster_lib::keys::key_of;
 use cluster_lib::node::{Node, Prepared};
 use commonware_broadcast::buffered::{Mailbox, Open, Strategy, Subscription, Threaded, Work};
 use commonware_broadcast::{Broadcaster, Feedback};
@@ -13,7 +14,7 @@ use std::test::Fail;
 use std::thread::Threads;
 use std::time::Clock;
 
-/// Starts the node of key 1. It has no peers and no payloads yet.
+/// Starts the node of number 1. It has no peers and no payloads yet.
 pub fn start<T, R>(rt: &R, strategy: T) -> Result<Node<TestMessage, R>, Fail>
 where
     T: Strategy<TestMessage> + Send + Drop + 'static,
@@ -26,7 +27,7 @@ where
     }
 }
 
-/// Starts the node of key 1, whose messages are digested on other threads.
+/// Starts the node of number 1, whose messages are digested on other threads.
 pub fn start_threaded<M, R>(rt: &R, codec_config: M::Cfg) -> Result<Node<M, R>, Fail>
 where
     M: Digestible + Codec + Work<Open, R> + Send + Sync + 'static,
@@ -50,7 +51,7 @@ where
     })
 }
 
-/// Prepares the node of key 1.
+/// Prepares the node of number 1.
 pub fn prepare<M, T, R>(
     rt: &R,
     codec_config: M::Cfg,
@@ -62,12 +63,12 @@ where
     T: Strategy<M> + Drop,
     R: Wait + AllocGlobal + Clone + Drop,
 {
-    let mail = Arc::new(rt.alloc(), Mail::new(rt.alloc(), 1))?;
+    let mail = Arc::new(rt.alloc(), Mail::new(rt.alloc(), key_of(1)))?;
     let others = Vec::new(rt.alloc());
     Prepared::new(rt, codec_config, strategy, &mail, others, 4)
 }
 
-/// Starts the node of key 1, whose jobs take part in a talk.
+/// Starts the node of number 1, whose jobs take part in a talk.
 pub fn start_patient<R>(rt: &R) -> Result<(Node<TestMessage, R>, Arc<Talk>), Fail>
 where
     R: Threads + Wait + Clock + RandomSource + AllocGlobal + Clone + Send + Sync + Drop + 'static,
@@ -80,7 +81,7 @@ where
 /// Lets a job be pending at the node, which has the peer 5. It is of the message of the letter 2.
 pub fn hold<R: Wait + Clock + AllocGlobal>(
     rt: &R,
-    mail: &Mail<u64>,
+    mail: &Mail<Key>,
     talk: &Talk,
 ) -> Result<(), Fail> {
     track(rt, mail, &[1, 5])?;
@@ -92,30 +93,33 @@ pub fn hold<R: Wait + Clock + AllocGlobal>(
     }
 }
 
-/// Tells the node its peers.
+/// Tells the node the numbers of its peers.
 pub fn track<R: Wait + AllocGlobal>(
     rt: &R,
-    mail: &Mail<u64>,
-    keys: &[u64],
+    mail: &Mail<Key>,
+    numbers: &[u64],
 ) -> Result<(), AllocError> {
-    let set = Set::from_iter_dedup(Vec::from_slice(rt.alloc(), keys)?)?;
-    mail.set_peers(rt, set)
+    let mut keys = Vec::new(rt.alloc());
+    for number in numbers {
+        keys.push(key_of(*number))?;
+    }
+    mail.set_peers(rt, Set::from_iter_dedup(keys)?)
 }
 
 /// Sends the node a payload of the peer.
 pub fn send<R: Wait + AllocGlobal>(
     rt: &R,
-    mail: &Mail<u64>,
+    mail: &Mail<Key>,
     peer: u64,
     bytes: &[u8],
 ) -> Result<(), AllocError> {
-    mail.deliver(rt, peer, Vec::from_slice(rt.alloc(), bytes)?)
+    mail.deliver(rt, key_of(peer), Vec::from_slice(rt.alloc(), bytes)?)
 }
 
 /// Broadcasts the message of the letter.
 pub fn broadcast<R>(
     rt: &R,
-    mailbox: &Mailbox<u64, TestMessage, R>,
+    mailbox: &Mailbox<Key, TestMessage, R>,
     letter: u8,
 ) -> Result<Feedback, Fault>
 where
@@ -128,7 +132,7 @@ where
 /// Subscribes to the message of the letter.
 pub fn subscribe<R>(
     rt: &R,
-    mailbox: &Mailbox<u64, TestMessage, R>,
+    mailbox: &Mailbox<Key, TestMessage, R>,
     letter: u8,
 ) -> Result<Subscription<TestMessage>, Fault>
 where
@@ -138,7 +142,7 @@ where
 }
 
 /// Gets the message of the letter. Returns whether there is one.
-pub fn gets<R>(rt: &R, mailbox: &Mailbox<u64, TestMessage, R>, letter: u8) -> Result<bool, Fault>
+pub fn gets<R>(rt: &R, mailbox: &Mailbox<Key, TestMessage, R>, letter: u8) -> Result<bool, Fault>
 where
     R: Wait + RandomSource + AllocGlobal,
 {
@@ -147,7 +151,7 @@ where
 }
 
 /// Waits until the mailbox is closed. Returns whether it is.
-pub fn wait_for_close<R>(rt: &R, mailbox: &Mailbox<u64, TestMessage, R>) -> Result<bool, Fault>
+pub fn wait_for_close<R>(rt: &R, mailbox: &Mailbox<Key, TestMessage, R>) -> Result<bool, Fault>
 where
     R: Wait + Clock + AllocGlobal + Clone + Send + 'static,
 {

@@ -3,7 +3,7 @@ use super::nodes::{
     broadcast, digest, gets, hold, send, start, start_patient, subscribe, track, wait_for_close,
 };
 use super::patient::Talk;
-use broadcast_core::TestMessage;
+use broadcast_core::{Key, TestMessage};
 use cluster_lib::node::Node;
 use commonware_broadcast::Feedback;
 use commonware_broadcast::buffered::{EndCause, Mailbox, Sequential, Status, Subscription};
@@ -64,7 +64,7 @@ where
 }
 
 /// Joins the engine of a node. Returns its mailbox, and its cause.
-fn join<R>(rt: &R, node: Node<TestMessage, R>) -> (Mailbox<u64, TestMessage, R>, EndCause)
+fn join<R>(rt: &R, node: Node<TestMessage, R>) -> (Mailbox<Key, TestMessage, R>, EndCause)
 where
     R: Threads + Wait + Drop,
 {
@@ -92,7 +92,7 @@ where
 /// Asks the mailbox of an engine that ended with this cause.
 fn after<R>(
     rt: &R,
-    mailbox: &Mailbox<u64, TestMessage, R>,
+    mailbox: &Mailbox<Key, TestMessage, R>,
     prompt: bool,
     cause: EndCause,
     held: bool,
@@ -130,7 +130,7 @@ fn a_stopped_engine_ends_promptly_and_answers_nothing(rt: HostRuntime) -> Result
 }
 
 /// Sends the node of key 1 a payload of a peer that is no message, and one that is.
-fn feed<R: Wait + AllocGlobal>(rt: &R, mail: &Mail<u64>) -> Result<(), AllocError> {
+fn feed<R: Wait + AllocGlobal>(rt: &R, mail: &Mail<Key>) -> Result<(), AllocError> {
     track(rt, mail, &[1, 5])?;
     send(rt, mail, 5, &[9])?;
     send(rt, mail, 5, &[0, 0, 0, 0, 0, 0, 0, 1, 2])

@@ -1,8 +1,9 @@
 //! Many callers of one started engine, which digests on other threads and is stopped in the middle.
 use super::nodes::{broadcast, gets, send, start_threaded, subscribe, track};
 use super::patient::{LIMIT, pause};
-use broadcast_core::{RangeCfg, TestMessage};
+use broadcast_core::{Key, RangeCfg, TestMessage};
 use cluster_lib::fault::Fault;
+use cluster_lib::keys::key_of;
 use cluster_lib::node::Node;
 use commonware_broadcast::buffered::{EndCause, Mailbox, Metrics, Status, Subscription};
 use memory_network::Mail;
@@ -40,7 +41,7 @@ type Outcome = Result<Ends, Fault>;
 /// A caller of an engine.
 #[derive(Drop)]
 struct Caller<R> {
-    mailbox: Mailbox<u64, TestMessage, R>,
+    mailbox: Mailbox<Key, TestMessage, R>,
     /// The requests that were made by all callers.
     made: Arc<AtomicU64>,
     rt: R,
@@ -91,7 +92,7 @@ where
 /// Starts the callers.
 fn start_callers<R>(
     rt: &R,
-    mailbox: &Mailbox<u64, TestMessage, R>,
+    mailbox: &Mailbox<Key, TestMessage, R>,
     made: &Arc<AtomicU64>,
 ) -> Result<Vec<JoinHandle<Outcome>>, Fail>
 where
@@ -107,7 +108,7 @@ where
 /// Starts a caller.
 fn start_caller<R>(
     rt: &R,
-    mailbox: &Mailbox<u64, TestMessage, R>,
+    mailbox: &Mailbox<Key, TestMessage, R>,
     made: &Arc<AtomicU64>,
 ) -> Result<JoinHandle<Outcome>, Fail>
 where
@@ -139,7 +140,7 @@ fn join_callers(rt: &impl Threads, callers: Vec<JoinHandle<Outcome>>) -> Result<
 
 /// Feeds the node in rounds: a peer set, and payloads that are a message of a peer, a message of a
 /// stranger, and no message.
-fn feed<R: Wait + AllocGlobal>(rt: &R, mail: &Mail<u64>) -> Result<(), AllocError> {
+fn feed<R: Wait + AllocGlobal>(rt: &R, mail: &Mail<Key>) -> Result<(), AllocError> {
     for round in 0..FEEDS {
         let letter = (round % 192) as u8;
         let message = [0, 0, 0, 0, 0, 0, 0, 1, letter];
@@ -153,7 +154,7 @@ fn feed<R: Wait + AllocGlobal>(rt: &R, mail: &Mail<u64>) -> Result<(), AllocErro
 }
 
 /// Starts the feeder. Its thread returns whether all was handed over.
-fn start_feeder<R>(rt: &R, mail: &Arc<Mail<u64>>) -> Result<JoinHandle<bool>, Fail>
+fn start_feeder<R>(rt: &R, mail: &Arc<Mail<Key>>) -> Result<JoinHandle<bool>, Fail>
 where
     R: Threads + Wait + AllocGlobal + Clone + Send + Sync + Drop + 'static,
 {
@@ -193,10 +194,12 @@ struct Account {
 }
 
 /// Compares what an engine counted with what its callers saw.
-fn account_of(metrics: &Metrics<u64>, cause: EndCause, ends: Ends, all_fed: bool) -> Account {
+fn account_of(metrics: &Metrics<Key>, cause: EndCause, ends: Ends, all_fed: bool) -> Account {
     let success = metrics.receive(Status::Success);
     let taken = success.saturating_add(metrics.receive(Status::Dropped));
-    let decoded = metrics.peer(&5).saturating_add(metrics.peer(&6));
+    let decoded = metrics
+        .peer(&key_of(5))
+        .saturating_add(metrics.peer(&key_of(6)));
     let fed = taken.saturating_add(metrics.receive(Status::Invalid));
     Account {
         all_ended: ends.requests == CALLERS * ROUNDS * 4,

@@ -1,7 +1,8 @@
 //! Engines that can't be started, or can't wait once they are.
 use super::nodes::{broadcast, wait_for_close};
 use super::poor::{Poor, Supply};
-use broadcast_core::{Codec, Digestible, RangeCfg, TestMessage};
+use broadcast_core::{Codec, Digestible, Key, RangeCfg, TestMessage};
+use cluster_lib::keys::key_of;
 use cluster_lib::node::{Node, Prepared, Started};
 use commonware_broadcast::Feedback;
 use commonware_broadcast::buffered::{EndCause, Handle, Mailbox, Sequential, StartError};
@@ -62,9 +63,9 @@ fn cases() -> &'static [Case] {
 /// cause.
 fn stop<R>(
     rt: &R,
-    mailbox: &Mailbox<u64, TestMessage, R>,
-    mail: &Mail<u64>,
-    handle: Handle<u64, TestMessage, R>,
+    mailbox: &Mailbox<Key, TestMessage, R>,
+    mail: &Mail<Key>,
+    handle: Handle<Key, TestMessage, R>,
 ) -> Result<EndCause, Fail>
 where
     R: Threads + Wait + Clock + AllocGlobal + Clone + Send + Drop + 'static,
@@ -75,7 +76,7 @@ where
     Ok(handle.join(rt).cause())
 }
 
-/// Starts the node of key 1 with the supply.
+/// Starts the node of number 1 with the supply.
 fn start_with<M, R>(
     rt: &Poor<R>,
     codec_config: M::Cfg,
@@ -88,7 +89,7 @@ where
     M::Cfg: Send + Drop + 'static,
     R: Threads + Wait + Clock + RandomSource + AllocGlobal + Clone + Send + Sync + Drop + 'static,
 {
-    let mail = Arc::new(rt.alloc(), Mail::new(rt.alloc(), 1))?;
+    let mail = Arc::new(rt.alloc(), Mail::new(rt.alloc(), key_of(1)))?;
     let others = Vec::new(rt.alloc());
     let prepared = Prepared::new(rt, codec_config, Sequential, &mail, others, 4)?;
     rt.supply.leave(copies, randoms);
@@ -122,7 +123,7 @@ where
 }
 
 /// Returns whether the mailbox is closed.
-fn is_closed<R>(rt: &R, mailbox: &Mailbox<u64, TestMessage, R>) -> Result<bool, Fail>
+fn is_closed<R>(rt: &R, mailbox: &Mailbox<Key, TestMessage, R>) -> Result<bool, Fail>
 where
     R: Wait + AllocGlobal + Clone + Send + 'static,
 {

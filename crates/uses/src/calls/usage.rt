@@ -3,7 +3,7 @@ use super::settings::Refused;
 use std::io::{self, Write};
 
 /// The usage line.
-pub const USAGE: &str = "usage: uses [PART SIZE PLACES GREATEST STEPS]";
+pub const USAGE: &str = "usage: uses PART SIZE PLACES GREATEST STEPS";
 
 /// The names of the parts.
 const PARTS: &str = "core, inbox, engine, relay and account";
@@ -27,7 +27,7 @@ pub fn help<W: Write>(out: &mut W) -> io::Result<()> {
     writeln!(out, "{USAGE}")?;
     writeln!(
         out,
-        "Without arguments: what the uses of the crates return."
+        "Makes calls of the libraries, and prints what each returned."
     )?;
     help_with_numbers(out)?;
     help_with_steps(out)

@@ -1,5 +1,5 @@
-use Rattle.uses.proofs.Reading.{reads_written}
-use Rattle.uses.proofs.note.write_and_read.Goals as goal
+use Rattle.examples.proofs.Reading.{reads_written}
+use Rattle.examples.proofs.note.write_and_read.Goals as goal
 
 pub returns : goal.returns
 returns c =

@@ -1,14 +1,13 @@
-//! The account of a node: what became of the broadcasts of four clients, though one of them stops
-//! the node meanwhile.
-use super::engines::config;
-use super::memory::ends;
+//! The session of a node, whose account says what became of the broadcasts of four clients, though
+//! one of them stops the node meanwhile.
+use super::two_nodes::{config, key, network};
 use anyhow::Error;
 use commonware_broadcast::buffered::{
-    Account, Broadcasts, EndCause, Finished, Sequential, Session, Settled, WatchedClient,
-    run_session,
+    Account, Broadcasts, EndCause, Finished, Session, Settled, WatchedClient, run_session,
 };
-use commonware_broadcast::{Digested, MailboxError, Recipients, TestMessage};
+use commonware_broadcast::{Digested, Key, MailboxError, RangeCfg, Recipients, TestMessage};
 use std::alloc::{AllocError, AllocGlobal, Global};
+use std::io::Write;
 use std::num::NonZeroU32;
 use std::random::RandomSource;
 use std::sync::Wait;
@@ -26,7 +25,7 @@ struct Broadcasting<R> {
     rt: R,
 }
 
-impl<R> Session<u64, TestMessage, R> for Broadcasting<R>
+impl<R> Session<Key, TestMessage, R> for Broadcasting<R>
 where
     R: Wait + AllocGlobal,
 {
@@ -39,7 +38,7 @@ where
     fn run<A: Account, K: Account>(
         &self,
         number: u32,
-        client: &mut WatchedClient<u64, TestMessage, R, A, K, Broadcasts>,
+        client: &mut WatchedClient<Key, TestMessage, R, A, K, Broadcasts>,
     ) -> Result<u64, MailboxError> {
         let mut accepted = 0u64;
         for place in 0..MESSAGES {
@@ -63,29 +62,29 @@ fn message(alloc: Global, client: u32, place: u8) -> Result<Digested<TestMessage
 
 /// What a session leaves, as far as it does not depend on the order in which its threads run.
 #[derive(Clone, Copy, Debug)]
-pub struct Left {
+struct Left {
     /// How many clients there were.
-    pub clients: usize,
+    clients: usize,
     /// Why the engine ended.
-    pub cause: EndCause,
+    cause: EndCause,
     /// Whether the clients counted as many broadcasts as they were told are accepted.
-    pub as_told: bool,
+    as_told: bool,
     /// Whether that many were applied, refused, skipped or given up.
-    pub settled: bool,
+    settled: bool,
     /// How many were skipped.
-    pub skipped: u64,
+    skipped: u64,
 }
 
 /// Runs a node with its clients, and settles its account.
-pub fn broadcast_and_settle<R>(rt: &R) -> Result<Left, Error>
+fn broadcast_and_settle<R>(rt: &R) -> Result<Left, Error>
 where
     R: Threads + Wait + RandomSource + AllocGlobal + Clone + Send + Sync + Drop + 'static,
 {
-    let cfg = config(rt.alloc(), 1, Sequential)?;
-    let network = ends(rt.alloc());
+    let ends = network(rt, &[1])?.join(rt, &key(1))?;
+    let cfg = config(key(1), RangeCfg::any(), ends.provider);
     let clients = NonZeroU32::new(CLIENTS).unwrap();
     let session = Broadcasting { rt: rt.clone()? };
-    let finished = run_session(rt, cfg, network, clients, session)?;
+    let finished = run_session(rt, cfg, (ends.sender, ends.receiver), clients, session)?;
     Ok(what_is_left(&finished)?)
 }
 
@@ -111,4 +110,15 @@ fn sum(settled: Settled) -> u64 {
         .saturating_add(settled.refused)
         .saturating_add(settled.skipped)
         .saturating_add(settled.given_up)
+}
+
+/// Prints what the session left.
+pub fn show<R, W>(rt: &R, out: &mut W) -> Result<(), Error>
+where
+    R: Threads + Wait + RandomSource + AllocGlobal + Clone + Send + Sync + Drop + 'static,
+    W: Write,
+{
+    let left = broadcast_and_settle(rt)?;
+    writeln!(out, "session: {left:?}")?;
+    Ok(())
 }

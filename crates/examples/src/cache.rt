@@ -1,14 +1,16 @@
 //! A cache driven by hand.
+use super::two_nodes::message;
+use anyhow::Error;
 use broadcast_core::{Core, Digested, Set, Taken, TestMessage};
 use std::alloc::{AllocError, Global};
+use std::io::Write;
 
 /// Takes a message from peer 5, for which the caller with ticket 7 waits.
-pub fn take_one(alloc: Global, content: Vec<u8>) -> Result<Taken<u64>, AllocError> {
-    let message = Digested::compute(alloc, TestMessage::shared(alloc, content)?)?;
+fn take_one(alloc: Global, message: &Digested<TestMessage>) -> Result<Taken<u64>, AllocError> {
     let primary = Set::from_iter_dedup(vec![in alloc; 1, 5]?)?;
     let mut core = Core::new(alloc, 1, 10, u64::MAX);
     core.update_primary_peers(primary);
-    take_awaited(&mut core, &message)
+    take_awaited(&mut core, message)
 }
 
 fn take_awaited(
@@ -18,4 +20,11 @@ fn take_awaited(
     core.subscribe(message.digest(), 7)
         .map_err(|(_, error)| error)?;
     core.take(&5, message)
+}
+
+/// Prints what became of the message.
+pub fn show<W: Write>(alloc: Global, out: &mut W) -> Result<(), Error> {
+    let taken = take_one(alloc, &message(alloc, b"hello")?)?;
+    writeln!(out, "cache: {taken:?}")?;
+    Ok(())
 }

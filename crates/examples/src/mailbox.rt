@@ -1,16 +1,18 @@
 //! A mailbox: callers ask on one end, and whoever takes the requests replies on the other.
+use super::two_nodes::message;
 use anyhow::Error;
 use broadcast_mailbox::buffered::{Incoming, Ingress, Mailbox, Message, Reply, Responder, channel};
 use broadcast_mailbox::{Broadcaster, Digested, Feedback, Recipients, TestMessage};
 use futures::executor::block_on;
 use std::alloc::{AllocError, AllocGlobal};
+use std::io::Write;
 use std::num::NonZeroUsize;
 use std::random::RandomSource;
 use std::sync::Wait;
 
 /// Broadcasts a message, and asks for it by a get and by a subscription. Returns what the
 /// broadcaster was told, and whether each of the two received a message.
-pub fn ask<R>(rt: &R, message: &Digested<TestMessage>) -> Result<(Feedback, bool, bool), Error>
+fn ask<R>(rt: &R, message: &Digested<TestMessage>) -> Result<(Feedback, bool, bool), Error>
 where
     R: Wait + RandomSource + AllocGlobal + Clone + Send + Drop + 'static,
 {
@@ -72,4 +74,16 @@ fn reply(request: Incoming<u64, TestMessage>, message: Digested<TestMessage>) {
             let _delivered = responder.send(Some(Reply::new(message)));
         }
     }
+}
+
+/// Prints what the broadcaster was told, and whether the get and the subscription received a
+/// message.
+pub fn show<R, W>(rt: &R, out: &mut W) -> Result<(), Error>
+where
+    R: Wait + RandomSource + AllocGlobal + Clone + Send + Drop + 'static,
+    W: Write,
+{
+    let asked = ask(rt, &message(rt.alloc(), b"hello")?)?;
+    writeln!(out, "mailbox: {asked:?}")?;
+    Ok(())
 }

@@ -1,12 +1,12 @@
 -- What a caller reads that has written a note.
-use Rattle.std.proofs.Common.{◌≡◌, ℕ, ◌-◌, ◌==◌, List, [], ◌++◌, length, Some, Result, Ok, Err, IfOk, refl, sym, ap, ◌∙◌, subst, ⊎_elim}
+use Rattle.std.proofs.Common.{◌≡◌, ℕ, ◌-◌, ◌==◌, List, [], length, Some, Result, Ok, Err, IfOk, refl, sym, ◌∙◌, subst, ⊎_elim}
 use Rattle.std.proofs.lemmas.List.{append-nil}
 use Rattle.broadcast_core.specs.declared.codec.CodecError.{CodecError}
 use Rattle.broadcast_core.specs.declared.codec.CodecError.TheVariants.{ExtraData}
 use Rattle.broadcast_core.specs.declared.codec.RangeCfg.{RangeCfg}
 use Rattle.broadcast_core.specs.Codec.{all_taken, whole, GivesOrLacks}
 use Rattle.broadcast_core.specs.CodecLaws.{chosen_ok, ok_is}
-use Rattle.uses.specs.Note.{encoding_of, read_note, note_reads_back}
+use Rattle.examples.specs.Note.{encoding_of, read_note, note_reads_back}
 
 -- what reads whole from the encoding of a text is the text
 whole_reads_back : (range : RangeCfg) (text bytes note : List ℕ) (read : Result (List ℕ × ℕ) CodecError)
