@@ -3,7 +3,7 @@
 EVENTS ?= examples/two-peers.events
 REPLAY := crates/replay/out/replay
 
-.PHONY: example test lib border runs generated alloc-failures io-failures wrong-bodies pictures bench
+.PHONY: example test lib border runs generated alloc-failures io-failures wrong-bodies more-edits pictures bench
 
 # `rt run` proves and builds the program, and prints how; the example is then run by itself.
 example:
@@ -42,6 +42,10 @@ io-failures:
 wrong-bodies:
 	@echo "wrong-bodies: building wrong bodies that the prover accepts, and running what must refuse each"
 	@scripts/wrong_bodies
+
+more-edits:
+	@echo "more-edits: trying must-fail edits that are no part of the gate"
+	@scripts/more_edits
 
 pictures:
 	@scripts/pictures
