@@ -15,7 +15,10 @@ const POLLS: usize = 8;
 
 /// Relays the message from one network to another. Returns what the mailbox there answered, and the
 /// turns of its engine.
-pub fn relay_one<R>(rt: &R, message: &Digested<TestMessage>) -> Result<(Relayed, Vec<Turn>), Error>
+pub fn relay_one<R>(
+    rt: &R,
+    message: &Digested<TestMessage>,
+) -> Result<(Relayed, Vec<Turn<u64>>), Error>
 where
     R: Wait + RandomSource + AllocGlobal + Clone + Send + Drop + 'static,
 {
@@ -53,7 +56,7 @@ fn hand_over<T, R>(
     rt: &R,
     strategy: T,
     messages: Vec<Digested<TestMessage>>,
-) -> Result<(Relayed, Vec<Turn>), AllocError>
+) -> Result<(Relayed, Vec<Turn<u64>>), AllocError>
 where
     T: Strategy<TestMessage> + Drop,
     R: Wait + RandomSource + AllocGlobal + Clone + Send + Drop + 'static,
