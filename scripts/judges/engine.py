@@ -4,6 +4,7 @@ A refused turn changes nothing, but for the counter of a peer, which may keep it
 drive polls nothing.
 """
 
+import re
 from dataclasses import dataclass
 
 from models import replay as model
@@ -13,7 +14,8 @@ from judges.lines import elements, shown
 
 UPDATES = ("peers", "end")
 RECEIVED = ("payload", "fail")
-REFUSED = "Refused(Memory)"
+# A turn: its name, and in parentheses what it has, which may have parentheses of its own.
+TURN = r"\w+(?:\((?:[^()]|\([^()]*\))*\))?"
 # What the future of a subscribe and of a get gives if its request is dropped.
 GIVEN_UP = {"subscribe": "Err(Canceled)", "get": "None"}
 FOUND = {"subscribe": "Ok", "get": "Some"}
@@ -50,6 +52,11 @@ class Request(Asked):
         """What is sent of a broadcast."""
         data = elements(map(str, self.message.encoding))
         return f"Sent {{ recipients: {recipients(self.to)}, bytes: {data}, priority: false }}"
+
+
+def refused(peer=None):
+    """The turn of a payload of the peer, or of a request, that is refused."""
+    return f"Refused({'None' if peer is None else f'Some({peer})'}, Memory)"
 
 
 def debugged(error):
@@ -115,7 +122,7 @@ class Engine:
         # A get that finds nothing allocates nothing.
         if is_refused and (request.kind != "get" or found):
             request.give_up()
-            return REFUSED
+            return refused()
         if request.kind == "broadcast":
             self.sent.append(request.sent())
             return f"Broadcast({self.take(1, request.digest, request.message)})"
@@ -132,14 +139,14 @@ class Engine:
         message = model.decode(data, self.greatest)
         if isinstance(message, str):
             self.receive[2] += 1
-            return f"Invalid({debugged(message)})"
+            return f"Invalid({key}, {debugged(message)})"
         if is_refused:
             self.left[key] += 1
-            return REFUSED
+            return refused(key)
         self.peers[key] += 1
         outcome = self.take(key, model.digest_of(message.content), message)
         self.receive[0 if outcome == "Inserted" else 1] += 1
-        return f"Payload({outcome})"
+        return f"Payload({key}, {outcome})"
 
     def take(self, key, digest, message):
         outcome, served = self.core.take(key, digest, message)
@@ -194,7 +201,12 @@ def ask(lines, engine, request):
 
 def turns_of(line):
     """The turns that a line of a drive tells."""
-    return line.removeprefix("drive Ok([").removesuffix("])").split(", ")
+    listed = line.removeprefix("drive Ok([").removesuffix("])")
+    return re.findall(TURN, listed)
+
+
+def is_refused(turn):
+    return turn.startswith("Refused(")
 
 
 def drive(lines, engine, limit):
@@ -203,12 +215,12 @@ def drive(lines, engine, limit):
     told = turns_of(lines.peek())
     turns = []
     for _ in range(limit):
-        turn = engine.poll(told[len(turns) : len(turns) + 1] == [REFUSED])
+        turn = engine.poll(any(map(is_refused, told[len(turns) : len(turns) + 1])))
         turns += [turn] if turn else []
         if engine.ended:
             break
     lines.expect(f"drive Ok([{', '.join(turns)}])")
-    lines.refusals += turns.count(REFUSED)
+    lines.refusals += sum(map(is_refused, turns))
 
 
 def judge(lines, given):

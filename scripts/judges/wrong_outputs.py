@@ -235,15 +235,15 @@ OF_CALLS = {
         ),
         (
             "a refused payload serves its waiter",
-            "drive Ok([Payload(Inserted)])\nwaiters 0\ncounted (Success, (1, 1, 0))\n",
-            "drive Ok([Refused(Memory)])\nwaiters 0\ncounted (Success, (0, 1, 0))\n",
+            "drive Ok([Payload(2, Inserted)])\nwaiters 0\ncounted (Success, (1, 1, 0))\n",
+            "drive Ok([Refused(Some(2), Memory)])\nwaiters 0\ncounted (Success, (0, 1, 0))\n",
         ),
         (
             "a refused payload counts twice on its peer",
-            "drive Ok([Payload(Inserted)])\nwaiters 0\ncounted (Success, (1, 1, 0))\n"
+            "drive Ok([Payload(2, Inserted)])\nwaiters 0\ncounted (Success, (1, 1, 0))\n"
             "counted (Failure, (0, 0, 1))\ncounted (Invalid, (0, 0, 0))\n"
             "counted (Dropped, (0, 0, 0))\npeer (2, 1)\n",
-            "drive Ok([Refused(Memory)])\nwaiters 1\ncounted (Success, (0, 0, 0))\n"
+            "drive Ok([Refused(Some(2), Memory)])\nwaiters 1\ncounted (Success, (0, 0, 0))\n"
             "counted (Failure, (0, 0, 1))\ncounted (Invalid, (0, 0, 0))\n"
             "counted (Dropped, (0, 0, 0))\npeer (2, 2)\n",
         ),
@@ -445,6 +445,12 @@ def blocks_of(part, lines):
             first = at
 
 
+def refusal_of(turn):
+    """The turn if its input is refused."""
+    kind, first = turn.split("(")[0], turn.split("(")[1].split(",")[0]
+    return judge_engine.refused(first if kind == "Payload" else None)
+
+
 def effects_of_drives(lines):
     """Outputs in which a turn of an engine is refused and has its effect."""
     for at, line in enumerate(lines):
@@ -453,7 +459,7 @@ def effects_of_drives(lines):
         turns = judge_engine.turns_of(line)
         for place, turn in enumerate(turns):
             if turn.startswith(("Broadcast(", "Payload(")):
-                changed = [*turns[:place], judge_engine.REFUSED, *turns[place + 1 :]]
+                changed = [*turns[:place], refusal_of(turn), *turns[place + 1 :]]
                 told = f"drive Ok([{', '.join(changed)}])"
                 yield at, len(lines), [*lines[:at], told, *lines[at + 1 :]]
 

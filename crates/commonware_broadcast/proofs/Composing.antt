@@ -5,8 +5,6 @@ use Rattle.std.specs.List.{count_by}
 use Rattle.broadcast_core.specs.Happening.{History, cleanup}
 use Rattle.broadcast_core.specs.Waiting.{awaited}
 use Rattle.broadcast_core.specs.HasContent.{HasContent}
-use Rattle.broadcast_core.specs.Sent.{sent, sent_at}
-use Rattle.broadcast_core.specs.declared.event.Sent.{Sent}
 use Rattle.commonware_broadcast.specs.declared.buffered.engine.node.Node.{Node}
 use Rattle.engine_io.specs.Counters.{raised, is_counted_as, number_at}
 use Rattle.engine_io.specs.Replies.{Asker, Replies}
@@ -17,7 +15,7 @@ use Rattle.commonware_broadcast.specs.Ran.{Ran}
 use Rattle.commonware_broadcast.proofs.Counting.{raised-none, raised-more, count-append}
 
 module _ {P M D S G : Type 0} where
-  happenings-append : (later earlier : List (Step P M D S G)) → happenings (later ++ earlier) ≡ happenings later ++ happenings earlier
+  pub happenings-append : (later earlier : List (Step P M D S G)) → happenings (later ++ earlier) ≡ happenings later ++ happenings earlier
   happenings-append [] earlier = refl
   happenings-append (step ∷ later) earlier = ap (λ hs. happenings_at step ++ hs) (happenings-append later earlier) ∙ sym (append_assoc (happenings_at step) (happenings later) (happenings earlier))
 
@@ -28,11 +26,6 @@ module _ {P M D S G : Type 0} where
   -- the history before the later steps
   pub history-append : (later earlier : List (Step P M D S G)) (past : History P M D (Asker S) (Asker G)) → happenings (later ++ earlier) ++ past ≡ happenings later ++ (happenings earlier ++ past)
   history-append later earlier past = ap (λ hs. hs ++ past) (happenings-append later earlier) ∙ append_assoc (happenings later) (happenings earlier) past
-
-module _ {P M D W V : Type 0} (s : Setting P M D) where
-  sent-append : (newer older : History P M D W V) → sent s (newer ++ older) ≡ sent s older ++ sent s newer
-  sent-append [] older = sym (append-nil (sent s older))
-  sent-append (e ∷ newer) older = ap (λ xs. xs ++ sent_at s e) (sent-append newer older) ∙ append_assoc (sent s older) (sent s newer) (sent_at s e)
 
 module _ {P M D S G : Type 0} (s : Setting P M D) where
   pub AreSteps-append : (may_answer : Asker S → Bool → Type 0) (later earlier : List (Step P M D S G)) (past : History P M D (Asker S) (Asker G))
@@ -59,25 +52,24 @@ module _ {P M D S G : Type 0} (s : Setting P M D) where
   gauge-append (uncounted p c ∷ later) earlier past n = gauge-append later earlier past n
   gauge-append (ended cause ∷ later) earlier past n = gauge-append later earlier past n
 
-module _ {P M D S G O N : Type 0} (s : Setting P M D) (may_answer : Asker S → Bool → Type 0)
-    (outlet_told : O → Replies S G M D → Type 0) (sender_told : N → List (Sent P) → Type 0) where
-  pub Ran-none : (past : History P M D (Asker S) (Asker G)) (node : Node P M S O D) (sender : N) → HasContent s past node.core
-      → Ran s may_answer outlet_told sender_told past [] node node sender sender
-  Ran-none past node sender has = record {
+module _ {P M D S G O : Type 0} (s : Setting P M D) (may_answer : Asker S → Bool → Type 0)
+    (outlet_told : O → Replies S G M D → Type 0) where
+  pub Ran-none : (past : History P M D (Asker S) (Asker G)) (node : Node P M S O D) → HasContent s past node.core
+      → Ran s may_answer outlet_told past [] node node
+  Ran-none past node has = record {
     lawful = tt;
     content = has;
     counters = λ c. sym (raised-none (number_at s.same.key c node.metrics));
     waiters = refl;
     replied = λ before h. subst (outlet_told node.outlet) (sym (append-nil before)) h;
-    sends = λ before h. subst (sender_told sender) (sym (append-nil before)) h;
   }
 
   -- steps, and then more
-  pub Ran-more : (past : History P M D (Asker S) (Asker G)) (earlier later : List (Step P M D S G)) (old mid new : Node P M S O D) (first between last : N)
-      → Ran s may_answer outlet_told sender_told past earlier old mid first between
-      → Ran s may_answer outlet_told sender_told (happenings earlier ++ past) later mid new between last
-      → Ran s may_answer outlet_told sender_told past (later ++ earlier) old new first last
-  Ran-more past earlier later old mid new first between last begun more = record {
+  pub Ran-more : (past : History P M D (Asker S) (Asker G)) (earlier later : List (Step P M D S G)) (old mid new : Node P M S O D)
+      → Ran s may_answer outlet_told past earlier old mid
+      → Ran s may_answer outlet_told (happenings earlier ++ past) later mid new
+      → Ran s may_answer outlet_told past (later ++ earlier) old new
+  Ran-more past earlier later old mid new begun more = record {
     lawful = AreSteps-append s may_answer later earlier past more.lawful begun.lawful;
     content = subst (λ hs. HasContent s hs new.core) (sym (history-append later earlier past)) more.content;
     counters = λ c.
@@ -88,7 +80,4 @@ module _ {P M D S G O N : Type 0} (s : Setting P M D) (may_answer : Asker S → 
     waiters = more.waiters ∙ ap (gauge s later (happenings earlier ++ past)) begun.waiters ∙ sym (gauge-append s later earlier past old.metrics.totals.waiters);
     replied = λ before h. subst (outlet_told new.outlet) (append_assoc before (handed_out earlier) (handed_out later) ∙ ap (λ rs. before ++ rs) (sym (handed_out-append later earlier)))
         (more.replied (before ++ handed_out earlier) (begun.replied before h));
-    sends = λ before h. subst (sender_told last) (append_assoc before (sent s (happenings earlier)) (sent s (happenings later))
-        ∙ ap (λ xs. before ++ xs) (sym (sent-append s (happenings later) (happenings earlier)) ∙ ap (sent s) (sym (happenings-append later earlier))))
-        (more.sends (before ++ sent s (happenings earlier)) (begun.sends before h));
   }

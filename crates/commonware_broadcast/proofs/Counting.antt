@@ -176,13 +176,13 @@ module _ {P M D S G : Type 0} (s : Setting P M D) (past : History P M D (Asker S
   input-counted (Peers ps) c m = sym (raised-none (number_at s.same.key c m))
   input-counted (Request request) c m = sym (raised-none (number_at s.same.key c m))
   input-counted (Arrived p x) c m = outcome-counted s.same.key (outcome s p x past) c m
-  input-counted (Invalid error) c m = number_at-one s.same.key c (receive status.Invalid) m tt
+  input-counted (Invalid p error) c m = number_at-one s.same.key c (receive status.Invalid) m tt
 
   input-waits : (input : Input P M S G D) (t : Totals) → (count_input s input past t).waiters ≡ t.waiters
   input-waits (Peers ps) t = refl
   input-waits (Request request) t = refl
   input-waits (Arrived p x) t = outcome-waits (outcome s p x past) t
-  input-waits (Invalid error) t = refl
+  input-waits (Invalid p error) t = refl
 
   pub step-counted : (step : Step P M D S G) (c : Counted P) (m : Counters P) → IsNotDecoded step
       → number_at s.same.key c (record m { totals = count s step past m.totals }) ≡ raised (number_at s.same.key c m) (count_by (is_counted_as s.same.key c) (counted_at s step past))

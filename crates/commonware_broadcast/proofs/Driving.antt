@@ -1,5 +1,5 @@
 -- Polls after polls.
-use Rattle.std.proofs.Common.{◌≡◌, ℕ, Bool, List, [], ◌∷◌, ◌++◌, Option, Some, None, Result, refl, sym, ap, ◌∙◌, subst, append_assoc}
+use Rattle.std.proofs.Common.{◌≡◌, ℕ, Bool, true, false, is_some, List, [], ◌∷◌, ◌++◌, Option, Some, None, Result, refl, sym, ap, ◌∙◌, subst, append_assoc}
 use Rattle.futures.specs.declared.task.Poll.{Poll}
 use Rattle.broadcast_core.specs.Setting.{Setting}
 use Rattle.broadcast_core.specs.Content.{Same}
@@ -21,6 +21,7 @@ use Rattle.commonware_broadcast.specs.Taken.{pending_input, payload_inputs, send
 use Rattle.commonware_broadcast.specs.EngineState.{EngineState, Went, Turned}
 use Rattle.engine_io.specs.Sources.{given}
 use Rattle.commonware_broadcast.proofs.Composing.{AreSteps-append, Ran-more}
+use Rattle.commonware_broadcast.proofs.Sending.{requests-append, Sends-more}
 use Rattle.commonware_broadcast.proofs.Due.{map-after, all-due}
 use Rattle.commonware_broadcast.proofs.Telling.{inputs-append, read_from-append, turns-append, end_of-append}
 
@@ -29,15 +30,23 @@ pub none_unless : {A : Type 0} (o : Option A) → ((a : A) → o ≡ Some a → 
 none_unless None h = refl
 none_unless (Some a) h = absurd (h a refl)
 
+pub none_is : {A : Type 0} (o : Option A) → is_some o ≡ false → o ≡ None
+none_is None h = refl
+none_is (Some a) h = absurd (let no : true ≡ false = h in cc)
+
+pub some_is : {A : Type 0} (o : Option A) → is_some o ≡ true → (a : A) × (o ≡ Some a)
+some_is None h = absurd (let no : false ≡ true = h in cc)
+some_is (Some a) h = (a, refl)
+
 -- a turn that is no end tells none
-pub no_end : (t : Turn) → ((cause : EndCause) → t ≡ turn.Ended cause → ⊥) → end_told t ≡ None
+pub no_end : {P : Type 0} (t : Turn P) → ((cause : EndCause) → t ≡ turn.Ended cause → ⊥) → end_told t ≡ None
 no_end turn.Peers h = refl
 no_end (turn.Broadcast out) h = refl
 no_end turn.Subscribe h = refl
 no_end turn.Get h = refl
-no_end (turn.Payload out) h = refl
-no_end (turn.Invalid error) h = refl
-no_end (turn.Refused cause) h = refl
+no_end (turn.Payload p out) h = refl
+no_end (turn.Invalid p error) h = refl
+no_end (turn.Refused peer cause) h = refl
 no_end (turn.Ended cause) h = absurd (h cause refl)
 
 module _ {P M D S G : Type 0} where
@@ -46,21 +55,14 @@ module _ {P M D S G : Type 0} where
   sets-append (Peers ps ∷ is) js = ap (λ l. ps ∷ l) (sets-append is js)
   sets-append (Request r ∷ is) js = sets-append is js
   sets-append (Arrived p c ∷ is) js = sets-append is js
-  sets-append (Invalid e ∷ is) js = sets-append is js
-
-  requests-append : (is js : List (Input P M S G D)) → requests_in (is ++ js) ≡ requests_in is ++ requests_in js
-  requests-append [] js = refl
-  requests-append (Peers ps ∷ is) js = requests-append is js
-  requests-append (Request r ∷ is) js = ap (λ l. r ∷ l) (requests-append is js)
-  requests-append (Arrived p c ∷ is) js = requests-append is js
-  requests-append (Invalid e ∷ is) js = requests-append is js
+  sets-append (Invalid p e ∷ is) js = sets-append is js
 
   payloads-append : (is js : List (Input P M S G D)) → payloads_in (is ++ js) ≡ payloads_in is ++ payloads_in js
   payloads-append [] js = refl
   payloads-append (Peers ps ∷ is) js = payloads-append is js
   payloads-append (Request r ∷ is) js = payloads-append is js
   payloads-append (Arrived p c ∷ is) js = ap (λ l. Arrived p c ∷ l) (payloads-append is js)
-  payloads-append (Invalid e ∷ is) js = ap (λ l. Invalid e ∷ l) (payloads-append is js)
+  payloads-append (Invalid p e ∷ is) js = ap (λ l. Invalid p e ∷ l) (payloads-append is js)
 
 senders-append : {P M D : Type 0} (s : Setting P M D) (xs ys : List (P × List ℕ)) → senders_of s (xs ++ ys) ≡ senders_of s xs ++ senders_of s ys
 senders-append s [] ys = refl
@@ -77,13 +79,13 @@ module _ {P M D S G O N J R B Q C T : Type 0} (s : Setting P M D) (may_answer : 
     (provider_told : B → List (List P) → Type 0) (requests_told : Q → List (Asked (Message P M S G D)) → Type 0)
     (past : History P M D (Asker S) (Asker G)) (before : Option (P × M)) where
   -- one poll, whose turns are these
-  pub Turned-listed : (old new : EngineState P M S O D J B Q C T) (first last : N × R) (result : Poll Turn) (listed : List Turn) → given result ≡ listed
+  pub Turned-listed : (old new : EngineState P M S O D J B Q C T) (first last : N × R) (result : Poll (Turn P)) (listed : List (Turn P)) → given result ≡ listed
       → Turned s may_answer outlet_told sender_told is_of receiver_told provider_told requests_told past before old new first last result
       → Went s may_answer outlet_told sender_told is_of receiver_told provider_told requests_told past before old new first last listed
   Turned-listed old new first last result listed is one = subst (Went s may_answer outlet_told sender_told is_of receiver_told provider_told requests_told past before old new first last) is one.went
 
   -- polls, and then more
-  pub Went-more : (old mid new : EngineState P M S O D J B Q C T) (first between last : N × R) (listed more_listed : List Turn) → (old.end ≡ None → mid.end ≡ None)
+  pub Went-more : (old mid new : EngineState P M S O D J B Q C T) (first between last : N × R) (listed more_listed : List (Turn P)) → (old.end ≡ None → mid.end ≡ None)
       → (one : Went s may_answer outlet_told sender_told is_of receiver_told provider_told requests_told past before old mid first between listed)
       → Went s may_answer outlet_told sender_told is_of receiver_told provider_told requests_told (happenings one.steps ++ past) one.pending mid new between last more_listed
       → Went s may_answer outlet_told sender_told is_of receiver_told provider_told requests_told past before old new first last (listed ++ more_listed)
@@ -91,7 +93,8 @@ module _ {P M D S G O N J R B Q C T : Type 0} (s : Setting P M D) (may_answer : 
       let all : inputs (more.steps ++ one.steps) ≡ inputs one.steps ++ inputs more.steps = inputs-append more.steps one.steps in
       record {
         steps = more.steps ++ one.steps;
-        ran = Ran-more s may_answer outlet_told sender_told past one.steps more.steps old.node mid.node new.node first.0 between.0 last.0 one.ran more.ran;
+        ran = Ran-more s may_answer outlet_told past one.steps more.steps old.node mid.node new.node one.ran more.ran;
+        sends = Sends-more s sender_told one.steps more.steps first.0 between.0 last.0 one.sends more.sends;
         due = all-due s past may_answer (more.steps ++ one.steps) (AreSteps-append s may_answer more.steps one.steps past more.ran.lawful one.ran.lawful);
         turned = λ at. turns-append s more.steps one.steps past ∙ ap (λ ts. ts ++ turns s more.steps (happenings one.steps ++ past)) (one.turned at) ∙ ap (λ ts. listed ++ ts) (more.turned (unended at));
         ends = λ at. more.ends (unended at) ∙ sym (end_of-append more.steps one.steps (sym (one.ends at) ∙ unended at));
@@ -115,12 +118,12 @@ module _ {P M D S G O N J R B Q C T : Type 0} (same : Same P D) (encoding : M �
     (is_of : J → M → Type 0) (receiver_told : R → List (P × List ℕ) → Type 0)
     (provider_told : B → List (List P) → Type 0) (requests_told : Q → List (Asked (Message P M S G D)) → Type 0) where
   -- what polls do after every history
-  abbrev pub AlwaysWent : (old new : EngineState P M S O D J B Q C T) (first last : N × R) (listed : List Turn) → Type 0
+  abbrev pub AlwaysWent : (old new : EngineState P M S O D J B Q C T) (first last : N × R) (listed : List (Turn P)) → Type 0
   AlwaysWent old new first last listed = (s : Setting P M D) → s.same ≡ same → s.encoding ≡ encoding → s.priority ≡ old.priority → s.digest_of ≡ digest_of → s.reading ≡ reading old.codec_config
       → (past : History P M D (Asker S) (Asker G)) → HasContent s past old.node.core → (before : Option (P × M)) → Holds is_of old.end old.job before
       → Went s may_answer outlet_told sender_told is_of receiver_told provider_told requests_told past before old new first last listed
 
-  pub AlwaysWent-more : (old mid new : EngineState P M S O D J B Q C T) (first between last : N × R) (listed more_listed : List Turn) → (old.end ≡ None → mid.end ≡ None) → AlwaysWent old mid first between listed
+  pub AlwaysWent-more : (old mid new : EngineState P M S O D J B Q C T) (first between last : N × R) (listed more_listed : List (Turn P)) → (old.end ≡ None → mid.end ≡ None) → AlwaysWent old mid first between listed
       → mid.priority ≡ old.priority → mid.codec_config ≡ old.codec_config → AlwaysWent mid new between last more_listed → AlwaysWent old new first last (listed ++ more_listed)
   AlwaysWent-more old mid new first between last listed more_listed unended begun priority config more = λ s e enc pri own read past has before held.
       let one = begun s e enc pri own read past has before held in

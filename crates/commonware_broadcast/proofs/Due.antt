@@ -19,7 +19,7 @@ module _ {P M D S G : Type 0} (s : Setting P M D) (past : History P M D (Asker S
   input-due (Peers ps) replies older due = ap (λ rs. handed s older past ++ rs) due
   input-due (Request request) replies older due = ap (λ rs. handed s older past ++ rs) due
   input-due (Arrived p c) replies older due = ap (λ rs. handed s older past ++ rs) due
-  input-due (Invalid error) replies older due = ap (λ rs. handed s older past ++ map reply_of rs) due ∙ append-nil (handed s older past)
+  input-due (Invalid p error) replies older due = ap (λ rs. handed s older past ++ map reply_of rs) due ∙ append-nil (handed s older past)
 
   pub all-due : (may_answer : Asker S → Bool → Type 0) (steps : List (Step P M D S G)) → AreSteps s may_answer steps past → map reply_of (handed_out steps) ≡ handed s (happenings steps) past
   all-due may_answer [] h = refl

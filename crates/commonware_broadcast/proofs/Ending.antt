@@ -29,39 +29,39 @@ EndsBy-weaker a o f a' o' f' on_a on_e on_f (Ready (Ok value)) h = tt
 EndsBy-weaker a o f a' o' f' on_a on_e on_f Pending h = tt
 
 -- an engine that goes on needs no cause
-pub EndsBy-going-on : (asked ended failed : Type 0) (turn : Poll Turn) → EndsBy (goes_on turn) asked ended failed
+pub EndsBy-going-on : {P : Type 0} (asked ended failed : Type 0) (turn : Poll (Turn P)) → EndsBy (goes_on turn) asked ended failed
 EndsBy-going-on a o f (Ready turn) = tt
 EndsBy-going-on a o f Pending = tt
 
 -- what holds of a pending poll holds of it for an engine that goes on
-pub OnPending-going-on : (holds more : Type 0) → (holds → more) → (turn : Poll Turn) → OnPending turn holds → OnPending (goes_on turn) more
+pub OnPending-going-on : {P : Type 0} (holds more : Type 0) → (holds → more) → (turn : Poll (Turn P)) → OnPending turn holds → OnPending (goes_on turn) more
 OnPending-going-on holds more then (Ready turn) h = tt
 OnPending-going-on holds more then Pending h = then h
 
 -- a turn that tells no end is that of none
-pub not_ended : (turn : Turn) (cause : EndCause) → end_told turn ≡ None → Ready turn ≡ Ready (Ended cause) → ⊥
+pub not_ended : {P : Type 0} (turn : Turn P) (cause : EndCause) → end_told turn ≡ None → Ready turn ≡ Ready (Ended cause) → ⊥
 not_ended turn cause none is = let no : Some cause ≡ None = subst (λ r. IfReady r (λ t. end_told t ≡ None)) is none in cc
 
 -- a turn that tells an end is that of an end
-as_end : (result : Poll (Result Turn EndCause)) (cause : EndCause) → IfReady result (λ r. IfOk r (λ turn. end_told turn ≡ None))
+as_end : {P : Type 0} (result : Poll (Result (Turn P) EndCause)) (cause : EndCause) → IfReady result (λ r. IfOk r (λ turn. end_told turn ≡ None))
     → as_turn result ≡ Ready (Ended cause) → result ≡ Ready (Err cause)
 as_end (Ready (Ok turn)) cause none is = absurd (not_ended turn cause none is)
 as_end (Ready (Err why)) cause none is = let e : Ready (Ended why) ≡ Ready (Ended cause) = is in cc
 as_end Pending cause none is = absurd (let no : Pending ≡ Ready (Ended cause) = is in cc)
 
-pending_as_turn : (holds : Type 0) (result : Poll (Result Turn EndCause)) → OnPending result holds → OnPending (as_turn result) holds
+pending_as_turn : {P : Type 0} (holds : Type 0) (result : Poll (Result (Turn P) EndCause)) → OnPending result holds → OnPending (as_turn result) holds
 pending_as_turn holds (Ready (Ok turn)) h = tt
 pending_as_turn holds (Ready (Err cause)) h = tt
 pending_as_turn holds Pending h = h
 
-ready_as_turn : (holds : Type 0) (result : Poll (Result Turn EndCause)) → IfReady result (λ r. holds) → IfReady (as_turn result) (λ turn. holds)
+ready_as_turn : {P : Type 0} (holds : Type 0) (result : Poll (Result (Turn P) EndCause)) → IfReady result (λ r. holds) → IfReady (as_turn result) (λ turn. holds)
 ready_as_turn holds (Ready (Ok turn)) h = h
 ready_as_turn holds (Ready (Err cause)) h = h
 ready_as_turn holds Pending h = tt
 
 module _ {P M S G O D J N R B Q C T : Type 0} (provider : Provider B P) (receiver : Receiver R P) (requests : Requests Q (Message P M S G D)) where
   -- what a poll does with its sources, told as a turn
-  pub Attends-told : (old new : EngineState P M S O D J B Q C T) (first last : N × R) (result : Poll (Result Turn EndCause)) (told : Poll Turn)
+  pub Attends-told : (old new : EngineState P M S O D J B Q C T) (first last : N × R) (result : Poll (Result (Turn P) EndCause)) (told : Poll (Turn P))
       → as_turn result ≡ told
       → (requests.stops old.requests → result ≡ Ready (Err Stopped))
       → EndsBy result (requests.may_stop old.requests) (provider.may_end old.provider) (receiver.may_fail first.1)

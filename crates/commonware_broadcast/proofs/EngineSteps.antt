@@ -97,9 +97,9 @@ module _ {P M D S G O : Type 0} {s : Setting P M D} {same : Same P D} (is : s.sa
     },
   )
 
-  pub Steps-invalid : (error : CodecError) (counters : Counters P) → counters ≡ record old.metrics { totals = record old.metrics.totals { receive = added status.Invalid 1 old.metrics.totals.receive } }
-      → Steps s may_answer told past (applied (Invalid error) []) old (record old { metrics = counters })
-  Steps-invalid error counters counted = record { lawful = (refl, tt); content = has; counted = counted; replied = silent }
+  pub Steps-invalid : (p : P) (error : CodecError) (counters : Counters P) → counters ≡ record old.metrics { totals = record old.metrics.totals { receive = added status.Invalid 1 old.metrics.totals.receive } }
+      → Steps s may_answer told past (applied (Invalid p error) []) old (record old { metrics = counters })
+  Steps-invalid p error counters counted = record { lawful = (refl, tt); content = has; counted = counted; replied = silent }
 
   pub Steps-swept : (core : Content P M D (Asker S)) (dropped number : ℕ) (counters last : Counters P) → HasCleaned s may_answer past core dropped
       → number ≡ length core.waiters → IsDistinct same.digest (keys_of core.waiters) → NoneEmpty same.digest core.waiters

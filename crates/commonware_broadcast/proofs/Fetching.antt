@@ -7,7 +7,6 @@ use Rattle.broadcast_core.specs.Setting.{Setting, own_digested}
 use Rattle.broadcast_core.specs.Happening.{History}
 use Rattle.broadcast_core.specs.HasContent.{HasContent}
 use Rattle.broadcast_core.specs.declared.codec.CodecError.{CodecError}
-use Rattle.broadcast_core.specs.declared.event.Sent.{Sent}
 use Rattle.engine_io.specs.declared.input.EndCause.{EndCause}
 use Rattle.engine_io.specs.declared.input.Input.TheVariants as input
 use Rattle.engine_io.specs.declared.input.Turn.{Turn}
@@ -26,16 +25,16 @@ module _ {P M D : Type 0} (s : Setting P M D) where
   IsRemote-one p (Ok m) = record { no_sets = refl; no_requests = refl; all = refl }
   IsRemote-one p (Err e) = record { no_sets = refl; no_requests = refl; all = refl }
 
-module _ {P M D S G O N J R : Type 0} (s : Setting P M D) (may_answer : Asker S → Bool → Type 0)
-    (outlet_told : O → Replies S G M D → Type 0) (sender_told : N → List (Sent P) → Type 0)
-    (is_of : J → M → Type 0) (receiver_told : R → List (P × List ℕ) → Type 0) (past : History P M D (Asker S) (Asker G)) where
+module _ {P M D S G O J R : Type 0} (s : Setting P M D) (may_answer : Asker S → Bool → Type 0)
+    (outlet_told : O → Replies S G M D → Type 0) (is_of : J → M → Type 0)
+    (receiver_told : R → List (P × List ℕ) → Type 0) (past : History P M D (Asker S) (Asker G)) where
   -- the network gave nothing
-  pub Fetched-none : (result : Poll (Result Turn EndCause)) (node : Node P M S O D) (sender : N) (receiver receiver' : R) (slot : Option (P × J)) → HasContent s past node.core
+  pub Fetched-none : (result : Poll (Result (Turn P) EndCause)) (node : Node P M S O D) (receiver receiver' : R) (slot : Option (P × J)) → HasContent s past node.core
       → given_ok result ≡ [] → slot ≡ None → ((before : List (P × List ℕ)) → receiver_told receiver before → receiver_told receiver' (before ++ []))
-      → Fetched s may_answer outlet_told sender_told is_of receiver_told past result node node sender sender receiver receiver' slot
-  Fetched-none result node sender receiver receiver' slot has ends none given = record {
+      → Fetched s may_answer outlet_told is_of receiver_told past result node node receiver receiver' slot
+  Fetched-none result node receiver receiver' slot has ends none given = record {
     steps = [];
-    ran = Ran-none s may_answer outlet_told sender_told past node sender has;
+    ran = Ran-none s may_answer outlet_told past node has;
     remote = record { no_sets = refl; no_requests = refl; all = refl };
     received = [];
     given = given;
@@ -52,7 +51,7 @@ module _ {P M D S G O N J R : Type 0} (s : Setting P M D) (may_answer : Asker S 
     held : HoldsJob is_of slot pending
     flow : payload_inputs s ((p, bytes) ∷ []) ≡ inputs steps ++ pending_input s pending
 
-  flows : (p : P) (bytes : List ℕ) (read : Result M CodecError) → s.reading bytes ≡ read → (result : Poll Turn) (steps : List (Step P M D S G)) (slot : Option (P × J))
+  flows : (p : P) (bytes : List ℕ) (read : Result M CodecError) → s.reading bytes ≡ read → (result : Poll (Turn P)) (steps : List (Step P M D S G)) (slot : Option (P × J))
       → Comes s is_of p read result steps slot → Flows p bytes steps slot
   flows p bytes read is (Ready turn) steps slot c = record {
     remote = subst (λ l. IsRemote l) (sym c.0) (IsRemote-one s p read);
@@ -67,11 +66,11 @@ module _ {P M D S G O N J R : Type 0} (s : Setting P M D) (may_answer : Asker S 
     flow = ap (λ r. payload_input s p r ∷ []) (is ∙ reads) ∙ ap (λ l. l ++ input.Arrived p (own_digested s m) ∷ []) (sym none);
   }
 
-  pub Fetched-received : (p : P) (bytes : List ℕ) (result : Poll Turn) (old new : Node P M S O D) (first last : N) (receiver receiver' : R) (slot : Option (P × J))
-      → Received s may_answer outlet_told sender_told is_of past p bytes result old new first last slot
+  pub Fetched-received : (p : P) (bytes : List ℕ) (result : Poll (Turn P)) (old new : Node P M S O D) (receiver receiver' : R) (slot : Option (P × J))
+      → Received s may_answer outlet_told is_of past p bytes result old new slot
       → ((before : List (P × List ℕ)) → receiver_told receiver before → receiver_told receiver' (before ++ (p, bytes) ∷ []))
-      → Fetched s may_answer outlet_told sender_told is_of receiver_told past (goes_on result) old new first last receiver receiver' slot
-  Fetched-received p bytes result old new first last receiver receiver' slot one gives =
+      → Fetched s may_answer outlet_told is_of receiver_told past (goes_on result) old new receiver receiver' slot
+  Fetched-received p bytes result old new receiver receiver' slot one gives =
       let f = flows p bytes (s.reading bytes) refl result one.steps slot one.comes in
       record {
         steps = one.steps;

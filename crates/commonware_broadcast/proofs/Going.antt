@@ -25,6 +25,7 @@ use Rattle.commonware_broadcast.specs.EngineState.{EngineState, Went, Turned}
 use Rattle.commonware_broadcast.specs.Order.{as_turn}
 use Rattle.commonware_broadcast.proofs.Runs.{Ran-one}
 use Rattle.commonware_broadcast.proofs.Composing.{Ran-none, Ran-more}
+use Rattle.commonware_broadcast.proofs.Sending.{Sends-silent, Sends-more}
 use Rattle.commonware_broadcast.proofs.Due.{all-due}
 use Rattle.commonware_broadcast.proofs.Polling.{told-same}
 
@@ -47,11 +48,12 @@ module _ {P M D S G O N J R B Q C T : Type 0} (s : Setting P M D) (may_answer : 
     (provider_told : B → List (List P) → Type 0) (requests_told : Q → List (Request (Message P M S G D)) → Type 0)
     (past : History P M D (Asker S) (Asker G)) (before : Option (P × M)) where
   -- nothing was polled
-  abbrev pub Went-still : (e : EngineState P M S O D J B Q C T) (network : N × R) (listed : List Turn) → HasContent s past e.node.core → Holds is_of e.end e.job before → (e.end ≡ None → listed ≡ [])
+  abbrev pub Went-still : (e : EngineState P M S O D J B Q C T) (network : N × R) (listed : List (Turn P)) → HasContent s past e.node.core → Holds is_of e.end e.job before → (e.end ≡ None → listed ≡ [])
       → Went s may_answer outlet_told sender_told is_of receiver_told provider_told requests_told past before e e network network listed
   Went-still e network listed has held none = record {
     steps = [];
-    ran = Ran-none s may_answer outlet_told sender_told past e.node network.0 has;
+    ran = Ran-none s may_answer outlet_told past e.node has;
+    sends = Sends-silent {S = S} {G = G} s sender_told [] network.0 refl;
     due = refl;
     turned = λ unended. sym (none unended);
     ends = λ unended. unended;
@@ -66,7 +68,7 @@ module _ {P M D S G O N J R B Q C T : Type 0} (s : Setting P M D) (may_answer : 
   }
 
   -- a poll of an engine that has ended
-  pub Turned-still : (e : EngineState P M S O D J B Q C T) (network : N × R) (cause : EndCause) (result : Poll Turn) → HasContent s past e.node.core → Holds is_of e.end e.job before → e.end ≡ Some cause
+  pub Turned-still : (e : EngineState P M S O D J B Q C T) (network : N × R) (cause : EndCause) (result : Poll (Turn P)) → HasContent s past e.node.core → Holds is_of e.end e.job before → e.end ≡ Some cause
       → Turned s may_answer outlet_told sender_told is_of receiver_told provider_told requests_told past before e e network network result
   Turned-still e network cause result has held at = record {
     went = Went-still e network (given result) has held (λ unended. absurd (let no : Some cause ≡ None = sym at ∙ unended in cc));
@@ -76,7 +78,7 @@ module _ {P M D S G O N J R B Q C T : Type 0} (s : Setting P M D) (may_answer : 
 
   module _ (old new : EngineState P M S O D J B Q C T) (network network' : N × R) where
     -- a poll, after which the engine goes on
-    pub Turned-woken : (result : Poll (Result Turn EndCause)) (turn : Poll Turn) → old.end ≡ None → new.end ≡ None → given_ok result ≡ given turn → (result ≡ Ready (Err Stopped) → ⊥) → Holds is_of old.end old.job before
+    pub Turned-woken : (result : Poll (Result (Turn P) EndCause)) (turn : Poll (Turn P)) → old.end ≡ None → new.end ≡ None → given_ok result ≡ given turn → (result ≡ Ready (Err Stopped) → ⊥) → Holds is_of old.end old.job before
         → Woken s may_answer outlet_told sender_told is_of receiver_told provider_told requests_told past before result old.node new.node network.0 network'.0 network.1 network'.1 old.provider new.provider old.requests new.requests new.job
         → Turned s may_answer outlet_told sender_told is_of receiver_told provider_told requests_told past before old new network network' turn
     Turned-woken result turn unended none same goes held one =
@@ -85,6 +87,7 @@ module _ {P M D S G O N J R B Q C T : Type 0} (s : Setting P M D) (may_answer : 
           went = record {
             steps = one.steps;
             ran = one.ran;
+            sends = one.sends;
             due = all-due s past may_answer one.steps one.ran.lawful;
             turned = λ _. one.tells.turned ∙ same;
             ends = λ _. none ∙ sym one.tells.goes_on;
@@ -105,7 +108,7 @@ module _ {P M D S G O N J R B Q C T : Type 0} (s : Setting P M D) (may_answer : 
         }
 
     -- a poll, after which the engine ended
-    pub Turned-ended : (mid : Node P M S O D) (asked : Q) (slot : Option (P × J)) (result : Poll (Result Turn EndCause)) (cause : EndCause) → old.end ≡ None → result ≡ Ready (Err cause) → Holds is_of old.end old.job before
+    pub Turned-ended : (mid : Node P M S O D) (asked : Q) (slot : Option (P × J)) (result : Poll (Result (Turn P) EndCause)) (cause : EndCause) → old.end ≡ None → result ≡ Ready (Err cause) → Holds is_of old.end old.job before
         → (one : Woken s may_answer outlet_told sender_told is_of receiver_told provider_told requests_told past before result old.node mid network.0 network'.0 network.1 network'.1 old.provider new.provider old.requests asked slot)
         → ((told : List (Request (Message P M S G D))) → requests_told asked told → requests_told new.requests told)
         → Steps s may_answer outlet_told (happenings one.steps ++ past) (ended cause) mid new.node → new.end ≡ Some cause → new.job ≡ None
@@ -118,8 +121,9 @@ module _ {P M D S G O N J R B Q C T : Type 0} (s : Setting P M D) (may_answer : 
         record {
           went = record {
             steps = ended cause ∷ one.steps;
-            ran = Ran-more s may_answer outlet_told sender_told past one.steps (ended cause ∷ []) old.node mid new.node network.0 network'.0 network'.0 one.ran
-                (Ran-one s may_answer outlet_told sender_told (happenings one.steps ++ past) (ended cause) mid new.node network'.0 network'.0 last tt (λ sends h. told-same sender_told network'.0 sends h));
+            ran = Ran-more s may_answer outlet_told past one.steps (ended cause ∷ []) old.node mid new.node one.ran
+                (Ran-one s may_answer outlet_told (happenings one.steps ++ past) (ended cause) mid new.node last tt);
+            sends = Sends-more s sender_told one.steps (ended cause ∷ []) network.0 network'.0 network'.0 one.sends (Sends-silent {S = S} {G = G} s sender_told (ended cause ∷ []) network'.0 refl);
             due = all-due s past may_answer (ended cause ∷ one.steps) (last.lawful, one.ran.lawful);
             turned = λ _. ap (λ ts. ts ++ Ended cause ∷ []) (one.tells.turned ∙ ap given_ok is);
             ends = λ _. because;

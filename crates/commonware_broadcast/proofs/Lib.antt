@@ -1,8 +1,9 @@
 pub mod Counting
 pub mod EngineSteps
-pub mod Runs
 pub mod Composing
 pub mod Telling
+pub mod Sending
+pub mod Runs
 pub mod Due
 pub mod Polling
 pub mod Fetching

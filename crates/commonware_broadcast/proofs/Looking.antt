@@ -19,6 +19,7 @@ use Rattle.commonware_broadcast.specs.Polled.{Polled}
 use Rattle.commonware_broadcast.specs.Fetched.{Fetched}
 use Rattle.commonware_broadcast.specs.Looked.{Looked}
 use Rattle.commonware_broadcast.proofs.Composing.{Ran-more}
+use Rattle.commonware_broadcast.proofs.Sending.{Sends-none, Sends-more}
 use Rattle.commonware_broadcast.proofs.Telling.{inputs-append, silent, Tells-more}
 use Rattle.commonware_broadcast.proofs.Polling.{told-same}
 
@@ -33,12 +34,13 @@ module _ {P M D S G O N J R B Q : Type 0} (s : Setting P M D) (may_answer : Aske
     (provider_told : B → List (List P) → Type 0) (requests_told : Q → List (Request (Message P M S G D)) → Type 0)
     (past : History P M D (Asker S) (Asker G)) where
   -- the network was not looked at
-  pub Looked-local : (result : Poll (Result Turn EndCause)) (old new : Node P M S O D) (first last : N) (receiver : R) (provider provider' : B) (requests requests' : Q) (slot : Option (P × J))
+  pub Looked-local : (result : Poll (Result (Turn P) EndCause)) (old new : Node P M S O D) (first last : N) (receiver : R) (provider provider' : B) (requests requests' : Q) (slot : Option (P × J))
       → slot ≡ None → Polled s may_answer outlet_told sender_told provider_told requests_told past result old new first last provider provider' requests requests'
       → Looked s may_answer outlet_told sender_told is_of receiver_told provider_told requests_told past result old new first last receiver receiver provider provider' requests requests' slot
   Looked-local result old new first last receiver provider provider' requests requests' slot none one = record {
     steps = one.steps;
     ran = one.ran;
+    sends = one.sends;
     swept_first = one.swept_first;
     sets = one.sets;
     requests = one.requests;
@@ -51,16 +53,17 @@ module _ {P M D S G O N J R B Q : Type 0} (s : Setting P M D) (may_answer : Aske
   }
 
   -- the others gave nothing, and then the network was looked at
-  pub Looked-network : (result : Poll (Result Turn EndCause)) (old mid new : Node P M S O D) (first between last : N) (receiver receiver' : R) (provider provider' : B) (requests requests' : Q) (slot : Option (P × J))
-      → (one : Polled s may_answer outlet_told sender_told provider_told requests_told past Pending old mid first between provider provider' requests requests')
-      → Fetched s may_answer outlet_told sender_told is_of receiver_told (happenings one.steps ++ past) result mid new between last receiver receiver' slot
+  pub Looked-network : (result : Poll (Result (Turn P) EndCause)) (old mid new : Node P M S O D) (first last : N) (receiver receiver' : R) (provider provider' : B) (requests requests' : Q) (slot : Option (P × J))
+      → (one : Polled s may_answer outlet_told sender_told provider_told requests_told past Pending old mid first last provider provider' requests requests')
+      → Fetched s may_answer outlet_told is_of receiver_told (happenings one.steps ++ past) result mid new receiver receiver' slot
       → Looked s may_answer outlet_told sender_told is_of receiver_told provider_told requests_told past result old new first last receiver receiver' provider provider' requests requests' slot
-  Looked-network result old mid new first between last receiver receiver' provider provider' requests requests' slot one more =
+  Looked-network result old mid new first last receiver receiver' provider provider' requests requests' slot one more =
       let none : inputs one.steps ≡ [] = silent s one.steps past one.tells.turned in
       let all : inputs (more.steps ++ one.steps) ≡ inputs more.steps = inputs-after more.steps one.steps none in
       record {
         steps = more.steps ++ one.steps;
-        ran = Ran-more s may_answer outlet_told sender_told past one.steps more.steps old mid new first between last one.ran more.ran;
+        ran = Ran-more s may_answer outlet_told past one.steps more.steps old mid new one.ran more.ran;
+        sends = Sends-more s sender_told one.steps more.steps first last last one.sends (Sends-none s sender_told more.steps last more.remote.no_requests);
         swept_first = (one.swept_first.0, more.steps ++ one.swept_first.1, ap (λ l. more.steps ++ l) one.swept_first.2 ∙ sym (append_assoc more.steps one.swept_first.1 (swept one.swept_first.0 ∷ [])));
         tells = Tells-more s past one.steps more.steps [] (given_ok result) [] (senders_of s more.received) one.tells more.tells;
         sets = λ before h. subst (λ l. provider_told provider' (before ++ l)) (ap sets_in none ∙ sym (ap sets_in all ∙ more.remote.no_sets)) (one.sets before h);

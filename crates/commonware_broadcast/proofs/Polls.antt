@@ -22,7 +22,7 @@ module _ {P M D S G O N J R B Q C T : Type 0} (same : Same P D) (encoding : M �
     (outlet : Outlet O S G (Carried M D) (Option (Carried M D))) (sender : Sender N P)
     (receiver : Receiver R P) (provider : Provider B P) (requests : Requests Q (Message P M S G D)) where
   -- polls, and then one more
-  pub Polls-more : (count : ℕ) (old mid new : EngineState P M S O D J B Q C T) (first between last : N × R) (turns : List Turn) (result : Poll Turn)
+  pub Polls-more : (count : ℕ) (old mid new : EngineState P M S O D J B Q C T) (first between last : N × R) (turns : List (Turn P)) (result : Poll (Turn P))
       → Polls same encoding digest_of reading may_answer is_of outlet sender receiver provider requests count old mid first between turns
       → IsPoll same encoding digest_of reading may_answer is_of outlet sender receiver provider requests mid new between last result
       → Polls same encoding digest_of reading may_answer is_of outlet sender receiver provider requests (suc count) old new first last (turns ++ given result)
@@ -52,7 +52,7 @@ module _ {P M D S G O N J R B Q C T : Type 0} (same : Same P D) (encoding : M �
   Took-none engine network = record { count = 0; turns = []; polls = (refl, refl, refl) }
 
   -- some polls, and then one more
-  pub Took-more : (old mid new : EngineState P M S O D J B Q C T) (first between last : N × R) (result : Poll Turn)
+  pub Took-more : (old mid new : EngineState P M S O D J B Q C T) (first between last : N × R) (result : Poll (Turn P))
       → Took same encoding digest_of reading may_answer is_of outlet sender receiver provider requests old mid first between
       → IsPoll same encoding digest_of reading may_answer is_of outlet sender receiver provider requests mid new between last result
       → Took same encoding digest_of reading may_answer is_of outlet sender receiver provider requests old new first last
@@ -62,7 +62,7 @@ module _ {P M D S G O N J R B Q C T : Type 0} (same : Same P D) (encoding : M �
     polls = Polls-more took.count old mid new first between last took.turns result took.polls one;
   }
 
-  Took-polls : (count : ℕ) (old mid new : EngineState P M S O D J B Q C T) (first between last : N × R) (turns : List Turn)
+  Took-polls : (count : ℕ) (old mid new : EngineState P M S O D J B Q C T) (first between last : N × R) (turns : List (Turn P))
       → Took same encoding digest_of reading may_answer is_of outlet sender receiver provider requests old mid first between
       → Polls same encoding digest_of reading may_answer is_of outlet sender receiver provider requests count mid new between last turns
       → Took same encoding digest_of reading may_answer is_of outlet sender receiver provider requests old new first last

@@ -15,16 +15,16 @@ use Rattle.commonware_broadcast.specs.Polled.{Tells}
 use Rattle.commonware_broadcast.proofs.Composing.{history-append}
 
 -- the turn of an engine that goes on
-pub given-going_on : (result : Poll Turn) → given_ok (goes_on result) ≡ given result
+pub given-going_on : {P : Type 0} (result : Poll (Turn P)) → given_ok (goes_on result) ≡ given result
 given-going_on (Ready turn) = refl
 given-going_on Pending = refl
 
 -- what follows an empty list is the whole
-none-before : {A : Type 0} (xs ys : List A) → xs ++ ys ≡ [] → xs ≡ []
+pub none-before : {A : Type 0} (xs ys : List A) → xs ++ ys ≡ [] → xs ≡ []
 none-before [] ys h = refl
 none-before (x ∷ xs) ys h = absurd (let no : x ∷ (xs ++ ys) ≡ [] = h in cc)
 
-none-after : {A : Type 0} (xs ys : List A) → xs ++ ys ≡ [] → ys ≡ []
+pub none-after : {A : Type 0} (xs ys : List A) → xs ++ ys ≡ [] → ys ≡ []
 none-after [] ys h = h
 none-after (x ∷ xs) ys h = absurd (let no : x ∷ (xs ++ ys) ≡ [] = h in cc)
 
@@ -97,11 +97,11 @@ module _ {P M D S G : Type 0} (s : Setting P M D) where
       ∙ silent-at step (happenings steps ++ past) (none-after (turns s steps past) (turns_at s step (happenings steps ++ past)) h)
 
   -- nothing was done
-  pub Tells-none : (past : History P M D (Asker S) (Asker G)) (listed : List Turn) → listed ≡ [] → Tells s past [] listed []
+  pub Tells-none : (past : History P M D (Asker S) (Asker G)) (listed : List (Turn P)) → listed ≡ [] → Tells s past [] listed []
   Tells-none past listed none = record { turned = sym none; goes_on = refl; read = refl }
 
   -- the step of an input, after others that have no turn
-  pub Tells-input : (past : History P M D (Asker S) (Asker G)) (input : Input P M S G D) (turn : Turn) (step : Step P M D S G) (steps : List (Step P M D S G)) (peers : List P)
+  pub Tells-input : (past : History P M D (Asker S) (Asker G)) (input : Input P M S G D) (turn : Turn P) (step : Step P M D S G) (steps : List (Step P M D S G)) (peers : List P)
       → turns s steps past ≡ [] → read_from steps ≡ peers → IsOf input step → turns_at s step (happenings steps ++ past) ≡ turn ∷ [] → Tells s past (step ∷ steps) (turn ∷ []) peers
   Tells-input past input turn step steps peers none read of_input turned = record {
     turned = ap (λ ts. ts ++ turns_at s step (happenings steps ++ past)) none ∙ turned;
@@ -110,7 +110,7 @@ module _ {P M D S G : Type 0} (s : Setting P M D) where
   }
 
   -- steps, and then more
-  pub Tells-more : (past : History P M D (Asker S) (Asker G)) (earlier later : List (Step P M D S G)) (first second : List Turn) (peers more : List P)
+  pub Tells-more : (past : History P M D (Asker S) (Asker G)) (earlier later : List (Step P M D S G)) (first second : List (Turn P)) (peers more : List P)
       → Tells s past earlier first peers → Tells s (happenings earlier ++ past) later second more → Tells s past (later ++ earlier) (first ++ second) (peers ++ more)
   Tells-more past earlier later first second peers more one two = record {
     turned = turns-append later earlier past ∙ ap (λ ts. ts ++ turns s later (happenings earlier ++ past)) one.turned ∙ ap (λ ts. first ++ ts) two.turned;

@@ -16,7 +16,7 @@ use Rattle.broadcast_mailbox.specs.declared.buffered.ingress.request.Request.{Re
 use Rattle.engine_io.specs.declared.input.Turn.{Turn}
 use Rattle.commonware_broadcast.specs.declared.buffered.engine.node.Node.{Node}
 use Rattle.engine_io.specs.Replies.{Asker, Replies}
-use Rattle.commonware_broadcast.specs.Ran.{Ran, Applied}
+use Rattle.commonware_broadcast.specs.Ran.{Handled}
 use Rattle.engine_io.specs.Sources.{given_ok}
 use Rattle.commonware_broadcast.specs.EngineHistory.{inputs_at}
 use Rattle.engine_io.specs.Inputs.{sets_in, requests_in, payloads_in}
@@ -25,6 +25,7 @@ use Rattle.commonware_broadcast.specs.Fetched.{goes_on}
 use Rattle.commonware_broadcast.specs.Looked.{Looked}
 use Rattle.commonware_broadcast.specs.Woken.{Woken}
 use Rattle.commonware_broadcast.proofs.Composing.{Ran-none}
+use Rattle.commonware_broadcast.proofs.Sending.{Sends-silent, Sends-none}
 use Rattle.commonware_broadcast.proofs.Polling.{told-same}
 use Rattle.commonware_broadcast.proofs.Telling.{input-at, Tells-none, Tells-input}
 
@@ -39,12 +40,13 @@ module _ {P M D S G O N J R B Q : Type 0} (s : Setting P M D) (may_answer : Aske
   asked-none told h = subst (requests_told requests') (sym (append-nil told)) (tells told h)
 
   -- nothing was looked at
-  pub Woken-idle : (before : Option (P × M)) (result : Poll (Result Turn EndCause)) (old new : Node P M S O D) (first last : N) (slot : Option (P × J))
-      → Ran s may_answer outlet_told sender_told past [] old new first last → given_ok result ≡ [] → (before ≡ None → result ≡ Ready (Err Stopped)) → HoldsJob is_of slot before
-      → Woken s may_answer outlet_told sender_told is_of receiver_told provider_told requests_told past before result old new first last receiver receiver provider provider requests requests' slot
-  Woken-idle before result old new first last slot ran none stops held = record {
+  pub Woken-idle : (before : Option (P × M)) (result : Poll (Result (Turn P) EndCause)) (node : Node P M S O D) (sender : N) (slot : Option (P × J))
+      → HasContent s past node.core → given_ok result ≡ [] → (before ≡ None → result ≡ Ready (Err Stopped)) → HoldsJob is_of slot before
+      → Woken s may_answer outlet_told sender_told is_of receiver_told provider_told requests_told past before result node node sender sender receiver receiver provider provider requests requests' slot
+  Woken-idle before result node sender slot has none stops held = record {
     steps = [];
-    ran = ran;
+    ran = Ran-none s may_answer outlet_told past node has;
+    sends = Sends-silent {S = S} {G = G} s sender_told [] sender refl;
     sets = λ told h. told-same provider_told provider told h;
     requests = λ told h. asked-none told h;
     received = [];
@@ -58,14 +60,15 @@ module _ {P M D S G O N J R B Q : Type 0} (s : Setting P M D) (may_answer : Aske
   }
 
   -- the pending job was ready
-  Woken-ready : (p q : P) (m : M) → p ≡ q → (turn : Turn) (old new : Node P M S O D) (first last : N) (slot : Option (P × J)) → slot ≡ None
-      → Applied s may_answer outlet_told sender_told past (input.Arrived p (own_digested s m)) turn old new first last
-      → Woken s may_answer outlet_told sender_told is_of receiver_told provider_told requests_told past (Some (q, m)) (Ready (Ok turn)) old new first last receiver receiver provider provider requests requests' slot
-  Woken-ready p q m same turn old new first last slot none one =
+  Woken-ready : (p q : P) (m : M) → p ≡ q → (turn : Turn P) (old new : Node P M S O D) (sender : N) (slot : Option (P × J)) → slot ≡ None
+      → Handled s may_answer outlet_told past (input.Arrived p (own_digested s m)) turn old new
+      → Woken s may_answer outlet_told sender_told is_of receiver_told provider_told requests_told past (Some (q, m)) (Ready (Ok turn)) old new sender sender receiver receiver provider provider requests requests' slot
+  Woken-ready p q m same turn old new sender slot none one =
       let is : inputs_at one.step ≡ input.Arrived p (own_digested s m) ∷ [] = input-at (input.Arrived p (own_digested s m)) one.step one.of_input in
       record {
         steps = one.step ∷ [];
         ran = one.ran;
+        sends = Sends-none {S = S} {G = G} s sender_told (one.step ∷ []) sender (ap requests_in is);
         sets = λ told h. subst (λ l. provider_told provider (told ++ sets_in l)) (sym is) (told-same provider_told provider told h);
         requests = λ told h. subst (λ l. requests_told requests' (told ++ requests_in l)) (sym is) (asked-none told h);
         received = [];
@@ -79,30 +82,30 @@ module _ {P M D S G O N J R B Q : Type 0} (s : Setting P M D) (may_answer : Aske
       }
 
   -- a job was pending
-  pub Woken-job : (p : P) (job : J) (before : Option (P × M)) → HoldsJob is_of (Some (p, job)) before → (result : Poll Turn) (digest_of : M → D) → s.digest_of ≡ digest_of
-      → (old new : Node P M S O D) (first last : N) (slot : Option (P × J)) → HasContent s past old.core
-      → ((m : M) → is_of job m → IfReady result (λ turn. Applied s may_answer outlet_told sender_told past (input.Arrived p (record { message = m; digest = digest_of m })) turn old new first last))
+  pub Woken-job : (p : P) (job : J) (before : Option (P × M)) → HoldsJob is_of (Some (p, job)) before → (result : Poll (Turn P)) (digest_of : M → D) → s.digest_of ≡ digest_of
+      → (old new : Node P M S O D) (sender : N) (slot : Option (P × J)) → HasContent s past old.core
+      → ((m : M) → is_of job m → IfReady result (λ turn. Handled s may_answer outlet_told past (input.Arrived p (record { message = m; digest = digest_of m })) turn old new))
       → IfReady result (λ turn. slot ≡ None) → ((m : M) → is_of job m → OnPending result ((j : J) × (slot ≡ Some (p, j)) × is_of j m))
-      → OnPending result ((new ≡ old) × (last ≡ first))
-      → Woken s may_answer outlet_told sender_told is_of receiver_told provider_told requests_told past before (goes_on result) old new first last receiver receiver provider provider requests requests' slot
-  Woken-job p job None held result digest_of own old new first last slot has applied none pending same = absurd held
-  Woken-job p job (Some (q, m)) held (Ready turn) digest_of own old new first last slot has applied none pending same =
-      Woken-ready p q m held.0 turn old new first last slot none
-      (subst (λ f. Applied s may_answer outlet_told sender_told past (input.Arrived p (record { message = m; digest = f m })) turn old new first last) (sym own) (applied m held.1))
-  Woken-job p job (Some (q, m)) held Pending digest_of own old new first last slot has applied none pending same =
+      → OnPending result (new ≡ old)
+      → Woken s may_answer outlet_told sender_told is_of receiver_told provider_told requests_told past before (goes_on result) old new sender sender receiver receiver provider provider requests requests' slot
+  Woken-job p job None held result digest_of own old new sender slot has handled none pending same = absurd held
+  Woken-job p job (Some (q, m)) held (Ready turn) digest_of own old new sender slot has handled none pending same =
+      Woken-ready p q m held.0 turn old new sender slot none
+      (subst (λ f. Handled s may_answer outlet_told past (input.Arrived p (record { message = m; digest = f m })) turn old new) (sym own) (handled m held.1))
+  Woken-job p job (Some (q, m)) held Pending digest_of own old new sender slot has handled none pending same =
       let left = pending m held.1 in
-      Woken-idle (Some (q, m)) Pending old new first last slot
-      (subst (λ n. Ran s may_answer outlet_told sender_told past [] old n first last) (sym same.0)
-      (subst (λ n. Ran s may_answer outlet_told sender_told past [] old old first n) (sym same.1) (Ran-none s may_answer outlet_told sender_told past old first has)))
-      refl (λ at. absurd (let no : Some (q, m) ≡ None = at in cc)) (subst (λ x. HoldsJob is_of x (Some (q, m))) (sym left.1) (held.0, left.2))
+      subst (λ n. Woken s may_answer outlet_told sender_told is_of receiver_told provider_told requests_told past (Some (q, m)) Pending old n sender sender receiver receiver provider provider requests requests' slot) (sym same)
+      (Woken-idle (Some (q, m)) Pending old sender slot has
+      refl (λ at. absurd (let no : Some (q, m) ≡ None = at in cc)) (subst (λ x. HoldsJob is_of x (Some (q, m))) (sym left.1) (held.0, left.2)))
 
   -- none was pending, and the sources were looked at
-  pub Woken-looked : (before : Option (P × M)) → HoldsJob {P = P} {M = M} {J = J} is_of None before → (result : Poll (Result Turn EndCause)) (old new : Node P M S O D) (first last : N) (receiver' : R) (provider' : B) (requests'' : Q) (slot : Option (P × J))
+  pub Woken-looked : (before : Option (P × M)) → HoldsJob {P = P} {M = M} {J = J} is_of None before → (result : Poll (Result (Turn P) EndCause)) (old new : Node P M S O D) (first last : N) (receiver' : R) (provider' : B) (requests'' : Q) (slot : Option (P × J))
       → Looked s may_answer outlet_told sender_told is_of receiver_told provider_told requests_told past result old new first last receiver receiver' provider provider' requests' requests'' slot
       → Woken s may_answer outlet_told sender_told is_of receiver_told provider_told requests_told past before result old new first last receiver receiver' provider provider' requests requests'' slot
   Woken-looked None held result old new first last receiver' provider' requests'' slot one = record {
     steps = one.steps;
     ran = one.ran;
+    sends = one.sends;
     sets = one.sets;
     requests = λ told h. one.requests told (tells told h);
     received = one.received;

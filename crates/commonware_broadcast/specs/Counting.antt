@@ -35,7 +35,7 @@ module _ {P M D S G : Type 0} (s : Setting P M D) where
   abbrev pub counted_input : Input P M S G D → History P M D (Asker S) (Asker G)
       → List (Counted P)
   counted_input (Arrived p c) past = counted_outcome (outcome s p c past) ∷ []
-  counted_input (Invalid error) past = receive status.Invalid ∷ []
+  counted_input (Invalid p error) past = receive status.Invalid ∷ []
   counted_input _ past = []
 
   -- each dropped waiter, each reply, each message that was received, each payload that was decoded;

@@ -27,7 +27,7 @@ module _ {P M D S G : Type 0} (s : Setting P M D) where
   -- what an input counts, besides replies
   abbrev pub count_input : Input P M S G D → History P M D (Asker S) (Asker G) → Totals → Totals
   count_input (Arrived p c) past t = count_outcome (outcome s p c past) t
-  count_input (Invalid error) past t = record t { receive = added status.Invalid 1 t.receive }
+  count_input (Invalid p error) past t = record t { receive = added status.Invalid 1 t.receive }
   count_input _ past t = t
 
   -- what a step counts after a history; an end counts nothing

@@ -42,7 +42,7 @@ module _ {P M D S G : Type 0} where
   happening_of (Peers ps) = peers ps ∷ []
   happening_of (Request request) = asked request.ticket request.message ∷ []
   happening_of (Arrived p c) = arrival p c ∷ []
-  happening_of (Invalid error) = []
+  happening_of (Invalid p error) = []
 
   abbrev pub happenings_at : Step P M D S G → History P M D (Asker S) (Asker G)
   happenings_at (swept test) = cleanup test ∷ []
@@ -85,6 +85,12 @@ module _ {P M D S G : Type 0} where
   read_from [] = []
   read_from (step ∷ steps) = read_from steps ++ read_from_at step
 
+  -- the peer of a payload
+  abbrev pub peer_of : Input P M S G D → Option P
+  peer_of (Arrived p c) = Some p
+  peer_of (Invalid p error) = Some p
+  peer_of _ = None
+
   -- why the newest step ended the engine, if it did
   abbrev pub end_of : List (Step P M D S G) → Option EndCause
   end_of (ended cause ∷ steps) = Some cause
@@ -96,30 +102,31 @@ module _ {P M D S G : Type 0} where
       × (steps ≡ later ++ swept test ∷ [])
 
 module _ {P M D S G : Type 0} (s : Setting P M D) where
-  abbrev pub turn_of_request : Message P M S G D → History P M D (Asker S) (Asker G) → Turn
+  abbrev pub turn_of_request : Message P M S G D → History P M D (Asker S) (Asker G) → Turn P
   turn_of_request (Broadcast r c) past = turn.Broadcast (outcome s s.own c past)
   turn_of_request (Subscribe d responder) past = turn.Subscribe
   turn_of_request (Get d responder) past = turn.Get
 
-  abbrev pub turn_of_input : Input P M S G D → History P M D (Asker S) (Asker G) → Turn
+  -- the turn of a payload names its peer
+  abbrev pub turn_of_input : Input P M S G D → History P M D (Asker S) (Asker G) → Turn P
   turn_of_input (Peers ps) past = turn.Peers
   turn_of_input (Request request) past = turn_of_request request.message past
-  turn_of_input (Arrived p c) past = turn.Payload (outcome s p c past)
-  turn_of_input (Invalid error) past = turn.Invalid error
+  turn_of_input (Arrived p c) past = turn.Payload p (outcome s p c past)
+  turn_of_input (Invalid p error) past = turn.Invalid p error
 
-  abbrev pub turns_at : Step P M D S G → History P M D (Asker S) (Asker G) → List Turn
+  abbrev pub turns_at : Step P M D S G → History P M D (Asker S) (Asker G) → List (Turn P)
   turns_at (applied input replies) past = turn_of_input input past ∷ []
-  turns_at (refused input cause) past = turn.Refused cause ∷ []
-  turns_at (uncounted p c) past = turn.Refused Memory ∷ []
+  turns_at (refused input cause) past = turn.Refused (peer_of input) cause ∷ []
+  turns_at (uncounted p c) past = turn.Refused (Some p) Memory ∷ []
   turns_at (ended cause) past = turn.Ended cause ∷ []
   turns_at _ past = []
 
   -- the turns of the steps after a history, the oldest first
-  abbrev pub turns : List (Step P M D S G) → History P M D (Asker S) (Asker G) → List Turn
+  abbrev pub turns : List (Step P M D S G) → History P M D (Asker S) (Asker G) → List (Turn P)
   turns [] past = []
   turns (step ∷ steps) past = turns steps past ++ turns_at step (happenings steps ++ past)
 
 -- why the engine ended, if the turn tells that
-abbrev pub end_told : Turn → Option EndCause
+abbrev pub end_told : {P : Type 0} → Turn P → Option EndCause
 end_told (turn.Ended cause) = Some cause
 end_told _ = None

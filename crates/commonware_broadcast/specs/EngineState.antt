@@ -17,7 +17,7 @@ use Rattle.commonware_broadcast.specs.declared.buffered.engine.node.Node.{Node}
 use Rattle.engine_io.specs.Replies.{Asker, Replies, reply_of}
 use Rattle.engine_io.specs.Sources.{given}
 use Rattle.commonware_broadcast.specs.EngineHistory.{Step, happenings, handed_out, inputs, read_from, end_of, end_told, turns, IsSweptFirst}
-use Rattle.commonware_broadcast.specs.Ran.{Ran}
+use Rattle.commonware_broadcast.specs.Ran.{Ran, Sends}
 use Rattle.engine_io.specs.Inputs.{sets_in, requests_in, payloads_in}
 use Rattle.commonware_broadcast.specs.Taken.{payload_inputs, pending_input, senders_of, Holds, TakesNone}
 
@@ -34,11 +34,12 @@ pub record EngineState (P M S O D J B Q C T : Type 0) : Type 0 where
   pub codec_config : C
   pub strategy : T
 
--- the turns tell how the engine ended, if it did: the last of them, and no other
-abbrev pub TellsEnd : Option EndCause → List Turn → Type 0
-TellsEnd None listed = All (λ turn. end_told turn ≡ None) listed
-TellsEnd (Some cause) listed = (before : List Turn) × (listed ≡ before ++ Ended cause ∷ [])
-    × All (λ turn. end_told turn ≡ None) before
+module _ {P : Type 0} where
+  -- the turns tell how the engine ended, if it did: the last of them, and no other
+  abbrev pub TellsEnd : Option EndCause → List (Turn P) → Type 0
+  TellsEnd None listed = All (λ turn. end_told turn ≡ None) listed
+  TellsEnd (Some cause) listed = (before : List (Turn P)) × (listed ≡ before ++ Ended cause ∷ [])
+      × All (λ turn. end_told turn ≡ None) before
 
 module _ {P M D S G O N J R B Q C T : Type 0} (s : Setting P M D)
     (may_answer : Asker S → Bool → Type 0) (outlet_told : O → Replies S G M D → Type 0)
@@ -49,10 +50,10 @@ module _ {P M D S G O N J R B Q C T : Type 0} (s : Setting P M D)
   -- turns were ready
   pub record Went (past : History P M D (Asker S) (Asker G)) (before : Option (P × M))
       (old new : EngineState P M S O D J B Q C T) (old_network new_network : N × R)
-      (listed : List Turn) : Type 0 where
+      (listed : List (Turn P)) : Type 0 where
     pub steps : List (Step P M D S G)
-    pub ran : Ran s may_answer outlet_told sender_told past steps old.node new.node
-        old_network.0 new_network.0
+    pub ran : Ran s may_answer outlet_told past steps old.node new.node
+    pub sends : Sends s sender_told steps old_network.0 new_network.0
     -- the replies are those that are due at its happenings, in order, each to who asked
     pub due : map reply_of (handed_out steps) ≡ handed s (happenings steps) past
     -- the turns that were ready are those of the steps, each input and each end having one
@@ -79,7 +80,7 @@ module _ {P M D S G O N J R B Q C T : Type 0} (s : Setting P M D)
   -- a poll
   pub record Turned (past : History P M D (Asker S) (Asker G)) (before : Option (P × M))
       (old new : EngineState P M S O D J B Q C T) (old_network new_network : N × R)
-      (result : Poll Turn) : Type 0 where
+      (result : Poll (Turn P)) : Type 0 where
     pub went : Went past before old new old_network new_network (given result)
     -- while a job is pending, nothing is taken from any source
     pub job_alone : (job : P × J) → old.job ≡ Some job

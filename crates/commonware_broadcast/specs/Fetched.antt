@@ -4,7 +4,6 @@ use Rattle.futures.specs.declared.task.Poll.{Poll}
 use Rattle.futures.specs.declared.task.Poll.TheVariants.{Ready, Pending}
 use Rattle.broadcast_core.specs.Setting.{Setting}
 use Rattle.broadcast_core.specs.Happening.{History}
-use Rattle.broadcast_core.specs.declared.event.Sent.{Sent}
 use Rattle.engine_io.specs.declared.input.EndCause.{EndCause}
 use Rattle.engine_io.specs.declared.input.Input.{Input}
 use Rattle.engine_io.specs.declared.input.Turn.{Turn}
@@ -24,19 +23,19 @@ pub record IsRemote {P M D S G : Type 0} (is : List (Input P M S G D)) : Type 0 
   pub all : payloads_in is ≡ is
 
 -- the turn of a poll, for an engine that goes on
-abbrev pub goes_on : Poll Turn → Poll (Result Turn EndCause)
+abbrev pub goes_on : {P : Type 0} → Poll (Turn P) → Poll (Result (Turn P) EndCause)
 goes_on (Ready turn) = Ready (Ok turn)
 goes_on Pending = Pending
 
-module _ {P M D S G O N J R : Type 0} (s : Setting P M D) (may_answer : Asker S → Bool → Type 0)
-    (outlet_told : O → Replies S G M D → Type 0) (sender_told : N → List (Sent P) → Type 0)
-    (is_of : J → M → Type 0) (receiver_told : R → List (P × List ℕ) → Type 0) where
+module _ {P M D S G O J R : Type 0} (s : Setting P M D) (may_answer : Asker S → Bool → Type 0)
+    (outlet_told : O → Replies S G M D → Type 0) (is_of : J → M → Type 0)
+    (receiver_told : R → List (P × List ℕ) → Type 0) where
   -- after a history in which no job was pending, a poll of the network took these steps
   pub record Fetched (past : History P M D (Asker S) (Asker G))
-      (result : Poll (Result Turn EndCause)) (old new : Node P M S O D) (old_sender new_sender : N)
+      (result : Poll (Result (Turn P) EndCause)) (old new : Node P M S O D)
       (old_receiver new_receiver : R) (slot : Option (P × J)) : Type 0 where
     pub steps : List (Step P M D S G)
-    pub ran : Ran s may_answer outlet_told sender_told past steps old new old_sender new_sender
+    pub ran : Ran s may_answer outlet_told past steps old new
     -- its inputs are payloads
     pub remote : IsRemote (inputs steps)
     -- the payloads that the receiver gave are, in order, the inputs and the message of the job

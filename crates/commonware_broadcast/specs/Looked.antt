@@ -12,7 +12,7 @@ use Rattle.commonware_broadcast.specs.declared.buffered.engine.node.Node.{Node}
 use Rattle.engine_io.specs.Replies.{Asker, Replies}
 use Rattle.engine_io.specs.Sources.{given_ok}
 use Rattle.commonware_broadcast.specs.EngineHistory.{Step, inputs, IsSweptFirst}
-use Rattle.commonware_broadcast.specs.Ran.{Ran}
+use Rattle.commonware_broadcast.specs.Ran.{Ran, Sends}
 use Rattle.engine_io.specs.Inputs.{sets_in, requests_in, payloads_in}
 use Rattle.commonware_broadcast.specs.Taken.{payload_inputs, pending_input, senders_of, HoldsJob}
 use Rattle.commonware_broadcast.specs.Polled.{Tells}
@@ -24,12 +24,13 @@ module _ {P M D S G O N J R B Q : Type 0} (s : Setting P M D) (may_answer : Aske
     (requests_told : Q → List (Request (Message P M S G D)) → Type 0) where
   -- after a history in which no job was pending, a look at all sources took these steps
   pub record Looked (past : History P M D (Asker S) (Asker G))
-      (result : Poll (Result Turn EndCause))
+      (result : Poll (Result (Turn P) EndCause))
       (old new : Node P M S O D) (old_sender new_sender : N) (old_receiver new_receiver : R)
       (old_provider new_provider : B) (old_requests new_requests : Q)
       (slot : Option (P × J)) : Type 0 where
     pub steps : List (Step P M D S G)
-    pub ran : Ran s may_answer outlet_told sender_told past steps old new old_sender new_sender
+    pub ran : Ran s may_answer outlet_told past steps old new
+    pub sends : Sends s sender_told steps old_sender new_sender
     pub swept_first : IsSweptFirst steps
     -- the peer sets, the requests and the payloads of its inputs are those that were given, in
     -- order, the message of the job that is pending now last

@@ -1,30 +1,32 @@
 -- What an engine takes before it looks at other sources.
-use Rattle.std.specs.Prelude.{◌≡◌, Bool, true, false, Result, Ok, Err, ⊤}
+use Rattle.std.specs.Prelude.{◌≡◌, Bool, true, false, Some, Result, Ok, Err, ⊤}
 use Rattle.futures.specs.declared.task.Poll.{Poll}
 use Rattle.futures.specs.declared.task.Poll.TheVariants.{Ready, Pending}
 use Rattle.engine_io.specs.declared.input.EndCause.{EndCause}
 use Rattle.engine_io.specs.declared.input.Turn.{Turn}
 use Rattle.engine_io.specs.declared.input.Turn.TheVariants as turn
 
--- unless the turn is that of a peer set or of an end, this holds
-abbrev pub UnlessPeers : Poll Turn → Type 0 → Type 0
-UnlessPeers (Ready turn.Peers) holds = ⊤
-UnlessPeers (Ready (turn.Ended cause)) holds = ⊤
-UnlessPeers _ holds = holds
+module _ {P : Type 0} where
+  -- unless the turn is that of a peer set or of an end, this holds
+  abbrev pub UnlessPeers : Poll (Turn P) → Type 0 → Type 0
+  UnlessPeers (Ready turn.Peers) holds = ⊤
+  UnlessPeers (Ready (turn.Ended cause)) holds = ⊤
+  UnlessPeers _ holds = holds
 
--- whether the turn is that of a payload that was applied
-abbrev pub of_network : Turn → Bool
-of_network (turn.Payload out) = true
-of_network (turn.Invalid error) = true
-of_network _ = false
+  -- whether the turn is that of a payload
+  abbrev pub of_network : Turn P → Bool
+  of_network (turn.Payload p out) = true
+  of_network (turn.Invalid p error) = true
+  of_network (turn.Refused (Some p) cause) = true
+  of_network _ = false
 
--- if the turn is that of a payload, or there is none, this holds
-abbrev pub IfNetwork : Poll Turn → Type 0 → Type 0
-IfNetwork (Ready turn) holds = of_network turn ≡ true → holds
-IfNetwork Pending holds = holds
+  -- if the turn is that of a payload, or there is none, this holds
+  abbrev pub IfNetwork : Poll (Turn P) → Type 0 → Type 0
+  IfNetwork (Ready turn) holds = of_network turn ≡ true → holds
+  IfNetwork Pending holds = holds
 
--- the turn of a poll that tells an end apart
-abbrev pub as_turn : Poll (Result Turn EndCause) → Poll Turn
-as_turn (Ready (Ok turn)) = Ready turn
-as_turn (Ready (Err cause)) = Ready (turn.Ended cause)
-as_turn Pending = Pending
+  -- the turn of a poll that tells an end apart
+  abbrev pub as_turn : Poll (Result (Turn P) EndCause) → Poll (Turn P)
+  as_turn (Ready (Ok turn)) = Ready turn
+  as_turn (Ready (Err cause)) = Ready (turn.Ended cause)
+  as_turn Pending = Pending

@@ -31,7 +31,7 @@ module _ {P M S G O D J N R B Q C T : Type 0} (provider : Provider B P) (receive
     (requests : Requests Q (Message P M S G D)) where
   -- what a poll of an engine that has not ended does with its sources, as far as they tell
   pub record Attends (old new : EngineState P M S O D J B Q C T) (old_network new_network : N × R)
-      (result : Poll Turn) : Type 0 where
+      (result : Poll (Turn P)) : Type 0 where
     -- a stop comes first
     pub stop_first : requests.stops old.requests → result ≡ Ready (Ended Stopped)
     -- an end has its cause, and closes the requests
@@ -66,7 +66,7 @@ module _ {P M D S G O N J R B Q C T : Type 0} (same : Same P D) (encoding : M �
     (requests : Requests Q (Message P M S G D)) where
   -- a poll of an engine, whatever happened to it before
   pub record IsPoll (old new : EngineState P M S O D J B Q C T) (old_network new_network : N × R)
-      (result : Poll Turn) : Type 0 where
+      (result : Poll (Turn P)) : Type 0 where
     pub turned : (s : Setting P M D) → s.same ≡ same → s.encoding ≡ encoding
         → s.priority ≡ old.priority → s.digest_of ≡ digest_of
         → s.reading ≡ reading old.codec_config
@@ -88,18 +88,18 @@ module _ {P M D S G O N J R B Q C T : Type 0} (same : Same P D) (encoding : M �
 
   -- this many polls, one after another, and the turns that were ready
   abbrev pub Polls : ℕ → EngineState P M S O D J B Q C T → EngineState P M S O D J B Q C T
-      → N × R → N × R → List Turn → Type 0
+      → N × R → N × R → List (Turn P) → Type 0
   Polls zero old new old_network new_network turns =
       (new ≡ old) × (new_network ≡ old_network) × (turns ≡ [])
   Polls (suc count) old new old_network new_network turns =
-      (mid : EngineState P M S O D J B Q C T) × (mid_network : N × R) × (result : Poll Turn)
+      (mid : EngineState P M S O D J B Q C T) × (mid_network : N × R) × (result : Poll (Turn P))
       × IsPoll old mid old_network mid_network result
-      × (rest : List Turn) × (turns ≡ given result ++ rest)
+      × (rest : List (Turn P)) × (turns ≡ given result ++ rest)
       × Polls count mid new mid_network new_network rest
 
   -- as many polls as were asked for, or fewer that ended the engine
   pub record Drove (limit : ℕ) (old new : EngineState P M S O D J B Q C T)
-      (old_network new_network : N × R) (turns : List Turn) : Type 0 where
+      (old_network new_network : N × R) (turns : List (Turn P)) : Type 0 where
     pub count : ℕ
     pub polls : Polls count old new old_network new_network turns
     pub at_most : count ≤ limit
@@ -109,7 +109,7 @@ module _ {P M D S G O N J R B Q C T : Type 0} (same : Same P D) (encoding : M �
   pub record Took (old new : EngineState P M S O D J B Q C T) (old_network new_network : N × R)
       : Type 0 where
     pub count : ℕ
-    pub turns : List Turn
+    pub turns : List (Turn P)
     pub polls : Polls count old new old_network new_network turns
 
   -- an engine took some polls until it had no job, or had ended, and is to have none from then on

@@ -40,31 +40,42 @@ module _ {P M D S G O : Type 0} (s : Setting P M D) (may_answer : Asker S → Bo
     pub replied : (replies : Replies S G M D) → outlet_told old.outlet replies
         → outlet_told new.outlet (replies ++ handed_out_at step)
 
-  module _ {N : Type 0} (sender_told : N → List (Sent P) → Type 0) where
-    -- after a history these steps were taken
-    pub record Ran (past : History P M D (Asker S) (Asker G)) (steps : List (Step P M D S G))
-        (old new : Node P M S O D) (old_sender new_sender : N) : Type 0 where
-      -- each may follow those before it
-      pub lawful : AreSteps s may_answer steps past
-      -- the core has what the happenings give
-      pub content : HasContent s (happenings steps ++ past) new.core
-      -- each counter was raised by the number of what it counts
-      pub counters : (c : Counted P) → number_at s.same.key c new.metrics ≡ raised
-          (number_at s.same.key c old.metrics)
-          (count_by (is_counted_as s.same.key c) (counted s steps past))
-      -- the gauge has the number of digests that were awaited after the last cleanup
-      pub waiters : new.metrics.totals.waiters
-          ≡ gauge s steps past old.metrics.totals.waiters
-      -- the outlet was handed the replies, and the sender the broadcasts
-      pub replied : (replies : Replies S G M D) → outlet_told old.outlet replies
-          → outlet_told new.outlet (replies ++ handed_out steps)
-      pub sends : (sends : List (Sent P)) → sender_told old_sender sends
-          → sender_told new_sender (sends ++ sent s (happenings steps))
+  -- after a history these steps were taken
+  pub record Ran (past : History P M D (Asker S) (Asker G)) (steps : List (Step P M D S G))
+      (old new : Node P M S O D) : Type 0 where
+    -- each may follow those before it
+    pub lawful : AreSteps s may_answer steps past
+    -- the core has what the happenings give
+    pub content : HasContent s (happenings steps ++ past) new.core
+    -- each counter was raised by the number of what it counts
+    pub counters : (c : Counted P) → number_at s.same.key c new.metrics ≡ raised
+        (number_at s.same.key c old.metrics)
+        (count_by (is_counted_as s.same.key c) (counted s steps past))
+    -- the gauge has the number of digests that were awaited after the last cleanup
+    pub waiters : new.metrics.totals.waiters
+        ≡ gauge s steps past old.metrics.totals.waiters
+    -- the outlet was handed the replies
+    pub replied : (replies : Replies S G M D) → outlet_told old.outlet replies
+        → outlet_told new.outlet (replies ++ handed_out steps)
 
-    -- an input was applied or refused, with this turn
-    pub record Applied (past : History P M D (Asker S) (Asker G)) (input : Input P M S G D)
-        (turn : Turn) (old new : Node P M S O D) (old_sender new_sender : N) : Type 0 where
-      pub step : Step P M D S G
-      pub of_input : IsOf input step
-      pub turned : turns_at s step past ≡ turn ∷ []
-      pub ran : Ran past (step ∷ []) old new old_sender new_sender
+  -- an input was applied or refused, with this turn
+  pub record Handled (past : History P M D (Asker S) (Asker G)) (input : Input P M S G D)
+      (turn : Turn P) (old new : Node P M S O D) : Type 0 where
+    pub step : Step P M D S G
+    pub of_input : IsOf input step
+    pub turned : turns_at s step past ≡ turn ∷ []
+    pub ran : Ran past (step ∷ []) old new
+
+module _ {P M D S G N : Type 0} (s : Setting P M D) (sender_told : N → List (Sent P) → Type 0) where
+  -- the sender was handed the broadcasts of the steps
+  abbrev pub Sends : List (Step P M D S G) → (old new : N) → Type 0
+  Sends steps old new = (sends : List (Sent P)) → sender_told old sends
+      → sender_told new (sends ++ sent s (happenings steps))
+
+module _ {P M D S G O N : Type 0} (s : Setting P M D) (may_answer : Asker S → Bool → Type 0)
+    (outlet_told : O → Replies S G M D → Type 0) (sender_told : N → List (Sent P) → Type 0) where
+  -- an input was applied or refused, with this turn, and the sender was handed its broadcast
+  pub record Applied (past : History P M D (Asker S) (Asker G)) (input : Input P M S G D)
+      (turn : Turn P) (old new : Node P M S O D) (old_sender new_sender : N) : Type 0 where
+    pub handled : Handled s may_answer outlet_told past input turn old new
+    pub sends : Sends s sender_told (handled.step ∷ []) old_sender new_sender

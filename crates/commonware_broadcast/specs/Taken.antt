@@ -12,7 +12,7 @@ module _ {P M D : Type 0} (s : Setting P M D) where
   -- a payload that reads whole arrives with its own digest, and another one is invalid
   abbrev pub payload_input : {S G : Type 0} → P → Result M CodecError → Input P M S G D
   payload_input p (Ok m) = input.Arrived p (own_digested s m)
-  payload_input p (Err error) = input.Invalid error
+  payload_input p (Err error) = input.Invalid p error
 
   -- the inputs that the payloads are
   abbrev pub payload_inputs : {S G : Type 0} → List (P × List ℕ) → List (Input P M S G D)

@@ -14,7 +14,7 @@ use Rattle.commonware_broadcast.specs.declared.buffered.engine.node.Node.{Node}
 use Rattle.engine_io.specs.Replies.{Asker, Replies}
 use Rattle.engine_io.specs.Sources.{given_ok}
 use Rattle.commonware_broadcast.specs.EngineHistory.{Step, inputs, IsSweptFirst}
-use Rattle.commonware_broadcast.specs.Ran.{Ran}
+use Rattle.commonware_broadcast.specs.Ran.{Ran, Sends}
 use Rattle.engine_io.specs.Inputs.{sets_in, requests_in, payloads_in}
 use Rattle.commonware_broadcast.specs.Taken.{payload_inputs, pending_input, senders_of, HoldsJob, TakesNone}
 use Rattle.commonware_broadcast.specs.Polled.{Tells}
@@ -26,11 +26,12 @@ module _ {P M D S G O N J R B Q : Type 0} (s : Setting P M D) (may_answer : Aske
     (requests_told : Q → List (Request (Message P M S G D)) → Type 0) where
   -- after a history, and with the message of a job pending before or none, a poll took these steps
   pub record Woken (past : History P M D (Asker S) (Asker G)) (before : Option (P × M))
-      (result : Poll (Result Turn EndCause)) (old new : Node P M S O D) (old_sender new_sender : N)
-      (old_receiver new_receiver : R) (old_provider new_provider : B) (old_requests new_requests : Q)
+      (result : Poll (Result (Turn P) EndCause)) (old new : Node P M S O D)
+      (old_sender new_sender : N) (old_receiver new_receiver : R) (old_provider new_provider : B) (old_requests new_requests : Q)
       (slot : Option (P × J)) : Type 0 where
     pub steps : List (Step P M D S G)
-    pub ran : Ran s may_answer outlet_told sender_told past steps old new old_sender new_sender
+    pub ran : Ran s may_answer outlet_told past steps old new
+    pub sends : Sends s sender_told steps old_sender new_sender
     -- the peer sets and the requests of its inputs are those that were given, in order
     pub sets : (told : List (List P)) → provider_told old_provider told
         → provider_told new_provider (told ++ sets_in (inputs steps))

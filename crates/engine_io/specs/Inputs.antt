@@ -22,5 +22,5 @@ module _ {P M D S G : Type 0} where
   abbrev pub payloads_in : List (Input P M S G D) → List (Input P M S G D)
   payloads_in [] = []
   payloads_in (input.Arrived p c ∷ is) = input.Arrived p c ∷ payloads_in is
-  payloads_in (input.Invalid error ∷ is) = input.Invalid error ∷ payloads_in is
+  payloads_in (input.Invalid p error ∷ is) = input.Invalid p error ∷ payloads_in is
   payloads_in (_ ∷ is) = payloads_in is

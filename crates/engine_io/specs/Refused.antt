@@ -3,6 +3,6 @@ use Rattle.std.specs.Prelude.{Bool, true, false}
 use Rattle.engine_io.specs.declared.input.Turn.{Turn}
 use Rattle.engine_io.specs.declared.input.Turn.TheVariants as turn
 
-abbrev pub refuses : Turn → Bool
-refuses (turn.Refused cause) = true
+abbrev pub refuses : {P : Type 0} → Turn P → Bool
+refuses (turn.Refused peer cause) = true
 refuses _ = false

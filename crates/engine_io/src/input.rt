@@ -14,13 +14,13 @@ pub enum Input<P: PublicKey, M: Digestible, S, G> {
     Request(Request<Message<P, M, S, G>>),
     /// A message of a peer.
     Arrived(P, Digested<M>),
-    /// A payload that is no message.
-    Invalid(CodecError),
+    /// A payload of a peer that is no message.
+    Invalid(P, CodecError),
 }
 
 /// The result of a turn.
-#[derive(Clone, Copy, Debug, PartialEq, Eq)]
-pub enum Turn {
+#[derive(Clone, Debug, PartialEq, Eq, Drop)]
+pub enum Turn<P> {
     /// The primary peers were replaced.
     Peers,
     /// A message of the node was taken.
@@ -29,29 +29,30 @@ pub enum Turn {
     Subscribe,
     /// A get was answered.
     Get,
-    /// A message of a peer was taken.
-    Payload(Outcome),
-    /// A payload was no message.
-    Invalid(CodecError),
-    /// The input was refused, and changed nothing.
-    Refused(Cause),
+    /// A message of this peer was taken.
+    Payload(P, Outcome),
+    /// A payload of this peer was no message.
+    Invalid(P, CodecError),
+    /// The input was refused, and changed nothing: a payload of this peer, or, if it names none, a
+    /// request.
+    Refused(Option<P>, Cause),
     /// The engine ended.
     Ended(EndCause),
 }
 
-impl Turn {
+impl<P> Turn<P> {
     /// Returns whether the input was refused.
     pub fn is_refused(&self) -> bool
         ensures { result ≡ refuses self.now }
     {
         match self {
-            Turn::Refused(_) => true,
+            Turn::Refused(_, _) => true,
             Turn::Peers
             | Turn::Broadcast(_)
             | Turn::Subscribe
             | Turn::Get
-            | Turn::Payload(_)
-            | Turn::Invalid(_)
+            | Turn::Payload(_, _)
+            | Turn::Invalid(_, _)
             | Turn::Ended(_) => false,
         }
     }

@@ -47,6 +47,8 @@ pub enum Act {
     Fails(u64),
     /// Jobs are pending for this many polls.
     Holds(u64, u64),
+    /// There is no memory for this many jobs.
+    Refuses(u64, u64),
     /// A stop is requested.
     Stop(u64),
     /// The engine with the greatest key is closed.
@@ -54,7 +56,7 @@ pub enum Act {
     /// The engine with the greatest key is dropped.
     DropLast,
     /// The engine is polled once: this is its turn, or it is pending.
-    Poll(u64, Option<Turn>),
+    Poll(u64, Option<&'static Turn<u64>>),
     /// All nodes run until they are pending.
     Run,
     /// The next sends are lost.

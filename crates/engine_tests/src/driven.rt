@@ -45,7 +45,7 @@ impl Driven {
         alloc: Global,
         task: &Solo,
         limit: usize,
-    ) -> Result<Vec<Turn>, AllocError> {
+    ) -> Result<Vec<Turn<u64>>, AllocError> {
         let mut cx = task.begin();
         let turns = drive(alloc, &mut self.engine, &mut cx, &mut self.network, limit);
         // A task that is parked must have asked for another poll.

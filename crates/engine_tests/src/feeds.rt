@@ -96,6 +96,17 @@ impl Feeds {
         }
     }
 
+    /// Refuses to start this many jobs of the node. Returns whether there is such a node.
+    pub fn refuse(&self, key: u64, jobs: u64) -> bool {
+        match self.0.get(place(key)) {
+            Some(source) => {
+                source.gate.refuse(jobs);
+                true
+            }
+            None => false,
+        }
+    }
+
     /// Lets the node's jobs be pending this many times. Returns whether there is such a node.
     pub fn hold(&self, key: u64, polls: u64) -> bool {
         match self.0.get(place(key)) {

@@ -1,4 +1,4 @@
-//! A strategy whose jobs are pending for a number of polls.
+//! A strategy that may refuse to start jobs, and whose jobs are pending for a number of polls.
 ghost use Rattle.std.specs.Prelude.{◌≡◌};
 ghost use Rattle.futures.specs.Task.{IsArmed, Keeps};
 ghost use Rattle.futures.specs.declared.task.Poll.TheVariants.{Pending};
@@ -10,9 +10,10 @@ use std::alloc::{AllocError, Global};
 use std::cell::Cell;
 use std::rc::Rc;
 
-/// How often jobs are still pending, and who waits for them.
+/// How many jobs are still refused, how often jobs are still pending, and who waits for them.
 #[derive(Drop)]
 pub struct Gate {
+    refusals: Cell<u64>,
     polls: Cell<u64>,
     waker: Cell<Option<Waker>>,
     source: Source,
@@ -24,11 +25,22 @@ impl Gate {
         Ok(Rc::new(
             alloc,
             Gate {
+                refusals: Cell::new(0),
                 polls: Cell::new(0),
                 waker: Cell::new(None),
                 source: Source::new(),
             },
         )?)
+    }
+
+    /// Refuses to start this many jobs.
+    pub fn refuse(&self, jobs: u64) {
+        self.refusals.set(jobs);
+    }
+
+    /// Returns whether a job is refused, and counts it.
+    fn refuses(&self) -> bool {
+        counts_down(&self.refusals)
     }
 
     /// Lets jobs be pending this many times, and wakes who waits if that is none.
@@ -41,9 +53,7 @@ impl Gate {
 
     /// Returns whether a job is still pending, and counts its poll.
     fn is_shut(&self) -> bool {
-        let left = self.polls.get();
-        self.polls.set(left.saturating_sub(1));
-        left > 0
+        counts_down(&self.polls)
     }
 
     fn wait<T>(&self, cx: &mut Context<'_>) -> Poll<T>
@@ -56,6 +66,13 @@ impl Gate {
         self.waker.set(slot);
         polled
     }
+}
+
+/// Takes one off the number. Returns whether it was above zero.
+fn counts_down(number: &Cell<u64>) -> bool {
+    let left = number.get();
+    number.set(left.saturating_sub(1));
+    left > 0
 }
 
 /// Starts jobs that pass the gate.
@@ -73,6 +90,9 @@ impl Strategy<TestMessage> for Gated {
     type Job = GatedJob;
 
     fn start(&self, message: TestMessage) -> Result<GatedJob, AllocError> {
+        if self.0.refuses() {
+            return Err(AllocError);
+        }
         let gate = self.0.clone()?;
         let digest = message.digest();
         Ok(GatedJob {

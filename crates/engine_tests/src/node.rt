@@ -57,7 +57,7 @@ impl<R: Wait + Clone + Drop> Node<R> {
         alloc: Global,
         cx: &mut Context<'_>,
         network: &mut (Outbound, Inbound),
-    ) -> Poll<Turn> {
+    ) -> Poll<Turn<u64>> {
         self.engine.poll(alloc, cx, network)
     }
 

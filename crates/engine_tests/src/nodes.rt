@@ -58,15 +58,15 @@ impl<R: Wait + Clone + Drop> Nodes<R> {
     }
 
     /// Polls the engine at the place once. Returns the turn, if it is ready.
-    fn poll(&mut self, alloc: Global, at: usize) -> Option<Turn> {
+    fn poll(&mut self, alloc: Global, at: usize) -> Option<Turn<u64>> {
         let engine = self.engines.get_mut(at)?;
         let (task, network) = ends(&mut self.tasks, &mut self.wires, at)?;
         poll(engine, task, alloc, network)
     }
 
     /// Polls the engine at the place once. Returns whether this is its turn, or it is pending.
-    pub fn takes(&mut self, alloc: Global, at: usize, turn: Option<Turn>) -> bool {
-        self.poll(alloc, at) == turn
+    pub fn takes(&mut self, alloc: Global, at: usize, turn: Option<&Turn<u64>>) -> bool {
+        self.poll(alloc, at).as_ref() == turn
     }
 
     /// Returns whether the counter of the engine at the place has this value.
@@ -133,7 +133,7 @@ fn poll<R: Wait + Clone + Drop>(
     task: &mut Task,
     alloc: Global,
     network: &mut (Outbound, Inbound),
-) -> Option<Turn> {
+) -> Option<Turn<u64>> {
     task.wakes = 0;
     let mut cx = task.solo.begin();
     let polled = engine.poll(alloc, &mut cx, network);

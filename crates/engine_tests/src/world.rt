@@ -133,6 +133,7 @@ fn feeds_one(
         Act::Track(key, keys) => feeds.track(alloc, key, keys),
         Act::EndPeers(key) => Ok(feeds.end_peers(key)),
         Act::Holds(key, polls) => Ok(feeds.hold(key, polls)),
+        Act::Refuses(key, jobs) => Ok(feeds.refuse(key, jobs)),
         Act::Payload(key, from, bytes) => wires.hand(alloc, key, from, bytes),
         Act::Comes(key, from, letter) => {
             let bytes = payload(alloc, letter)?;

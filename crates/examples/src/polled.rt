@@ -21,7 +21,7 @@ fn ask_and_poll<M, R>(
     rt: &R,
     codec_config: M::Cfg,
     message: Digested<M>,
-) -> Result<(Vec<Turn>, bool), Error>
+) -> Result<(Vec<Turn<Key>>, bool), Error>
 where
     M: Digestible + Codec + Send + Sync + 'static,
     M::Digest: 'static,
@@ -53,7 +53,7 @@ fn poll<M, R>(
     rt: &R,
     engine: &mut MailboxEngine<Key, M, PeerSets<Key, R>, Sequential, R>,
     network: &mut (Outbound<Key, R>, Inbound<Key, R>),
-) -> Result<Vec<Turn>, Error>
+) -> Result<Vec<Turn<Key>>, Error>
 where
     M: Digestible + Codec,
     R: Wait + RandomSource + AllocGlobal + Drop,

@@ -70,25 +70,25 @@ served = applied (asks 4 (message.Get 61 4)) (got (asker 4) (Some (word 61)) fal
     ∷ applied (asks 1 (message.Subscribe 61 1)) [] ∷ kept ∷ []
 
 pub record Served : Type 0 where
-  pub turned : turns node served [] ≡ turn.Subscribe ∷ turn.Peers ∷ turn.Payload Inserted
+  pub turned : turns node served [] ≡ turn.Subscribe ∷ turn.Peers ∷ turn.Payload 5 Inserted
       ∷ turn.Get ∷ turn.Get ∷ turn.Get ∷ []
   -- the replies are those that are due
   pub replied : map reply_of (handed_out served) ≡ handed node (happenings served) []
   pub counted : counted node served [] ≡ count.peer 5 ∷ count.subscribe Success ∷ count.receive Success
       ∷ count.get Success ∷ count.get Failure ∷ count.get Dropped ∷ []
 
--- a payload of a stranger, one that is no message, one for which there was no memory, and a
--- broadcast that was refused, beside one that was sent
+-- a payload of a stranger, one of another that is no message, one for which there was no memory,
+-- and a broadcast that was refused, beside one that was sent
 abbrev mixed : Steps
 mixed = refused (asks 2 (message.Broadcast All (word 64))) Memory ∷ kept
     ∷ applied (asks 1 (message.Broadcast All (word 63))) [] ∷ kept
     ∷ refused (input.Arrived 6 (word 62)) Memory ∷ decoded 6 ∷ kept
-    ∷ applied (input.Invalid EndOfBuffer) [] ∷ kept
+    ∷ applied (input.Invalid 7 EndOfBuffer) [] ∷ kept
     ∷ applied (input.Arrived 6 (word 61)) [] ∷ decoded 6 ∷ kept ∷ []
 
 pub record Mixed : Type 0 where
-  pub turned : turns node mixed [] ≡ turn.Payload Ineligible ∷ turn.Invalid EndOfBuffer
-      ∷ turn.Refused Memory ∷ turn.Broadcast Ineligible ∷ turn.Refused Memory ∷ []
+  pub turned : turns node mixed [] ≡ turn.Payload 6 Ineligible ∷ turn.Invalid 7 EndOfBuffer
+      ∷ turn.Refused (Some 6) Memory ∷ turn.Broadcast Ineligible ∷ turn.Refused None Memory ∷ []
   -- a message that is refused is counted for its peer, and not as received
   pub counted : counted node mixed [] ≡ count.peer 6 ∷ count.receive Dropped ∷ count.receive Invalid
       ∷ count.peer 6 ∷ []

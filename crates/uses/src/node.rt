@@ -87,7 +87,7 @@ where
         alloc: Global,
         ends: &mut Ends,
         limit: usize,
-    ) -> Result<Vec<Turn>, AllocError> {
+    ) -> Result<Vec<Turn<u64>>, AllocError> {
         let mut cx = self.task.begin();
         let turns = drive(alloc, &mut self.engine.0, &mut cx, ends, limit);
         // The task is to be polled again.

@@ -15,12 +15,12 @@ ghost use Rattle.commonware_broadcast.specs.Ran.{Applied};
 
 use crate::buffered::engine::broadcast::handle_broadcast;
 use crate::buffered::engine::handler::{
-    handle_arrival, handle_get, handle_peers, handle_subscribe,
+    handle_arrival, handle_get, handle_invalid, handle_peers, handle_subscribe,
 };
 use crate::buffered::engine::node::Node;
 use broadcast_core::{Cause, Digestible, EncodeSize, PublicKey};
 use broadcast_mailbox::buffered::{Message, Reply, Request, Responder};
-use engine_io::{Input, Outlet, Sender, Status, Turn};
+use engine_io::{Input, Outlet, Sender, Turn};
 use std::alloc::Global;
 
 /// Applies one input. A refused input changes nothing.
@@ -30,7 +30,7 @@ pub(super) fn apply<P, M, S, G, O, N>(
     alloc: Global,
     priority: bool,
     input: Input<P, M, S, G>,
-) -> Turn
+) -> Turn<P>
 where
     P: PublicKey,
     M: Digestible + EncodeSize,
@@ -53,14 +53,8 @@ where
             Turn::Peers
         }
         Input::Request(request) => apply_request(node, sender, alloc, priority, request),
-        Input::Arrived(peer, message) => match handle_arrival(node, alloc, &peer, &message) {
-            Ok(outcome) => Turn::Payload(outcome),
-            Err(_) => Turn::Refused(Cause::Memory),
-        },
-        Input::Invalid(error) => {
-            node.metrics.count_receive(Status::Invalid);
-            Turn::Invalid(error)
-        }
+        Input::Arrived(peer, message) => handle_arrival(node, alloc, peer, message),
+        Input::Invalid(peer, error) => handle_invalid(node, peer, error),
     }
 }
 
@@ -71,7 +65,7 @@ fn apply_request<P, M, S, G, O, N>(
     alloc: Global,
     priority: bool,
     request: Request<Message<P, M, S, G>>,
-) -> Turn
+) -> Turn<P>
 where
     P: PublicKey,
     M: Digestible + EncodeSize,
@@ -100,12 +94,12 @@ where
         Message::Subscribe { digest, responder } => {
             match handle_subscribe(node, ticket, responder, digest) {
                 Ok(()) => Turn::Subscribe,
-                Err(_) => Turn::Refused(Cause::Memory),
+                Err(_) => Turn::Refused(None, Cause::Memory),
             }
         }
         Message::Get { digest, responder } => match handle_get(node, ticket, responder, digest) {
             Ok(()) => Turn::Get,
-            Err(_) => Turn::Refused(Cause::Memory),
+            Err(_) => Turn::Refused(None, Cause::Memory),
         },
     }
 }

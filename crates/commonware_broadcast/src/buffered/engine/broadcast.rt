@@ -26,7 +26,7 @@ pub(super) fn handle_broadcast<P, M, S, G, O, N>(
     priority: bool,
     recipients: Recipients<P>,
     message: Digested<M>,
-) -> Turn
+) -> Turn<P>
 where
     P: PublicKey,
     M: Digestible + EncodeSize,
@@ -45,13 +45,13 @@ where
 {
     let bytes = match message.encode(alloc) {
         Ok(bytes) => bytes,
-        Err(cause) => return Turn::Refused(cause),
+        Err(cause) => return Turn::Refused(None, cause),
     };
     match take_own(node, alloc, &message) {
         Ok(outcome) => {
             sender.send(recipients, bytes, priority);
             Turn::Broadcast(outcome)
         }
-        Err(_) => Turn::Refused(Cause::Memory),
+        Err(_) => Turn::Refused(None, Cause::Memory),
     }
 }

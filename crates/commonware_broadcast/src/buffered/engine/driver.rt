@@ -31,7 +31,7 @@ pub fn drive<P, M, S, G, O, B, Q, T, N, R>(
     cx: &mut Context<'_>,
     network: &mut (N, R),
     limit: usize,
-) -> Result<Vec<Turn>, AllocError>
+) -> Result<Vec<Turn<P>>, AllocError>
 where
     P: PublicKey,
     M: Digestible + Codec,
@@ -77,7 +77,7 @@ where
             continue;
         };
         turns.push_reserved(turn);
-        if let Turn::Ended(_) = turn {
+        if engine.end.is_some() {
             return Ok(turns);
         }
     }

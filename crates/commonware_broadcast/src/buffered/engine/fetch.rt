@@ -19,38 +19,34 @@ use crate::buffered::engine::receive::receive;
 use crate::buffered::strategy::Strategy;
 use broadcast_core::{Codec, Digestible, PublicKey};
 use broadcast_mailbox::buffered::{Reply, Responder};
-use engine_io::{EndCause, Outlet, Receiver, Sender, Turn};
+use engine_io::{EndCause, Outlet, Receiver, Turn};
 use futures::task::{Context, Poll};
 use std::alloc::Global;
 
 /// Takes one payload of the network, if no job is pending.
-pub(super) fn poll_network<P, M, S, G, O, N, T, R>(
+pub(super) fn poll_network<P, M, S, G, O, T, R>(
     node: &mut Node<P, M, S, O>,
-    sender: &mut N,
     receiver: &mut R,
     slot: &mut Option<(P, T::Job)>,
     cx: &mut Context<'_>,
     alloc: Global,
-    priority: bool,
     strategy: &T,
     cfg: &M::Cfg,
-) -> Poll<Result<Turn, EndCause>>
+) -> Poll<Result<Turn<P>, EndCause>>
 where
     P: PublicKey,
     M: Digestible + Codec,
     S: Responder<Reply<M>> + Drop,
-    G: Drop,
     O: Outlet<S, G, Reply<M>, Option<Reply<M>>>,
-    N: Sender<P>,
     T: Strategy<M>,
     R: Receiver<P>,
     requires { slot.old ≡ None }
     ensures fetched { (s : Setting P M M.Digest) → s.same ≡ same_by P.cmp M.Digest.cmp
-        → s.encoding ≡ M.encoding → s.priority ≡ priority → s.digest_of ≡ M.digest_of
+        → s.encoding ≡ M.encoding → s.digest_of ≡ M.digest_of
         → s.reading ≡ whole (M.reading cfg.now)
         → (past : History P M M.Digest (Asker S) (Asker G)) → HasContent s past node.old.core
-        → Fetched s (λ w b. S.may_answer w.responder b) O.told N.told T.Job.is_of R.told past
-        result node.old node.new sender.old sender.new receiver.old receiver.new slot.new }
+        → Fetched s (λ w b. S.may_answer w.responder b) O.told T.Job.is_of R.told past
+        result node.old node.new receiver.old receiver.new slot.new }
     ensures empty { IfReady result (λ r. slot.new ≡ None) }
     ensures network_looked_at { OnPending result (slot.new ≡ None → R.quiet receiver.old) }
     ensures tells_no_end { IfReady result (λ r. IfOk r (λ turn. end_told turn ≡ None)) }
@@ -68,15 +64,13 @@ where
         Poll::Ready(Err(_)) => Poll::Ready(Err(EndCause::NetworkFailed)),
         Poll::Ready(Ok((peer, bytes))) => {
             let payload = bytes.as_slice();
-            going_on(receive(
-                node, sender, slot, cx, alloc, priority, strategy, cfg, peer, payload,
-            ))
+            going_on(receive(node, slot, cx, alloc, strategy, cfg, peer, payload))
         }
     }
 }
 
 /// Returns the turn as that of an engine that has not ended.
-pub(super) fn going_on(turn: Poll<Turn>) -> Poll<Result<Turn, EndCause>>
+pub(super) fn going_on<P>(turn: Poll<Turn<P>>) -> Poll<Result<Turn<P>, EndCause>>
     ensures { result ≡ goes_on turn }
 {
     match turn {

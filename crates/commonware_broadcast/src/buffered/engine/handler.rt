@@ -1,24 +1,25 @@
 //! One input.
-ghost use Rattle.std.specs.Prelude.{◌≡◌, ℕ, Bool, true, List, [], is_some, IfOk, OnOk, OnErr};
+ghost use Rattle.std.specs.Prelude.{◌≡◌, ℕ, Bool, true, List, [], None, is_some, OnOk, OnErr};
 ghost use Rattle.broadcast_core.specs.Carried.{Carried};
 ghost use Rattle.broadcast_core.specs.Content.{same_by, message_at};
 ghost use Rattle.broadcast_core.specs.Setting.{Setting};
 ghost use Rattle.broadcast_core.specs.Happening.{History};
 ghost use Rattle.broadcast_core.specs.HasContent.{HasContent};
-ghost use Rattle.broadcast_core.specs.Answers.{outcome};
 ghost use Rattle.broadcast_mailbox.specs.declared.buffered.ingress.message.Message.TheVariants as request;
 ghost use Rattle.engine_io.specs.declared.input.EndCause.{EndCause};
 ghost use Rattle.engine_io.specs.declared.input.Input.TheVariants as input;
 ghost use Rattle.engine_io.specs.Replies.{Asker, Replied, Replies};
-ghost use Rattle.commonware_broadcast.specs.EngineHistory.{applied, swept, ended};
+ghost use Rattle.commonware_broadcast.specs.EngineHistory.{applied, swept, ended, end_told};
 ghost use Rattle.commonware_broadcast.specs.CountingCalls.{count_outcome};
-ghost use Rattle.commonware_broadcast.specs.Ran.{Steps, requested};
+ghost use Rattle.commonware_broadcast.specs.Ran.{Steps, Handled, requested};
 
 use crate::buffered::engine::node::Node;
 use crate::buffered::engine::take::take;
-use broadcast_core::{Digested, Digestible, EncodeSize, Outcome, PublicKey, Set, Subscribed};
+use broadcast_core::{
+    Cause, CodecError, Digested, Digestible, EncodeSize, Outcome, PublicKey, Set, Subscribed,
+};
 use broadcast_mailbox::buffered::{Reply, Responder};
-use engine_io::{Metrics, Outlet, Status, Waiter, respond_get, respond_subscribe};
+use engine_io::{Metrics, Outlet, Status, Turn, Waiter, respond_get, respond_subscribe};
 use std::alloc::{AllocError, Global};
 
 /// Replaces the primary peers.
@@ -36,30 +37,53 @@ where
     node.core.update_primary_peers(peers);
 }
 
-/// Takes a message of a peer. After an allocation failure nothing has changed.
+/// Takes a message of a peer, or refuses it if an allocation fails: then nothing has changed.
 pub(super) fn handle_arrival<P, M, S, G, O>(
     node: &mut Node<P, M, S, O>,
     alloc: Global,
-    peer: &P,
-    message: &Digested<M>,
-) -> Result<Outcome, AllocError>
+    peer: P,
+    message: Digested<M>,
+) -> Turn<P>
 where
     P: PublicKey,
     M: Digestible + EncodeSize,
     S: Responder<Reply<M>> + Drop,
     O: Outlet<S, G, Reply<M>, Option<Reply<M>>>,
-    ensures steps { IfOk result (λ out. (replies : Replies S G M M.Digest)
-        × ((s : Setting P M M.Digest) → s.same ≡ same_by P.cmp M.Digest.cmp
+    ensures handled { (s : Setting P M M.Digest) → s.same ≡ same_by P.cmp M.Digest.cmp
         → s.encoding ≡ M.encoding
         → (past : History P M M.Digest (Asker S) (Asker G)) → HasContent s past node.old.core
-        → (out ≡ outcome s peer.now message.now past)
-        × Steps s (λ w b. S.may_answer w.responder b) O.told past
-        (applied (input.Arrived peer.now message.now) replies) node.old node.new)) }
-    ensures unchanged_on_error { OnErr result (node.new ≡ node.old) }
+        → Handled s (λ w b. S.may_answer w.responder b) O.told past
+        (input.Arrived peer message) result node.old node.new }
+    ensures tells_no_end { end_told result ≡ None }
 {
-    let outcome = take(node, alloc, peer, message)?;
-    count_received(&mut node.metrics, outcome);
-    Ok(outcome)
+    match take(node, alloc, &peer, &message) {
+        Ok(outcome) => {
+            count_received(&mut node.metrics, outcome);
+            Turn::Payload(peer, outcome)
+        }
+        Err(_) => Turn::Refused(Some(peer), Cause::Memory),
+    }
+}
+
+/// Counts a payload of a peer that is no message.
+pub(super) fn handle_invalid<P, M, S, G, O>(
+    node: &mut Node<P, M, S, O>,
+    peer: P,
+    error: CodecError,
+) -> Turn<P>
+where
+    P: PublicKey,
+    M: Digestible,
+    S: Responder<Reply<M>> + Drop,
+    O: Outlet<S, G, Reply<M>, Option<Reply<M>>>,
+    ensures handled { (s : Setting P M M.Digest) → s.same ≡ same_by P.cmp M.Digest.cmp
+        → (past : History P M M.Digest (Asker S) (Asker G)) → HasContent s past node.old.core
+        → Handled s (λ w b. S.may_answer w.responder b) O.told past
+        (input.Invalid peer error) result node.old node.new }
+    ensures tells_no_end { end_told result ≡ None }
+{
+    node.metrics.count_receive(Status::Invalid);
+    Turn::Invalid(peer, error)
 }
 
 /// Answers a subscribe from the cache, or lets it wait. After an allocation failure nothing has

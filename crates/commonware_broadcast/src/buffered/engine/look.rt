@@ -39,7 +39,7 @@ pub(super) fn poll_sources<P, M, S, G, O, N, T, R, B, Q>(
     priority: bool,
     strategy: &T,
     cfg: &M::Cfg,
-) -> Poll<Result<Turn, EndCause>>
+) -> Poll<Result<Turn<P>, EndCause>>
 where
     P: PublicKey,
     M: Digestible + Codec,
@@ -83,8 +83,6 @@ where
 {
     match poll_local(node, provider, requests, sender, cx, alloc, priority) {
         Poll::Ready(result) => Poll::Ready(result),
-        Poll::Pending => poll_network(
-            node, sender, receiver, slot, cx, alloc, priority, strategy, cfg,
-        ),
+        Poll::Pending => poll_network(node, receiver, slot, cx, alloc, strategy, cfg),
     }
 }

@@ -41,7 +41,7 @@ pub(super) fn poll_open<P, M, S, G, O, N, T, R, B, Q>(
     priority: bool,
     strategy: &T,
     cfg: &M::Cfg,
-) -> Poll<Result<Turn, EndCause>>
+) -> Poll<Result<Turn<P>, EndCause>>
 where
     P: PublicKey,
     M: Digestible + Codec,
@@ -90,9 +90,7 @@ where
 {
     match comes_first(requests, slot, cx) {
         First::Stop => Poll::Ready(Err(EndCause::Stopped)),
-        First::Job(peer, job) => going_on(poll_job(
-            node, sender, slot, cx, alloc, priority, peer, job,
-        )),
+        First::Job(peer, job) => going_on(poll_job(node, slot, cx, alloc, peer, job)),
         First::Sources => poll_sources(
             node, provider, requests, sender, receiver, slot, cx, alloc, priority, strategy, cfg,
         ),

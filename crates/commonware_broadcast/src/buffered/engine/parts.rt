@@ -1,15 +1,12 @@
 //! The parts of an engine, which may move to another thread.
-ghost use Rattle.std.specs.Prelude.{◌≡◌, None, Some};
+ghost use Rattle.std.specs.Prelude.{◌≡◌, None};
 ghost use Rattle.commonware_broadcast.specs.Parts.{joined};
 
-use crate::buffered::engine::handler::drop_waiters;
-use crate::buffered::engine::job::clear;
 use crate::buffered::engine::node::Node;
 use crate::buffered::engine::state::Engine;
 use crate::buffered::strategy::Strategy;
 use broadcast_core::{Codec, Digestible, PublicKey};
-use broadcast_mailbox::buffered::{Message, Reply, Responder};
-use engine_io::{EndCause, Metrics, Outlet, Requests};
+use engine_io::{EndCause, Metrics};
 
 /// An engine without its job, since a job may not move to another thread.
 #[derive(Drop)]
@@ -97,23 +94,5 @@ impl<P: PublicKey, M: Digestible + Codec, S, O, B, Q, T: Strategy<M>> Engine<P, 
         } = self.into_parts();
         drop::<_>((provider, codec_config, strategy));
         (node.into_metrics(), requests)
-    }
-
-    /// Ends the engine for this cause: its requests are closed, and its waiters and its job are
-    /// dropped.
-    pub(super) fn give_up<G>(&mut self, cause: EndCause)
-    where
-        S: Responder<Reply<M>> + Drop,
-        O: Outlet<S, G, Reply<M>, Option<Reply<M>>>,
-        Q: Requests<Message<P, M, S, G>>,
-        ensures ends { self.new.end ≡ Some cause }
-        ensures drops_the_job { self.new.job ≡ None }
-        ensures closes { Q.closed self.new.requests }
-        ensures counts_none { self.new.node.metrics ≡ self.old.node.metrics }
-    {
-        self.requests.close();
-        drop_waiters(&mut self.node);
-        clear(&mut self.job);
-        self.end = Some(cause);
     }
 }

@@ -32,7 +32,7 @@ pub(super) fn poll_local<P, M, S, G, O, N, B, Q>(
     cx: &mut Context<'_>,
     alloc: Global,
     priority: bool,
-) -> Poll<Result<Turn, EndCause>>
+) -> Poll<Result<Turn<P>, EndCause>>
 where
     P: PublicKey,
     M: Digestible + EncodeSize,

@@ -1,5 +1,5 @@
 //! The engine: its polls, and its end.
-ghost use Rattle.std.specs.Prelude.{◌≡◌, Option, Some, None, []};
+ghost use Rattle.std.specs.Prelude.{◌≡◌, List, Option, Some, None, []};
 ghost use Rattle.futures.specs.Poll.{OnPending};
 ghost use Rattle.futures.specs.Task.{IsArmed, Keeps};
 ghost use Rattle.broadcast_core.specs.Codec.{whole};
@@ -10,8 +10,9 @@ ghost use Rattle.broadcast_core.specs.HasContent.{HasContent};
 ghost use Rattle.engine_io.specs.declared.input.Turn.TheVariants as turn;
 ghost use Rattle.engine_io.specs.declared.input.EndCause.{EndCause};
 ghost use Rattle.engine_io.specs.Replies.{Asker};
-ghost use Rattle.commonware_broadcast.specs.EngineHistory.{end_told};
-ghost use Rattle.commonware_broadcast.specs.Ran.{Applied};
+ghost use Rattle.broadcast_mailbox.specs.declared.buffered.ingress.request.Request.{Request};
+ghost use Rattle.commonware_broadcast.specs.EngineHistory.{end_told, ended};
+ghost use Rattle.commonware_broadcast.specs.Ran.{Applied, Steps};
 ghost use Rattle.commonware_broadcast.specs.Polls.{IsPoll};
 ghost use Rattle.commonware_broadcast.specs.Fresh.{fresh};
 ghost use Rattle.commonware_broadcast.specs.Waits.{Waits};
@@ -125,7 +126,12 @@ impl<P: PublicKey, M: Digestible + Codec, S, O, B, Q, T: Strategy<M>> Engine<P, 
     /// Applies one input. After an end the input is dropped, and the turn is that end.
     ///
     /// `Input::Invalid` is for a payload that is no message, so not for `CodecError::Memory`.
-    pub fn apply<G, N>(&mut self, alloc: Global, input: Input<P, M, S, G>, sender: &mut N) -> Turn
+    pub fn apply<G, N>(
+        &mut self,
+        alloc: Global,
+        input: Input<P, M, S, G>,
+        sender: &mut N,
+    ) -> Turn<P>
     where
         S: Responder<Reply<M>> + Drop,
         G: Drop,
@@ -175,7 +181,7 @@ impl<P: PublicKey, M: Digestible + Codec, S, O, B, Q, T: Strategy<M>> Engine<P, 
         alloc: Global,
         cx: &mut Context<'_>,
         network: &mut (N, R),
-    ) -> Poll<Turn>
+    ) -> Poll<Turn<P>>
     where
         S: Responder<Reply<M>> + Drop,
         G: Drop,
@@ -212,13 +218,39 @@ impl<P: PublicKey, M: Digestible + Codec, S, O, B, Q, T: Strategy<M>> Engine<P, 
         match result {
             Poll::Ready(Ok(turn)) => Poll::Ready(turn),
             Poll::Ready(Err(cause)) => {
-                self.requests.close();
-                drop_waiters(&mut self.node);
-                clear(&mut self.job);
-                self.end = Some(cause);
+                self.end::<G>(cause);
                 Poll::Ready(Turn::Ended(cause))
             }
             Poll::Pending => Poll::Pending,
         }
+    }
+
+    /// Ends the engine for this cause: its requests are closed, and its waiters and its job are
+    /// dropped.
+    pub(super) fn end<G>(&mut self, cause: EndCause)
+    where
+        S: Responder<Reply<M>> + Drop,
+        O: Outlet<S, G, Reply<M>, Option<Reply<M>>>,
+        Q: Requests<Message<P, M, S, G>>,
+        ensures ended { (s : Setting P M M.Digest) → s.same ≡ same_by P.cmp M.Digest.cmp
+            → (past : History P M M.Digest (Asker S) (Asker G))
+            → HasContent s past self.old.node.core
+            → Steps s (λ w b. S.may_answer w.responder b) O.told past (ended cause)
+            self.old.node self.new.node }
+        ensures counts_none { self.new.node.metrics ≡ self.old.node.metrics }
+        ensures tells { (given : List (Request (Message P M S G M.Digest)))
+            → Q.told self.old.requests given → Q.told self.new.requests given }
+        ensures closes { Q.closed self.new.requests }
+        ensures keeps_all_else { self.new ≡ record self.old {
+          node = self.new.node;
+          requests = self.new.requests;
+          job = None;
+          end = Some cause;
+        } }
+    {
+        self.requests.close();
+        drop_waiters(&mut self.node);
+        clear(&mut self.job);
+        self.end = Some(cause);
     }
 }

@@ -182,7 +182,7 @@ where
             return Ok(own);
         }
     }
-    engine.give_up::<G>(EndCause::WaitFailed);
+    engine.end::<G>(EndCause::WaitFailed);
     Err(StartError::Memory)
 }
 
@@ -249,7 +249,7 @@ where
     match run_turns::<P, M, S, G, O, B, Q, T, N, V, R>(rt, engine, network, false) {
         Ok(Some(cause)) => cause,
         _ => {
-            engine.give_up::<G>(EndCause::WaitFailed);
+            engine.end::<G>(EndCause::WaitFailed);
             EndCause::WaitFailed
         }
     }

@@ -33,7 +33,7 @@ returns g c = record {
         payloads = went.given [] (ap (λ r. values given_ok r) c.requires.new_payloads);
         pending = went.pending;
         arrived = went.flow;
-        sent = went.ran.sends [] (λ _. c.new.ensures.nothing) kept.1;
+        sent = went.sends [] (λ _. c.new.ensures.nothing) kept.1;
         replied = ap (λ rs. map reply_of rs) (went.ran.replied [] (λ _. subst (λ e. map reply_in e.node.outlet.replies.items ≡ []) (sym new) (ap (λ rs. map reply_in rs) c.new-outlet.ensures.nothing)) kept.0) ∙ went.due;
         counted = λ counter. went.ran.counters counter
             ∙ ap (λ n. raised n (count_by (is_counted_as s.same.key counter) (counted s went.steps [])))

@@ -1,4 +1,4 @@
-use Rattle.std.proofs.Common.{◌≡◌, ◌++◌, ◌∙◌, None, [], ◌∷◌, suc, length, length-append, refl, sym, ap, subst, append-nil, arith}
+use Rattle.std.proofs.Common.{◌≡◌, ◌++◌, ◌∙◌, true, false, is_some, Some, None, [], ◌∷◌, suc, length, length-append, refl, sym, ap, subst, append-nil, arith}
 use Rattle.broadcast_core.specs.Codec.{whole}
 use Rattle.broadcast_core.specs.Content.{same_by}
 use Rattle.engine_io.specs.Sources.{given}
@@ -11,7 +11,7 @@ use Rattle.std.proofs.lemmas.List.Elements.{All-push}
 use Rattle.commonware_broadcast.proofs.Going.{Went-still}
 use Rattle.commonware_broadcast.specs.Polls.{Polls}
 use Rattle.commonware_broadcast.proofs.Polls.{Polls-more}
-use Rattle.commonware_broadcast.proofs.Driving.{AlwaysWent-more, Turned-listed, none_unless, no_end}
+use Rattle.commonware_broadcast.proofs.Driving.{AlwaysWent-more, Turned-listed, none_unless, none_is, some_is, no_end}
 use Rattle.commonware_broadcast.proofs.buffered.engine.driver.drive.Goals as goal
 
 pub loop-poll-init : goal.loop-poll-init
@@ -39,34 +39,39 @@ pub push_reserved-requires : goal.push_reserved-requires
 push_reserved-requires g c = omega (arith, c.loop-poll.invariant.fits, c.loop-poll.invariant.room, c.loop-poll-test.true)
 
 pub loop-poll-preserved : goal.loop-poll-preserved
-loop-poll-preserved g c = let at = c.loop-poll.invariant in record {
-  went = (λ s e encoding priority own reading past has before held. subst (λ l. Went s (λ w b. g.S.Responder.may_answer w.responder b) g.O.Outlet.told g.N.Sender.told g.T.Job.Job.is_of g.R.Receiver.told g.B.Provider.told g.Q.Requests.told past before c.args.engine.now c.poll.new.self c.args.network.now c.poll.new.network l) (sym c.push_reserved.ensures.items)
-      (AlwaysWent-more (same_by g.P.Ord.cmp g.M.Digest.Ord.cmp) g.M.Write.encoding g.M.Digestible.digest_of (λ cfg. whole (g.M.Read.reading cfg))
-      (λ w b. g.S.Responder.may_answer w.responder b) g.O.Outlet.told g.N.Sender.told g.T.Job.Job.is_of g.R.Receiver.told g.B.Provider.told g.Q.Requests.told
-      c.args.engine.now c.loop-poll.engine c.poll.new.self c.args.network.now c.loop-poll.network c.poll.new.network c.loop-poll.turns.items (c.in-Ready.turn ∷ [])
-      at.unended at.went at.priority at.codec_config
-      (λ s e encoding priority own reading past has before held. Turned-listed s (λ w b. g.S.Responder.may_answer w.responder b) g.O.Outlet.told g.N.Sender.told g.T.Job.Job.is_of g.R.Receiver.told g.B.Provider.told g.Q.Requests.told
-      past before _ _ _ _ _ (c.in-Ready.turn ∷ []) (ap given c.in-Ready.is) (c.poll.ensures.polled.turned s e encoding priority own reading past has before held))
-      s e encoding priority own reading past has before held));
-  drove = λ count is.
-      let next : suc c.loop-poll._poll ≡ count = omega (arith, is) in
-      subst (λ n. Polls (same_by g.P.Ord.cmp g.M.Digest.Ord.cmp) g.M.Write.encoding g.M.Digestible.digest_of (λ cfg. whole (g.M.Read.reading cfg)) (λ w b. g.S.Responder.may_answer w.responder b) g.T.Job.Job.is_of g.O.Outlet g.N.Sender g.R.Receiver g.B.Provider g.Q.Requests n c.args.engine.now c.poll.new.self c.args.network.now c.poll.new.network c.push_reserved.new.self.items) next
-      (subst (λ l. Polls (same_by g.P.Ord.cmp g.M.Digest.Ord.cmp) g.M.Write.encoding g.M.Digestible.digest_of (λ cfg. whole (g.M.Read.reading cfg)) (λ w b. g.S.Responder.may_answer w.responder b) g.T.Job.Job.is_of g.O.Outlet g.N.Sender g.R.Receiver g.B.Provider g.Q.Requests (suc c.loop-poll._poll) c.args.engine.now c.poll.new.self c.args.network.now c.poll.new.network l) (ap (λ r. c.loop-poll.turns.items ++ given r) c.in-Ready.is ∙ sym c.push_reserved.ensures.items)
-      (Polls-more (same_by g.P.Ord.cmp g.M.Digest.Ord.cmp) g.M.Write.encoding g.M.Digestible.digest_of (λ cfg. whole (g.M.Read.reading cfg)) (λ w b. g.S.Responder.may_answer w.responder b) g.T.Job.Job.is_of g.O.Outlet g.N.Sender g.R.Receiver g.B.Provider g.Q.Requests c.loop-poll._poll c.args.engine.now c.loop-poll.engine c.poll.new.self c.args.network.now c.loop-poll.network c.poll.new.network c.loop-poll.turns.items c.poll.result
-      (at.drove c.loop-poll._poll refl) c.poll.ensures.polled));
-  priority = c.poll.ensures.polled.keeps_priority ∙ at.priority;
-  codec_config = c.poll.ensures.polled.keeps_codec_config ∙ at.codec_config;
-  strategy = c.poll.ensures.polled.keeps_strategy ∙ at.strategy;
-  kept = λ fact h. c.poll.ensures.kept fact (at.kept fact h);
-  unended = λ _. none_unless c.poll.new.self.end (λ cause ended. c.in_default-turn.not-Ended cause (let e : Ready c.in-Ready.turn ≡ Ready (Ended cause) = sym c.in-Ready.is ∙ c.poll.ensures.polled.tells_its_end cause ended in cc));
-  going = λ _. none_unless c.poll.new.self.end (λ cause ended. c.in_default-turn.not-Ended cause (let e : Ready c.in-Ready.turn ≡ Ready (Ended cause) = sym c.in-Ready.is ∙ c.poll.ensures.polled.tells_its_end cause ended in cc));
-  still = λ cause ended. absurd (c.in_default-turn.not-Ended cause (let e : Ready c.in-Ready.turn ≡ Ready (Ended cause) = sym c.in-Ready.is ∙ (c.poll.ensures.polled.same_after_end cause (ap (λ k. k.end) (at.still cause ended).1 ∙ ended)).0 in cc));
-  none_ends = subst (λ l. All (λ t. end_told t ≡ None) l) (sym c.push_reserved.ensures.items) (All-push (λ t. end_told t ≡ None) c.loop-poll.turns.items c.in-Ready.turn at.none_ends (no_end c.in-Ready.turn c.in_default-turn.not-Ended));
-  short = λ h. c.poll.ensures.kept _ (at.short (omega (arith, h, ap length c.push_reserved.ensures.items, length-append c.loop-poll.turns.items (c.in-Ready.turn ∷ []))));
-  few = omega (arith, at.few, ap length c.push_reserved.ensures.items, length-append c.loop-poll.turns.items (c.in-Ready.turn ∷ []));
-  fits = omega (arith, at.fits, c.push_reserved.ensures.len);
-  room = omega (arith, at.room, c.push_reserved.ensures.capacity);
-}
+loop-poll-preserved g c =
+    let at = c.loop-poll.invariant in
+    let going : c.poll.new.self.end ≡ None = none_is c.poll.new.self.end (ap (λ k. is_some k.end) (sym c.engine.view_is) ∙ sym c.is_some.ensures ∙ c.if-is_some.false) in record {
+      went = (λ s e encoding priority own reading past has before held. subst (λ l. Went s (λ w b. g.S.Responder.may_answer w.responder b) g.O.Outlet.told g.N.Sender.told g.T.Job.Job.is_of g.R.Receiver.told g.B.Provider.told g.Q.Requests.told past before c.args.engine.now c.poll.new.self c.args.network.now c.poll.new.network l) (sym c.push_reserved.ensures.items)
+          (AlwaysWent-more (same_by g.P.Ord.cmp g.M.Digest.Ord.cmp) g.M.Write.encoding g.M.Digestible.digest_of (λ cfg. whole (g.M.Read.reading cfg))
+          (λ w b. g.S.Responder.may_answer w.responder b) g.O.Outlet.told g.N.Sender.told g.T.Job.Job.is_of g.R.Receiver.told g.B.Provider.told g.Q.Requests.told
+          c.args.engine.now c.loop-poll.engine c.poll.new.self c.args.network.now c.loop-poll.network c.poll.new.network c.loop-poll.turns.items (c.in-Ready.turn ∷ [])
+          at.unended at.went at.priority at.codec_config
+          (λ s e encoding priority own reading past has before held. Turned-listed s (λ w b. g.S.Responder.may_answer w.responder b) g.O.Outlet.told g.N.Sender.told g.T.Job.Job.is_of g.R.Receiver.told g.B.Provider.told g.Q.Requests.told
+          past before _ _ _ _ _ (c.in-Ready.turn ∷ []) (ap given c.in-Ready.is) (c.poll.ensures.polled.turned s e encoding priority own reading past has before held))
+          s e encoding priority own reading past has before held));
+      drove = λ count is.
+          let next : suc c.loop-poll._poll ≡ count = omega (arith, is) in
+          subst (λ n. Polls (same_by g.P.Ord.cmp g.M.Digest.Ord.cmp) g.M.Write.encoding g.M.Digestible.digest_of (λ cfg. whole (g.M.Read.reading cfg)) (λ w b. g.S.Responder.may_answer w.responder b) g.T.Job.Job.is_of g.O.Outlet g.N.Sender g.R.Receiver g.B.Provider g.Q.Requests n c.args.engine.now c.poll.new.self c.args.network.now c.poll.new.network c.push_reserved.new.self.items) next
+          (subst (λ l. Polls (same_by g.P.Ord.cmp g.M.Digest.Ord.cmp) g.M.Write.encoding g.M.Digestible.digest_of (λ cfg. whole (g.M.Read.reading cfg)) (λ w b. g.S.Responder.may_answer w.responder b) g.T.Job.Job.is_of g.O.Outlet g.N.Sender g.R.Receiver g.B.Provider g.Q.Requests (suc c.loop-poll._poll) c.args.engine.now c.poll.new.self c.args.network.now c.poll.new.network l) (ap (λ r. c.loop-poll.turns.items ++ given r) c.in-Ready.is ∙ sym c.push_reserved.ensures.items)
+          (Polls-more (same_by g.P.Ord.cmp g.M.Digest.Ord.cmp) g.M.Write.encoding g.M.Digestible.digest_of (λ cfg. whole (g.M.Read.reading cfg)) (λ w b. g.S.Responder.may_answer w.responder b) g.T.Job.Job.is_of g.O.Outlet g.N.Sender g.R.Receiver g.B.Provider g.Q.Requests c.loop-poll._poll c.args.engine.now c.loop-poll.engine c.poll.new.self c.args.network.now c.loop-poll.network c.poll.new.network c.loop-poll.turns.items c.poll.result
+          (at.drove c.loop-poll._poll refl) c.poll.ensures.polled));
+      priority = c.poll.ensures.polled.keeps_priority ∙ at.priority;
+      codec_config = c.poll.ensures.polled.keeps_codec_config ∙ at.codec_config;
+      strategy = c.poll.ensures.polled.keeps_strategy ∙ at.strategy;
+      kept = λ fact h. c.poll.ensures.kept fact (at.kept fact h);
+      unended = λ _. going;
+      going = λ _. going;
+      still = λ cause ended.
+          let before : c.loop-poll.engine.end ≡ Some cause = ap (λ k. k.end) (at.still cause ended).1 ∙ ended in
+          absurd (let no : None ≡ Some cause = sym going ∙ ap (λ k. k.end) (c.poll.ensures.polled.same_after_end cause before).1 ∙ before in cc);
+      none_ends = subst (λ l. All (λ t. end_told t ≡ None) l) (sym c.push_reserved.ensures.items) (All-push (λ t. end_told t ≡ None) c.loop-poll.turns.items c.in-Ready.turn at.none_ends
+          (no_end c.in-Ready.turn (λ cause is. let no : None ≡ Some cause = sym going ∙ c.poll.ensures.polled.ends_as_told cause (c.in-Ready.is ∙ ap Ready is) in cc)));
+      short = λ h. c.poll.ensures.kept _ (at.short (omega (arith, h, ap length c.push_reserved.ensures.items, length-append c.loop-poll.turns.items (c.in-Ready.turn ∷ []))));
+      few = omega (arith, at.few, ap length c.push_reserved.ensures.items, length-append c.loop-poll.turns.items (c.in-Ready.turn ∷ []));
+      fits = omega (arith, at.fits, c.push_reserved.ensures.len);
+      room = omega (arith, at.room, c.push_reserved.ensures.capacity);
+    }
 
 pub loop-poll-preserved-in_default : goal.loop-poll-preserved-in_default
 loop-poll-preserved-in_default g c = let at = c.loop-poll.invariant in record {
@@ -98,8 +103,8 @@ loop-poll-preserved-in_default g c = let at = c.loop-poll.invariant in record {
   room = at.room;
 }
 
-pub returns-in-Ended-clause-went : goal.returns-in-Ended-clause-went
-returns-in-Ended-clause-went g c = let at = c.loop-poll.invariant in
+pub returns-then-is_some-clause-went : goal.returns-then-is_some-clause-went
+returns-then-is_some-clause-went g c = let at = c.loop-poll.invariant in
     (λ s e encoding priority own reading past has before held. subst (λ l. Went s (λ w b. g.S.Responder.may_answer w.responder b) g.O.Outlet.told g.N.Sender.told g.T.Job.Job.is_of g.R.Receiver.told g.B.Provider.told g.Q.Requests.told past before c.args.engine.now c.poll.new.self c.args.network.now c.poll.new.network l) (sym c.push_reserved.ensures.items)
     (AlwaysWent-more (same_by g.P.Ord.cmp g.M.Digest.Ord.cmp) g.M.Write.encoding g.M.Digestible.digest_of (λ cfg. whole (g.M.Read.reading cfg))
     (λ w b. g.S.Responder.may_answer w.responder b) g.O.Outlet.told g.N.Sender.told g.T.Job.Job.is_of g.R.Receiver.told g.B.Provider.told g.Q.Requests.told
@@ -109,17 +114,19 @@ returns-in-Ended-clause-went g c = let at = c.loop-poll.invariant in
     past before _ _ _ _ _ (c.in-Ready.turn ∷ []) (ap given c.in-Ready.is) (c.poll.ensures.polled.turned s e encoding priority own reading past has before held))
     s e encoding priority own reading past has before held))
 
-pub returns-in-Ended-clause-ends_with_last_turn : goal.returns-in-Ended-clause-ends_with_last_turn
-returns-in-Ended-clause-ends_with_last_turn g c = λ _.
-    subst (λ e. TellsEnd e c.push_reserved.new.self.items) (sym (c.poll.ensures.polled.ends_as_told c.in-Ended.field-0 (c.in-Ready.is ∙ ap Ready c.in-Ended.is)))
-    (c.loop-poll.turns.items, c.push_reserved.ensures.items ∙ ap (λ t. c.loop-poll.turns.items ++ t ∷ []) c.in-Ended.is, c.loop-poll.invariant.none_ends)
+pub returns-then-is_some-clause-ends_with_last_turn : goal.returns-then-is_some-clause-ends_with_last_turn
+returns-then-is_some-clause-ends_with_last_turn g c = λ _.
+    let end = some_is c.poll.new.self.end (ap (λ k. is_some k.end) (sym c.engine.view_is) ∙ sym c.is_some.ensures ∙ c.if-is_some.true) in
+    let told : c.in-Ready.turn ≡ Ended end.0 = (let e : Ready c.in-Ready.turn ≡ Ready (Ended end.0) = sym c.in-Ready.is ∙ c.poll.ensures.polled.tells_its_end end.0 end.1 in cc) in
+    subst (λ e. TellsEnd e c.push_reserved.new.self.items) (sym end.1)
+    (c.loop-poll.turns.items, c.push_reserved.ensures.items ∙ ap (λ t. c.loop-poll.turns.items ++ t ∷ []) told, c.loop-poll.invariant.none_ends)
 
-pub returns-in-Ended-clause-drove : goal.returns-in-Ended-clause-drove
-returns-in-Ended-clause-drove g c = let at = c.loop-poll.invariant in record {
+pub returns-then-is_some-clause-drove : goal.returns-then-is_some-clause-drove
+returns-then-is_some-clause-drove g c = let at = c.loop-poll.invariant in record {
   count = suc c.loop-poll._poll;
   polls = (subst (λ l. Polls (same_by g.P.Ord.cmp g.M.Digest.Ord.cmp) g.M.Write.encoding g.M.Digestible.digest_of (λ cfg. whole (g.M.Read.reading cfg)) (λ w b. g.S.Responder.may_answer w.responder b) g.T.Job.Job.is_of g.O.Outlet g.N.Sender g.R.Receiver g.B.Provider g.Q.Requests (suc c.loop-poll._poll) c.args.engine.now c.poll.new.self c.args.network.now c.poll.new.network l) (ap (λ r. c.loop-poll.turns.items ++ given r) c.in-Ready.is ∙ sym c.push_reserved.ensures.items)
       (Polls-more (same_by g.P.Ord.cmp g.M.Digest.Ord.cmp) g.M.Write.encoding g.M.Digestible.digest_of (λ cfg. whole (g.M.Read.reading cfg)) (λ w b. g.S.Responder.may_answer w.responder b) g.T.Job.Job.is_of g.O.Outlet g.N.Sender g.R.Receiver g.B.Provider g.Q.Requests c.loop-poll._poll c.args.engine.now c.loop-poll.engine c.poll.new.self c.args.network.now c.loop-poll.network c.poll.new.network c.loop-poll.turns.items c.poll.result
       (at.drove c.loop-poll._poll refl) c.poll.ensures.polled));
   at_most = omega (arith, c.loop-poll-test.true);
-  all_unless_ended = λ none. absurd (let no = sym none ∙ c.poll.ensures.polled.ends_as_told c.in-Ended.field-0 (c.in-Ready.is ∙ ap Ready c.in-Ended.is) in cc);
+  all_unless_ended = λ none. absurd (let no : true ≡ false = sym c.if-is_some.true ∙ c.is_some.ensures ∙ ap (λ k. is_some k.end) c.engine.view_is ∙ ap is_some none in cc);
 }

@@ -1,16 +1,16 @@
 use Rattle.std.proofs.Common.{refl, subst}
 use Rattle.broadcast_core.specs.declared.event.Cause.TheVariants.{Memory}
-use Rattle.commonware_broadcast.specs.Ran.{Applied}
+use Rattle.commonware_broadcast.specs.Ran.{Handled}
 use Rattle.engine_io.specs.declared.input.Input.TheVariants as input
-use Rattle.commonware_broadcast.proofs.Runs.{Applied-refused}
+use Rattle.commonware_broadcast.proofs.Runs.{Handled-refused}
 use Rattle.commonware_broadcast.proofs.buffered.engine.job.arrive.Goals as goal
 
-pub returns-in-Ok-clause-applied : goal.returns-in-Ok-clause-applied
-returns-in-Ok-clause-applied g c = λ s e encoding priority past has.
-    subst (λ d. Applied s (λ w b. g.S.Responder.may_answer w.responder b) g.O.Outlet.told g.N.Sender.told past (input.Arrived c.args.peer d)
-    c.apply.result c.args.node.now c.apply.new.node c.args.sender.now c.apply.new.sender) c.in-Ok.ensures (c.apply.ensures.applied s e encoding priority past has)
+pub returns-in-Ok-clause-handled : goal.returns-in-Ok-clause-handled
+returns-in-Ok-clause-handled g c = λ s e encoding past has.
+    subst (λ d. Handled s (λ w b. g.S.Responder.may_answer w.responder b) g.O.Outlet.told past (input.Arrived c.args.peer d) c.handle_arrival.result c.args.node.now c.handle_arrival.new.node)
+    c.in-Ok.ensures (c.handle_arrival.ensures.handled s e encoding past has)
 
-pub returns-in-Err-clause-applied : goal.returns-in-Err-clause-applied
-returns-in-Err-clause-applied g c = λ s e encoding priority past has.
-    Applied-refused s (λ w b. g.S.Responder.may_answer w.responder b) g.O.Outlet.told g.N.Sender.told past (input.Arrived c.args.peer (record { message = c.args.message; digest = c.args.digest })) Memory
-    c.args.node.now c.args.node.now c.args.sender.now has refl tt
+pub returns-in-Err-clause-handled : goal.returns-in-Err-clause-handled
+returns-in-Err-clause-handled g c = λ s e encoding past has.
+    Handled-refused s (λ w b. g.S.Responder.may_answer w.responder b) g.O.Outlet.told past (input.Arrived c.args.peer (record { message = c.args.message; digest = c.args.digest })) Memory
+    c.args.node.now c.args.node.now has refl tt

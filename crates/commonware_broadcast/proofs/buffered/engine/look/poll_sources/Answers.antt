@@ -15,9 +15,9 @@ pub returns-in-Pending-clause-looked : goal.returns-in-Pending-clause-looked
 returns-in-Pending-clause-looked g c = λ s e encoding priority own reading past has.
     let one = c.in-Pending.ensures.polled s e encoding priority past has in
     Looked-network s (λ w b. g.S.Responder.may_answer w.responder b) g.O.Outlet.told g.N.Sender.told g.T.Job.Job.is_of g.R.Receiver.told g.B.Provider.told g.Q.Requests.told past c.poll_network.result
-    c.args.node.now c.poll_local.new.node c.poll_network.new.node c.args.sender.now c.poll_local.new.sender c.poll_network.new.sender c.args.receiver.now c.poll_network.new.receiver
+    c.args.node.now c.poll_local.new.node c.poll_network.new.node c.args.sender.now c.poll_local.new.sender c.args.receiver.now c.poll_network.new.receiver
     c.args.provider.now c.poll_local.new.provider c.args.requests.now c.poll_local.new.requests c.poll_network.new.slot
-    one (c.poll_network.ensures.fetched s e encoding priority own reading (happenings one.steps ++ past) one.ran.content)
+    one (c.poll_network.ensures.fetched s e encoding own reading (happenings one.steps ++ past) one.ran.content)
 
 pub returns-in-Ready-clause-has_cause : goal.returns-in-Ready-clause-has_cause
 returns-in-Ready-clause-has_cause g c =

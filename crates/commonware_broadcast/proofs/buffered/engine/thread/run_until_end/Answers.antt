@@ -15,6 +15,6 @@ returns-in_default-clause-left g c = record {
   last = c.run_turns.new.engine;
   last_network = c.run_turns.new.network;
   took = c.run_turns.ensures.took;
-  counters = c.give_up.ensures.counts_none;
+  counters = c.end.ensures.counts_none;
   caused = inr refl;
 }
