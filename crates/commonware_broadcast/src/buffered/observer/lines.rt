@@ -1,0 +1,102 @@
+//! A line of text for each turn.
+ghost use Rattle.std.specs.Prelude.{◌≡◌, None};
+
+use super::Observer;
+use broadcast_core::{Cause, Outcome};
+use engine_io::{EndCause, Turn};
+use std::fmt;
+use std::io::{self, Write};
+
+/// Writes a line for each turn, until a write fails.
+#[derive(Drop)]
+pub struct Lines<W> {
+    out: W,
+    error: Option<io::Error>,
+}
+
+impl<W> Lines<W> {
+    /// Creates an observer that writes to `out`.
+    pub fn new(out: W) -> Self
+        ensures { result ≡ record { out = out; error = None } }
+    {
+        Lines { out, error: None }
+    }
+
+    /// Returns the error of the write that failed.
+    pub fn error(&self) -> Option<io::Error>
+        ensures { result ≡ self.now.error }
+    {
+        self.error
+    }
+
+    /// Returns what the lines were written to.
+    pub fn into_inner(self) -> W
+        ensures { result ≡ self.out }
+    {
+        let Lines { out, error: _ } = self;
+        out
+    }
+}
+
+impl<P, W: Write> Observer<P> for Lines<W> {
+    fn turn(&mut self, turn: &Turn) {
+        if self.error.is_some() {
+            return;
+        }
+        let line = Line(turn);
+        if let Err(error) = writeln!(self.out, "{line}") {
+            self.error = Some(error);
+        }
+    }
+}
+
+/// A turn as a line of text.
+#[derive(Drop)]
+struct Line<'a>(&'a Turn);
+
+impl fmt::Display for Line<'_> {
+    fn fmt<W: fmt::Write>(&self, f: &mut fmt::Formatter<W>) -> fmt::Result {
+        match self.0 {
+            Turn::Peers => f.write_str("peers"),
+            Turn::Broadcast(outcome) => write_two(f, "broadcast", outcome_word(*outcome)),
+            Turn::Subscribe => f.write_str("subscribe"),
+            Turn::Get => f.write_str("get"),
+            Turn::Payload(outcome) => write_two(f, "payload", outcome_word(*outcome)),
+            Turn::Invalid(error) => write!(f, "invalid: {error}"),
+            Turn::Refused(cause) => write_two(f, "refused:", cause_words(*cause)),
+            Turn::Ended(cause) => write_two(f, "ended:", end_words(*cause)),
+        }
+    }
+}
+
+/// Writes both with a space between them.
+fn write_two<W: fmt::Write>(f: &mut fmt::Formatter<W>, one: &str, other: &str) -> fmt::Result {
+    f.write_str(one)?;
+    f.write_str(" ")?;
+    f.write_str(other)
+}
+
+fn outcome_word(outcome: Outcome) -> &'static str {
+    match outcome {
+        Outcome::Inserted => "inserted",
+        Outcome::Duplicate => "duplicate",
+        Outcome::Ineligible => "ineligible",
+        Outcome::Oversize => "oversize",
+    }
+}
+
+fn cause_words(cause: Cause) -> &'static str {
+    match cause {
+        Cause::Memory => "out of memory",
+        Cause::Unencodable => "no encoding",
+    }
+}
+
+fn end_words(cause: EndCause) -> &'static str {
+    match cause {
+        EndCause::Stopped => "stopped",
+        EndCause::PeersClosed => "no more peer sets",
+        EndCause::NetworkFailed => "the network failed",
+        EndCause::WaitFailed => "no memory to wait with",
+    }
+}

@@ -1,0 +1,70 @@
+//! The latest turns.
+ghost use Rattle.std.specs.Prelude.{◌≡◌, ◌+◌, ◌-◌, ◌≤◌, [], ◌∷◌, ◌++◌, drop, length, IfOk};
+ghost use Rattle.std.specs.VecDeque.{deque_len, deque_capacity};
+
+use super::Observer;
+use engine_io::Turn;
+use std::alloc::{AllocError, Global};
+use std::collections::VecDeque;
+
+/// Keeps the latest turns.
+#[derive(Drop)]
+pub struct Recent {
+    turns: VecDeque<Turn>,
+    limit: usize,
+    seen: u64,
+    ghost within_limit: { deque_len turns ≤ limit },
+    ghost has_room: { limit ≤ deque_capacity turns },
+}
+
+impl Recent {
+    /// Creates an observer that keeps at most `limit` turns, or an allocation failure.
+    pub fn new(alloc: Global, limit: usize) -> Result<Self, AllocError>
+        ensures empty { IfOk result (λ recent. recent.turns.items ≡ []) }
+        ensures limit { IfOk result (λ recent. recent.limit ≡ limit) }
+    {
+        Ok(Recent {
+            turns: VecDeque::with_capacity(alloc, limit)?,
+            limit,
+            seen: 0,
+        })
+    }
+
+    /// Returns the turns that are kept, oldest first.
+    pub fn turns(&self) -> &VecDeque<Turn>
+        ensures { result.now ≡ self.now.turns }
+    {
+        &self.turns
+    }
+
+    /// Returns how many turns there were, and at most `u64::MAX`.
+    pub fn seen(&self) -> u64
+        ensures { result ≡ self.now.seen }
+    {
+        self.seen
+    }
+
+    /// Keeps the turn in place of the oldest one, if there is no place left.
+    fn keep(&mut self, turn: Turn)
+        ensures latest { let turns = self.old.turns.items ++ turn ∷ [] in
+            self.new.turns.items ≡ drop (length turns - self.old.limit) turns }
+        ensures same_limit { self.new.limit ≡ self.old.limit }
+    {
+        if self.turns.len() < self.limit {
+            self.turns.push_back_reserved(turn);
+            return;
+        }
+        if self.turns.pop_front().is_some() {
+            self.turns.push_back_reserved(turn);
+        }
+    }
+}
+
+impl<P> Observer<P> for Recent {
+    fn turn(&mut self, turn: &Turn) {
+        self.seen = self.seen.saturating_add(1);
+        if let Ok(turn) = turn.clone() {
+            self.keep(turn);
+        }
+    }
+}
