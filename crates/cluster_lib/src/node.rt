@@ -24,7 +24,7 @@ pub type NodeEngine<M, T, R, A = ()> = MailboxEngine<Key, M, PeerSets<Key, R>, T
 
 /// A node whose engine runs in a thread of its own.
 #[derive(Drop)]
-pub struct Node<M: Digestible, R, A: Bookkeeping = ()> {
+pub struct Node<M: Digestible, R: Wait, A: Bookkeeping = ()> {
     /// The mailbox of its callers.
     pub mailbox: Mailbox<Key, M, R, A>,
     /// What it takes.

@@ -193,7 +193,7 @@ fn client_of<R, A, K>(
     node: &Node<TestMessage, R, Counting<A, K>>,
 ) -> Result<Client<R, Counting<A, K>>, AllocError>
 where
-    R: Clone + Drop,
+    R: Wait + Clone + Drop,
     A: Account,
     K: Account,
 {

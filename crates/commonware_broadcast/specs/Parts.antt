@@ -19,6 +19,6 @@ joined parts job = record {
 }
 
 -- the engine that is ready for its thread
-abbrev pub ready_engine : {P M S O D J B Q C T N V R : Type 0} → Ready P M S O B Q C T N V R D
+abbrev pub ready_engine : {P M S O D J B Q C T N V R W : Type 0} → Ready P M S O B Q C T N V R W D
     → EngineState P M S O D J B Q C T
 ready_engine ready = joined ready.parts None

@@ -3,54 +3,117 @@ use crate::buffered::config::Config;
 use crate::buffered::engine::{Engine, Ready, Report, StartError, make_ready, run, spawn};
 use crate::buffered::front::MailboxEngine;
 use crate::buffered::gate::Gate;
+use crate::buffered::observer::Observer;
+use crate::buffered::snapshots::{MetricsError, Snapshots};
 use crate::buffered::strategy::Strategy;
 use crate::buffered::threaded::Threaded;
 use crate::buffered::worker::Work;
 use broadcast_core::{Codec, Digestible, PublicKey};
 use broadcast_mailbox::buffered::{Bookkeeping, Incoming, Ingress, Mailbox, Reply, Stopper};
-use engine_io::{Direct, Provider, Receiver, Sender};
+use engine_io::{Direct, Metrics, Provider, Receiver, Sender};
 use futures::channel::oneshot;
 use std::alloc::{AllocError, AllocGlobal};
 use std::random::RandomSource;
-use std::sync::Wait;
+use std::sync::{Arc, Wait};
 use std::thread::{JoinHandle, Threads};
 
-/// An engine that runs in a thread of its own. If it is dropped, the engine runs on.
-#[derive(Drop)]
-pub struct Handle<P: PublicKey, M: Digestible, R, A: Bookkeeping = ()> {
-    stopper: Stopper<Incoming<P, M>, R, A>,
-    thread: JoinHandle<MailboxReport<P, M, R, A>>,
+/// An engine that runs in a thread of its own. If it is dropped, the engine is asked to stop, and
+/// nobody waits for its end.
+pub struct Handle<P: PublicKey, M: Digestible, R: Wait, A: Bookkeeping = (), W = ()> {
+    control: Control<P, M, R, A>,
+    thread: JoinHandle<MailboxReport<P, M, R, A, W>>,
 }
 
 /// What a started engine of a mailbox leaves.
-pub type MailboxReport<P, M, R, A = ()> = Report<P, Ingress<Incoming<P, M>, R, A>>;
+pub type MailboxReport<P, M, R, A = (), W = ()> = Report<P, Ingress<Incoming<P, M>, R, A>, W>;
 
-impl<P, M, R, A> Handle<P, M, R, A>
+/// What a handle reaches its engine by.
+#[derive(Drop)]
+struct Control<P: PublicKey, M: Digestible, R, A: Bookkeeping> {
+    stopper: Stopper<Incoming<P, M>, R, A>,
+    snapshots: Arc<Snapshots<P>>,
+}
+
+impl<P: PublicKey, M: Digestible, R: AllocGlobal + Clone + Drop, A: Bookkeeping> Control<
+    P,
+    M,
+    R,
+    A,
+> {
+    /// Creates what reaches the engine that takes these requests, and where its counters are asked
+    /// for.
+    fn new(
+        rt: &R,
+        requests: &Ingress<Incoming<P, M>, R, A>,
+    ) -> Result<(Self, Arc<Snapshots<P>>), AllocError> {
+        let snapshots = Arc::new(rt.alloc(), Snapshots::new(rt.alloc()))?;
+        let control = Control {
+            snapshots: Arc::try_clone(&snapshots)?,
+            stopper: requests.stopper()?,
+        };
+        Ok((control, snapshots))
+    }
+}
+
+impl<P, M, R, A, W> Handle<P, M, R, A, W>
 where
     P: PublicKey,
     M: Digestible,
     R: Threads + Wait + Drop,
     A: Bookkeeping,
 {
-    /// Creates the handle of an engine that runs in `thread`, and whose mailbox has this stopper.
-    pub fn new(
-        stopper: Stopper<Incoming<P, M>, R, A>,
-        thread: JoinHandle<MailboxReport<P, M, R, A>>,
-    ) -> Self {
-        Handle { stopper, thread }
-    }
-
     /// Asks the engine to stop. Does not wait for its end.
     pub fn stop(&self) {
-        self.stopper.request_stop();
+        self.control.stopper.request_stop();
+    }
+
+    /// Returns whether the engine has ended. Does not wait for its end.
+    pub fn is_finished(&self) -> bool {
+        self.control.snapshots.has_ended()
+    }
+
+    /// Returns a copy of the counters that the engine has now. Waits for its thread, but not for
+    /// any input, and does not let it poll.
+    pub fn metrics(&self, rt: &R) -> Result<Metrics<P>, MetricsError>
+    where
+        R: RandomSource + AllocGlobal,
+    {
+        self.control.snapshots.ask(rt)
     }
 
     /// Waits for the end of the engine. Returns what it leaves.
-    pub fn join(self, rt: &R) -> MailboxReport<P, M, R, A> {
-        let Handle { stopper, thread } = self;
+    pub fn join(self, rt: &R) -> MailboxReport<P, M, R, A, W> {
+        let Handle { control, thread } = self;
         let report = thread.join(rt);
-        drop::<_>(stopper);
+        drop::<_>(control);
         report
+    }
+
+    /// Lets the engine run on until it ends by itself, as when its network fails. Nothing is left
+    /// then to stop it by.
+    pub fn detach(self)
+    where
+        W: Drop,
+    {
+        let Handle { control, thread } = self;
+        drop::<_>(control);
+        drop::<_>(thread);
+    }
+}
+
+impl<P, M, R, A, W> Drop for Handle<P, M, R, A, W>
+where
+    P: PublicKey,
+    M: Digestible,
+    R: Wait + Drop,
+    A: Bookkeeping,
+    W: Drop,
+{
+    fn drop(self) {
+        let Handle { control, thread } = self;
+        control.stopper.request_stop();
+        drop::<_>(control);
+        drop::<_>(thread);
     }
 }
 
@@ -76,25 +139,41 @@ where
         N: Sender<P> + Send + Drop + 'static,
         V: Receiver<P> + Send + Drop + 'static,
     {
-        match self.prepare(rt, network) {
-            Ok(Prepared { ready, stopper }) => {
-                let (stopper, thread) = start_thread(rt, move || run(ready), stopper)?;
-                Ok(Handle { stopper, thread })
+        self.start_observed(rt, network, ())
+    }
+
+    /// Starts the engine as `start` does. The observer is handed its turns, and is in its report.
+    pub fn start_observed<N, V, W>(
+        self,
+        rt: &R,
+        network: (N, V),
+        observer: W,
+    ) -> Result<Handle<P, M, R, A, W>, StartError>
+    where
+        T::Job: Send + 'static,
+        N: Sender<P> + Send + Drop + 'static,
+        V: Receiver<P> + Send + Drop + 'static,
+        W: Observer<P> + Send + Drop + 'static,
+    {
+        match self.prepare_observed(rt, network, observer) {
+            Ok(Prepared { ready, control }) => {
+                let (control, thread) = start_thread(rt, move || run(ready), control)?;
+                Ok(Handle { control, thread })
             }
             Err(error) => Err(error),
         }
     }
 }
 
-/// An engine of a mailbox that is ready for its thread, and what asks it to stop.
+/// An engine of a mailbox that is ready for its thread, and what its handle reaches it by.
 #[derive(Drop)]
-pub struct Prepared<P: PublicKey, M: Digestible, B, C, T, N, V, R, A: Bookkeeping = ()> {
-    ready: ReadyEngine<P, M, B, C, T, N, V, R, A>,
-    stopper: Stopper<Incoming<P, M>, R, A>,
+pub struct Prepared<P: PublicKey, M: Digestible, B, C, T, N, V, R, A: Bookkeeping = (), W = ()> {
+    ready: ReadyEngine<P, M, B, C, T, N, V, R, A, W>,
+    control: Control<P, M, R, A>,
 }
 
 /// An engine of a mailbox that is ready for its thread.
-type ReadyEngine<P, M, B, C, T, N, V, R, A> = Ready<
+type ReadyEngine<P, M, B, C, T, N, V, R, A, W> = Ready<
     P,
     M,
     oneshot::Sender<Reply<M>>,
@@ -106,6 +185,7 @@ type ReadyEngine<P, M, B, C, T, N, V, R, A> = Ready<
     N,
     V,
     R,
+    W,
 >;
 
 impl<P, M, B, R, T, A> MailboxEngine<P, M, B, T, R, A>
@@ -130,25 +210,43 @@ where
         N: Sender<P> + Drop,
         V: Receiver<P> + Drop,
     {
-        match self.requests().stopper() {
-            Ok(stopper) => match make_ready(rt, self, network) {
-                Ok(ready) => Ok(Prepared { ready, stopper }),
-                Err(error) => {
-                    drop::<_>(stopper);
-                    Err(error)
+        self.prepare_observed(rt, network, ())
+    }
+
+    /// Makes the engine ready as `prepare` does. The observer is handed its turns, and is in its
+    /// report.
+    pub fn prepare_observed<N, V, W>(
+        self,
+        rt: &R,
+        network: (N, V),
+        observer: W,
+    ) -> Result<Prepared<P, M, B, M::Cfg, T, N, V, R, A, W>, StartError>
+    where
+        N: Sender<P> + Drop,
+        V: Receiver<P> + Drop,
+        W: Observer<P> + Drop,
+    {
+        match Control::new(rt, self.requests()) {
+            Ok((control, snapshots)) => {
+                match make_ready(rt, self, network, observer, snapshots) {
+                    Ok(ready) => Ok(Prepared { ready, control }),
+                    Err(error) => {
+                        drop::<_>(control);
+                        Err(error)
+                    }
                 }
-            },
+            }
             Err(_) => {
                 self.requests().close();
                 drop::<_>(self);
-                drop::<_>(network);
+                drop::<_>((network, observer));
                 Err(StartError::Memory)
             }
         }
     }
 }
 
-impl<P, M, B, G, N, V, R, A> Prepared<P, M, B, M::Cfg, Threaded<G, R>, N, V, R, A>
+impl<P, M, B, G, N, V, R, A, W> Prepared<P, M, B, M::Cfg, Threaded<G, R>, N, V, R, A, W>
 where
     P: PublicKey + Send + 'static,
     M: Digestible + Codec + Work<G, R> + Send + Sync + 'static,
@@ -161,15 +259,16 @@ where
     R: Threads + Wait + RandomSource + AllocGlobal + Clone + Send + Sync + Drop + 'static,
     A: Bookkeeping + Send + 'static,
     A::Taker: Send + 'static,
+    W: Observer<P> + Send + Drop + 'static,
 {
     /// Starts the engine in a thread of its own, which starts those that digest its messages. Jobs
     /// of [`Threaded`] may not move to another thread, so `Engine::start` is not for them.
     ///
     /// After an error the engine is given up, and its mailbox is closed.
-    pub fn start(self, rt: &R) -> Result<Handle<P, M, R, A>, StartError> {
-        let Prepared { ready, stopper } = self;
-        let (stopper, thread) = start_thread(rt, move || run(ready), stopper)?;
-        Ok(Handle { stopper, thread })
+    pub fn start(self, rt: &R) -> Result<Handle<P, M, R, A, W>, StartError> {
+        let Prepared { ready, control } = self;
+        let (control, thread) = start_thread(rt, move || run(ready), control)?;
+        Ok(Handle { control, thread })
     }
 }
 
@@ -216,24 +315,25 @@ where
     Engine::new(rt.clone()?, rt.alloc(), cfg)
 }
 
-/// Starts the thread of an engine whose mailbox has this stopper.
-fn start_thread<A, F, I, R, B>(
+/// Starts the thread of an engine that is reached by `control`.
+fn start_thread<X, F, P, M, R, A>(
     rt: &R,
     work: F,
-    stopper: Stopper<I, R, B>,
-) -> Result<(Stopper<I, R, B>, JoinHandle<A>), StartError>
+    control: Control<P, M, R, A>,
+) -> Result<(Control<P, M, R, A>, JoinHandle<X>), StartError>
 where
-    A: Send + Drop + 'static,
-    F: FnOnce() -> A + Send + 'static,
-    I: Drop,
+    X: Send + Drop + 'static,
+    F: FnOnce() -> X + Send + 'static,
+    P: PublicKey,
+    M: Digestible,
     R: Threads + Wait + Drop,
-    B: Bookkeeping,
+    A: Bookkeeping,
     requires { F.pre work }
 {
-    match spawn(rt, work, &stopper) {
-        Ok(thread) => Ok((stopper, thread)),
+    match spawn(rt, work, &control.stopper) {
+        Ok(thread) => Ok((control, thread)),
         Err(error) => {
-            drop::<_>(stopper);
+            drop::<_>(control);
             Err(error)
         }
     }

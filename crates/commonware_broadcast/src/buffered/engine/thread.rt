@@ -9,15 +9,17 @@ ghost use Rattle.broadcast_mailbox.specs.Watch.{BroadcastsOnly};
 use crate::buffered::engine::parts::Parts;
 use crate::buffered::engine::running::run_turns;
 use crate::buffered::engine::state::Engine;
+use crate::buffered::observer::Observer;
+use crate::buffered::snapshots::Snapshots;
 use crate::buffered::strategy::Strategy;
 use broadcast_core::{Codec, Digestible, PublicKey};
 use broadcast_mailbox::buffered::{
     Account, Bookkeeping, Books, Ingress, Message, Reply, Responder, Settled, Stopper, Tally, Watch,
 };
-use engine_io::{EndCause, Metrics, Outlet, Provider, Receiver, Requests, Sender};
+use engine_io::{EndCause, Metrics, Outlet, Provider, Receiver, Requests, Sender, Turn};
 use std::alloc::AllocGlobal;
 use std::random::RandomSource;
-use std::sync::Wait;
+use std::sync::{Arc, Wait};
 use std::thread;
 use std::thread::{JoinHandle, Threads};
 use thiserror::Error;
@@ -35,13 +37,14 @@ pub enum StartError {
 
 /// What a started engine leaves.
 #[derive(Drop)]
-pub struct Report<P: PublicKey, Q> {
+pub struct Report<P: PublicKey, Q, W = ()> {
     cause: EndCause,
     metrics: Metrics<P>,
     requests: Q,
+    observer: W,
 }
 
-impl<P: PublicKey, Q> Report<P, Q> {
+impl<P: PublicKey, Q, W> Report<P, Q, W> {
     /// Returns why the engine ended.
     pub fn cause(&self) -> EndCause
         ensures { result ≡ self.now.cause }
@@ -55,9 +58,36 @@ impl<P: PublicKey, Q> Report<P, Q> {
     {
         &self.metrics
     }
+
+    /// Returns the observer, which was handed every turn.
+    pub fn observer(&self) -> &W
+        ensures { result.now ≡ self.now.observer }
+    {
+        &self.observer
+    }
+
+    /// Returns the observer, and drops the rest.
+    pub fn into_observer(self) -> W
+    where
+        Q: Drop,
+        ensures { result ≡ self.observer }
+    {
+        let Report {
+            cause: _,
+            metrics,
+            requests,
+            observer,
+        } = self;
+        drop::<_>((metrics, requests));
+        observer
+    }
 }
 
-impl<P, M, S, G, R, A, K, V> Report<P, Ingress<Message<P, M, S, G>, R, Books<A, K, V, M::Digest>>>
+impl<P, M, S, G, R, A, K, V, W> Report<
+    P,
+    Ingress<Message<P, M, S, G>, R, Books<A, K, V, M::Digest>>,
+    W,
+>
 where
     P: PublicKey,
     M: Digestible,
@@ -67,6 +97,7 @@ where
     A: Account,
     K: Account,
     V: Watch<M::Digest>,
+    W: Drop,
 {
     /// Tells what became of the counted requests, of which none is left. Fails only if the tally
     /// lacks a part.
@@ -85,10 +116,11 @@ where
             cause,
             metrics,
             requests,
+            observer,
         } = self;
         match requests.settle(tally) {
             Ok(settled) => {
-                drop::<_>(metrics);
+                drop::<_>((metrics, observer));
                 Ok(settled)
             }
             Err((requests, tally)) => {
@@ -96,6 +128,7 @@ where
                     cause,
                     metrics,
                     requests,
+                    observer,
                 };
                 Err((report, tally))
             }
@@ -103,21 +136,26 @@ where
     }
 }
 
-/// An engine without a job, with its network, which may move to the thread that runs it.
+/// An engine without a job, with its network and its observer, which may move to the thread that
+/// runs it.
 #[derive(Drop)]
-pub struct Ready<P: PublicKey, M: Digestible, S, O, B, Q, C, T, N, V, R> {
+pub struct Ready<P: PublicKey, M: Digestible, S, O, B, Q, C, T, N, V, R, W = ()> {
     parts: Parts<P, M, S, O, B, Q, C, T>,
     network: (N, V),
+    observer: W,
+    snapshots: Arc<Snapshots<P>>,
     rt: R,
 }
 
 /// Makes an engine ready for its thread: a job that is pending is finished, since a job may not
 /// move to another thread. After an error the engine has ended, and its requests are closed.
-pub fn make_ready<P, M, S, G, O, B, Q, T, N, V, R>(
+pub fn make_ready<P, M, S, G, O, B, Q, T, N, V, R, W>(
     rt: &R,
     engine: Engine<P, M, S, O, B, Q, T>,
     network: (N, V),
-) -> Result<Ready<P, M, S, O, B, Q, M::Cfg, T, N, V, R>, StartError>
+    observer: W,
+    snapshots: Arc<Snapshots<P>>,
+) -> Result<Ready<P, M, S, O, B, Q, M::Cfg, T, N, V, R, W>, StartError>
 where
     P: PublicKey,
     M: Digestible + Codec,
@@ -131,6 +169,7 @@ where
     N: Sender<P> + Drop,
     V: Receiver<P> + Drop,
     R: Wait + RandomSource + AllocGlobal + Clone + Drop,
+    W: Observer<P> + Drop,
     ensures { IfOk result (λ ready. IsSettled (same_by P.cmp M.Digest.cmp) M.encoding M.digest_of
         (λ cfg. whole (M.reading cfg)) (λ w b. S.may_answer w.responder b) T.Job.is_of
         O.Outlet N.Sender V.Receiver B.Provider Q.Requests
@@ -138,15 +177,24 @@ where
 {
     let mut engine = engine;
     let mut network = network;
-    match settle::<P, M, S, G, O, B, Q, T, N, V, R>(rt, &mut engine, &mut network) {
+    let mut observer = observer;
+    match settle::<P, M, S, G, O, B, Q, T, N, V, R, W>(
+        rt,
+        &mut engine,
+        &mut network,
+        &mut observer,
+        &snapshots,
+    ) {
         Ok(rt) => Ok(Ready {
             parts: engine.into_parts(),
             network,
+            observer,
+            snapshots,
             rt,
         }),
         Err(error) => {
             drop::<_>(engine);
-            drop::<_>(network);
+            drop::<_>((network, observer, snapshots));
             Err(error)
         }
     }
@@ -154,10 +202,12 @@ where
 
 /// Finishes the job, and returns the handle of the engine's thread. After an error the engine has
 /// ended.
-fn settle<P, M, S, G, O, B, Q, T, N, V, R>(
+fn settle<P, M, S, G, O, B, Q, T, N, V, R, W>(
     rt: &R,
     engine: &mut Engine<P, M, S, O, B, Q, T>,
     network: &mut (N, V),
+    observer: &mut W,
+    snapshots: &Snapshots<P>,
 ) -> Result<R, StartError>
 where
     P: PublicKey,
@@ -171,25 +221,30 @@ where
     N: Sender<P>,
     V: Receiver<P>,
     R: Wait + RandomSource + AllocGlobal + Clone,
+    W: Observer<P>,
     ensures took { OnOk result (Took (same_by P.cmp M.Digest.cmp) M.encoding M.digest_of
         (λ cfg. whole (M.reading cfg)) (λ w b. S.may_answer w.responder b) T.Job.is_of
         O.Outlet N.Sender V.Receiver B.Provider Q.Requests
         engine.old engine.new network.old network.new) }
     ensures settled { OnOk result (engine.new.end ≡ None → engine.new.job ≡ None) }
 {
-    if run_turns::<P, M, S, G, O, B, Q, T, N, V, R>(rt, engine, network, true).is_ok() {
+    let ran = run_turns::<P, M, S, G, O, B, Q, T, N, V, R, W>(
+        rt, engine, network, observer, snapshots, true,
+    );
+    if ran.is_ok() {
         if let Ok(own) = rt.clone() {
             return Ok(own);
         }
     }
     engine.end::<G>(EndCause::WaitFailed);
+    tell_end(rt, EndCause::WaitFailed, observer, snapshots);
     Err(StartError::Memory)
 }
 
 /// Runs the engine until it ends. Returns what it leaves.
-pub fn run<P, M, S, G, O, B, Q, T, N, V, R>(
-    ready: Ready<P, M, S, O, B, Q, M::Cfg, T, N, V, R>,
-) -> Report<P, Q>
+pub fn run<P, M, S, G, O, B, Q, T, N, V, R, W>(
+    ready: Ready<P, M, S, O, B, Q, M::Cfg, T, N, V, R, W>,
+) -> Report<P, Q, W>
 where
     P: PublicKey,
     M: Digestible + Codec,
@@ -203,30 +258,47 @@ where
     N: Sender<P> + Drop,
     V: Receiver<P> + Drop,
     R: Wait + RandomSource + AllocGlobal + Drop,
+    W: Observer<P>,
     ensures left { Left (same_by P.cmp M.Digest.cmp) M.encoding M.digest_of
         (λ cfg. whole (M.reading cfg)) (λ w b. S.may_answer w.responder b) T.Job.is_of
         O.Outlet N.Sender V.Receiver B.Provider Q.Requests
         (ready_engine ready) ready.network result.cause result.metrics }
 {
-    let Ready { parts, network, rt } = ready;
+    let Ready {
+        parts,
+        network,
+        observer,
+        snapshots,
+        rt,
+    } = ready;
     let mut engine = Engine::from_parts(parts);
     let mut network = network;
-    let cause = run_until_end::<P, M, S, G, O, B, Q, T, N, V, R>(&rt, &mut engine, &mut network);
-    drop::<_>(network);
-    drop::<_>(rt);
+    let mut observer = observer;
+    let cause = run_until_end::<P, M, S, G, O, B, Q, T, N, V, R, W>(
+        &rt,
+        &mut engine,
+        &mut network,
+        &mut observer,
+        &snapshots,
+    );
+    tell_end(&rt, cause, &mut observer, &snapshots);
+    drop::<_>((network, snapshots, rt));
     let (metrics, requests) = engine.into_metrics();
     Report {
         cause,
         metrics,
         requests,
+        observer,
     }
 }
 
 /// Runs the engine until it ends, and returns why. If its thread can't wait, it is given up.
-fn run_until_end<P, M, S, G, O, B, Q, T, N, V, R>(
+fn run_until_end<P, M, S, G, O, B, Q, T, N, V, R, W>(
     rt: &R,
     engine: &mut Engine<P, M, S, O, B, Q, T>,
     network: &mut (N, V),
+    observer: &mut W,
+    snapshots: &Snapshots<P>,
 ) -> EndCause
 where
     P: PublicKey,
@@ -240,19 +312,34 @@ where
     N: Sender<P>,
     V: Receiver<P>,
     R: Wait + RandomSource + AllocGlobal,
+    W: Observer<P>,
     ensures left { Left (same_by P.cmp M.Digest.cmp) M.encoding M.digest_of
         (λ cfg. whole (M.reading cfg)) (λ w b. S.may_answer w.responder b) T.Job.is_of
         O.Outlet N.Sender V.Receiver B.Provider Q.Requests
         engine.old network.old result engine.new.node.metrics }
     ensures ends { engine.new.end ≡ Some result }
 {
-    match run_turns::<P, M, S, G, O, B, Q, T, N, V, R>(rt, engine, network, false) {
+    let ran = run_turns::<P, M, S, G, O, B, Q, T, N, V, R, W>(
+        rt, engine, network, observer, snapshots, false,
+    );
+    match ran {
         Ok(Some(cause)) => cause,
         _ => {
             engine.end::<G>(EndCause::WaitFailed);
             EndCause::WaitFailed
         }
     }
+}
+
+/// Tells the end of an engine to its observer, and to those who ask for its counters.
+fn tell_end<P, R, W>(rt: &R, cause: EndCause, observer: &mut W, snapshots: &Snapshots<P>)
+where
+    P: PublicKey,
+    R: Wait + AllocGlobal,
+    W: Observer<P>,
+{
+    observer.turn(&Turn::Ended(cause));
+    snapshots.end(rt, rt.alloc());
 }
 
 /// Starts a thread that does `work`, the run of an engine whose mailbox has this stopper. If no

@@ -4,9 +4,9 @@ use Rattle.commonware_broadcast.proofs.Polls.{Took-append}
 use Rattle.commonware_broadcast.proofs.buffered.engine.running.run_turns.Goals as goal
 
 pub returns-in-Ready-clause-took : goal.returns-in-Ready-clause-took
-returns-in-Ready-clause-took g c = Took-append (same_by g.P.Ord.cmp g.M.Digest.Ord.cmp) g.M.Write.encoding g.M.Digestible.digest_of (λ cfg. whole (g.M.Read.reading cfg)) (λ w b. g.S.Responder.may_answer w.responder b) g.T.Job.Job.is_of g.O.Outlet g.N.Sender g.R.Receiver g.B.Provider g.Q.Requests
+returns-in-Ready-clause-took g c = Took-append (same_by g.P.Ord.cmp g.M.Digest.Ord.cmp) g.M.Write.encoding g.M.Digestible.digest_of (λ cfg. whole (g.M.Read.reading cfg)) (λ w b. g.S.Responder.may_answer w.responder b) g.T.Job.Job.is_of g.O.Outlet g.N.Sender g.V.Receiver g.B.Provider g.Q.Requests
     c.args.engine.now c.loop.engine c.poll_turns-polled.new.engine c.args.network.now c.loop.network c.poll_turns-polled.new.network c.loop.invariant c.poll_turns-polled.ensures.took
 
 pub loop-preserved : goal.loop-preserved
-loop-preserved g c = Took-append (same_by g.P.Ord.cmp g.M.Digest.Ord.cmp) g.M.Write.encoding g.M.Digestible.digest_of (λ cfg. whole (g.M.Read.reading cfg)) (λ w b. g.S.Responder.may_answer w.responder b) g.T.Job.Job.is_of g.O.Outlet g.N.Sender g.R.Receiver g.B.Provider g.Q.Requests
+loop-preserved g c = Took-append (same_by g.P.Ord.cmp g.M.Digest.Ord.cmp) g.M.Write.encoding g.M.Digestible.digest_of (λ cfg. whole (g.M.Read.reading cfg)) (λ w b. g.S.Responder.may_answer w.responder b) g.T.Job.Job.is_of g.O.Outlet g.N.Sender g.V.Receiver g.B.Provider g.Q.Requests
     c.args.engine.now c.loop.engine c.poll_turns-polled.new.engine c.args.network.now c.loop.network c.poll_turns-polled.new.network c.loop.invariant c.poll_turns-polled.ensures.took

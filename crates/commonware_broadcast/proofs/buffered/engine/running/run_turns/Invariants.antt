@@ -4,4 +4,4 @@ use Rattle.commonware_broadcast.specs.Polls.{Took}
 use Rattle.commonware_broadcast.proofs.buffered.engine.running.run_turns.Given as goal
 
 abbrev pub invariant-loop : goal.invariant-loop
-invariant-loop g l = Took (same_by g.P.Ord.cmp g.M.Digest.Ord.cmp) g.M.Write.encoding g.M.Digestible.digest_of (λ cfg. whole (g.M.Read.reading cfg)) (λ w b. g.S.Responder.may_answer w.responder b) g.T.Job.Job.is_of g.O.Outlet g.N.Sender g.R.Receiver g.B.Provider g.Q.Requests l.fn.engine l.engine l.fn.network l.network
+invariant-loop g l = Took (same_by g.P.Ord.cmp g.M.Digest.Ord.cmp) g.M.Write.encoding g.M.Digestible.digest_of (λ cfg. whole (g.M.Read.reading cfg)) (λ w b. g.S.Responder.may_answer w.responder b) g.T.Job.Job.is_of g.O.Outlet g.N.Sender g.V.Receiver g.B.Provider g.Q.Requests l.fn.engine l.engine l.fn.network l.network

@@ -1,0 +1,108 @@
+//! A line of text for each turn.
+ghost use Rattle.std.specs.Prelude.{◌≡◌, None};
+
+use super::Observer;
+use broadcast_core::{Cause, Outcome};
+use engine_io::{EndCause, Turn};
+use std::fmt;
+use std::io::{self, Write};
+
+/// Writes a line for each turn, until a write fails. A line names the peer of a payload by its
+/// `Debug` text.
+#[derive(Drop)]
+pub struct Lines<W> {
+    out: W,
+    error: Option<io::Error>,
+}
+
+impl<W> Lines<W> {
+    /// Creates an observer that writes to `out`.
+    pub fn new(out: W) -> Self
+        ensures { result ≡ record { out = out; error = None } }
+    {
+        Lines { out, error: None }
+    }
+
+    /// Returns the error of the write that failed.
+    pub fn error(&self) -> Option<io::Error>
+        ensures { result ≡ self.now.error }
+    {
+        self.error
+    }
+
+    /// Returns what the lines were written to.
+    pub fn into_inner(self) -> W
+        ensures { result ≡ self.out }
+    {
+        let Lines { out, error: _ } = self;
+        out
+    }
+}
+
+impl<P: fmt::Debug, W: Write> Observer<P> for Lines<W> {
+    fn turn(&mut self, turn: &Turn<P>) {
+        if self.error.is_some() {
+            return;
+        }
+        let line = Line(turn);
+        if let Err(error) = writeln!(self.out, "{line}") {
+            self.error = Some(error);
+        }
+    }
+}
+
+/// A turn as a line of text.
+#[derive(Drop)]
+struct Line<'a, P>(&'a Turn<P>);
+
+impl<P: fmt::Debug> fmt::Display for Line<'_, P> {
+    fn fmt<W: fmt::Write>(&self, f: &mut fmt::Formatter<W>) -> fmt::Result {
+        match self.0 {
+            Turn::Peers => f.write_str("peers"),
+            Turn::Broadcast(outcome) => write_two(f, "broadcast", outcome_word(*outcome)),
+            Turn::Subscribe => f.write_str("subscribe"),
+            Turn::Get => f.write_str("get"),
+            Turn::Payload(peer, outcome) => {
+                write!(f, "payload of {peer:?} {}", outcome_word(*outcome))
+            }
+            Turn::Invalid(peer, error) => write!(f, "invalid payload of {peer:?}: {error}"),
+            Turn::Refused(Some(peer), cause) => {
+                write!(f, "refused payload of {peer:?}: {}", cause_words(*cause))
+            }
+            Turn::Refused(None, cause) => write_two(f, "refused:", cause_words(*cause)),
+            Turn::Ended(cause) => write_two(f, "ended:", end_words(*cause)),
+        }
+    }
+}
+
+/// Writes both with a space between them.
+fn write_two<W: fmt::Write>(f: &mut fmt::Formatter<W>, one: &str, other: &str) -> fmt::Result {
+    f.write_str(one)?;
+    f.write_str(" ")?;
+    f.write_str(other)
+}
+
+fn outcome_word(outcome: Outcome) -> &'static str {
+    match outcome {
+        Outcome::Inserted => "inserted",
+        Outcome::Duplicate => "duplicate",
+        Outcome::Ineligible => "ineligible",
+        Outcome::Oversize => "oversize",
+    }
+}
+
+fn cause_words(cause: Cause) -> &'static str {
+    match cause {
+        Cause::Memory => "out of memory",
+        Cause::Unencodable => "no encoding",
+    }
+}
+
+fn end_words(cause: EndCause) -> &'static str {
+    match cause {
+        EndCause::Stopped => "stopped",
+        EndCause::PeersClosed => "no more peer sets",
+        EndCause::NetworkFailed => "the network failed",
+        EndCause::WaitFailed => "no memory to wait with",
+    }
+}

@@ -1,0 +1,71 @@
+//! The latest turns.
+ghost use Rattle.std.specs.Prelude.{◌≡◌, ◌+◌, ◌-◌, ◌≤◌, [], ◌∷◌, ◌++◌, drop, length, IfOk};
+ghost use Rattle.std.specs.VecDeque.{deque_len, deque_capacity};
+
+use super::Observer;
+use broadcast_core::PublicKey;
+use engine_io::Turn;
+use std::alloc::{AllocError, Global};
+use std::collections::VecDeque;
+
+/// Keeps the latest turns. One that can't be copied is counted alone.
+#[derive(Drop)]
+pub struct Recent<P: PublicKey> {
+    turns: VecDeque<Turn<P>>,
+    limit: usize,
+    seen: u64,
+    ghost within_limit: { deque_len turns ≤ limit },
+    ghost has_room: { limit ≤ deque_capacity turns },
+}
+
+impl<P: PublicKey> Recent<P> {
+    /// Creates an observer that keeps at most `limit` turns, or an allocation failure.
+    pub fn new(alloc: Global, limit: usize) -> Result<Self, AllocError>
+        ensures empty { IfOk result (λ recent. recent.turns.items ≡ []) }
+        ensures limit { IfOk result (λ recent. recent.limit ≡ limit) }
+    {
+        Ok(Recent {
+            turns: VecDeque::with_capacity(alloc, limit)?,
+            limit,
+            seen: 0,
+        })
+    }
+
+    /// Returns the turns that are kept, oldest first.
+    pub fn turns(&self) -> &VecDeque<Turn<P>>
+        ensures { result.now ≡ self.now.turns }
+    {
+        &self.turns
+    }
+
+    /// Returns how many turns there were, and at most `u64::MAX`.
+    pub fn seen(&self) -> u64
+        ensures { result ≡ self.now.seen }
+    {
+        self.seen
+    }
+
+    /// Keeps the turn in place of the oldest one, if there is no place left.
+    fn keep(&mut self, turn: Turn<P>)
+        ensures latest { let turns = self.old.turns.items ++ turn ∷ [] in
+            self.new.turns.items ≡ drop (length turns - self.old.limit) turns }
+        ensures same_limit { self.new.limit ≡ self.old.limit }
+    {
+        if self.turns.len() < self.limit {
+            self.turns.push_back_reserved(turn);
+            return;
+        }
+        if self.turns.pop_front().is_some() {
+            self.turns.push_back_reserved(turn);
+        }
+    }
+}
+
+impl<P: PublicKey> Observer<P> for Recent<P> {
+    fn turn(&mut self, turn: &Turn<P>) {
+        self.seen = self.seen.saturating_add(1);
+        if let Ok(turn) = turn.clone() {
+            self.keep(turn);
+        }
+    }
+}

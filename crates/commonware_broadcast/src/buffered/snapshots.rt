@@ -1,0 +1,167 @@
+//! The counters of a running engine, for those who ask for them.
+ghost use Rattle.std.specs.Prelude.{◌≡◌, None, [], ◌∷◌, ◌++◌, OnOk, OnErr, IfOk};
+ghost use Rattle.std.specs.Ordering.{eq_by_cmp};
+ghost use Rattle.futures.specs.Task.{IsArmed, Keeps};
+ghost use Rattle.engine_io.specs.Counters.{IsCopy};
+
+use broadcast_core::PublicKey;
+use engine_io::Metrics;
+use futures::channel::oneshot::{self, Canceled, Sender};
+use futures::executor::block_on;
+use futures::task::{Context, Poll, Source, Waker};
+use std::alloc::{AllocError, AllocGlobal, Global};
+use std::mem;
+use std::random::RandomSource;
+use std::sync::atomic::{AtomicBool, Ordering};
+use std::sync::{Mutex, Wait};
+use thiserror::Error;
+
+/// Why the counters of a started engine can't be had.
+#[derive(Clone, Copy, Debug, PartialEq, Eq, Error)]
+pub enum MetricsError {
+    /// An allocation failed.
+    #[error("out of memory")]
+    Memory,
+    /// The engine has ended. Its report has the counters.
+    #[error("the engine has ended")]
+    Ended,
+}
+
+/// A copy of the counters, or an allocation failure.
+type Copied<P> = Result<Metrics<P>, AllocError>;
+
+/// The callers that ask for the counters of an engine, and what wakes its thread.
+#[derive(Drop)]
+struct Asking<P: PublicKey> {
+    callers: Vec<Sender<Copied<P>>>,
+    waker: Option<Waker>,
+}
+
+impl<P: PublicKey> Asking<P> {
+    fn new(alloc: Global) -> Self
+        ensures { result.callers.items ≡ [] }
+    {
+        Asking {
+            callers: Vec::new(alloc),
+            waker: None,
+        }
+    }
+
+    /// Adds a caller. Returns what wakes the thread of the engine.
+    fn add(&mut self, caller: Sender<Copied<P>>) -> Result<Option<Waker>, AllocError>
+        ensures last { OnOk result
+            (self.new.callers.items ≡ self.old.callers.items ++ caller ∷ []) }
+        ensures wakes { IfOk result (λ woken. woken ≡ self.old.waker) }
+        ensures nobody_waits { OnOk result (self.new.waker ≡ None) }
+        ensures unchanged { OnErr result (self.new.callers.items ≡ self.old.callers.items) }
+    {
+        self.callers.push(caller)?;
+        Ok(self.waker.take())
+    }
+
+    /// Takes all callers. The thread is woken once another one asks.
+    fn take(
+        &mut self,
+        alloc: Global,
+        source: &Source,
+        cx: &mut Context<'_>,
+    ) -> Vec<Sender<Copied<P>>>
+        ensures all { result.items ≡ self.old.callers.items }
+        ensures none_left { self.new.callers.items ≡ [] }
+        ensures armed { IsArmed cx.new }
+        ensures kept { Keeps cx.old cx.new }
+    {
+        let _pending: Poll<()> = cx.register(source, &mut self.waker);
+        mem::replace(&mut self.callers, Vec::new(alloc))
+    }
+}
+
+/// Where callers ask for the counters of a running engine.
+///
+/// The thread of the engine has a task of its own for them, so they cost its polls nothing.
+#[derive(Drop)]
+pub struct Snapshots<P: PublicKey> {
+    // Fires once somebody asks.
+    asked: Source,
+    asking: Mutex<Asking<P>>,
+    has_ended: AtomicBool,
+}
+
+impl<P: PublicKey> Snapshots<P> {
+    /// Creates the place of an engine that has not ended, for whose counters nobody asks.
+    pub fn new(alloc: Global) -> Self {
+        Snapshots {
+            asked: Source::new(),
+            asking: Mutex::new(Asking::new(alloc)),
+            has_ended: AtomicBool::new(false),
+        }
+    }
+
+    /// Returns whether the engine has ended.
+    pub fn has_ended(&self) -> bool {
+        self.has_ended.load(Ordering::SeqCst)
+    }
+
+    /// Waits for a copy of the counters.
+    pub fn ask<R>(&self, rt: &R) -> Result<Metrics<P>, MetricsError>
+    where
+        R: Wait + RandomSource + AllocGlobal,
+    {
+        let Ok((sender, receiver)) = oneshot::channel(rt.alloc()) else {
+            return Err(MetricsError::Memory);
+        };
+        self.put(rt, sender)?;
+        match block_on(rt, receiver) {
+            Ok(Ok(Ok(metrics))) => Ok(metrics),
+            Ok(Err(Canceled)) => Err(MetricsError::Ended),
+            Ok(Ok(Err(AllocError))) | Err(_) => Err(MetricsError::Memory),
+        }
+    }
+
+    /// Adds a caller, and wakes the thread of the engine.
+    fn put(&self, rt: &impl Wait, caller: Sender<Copied<P>>) -> Result<(), MetricsError> {
+        let mut asking = self.asking.lock(rt);
+        // An engine that ends sets this before it drops the callers under the lock.
+        if self.has_ended() {
+            return Err(MetricsError::Ended);
+        }
+        let Ok(woken) = asking.add(caller) else {
+            return Err(MetricsError::Memory);
+        };
+        drop(asking);
+        drop(woken);
+        Ok(())
+    }
+
+    /// Hands a copy of the counters to all who ask for them. The thread is woken once another one
+    /// asks.
+    pub(crate) fn answer(
+        &self,
+        rt: &impl Wait,
+        alloc: Global,
+        metrics: &Metrics<P>,
+        cx: &mut Context<'_>,
+    )
+        ensures armed { IsArmed cx.new }
+        ensures kept { Keeps cx.old cx.new }
+    {
+        let callers = self.asking.lock(rt).take(alloc, &self.asked, cx);
+        for caller in callers {
+            let _is_sent = caller.send(copy_of(metrics));
+        }
+    }
+
+    /// Tells callers that the engine has ended: those who ask, and those who will.
+    pub(crate) fn end(&self, rt: &impl Wait, alloc: Global) {
+        self.has_ended.store(true, Ordering::SeqCst);
+        let asking = mem::replace(&mut *self.asking.lock(rt), Asking::new(alloc));
+        drop::<_>(asking);
+    }
+}
+
+/// Returns a copy of the counters, or an allocation failure.
+fn copy_of<P: PublicKey>(metrics: &Metrics<P>) -> Copied<P>
+    ensures { IfOk result (IsCopy (eq_by_cmp P.cmp) metrics.now) }
+{
+    metrics.clone()
+}
