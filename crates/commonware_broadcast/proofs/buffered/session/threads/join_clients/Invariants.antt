@@ -1,7 +1,6 @@
 use Rattle.std.proofs.Common.{◌≡◌, length}
 use Rattle.std.specs.Prelude.{◌+◌, ◌≤◌, vec_len, vec_capacity}
 use Rattle.std.specs.Vec.Iter.{into_iter_items, into_iter_len}
-use Rattle.broadcast_mailbox.specs.Account.{TallyState}
 use Rattle.commonware_broadcast.proofs.buffered.session.threads.join_clients.Given as goal
 
 -- each thread has one part, and there is room for what it left

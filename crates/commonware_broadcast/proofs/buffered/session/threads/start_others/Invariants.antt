@@ -1,6 +1,5 @@
 use Rattle.std.proofs.Common.{◌≡◌, length}
 use Rattle.std.specs.Prelude.{◌+◌, ◌≤◌}
-use Rattle.broadcast_mailbox.specs.Account.{TallyState}
 use Rattle.commonware_broadcast.proofs.buffered.session.threads.start_others.Given as goal
 
 -- each thread got one part
