@@ -2,6 +2,7 @@
 //! relays.
 mod calls;
 mod inbox;
+mod limits;
 mod note;
 mod overflow;
 mod polls;

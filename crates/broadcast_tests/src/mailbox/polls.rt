@@ -14,18 +14,18 @@ use std::sync::Wait;
 use std::test::Fail;
 
 /// The digest that is asked for.
-const DIGEST: u64 = 7;
+pub(super) const DIGEST: u64 = 7;
 
 /// The call that made the future.
 #[derive(Clone, Copy)]
-enum Call {
+pub(super) enum Call {
     Subscribe,
     Get,
 }
 
 /// What becomes of the request.
 #[derive(Clone, Copy)]
-enum End {
+pub(super) enum End {
     /// Its reply is a message under this digest.
     Replied(u64),
     /// Its reply is `None`.
@@ -38,7 +38,7 @@ enum End {
 
 /// A call, what becomes of its request, and the digest of the message that its future gives.
 #[derive(Clone, Copy)]
-struct Row(Call, End, Option<u64>);
+pub(super) struct Row(pub Call, pub End, pub Option<u64>);
 
 static ROWS: [Row; 9] = [
     Row(Call::Subscribe, End::Replied(7), Some(7)),
@@ -52,7 +52,7 @@ static ROWS: [Row; 9] = [
     Row(Call::Get, End::GivenUp, None),
 ];
 
-fn rows() -> &'static [Row] {
+pub(super) fn rows() -> &'static [Row] {
     &ROWS
 }
 
@@ -120,7 +120,7 @@ fn given_to_get<R: Wait + RandomSource + AllocGlobal>(
 }
 
 /// Ends the request that waits.
-fn end_request<R: Wait>(
+pub(super) fn end_request<R: Wait>(
     ingress: &Ingress<Incoming<u64, Note>, R>,
     alloc: Global,
     end: End,
