@@ -1,12 +1,13 @@
 //! What the observers of a started engine see.
 use super::nodes::{digest, prepare, send, track};
 use broadcast_core::{Codec, CodecError, Digestible, Key, Outcome, RangeCfg, TestMessage};
+use cluster_lib::keys::key_of;
 use cluster_lib::node::Prepared;
 use commonware_broadcast::buffered::{
     EndCause, Handle, Lines, Mailbox, Observer, Recent, Sequential, Strategy, Turn,
 };
 use memory_network::Mail;
-use std::alloc::AllocGlobal;
+use std::alloc::{AllocError, AllocGlobal, Global};
 use std::io::{self, Write};
 use std::random::RandomSource;
 use std::sync::{Arc, Wait};
@@ -80,18 +81,19 @@ where
 }
 
 /// The lines of these turns.
-const LINES: &str = "peers
-get
-invalid: the bytes end too early
-payload inserted
-ended: the network failed
-";
+fn lines(alloc: Global) -> Result<String, AllocError> {
+    let peer = key_of(5);
+    format!(in alloc;
+        "peers\nget\ninvalid payload of {peer:?}: the bytes end too early\n\
+         payload of {peer:?} inserted\nended: the network failed\n"
+    )
+}
 
 #[test]
 fn each_turn_is_a_line(rt: HostRuntime) -> Result<(), Fail> {
-    let lines = observe(&rt, Lines::new(Vec::new(rt.alloc())))?;
-    assert!(rt; lines.error().is_none());
-    assert_eq!(rt; lines.into_inner().as_slice(), LINES.as_bytes());
+    let seen = observe(&rt, Lines::new(Vec::new(rt.alloc())))?;
+    assert!(rt; seen.error().is_none());
+    assert_eq!(rt; seen.into_inner().as_slice(), lines(rt.alloc())?.as_bytes());
     Ok(())
 }
 
@@ -99,13 +101,13 @@ fn each_turn_is_a_line(rt: HostRuntime) -> Result<(), Fail> {
 fn the_latest_turns_are_kept(rt: HostRuntime) -> Result<(), Fail> {
     let recent = observe(&rt, Recent::new(rt.alloc(), 3)?)?;
     let expected = [
-        Turn::Invalid(CodecError::EndOfBuffer),
-        Turn::Payload(Outcome::Inserted),
+        Turn::Invalid(key_of(5), CodecError::EndOfBuffer),
+        Turn::Payload(key_of(5), Outcome::Inserted),
         Turn::Ended(EndCause::NetworkFailed),
     ];
     let mut turns = Vec::new(rt.alloc());
     for turn in recent.turns() {
-        turns.push(*turn)?;
+        turns.push(turn.clone()?)?;
     }
     assert_eq!(rt; turns.as_slice(), expected.as_slice());
     assert_eq!(rt; recent.seen(), 5);
