@@ -23,15 +23,27 @@ use std::thread::Threads;
 const USAGE: &str =
     "usage: examples [two_nodes | cache | note | relay | session | polled | mailbox]";
 
-/// The names of all examples, in the order in which they run.
-const NAMES: [&str; 7] = [
-    "two_nodes",
-    "cache",
-    "note",
-    "relay",
-    "session",
-    "polled",
-    "mailbox",
+/// The file of an example.
+#[derive(Clone, Copy)]
+enum Example {
+    TwoNodes,
+    Cache,
+    Note,
+    Relay,
+    Session,
+    Polled,
+    Mailbox,
+}
+
+/// All examples with their names, in the order in which they run.
+const EXAMPLES: [(&str, Example); 7] = [
+    ("two_nodes", Example::TwoNodes),
+    ("cache", Example::Cache),
+    ("note", Example::Note),
+    ("relay", Example::Relay),
+    ("session", Example::Session),
+    ("polled", Example::Polled),
+    ("mailbox", Example::Mailbox),
 ];
 
 fn main(rt: HostRuntime) -> Result<ExitCode, Error> {
@@ -39,44 +51,50 @@ fn main(rt: HostRuntime) -> Result<ExitCode, Error> {
         Ok(words) => words,
         Err(fault) => return Ok(ExitCode::from(fault.report(rt.stderr()))),
     };
-    let known = match words.as_slice() {
-        [] => show_all(&rt, &mut rt.stdout())?,
-        [name] => show(&rt, name.as_bytes(), &mut rt.stdout())?,
-        _ => false,
-    };
-    if known {
+    if show_named(&rt, &words, &mut rt.stdout())? {
         return Ok(ExitCode::SUCCESS);
     }
     writeln!(rt.stderr(), "{USAGE}")?;
     Ok(ExitCode::from(2))
 }
 
-/// Runs all examples.
-fn show_all<R>(rt: &R, out: &mut Stdout) -> Result<bool, Error>
+/// Runs the example that the words name, or all if there are none. Returns whether there is such
+/// an example.
+fn show_named<R>(rt: &R, words: &[String], out: &mut Stdout) -> Result<bool, Error>
 where
     R: Threads + Wait + RandomSource + AllocGlobal + Clone + Send + Sync + Drop + 'static,
 {
-    let mut known = true;
-    for name in NAMES {
-        known &= show(rt, name.as_bytes(), out)?;
+    let mut shown = false;
+    for (name, example) in EXAMPLES {
+        if is_named(words, name.as_bytes()) {
+            show(rt, example, out)?;
+            shown = true;
+        }
     }
-    Ok(known)
+    Ok(shown)
 }
 
-/// Runs the example of this name, which prints its results. Returns whether there is one.
-fn show<R>(rt: &R, name: &[u8], out: &mut Stdout) -> Result<bool, Error>
+/// Returns whether the words name the example of this name.
+fn is_named(words: &[String], name: &[u8]) -> bool {
+    match words {
+        [] => true,
+        [word] => word.as_bytes() == name,
+        _ => false,
+    }
+}
+
+/// Runs an example, which prints its results.
+fn show<R>(rt: &R, example: Example, out: &mut Stdout) -> Result<(), Error>
 where
     R: Threads + Wait + RandomSource + AllocGlobal + Clone + Send + Sync + Drop + 'static,
 {
-    match name {
-        b"two_nodes" => two_nodes::show(rt, out)?,
-        b"cache" => cache::show(rt.alloc(), out)?,
-        b"note" => note::show(rt.alloc(), out)?,
-        b"relay" => relay::show(rt, out)?,
-        b"session" => session::show(rt, out)?,
-        b"polled" => polled::show(rt, out)?,
-        b"mailbox" => mailbox::show(rt, out)?,
-        _ => return Ok(false),
+    match example {
+        Example::TwoNodes => two_nodes::show(rt, out),
+        Example::Cache => cache::show(rt.alloc(), out),
+        Example::Note => note::show(rt.alloc(), out),
+        Example::Relay => relay::show(rt, out),
+        Example::Session => session::show(rt, out),
+        Example::Polled => polled::show(rt, out),
+        Example::Mailbox => mailbox::show(rt, out),
     }
-    Ok(true)
 }

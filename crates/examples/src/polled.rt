@@ -31,8 +31,25 @@ where
     let ends = network(rt, &[1])?.join(rt, &key(1))?;
     let config = config(key(1), codec_config, ends.provider);
     let (mut engine, mailbox) = Engine::new(rt.clone()?, rt.alloc(), config)?;
-    let mut get = ask(&mailbox, message)?;
-    let turns = poll(rt, &mut engine, &mut (ends.sender, ends.receiver))?;
+    let mut network = (ends.sender, ends.receiver);
+    ask_of(rt, &mut engine, &mailbox, &mut network, message)
+}
+
+/// Broadcasts a message at the node of the engine and asks for it, and polls the engine then.
+fn ask_of<M, R>(
+    rt: &R,
+    engine: &mut MailboxEngine<Key, M, PeerSets<Key, R>, Sequential, R>,
+    mailbox: &Mailbox<Key, M, R>,
+    network: &mut (Outbound<Key, R>, Inbound<Key, R>),
+    message: Digested<M>,
+) -> Result<(Vec<Turn<Key>>, bool), Error>
+where
+    M: Digestible + Codec + Send + Sync + 'static,
+    M::Digest: 'static,
+    R: Wait + RandomSource + AllocGlobal + Clone + Send + Drop + 'static,
+{
+    let mut get = ask(mailbox, message)?;
+    let turns = poll(rt, engine, network)?;
     Ok((turns, matches!(get.try_wait(), Poll::Ready(Some(_)))))
 }
 

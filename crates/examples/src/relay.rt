@@ -1,60 +1,188 @@
-//! A relay: what a node received on one network goes to the mailbox of an engine on another.
-use super::two_nodes::message;
+//! A relay of three nodes with keys of 32 bytes: node 2 hands on to node 3 what it receives from
+//! node 1, and leaves out the peer that sends it what is no note.
+use super::note::Note;
+use super::two_nodes::{config, key, network, start};
 use anyhow::Error;
-use broadcast_relay::{Relay, Relayed, relay_of, relay_to};
-use commonware_broadcast::buffered::channel;
-use commonware_broadcast::{Digested, Event, Items, RangeCfg, Set, TestMessage, Write};
-use std::alloc::{AllocGlobal, Global};
+use broadcast_relay::relay_to;
+use commonware_broadcast::buffered::{Engine, Handle, Mailbox, Observer, Subscription, Turn};
+use commonware_broadcast::{
+    Broadcaster, Codec, Digested, Digestible, Key, RangeCfg, Recipients, Set, Write,
+};
+use memory_network::{Ends, Mail, Network};
+use std::alloc::{AllocError, AllocGlobal, Global};
 use std::io;
-use std::num::NonZeroUsize;
-use std::sync::Wait;
+use std::random::RandomSource;
+use std::sync::{Arc, Wait};
+use std::thread::Threads;
 
-/// Lets a node with key 1 subscribe to the message, which peer 5 sends. Returns what the node was
-/// answered.
-fn receive(
-    alloc: Global,
-    message: &Digested<TestMessage>,
-) -> Result<Vec<Digested<TestMessage>>, Error> {
-    let events = events(alloc, message)?;
-    let Relay { messages, .. } = relay_of(alloc, 1, 10, u64::MAX, false, &RangeCfg::any(), events)?;
-    Ok(messages)
+/// The numbers of all peers. The last of them is no node, and hostile.
+const PEERS: [u8; 4] = [1, 2, 3, 9];
+
+/// Watches the turns of a node, and takes a peer out of its peers that sends what is no message.
+#[derive(Drop)]
+struct Guard<R> {
+    mail: Arc<Mail<Key>>,
+    peers: Vec<Key>,
+    rt: R,
 }
 
-fn events(
-    alloc: Global,
-    message: &Digested<TestMessage>,
-) -> Result<Vec<Event<u64, TestMessage>>, Error> {
-    let mut bytes = Vec::new(alloc);
-    message.write(&mut bytes)?;
-    let primary = Set::from_iter_dedup(vec![in alloc; 1, 5]?)?;
-    Ok(vec![in alloc;
-        Event::Peers(primary),
-        Event::Subscribe(7, message.digest()),
-        Event::Payload(5, Items::from_vec(bytes)),
-    ]?)
+impl<R> Guard<R> {
+    /// Creates the guard of the node of this mail.
+    fn new(rt: &R, mail: &Arc<Mail<Key>>) -> Result<Self, AllocError>
+    where
+        R: AllocGlobal + Clone + Drop,
+    {
+        let mut peers = Vec::new(rt.alloc());
+        for number in PEERS {
+            peers.push(key(number))?;
+        }
+        Ok(Guard {
+            mail: Arc::try_clone(mail)?,
+            peers,
+            rt: rt.clone()?,
+        })
+    }
+
+    /// Gives the node its peers without this one.
+    fn leave_out(&mut self, peer: Key) -> Result<(), AllocError>
+    where
+        R: Wait,
+    {
+        self.peers.retain(|other| *other != peer);
+        let peers = Set::from_iter_dedup(self.peers.clone()?)?;
+        self.mail.set_peers(&self.rt, peers)
+    }
 }
 
-/// Hands the messages to a mailbox, whose engine broadcasts them on another network.
-fn hand_over<R>(rt: &R, messages: Vec<Digested<TestMessage>>) -> Result<Relayed, Error>
+impl<R: Wait> Observer<Key> for Guard<R> {
+    fn turn(&mut self, turn: &Turn<Key>) {
+        if let Turn::Invalid(peer, _) = turn {
+            // After an allocation failure the peer is left out at its next broken payload.
+            let _left_out = self.leave_out(*peer);
+        }
+    }
+}
+
+/// A node whose turns a guard watches.
+type Guarded<M, R> = (Mailbox<Key, M, R>, Handle<Key, M, R, (), Guard<R>>);
+
+/// Starts node 2 with a guard.
+fn start_guarded<M, R>(
+    rt: &R,
+    ends: Ends<Key, R>,
+    codec_config: M::Cfg,
+) -> Result<Guarded<M, R>, Error>
 where
-    R: Wait + AllocGlobal + Clone + Send + Drop + 'static,
+    M: Digestible + Codec + Send + Sync + 'static,
+    M::Digest: 'static,
+    M::Cfg: Send + Drop + 'static,
+    R: Threads + Wait + RandomSource + AllocGlobal + Clone + Send + Sync + Drop + 'static,
 {
-    let (mailbox, _ingress) = channel::<u64, TestMessage, R>(
-        rt.clone()?,
-        rt.alloc(),
-        NonZeroUsize::MIN,
-    )?;
-    Ok(relay_to(rt.alloc(), &mailbox, messages)?)
+    let guard = Guard::new(rt, &ends.mail)?;
+    let config = config(key(2), codec_config, ends.provider);
+    let (engine, mailbox) = Engine::new(rt.clone()?, rt.alloc(), config)?;
+    let handle = engine.start_observed(rt, (ends.sender, ends.receiver), guard)?;
+    Ok((mailbox, handle))
 }
 
-/// Prints what the mailbox answered.
+/// Lets peer 9 send the node a byte that is no note, and then a note.
+fn attack<R>(rt: &R, mail: &Mail<Key>, spam: &Digested<Note>) -> Result<(), Error>
+where
+    R: Wait + AllocGlobal,
+{
+    mail.deliver(rt, key(9), Vec::from_slice(rt.alloc(), &[0xff])?)?;
+    let mut bytes = Vec::new(rt.alloc());
+    spam.write(&mut bytes)?;
+    Ok(mail.deliver(rt, key(9), bytes)?)
+}
+
+/// Lets node 2 broadcast the note that it waits for.
+fn hand_on<R>(
+    rt: &R,
+    second: &Mailbox<Key, Note, R>,
+    awaited: Subscription<Note>,
+) -> Result<(), Error>
+where
+    R: Wait + RandomSource + AllocGlobal + Clone + Send + Drop + 'static,
+{
+    let notes = vec![in rt.alloc(); awaited.wait(rt)?]?;
+    let _relayed = relay_to(rt.alloc(), second, notes)?;
+    Ok(())
+}
+
+/// Lets node 1 send the note to node 2 alone, and node 2 hand it on. Returns what node 3 receives.
+fn pass_on<R>(
+    rt: &R,
+    network: &Network<Key>,
+    second: &Mailbox<Key, Note, R>,
+    note: Digested<Note>,
+) -> Result<Digested<Note>, Error>
+where
+    R: Threads + Wait + RandomSource + AllocGlobal + Clone + Send + Sync + Drop + 'static,
+{
+    let (first, handle_1) = start(rt, network, key(1), RangeCfg::any())?;
+    let (third, handle_3) = start(rt, network, key(3), RangeCfg::any())?;
+    let received = third.subscribe(note.digest())?;
+    let awaited = second.subscribe(note.digest())?;
+    let _feedback = first.broadcast(Recipients::One(key(2)), note)?;
+    hand_on(rt, second, awaited)?;
+    let received = received.wait(rt)?;
+    handle_1.stop();
+    handle_3.stop();
+    drop::<_>((handle_1.join(rt), handle_3.join(rt)));
+    Ok(received)
+}
+
+/// What is seen in the end.
+#[derive(Drop)]
+struct Seen {
+    /// What node 3 received.
+    received: Digested<Note>,
+    /// Whether node 2 has the note of peer 9.
+    has_spam: bool,
+    /// Whether peer 9 is a peer of node 2.
+    has_peer: bool,
+}
+
+/// Runs the three nodes.
+fn relay<R>(rt: &R, note: Digested<Note>, spam: &Digested<Note>) -> Result<Seen, Error>
+where
+    R: Threads + Wait + RandomSource + AllocGlobal + Clone + Send + Sync + Drop + 'static,
+{
+    let network = network(rt, &PEERS)?;
+    let ends = network.join(rt, &key(2))?;
+    attack(rt, &ends.mail, spam)?;
+    let (second, handle) = start_guarded(rt, ends, RangeCfg::any())?;
+    let received = pass_on(rt, &network, &second, note)?;
+    let has_spam = second.get(spam.digest())?.wait(rt).is_some();
+    handle.stop();
+    let guard = handle.join(rt).into_observer();
+    Ok(Seen {
+        received,
+        has_spam,
+        has_peer: guard.peers.contains(&key(9)),
+    })
+}
+
+/// Creates a note with this text.
+fn note(alloc: Global, text: &[u8]) -> Result<Digested<Note>, AllocError> {
+    let text = Vec::from_slice(alloc, text)?;
+    Digested::compute(alloc, Note { text })
+}
+
+/// Prints what node 3 received, and what node 2 has of peer 9.
 pub fn show<R, W>(rt: &R, out: &mut W) -> Result<(), Error>
 where
-    R: Wait + AllocGlobal + Clone + Send + Drop + 'static,
+    R: Threads + Wait + RandomSource + AllocGlobal + Clone + Send + Sync + Drop + 'static,
     W: io::Write,
 {
-    let received = receive(rt.alloc(), &message(rt.alloc(), b"hello")?)?;
-    let relayed = hand_over(rt, received)?;
-    writeln!(out, "relay: {relayed:?}")?;
+    let hello = note(rt.alloc(), b"hello")?;
+    let seen = relay(rt, hello, &note(rt.alloc(), b"spam")?)?;
+    let text = &seen.received.inner().text;
+    writeln!(
+        out,
+        "relay: {text:?}, spam: {}, peer 9: {}",
+        seen.has_spam, seen.has_peer
+    )?;
     Ok(())
 }
