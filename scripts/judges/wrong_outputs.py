@@ -445,7 +445,7 @@ def blocks_of(part, lines):
             first = at
 
 
-def refusal_of(turn):
+def refused_turn(turn):
     """The turn if its input is refused."""
     kind, first = turn.split("(")[0], turn.split("(")[1].split(",")[0]
     return judge_engine.refused(first if kind == "Payload" else None)
@@ -459,7 +459,7 @@ def effects_of_drives(lines):
         turns = judge_engine.turns_of(line)
         for place, turn in enumerate(turns):
             if turn.startswith(("Broadcast(", "Payload(")):
-                changed = [*turns[:place], refusal_of(turn), *turns[place + 1 :]]
+                changed = [*turns[:place], refused_turn(turn), *turns[place + 1 :]]
                 told = f"drive Ok([{', '.join(changed)}])"
                 yield at, len(lines), [*lines[:at], told, *lines[at + 1 :]]
 
