@@ -21,10 +21,11 @@ struct Observed<M: Digestible, R: Wait, W> {
     mail: Arc<Mail<Key>>,
 }
 
-/// Starts the node with the observer.
+/// Starts a node with the observer.
 fn start_with<M, T, R, W>(
     rt: &R,
-    node: Prepared<M, T, R>,
+    codec_config: M::Cfg,
+    strategy: T,
     observer: W,
 ) -> Result<Observed<M, R, W>, Fail>
 where
@@ -41,7 +42,7 @@ where
         mailbox,
         mail,
         network,
-    } = node;
+    } = prepare(rt, codec_config, strategy)?;
     Ok(Observed {
         handle: engine.start_observed(rt, network, observer)?,
         mailbox,
@@ -55,25 +56,53 @@ where
     R: Threads + Wait + RandomSource + AllocGlobal + Clone + Send + Sync + Drop + 'static,
     W: Observer<Key> + Send + Drop + 'static,
 {
-    let node = start_with(rt, prepare(rt, RangeCfg::any(), Sequential)?, observer)?;
+    let nobodys = digest(rt.alloc(), 2)?;
+    observe_with::<TestMessage, _, R, W>(rt, RangeCfg::any(), Sequential, nobodys, observer)
+}
+
+/// Lets a node with the observer take some inputs, of which one is a get of the digest, and end. It
+/// is generic in message and strategy, since the check refuses a function that makes an engine of
+/// named ones.
+fn observe_with<M, T, R, W>(
+    rt: &R,
+    codec_config: M::Cfg,
+    strategy: T,
+    nobodys: M::Digest,
+    observer: W,
+) -> Result<W, Fail>
+where
+    M: Digestible + Codec + Send + Sync + 'static,
+    M::Digest: 'static,
+    M::Cfg: Send + Drop + 'static,
+    T: Strategy<M> + Send + Drop + 'static,
+    T::Job: Send + 'static,
+    R: Threads + Wait + RandomSource + AllocGlobal + Clone + Send + Sync + Drop + 'static,
+    W: Observer<Key> + Send + Drop + 'static,
+{
     let Observed {
         handle,
         mailbox,
         mail,
-    } = node;
-    ask(rt, &mailbox, &mail)?;
+    } = start_with(rt, codec_config, strategy, observer)?;
+    ask(rt, &mailbox, &mail, nobodys)?;
     Ok(handle.join(rt).into_observer())
 }
 
 /// Gives a node a peer set, a get, and then a payload that is no message, one that is, and the end
 /// of its network.
-fn ask<R>(rt: &R, mailbox: &Mailbox<Key, TestMessage, R>, mail: &Mail<Key>) -> Result<(), Fail>
+fn ask<M, R>(
+    rt: &R,
+    mailbox: &Mailbox<Key, M, R>,
+    mail: &Mail<Key>,
+    nobodys: M::Digest,
+) -> Result<(), Fail>
 where
+    M: Digestible,
     R: Wait + RandomSource + AllocGlobal,
 {
     track(rt, mail, &[1, 5])?;
     // It is answered after the set was taken, since a peer set comes first.
-    let _none = mailbox.get(digest(rt.alloc(), 2)?)?.wait(rt);
+    let _none = mailbox.get(nobodys)?.wait(rt);
     send(rt, mail, 5, &[9])?;
     send(rt, mail, 5, &[0, 0, 0, 0, 0, 0, 0, 1, 2])?;
     mail.fail(rt)?;
