@@ -115,7 +115,7 @@ pub trait Read {
     ghost within: { (cfg : Self.Cfg) (bytes : List ℕ) (v : Self) (n : ℕ)
         → reading cfg bytes ≡ Ok (v, n) → n ≤ length bytes };
 
-    /// The bytes end too early, a length is out of its range, or there is a reason of the type's own.
+    /// The bytes end too early, a length is out of its range, or the type has a reason of its own.
     ghost refusals: { (cfg : Self.Cfg) (bytes : List ℕ) (e : CodecError)
         → reading cfg bytes ≡ Err e → IsRefusal e };
 }
