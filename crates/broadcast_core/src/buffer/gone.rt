@@ -5,7 +5,7 @@ ghost use Rattle.std.specs.List.{list_any};
 use std::marker::Model;
 
 /// The most tickets that are searched from end to end although they are sorted.
-const FEW: usize = 8;
+const FEW: usize = 64;
 
 /// The tickets of waiters that are gone, in any order. Many are searched faster if they are sorted.
 #[derive(Drop)]
