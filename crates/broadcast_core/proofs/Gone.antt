@@ -1,10 +1,11 @@
 -- What a search of tickets finds.
-use Rattle.std.proofs.Common.{◌≡◌, ℕ, suc, ◌<◌, Bool, true, false, inl, inr, List, [], ◌∷◌, length, Result, Ok, Err, refl, sym, arith}
+use Rattle.std.proofs.Common.{◌≡◌, ℕ, suc, ◌<◌, Bool, true, false, inl, inr, List, [], ◌∷◌, length, Result, Ok, Err, refl, sym, subst, ap, ◌∙◌, ◌+◌, ◌%◌, set, arith}
 use Rattle.std.specs.Prelude.{◌==◌, is_ok, nat_lt, MatchBool}
 use Rattle.std.specs.List.{list_any}
 use Rattle.std.specs.List.Sorted.{IsNonDecreasing, IsBinarySearchResult}
 use Rattle.std.specs.Ordering.{nat_cmp}
 use Rattle.std.proofs.Math.ListN.{get_or}
+use Rattle.std.proofs.lemmas.List.{get_or-set_same, get_or-set_other}
 use Rattle.std.proofs.lemmas.Bool.{ltb-true, ltb-false}
 use Rattle.std.proofs.lemmas.Bool.Decides.{eqb_tells}
 use Rattle.std.proofs.lemmas.List.Folds.{list_any_at}
@@ -31,6 +32,26 @@ found-sorted xs x (Err i) sorted search =
     sym (nowhere x xs (λ k within is. by_test (nat_lt k i)
     (λ t. let below = at.1 k (ltb-true k i t) in omega (arith, below, is))
     (λ f. let above = at.2 k (ltb-false k i f) within in omega (arith, above, is))))
+
+-- the lowest bytes of the first tickets are marked
+abbrev pub Marks : List ℕ → ℕ → List Bool → Type 0
+Marks xs n seen = (k : ℕ) → k < n → get_or seen (get_or xs k 0 % 256) false ≡ true
+
+pub marked : (xs : List ℕ) (i : ℕ) (seen : List Bool) → length seen ≡ 256 → Marks xs i seen → Marks xs (i + 1) (set seen (get_or xs i 0 % 256) true)
+marked xs i seen len marks k within = elim (eqb_tells (get_or xs k 0 % 256) (get_or xs i 0 % 256)) [
+  | inl h ↦ rw h.1 (get_or-set_same seen (get_or xs i 0 % 256) true false (omega (arith, len)))
+  | inr h ↦ get_or-set_other seen (get_or xs i 0 % 256) (get_or xs k 0 % 256) true false h.1 ∙ (elim (eqb_tells k i) [
+    | inl e ↦ absurd (h.1 (ap (λ n. get_or xs n 0 % 256) e.1))
+    | inr e ↦ marks k (omega (arith, within, e.1))
+  ])
+]
+
+-- a ticket whose lowest byte none of them has is not among them
+pub none_seen : (xs : List ℕ) (x : ℕ) (low : List Bool)
+    → ((k : ℕ) → k < length xs → get_or low (get_or xs k 0 % 256) false ≡ true) → get_or low (x % 256) false ≡ false → list_any (λ y. x == y) xs ≡ false
+none_seen xs x low seen apart = nowhere x xs (λ k within is.
+    let there : get_or low (x % 256) false ≡ true = subst (λ y. get_or low (y % 256) false ≡ true) is (seen k within) in
+    let wrong : true ≡ false = sym there ∙ apart in absurd cc)
 
 -- what an answer says if it is true
 pub if_true : {A : Type 0} (B : Type 0) (b : Bool) → MatchBool b A B → b ≡ true → A

@@ -1,5 +1,5 @@
 //! Tickets of waiters that are gone.
-ghost use Rattle.std.specs.Prelude.{◌≡◌, ◌==◌};
+ghost use Rattle.std.specs.Prelude.{◌≡◌, ◌==◌, ◌<◌, ◌%◌, ℕ, true, false, length, get_or};
 ghost use Rattle.std.specs.List.{list_any};
 
 use std::marker::Model;
@@ -12,17 +12,20 @@ const FEW: usize = 64;
 pub struct Gone<'a> {
     tickets: &'a [u64],
     is_sorted: bool,
+    low_bytes: [bool; 256],
 }
 
 impl<'a> Model for Gone<'a> {
-    ghost use Rattle.std.specs.Prelude.{◌≡◌, ℕ, List, true};
+    ghost use Rattle.std.specs.Prelude.{◌≡◌, ◌<◌, ◌%◌, ℕ, List, true, false, length, get_or};
     ghost use Rattle.std.specs.List.Sorted.{IsNonDecreasing};
 
     ghost Value = { List ℕ };
 
     ghost view = { λ it. it.tickets.now };
 
-    ghost invariant = { λ it. it.is_sorted ≡ true → IsNonDecreasing it.tickets.now };
+    ghost invariant = { λ it. (it.is_sorted ≡ true → IsNonDecreasing it.tickets.now)
+        × ((k : ℕ) → k < length it.tickets.now
+        → get_or it.low_bytes (get_or it.tickets.now k 0 % 256) false ≡ true) };
 }
 
 impl<'a> Gone<'a> {
@@ -33,17 +36,33 @@ impl<'a> Gone<'a> {
         Gone {
             tickets,
             is_sorted: tickets.is_sorted(),
+            low_bytes: low_bytes(tickets),
         }
     }
 
-    /// Returns whether the ticket is one of them.
+    /// Returns whether the ticket is one of them. Most others differ from all in the lowest byte.
     pub fn has(&self, ticket: u64) -> bool
         ensures { result ≡ list_any (λ t. ticket == t) self.now }
     {
+        if !self.low_bytes[(ticket % 256) as usize] {
+            return false;
+        }
         if self.is_sorted && self.tickets.len() > FEW {
             self.tickets.binary_search(&ticket).is_ok()
         } else {
             self.tickets.contains(&ticket)
         }
     }
+}
+
+/// Returns for each byte whether it is the lowest one of a ticket.
+fn low_bytes(tickets: &[u64]) -> [bool; 256]
+    ensures { (k : ℕ) → k < length tickets.now
+        → get_or result (get_or tickets.now k 0 % 256) false ≡ true }
+{
+    let mut seen = [false; 256];
+    for ticket in tickets {
+        seen[(*ticket % 256) as usize] = true;
+    }
+    seen
 }
