@@ -16,6 +16,9 @@ LETTERS = {
     "clone": "k",
     "end": "e",
     "fail": "f",
+    "sequential": "s",
+    "threads": "t",
+    "pool": "p",
 }
 # The keys whose lists and counters are shown.
 KEYS = range(7)

@@ -196,6 +196,13 @@ def judge_relay(lines, given):
     lines.refusals += len(places)
 
 
+def judge_digests(lines, given):
+    """Each strategy digests all messages, or not all of them where memory is refused."""
+    for _ in given.calls:
+        if not lines.is_refused("digested Err(AllocError)"):
+            lines.expect(f"digested Ok({given.greatest})")
+
+
 JUDGES = {
     "core": judge_core,
     "overflow": judge_overflow,
@@ -203,6 +210,7 @@ JUDGES = {
     "engine": judge_engine.judge,
     "relay": judge_relay,
     "account": judge_account,
+    "digests": judge_digests,
 }
 
 

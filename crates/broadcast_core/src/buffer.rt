@@ -21,7 +21,7 @@ use crate::outcome::{Subscribed, Taken};
 use crate::requests::{Closable, Ticketed};
 use cache::Cache;
 use state::State;
-use std::alloc::{AllocError, Global};
+use std::alloc::{AllocError, AllocFailed, Global};
 use std::marker::Model;
 use waiters::Waiters;
 
@@ -209,24 +209,26 @@ impl<P: PublicKey, M: Digestible, W: Drop> Core<P, M, W> {
     /// Returns `waiter` with the cached message of `digest`, or puts it behind the other waiters of
     /// the digest if none is cached.
     ///
-    /// On an allocation failure the waiter is returned with it, and nothing changes.
+    /// On an allocation failure the error has the waiter, and nothing changes.
     pub fn subscribe(
         &mut self,
         digest: M::Digest,
         waiter: W,
-    ) -> Result<Subscribed<W, M>, (W, AllocError)>
+    ) -> Result<Subscribed<W, M>, AllocFailed<W>>
         ensures ok { IfOk result
             (IsSubscribed (same_by P.cmp M.Digest.cmp) digest waiter self.old self.new) }
-        ensures err { IfErr result (λ refused. (refused.0 ≡ waiter) × (self.new ≡ self.old)) }
+        ensures err { IfErr result (λ refused. (refused.value ≡ waiter) × (self.new ≡ self.old)) }
     {
         if let Some(message) = self.state.cache.get(&digest) {
             return match message.clone() {
                 Ok(message) => Ok(Subscribed::Answered(waiter, message)),
-                Err(refused) => Err((waiter, refused)),
+                Err(_) => Err(AllocFailed { value: waiter }),
             };
         }
-        self.state.waiters.push(digest, waiter)?;
-        Ok(Subscribed::Waiting)
+        match self.state.waiters.push(digest, waiter) {
+            Ok(()) => Ok(Subscribed::Waiting),
+            Err((value, _)) => Err(AllocFailed { value }),
+        }
     }
 
     /// Drops every waiter whose ticket is in `gone`. Returns how many, saturating at `u64::MAX`.

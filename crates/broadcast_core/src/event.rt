@@ -8,6 +8,7 @@ use crate::outcome::Outcome;
 
 /// An event, which changes or reads a core.
 #[derive(Drop)]
+#[derive_where(Debug; P, M, M::Digest)]
 pub enum Event<P: PublicKey, M: Digestible> {
     /// These peers become the primary ones.
     Peers(Set<P>),

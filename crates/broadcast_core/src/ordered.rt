@@ -12,6 +12,7 @@ ghost use Rattle.broadcast_core.specs.Stored.{AreBelow};
 use crate::items::Items;
 use std::alloc::{AllocError, Global};
 use std::cmp::Ordering;
+use std::fmt;
 use std::hash::Hash;
 use std::marker::Model;
 
@@ -28,7 +29,7 @@ impl PublicKey for u64 {
 
 /// A key of 32 bytes, compared byte by byte. It is laid out as these bytes.
 #[repr(C)]
-#[derive(Clone, Copy, Debug, PartialEq, Eq, PartialOrd, Ord, Hash)]
+#[derive(Clone, Copy, PartialEq, Eq, PartialOrd, Ord, Hash)]
 pub struct Key {
     /// The bytes of the key.
     pub bytes: [u8; 32],
@@ -36,6 +37,16 @@ pub struct Key {
 
 impl PublicKey for Key {
     ghost copies = { Prim.search (comparing, rules) };
+}
+
+/// The bytes in lower-case hexadecimal.
+impl fmt::Debug for Key {
+    fn fmt<W: fmt::Write>(&self, f: &mut fmt::Formatter<W>) -> fmt::Result {
+        for byte in &self.bytes {
+            write!(f, "{byte:02x}")?;
+        }
+        Ok(())
+    }
 }
 
 /// The peers that a message is for.

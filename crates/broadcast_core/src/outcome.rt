@@ -26,6 +26,7 @@ pub struct Taken<W> {
 
 /// The result of a subscribe.
 #[derive(Drop)]
+#[derive_where(Debug; W, M, M::Digest)]
 pub enum Subscribed<W, M: Digestible> {
     /// The waiter is returned with the cached message.
     Answered(W, Digested<M>),

@@ -1,4 +1,4 @@
--- Which messages are closed.
+-- Which messages are closed, and which may stay.
 use Rattle.std.specs.Prelude.{◌≡◌, Bool, false}
 use Rattle.broadcast_mailbox.specs.declared.buffered.ingress.message.Message.{Message}
 use Rattle.broadcast_mailbox.specs.declared.buffered.ingress.message.Message.TheVariants as variant
@@ -9,3 +9,9 @@ module _ {P M S G D : Type 0} (subscriber : S → Bool → Type 0) (getter : G �
   message_may_answer (variant.Broadcast recipients message) answer = answer ≡ false
   message_may_answer (variant.Subscribe digest responder) answer = subscriber responder answer
   message_may_answer (variant.Get digest responder) answer = getter responder answer
+
+module _ {P M S G D : Type 0} (stays : S → Type 0) where
+  -- a subscribe may stay if its responder may, and no other message waits
+  abbrev pub message_may_stay : Message P M S G D → Type 0
+  message_may_stay (variant.Subscribe digest responder) = stays responder
+  message_may_stay _ = Unit {0}

@@ -10,7 +10,7 @@ pub use ingress::laws::ticket_law;
 pub use ingress::mailbox::{
     Incoming, Mailbox, WatchedEnds, WatchedMailbox, channel, watched_channel,
 };
-pub use ingress::message::Message;
+pub use ingress::message::{Awaits, Message};
 pub use ingress::overflow::{Overflow, Policy};
 pub use ingress::pending::Pending;
 pub use ingress::queued::{Counts, Queued};

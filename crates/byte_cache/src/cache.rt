@@ -127,7 +127,7 @@ impl Cache {
         match self.core.subscribe(digest, ticket) {
             Ok(Subscribed::Waiting) => Ok(true),
             Ok(Subscribed::Answered(_, _)) => Ok(false),
-            Err((_, error)) => Err(error),
+            Err(_) => Err(AllocError),
         }
     }
 

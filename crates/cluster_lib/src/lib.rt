@@ -25,7 +25,7 @@ use arguments::{HELP, is_help};
 use ended::finish;
 use fault::Fault;
 use measure::{measure, write_measured};
-use progress::{Progress, show};
+use progress::{Progress, show_during};
 use rate::{Rate, is_rate};
 use run::run;
 use settings::Settings;
@@ -87,10 +87,8 @@ where
 {
     let settings = Settings::parse(words)?;
     let progress = Arc::new(rt.alloc(), Progress::new(settings.requests()))?;
-    let shown = show(rt, &progress, terminal);
-    let ended = run(rt, settings, &progress);
-    progress.end(rt, shown);
-    finish(rt.alloc(), &ended?, out)
+    let ended = show_during(rt, &progress, terminal, || run(rt, settings, &progress))?;
+    finish(rt.alloc(), &ended, out)
 }
 
 /// Makes a measurement, and writes it.
@@ -107,8 +105,6 @@ where
 {
     let rate = Rate::parse(words)?;
     let progress = Arc::new(rt.alloc(), Progress::new(rate.gets()))?;
-    let shown = show(rt, &progress, terminal);
-    let measured = measure(rt, rate, &progress);
-    progress.end(rt, shown);
-    write_measured(out, measured?).map_err(|_| Fault::Write)
+    let measured = show_during(rt, &progress, terminal, || measure(rt, rate, &progress))?;
+    write_measured(out, measured).map_err(|_| Fault::Write)
 }

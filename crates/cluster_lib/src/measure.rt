@@ -254,27 +254,20 @@ where
 
     /// Makes the requests of a round, and waits for them. Returns how many were answered.
     fn ask_at_once(&self, digest: Digest) -> Answered {
-        let gets = gets(&self.rt, self.rate.depth, &self.mailbox, digest)?;
+        let gets = self.gets(digest)?;
         Ok(count_answered(&self.rt, gets))
     }
-}
 
-/// Makes requests for the digest.
-fn gets<R>(
-    rt: &R,
-    depth: u64,
-    mailbox: &Mailbox<Key, TestMessage, R>,
-    digest: Digest,
-) -> Result<Vec<Get<TestMessage>>, Fault>
-where
-    R: Wait + AllocGlobal,
-    ensures { IfOk result (λ gets. length gets.items ≡ depth) }
-{
-    let mut gets = Vec::new(rt.alloc());
-    for _ in 0..depth {
-        gets.push(mailbox.get(digest)?)?;
+    /// Makes the requests of a round.
+    fn gets(&self, digest: Digest) -> Result<Vec<Get<TestMessage>>, Fault>
+        ensures { IfOk result (λ gets. length gets.items ≡ self.now.rate.depth) }
+    {
+        let mut gets = Vec::new(self.rt.alloc());
+        for _ in 0..self.rate.depth {
+            gets.push(self.mailbox.get(digest)?)?;
+        }
+        Ok(gets)
     }
-    Ok(gets)
 }
 
 /// Waits for the requests. Returns how many were answered with the message.

@@ -9,8 +9,8 @@ use std::sync::Wait;
 /// The name of a message.
 pub type Digest = [u8; 32];
 
-/// Creates the message of the node with this number. Its content has the number of the node and that
-/// of the message, eight bytes each.
+/// Creates the message of the node with this number. Its content has the number of the node and
+/// that of the message, eight bytes each.
 pub fn message_of(alloc: Global, node: u64, number: u64) -> Result<TestMessage, AllocError> {
     let mut content = Vec::from_slice(alloc, &node.to_be_bytes())?;
     content.extend_from_slice(&number.to_be_bytes())?;

@@ -1,6 +1,6 @@
 //! A node whose engine runs in a thread.
 ghost use Rattle.std.specs.Prelude.{◌≡◌, IfOk};
-ghost use Rattle.std.specs.NonZero.{non_zero_u32_get};
+ghost use Rattle.std.specs.NonZero.{non_zero_u32_get, non_zero_usize_get};
 ghost use Rattle.broadcast_mailbox.specs.Account.{TallyState};
 
 use broadcast_core::{Codec, Digestible, Key};
@@ -249,6 +249,7 @@ where
     C: Drop,
     T: Drop,
     R: Clone + Drop,
+    ensures { IfOk result (λ it. non_zero_usize_get it.mailbox_size ≡ 1000) }
 {
     Ok(Config {
         public_key: mail.key,

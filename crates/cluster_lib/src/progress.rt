@@ -39,7 +39,7 @@ impl Progress {
     }
 
     /// Ends what is shown, and waits for the thread that shows it.
-    pub fn end(&self, rt: &impl Threads, shown: Option<JoinHandle<()>>) {
+    fn end(&self, rt: &impl Threads, shown: Option<JoinHandle<()>>) {
         self.ended.store(true, Ordering::SeqCst);
         if let Some(thread) = shown {
             thread.join(rt);
@@ -69,9 +69,23 @@ impl Progress {
     }
 }
 
-/// Shows the progress of a run at the terminal, in a thread of its own. Nothing is shown if there
-/// is no terminal, or no memory or thread for it.
-pub fn show<R, W>(rt: &R, progress: &Arc<Progress>, terminal: Option<W>) -> Option<JoinHandle<()>>
+/// Does the work of a run, and shows its progress at the terminal meanwhile, in a thread of its
+/// own. Nothing is shown if there is no terminal, or no memory or thread for it.
+pub fn show_during<R, W, F, T>(rt: &R, progress: &Arc<Progress>, terminal: Option<W>, work: F) -> T
+where
+    R: Threads + Clock + Clone + Send + Sync + Drop + 'static,
+    W: Write + Send + Drop + 'static,
+    F: FnOnce() -> T,
+    requires { F.pre work }
+{
+    let shown = show(rt, progress, terminal);
+    let done = work();
+    progress.end(rt, shown);
+    done
+}
+
+/// Starts the thread that shows the progress, if there is a terminal.
+fn show<R, W>(rt: &R, progress: &Arc<Progress>, terminal: Option<W>) -> Option<JoinHandle<()>>
 where
     R: Threads + Clock + Clone + Send + Sync + Drop + 'static,
     W: Write + Send + Drop + 'static,

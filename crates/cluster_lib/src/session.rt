@@ -125,7 +125,11 @@ where
 }
 
 /// Returns the fault of a node that was not started. Its mailbox must be closed.
-fn not_started<R, A>(rt: &R, mailbox: &Mailbox<Key, TestMessage, R, A>, error: StartError) -> Fault
+pub fn not_started<R, A>(
+    rt: &R,
+    mailbox: &Mailbox<Key, TestMessage, R, A>,
+    error: StartError,
+) -> Fault
 where
     R: Wait + AllocGlobal + Clone + Send + 'static,
     A: Bookkeeping + Send + 'static,
@@ -137,8 +141,8 @@ where
     }
 }
 
-/// Lets a client use the started node of this number, and stops the node once all clients have finished, or one
-/// has failed, or all engines are idle. Returns what became of the node.
+/// Lets a client use the started node of this number, and stops the node once all clients have
+/// finished, or one has failed, or all engines are idle. Returns what became of the node.
 fn run_node<R, A, K>(
     rt: &R,
     number: u64,

@@ -11,7 +11,7 @@ use Rattle.engine_io.specs.Replies.{Asker, Replies}
 use Rattle.commonware_broadcast.specs.EngineHistory.{Step, swept, applied, refused, decoded, uncounted, ended, happenings_at, happenings, handed_out_at, handed_out}
 use Rattle.commonware_broadcast.specs.StepLaws.{AreSteps, IsStep}
 use Rattle.commonware_broadcast.specs.Counting.{counted_at, counted, gauge}
-use Rattle.commonware_broadcast.specs.Ran.{Ran}
+use Rattle.commonware_broadcast.specs.AppliesSteps.{AppliesSteps}
 use Rattle.commonware_broadcast.proofs.Counting.{raised-none, raised-more, count-append}
 
 module _ {P M D S G : Type 0} where
@@ -54,9 +54,9 @@ module _ {P M D S G : Type 0} (s : Setting P M D) where
 
 module _ {P M D S G O : Type 0} (s : Setting P M D) (may_answer : Asker S → Bool → Type 0)
     (outlet_told : O → Replies S G M D → Type 0) where
-  pub Ran-none : (past : History P M D (Asker S) (Asker G)) (node : Node P M S O D) → HasContent s past node.core
-      → Ran s may_answer outlet_told past [] node node
-  Ran-none past node has = record {
+  pub AppliesSteps-none : (past : History P M D (Asker S) (Asker G)) (node : Node P M S O D) → HasContent s past node.core
+      → AppliesSteps s may_answer outlet_told past [] node node
+  AppliesSteps-none past node has = record {
     lawful = tt;
     content = has;
     counters = λ c. sym (raised-none (number_at s.same.key c node.metrics));
@@ -65,11 +65,11 @@ module _ {P M D S G O : Type 0} (s : Setting P M D) (may_answer : Asker S → Bo
   }
 
   -- steps, and then more
-  pub Ran-more : (past : History P M D (Asker S) (Asker G)) (earlier later : List (Step P M D S G)) (old mid new : Node P M S O D)
-      → Ran s may_answer outlet_told past earlier old mid
-      → Ran s may_answer outlet_told (happenings earlier ++ past) later mid new
-      → Ran s may_answer outlet_told past (later ++ earlier) old new
-  Ran-more past earlier later old mid new begun more = record {
+  pub AppliesSteps-more : (past : History P M D (Asker S) (Asker G)) (earlier later : List (Step P M D S G)) (old mid new : Node P M S O D)
+      → AppliesSteps s may_answer outlet_told past earlier old mid
+      → AppliesSteps s may_answer outlet_told (happenings earlier ++ past) later mid new
+      → AppliesSteps s may_answer outlet_told past (later ++ earlier) old new
+  AppliesSteps-more past earlier later old mid new begun more = record {
     lawful = AreSteps-append s may_answer later earlier past more.lawful begun.lawful;
     content = subst (λ hs. HasContent s hs new.core) (sym (history-append later earlier past)) more.content;
     counters = λ c.

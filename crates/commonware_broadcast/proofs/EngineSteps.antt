@@ -33,7 +33,7 @@ use Rattle.engine_io.specs.ReplyCounts.{count_replies}
 use Rattle.commonware_broadcast.specs.CountingCalls.{count_outcome}
 use Rattle.engine_io.specs.Handing.{Hands}
 use Rattle.commonware_broadcast.specs.Serving.{Serves}
-use Rattle.commonware_broadcast.specs.Ran.{Steps}
+use Rattle.commonware_broadcast.specs.AppliesSteps.{AppliesStep}
 
 added-counted : (n : ℕ) (c : Counter) → added status.Dropped (counted n) c ≡ added status.Dropped n c
 added-counted n c = ap (λ k. record c { dropped = k }) (omega arith)
@@ -44,50 +44,50 @@ module _ {P M D S G O : Type 0} {s : Setting P M D} {same : Same P D} (is : s.sa
   silent : (replies : Replies S G M D) → told old.outlet replies → told old.outlet (replies ++ [])
   silent replies h = subst (told old.outlet) (sym (append-nil replies)) h
 
-  pub Steps-peers : (ps : List P) (core : Content P M D (Asker S)) → TakesPeers same ps old.core core
-      → Steps s may_answer told past (applied (Peers ps) []) old (record old { core = core })
-  Steps-peers ps core takes = record { lawful = (refl, tt); content = HasContent-peers is lawful has takes; counted = refl; replied = silent }
+  pub AppliesStep-peers : (ps : List P) (core : Content P M D (Asker S)) → TakesPeers same ps old.core core
+      → AppliesStep s may_answer told past (applied (Peers ps) []) old (record old { core = core })
+  AppliesStep-peers ps core takes = record { lawful = (refl, tt); content = HasContent-peers is lawful has takes; counted = refl; replied = silent }
 
-  pub Steps-arrival : {encoding : M → Option (List ℕ)} → s.encoding ≡ encoding → (p : P) (c : Carried M D) (mid : Node P M S O D) (counters : Counters P) (out : Outcome) (replies : Replies S G M D)
-      → Serves same told p c (option_map length (encoding c.message)) replies old mid → out ≡ outcome_at same old.core p c.digest (option_map length (encoding c.message))
+  pub AppliesStep-arrival : {encoding : M → Option (List ℕ)} → s.encoding ≡ encoding → (p : P) (c : Carried M D) (mid : Node P M S O D) (counters : Counters P) (out : Outcome)
+      → (serves : Serves {S = S} {G = G} same told p c (option_map length (encoding c.message)) old mid) → out ≡ outcome_at same old.core p c.digest (option_map length (encoding c.message))
       → counters ≡ record mid.metrics { totals = count_outcome out mid.metrics.totals }
-      → (out ≡ outcome s p c past) × Steps s may_answer told past (applied (Arrived p c) replies) old (record mid { metrics = counters })
-  Steps-arrival encodes p c mid counters out replies serves at counted =
+      → (out ≡ outcome s p c past) × AppliesStep s may_answer told past (applied (Arrived p c) serves.replies) old (record mid { metrics = counters })
+  AppliesStep-arrival encodes p c mid counters out serves at counted =
       let turned : out ≡ outcome s p c past = at ∙ outcome-taken is lawful has encodes p c in (
         turned,
         record {
           lawful = (serves.due ∙ handed-arrival is lawful has p c, tt);
           content = HasContent-arrival is lawful has encodes serves.takes;
           counted = counted ∙ ap (λ (m : Counters P). record m { totals = count_outcome out m.totals }) serves.hands.counted
-              ∙ ap (λ (o : Outcome). record old.metrics { totals = count_outcome o (count_replies replies old.metrics.totals) }) turned;
+              ∙ ap (λ (o : Outcome). record old.metrics { totals = count_outcome o (count_replies serves.replies old.metrics.totals) }) turned;
           replied = serves.hands.handed;
         },
       )
 
-  pub Steps-subscribed : (w : Asker S) (d : D) (core : Content P M D (Asker S)) (r : Subscribed (Asker S) M D) (replies : Replies S G M D) (counted : Bool)
+  pub AppliesStep-subscribed : (w : Asker S) (d : D) (core : Content P M D (Asker S)) (r : Subscribed (Asker S) M D) (replies : Replies S G M D) (counted : Bool)
       (outlet : O) (counters : Counters P) → IsSubscribed same d w old.core core r → map reply_of replies ≡ handed_by r → Hands told old.outlet old.metrics replies outlet counters
-      → Steps s may_answer told past (applied (Request (record { ticket = w.ticket; message = Subscribe d w.responder; counted = counted })) replies) old (record { core = core; metrics = counters; outlet = outlet })
-  Steps-subscribed w d core r replies counted outlet counters h due hands = record {
+      → AppliesStep s may_answer told past (applied (Request (record { ticket = w.ticket; message = Subscribe d w.responder; counted = counted })) replies) old (record { core = core; metrics = counters; outlet = outlet })
+  AppliesStep-subscribed w d core r replies counted outlet counters h due hands = record {
     lawful = (due ∙ handed-subscribe is lawful has w d core r h, tt);
     content = HasContent-subscribe is lawful has r h;
     counted = hands.counted;
     replied = hands.handed;
   }
 
-  pub Steps-got : (v : Asker G) (d : D) (delivered counted : Bool) (found : Option (Carried M D)) (outlet : O) (counters : Counters P) → found ≡ message_at same old.core d
+  pub AppliesStep-got : (v : Asker G) (d : D) (delivered counted : Bool) (found : Option (Carried M D)) (outlet : O) (counters : Counters P) → found ≡ message_at same old.core d
       → Hands told old.outlet old.metrics (got v found delivered ∷ []) outlet counters
-      → Steps s may_answer told past (applied (Request (record { ticket = v.ticket; message = Get d v.responder; counted = counted })) (got v found delivered ∷ [])) old (record old { metrics = counters; outlet = outlet })
-  Steps-got v d delivered counted found outlet counters at hands = record {
+      → AppliesStep s may_answer told past (applied (Request (record { ticket = v.ticket; message = Get d v.responder; counted = counted })) (got v found delivered ∷ [])) old (record old { metrics = counters; outlet = outlet })
+  AppliesStep-got v d delivered counted found outlet counters at hands = record {
     lawful = (ap (λ o. reply_of (got v o delivered) ∷ []) at ∙ handed-get is lawful has v d, tt);
     content = HasContent-get is lawful has v d;
     counted = hands.counted;
     replied = hands.handed;
   }
 
-  pub Steps-broadcast : {encoding : M → Option (List ℕ)} → s.encoding ≡ encoding → (r : Recipients P) (c : Carried M D) (ticket : ℕ) (counted : Bool) (mid : Node P M S O D) (out : Outcome) (replies : Replies S G M D)
-      → Serves same told old.core.own c (option_map length (encoding c.message)) replies old mid → out ≡ outcome_at same old.core old.core.own c.digest (option_map length (encoding c.message)) → is_some (s.encoding c.message) ≡ true
-      → (out ≡ outcome s s.own c past) × Steps s may_answer told past (applied (Request (record { ticket = ticket; message = Broadcast r c; counted = counted })) replies) old mid
-  Steps-broadcast {encoding} encodes r c ticket counted mid out replies serves at encodable = (
+  pub AppliesStep-broadcast : {encoding : M → Option (List ℕ)} → s.encoding ≡ encoding → (r : Recipients P) (c : Carried M D) (ticket : ℕ) (counted : Bool) (mid : Node P M S O D) (out : Outcome)
+      → (serves : Serves {S = S} {G = G} same told old.core.own c (option_map length (encoding c.message)) old mid) → out ≡ outcome_at same old.core old.core.own c.digest (option_map length (encoding c.message)) → is_some (s.encoding c.message) ≡ true
+      → (out ≡ outcome s s.own c past) × AppliesStep s may_answer told past (applied (Request (record { ticket = ticket; message = Broadcast r c; counted = counted })) serves.replies) old mid
+  AppliesStep-broadcast {encoding} encodes r c ticket counted mid out serves at encodable = (
     at ∙ ap (λ p. outcome_at same old.core p c.digest (option_map length (encoding c.message))) has.own ∙ outcome-taken is lawful has encodes s.own c,
     record {
       lawful = (serves.due ∙ handed-broadcast is lawful has r c, encodable);
@@ -97,16 +97,16 @@ module _ {P M D S G O : Type 0} {s : Setting P M D} {same : Same P D} (is : s.sa
     },
   )
 
-  pub Steps-invalid : (p : P) (error : CodecError) (counters : Counters P) → counters ≡ record old.metrics { totals = record old.metrics.totals { receive = added status.Invalid 1 old.metrics.totals.receive } }
-      → Steps s may_answer told past (applied (Invalid p error) []) old (record old { metrics = counters })
-  Steps-invalid p error counters counted = record { lawful = (refl, tt); content = has; counted = counted; replied = silent }
+  pub AppliesStep-invalid : (p : P) (error : CodecError) (counters : Counters P) → counters ≡ record old.metrics { totals = record old.metrics.totals { receive = added status.Invalid 1 old.metrics.totals.receive } }
+      → AppliesStep s may_answer told past (applied (Invalid p error) []) old (record old { metrics = counters })
+  AppliesStep-invalid p error counters counted = record { lawful = (refl, tt); content = has; counted = counted; replied = silent }
 
-  pub Steps-swept : (core : Content P M D (Asker S)) (dropped number : ℕ) (counters last : Counters P) → HasCleaned s may_answer past core dropped
+  pub AppliesStep-swept : (core : Content P M D (Asker S)) (dropped number : ℕ) (counters last : Counters P) → HasCleaned s may_answer past core dropped
       → number ≡ length core.waiters → IsDistinct same.digest (keys_of core.waiters) → NoneEmpty same.digest core.waiters
       → counters ≡ record old.metrics { totals = record old.metrics.totals { subscribe = added status.Dropped dropped old.metrics.totals.subscribe } }
       → last ≡ record counters { totals = record counters.totals { waiters = number } }
-      → (test : ℕ → Asker S → Bool) × Steps s may_answer told past (swept test) old (record old { core = core; metrics = last })
-  Steps-swept core dropped number counters last cleaned len distinct some counted gauge =
+      → (test : ℕ → Asker S → Bool) × AppliesStep s may_answer told past (swept test) old (record old { core = core; metrics = last })
+  AppliesStep-swept core dropped number counters last cleaned len distinct some counted gauge =
       let waits = awaited-counted is lawful cleaned.content distinct some in (
         cleaned.test,
         record {
@@ -120,5 +120,5 @@ module _ {P M D S G O : Type 0} {s : Setting P M D} {same : Same P D} (is : s.sa
         },
       )
 
-  pub Steps-ended : (core : Content P M D (Asker S)) → KeepsStore same old.core core → core.waiters ≡ [] → (cause : EndCause) → Steps s may_answer told past (ended cause) old (record old { core = core })
-  Steps-ended core keeps none cause = record { lawful = tt; content = HasContent-clear_waiters is lawful has keeps none; counted = refl; replied = silent }
+  pub AppliesStep-ended : (core : Content P M D (Asker S)) → KeepsStore same old.core core → core.waiters ≡ [] → (cause : EndCause) → AppliesStep s may_answer told past (ended cause) old (record old { core = core })
+  AppliesStep-ended core keeps none cause = record { lawful = tt; content = HasContent-clear_waiters is lawful has keeps none; counted = refl; replied = silent }

@@ -1,6 +1,6 @@
 -- Engines that are taken apart.
 use Rattle.std.proofs.Common.{◌≡◌, Option, None, refl}
-use Rattle.commonware_broadcast.specs.declared.buffered.engine.parts.Parts.{Parts}
+use Rattle.commonware_broadcast.specs.declared.buffered.engine.thread.Parts.{Parts}
 use Rattle.commonware_broadcast.specs.EngineState.{EngineState}
 use Rattle.commonware_broadcast.specs.Parts.{joined}
 

@@ -8,7 +8,7 @@ use Rattle.engine_io.specs.declared.input.Input.{Input}
 use Rattle.engine_io.specs.declared.input.Input.TheVariants.{Peers, Request, Arrived, Invalid}
 use Rattle.engine_io.specs.Inputs.{requests_in}
 use Rattle.commonware_broadcast.specs.EngineHistory.{Step, swept, applied, refused, decoded, uncounted, ended, happenings_at, happenings, inputs, inputs_at}
-use Rattle.commonware_broadcast.specs.Ran.{Sends, IsOf}
+use Rattle.commonware_broadcast.specs.AppliesSteps.{Sends, IsOf}
 use Rattle.commonware_broadcast.proofs.Composing.{happenings-append}
 use Rattle.commonware_broadcast.proofs.Telling.{input-at, none-before, none-after}
 

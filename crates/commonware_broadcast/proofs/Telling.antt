@@ -1,23 +1,20 @@
 -- What steps tell: their turns, and whose messages they read.
 use Rattle.std.proofs.Common.{◌≡◌, List, [], ◌∷◌, ◌++◌, None, refl, sym, ap, ◌∙◌, append-nil, append_assoc}
-use Rattle.futures.specs.declared.task.Poll.{Poll}
-use Rattle.futures.specs.declared.task.Poll.TheVariants.{Ready, Pending}
 use Rattle.broadcast_core.specs.Setting.{Setting}
 use Rattle.broadcast_core.specs.Happening.{History}
 use Rattle.engine_io.specs.declared.input.Input.{Input}
 use Rattle.engine_io.specs.declared.input.Turn.{Turn}
-use Rattle.engine_io.specs.Sources.{given, given_ok}
 use Rattle.engine_io.specs.Replies.{Asker}
 use Rattle.commonware_broadcast.specs.EngineHistory.{Step, swept, applied, refused, decoded, uncounted, ended, happenings, inputs, inputs_at, read_from, read_from_at, end_of, turns, turns_at}
-use Rattle.commonware_broadcast.specs.Ran.{IsOf}
-use Rattle.commonware_broadcast.specs.Fetched.{goes_on}
-use Rattle.commonware_broadcast.specs.Polled.{Tells}
+use Rattle.commonware_broadcast.specs.AppliesSteps.{IsOf}
 use Rattle.commonware_broadcast.proofs.Composing.{history-append}
 
--- the turn of an engine that goes on
-pub given-going_on : {P : Type 0} (result : Poll (Turn P)) → given_ok (goes_on result) ≡ given result
-given-going_on (Ready turn) = refl
-given-going_on Pending = refl
+-- the steps have these turns, read messages of these peers, and end in no end
+pub record Tells {P M D S G : Type 0} (s : Setting P M D) (past : History P M D (Asker S) (Asker G))
+    (steps : List (Step P M D S G)) (listed : List (Turn P)) (peers : List P) : Type 0 where
+  pub turned : turns s steps past ≡ listed
+  pub goes_on : end_of steps ≡ None
+  pub read : read_from steps ≡ peers
 
 -- what follows an empty list is the whole
 pub none-before : {A : Type 0} (xs ys : List A) → xs ++ ys ≡ [] → xs ≡ []
@@ -56,7 +53,7 @@ module _ {P M D S G : Type 0} where
   input-at input (uncounted p c) h = absurd h
   input-at input (ended cause) h = absurd h
 
-  reads-none : (input : Input P M S G D) (step : Step P M D S G) → IsOf input step → read_from_at step ≡ []
+  pub reads-none : (input : Input P M S G D) (step : Step P M D S G) → IsOf input step → read_from_at step ≡ []
   reads-none input (applied given replies) h = refl
   reads-none input (refused given cause) h = refl
   reads-none input (swept other) h = absurd h
@@ -64,7 +61,7 @@ module _ {P M D S G : Type 0} where
   reads-none input (uncounted p c) h = absurd h
   reads-none input (ended cause) h = absurd h
 
-  goes-on-at : (input : Input P M S G D) (step : Step P M D S G) (steps : List (Step P M D S G)) → IsOf input step → end_of (step ∷ steps) ≡ None
+  pub goes-on-at : (input : Input P M S G D) (step : Step P M D S G) (steps : List (Step P M D S G)) → IsOf input step → end_of (step ∷ steps) ≡ None
   goes-on-at input (applied given replies) steps h = refl
   goes-on-at input (refused given cause) steps h = refl
   goes-on-at input (swept other) steps h = absurd h
@@ -80,25 +77,6 @@ module _ {P M D S G : Type 0} (s : Setting P M D) where
       ap (λ ts. ts ++ turns_at s step (happenings (later ++ earlier) ++ past)) (turns-append later earlier past)
       ∙ append_assoc (turns s earlier past) (turns s later (happenings earlier ++ past)) (turns_at s step (happenings (later ++ earlier) ++ past))
       ∙ ap (λ hs. turns s earlier past ++ (turns s later (happenings earlier ++ past) ++ turns_at s step hs)) (history-append later earlier past)
-
-  -- a step without a turn has no input
-  silent-at : (step : Step P M D S G) (past : History P M D (Asker S) (Asker G)) → turns_at s step past ≡ [] → inputs_at step ≡ []
-  silent-at (swept test) past h = refl
-  silent-at (applied input replies) past h = absurd (let no : _ ∷ [] ≡ [] = h in cc)
-  silent-at (refused input cause) past h = absurd (let no : _ ∷ [] ≡ [] = h in cc)
-  silent-at (decoded p) past h = refl
-  silent-at (uncounted p c) past h = absurd (let no : _ ∷ [] ≡ [] = h in cc)
-  silent-at (ended cause) past h = refl
-
-  pub silent : (steps : List (Step P M D S G)) (past : History P M D (Asker S) (Asker G)) → turns s steps past ≡ [] → inputs steps ≡ []
-  silent [] past h = refl
-  silent (step ∷ steps) past h =
-      ap (λ is. is ++ inputs_at step) (silent steps past (none-before (turns s steps past) (turns_at s step (happenings steps ++ past)) h))
-      ∙ silent-at step (happenings steps ++ past) (none-after (turns s steps past) (turns_at s step (happenings steps ++ past)) h)
-
-  -- nothing was done
-  pub Tells-none : (past : History P M D (Asker S) (Asker G)) (listed : List (Turn P)) → listed ≡ [] → Tells s past [] listed []
-  Tells-none past listed none = record { turned = sym none; goes_on = refl; read = refl }
 
   -- the step of an input, after others that have no turn
   pub Tells-input : (past : History P M D (Asker S) (Asker G)) (input : Input P M S G D) (turn : Turn P) (step : Step P M D S G) (steps : List (Step P M D S G)) (peers : List P)

@@ -1,10 +1,11 @@
 -- What an engine takes before it looks at other sources.
-use Rattle.std.specs.Prelude.{◌≡◌, Bool, true, false, Some, Result, Ok, Err, ⊤}
+use Rattle.std.specs.Prelude.{◌≡◌, Bool, true, false, Option, Some, None, ⊤}
 use Rattle.futures.specs.declared.task.Poll.{Poll}
 use Rattle.futures.specs.declared.task.Poll.TheVariants.{Ready, Pending}
 use Rattle.engine_io.specs.declared.input.EndCause.{EndCause}
 use Rattle.engine_io.specs.declared.input.Turn.{Turn}
 use Rattle.engine_io.specs.declared.input.Turn.TheVariants as turn
+use Rattle.commonware_broadcast.specs.EngineHistory.{end_told}
 
 module _ {P : Type 0} where
   -- unless the turn is that of a peer set or of an end, this holds
@@ -25,8 +26,7 @@ module _ {P : Type 0} where
   IfNetwork (Ready turn) holds = of_network turn ≡ true → holds
   IfNetwork Pending holds = holds
 
-  -- the turn of a poll that tells an end apart
-  abbrev pub as_turn : Poll (Result (Turn P) EndCause) → Poll (Turn P)
-  as_turn (Ready (Ok turn)) = Ready turn
-  as_turn (Ready (Err cause)) = Ready (turn.Ended cause)
-  as_turn Pending = Pending
+  -- why the engine ended, if the poll tells that
+  abbrev pub end_in : Poll (Turn P) → Option EndCause
+  end_in (Ready turn) = end_told turn
+  end_in Pending = None

@@ -1,6 +1,6 @@
 -- The parts of an engine.
 use Rattle.std.specs.Prelude.{Option, None}
-use Rattle.commonware_broadcast.specs.declared.buffered.engine.parts.Parts.{Parts}
+use Rattle.commonware_broadcast.specs.declared.buffered.engine.thread.Parts.{Parts}
 use Rattle.commonware_broadcast.specs.declared.buffered.engine.thread.Ready.{Ready}
 use Rattle.commonware_broadcast.specs.EngineState.{EngineState}
 

@@ -7,6 +7,7 @@ use Rattle.engine_io.specs.declared.input.Input.{Input}
 use Rattle.engine_io.specs.declared.input.Input.TheVariants as input
 use Rattle.engine_io.specs.Inputs.{requests_in}
 use Rattle.commonware_broadcast.specs.EngineHistory.{Step, inputs}
+use Rattle.commonware_broadcast.specs.EngineState.{Moment}
 
 module _ {P M D : Type 0} (s : Setting P M D) where
   -- a payload that reads whole arrives with its own digest, and another one is invalid
@@ -46,8 +47,8 @@ module _ {P M J : Type 0} (is_of : J → M → Type 0) where
   Holds (Some cause) job message = job ≡ None
 
 -- nothing was taken from a source
-pub record TakesNone {P M D S G R B : Type 0} (old_receiver new_receiver : R)
-    (old_provider new_provider : B) (steps : List (Step P M D S G)) : Type 0 where
-  pub provider : new_provider ≡ old_provider
-  pub receiver : new_receiver ≡ old_receiver
+pub record TakesNone {P M D S G O J B Q C T N R : Type 0}
+    (old new : Moment P M S O D J B Q C T N R) (steps : List (Step P M D S G)) : Type 0 where
+  pub provider : new.0.provider ≡ old.0.provider
+  pub receiver : new.1.1 ≡ old.1.1
   pub requests : requests_in (inputs steps) ≡ []

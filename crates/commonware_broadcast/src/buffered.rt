@@ -3,7 +3,9 @@ pub mod config;
 pub mod engine;
 pub mod front;
 pub mod gate;
+pub mod launch;
 pub mod observer;
+pub mod pool;
 pub mod session;
 pub mod snapshots;
 pub mod started;
@@ -13,10 +15,10 @@ pub mod worker;
 
 pub use crate::mocks;
 pub use broadcast_mailbox::buffered::{
-    Account, All, Bookkeeping, Books, Broadcasts, Counts, Fixed, Get, Inbox, Incoming, Ingress,
-    Kind, Mailbox, Message, Overflow, Pending, Policy, Queued, Reply, Request, Responder, Settled,
-    Stopper, Subscription, Taker, Tally, Watch, WatchedEnds, WatchedMailbox, channel, ticket_law,
-    watched_channel,
+    Account, All, Awaits, Bookkeeping, Books, Broadcasts, Counts, Fixed, Get, Inbox, Incoming,
+    Ingress, Kind, Mailbox, Message, Overflow, Pending, Policy, Queued, Reply, Request, Responder,
+    Settled, Stopper, Subscription, Taker, Tally, Watch, WatchedEnds, WatchedMailbox, channel,
+    ticket_law, watched_channel,
 };
 pub use config::Config;
 pub use engine::{
@@ -28,12 +30,14 @@ pub use engine_io::{
 };
 pub use front::{MailboxEngine, WatchedEngine, WatchedNode};
 pub use gate::{Gate, Open};
+pub use launch::{start, start_observed, start_threaded};
 pub use observer::Observer;
 pub use observer::lines::Lines;
 pub use observer::recent::Recent;
+pub use pool::{Pool, Pooled};
 pub use session::{Client, Finished, Session, WatchedClient, run_session};
 pub use snapshots::{MetricsError, Snapshots};
-pub use started::{Handle, MailboxReport, Prepared, start_threaded};
+pub use started::{Handle, MailboxReport, Prepared};
 pub use strategy::{Done, Job, Sequential, Strategy};
 pub use threaded::{Threaded, Working};
 pub use worker::{DigestOf, Work, Worker};

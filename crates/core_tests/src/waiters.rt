@@ -208,7 +208,7 @@ impl Room {
         match self.core.subscribe(digest, waiter) {
             Ok(Subscribed::Answered(back, message)) => Ok(Some((back.ticket, message.inner().0))),
             Ok(Subscribed::Waiting) => Ok(None),
-            Err((_, refused)) => Err(refused),
+            Err(_) => Err(AllocError),
         }
     }
 

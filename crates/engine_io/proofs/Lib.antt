@@ -1,2 +1,3 @@
 pub mod PeerCounts
 pub mod Handing
+pub mod Staying

@@ -7,6 +7,7 @@ ghost use Rattle.engine_io.specs.First.{Empties};
 ghost use Rattle.engine_io.specs.Heard.{HearsAll};
 
 use crate::requests::Requests;
+use broadcast_mailbox::buffered::Awaits;
 use futures::task::Context;
 
 /// What a poll of an engine does first.
@@ -22,7 +23,7 @@ pub enum First<P: Drop, J: Drop> {
 
 /// Returns what a poll does first: a stop, or else the pending job, which leaves its slot, or else
 /// the sources.
-pub fn comes_first<P: Drop, J: Drop, T, Q: Requests<T>>(
+pub fn comes_first<P: Drop, J: Drop, T: Awaits, Q: Requests<T>>(
     requests: &mut Q,
     slot: &mut Option<(P, J)>,
     cx: &mut Context<'_>,

@@ -83,6 +83,7 @@ impl Counter {
 
 /// The counters of an engine.
 #[derive(Drop)]
+#[derive_where(Debug; P)]
 pub struct Metrics<P: PublicKey> {
     peer: BTreeMap<P, u64>,
     receive: Counter,

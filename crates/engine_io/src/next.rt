@@ -15,7 +15,7 @@ use crate::input::{EndCause, Input};
 use crate::network::Provider;
 use crate::requests::Requests;
 use broadcast_core::{Digestible, PublicKey};
-use broadcast_mailbox::buffered::Message;
+use broadcast_mailbox::buffered::{Message, Reply, Responder};
 use futures::task::{Context, Poll};
 
 /// Returns the next peer set, or else the next request. Once there are no more peer sets, the
@@ -28,7 +28,7 @@ pub fn next_input<P, M, S, G, B, Q>(
 where
     P: PublicKey,
     M: Digestible,
-    S: Drop,
+    S: Responder<Reply<M>> + Drop,
     G: Drop,
     B: Provider<P>,
     Q: Requests<Message<P, M, S, G>>,

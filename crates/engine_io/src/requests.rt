@@ -7,13 +7,13 @@ ghost use Rattle.engine_io.specs.Sources.{given};
 ghost use Rattle.broadcast_mailbox.specs.Ends.{IngressEnd, SharedInbox};
 ghost use Rattle.broadcast_mailbox.specs.declared.buffered.ingress.request.Request.{Request};
 
-use broadcast_core::Closable;
-use broadcast_mailbox::buffered::{Bookkeeping, Ingress, Request};
+use broadcast_core::{Digestible, PublicKey};
+use broadcast_mailbox::buffered::{Awaits, Bookkeeping, Incoming, Ingress, Request};
 use futures::task::{Context, Poll};
 use std::sync::Wait;
 
 /// Gives requests, and the order to stop.
-pub trait Requests<T> {
+pub trait Requests<T: Awaits> {
     /// Whether this may be the list of the requests that were given, oldest first.
     ghost told: { Self → List (Request T) → Type 0 };
 
@@ -57,6 +57,14 @@ pub trait Requests<T> {
         ensures armed { OnPending result (IsArmed cx.new) }
         ensures kept { Keeps cx.old cx.new };
 
+    /// Returns whether a request that was given may have closed since the last call. A source that
+    /// does not tell always says so.
+    fn may_have_closed(&self) -> bool
+        ensures only_if { result ≡ false → (request : T) → T.may_stay request }
+    {
+        true
+    }
+
     /// Tells that the request that was given last was refused, or else applied.
     fn end(&mut self, _refused: bool)
         ensures { (requests : List (Request T)) → told self.old requests → told self.new requests }
@@ -71,9 +79,10 @@ pub trait Requests<T> {
 
 /// Other threads queue the requests, so nothing is told of them. A task that waits is woken by the
 /// inbox of the mailbox.
-impl<T, R, A> Requests<T> for Ingress<T, R, A>
+impl<P, M, R, A> Requests<Incoming<P, M>> for Ingress<Incoming<P, M>, R, A>
 where
-    T: Closable + Drop,
+    P: PublicKey,
+    M: Digestible,
     R: Wait,
     A: Bookkeeping,
 {
@@ -87,8 +96,13 @@ where
         self.poll_stopped(cx)
     }
 
-    fn poll_next(&mut self, cx: &mut Context<'_>) -> Poll<Request<T>> {
+    fn poll_next(&mut self, cx: &mut Context<'_>) -> Poll<Request<Incoming<P, M>>> {
         self.poll_request(cx)
+    }
+
+    /// Returns whether a subscription was dropped since the last call.
+    fn may_have_closed(&self) -> bool {
+        self.take_dropped()
     }
 
     fn end(&mut self, refused: bool) {

@@ -1,6 +1,7 @@
 //! Tests of engines and digests on several threads.
 
 mod account;
+mod clusters;
 mod counts;
 mod ends;
 mod gates;

@@ -17,8 +17,7 @@ fn take_awaited(
     core: &mut Core<u64, TestMessage, u64>,
     message: &Digested<TestMessage>,
 ) -> Result<Taken<u64>, AllocError> {
-    core.subscribe(message.digest(), 7)
-        .map_err(|(_, error)| error)?;
+    core.subscribe(message.digest(), 7)?;
     core.take(&5, message)
 }
 

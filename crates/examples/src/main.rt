@@ -6,6 +6,7 @@
 mod cache;
 mod mailbox;
 mod note;
+mod parts;
 mod polled;
 mod relay;
 mod session;

@@ -1,12 +1,13 @@
 //! An engine that its caller polls, without a thread.
-use super::two_nodes::{config, key, message, network};
+use super::parts::{config, key};
+use super::two_nodes::message;
 use anyhow::Error;
 use commonware_broadcast::buffered::{
     Engine, Get, Mailbox, MailboxEngine, Sequential, Turn, drive,
 };
 use commonware_broadcast::{Broadcaster, Codec, Digested, Digestible, Key, RangeCfg, Recipients};
 use futures::task::{Doorbell, Poll, Solo};
-use memory_network::{Inbound, Outbound, PeerSets};
+use memory_network::{Inbound, Network, Outbound, PeerSets};
 use std::alloc::AllocGlobal;
 use std::io::Write;
 use std::random::RandomSource;
@@ -28,7 +29,7 @@ where
     M::Cfg: Drop,
     R: Wait + RandomSource + AllocGlobal + Clone + Send + Drop + 'static,
 {
-    let ends = network(rt, &[1])?.join(rt, &key(1))?;
+    let ends = Network::between(rt, &[key(1)])?.join(rt, &key(1))?;
     let config = config(key(1), codec_config, ends.provider);
     let (mut engine, mailbox) = Engine::new(rt.clone()?, rt.alloc(), config)?;
     let mut network = (ends.sender, ends.receiver);

@@ -1,13 +1,13 @@
 //! A relay of three nodes with keys of 32 bytes: node 2 hands on to node 3 what it receives from
 //! node 1, and leaves out the peer that sends it what is no note.
 use super::note::Note;
-use super::two_nodes::{config, key, network, start};
+use super::parts::{config, key};
 use anyhow::Error;
 use broadcast_relay::relay_to;
-use commonware_broadcast::buffered::{Engine, Handle, Mailbox, Observer, Subscription, Turn};
-use commonware_broadcast::{
-    Broadcaster, Codec, Digested, Digestible, Key, RangeCfg, Recipients, Set, Write,
+use commonware_broadcast::buffered::{
+    Handle, Mailbox, Observer, StartError, Subscription, Turn, start_observed,
 };
+use commonware_broadcast::{Broadcaster, Digested, Key, RangeCfg, Recipients, Set, Write};
 use memory_network::{Ends, Mail, Network};
 use std::alloc::{AllocError, AllocGlobal, Global};
 use std::io;
@@ -15,8 +15,13 @@ use std::random::RandomSource;
 use std::sync::{Arc, Wait};
 use std::thread::Threads;
 
-/// The numbers of all peers. The last of them is no node, and hostile.
-const PEERS: [u8; 4] = [1, 2, 3, 9];
+/// The keys of all peers. The last of them is no node, and hostile.
+const PEERS: [Key; 4] = [
+    Key { bytes: [1; 32] },
+    Key { bytes: [2; 32] },
+    Key { bytes: [3; 32] },
+    Key { bytes: [9; 32] },
+];
 
 /// Watches the turns of a node, and takes a peer out of its peers that sends what is no message.
 #[derive(Drop)]
@@ -32,13 +37,9 @@ impl<R> Guard<R> {
     where
         R: AllocGlobal + Clone + Drop,
     {
-        let mut peers = Vec::new(rt.alloc());
-        for number in PEERS {
-            peers.push(key(number))?;
-        }
         Ok(Guard {
             mail: Arc::try_clone(mail)?,
-            peers,
+            peers: Vec::from_slice(rt.alloc(), &PEERS)?,
             rt: rt.clone()?,
         })
     }
@@ -63,26 +64,34 @@ impl<R: Wait> Observer<Key> for Guard<R> {
     }
 }
 
-/// A node whose turns a guard watches.
-type Guarded<M, R> = (Mailbox<Key, M, R>, Handle<Key, M, R, (), Guard<R>>);
+/// A node with an observer.
+type Node<R, W> = (Handle<Key, Note, R, (), W>, Mailbox<Key, Note, R>);
 
-/// Starts node 2 with a guard.
-fn start_guarded<M, R>(
-    rt: &R,
-    ends: Ends<Key, R>,
-    codec_config: M::Cfg,
-) -> Result<Guarded<M, R>, Error>
+/// Starts the node of these ends with an observer.
+fn start<R, W>(rt: &R, ends: Ends<Key, R>, observer: W) -> Result<Node<R, W>, StartError>
 where
-    M: Digestible + Codec + Send + Sync + 'static,
-    M::Digest: 'static,
-    M::Cfg: Send + Drop + 'static,
+    R: Threads + Wait + RandomSource + AllocGlobal + Clone + Send + Sync + Drop + 'static,
+    W: Observer<Key> + Send + Drop + 'static,
+{
+    let config = config(ends.mail.key, RangeCfg::any(), ends.provider);
+    start_observed(rt, config, (ends.sender, ends.receiver), observer)
+}
+
+/// Starts the node of these ends with a guard.
+fn start_guarded<R>(rt: &R, ends: Ends<Key, R>) -> Result<Node<R, Guard<R>>, Error>
+where
     R: Threads + Wait + RandomSource + AllocGlobal + Clone + Send + Sync + Drop + 'static,
 {
     let guard = Guard::new(rt, &ends.mail)?;
-    let config = config(key(2), codec_config, ends.provider);
-    let (engine, mailbox) = Engine::new(rt.clone()?, rt.alloc(), config)?;
-    let handle = engine.start_observed(rt, (ends.sender, ends.receiver), guard)?;
-    Ok((mailbox, handle))
+    Ok(start(rt, ends, guard)?)
+}
+
+/// Starts a node of the network.
+fn join<R>(rt: &R, network: &Network<Key>, public_key: Key) -> Result<Node<R, ()>, Error>
+where
+    R: Threads + Wait + RandomSource + AllocGlobal + Clone + Send + Sync + Drop + 'static,
+{
+    Ok(start(rt, network.join(rt, &public_key)?, ())?)
 }
 
 /// Lets peer 9 send the node a byte that is no note, and then a note.
@@ -120,8 +129,8 @@ fn pass_on<R>(
 where
     R: Threads + Wait + RandomSource + AllocGlobal + Clone + Send + Sync + Drop + 'static,
 {
-    let (first, handle_1) = start(rt, network, key(1), RangeCfg::any())?;
-    let (third, handle_3) = start(rt, network, key(3), RangeCfg::any())?;
+    let (handle_1, first) = join(rt, network, key(1))?;
+    let (handle_3, third) = join(rt, network, key(3))?;
     let received = third.subscribe(note.digest())?;
     let awaited = second.subscribe(note.digest())?;
     let _feedback = first.broadcast(Recipients::One(key(2)), note)?;
@@ -149,10 +158,10 @@ fn relay<R>(rt: &R, note: Digested<Note>, spam: &Digested<Note>) -> Result<Seen,
 where
     R: Threads + Wait + RandomSource + AllocGlobal + Clone + Send + Sync + Drop + 'static,
 {
-    let network = network(rt, &PEERS)?;
+    let network = Network::between(rt, &PEERS)?;
     let ends = network.join(rt, &key(2))?;
     attack(rt, &ends.mail, spam)?;
-    let (second, handle) = start_guarded(rt, ends, RangeCfg::any())?;
+    let (handle, second) = start_guarded(rt, ends)?;
     let received = pass_on(rt, &network, &second, note)?;
     let has_spam = second.get(spam.digest())?.wait(rt).is_some();
     handle.stop();

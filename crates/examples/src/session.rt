@@ -1,11 +1,12 @@
 //! The session of a node, whose account says what became of the broadcasts of four clients, though
 //! one of them stops the node meanwhile.
-use super::two_nodes::{config, key, network};
+use super::parts::{config, key};
 use anyhow::Error;
 use commonware_broadcast::buffered::{
     Account, Broadcasts, EndCause, Finished, Session, Settled, WatchedClient, run_session,
 };
 use commonware_broadcast::{Digested, Key, MailboxError, RangeCfg, Recipients, TestMessage};
+use memory_network::Network;
 use std::alloc::{AllocError, AllocGlobal, Global};
 use std::io::Write;
 use std::num::NonZeroU32;
@@ -80,7 +81,7 @@ fn broadcast_and_settle<R>(rt: &R) -> Result<Left, Error>
 where
     R: Threads + Wait + RandomSource + AllocGlobal + Clone + Send + Sync + Drop + 'static,
 {
-    let ends = network(rt, &[1])?.join(rt, &key(1))?;
+    let ends = Network::between(rt, &[key(1)])?.join(rt, &key(1))?;
     let cfg = config(key(1), RangeCfg::any(), ends.provider);
     let clients = NonZeroU32::new(CLIENTS).unwrap();
     let session = Broadcasting { rt: rt.clone()? };

@@ -1,10 +1,8 @@
 //! Two nodes in threads, over a network in memory: the file to begin with.
 use anyhow::Error;
-use commonware_broadcast::buffered::{Config, EndCause, Engine, Handle, Mailbox, Sequential};
-use commonware_broadcast::{
-    Broadcaster, Codec, Digested, Digestible, Key, RangeCfg, Recipients, Set, TestMessage,
-};
-use memory_network::{Network, PeerSets};
+use commonware_broadcast::buffered::{self, Config, Handle, Mailbox, Sequential};
+use commonware_broadcast::{Broadcaster, Digested, Key, RangeCfg, Recipients, TestMessage};
+use memory_network::Network;
 use std::alloc::{AllocError, AllocGlobal, Global};
 use std::io::Write;
 use std::num::NonZeroUsize;
@@ -12,12 +10,9 @@ use std::random::RandomSource;
 use std::sync::Wait;
 use std::thread::Threads;
 
-/// Returns the key of a node.
-pub fn key(number: u8) -> Key {
-    Key {
-        bytes: [number; 32],
-    }
-}
+const KEY_1: Key = Key { bytes: [1; 32] };
+
+const KEY_2: Key = Key { bytes: [2; 32] };
 
 /// Creates a message.
 pub fn message(alloc: Global, content: &[u8]) -> Result<Digested<TestMessage>, AllocError> {
@@ -25,83 +20,55 @@ pub fn message(alloc: Global, content: &[u8]) -> Result<Digested<TestMessage>, A
     Digested::compute(alloc, TestMessage::shared(alloc, content)?)
 }
 
-/// Creates the network of the nodes with these numbers, which are peers of each other.
-pub fn network<R: Wait + AllocGlobal>(rt: &R, numbers: &[u8]) -> Result<Network<Key>, AllocError> {
-    let mut keys = Vec::new(rt.alloc());
-    for number in numbers {
-        keys.push(key(*number))?;
-    }
-    Network::new(rt, &Set::from_iter_dedup(keys)?)
-}
+/// The mailbox by which callers ask a node.
+type Asked<R> = Mailbox<Key, TestMessage, R>;
 
-/// Returns the configuration of a node. `codec_config` says what messages it decodes.
-pub fn config<C, R>(
-    public_key: Key,
-    codec_config: C,
-    peer_provider: PeerSets<Key, R>,
-) -> Config<Key, C, PeerSets<Key, R>, Sequential> {
-    Config {
+/// A started node.
+type Node<R> = (Handle<Key, TestMessage, R>, Asked<R>);
+
+/// Starts a node of the network.
+fn start<R>(rt: &R, network: &Network<Key>, public_key: Key) -> Result<Node<R>, Error>
+where
+    R: Threads + Wait + RandomSource + AllocGlobal + Clone + Send + Sync + Drop + 'static,
+{
+    let ends = network.join(rt, &public_key)?;
+    let config = Config {
         public_key,
         mailbox_size: NonZeroUsize::MIN,
         deque_size: 10,
         byte_budget: 1_000_000,
         priority: false,
-        codec_config,
-        peer_provider,
+        codec_config: RangeCfg::any(),
+        peer_provider: ends.provider,
         strategy: Sequential,
-    }
+    };
+    Ok(buffered::start(rt, config, (ends.sender, ends.receiver))?)
 }
 
-/// Starts a node of the network.
-pub fn start<M, R>(
-    rt: &R,
-    network: &Network<Key>,
-    public_key: Key,
-    codec_config: M::Cfg,
-) -> Result<(Mailbox<Key, M, R>, Handle<Key, M, R>), Error>
+/// Lets node 1 broadcast a message for which node 2 waits. Returns what node 2 receives.
+fn pass_on<R>(rt: &R, one: &Asked<R>, two: &Asked<R>) -> Result<Digested<TestMessage>, Error>
 where
-    M: Digestible + Codec + Send + Sync + 'static,
-    M::Digest: 'static,
-    M::Cfg: Send + Drop + 'static,
-    R: Threads + Wait + RandomSource + AllocGlobal + Clone + Send + Sync + Drop + 'static,
+    R: Wait + RandomSource + AllocGlobal + Clone + Send + Drop + 'static,
 {
-    let ends = network.join(rt, &public_key)?;
-    let config = config(public_key, codec_config, ends.provider);
-    let (engine, mailbox) = Engine::new(rt.clone()?, rt.alloc(), config)?;
-    let handle = engine.start(rt, (ends.sender, ends.receiver))?;
-    Ok((mailbox, handle))
+    let message = message(rt.alloc(), b"hello")?;
+    let awaited = two.subscribe(message.digest())?;
+    let _feedback = one.broadcast(Recipients::All, message)?;
+    Ok(awaited.wait(rt)?)
 }
 
-/// Lets node 1 broadcast the message for which node 2 waits. Returns what node 2 received, and why
-/// it ended.
-fn pass_on<R>(
-    rt: &R,
-    message: Digested<TestMessage>,
-) -> Result<(Digested<TestMessage>, EndCause), Error>
+/// Prints what node 2 received, and why it ended.
+pub fn show<R, W: Write>(rt: &R, out: &mut W) -> Result<(), Error>
 where
     R: Threads + Wait + RandomSource + AllocGlobal + Clone + Send + Sync + Drop + 'static,
 {
-    let network = network(rt, &[1, 2])?;
-    let (mailbox_1, handle_1) = start(rt, &network, key(1), RangeCfg::any())?;
-    let (mailbox_2, handle_2) = start(rt, &network, key(2), RangeCfg::any())?;
-
-    let awaited = mailbox_2.subscribe(message.digest())?;
-    let _feedback = mailbox_1.broadcast(Recipients::All, message)?;
-    let received = awaited.wait(rt)?;
-
+    let network = Network::between(rt, &[KEY_1, KEY_2])?;
+    let (handle_1, mailbox_1) = start(rt, &network, KEY_1)?;
+    let (handle_2, mailbox_2) = start(rt, &network, KEY_2)?;
+    let received = pass_on(rt, &mailbox_1, &mailbox_2)?;
     handle_1.stop();
     handle_2.stop();
     let _report = handle_1.join(rt);
-    Ok((received, handle_2.join(rt).cause()))
-}
-
-/// Prints what node 2 received.
-pub fn show<R, W>(rt: &R, out: &mut W) -> Result<(), Error>
-where
-    R: Threads + Wait + RandomSource + AllocGlobal + Clone + Send + Sync + Drop + 'static,
-    W: Write,
-{
-    let (received, cause) = pass_on(rt, message(rt.alloc(), b"hello")?)?;
+    let cause = handle_2.join(rt).cause();
     writeln!(out, "two nodes: {:?}, {cause:?}", received.inner().content)?;
     Ok(())
 }

@@ -76,6 +76,16 @@ impl<P: PublicKey> Network<P> {
         Ok(Network { mails })
     }
 
+    /// Creates the network of the nodes with these keys, as [`Network::new`] does. Of several equal
+    /// keys it keeps the first.
+    pub fn between<R: Wait + AllocGlobal>(rt: &R, keys: &[P]) -> Result<Self, AllocError> {
+        let mut copies = Vec::new(rt.alloc());
+        for key in keys {
+            copies.push(key.clone()?)?;
+        }
+        Network::new(rt, &Set::from_iter_dedup(copies)?)
+    }
+
     /// Returns the mail of each node, in the order of their keys.
     pub fn mails(&self) -> &[Arc<Mail<P>>]
         ensures { map arc_value result.now ≡ self.now }

@@ -1,12 +1,11 @@
 -- A node over scripts, and what became of it.
-use Rattle.std.specs.Prelude.{◌≡◌, ℕ, Bool, false, List, [], ◌++◌, map, Option, Result}
+use Rattle.std.specs.Prelude.{◌≡◌, ℕ, false, List, [], ◌++◌, map, Option, Result}
 use Rattle.std.specs.List.{count_by}
 use Rattle.broadcast_core.specs.Carried.{Carried}
 use Rattle.broadcast_core.specs.Handed.{handed}
 use Rattle.broadcast_core.specs.Sent.{sent}
 use Rattle.broadcast_core.specs.Setting.{Setting}
 use Rattle.broadcast_mailbox.specs.declared.buffered.ingress.message.Message.{Message}
-use Rattle.broadcast_mailbox.specs.declared.buffered.ingress.request.Request.{Request}
 use Rattle.broadcast_mailbox.specs.declared.buffered.ingress.responder.Fixed.{Fixed}
 use Rattle.engine_io.specs.declared.input.Turn.{Turn}
 use Rattle.engine_io.specs.declared.network.NetworkFailed.{NetworkFailed}

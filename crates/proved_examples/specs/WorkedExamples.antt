@@ -1,16 +1,14 @@
 -- Worked examples of an engine's steps, computed by the definitions. A message is a pair of numbers,
 -- of which the second is its digest. Who asks is named by the number of the ticket.
-use Rattle.std.specs.Prelude.{◌≡◌, ℕ, ◌==◌, Bool, true, false, List, [], ◌∷◌, map, None, Some, Option, Result, Ok, Err}
+use Rattle.std.specs.Prelude.{◌≡◌, ℕ, ◌==◌, true, false, List, [], ◌∷◌, map, None, Some, Result, Ok, Err}
 use Rattle.broadcast_core.specs.Carried.{Carried}
 use Rattle.broadcast_core.specs.Handed.{handed}
-use Rattle.broadcast_core.specs.Happening.{History}
 use Rattle.broadcast_core.specs.Sent.{sent}
 use Rattle.broadcast_core.specs.Setting.{Setting, setting}
 use Rattle.broadcast_core.specs.Waiting.{waiting}
 use Rattle.broadcast_core.specs.declared.codec.CodecError.{CodecError}
 use Rattle.broadcast_core.specs.declared.codec.CodecError.TheVariants.{EndOfBuffer}
 use Rattle.broadcast_core.specs.declared.event.Cause.TheVariants.{Memory}
-use Rattle.broadcast_core.specs.declared.event.Sent.{Sent}
 use Rattle.broadcast_core.specs.declared.ordered.Recipients.TheVariants.{All}
 use Rattle.broadcast_core.specs.declared.outcome.Outcome.TheVariants.{Inserted, Ineligible}
 use Rattle.broadcast_mailbox.specs.declared.buffered.ingress.message.Message.{Message as Asked}
@@ -18,11 +16,9 @@ use Rattle.broadcast_mailbox.specs.declared.buffered.ingress.message.Message.The
 use Rattle.engine_io.specs.declared.input.EndCause.TheVariants.{Stopped}
 use Rattle.engine_io.specs.declared.input.Input.{Input}
 use Rattle.engine_io.specs.declared.input.Input.TheVariants as input
-use Rattle.engine_io.specs.declared.input.Turn.{Turn}
 use Rattle.engine_io.specs.declared.input.Turn.TheVariants as turn
 use Rattle.engine_io.specs.declared.metrics.Status.TheVariants.{Success, Failure, Invalid, Dropped}
 use Rattle.engine_io.specs.Counters as count
-use Rattle.engine_io.specs.Counters.{Counted}
 use Rattle.engine_io.specs.Replies.{Asker, reply_of, subscribed, got}
 use Rattle.commonware_broadcast.specs.EngineHistory.{Step, swept, applied, refused, decoded, ended, happenings, handed_out, end_of, turns}
 use Rattle.commonware_broadcast.specs.Counting.{counted, gauge}

@@ -7,15 +7,13 @@ use Rattle.broadcast_core.specs.TestMessage.{Parts}
 use Rattle.broadcast_core.specs.declared.event.Answer.TheVariants as answer
 use Rattle.broadcast_core.specs.declared.event.Cause.TheVariants.{Memory}
 use Rattle.broadcast_core.specs.declared.event.Event.TheVariants as event
-use Rattle.broadcast_core.specs.declared.ordered.Recipients.{Recipients}
 use Rattle.broadcast_core.specs.declared.ordered.Recipients.TheVariants as to
 use Rattle.broadcast_core.specs.declared.outcome.Outcome.TheVariants.{Inserted}
 use Rattle.broadcast_world.specs.Packet.{Packet}
 use Rattle.broadcast_world.specs.Scene.{Scene}
 use Rattle.broadcast_world.specs.World.{Log, packets, event_of}
-use Rattle.broadcast_world.specs.declared.step.Step.{Step}
 use Rattle.broadcast_world.specs.declared.step.Step.TheVariants.{Peers, Broadcast, Deliver, Hostile}
-use Rattle.broadcast_world.specs.declared.step.WorldAnswer.TheVariants.{Given, NoSuch}
+use Rattle.broadcast_world.specs.declared.step.WorldAnswer.TheVariants.{Given}
 
 abbrev pub scene : Scene ℕ
 scene = record {

@@ -22,6 +22,8 @@
 //! - `relay`: the relay of all events, run with the key 1, lists of SIZE digests, which are charged
 //!   at most GREATEST bytes, and all lengths decoded. It has no steps. The program prints the
 //!   messages and the places of the refused events, or that the call failed.
+//! - `digests`: at each step GREATEST messages of SIZE bytes are digested, one after the other: at
+//!   `s` where they are, at `t` on a thread each, at `p` in a pool. It takes no event.
 //!
 //! A letter that is no step of its part is refused. In a core and an inbox a caller with a ticket
 //! from 100 on is gone. What the calls are given is made before the first of them. If that fails,
@@ -29,6 +31,7 @@
 mod account_calls;
 mod callers;
 mod core_calls;
+mod digest_calls;
 mod engine_calls;
 mod inbox_calls;
 mod printer;
@@ -47,6 +50,7 @@ use std::alloc::AllocError;
 use std::io::{Stderr, Stdin, Stdout};
 use std::random::RandomSource;
 use std::sync::Wait;
+use std::thread::Threads;
 pub use usage::{USAGE, asks_for_help, help};
 
 /// The keys whose lists and counters are shown.
@@ -55,7 +59,7 @@ const KEYS: u64 = 7;
 /// Makes the calls that the words and the events of `reader` say. Returns the exit status.
 pub fn play<H>(rt: &H, words: &[String], reader: Stdin, out: Stdout, err: Stderr) -> u8
 where
-    H: Wait + RandomSource + Clone + Send + Drop + AllocGlobal + 'static,
+    H: Threads + Wait + RandomSource + Clone + Send + Drop + AllocGlobal + 'static,
 {
     let settings = match Settings::parse(words) {
         Ok(settings) => settings,
@@ -69,7 +73,7 @@ where
 
 fn read_and_make<H>(rt: &H, settings: Settings<'_>, reader: Stdin, out: Stdout) -> Result<(), Fault>
 where
-    H: Wait + RandomSource + Clone + Send + Drop + AllocGlobal + 'static,
+    H: Threads + Wait + RandomSource + Clone + Send + Drop + AllocGlobal + 'static,
 {
     let mut out = Printer::new(rt.alloc(), out)?;
     let events = read_events(rt.alloc(), reader)?;
@@ -84,13 +88,14 @@ fn make_calls<H>(
     events: Vec<Event<u64, TestMessage>>,
 ) -> Result<(), AllocError>
 where
-    H: Wait + RandomSource + Clone + Send + Drop + AllocGlobal + 'static,
+    H: Threads + Wait + RandomSource + Clone + Send + Drop + AllocGlobal + 'static,
 {
     let alloc = rt.alloc();
     match settings.part {
         Part::Core => core_calls::make_all(alloc, out, settings, events),
         Part::Inbox => inbox_calls::make_all(alloc, out, settings, events),
         Part::Relay => relay_calls::make_all(alloc, out, settings, events),
+        Part::Digests => digest_calls::make_all(rt, out, settings),
         Part::Engine => return engine_calls::make_all(rt, out, settings, Sequential, events),
         Part::Account => return account_calls::make_all(rt, out, settings, events),
     }

@@ -1,5 +1,5 @@
-//! Makes the [`calls`] of the libraries that its arguments and standard input list. The gate runs it
-//! with allocations refused.
+//! Makes the [`calls`] of the libraries that its arguments and standard input list. The gate runs
+//! it with allocations refused.
 #![tactic(auto)]
 
 mod calls;

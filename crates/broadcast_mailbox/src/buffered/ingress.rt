@@ -2,6 +2,7 @@
 pub mod account;
 mod attended;
 pub mod books;
+mod dropped;
 pub mod get;
 pub mod inbox;
 pub mod ingress_end;

@@ -1,9 +1,6 @@
 //! Waits with a limit.
-use super::note::Note;
-use super::polls::{Call, DIGEST, End, Row, end_request, rows};
-use broadcast_mailbox::buffered::{Get, Incoming, Ingress, Subscription, channel};
+use super::polls::{Asked, Row, end_request, rows};
 use std::alloc::AllocGlobal;
-use std::num::NonZeroUsize;
 use std::sync::Wait;
 use std::test::Fail;
 use std::time::{Clock, Duration, Instant};
@@ -33,50 +30,29 @@ fn a_wait_ends_with_its_limit_or_its_reply(rt: HostRuntime) -> Result<(), Fail> 
     Ok(())
 }
 
+/// Waits for the future no longer than the limit. Returns the digest of the message that it gives,
+/// or the future if it is handed back.
+fn wait(asked: Asked, clock: &impl Clock, limit: Duration) -> Result<Option<u64>, Asked> {
+    match asked {
+        Asked::Subscribe(it) => match it.wait_timeout(clock, limit) {
+            Ok(output) => Ok(output.ok().map(|message| message.digest())),
+            Err(it) => Err(Asked::Subscribe(it)),
+        },
+        Asked::Get(it) => match it.wait_timeout(clock, limit) {
+            Ok(output) => Ok(output.map(|message| message.digest())),
+            Err(it) => Err(Asked::Get(it)),
+        },
+    }
+}
+
 /// Returns whether the future of the call is handed back after the limit, and gives what the row
 /// says once its request ended.
 fn gives<R: Wait + Clock + AllocGlobal + Clone + Drop>(rt: &R, row: Row) -> Result<bool, Fail> {
     let Row(call, end, wanted) = row;
-    let (mailbox, ingress) = channel(rt.clone()?, rt.alloc(), NonZeroUsize::MIN)?;
-    let given = match call {
-        Call::Subscribe => given_to_subscribe(rt, mailbox.subscribe(DIGEST)?, &ingress, end)?,
-        Call::Get => given_to_get(rt, mailbox.get(DIGEST)?, &ingress, end)?,
+    let (asked, ingress) = Asked::new(rt, call)?;
+    let Err(asked) = wait(asked, rt, short()) else {
+        return Ok(false);
     };
-    Ok(given == Some(wanted))
-}
-
-/// What the subscription gives once its request ended, or `None` if it is not handed back before,
-/// or is afterwards.
-fn given_to_subscribe<R: Wait + Clock + AllocGlobal>(
-    rt: &R,
-    subscription: Subscription<Note>,
-    ingress: &Ingress<Incoming<u64, Note>, R>,
-    end: End,
-) -> Result<Option<Option<u64>>, Fail> {
-    let Err(subscription) = subscription.wait_timeout(rt, short()) else {
-        return Ok(None);
-    };
-    end_request(ingress, rt.alloc(), end)?;
-    match subscription.wait_timeout(rt, long()) {
-        Ok(output) => Ok(Some(output.ok().map(|message| message.digest()))),
-        Err(_) => Ok(None),
-    }
-}
-
-/// What the get gives once its request ended, or `None` if it is not handed back before, or is
-/// afterwards.
-fn given_to_get<R: Wait + Clock + AllocGlobal>(
-    rt: &R,
-    get: Get<Note>,
-    ingress: &Ingress<Incoming<u64, Note>, R>,
-    end: End,
-) -> Result<Option<Option<u64>>, Fail> {
-    let Err(get) = get.wait_timeout(rt, short()) else {
-        return Ok(None);
-    };
-    end_request(ingress, rt.alloc(), end)?;
-    match get.wait_timeout(rt, long()) {
-        Ok(output) => Ok(Some(output.map(|message| message.digest()))),
-        Err(_) => Ok(None),
-    }
+    end_request(&ingress, rt.alloc(), end)?;
+    Ok(matches!(wait(asked, rt, long()), Ok(given) if given == wanted))
 }

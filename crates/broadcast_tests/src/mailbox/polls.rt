@@ -8,6 +8,7 @@ use futures::executor::block_on;
 use futures::future::poll_immediate;
 use futures::task::Poll;
 use std::alloc::{AllocGlobal, Global};
+use std::io;
 use std::num::NonZeroUsize;
 use std::random::RandomSource;
 use std::sync::Wait;
@@ -65,6 +66,50 @@ fn futures_give_their_reply_once_it_is_there(rt: HostRuntime) -> Result<(), Fail
     Ok(())
 }
 
+/// The future of a call.
+#[derive(Drop)]
+pub(super) enum Asked {
+    Subscribe(Subscription<Note>),
+    Get(Get<Note>),
+}
+
+impl Asked {
+    /// Makes the call. Returns its future, and the end at which its request waits.
+    pub(super) fn new<R: Wait + AllocGlobal + Clone + Drop>(
+        rt: &R,
+        call: Call,
+    ) -> Result<(Asked, Ingress<Incoming<u64, Note>, R>), Fail> {
+        let (mailbox, ingress) = channel(rt.clone()?, rt.alloc(), NonZeroUsize::MIN)?;
+        let asked = match call {
+            Call::Subscribe => Asked::Subscribe(mailbox.subscribe(DIGEST)?),
+            Call::Get => Asked::Get(mailbox.get(DIGEST)?),
+        };
+        Ok((asked, ingress))
+    }
+
+    /// Returns whether the future is ready, as an executor polls it.
+    fn is_ready<R: Wait + RandomSource + AllocGlobal>(&mut self, rt: &R) -> io::Result<bool> {
+        match self {
+            Asked::Subscribe(it) => Ok(block_on(rt, poll_immediate(it))?.is_some()),
+            Asked::Get(it) => Ok(block_on(rt, poll_immediate(it))?.is_some()),
+        }
+    }
+
+    /// Returns the digest of the message that the future gives, or that it is pending.
+    fn try_wait(&mut self) -> Poll<Option<u64>> {
+        match self {
+            Asked::Subscribe(it) => match it.try_wait() {
+                Poll::Ready(output) => Poll::Ready(output.ok().map(|message| message.digest())),
+                Poll::Pending => Poll::Pending,
+            },
+            Asked::Get(it) => match it.try_wait() {
+                Poll::Ready(output) => Poll::Ready(output.map(|message| message.digest())),
+                Poll::Pending => Poll::Pending,
+            },
+        }
+    }
+}
+
 /// Returns whether the future of the call is pending until its request ends, and then gives what
 /// the row says.
 fn gives<R: Wait + RandomSource + AllocGlobal + Clone + Drop>(
@@ -72,51 +117,10 @@ fn gives<R: Wait + RandomSource + AllocGlobal + Clone + Drop>(
     row: Row,
 ) -> Result<bool, Fail> {
     let Row(call, end, wanted) = row;
-    let (mailbox, ingress) = channel(rt.clone()?, rt.alloc(), NonZeroUsize::MIN)?;
-    let given = match call {
-        Call::Subscribe => given_to_subscribe(rt, mailbox.subscribe(DIGEST)?, &ingress, end)?,
-        Call::Get => given_to_get(rt, mailbox.get(DIGEST)?, &ingress, end)?,
-    };
-    Ok(given == Some(wanted))
-}
-
-/// What the subscription gives once its request ended, or `None` if it was not pending before, or
-/// still is.
-fn given_to_subscribe<R: Wait + RandomSource + AllocGlobal>(
-    rt: &R,
-    mut subscription: Subscription<Note>,
-    ingress: &Ingress<Incoming<u64, Note>, R>,
-    end: End,
-) -> Result<Option<Option<u64>>, Fail> {
-    let before = block_on(rt, poll_immediate(&mut subscription))?;
-    let is_early = subscription.try_wait().is_ready();
-    end_request(ingress, rt.alloc(), end)?;
-    if before.is_some() || is_early {
-        return Ok(None);
-    }
-    match subscription.try_wait() {
-        Poll::Ready(output) => Ok(Some(output.ok().map(|message| message.digest()))),
-        Poll::Pending => Ok(None),
-    }
-}
-
-/// What the get gives once its request ended, or `None` if it was not pending before, or still is.
-fn given_to_get<R: Wait + RandomSource + AllocGlobal>(
-    rt: &R,
-    mut get: Get<Note>,
-    ingress: &Ingress<Incoming<u64, Note>, R>,
-    end: End,
-) -> Result<Option<Option<u64>>, Fail> {
-    let before = block_on(rt, poll_immediate(&mut get))?;
-    let is_early = get.try_wait().is_ready();
-    end_request(ingress, rt.alloc(), end)?;
-    if before.is_some() || is_early {
-        return Ok(None);
-    }
-    match get.try_wait() {
-        Poll::Ready(output) => Ok(Some(output.map(|message| message.digest()))),
-        Poll::Pending => Ok(None),
-    }
+    let (mut asked, ingress) = Asked::new(rt, call)?;
+    let is_early = asked.is_ready(rt)? || asked.try_wait().is_ready();
+    end_request(&ingress, rt.alloc(), end)?;
+    Ok(!is_early && asked.try_wait() == Poll::Ready(wanted))
 }
 
 /// Ends the request that waits.
@@ -140,7 +144,7 @@ pub(super) fn end_request<R: Wait>(
 }
 
 /// Sends the reply to the request.
-fn reply(request: Incoming<u64, Note>, reply: Option<Reply<Note>>) {
+pub(super) fn reply(request: Incoming<u64, Note>, reply: Option<Reply<Note>>) {
     match request {
         Message::Broadcast { .. } => {}
         Message::Subscribe { responder, .. } => {

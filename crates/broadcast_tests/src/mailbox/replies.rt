@@ -35,14 +35,17 @@ fn dropping_what_waits_closes_its_request(rt: HostRuntime) -> Result<(), Fail> {
     Ok(())
 }
 
-/// Returns what a closed mailbox answers to each call.
-fn closed<R>(rt: &R) -> Result<(bool, bool, Feedback), Fail>
+/// Returns how many of two requests a close gives up, and what the closed mailbox answers to each
+/// call.
+fn closed<R>(rt: &R) -> Result<(u64, (bool, bool, Feedback)), Fail>
 where
     R: Wait + RandomSource + AllocGlobal + Clone + Send + Drop + 'static,
 {
     let (mailbox, ingress) = channel(rt.clone()?, rt.alloc(), NonZeroUsize::MIN)?;
-    ingress.close();
-    answers_of(rt, &mailbox)
+    let waiting = [mailbox.get(7)?, mailbox.get(7)?];
+    let given_up = ingress.close();
+    drop(waiting);
+    Ok((given_up, answers_of(rt, &mailbox)?))
 }
 
 /// Returns whether a subscription and a get are canceled, and the feedback to a broadcast.
@@ -66,6 +69,6 @@ where
 
 #[test]
 fn a_closed_mailbox_answers_nothing(rt: HostRuntime) -> Result<(), Fail> {
-    assert_eq!(rt; closed(&rt)?, (true, true, Feedback::Closed));
+    assert_eq!(rt; closed(&rt)?, (2, (true, true, Feedback::Closed)));
     Ok(())
 }

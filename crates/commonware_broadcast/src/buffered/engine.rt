@@ -1,17 +1,13 @@
 //! The engine of a node.
 mod apply;
+mod arrival;
 mod broadcast;
 mod driver;
-mod fetch;
 mod handler;
-mod job;
 mod laws;
-mod look;
 mod node;
-mod open;
-mod parts;
 mod poll;
-mod receive;
+mod report;
 mod running;
 mod state;
 mod take;
@@ -19,5 +15,6 @@ mod thread;
 
 pub use driver::drive;
 pub use laws::new_engine_law;
+pub use report::Report;
 pub use state::Engine;
-pub use thread::{Ready, Report, StartError, make_ready, run, spawn};
+pub use thread::{Ready, StartError, make_ready, run, spawn};

@@ -42,7 +42,7 @@ pub trait Session<P: PublicKey, M: Digestible, R: Wait> {
 }
 
 /// What a session leaves.
-#[derive(Drop)]
+#[derive(Debug, Drop)]
 pub struct Finished<O> {
     /// What the clients left, in the order of their numbers.
     pub outputs: Vec<O>,

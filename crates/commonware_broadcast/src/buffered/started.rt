@@ -1,15 +1,13 @@
 //! A started engine.
-use crate::buffered::config::Config;
-use crate::buffered::engine::{Engine, Ready, Report, StartError, make_ready, run, spawn};
+use crate::buffered::engine::{Ready, Report, StartError, make_ready, run, spawn};
 use crate::buffered::front::MailboxEngine;
-use crate::buffered::gate::Gate;
 use crate::buffered::observer::Observer;
 use crate::buffered::snapshots::{MetricsError, Snapshots};
 use crate::buffered::strategy::Strategy;
 use crate::buffered::threaded::Threaded;
 use crate::buffered::worker::Work;
 use broadcast_core::{Codec, Digestible, PublicKey};
-use broadcast_mailbox::buffered::{Bookkeeping, Incoming, Ingress, Mailbox, Reply, Stopper};
+use broadcast_mailbox::buffered::{Bookkeeping, Incoming, Ingress, Reply, Stopper};
 use engine_io::{Direct, Metrics, Provider, Receiver, Sender};
 use futures::channel::oneshot;
 use std::alloc::{AllocError, AllocGlobal};
@@ -18,7 +16,7 @@ use std::sync::{Arc, Wait};
 use std::thread::{JoinHandle, Threads};
 
 /// An engine that runs in a thread of its own. If it is dropped, the engine is asked to stop, and
-/// nobody waits for its end.
+/// its end is not waited for.
 pub struct Handle<P: PublicKey, M: Digestible, R: Wait, A: Bookkeeping = (), W = ()> {
     control: Control<P, M, R, A>,
     thread: JoinHandle<MailboxReport<P, M, R, A, W>>,
@@ -253,7 +251,7 @@ where
     M::Digest: 'static,
     M::Cfg: Send + Drop + 'static,
     B: Provider<P> + Send + Drop + 'static,
-    G: Gate + Send + Sync + Drop + 'static,
+    G: Send + Sync + Drop + 'static,
     N: Sender<P> + Send + Drop + 'static,
     V: Receiver<P> + Send + Drop + 'static,
     R: Threads + Wait + RandomSource + AllocGlobal + Clone + Send + Sync + Drop + 'static,
@@ -270,49 +268,6 @@ where
         let (control, thread) = start_thread(rt, move || run(ready), control)?;
         Ok(Handle { control, thread })
     }
-}
-
-/// Creates an engine whose messages are digested on other threads, and its mailbox, and starts it
-/// in a thread of its own, where it runs until it ends.
-///
-/// Fails if an allocation fails or no thread can be started. Then there is no engine.
-pub fn start_threaded<P, M, B, G, N, V, R>(
-    rt: &R,
-    cfg: Config<P, M::Cfg, B, Threaded<G, R>>,
-    network: (N, V),
-) -> Result<(Handle<P, M, R>, Mailbox<P, M, R>), StartError>
-where
-    P: PublicKey + Send + 'static,
-    M: Digestible + Codec + Work<G, R> + Send + Sync + 'static,
-    M::Digest: 'static,
-    M::Cfg: Send + Drop + 'static,
-    B: Provider<P> + Send + Drop + 'static,
-    G: Gate + Send + Sync + Drop + 'static,
-    N: Sender<P> + Send + Drop + 'static,
-    V: Receiver<P> + Send + Drop + 'static,
-    R: Threads + Wait + RandomSource + AllocGlobal + Clone + Send + Sync + Drop + 'static,
-{
-    let Ok((engine, mailbox)) = new_engine(rt, cfg) else {
-        return Err(StartError::Memory);
-    };
-    let handle = engine.prepare(rt, network)?.start(rt)?;
-    Ok((handle, mailbox))
-}
-
-/// Creates an engine and its mailbox.
-fn new_engine<P, M, B, T, R>(
-    rt: &R,
-    cfg: Config<P, M::Cfg, B, T>,
-) -> Result<(MailboxEngine<P, M, B, T, R>, Mailbox<P, M, R>), AllocError>
-where
-    P: PublicKey,
-    M: Digestible + Codec,
-    M::Cfg: Drop,
-    B: Drop,
-    T: Strategy<M> + Drop,
-    R: AllocGlobal + Clone + Drop,
-{
-    Engine::new(rt.clone()?, rt.alloc(), cfg)
 }
 
 /// Starts the thread of an engine that is reached by `control`.

@@ -9,7 +9,8 @@ use std::marker::PhantomData;
 use std::sync::Arc;
 use std::thread::Threads;
 
-/// Digests each message on a thread of its own, which passes a gate before.
+/// Digests messages on other threads: each on one of its own, which passes a gate before, or all on
+/// that of a [`Pool`](crate::buffered::Pool), which is the gate then.
 #[derive(Drop)]
 pub struct Threaded<G, R> {
     gate: Arc<G>,
@@ -18,7 +19,7 @@ pub struct Threaded<G, R> {
 }
 
 impl<G, R> Threaded<G, R> {
-    /// Creates a strategy whose workers pass `gate`.
+    /// Creates a strategy whose workers pass `gate`, or are those of the pool.
     pub fn new(rt: R, alloc: Global, gate: Arc<G>) -> Self {
         Threaded { gate, alloc, rt }
     }

@@ -110,9 +110,10 @@ fn digest<M: Digestible>(message: M) -> (M, M::Digest)
     (message, digest)
 }
 
-/// A message that a worker digests, behind a gate `G` and with a runtime `R`.
+/// A message that a worker digests, behind a gate `G` or in a pool `G`, with a runtime `R`.
 ///
-/// The calls are those of `Worker`. An impl names message and gate, and makes the calls.
+/// The calls are those of `Worker` or of `Pooled`. An impl names message and `G`, and makes the
+/// calls.
 pub trait Work<G, R>: Digestible {
     /// A worker that was started.
     type Worker;

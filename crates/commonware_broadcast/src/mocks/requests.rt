@@ -6,7 +6,7 @@ ghost use Rattle.engine_io.specs.Sources.{given};
 ghost use Rattle.broadcast_mailbox.specs.declared.buffered.ingress.request.Request.{Request as Asked};
 
 use super::script::Script;
-use crate::buffered::{Request, Requests};
+use crate::buffered::{Awaits, Request, Requests};
 use futures::task::{Context, Poll, Source, Waker};
 
 /// Gives the requests of a script, until the engine is to stop.
@@ -41,7 +41,7 @@ impl<T> ScriptedRequests<T> {
 }
 
 /// The requests are those that were given, and the next poll is pending if that is its result.
-impl<T> Requests<T> for ScriptedRequests<T> {
+impl<T: Awaits> Requests<T> for ScriptedRequests<T> {
     ghost told = { λ it requests. HasGiven given it.script requests };
 
     ghost quiet = { λ it. IsQuiet it.script };

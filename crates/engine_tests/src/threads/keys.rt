@@ -1,8 +1,8 @@
 //! Engines in threads whose peers have numbers as keys.
 use super::nodes::digest;
-use broadcast_core::{Codec, Digestible, RangeCfg, Set, TestMessage};
+use broadcast_core::{RangeCfg, TestMessage};
 use commonware_broadcast::buffered::{
-    Config, EndCause, Engine, Handle, Mailbox, Open, Sequential, Status, Threaded, Work,
+    Config, EndCause, Handle, Mailbox, Open, Pool, Sequential, Status, Threaded, Work, start,
     start_threaded,
 };
 use memory_network::{Ends, Network};
@@ -13,62 +13,58 @@ use std::sync::{Arc, Wait};
 use std::test::Fail;
 use std::thread::Threads;
 
-type Running<M, R> = (Handle<u64, M, R>, Mailbox<u64, M, R>);
+type Running<R> = (Handle<u64, TestMessage, R>, Mailbox<u64, TestMessage, R>);
 
 /// Returns what the node of key 1 has of a network with the node of key 5, which sends it the
 /// message of the letter 2.
 fn ends<R: Wait + AllocGlobal + Clone + Drop>(rt: &R) -> Result<Ends<u64, R>, Fail> {
-    let keys = Set::from_iter_dedup(Vec::from_slice(rt.alloc(), &[1, 5])?)?;
-    let ends = Network::new(rt, &keys)?.join(rt, &1)?;
+    let ends = Network::between(rt, &[1, 5])?.join(rt, &1)?;
     let bytes = Vec::from_slice(rt.alloc(), &[0, 0, 0, 0, 0, 0, 0, 1, 2])?;
     ends.mail.deliver(rt, 5, bytes)?;
     Ok(ends)
 }
 
 /// Returns the configuration of the node of key 1.
-fn config<C, B, T>(codec_config: C, peer_provider: B, strategy: T) -> Config<u64, C, B, T> {
+fn config<B, T>(peer_provider: B, strategy: T) -> Config<u64, RangeCfg, B, T> {
     Config {
         public_key: 1,
         mailbox_size: NonZeroUsize::MIN,
         deque_size: 4,
         byte_budget: u64::MAX,
         priority: false,
-        codec_config,
+        codec_config: RangeCfg::any(),
         peer_provider,
         strategy,
     }
 }
 
 /// Starts an engine that digests messages itself.
-fn sequential<M, R>(rt: &R, ends: Ends<u64, R>, codec_config: M::Cfg) -> Result<Running<M, R>, Fail>
+fn sequential<R>(rt: &R) -> Result<Running<R>, Fail>
 where
-    M: Digestible + Codec + Send + Sync + 'static,
-    M::Digest: 'static,
-    M::Cfg: Send + Drop + 'static,
     R: Threads + Wait + RandomSource + AllocGlobal + Clone + Send + Sync + Drop + 'static,
 {
-    let cfg = config(codec_config, ends.provider, Sequential);
-    let (engine, mailbox) = Engine::new(rt.clone()?, rt.alloc(), cfg)?;
-    Ok((engine.start(rt, (ends.sender, ends.receiver))?, mailbox))
+    let ends = ends(rt)?;
+    let cfg = config(ends.provider, Sequential);
+    Ok(start(rt, cfg, (ends.sender, ends.receiver))?)
 }
 
-/// Starts an engine whose messages are digested on other threads.
-fn threaded<M, R>(rt: &R, ends: Ends<u64, R>, codec_config: M::Cfg) -> Result<Running<M, R>, Fail>
+/// Starts an engine whose messages are digested on other threads, behind this gate or in this pool.
+fn threaded<G, R>(rt: &R, gate: G) -> Result<Running<R>, Fail>
 where
-    M: Digestible + Codec + Work<Open, R> + Send + Sync + 'static,
-    M::Digest: 'static,
-    M::Cfg: Send + Drop + 'static,
+    TestMessage: Work<G, R>,
+    G: Send + Sync + Drop + 'static,
     R: Threads + Wait + RandomSource + AllocGlobal + Clone + Send + Sync + Drop + 'static,
 {
-    let gate = Arc::new(rt.alloc(), Open)?;
+    let gate = Arc::new(rt.alloc(), gate)?;
     let strategy = Threaded::new(rt.clone()?, rt.alloc(), gate);
-    let cfg = config(codec_config, ends.provider, strategy);
+    let ends = ends(rt)?;
+    let cfg = config(ends.provider, strategy);
     Ok(start_threaded(rt, cfg, (ends.sender, ends.receiver))?)
 }
 
 /// Subscribes to the message of the letter 2, and stops the engine. Returns whether the message
 /// came, and was counted for its peer.
-fn receives<R>(rt: &R, running: Running<TestMessage, R>) -> Result<bool, Fail>
+fn receives<R>(rt: &R, running: Running<R>) -> Result<bool, Fail>
 where
     R: Threads + Wait + RandomSource + AllocGlobal + Drop,
 {
@@ -82,16 +78,18 @@ where
 }
 
 /// Starts an engine with each strategy.
-fn start_both<R>(rt: &R) -> Result<bool, Fail>
+fn start_each<R>(rt: &R) -> Result<bool, Fail>
 where
     R: Threads + Wait + RandomSource + AllocGlobal + Clone + Send + Sync + Drop + 'static,
 {
-    let alone = receives(rt, sequential(rt, ends(rt)?, RangeCfg::any())?)?;
-    Ok(alone && receives(rt, threaded(rt, ends(rt)?, RangeCfg::any())?)?)
+    let alone = receives(rt, sequential(rt)?)?;
+    let apart = receives(rt, threaded(rt, Open)?)?;
+    let pool = Pool::start(rt, rt.alloc())?;
+    Ok(alone && apart && receives(rt, threaded(rt, pool)?)?)
 }
 
 #[test]
 fn engines_of_keys_that_are_numbers_are_started(rt: HostRuntime) -> Result<(), Fail> {
-    assert!(rt; start_both(&rt)?);
+    assert!(rt; start_each(&rt)?);
     Ok(())
 }

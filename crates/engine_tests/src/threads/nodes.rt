@@ -1,12 +1,12 @@
 //! A started node, and what feeds it.
 use super::patient::{LIMIT, Patient, Talk, pause};
-use broadcast_core::{Codec, Digested, Digestible, Key, RangeCfg, Recipients, Set, TestMessage};
+use broadcast_core::{Digested, Digestible, Key, RangeCfg, Recipients, Set, TestMessage};
 use cluster_lib::fault::Fault;
 use cluster_lib::keys::key_of;
-use cluster_lib::node::{Node, Prepared};
-use commonware_broadcast::buffered::{Mailbox, Open, Strategy, Subscription, Threaded, Work};
+use cluster_lib::node::{Node, config};
+use commonware_broadcast::buffered::{self, Mailbox, Open, Strategy, Subscription, Threaded};
 use commonware_broadcast::{Broadcaster, Feedback};
-use memory_network::Mail;
+use memory_network::{Inbound, Mail, Outbound};
 use std::alloc::{AllocError, AllocGlobal, Global};
 use std::random::RandomSource;
 use std::sync::{Arc, Wait};
@@ -21,29 +21,9 @@ where
     T::Job: Send + 'static,
     R: Threads + Wait + RandomSource + AllocGlobal + Clone + Send + Sync + Drop + 'static,
 {
-    match prepare(rt, RangeCfg::any(), strategy)?.start(rt) {
-        Ok(node) => Ok(node),
-        Err((_, error)) => Err(error)?,
-    }
-}
-
-/// Starts the node of number 1, whose messages are digested on other threads.
-pub fn start_threaded<M, R>(rt: &R, codec_config: M::Cfg) -> Result<Node<M, R>, Fail>
-where
-    M: Digestible + Codec + Work<Open, R> + Send + Sync + 'static,
-    M::Digest: 'static,
-    M::Cfg: Send + Drop + 'static,
-    R: Threads + Wait + RandomSource + AllocGlobal + Clone + Send + Sync + Drop + 'static,
-{
-    let gate = Arc::new(rt.alloc(), Open)?;
-    let strategy = Threaded::new(rt.clone()?, rt.alloc(), gate);
-    let Prepared {
-        engine,
-        mailbox,
-        mail,
-        network,
-    } = prepare(rt, codec_config, strategy)?;
-    let handle = engine.prepare(rt, network)?.start(rt)?;
+    let (mail, network) = network(rt)?;
+    let cfg = config(rt, RangeCfg::any(), strategy, &mail, 4)?;
+    let (handle, mailbox) = buffered::start(rt, cfg, network)?;
     Ok(Node {
         mailbox,
         mail,
@@ -51,21 +31,35 @@ where
     })
 }
 
-/// Prepares the node of number 1.
-pub fn prepare<M, T, R>(
-    rt: &R,
-    codec_config: M::Cfg,
-    strategy: T,
-) -> Result<Prepared<M, T, R>, AllocError>
+/// Starts the node of number 1, whose messages are digested on other threads.
+pub fn start_threaded<R>(rt: &R) -> Result<Node<TestMessage, R>, Fail>
 where
-    M: Digestible + Codec,
-    M::Cfg: Drop,
-    T: Strategy<M> + Drop,
-    R: Wait + AllocGlobal + Clone + Drop,
+    R: Threads + Wait + RandomSource + AllocGlobal + Clone + Send + Sync + Drop + 'static,
+{
+    let gate = Arc::new(rt.alloc(), Open)?;
+    let strategy = Threaded::new(rt.clone()?, rt.alloc(), gate);
+    let (mail, network) = network(rt)?;
+    let cfg = config(rt, RangeCfg::any(), strategy, &mail, 4)?;
+    let (handle, mailbox) = buffered::start_threaded(rt, cfg, network)?;
+    Ok(Node {
+        mailbox,
+        mail,
+        handle,
+    })
+}
+
+/// The mail of a node, and the ends of its network.
+type Networked<R> = (Arc<Mail<Key>>, (Outbound<Key, R>, Inbound<Key, R>));
+
+/// Creates the mail of the node of number 1, and the ends of a network without other nodes.
+fn network<R>(rt: &R) -> Result<Networked<R>, AllocError>
+where
+    R: AllocGlobal + Clone + Drop,
 {
     let mail = Arc::new(rt.alloc(), Mail::new(rt.alloc(), key_of(1)))?;
-    let others = Vec::new(rt.alloc());
-    Prepared::new(rt, codec_config, strategy, &mail, others, 4)
+    let outbound = Outbound::new(rt, &mail.key, Vec::new(rt.alloc()))?;
+    let inbound = Inbound::new(rt, &mail)?;
+    Ok((mail, (outbound, inbound)))
 }
 
 /// Starts the node of number 1, whose jobs take part in a talk.

@@ -1,54 +1,18 @@
 //! What the observers of a started engine see.
-use super::nodes::{digest, prepare, send, track};
-use broadcast_core::{Codec, CodecError, Digestible, Key, Outcome, RangeCfg, TestMessage};
+use super::nodes::{digest, send};
+use broadcast_core::{CodecError, Key, Outcome, RangeCfg, TestMessage};
 use cluster_lib::keys::key_of;
-use cluster_lib::node::Prepared;
+use cluster_lib::node::config;
 use commonware_broadcast::buffered::{
-    EndCause, Handle, Lines, Mailbox, Observer, Recent, Sequential, Strategy, Turn,
+    EndCause, Lines, Mailbox, Observer, Recent, Sequential, Turn, start_observed,
 };
-use memory_network::Mail;
+use memory_network::{Mail, Network};
 use std::alloc::{AllocError, AllocGlobal, Global};
 use std::io::{self, Write};
 use std::random::RandomSource;
-use std::sync::{Arc, Wait};
+use std::sync::Wait;
 use std::test::Fail;
 use std::thread::Threads;
-
-/// A handle, a mailbox and the mail of a node with an observer.
-struct Observed<M: Digestible, R: Wait, W> {
-    handle: Handle<Key, M, R, (), W>,
-    mailbox: Mailbox<Key, M, R>,
-    mail: Arc<Mail<Key>>,
-}
-
-/// Starts a node with the observer.
-fn start_with<M, T, R, W>(
-    rt: &R,
-    codec_config: M::Cfg,
-    strategy: T,
-    observer: W,
-) -> Result<Observed<M, R, W>, Fail>
-where
-    M: Digestible + Codec + Send + Sync + 'static,
-    M::Digest: 'static,
-    M::Cfg: Send + Drop + 'static,
-    T: Strategy<M> + Send + Drop + 'static,
-    T::Job: Send + 'static,
-    R: Threads + Wait + RandomSource + AllocGlobal + Clone + Send + Sync + Drop + 'static,
-    W: Observer<Key> + Send + Drop + 'static,
-{
-    let Prepared {
-        engine,
-        mailbox,
-        mail,
-        network,
-    } = prepare(rt, codec_config, strategy)?;
-    Ok(Observed {
-        handle: engine.start_observed(rt, network, observer)?,
-        mailbox,
-        mail,
-    })
-}
 
 /// Lets a node with the observer take some inputs, and end. Returns the observer.
 fn observe<R, W>(rt: &R, observer: W) -> Result<W, Fail>
@@ -56,65 +20,35 @@ where
     R: Threads + Wait + RandomSource + AllocGlobal + Clone + Send + Sync + Drop + 'static,
     W: Observer<Key> + Send + Drop + 'static,
 {
-    let nobodys = digest(rt.alloc(), 2)?;
-    observe_with::<TestMessage, _, R, W>(rt, RangeCfg::any(), Sequential, nobodys, observer)
-}
-
-/// Lets a node with the observer take some inputs, of which one is a get of the digest, and end. It
-/// is generic in message and strategy, since the check refuses a function that makes an engine of
-/// named ones.
-fn observe_with<M, T, R, W>(
-    rt: &R,
-    codec_config: M::Cfg,
-    strategy: T,
-    nobodys: M::Digest,
-    observer: W,
-) -> Result<W, Fail>
-where
-    M: Digestible + Codec + Send + Sync + 'static,
-    M::Digest: 'static,
-    M::Cfg: Send + Drop + 'static,
-    T: Strategy<M> + Send + Drop + 'static,
-    T::Job: Send + 'static,
-    R: Threads + Wait + RandomSource + AllocGlobal + Clone + Send + Sync + Drop + 'static,
-    W: Observer<Key> + Send + Drop + 'static,
-{
-    let Observed {
-        handle,
-        mailbox,
-        mail,
-    } = start_with(rt, codec_config, strategy, observer)?;
-    ask(rt, &mailbox, &mail, nobodys)?;
+    let network = Network::between(rt, &[key_of(1), key_of(5)])?;
+    let ends = network.join(rt, &key_of(1))?;
+    let config = config(rt, RangeCfg::any(), Sequential, &ends.mail, 4)?;
+    let network = (ends.sender, ends.receiver);
+    let (handle, mailbox) = start_observed(rt, config, network, observer)?;
+    ask(rt, &mailbox, &ends.mail)?;
     Ok(handle.join(rt).into_observer())
 }
 
-/// Gives a node a peer set, a get, and then a payload that is no message, one that is, and the end
-/// of its network.
-fn ask<M, R>(
-    rt: &R,
-    mailbox: &Mailbox<Key, M, R>,
-    mail: &Mail<Key>,
-    nobodys: M::Digest,
-) -> Result<(), Fail>
+/// Gives a node a get, and then a payload that is no message, one that is, and the end of its
+/// network.
+fn ask<R>(rt: &R, mailbox: &Mailbox<Key, TestMessage, R>, mail: &Mail<Key>) -> Result<(), Fail>
 where
-    M: Digestible,
     R: Wait + RandomSource + AllocGlobal,
 {
-    track(rt, mail, &[1, 5])?;
     // It is answered after the set was taken, since a peer set comes first.
-    let _none = mailbox.get(nobodys)?.wait(rt);
+    let _none = mailbox.get(digest(rt.alloc(), 2)?)?.wait(rt);
     send(rt, mail, 5, &[9])?;
     send(rt, mail, 5, &[0, 0, 0, 0, 0, 0, 0, 1, 2])?;
     mail.fail(rt)?;
     Ok(())
 }
 
-/// The lines of these turns.
+/// The lines of these turns. The key of peer 5 is 32 bytes, of which the last is its number.
 fn lines(alloc: Global) -> Result<String, AllocError> {
-    let peer = key_of(5);
+    let peer = 5u64;
     format!(in alloc;
-        "peers\nget\ninvalid payload of {peer:?}: the bytes end too early\n\
-         payload of {peer:?} inserted\nended: the network failed\n"
+        "peers\nget\ninvalid payload of {peer:064x}: the bytes end too early\n\
+         payload of {peer:064x} inserted\nended: the network failed\n"
     )
 }
 

@@ -12,16 +12,45 @@ use std::time::{Clock, Duration};
 pub struct Supply {
     copies: AtomicU64,
     randoms: AtomicU64,
+    /// How often it slept.
+    pauses: AtomicU64,
+    /// The supply of the copies, if it is another one.
+    heirs: Option<Arc<Supply>>,
 }
 
 impl Supply {
     /// Creates an ample supply.
     pub fn new(alloc: Global) -> Result<Arc<Supply>, AllocError> {
+        Supply::with(alloc, 1000, None)
+    }
+
+    /// Creates a supply of this many copies, whose copies have a supply of their own.
+    pub fn with_heirs(
+        alloc: Global,
+        copies: u64,
+        heirs: &Arc<Supply>,
+    ) -> Result<Arc<Supply>, AllocError> {
+        Supply::with(alloc, copies, Some(Arc::try_clone(heirs)?))
+    }
+
+    /// Creates a supply of this many copies.
+    fn with(
+        alloc: Global,
+        copies: u64,
+        heirs: Option<Arc<Supply>>,
+    ) -> Result<Arc<Supply>, AllocError> {
         let supply = Supply {
-            copies: AtomicU64::new(1000),
+            copies: AtomicU64::new(copies),
             randoms: AtomicU64::new(1000),
+            pauses: AtomicU64::new(0),
+            heirs,
         };
         Ok(Arc::new(alloc, supply)?)
+    }
+
+    /// Returns how often the runtimes with this supply slept.
+    pub fn pauses(&self) -> u64 {
+        self.pauses.load(Ordering::SeqCst)
     }
 
     /// Leaves this many copies, and this many times random bytes.
@@ -79,6 +108,7 @@ impl<R: Clock> Clock for Poor<R> {
     }
 
     fn sleep(&self, duration: Duration) {
+        self.supply.pauses.fetch_add(1, Ordering::SeqCst);
         self.rt.sleep(duration);
     }
 }
@@ -86,7 +116,7 @@ impl<R: Clock> Clock for Poor<R> {
 impl<R: Clone> Clone for Poor<R> {
     fn clone(&self) -> Result<Self, AllocError> {
         let rt = self.rt.clone()?;
-        let supply = Arc::try_clone(&self.supply)?;
+        let supply = Arc::try_clone(self.supply.heirs.as_ref().unwrap_or(&self.supply))?;
         if take(&self.supply.copies) {
             Ok(Poor { rt, supply })
         } else {

@@ -1,7 +1,7 @@
 //! Many callers of one started engine, which digests on other threads and is stopped in the middle.
 use super::nodes::{broadcast, gets, send, start_threaded, subscribe, track};
 use super::patient::{LIMIT, pause};
-use broadcast_core::{Key, RangeCfg, TestMessage};
+use broadcast_core::{Key, TestMessage};
 use cluster_lib::fault::Fault;
 use cluster_lib::keys::key_of;
 use cluster_lib::node::Node;
@@ -287,7 +287,7 @@ fn soak<R>(rt: &R) -> Result<Account, Fail>
 where
     R: Threads + Wait + Clock + RandomSource + AllocGlobal + Clone + Send + Sync + Drop + 'static,
 {
-    let node = start_threaded(rt, RangeCfg::any())?;
+    let node = start_threaded(rt)?;
     let first = greet(rt, &node)?;
     let workers = start_workers(rt, &node)?;
     wait_for_half(rt, &workers.made);

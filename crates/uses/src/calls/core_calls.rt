@@ -98,7 +98,7 @@ fn subscribe(out: &mut Printer, core: &mut TestCore, ticket: u64, digest: [u8; 3
         Ok(Subscribed::Answered(back, message)) => {
             out.line("subscribe", &(back, message.inner()));
         }
-        Err(refused) => out.line("subscribe", &refused),
+        Err(refused) => out.line("subscribe", &(refused.value, AllocError)),
     }
     out.line("waiting", &core.waiting(&digest));
 }

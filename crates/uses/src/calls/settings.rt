@@ -12,6 +12,8 @@ const RELAY: &[u8] = b"relay";
 
 const ACCOUNT: &[u8] = b"account";
 
+const DIGESTS: &[u8] = b"digests";
+
 /// What is called.
 #[derive(Clone, Copy)]
 pub enum Part {
@@ -20,17 +22,19 @@ pub enum Part {
     Engine,
     Relay,
     Account,
+    Digests,
 }
 
 /// What is called, and how.
 #[derive(Clone, Copy)]
 pub struct Settings<'a> {
     pub part: Part,
-    /// The greatest number of digests in a list.
+    /// The greatest number of digests in a list, or the length of a message.
     pub deque_size: usize,
     /// The number of places in a ready list.
     pub places: NonZeroUsize,
-    /// The greatest length that is decoded, or the byte budget of a core and of a relay.
+    /// The greatest length that is decoded, the byte budget of a core and of a relay, or the number
+    /// of messages.
     pub greatest: usize,
     /// A letter or a digit for each step.
     pub steps: &'a [u8],
@@ -99,6 +103,9 @@ fn part_of(word: &[u8]) -> Option<Part> {
     if word == ACCOUNT {
         return Some(Part::Account);
     }
+    if word == DIGESTS {
+        return Some(Part::Digests);
+    }
     None
 }
 
@@ -119,5 +126,6 @@ fn is_step(part: Part, letter: char) -> bool {
         Part::Inbox => matches!(letter, 'h' | 'd' | 't' | 's' | 'x'),
         Part::Engine => matches!(letter, 'k' | 'e' | 'f' | 'w' | '0'..='9'),
         Part::Account => matches!(letter, 't' | 'r' | 'x'),
+        Part::Digests => matches!(letter, 's' | 't' | 'p'),
     }
 }

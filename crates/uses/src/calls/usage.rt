@@ -6,7 +6,7 @@ use std::io::{self, Write};
 pub const USAGE: &str = "usage: uses PART SIZE PLACES GREATEST STEPS";
 
 /// The names of the parts.
-const PARTS: &str = "core, inbox, engine, relay and account";
+const PARTS: &str = "core, inbox, engine, relay, account and digests";
 
 /// The argument that asks for the help.
 const HELP: &[u8] = b"--help";
@@ -35,14 +35,17 @@ pub fn help<W: Write>(out: &mut W) -> io::Result<()> {
 
 fn help_with_numbers<W: Write>(out: &mut W) -> io::Result<()> {
     writeln!(out, "  PART      what is called, of {PARTS}")?;
-    writeln!(out, "  SIZE      the greatest number of digests in a list")?;
+    writeln!(
+        out,
+        "  SIZE      the greatest number of digests in a list, or the length of a message"
+    )?;
     writeln!(
         out,
         "  PLACES    the number of places in a ready list, from 1 on"
     )?;
     writeln!(
         out,
-        "  GREATEST  the greatest length that is decoded, or a byte budget"
+        "  GREATEST  the greatest length that is decoded, a byte budget, or how many messages"
     )
 }
 
@@ -53,7 +56,7 @@ fn help_with_steps<W: Write>(out: &mut W) -> io::Result<()> {
     )?;
     writeln!(
         out,
-        "            inbox: h d t s x; engine: k e f w 0..9; account: t r x"
+        "            inbox: h d t s x; engine: k e f w 0..9; account: t r x; digests: s t p"
     )?;
     writeln!(out, "Standard input: events, as docs/REPLAY.md has them.")
 }

@@ -10,7 +10,7 @@ ghost use Rattle.broadcast_mailbox.specs.Watch.{BroadcastsOnly};
 
 use crate::buffered::ingress::account::{Account, Bookkeeping};
 use crate::buffered::ingress::books::Books;
-use crate::buffered::ingress::message::Message;
+use crate::buffered::ingress::message::{Awaits, Message};
 use crate::buffered::ingress::queued::Counts;
 use crate::buffered::ingress::reply::Reply;
 use crate::buffered::ingress::request::Request;
@@ -59,6 +59,12 @@ impl<T, R, A: Bookkeeping> Ingress<T, R, A> {
     {
         A::end(&mut self.taker, refused);
     }
+
+    /// Returns whether a subscription was dropped since the last call. One that was dropped before
+    /// `poll_request` took its request counts again from then on.
+    pub fn take_dropped(&self) -> bool {
+        self.inbox.take_dropped()
+    }
 }
 
 impl<T, R: Clone, A: Bookkeeping> Ingress<T, R, A> {
@@ -100,7 +106,7 @@ impl<T, R: Wait, A: Bookkeeping> Ingress<T, R, A> {
     }
 }
 
-impl<T: Closable + Drop, R: Wait, A: Bookkeeping> Ingress<T, R, A> {
+impl<T: Closable + Awaits + Drop, R: Wait, A: Bookkeeping> Ingress<T, R, A> {
     /// Removes and returns the oldest request, and counts it if it is a counted one. If none waits,
     /// the task is woken once one is queued.
     pub fn poll_request(&mut self, cx: &mut Context<'_>) -> Poll<Request<T>>
@@ -110,7 +116,14 @@ impl<T: Closable + Drop, R: Wait, A: Bookkeeping> Ingress<T, R, A> {
         ensures armed { OnPending result (IsArmed cx.new) }
         ensures kept { Keeps cx.old cx.new }
     {
-        self.inbox.poll_next(&self.rt, &mut self.taker, cx)
+        let polled = self.inbox.poll_next(&self.rt, &mut self.taker, cx);
+        if let Poll::Ready(request) = &polled {
+            // Its drop may have been told before it was taken, and it waits from now on.
+            if request.message.is_abandoned() {
+                self.inbox.mark_dropped();
+            }
+        }
+        polled
     }
 
     /// Closes the mailbox and drops the requests that wait. Returns how many they were.

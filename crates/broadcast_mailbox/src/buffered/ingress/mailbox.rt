@@ -6,6 +6,7 @@ ghost use Rattle.broadcast_mailbox.specs.Ends.{IngressEnd, MailboxEnd};
 
 use crate::buffered::ingress::account::{Account, Bookkeeping};
 use crate::buffered::ingress::books::Books;
+use crate::buffered::ingress::dropped::Dropped;
 use crate::buffered::ingress::get::Get;
 use crate::buffered::ingress::inbox::Inbox;
 use crate::buffered::ingress::ingress_end::Ingress;
@@ -46,7 +47,9 @@ where
     R: Clone + Drop,
     ensures same_inbox { IfOk result (λ ends. ends.0.inbox ≡ ends.1.inbox) }
 {
-    let inbox = Arc::new(alloc, Shared::new(Inbox::new(alloc, mailbox_size), ()))?;
+    let dropped = Arc::new(alloc, Dropped::new())?;
+    let shared = Shared::new(Inbox::new(alloc, mailbox_size), (), dropped);
+    let inbox = Arc::new(alloc, shared)?;
     let ingress = Ingress::new(rt.clone()?, Arc::try_clone(&inbox)?, ());
     Ok((Mailbox { inbox, alloc, rt }, ingress))
 }
@@ -97,7 +100,9 @@ where
         taken,
         parts.get() as u64,
     );
-    let inbox = Arc::new(alloc, Shared::new(Inbox::new(alloc, mailbox_size), books))?;
+    let dropped = Arc::new(alloc, Dropped::new())?;
+    let shared = Shared::new(Inbox::new(alloc, mailbox_size), books, dropped);
+    let inbox = Arc::new(alloc, shared)?;
     let ingress = Ingress::new(rt.clone()?, Arc::try_clone(&inbox)?, taking);
     Ok((Mailbox { inbox, alloc, rt }, ingress, tally))
 }
@@ -137,9 +142,10 @@ where
         ensures { IfOk result (λ subscription. subscription.digest ≡ digest) }
     {
         let (responder, receiver) = oneshot::channel(self.alloc)?;
+        let dropped = self.inbox.dropped()?;
         let request = Message::subscribe(digest, responder);
         let _queued = self.inbox.enqueue(&self.rt, request)?;
-        Ok(Subscription::new(digest, receiver))
+        Ok(Subscription::new(digest, receiver, dropped))
     }
 
     /// Requests the message of `digest` if it is cached.
@@ -193,10 +199,11 @@ where
         ensures unchanged_on_error { OnErr result (tally.new ≡ tally.old) }
     {
         let (responder, receiver) = oneshot::channel(self.alloc)?;
+        let dropped = self.inbox.dropped()?;
         let counted = V::matches(Kind::Subscribe, &digest);
         let request = Message::subscribe(digest, responder);
         let _queued = self.inbox.enqueue_as(&self.rt, request, counted, tally)?;
-        Ok(Subscription::new(digest, receiver))
+        Ok(Subscription::new(digest, receiver, dropped))
     }
 
     /// Gets as `get` does. The tally is one higher exactly if the request was accepted and the

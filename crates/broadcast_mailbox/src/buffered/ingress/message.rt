@@ -1,5 +1,5 @@
 //! The messages of a mailbox's callers.
-ghost use Rattle.std.specs.Prelude.{◌≡◌};
+ghost use Rattle.std.specs.Prelude.{◌≡◌, false};
 ghost use Rattle.broadcast_mailbox.specs.Watch.{kind_of};
 
 use crate::buffered::ingress::overflow::Policy;
@@ -92,6 +92,34 @@ where
             Message::Broadcast { .. } => false,
             Message::Subscribe { responder, .. } => responder.is_closed(),
             Message::Get { responder, .. } => responder.is_closed(),
+        }
+    }
+}
+
+/// A request that may have to wait for its reply.
+pub trait Awaits {
+    /// Whether it may be found open while it waits. What never waits may.
+    ghost may_stay: { Self → Type 0 };
+
+    /// Returns whether it would wait for its reply, and its caller no longer does.
+    fn is_abandoned(&self) -> bool
+        ensures { result ≡ false → may_stay self.now };
+}
+
+/// Only a subscribe waits.
+impl<P, M, S, G> Awaits for Message<P, M, S, G>
+where
+    M: Digestible,
+    S: Responder<Reply<M>>,
+{
+    ghost use Rattle.broadcast_mailbox.specs.Message.{message_may_stay};
+
+    ghost may_stay = { message_may_stay (λ responder. S.may_answer responder false) };
+
+    fn is_abandoned(&self) -> bool {
+        match self {
+            Message::Subscribe { responder, .. } => responder.is_closed(),
+            Message::Broadcast { .. } | Message::Get { .. } => false,
         }
     }
 }

@@ -12,6 +12,7 @@ use crate::MailboxError;
 use crate::buffered::ingress::account::{Account, Bookkeeping};
 use crate::buffered::ingress::attended::Attended;
 use crate::buffered::ingress::books::{Books, Taker};
+use crate::buffered::ingress::dropped::Dropped;
 use crate::buffered::ingress::inbox::Inbox;
 use crate::buffered::ingress::message::Message;
 use crate::buffered::ingress::queued::{Counts, Queued};
@@ -23,8 +24,9 @@ use crate::buffered::ingress::tally::Tally;
 use crate::buffered::ingress::watch::Watch;
 use broadcast_core::{Closable, Digestible, PublicKey};
 use futures::task::{Context, Poll, Source};
+use std::alloc::AllocError;
 use std::marker::Model;
-use std::sync::{Mutex, Wait};
+use std::sync::{Arc, Mutex, Wait};
 
 /// The inbox that the ends of a mailbox share.
 ///
@@ -36,6 +38,7 @@ pub(super) struct Shared<T, A: Bookkeeping> {
     queued: Source,
     // Fires once a stop is requested.
     stopped: Source,
+    dropped: Arc<Dropped>,
     state: Mutex<Attended<T, A>>,
 }
 
@@ -48,16 +51,32 @@ impl<T, A: Bookkeeping> Model for Shared<T, A> {
 }
 
 impl<T, A: Bookkeeping> Shared<T, A> {
-    /// Shares the inbox.
-    pub(super) fn new(inbox: Inbox<T>, account: A) -> Self
+    /// Shares the inbox, and the mark of its subscriptions.
+    pub(super) fn new(inbox: Inbox<T>, account: A, dropped: Arc<Dropped>) -> Self
         requires nothing_waits { waiting inbox.queue ≡ [] }
         requires nothing_counted { (A.waiting account ≡ 0) × (A.accepted account ≡ 0) }
     {
         Shared {
             queued: Source::new(),
             stopped: Source::new(),
+            dropped,
             state: Mutex::new(Attended::new(inbox, account)),
         }
+    }
+
+    /// Returns the mark that a subscription makes once it is dropped.
+    pub(super) fn dropped(&self) -> Result<Arc<Dropped>, AllocError> {
+        Arc::try_clone(&self.dropped)
+    }
+
+    /// Marks that a subscription was dropped, whose channel is closed.
+    pub(super) fn mark_dropped(&self) {
+        self.dropped.mark();
+    }
+
+    /// Returns whether a subscription was dropped since the last call.
+    pub(super) fn take_dropped(&self) -> bool {
+        self.dropped.take()
     }
 
     /// Requests a stop.

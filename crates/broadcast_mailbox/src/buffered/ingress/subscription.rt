@@ -5,6 +5,7 @@ ghost use Rattle.futures.specs.Channel.{completed_source};
 ghost use Rattle.futures.specs.Poll.{IfReady};
 ghost use Rattle.broadcast_mailbox.specs.Asked.{GoesBy, subscription_returns};
 
+use crate::buffered::ingress::dropped::Dropped;
 use crate::buffered::ingress::limit::Limit;
 use crate::buffered::ingress::reply::{Reply, Returns, try_receive};
 use broadcast_core::{Digested, Digestible};
@@ -16,16 +17,34 @@ use std::alloc::AllocGlobal;
 use std::io;
 use std::marker::Model;
 use std::random::RandomSource;
-use std::sync::Wait;
+use std::sync::{Arc, Wait};
 use std::time::{Clock, Duration};
 
 /// A future for the message of a digest. Dropping it cancels the request.
 ///
 /// It ends as canceled if the request was dropped, and if the reply goes by another digest.
-#[derive(Drop)]
 pub struct Subscription<M: Digestible> {
     digest: M::Digest,
     receiver: Receiver<Reply<M>>,
+    // Whether the channel has given its result.
+    is_done: bool,
+    dropped: Arc<Dropped>,
+}
+
+/// Closes the channel, and then tells the mailbox, unless the channel has given its result.
+impl<M: Digestible> Drop for Subscription<M> {
+    fn drop(self) {
+        let Self {
+            digest: _,
+            receiver,
+            is_done,
+            dropped,
+        } = self;
+        drop(receiver);
+        if !is_done {
+            dropped.mark();
+        }
+    }
 }
 
 impl<M: Digestible> Model for Subscription<M> {
@@ -38,11 +57,21 @@ impl<M: Digestible> Model for Subscription<M> {
 }
 
 impl<M: Digestible> Subscription<M> {
-    // Creates the future of a subscribe to `digest` whose reply comes through the channel.
-    pub(super) fn new(digest: M::Digest, receiver: Receiver<Reply<M>>) -> Self
+    // Creates the future of a subscribe to `digest` whose reply comes through the channel, and
+    // whose drop is marked there.
+    pub(super) fn new(
+        digest: M::Digest,
+        receiver: Receiver<Reply<M>>,
+        dropped: Arc<Dropped>,
+    ) -> Self
         ensures { result ≡ record { digest = digest; source = completed_source receiver } }
     {
-        Subscription { digest, receiver }
+        Subscription {
+            digest,
+            receiver,
+            is_done: false,
+            dropped,
+        }
     }
 
     /// Blocks the calling thread until the message is there, and returns what the future gives.
@@ -89,6 +118,7 @@ impl<M: Digestible> Subscription<M> {
         ensures same { self.new ≡ self.old }
     {
         let received = try_receive(&mut self.receiver);
+        self.is_done = received.is_ready();
         self.returned(received)
     }
 }
@@ -114,6 +144,7 @@ impl<M: Digestible> Future for Subscription<M> {
 
     fn poll(&mut self, cx: &mut Context<'_>) -> Poll<Result<Digested<M>, Canceled>> {
         let polled = self.receiver.poll(cx);
+        self.is_done = polled.is_ready();
         self.returned(polled)
     }
 }

@@ -11,7 +11,7 @@ ghost use Rattle.commonware_broadcast.specs.EngineHistory.{end_told};
 ghost use Rattle.engine_io.specs.Replies.{Asker};
 ghost use Rattle.commonware_broadcast.specs.Order.{of_network};
 ghost use Rattle.engine_io.specs.Inputs.{payloads_in};
-ghost use Rattle.commonware_broadcast.specs.Ran.{Applied};
+ghost use Rattle.commonware_broadcast.specs.AppliesSteps.{Applies, sinks};
 
 use crate::buffered::engine::broadcast::handle_broadcast;
 use crate::buffered::engine::handler::{
@@ -41,8 +41,8 @@ where
     ensures applied { (s : Setting P M M.Digest) → s.same ≡ same_by P.cmp M.Digest.cmp
         → s.encoding ≡ M.encoding → s.priority ≡ priority
         → (past : History P M M.Digest (Asker S) (Asker G)) → HasContent s past node.old.core
-        → Applied s (λ w b. S.may_answer w.responder b) O.told N.told past input
-        result node.old node.new sender.old sender.new }
+        → Applies s (sinks (λ w b. S.may_answer w.responder b) O.told N.told) past input
+        result (node.old, sender.old) (node.new, sender.new) }
     ensures tells_no_end { end_told result ≡ None }
     ensures of_peers { (ps : List P) → input ≡ Peers ps → result ≡ turn.Peers }
     ensures of_request { payloads_in (input ∷ []) ≡ [] → of_network result ≡ false }
@@ -76,8 +76,8 @@ where
     ensures applied { (s : Setting P M M.Digest) → s.same ≡ same_by P.cmp M.Digest.cmp
         → s.encoding ≡ M.encoding → s.priority ≡ priority
         → (past : History P M M.Digest (Asker S) (Asker G)) → HasContent s past node.old.core
-        → Applied s (λ w b. S.may_answer w.responder b) O.told N.told past (input.Request request)
-        result node.old node.new sender.old sender.new }
+        → Applies s (sinks (λ w b. S.may_answer w.responder b) O.told N.told) past
+        (input.Request request) result (node.old, sender.old) (node.new, sender.new) }
     ensures tells_no_end { end_told result ≡ None }
     ensures of_request { of_network result ≡ false }
 {

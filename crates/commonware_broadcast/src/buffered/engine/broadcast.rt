@@ -8,7 +8,7 @@ ghost use Rattle.broadcast_mailbox.specs.declared.buffered.ingress.message.Messa
 ghost use Rattle.commonware_broadcast.specs.EngineHistory.{end_told};
 ghost use Rattle.engine_io.specs.Replies.{Asker};
 ghost use Rattle.commonware_broadcast.specs.Order.{of_network};
-ghost use Rattle.commonware_broadcast.specs.Ran.{Applied, requested};
+ghost use Rattle.commonware_broadcast.specs.AppliesSteps.{Applies, requested, sinks};
 
 use crate::buffered::engine::node::Node;
 use crate::buffered::engine::take::take_own;
@@ -37,9 +37,9 @@ where
         → s.encoding ≡ M.encoding → s.priority ≡ priority
         → (past : History P M M.Digest (Asker S) (Asker G)) → HasContent s past node.old.core
         → (ticket : ℕ) (counted : Bool)
-        → Applied s (λ w b. S.may_answer w.responder b) O.told N.told past
+        → Applies s (sinks (λ w b. S.may_answer w.responder b) O.told N.told) past
         (requested ticket counted (request.Broadcast recipients message))
-        result node.old node.new sender.old sender.new }
+        result (node.old, sender.old) (node.new, sender.new) }
     ensures tells_no_end { end_told result ≡ None }
     ensures of_request { of_network result ≡ false }
 {

@@ -1,18 +1,14 @@
-//! Polls after polls.
-ghost use Rattle.std.specs.Prelude.{◌≡◌, ◌<◌, ◌≤◌, Option, Some, None, [], ◌∷◌, length, IfOk, OnErr};
+//! `drive`: polls an engine up to `limit` times.
+ghost use Rattle.std.specs.Prelude.{◌≡◌, ◌<◌, ◌≤◌, Some, None, [], ◌∷◌, length, IfOk, OnErr};
 ghost use Rattle.std.specs.List.{All};
 ghost use Rattle.futures.specs.Task.{IsArmed, Keeps};
 ghost use Rattle.broadcast_core.specs.Codec.{whole};
 ghost use Rattle.broadcast_core.specs.Content.{same_by};
-ghost use Rattle.broadcast_core.specs.Setting.{Setting};
-ghost use Rattle.broadcast_core.specs.Happening.{History};
-ghost use Rattle.broadcast_core.specs.HasContent.{HasContent};
 ghost use Rattle.engine_io.specs.declared.input.Turn.TheVariants as turn;
 ghost use Rattle.engine_io.specs.declared.input.EndCause.{EndCause};
-ghost use Rattle.engine_io.specs.Replies.{Asker};
-ghost use Rattle.commonware_broadcast.specs.Taken.{Holds};
-ghost use Rattle.commonware_broadcast.specs.Polls.{Drove};
-ghost use Rattle.commonware_broadcast.specs.EngineState.{TellsEnd, Went};
+ghost use Rattle.commonware_broadcast.specs.Interfaces.{format, parties, interfaces};
+ghost use Rattle.commonware_broadcast.specs.Polls.{Drives};
+ghost use Rattle.commonware_broadcast.specs.TakesSteps.{AlwaysTakes, TellsEnd};
 
 use crate::buffered::engine::state::Engine;
 use crate::buffered::strategy::Strategy;
@@ -43,19 +39,16 @@ where
     T: Strategy<M>,
     N: Sender<P>,
     R: Receiver<P>,
-    ensures went { IfOk result (λ turns. (s : Setting P M M.Digest)
-        → s.same ≡ same_by P.cmp M.Digest.cmp
-        → s.encoding ≡ M.encoding → s.priority ≡ engine.old.priority → s.digest_of ≡ M.digest_of
-        → s.reading ≡ whole (M.reading engine.old.codec_config)
-        → (past : History P M M.Digest (Asker S) (Asker G))
-        → HasContent s past engine.old.node.core → (before : Option (P × M))
-        → Holds T.Job.is_of engine.old.end engine.old.job before
-        → Went s (λ w b. S.may_answer w.responder b) O.told N.told T.Job.is_of R.told B.told
-        Q.told past before engine.old engine.new network.old network.new turns.items) }
-    ensures drove { IfOk result (λ turns.
-        Drove (same_by P.cmp M.Digest.cmp) M.encoding M.digest_of (λ cfg. whole (M.reading cfg))
-        (λ w b. S.may_answer w.responder b) T.Job.is_of O.Outlet N.Sender R.Receiver B.Provider
-        Q.Requests limit engine.old engine.new network.old network.new turns.items) }
+    ensures took { IfOk result (λ turns. AlwaysTakes
+        (format (same_by P.cmp M.Digest.cmp) M.encoding M.digest_of (λ cfg. whole (M.reading cfg)))
+        (interfaces (parties (λ w b. S.may_answer w.responder b) T.Job.is_of O.Outlet)
+        N.Sender R.Receiver B.Provider Q.Requests)
+        (engine.old, network.old) (engine.new, network.new) turns.items) }
+    ensures drives { IfOk result (λ turns. Drives
+        (format (same_by P.cmp M.Digest.cmp) M.encoding M.digest_of (λ cfg. whole (M.reading cfg)))
+        (interfaces (parties (λ w b. S.may_answer w.responder b) T.Job.is_of O.Outlet)
+        N.Sender R.Receiver B.Provider Q.Requests)
+        limit (engine.old, network.old) (engine.new, network.new) turns.items) }
     ensures at_most_limit { IfOk result (λ turns. length turns.items ≤ limit) }
     ensures ends_with_last_turn { IfOk result (λ turns.
         0 < limit → TellsEnd engine.new.end turns.items) }

@@ -4,22 +4,22 @@ ghost use Rattle.broadcast_core.specs.Carried.{Carried};
 ghost use Rattle.broadcast_core.specs.Content.{same_by, message_at};
 ghost use Rattle.broadcast_core.specs.Setting.{Setting};
 ghost use Rattle.broadcast_core.specs.Happening.{History};
-ghost use Rattle.broadcast_core.specs.HasContent.{HasContent};
+ghost use Rattle.broadcast_core.specs.HasContent.{HasContent, HasCleaned};
 ghost use Rattle.broadcast_mailbox.specs.declared.buffered.ingress.message.Message.TheVariants as request;
 ghost use Rattle.engine_io.specs.declared.input.EndCause.{EndCause};
 ghost use Rattle.engine_io.specs.declared.input.Input.TheVariants as input;
 ghost use Rattle.engine_io.specs.Replies.{Asker, Replied, Replies};
 ghost use Rattle.commonware_broadcast.specs.EngineHistory.{applied, swept, ended, end_told};
 ghost use Rattle.commonware_broadcast.specs.CountingCalls.{count_outcome};
-ghost use Rattle.commonware_broadcast.specs.Ran.{Steps, Handled, requested};
+ghost use Rattle.commonware_broadcast.specs.AppliesSteps.{AppliesStep, Handles, requested, replying};
 
 use crate::buffered::engine::node::Node;
 use crate::buffered::engine::take::take;
 use broadcast_core::{
-    Cause, CodecError, Digested, Digestible, EncodeSize, Outcome, PublicKey, Set, Subscribed,
+    Cause, CodecError, Core, Digested, Digestible, EncodeSize, Outcome, PublicKey, Set, Subscribed,
 };
-use broadcast_mailbox::buffered::{Reply, Responder};
-use engine_io::{Metrics, Outlet, Status, Turn, Waiter, respond_get, respond_subscribe};
+use broadcast_mailbox::buffered::{Message, Reply, Responder};
+use engine_io::{Metrics, Outlet, Requests, Status, Turn, Waiter, respond_get, respond_subscribe};
 use std::alloc::{AllocError, Global};
 
 /// Replaces the primary peers.
@@ -31,7 +31,7 @@ where
     O: Outlet<S, G, Reply<M>, Option<Reply<M>>>,
     ensures { (s : Setting P M M.Digest) → s.same ≡ same_by P.cmp M.Digest.cmp
         → (past : History P M M.Digest (Asker S) (Asker G)) → HasContent s past node.old.core
-        → Steps s (λ w b. S.may_answer w.responder b) O.told past
+        → AppliesStep s (λ w b. S.may_answer w.responder b) O.told past
         (applied (input.Peers peers) []) node.old node.new }
 {
     node.core.update_primary_peers(peers);
@@ -52,7 +52,7 @@ where
     ensures handled { (s : Setting P M M.Digest) → s.same ≡ same_by P.cmp M.Digest.cmp
         → s.encoding ≡ M.encoding
         → (past : History P M M.Digest (Asker S) (Asker G)) → HasContent s past node.old.core
-        → Handled s (λ w b. S.may_answer w.responder b) O.told past
+        → Handles s (replying (λ w b. S.may_answer w.responder b) O.told) past
         (input.Arrived peer message) result node.old node.new }
     ensures tells_no_end { end_told result ≡ None }
 {
@@ -78,7 +78,7 @@ where
     O: Outlet<S, G, Reply<M>, Option<Reply<M>>>,
     ensures handled { (s : Setting P M M.Digest) → s.same ≡ same_by P.cmp M.Digest.cmp
         → (past : History P M M.Digest (Asker S) (Asker G)) → HasContent s past node.old.core
-        → Handled s (λ w b. S.may_answer w.responder b) O.told past
+        → Handles s (replying (λ w b. S.may_answer w.responder b) O.told) past
         (input.Invalid peer error) result node.old node.new }
     ensures tells_no_end { end_told result ≡ None }
 {
@@ -102,7 +102,7 @@ where
     ensures steps { OnOk result ((replies : Replies S G M M.Digest)
         × ((s : Setting P M M.Digest) → s.same ≡ same_by P.cmp M.Digest.cmp
         → (past : History P M M.Digest (Asker S) (Asker G)) → HasContent s past node.old.core
-        → (counted : Bool) → Steps s (λ w b. S.may_answer w.responder b) O.told past
+        → (counted : Bool) → AppliesStep s (λ w b. S.may_answer w.responder b) O.told past
         (applied (requested ticket counted (request.Subscribe digest responder)) replies)
         node.old node.new)) }
     ensures unchanged_on_error { OnErr result (node.new ≡ node.old) }
@@ -134,7 +134,7 @@ where
     ensures steps { OnOk result ((replies : Replies S G M M.Digest)
         × ((s : Setting P M M.Digest) → s.same ≡ same_by P.cmp M.Digest.cmp
         → (past : History P M M.Digest (Asker S) (Asker G)) → HasContent s past node.old.core
-        → (counted : Bool) → Steps s (λ w b. S.may_answer w.responder b) O.told past
+        → (counted : Bool) → AppliesStep s (λ w b. S.may_answer w.responder b) O.told past
         (applied (requested ticket counted (request.Get digest responder)) replies)
         node.old node.new)) }
     ensures unchanged_on_error { OnErr result (node.new ≡ node.old) }
@@ -169,20 +169,41 @@ fn count_received<P: PublicKey>(metrics: &mut Metrics<P>, outcome: Outcome)
 }
 
 /// Drops the waiters that answer closed, counts them, and sets the gauge. Does not allocate.
-pub(super) fn cleanup_waiters<P, M, S, G, O>(node: &mut Node<P, M, S, O>)
+pub(super) fn cleanup_waiters<P, M, S, G, O, Q>(node: &mut Node<P, M, S, O>, requests: &Q)
 where
     P: PublicKey,
     M: Digestible,
     S: Responder<Reply<M>> + Drop,
     O: Outlet<S, G, Reply<M>, Option<Reply<M>>>,
+    Q: Requests<Message<P, M, S, G>>,
     ensures { (s : Setting P M M.Digest) → s.same ≡ same_by P.cmp M.Digest.cmp
         → (past : History P M M.Digest (Asker S) (Asker G)) → HasContent s past node.old.core
         → (test : ℕ → Asker S → Bool)
-        × Steps s (λ w b. S.may_answer w.responder b) O.told past (swept test) node.old node.new }
+        × AppliesStep s (λ w b. S.may_answer w.responder b) O.told past (swept test)
+        node.old node.new }
 {
-    let dropped = node.core.cleanup_by();
+    let dropped = drop_closed(&mut node.core, requests);
     node.metrics.count_subscribe(Status::Dropped, dropped);
     node.metrics.set_waiters(node.core.awaited() as u64);
+}
+
+/// Drops the waiters that answer closed, and returns how many. Asks none if the requests tell that
+/// none has closed.
+fn drop_closed<P, M, S, G, Q>(core: &mut Core<P, M, Waiter<M, S>>, requests: &Q) -> u64
+where
+    P: PublicKey,
+    M: Digestible,
+    S: Responder<Reply<M>> + Drop,
+    Q: Requests<Message<P, M, S, G>>,
+    ensures { (s : Setting P M M.Digest) → s.same ≡ same_by P.cmp M.Digest.cmp
+        → (past : History P M M.Digest (Asker S) (Asker G)) → HasContent s past core.old
+        → HasCleaned s (λ w b. S.may_answer w.responder b) past core.new result }
+{
+    if requests.may_have_closed() {
+        core.cleanup_by()
+    } else {
+        0
+    }
 }
 
 /// Drops all waiters, and counts none. Does not allocate.
@@ -195,7 +216,8 @@ where
     ensures ended { (s : Setting P M M.Digest) → s.same ≡ same_by P.cmp M.Digest.cmp
         → (past : History P M M.Digest (Asker S) (Asker G)) → HasContent s past node.old.core
         → (cause : EndCause)
-        → Steps s (λ w b. S.may_answer w.responder b) O.told past (ended cause) node.old node.new }
+        → AppliesStep s (λ w b. S.may_answer w.responder b) O.told past (ended cause)
+        node.old node.new }
     ensures counts_none { node.new.metrics ≡ node.old.metrics }
 {
     node.core.clear_waiters();

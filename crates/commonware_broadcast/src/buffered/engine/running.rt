@@ -6,7 +6,8 @@ ghost use Rattle.futures.specs.Task.{IsArmed, Keeps};
 ghost use Rattle.broadcast_core.specs.Codec.{whole};
 ghost use Rattle.broadcast_core.specs.Content.{same_by};
 ghost use Rattle.engine_io.specs.declared.input.EndCause.{EndCause};
-ghost use Rattle.commonware_broadcast.specs.Polls.{Took};
+ghost use Rattle.commonware_broadcast.specs.Interfaces.{format, parties, interfaces};
+ghost use Rattle.commonware_broadcast.specs.Polls.{TakesPolls};
 
 use crate::buffered::engine::state::Engine;
 use crate::buffered::observer::Observer;
@@ -46,10 +47,11 @@ where
     N: Sender<P>,
     V: Receiver<P>,
     W: Observer<P>,
-    ensures took { Took (same_by P.cmp M.Digest.cmp) M.encoding M.digest_of
-        (λ cfg. whole (M.reading cfg)) (λ w b. S.may_answer w.responder b) T.Job.is_of
-        O.Outlet N.Sender V.Receiver B.Provider Q.Requests
-        engine.old engine.new network.old network.new }
+    ensures took { TakesPolls
+        (format (same_by P.cmp M.Digest.cmp) M.encoding M.digest_of (λ cfg. whole (M.reading cfg)))
+        (interfaces (parties (λ w b. S.may_answer w.responder b) T.Job.is_of O.Outlet)
+        N.Sender V.Receiver B.Provider Q.Requests)
+        (engine.old, network.old) (engine.new, network.new) }
     ensures ended { (cause : EndCause) → result ≡ Ready (Some cause)
         → engine.new.end ≡ Some cause }
     ensures idle { result ≡ Ready None → (until_idle ≡ true) × (engine.new.job ≡ None) }
@@ -94,10 +96,11 @@ where
     V: Receiver<P>,
     R: Wait + RandomSource + AllocGlobal,
     W: Observer<P>,
-    ensures took { Took (same_by P.cmp M.Digest.cmp) M.encoding M.digest_of
-        (λ cfg. whole (M.reading cfg)) (λ w b. S.may_answer w.responder b) T.Job.is_of
-        O.Outlet N.Sender V.Receiver B.Provider Q.Requests
-        engine.old engine.new network.old network.new }
+    ensures took { TakesPolls
+        (format (same_by P.cmp M.Digest.cmp) M.encoding M.digest_of (λ cfg. whole (M.reading cfg)))
+        (interfaces (parties (λ w b. S.may_answer w.responder b) T.Job.is_of O.Outlet)
+        N.Sender V.Receiver B.Provider Q.Requests)
+        (engine.old, network.old) (engine.new, network.new) }
     ensures ended { (cause : EndCause) → result ≡ Ok (Some cause) → engine.new.end ≡ Some cause }
     ensures idle { result ≡ Ok None → (until_idle ≡ true) × (engine.new.job ≡ None) }
 {

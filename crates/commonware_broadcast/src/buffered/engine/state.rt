@@ -1,8 +1,5 @@
 //! The engine: its polls, and its end.
 ghost use Rattle.std.specs.Prelude.{◌≡◌, List, Option, Some, None, []};
-ghost use Rattle.futures.specs.Poll.{OnPending};
-ghost use Rattle.futures.specs.Task.{IsArmed, Keeps};
-ghost use Rattle.broadcast_core.specs.Codec.{whole};
 ghost use Rattle.broadcast_core.specs.Content.{same_by};
 ghost use Rattle.broadcast_core.specs.Setting.{Setting};
 ghost use Rattle.broadcast_core.specs.Happening.{History};
@@ -12,22 +9,17 @@ ghost use Rattle.engine_io.specs.declared.input.EndCause.{EndCause};
 ghost use Rattle.engine_io.specs.Replies.{Asker};
 ghost use Rattle.broadcast_mailbox.specs.declared.buffered.ingress.request.Request.{Request};
 ghost use Rattle.commonware_broadcast.specs.EngineHistory.{end_told, ended};
-ghost use Rattle.commonware_broadcast.specs.Ran.{Applied, Steps};
-ghost use Rattle.commonware_broadcast.specs.Polls.{IsPoll};
+ghost use Rattle.commonware_broadcast.specs.AppliesSteps.{Applies, AppliesStep, sinks};
 ghost use Rattle.commonware_broadcast.specs.Fresh.{fresh};
-ghost use Rattle.commonware_broadcast.specs.Waits.{Waits};
 
 use crate::buffered::config::Config;
 use crate::buffered::engine::apply::apply;
 use crate::buffered::engine::handler::drop_waiters;
-use crate::buffered::engine::job::clear;
 use crate::buffered::engine::node::Node;
-use crate::buffered::engine::open::poll_open;
 use crate::buffered::strategy::Strategy;
 use broadcast_core::{Codec, Core, Digestible, PublicKey};
 use broadcast_mailbox::buffered::{Message, Reply, Responder};
-use engine_io::{EndCause, Input, Metrics, Outlet, Provider, Receiver, Requests, Sender, Turn};
-use futures::task::{Context, Poll};
+use engine_io::{EndCause, Input, Metrics, Outlet, Requests, Sender, Turn};
 use std::alloc::Global;
 use std::marker::Model;
 
@@ -142,8 +134,8 @@ impl<P: PublicKey, M: Digestible + Codec, S, O, B, Q, T: Strategy<M>> Engine<P, 
             → s.encoding ≡ M.encoding → s.priority ≡ self.old.priority
             → (past : History P M M.Digest (Asker S) (Asker G))
             → HasContent s past self.old.node.core
-            → Applied s (λ w b. S.may_answer w.responder b) O.told N.told past input result
-            self.old.node self.new.node sender.old sender.new }
+            → Applies s (sinks (λ w b. S.may_answer w.responder b) O.told N.told) past input result
+            (self.old.node, sender.old) (self.new.node, sender.new) }
         ensures same_after_end { (cause : EndCause) → self.old.end ≡ Some cause
             → (result ≡ turn.Ended cause) × (self.new ≡ self.old) × (sender.new ≡ sender.old) }
         ensures tells_no_end { self.old.end ≡ None → end_told result ≡ None }
@@ -161,7 +153,7 @@ impl<P: PublicKey, M: Digestible + Codec, S, O, B, Q, T: Strategy<M>> Engine<P, 
     /// Does what an end does: closes the requests, and drops all waiters.
     pub fn close<G>(mut self)
     where
-        S: Drop,
+        S: Responder<Reply<M>> + Drop,
         O: Drop,
         B: Drop,
         Q: Requests<Message<P, M, S, G>> + Drop,
@@ -170,59 +162,6 @@ impl<P: PublicKey, M: Digestible + Codec, S, O, B, Q, T: Strategy<M>> Engine<P, 
     {
         self.requests.close();
         drop::<_>(self);
-    }
-
-    /// Polls the engine. It takes at most one input: a peer set, or else a request, or else a
-    /// payload. A stop, the end of the peer sets and a failure of the network end it, and every
-    /// later poll returns the same. A pending poll has registered with each source that it looked
-    /// at.
-    pub fn poll<G, N, R>(
-        &mut self,
-        alloc: Global,
-        cx: &mut Context<'_>,
-        network: &mut (N, R),
-    ) -> Poll<Turn<P>>
-    where
-        S: Responder<Reply<M>> + Drop,
-        G: Drop,
-        O: Outlet<S, G, Reply<M>, Option<Reply<M>>>,
-        N: Sender<P>,
-        R: Receiver<P>,
-        B: Provider<P>,
-        Q: Requests<Message<P, M, S, G>>,
-        ensures polled { IsPoll (same_by P.cmp M.Digest.cmp) M.encoding M.digest_of
-            (λ cfg. whole (M.reading cfg)) (λ w b. S.may_answer w.responder b) T.Job.is_of
-            O.Outlet N.Sender R.Receiver B.Provider Q.Requests
-            self.old self.new network.old network.new result }
-        ensures waits { OnPending result (Waits T.Job.needs R.Receiver B.Provider Q.Requests
-            cx.new self.old self.new network.new) }
-        ensures armed { OnPending result (IsArmed cx.new) }
-        ensures kept { Keeps cx.old cx.new }
-    {
-        if let Some(cause) = self.end {
-            return Poll::Ready(Turn::Ended(cause));
-        }
-        let result = poll_open(
-            &mut self.node,
-            &mut self.provider,
-            &mut self.requests,
-            &mut network.0,
-            &mut network.1,
-            &mut self.job,
-            cx,
-            alloc,
-            self.priority,
-            &self.strategy,
-            &self.codec_config,
-        );
-        match result {
-            Poll::Ready(Ok(turn)) => Poll::Ready(turn),
-            Poll::Ready(Err(cause)) => {
-                self.end::<G>(cause);
-                Poll::Ready(Turn::Ended(cause))
-            }
-            Poll::Pending => Poll::Pending,
-        }
     }
 
     /// Ends the engine for this cause: its requests are closed, and its waiters and its job are
@@ -235,7 +174,7 @@ impl<P: PublicKey, M: Digestible + Codec, S, O, B, Q, T: Strategy<M>> Engine<P, 
         ensures ended { (s : Setting P M M.Digest) → s.same ≡ same_by P.cmp M.Digest.cmp
             → (past : History P M M.Digest (Asker S) (Asker G))
             → HasContent s past self.old.node.core
-            → Steps s (λ w b. S.may_answer w.responder b) O.told past (ended cause)
+            → AppliesStep s (λ w b. S.may_answer w.responder b) O.told past (ended cause)
             self.old.node self.new.node }
         ensures counts_none { self.new.node.metrics ≡ self.old.node.metrics }
         ensures tells { (given : List (Request (Message P M S G M.Digest)))
@@ -250,7 +189,7 @@ impl<P: PublicKey, M: Digestible + Codec, S, O, B, Q, T: Strategy<M>> Engine<P, 
     {
         self.requests.close();
         drop_waiters(&mut self.node);
-        clear(&mut self.job);
+        self.job = None;
         self.end = Some(cause);
     }
 }

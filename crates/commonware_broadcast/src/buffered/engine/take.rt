@@ -3,7 +3,6 @@ ghost use Rattle.std.specs.Prelude.{◌≡◌, List, Option, length, IfOk, OnErr
 ghost use Rattle.std.specs.Option.{option_map};
 ghost use Rattle.broadcast_core.specs.Carried.{Carried};
 ghost use Rattle.broadcast_core.specs.Content.{same_by, outcome_at};
-ghost use Rattle.engine_io.specs.Replies.{Replied, Replies};
 ghost use Rattle.commonware_broadcast.specs.Serving.{Serves};
 
 use crate::buffered::engine::node::Node;
@@ -29,10 +28,8 @@ where
         ≡ outcome_at (same_by P.cmp M.Digest.cmp) node.old.core peer.now message.now.digest
         (option_map length (M.encoding message.now.message))) }
     ensures serves { IfOk result (λ outcome.
-        (replies : Replies S G M M.Digest)
-        × Serves (same_by P.cmp M.Digest.cmp) O.told peer.now message.now
-        (option_map length (M.encoding message.now.message)) replies
-        node.old node.new) }
+        Serves (same_by P.cmp M.Digest.cmp) O.told peer.now message.now
+        (option_map length (M.encoding message.now.message)) node.old node.new) }
     ensures unchanged_on_error { OnErr result (node.new ≡ node.old) }
 {
     let number = node.core.waiting(&message.digest());
@@ -58,10 +55,8 @@ where
         node.old.core.own message.now.digest
         (option_map length (M.encoding message.now.message))) }
     ensures serves { IfOk result (λ outcome.
-        (replies : Replies S G M M.Digest)
-        × Serves (same_by P.cmp M.Digest.cmp) O.told node.old.core.own message.now
-        (option_map length (M.encoding message.now.message)) replies
-        node.old node.new) }
+        Serves (same_by P.cmp M.Digest.cmp) O.told node.old.core.own message.now
+        (option_map length (M.encoding message.now.message)) node.old node.new) }
     ensures unchanged_on_error { OnErr result (node.new ≡ node.old) }
 {
     let number = node.core.waiting(&message.digest());

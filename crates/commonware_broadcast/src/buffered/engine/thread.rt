@@ -1,21 +1,20 @@
-//! An engine that runs in a thread of its own.
-ghost use Rattle.std.specs.Prelude.{◌≡◌, ◌+◌, ◌↔◌, true, false, Some, None, is_err, IfOk, OnOk, IfErr};
+//! An engine that runs in a thread of its own: what moves there, and what the thread does.
+ghost use Rattle.std.specs.Prelude.{◌≡◌, Some, None, IfOk, OnOk};
 ghost use Rattle.broadcast_core.specs.Codec.{whole};
 ghost use Rattle.broadcast_core.specs.Content.{same_by};
-ghost use Rattle.commonware_broadcast.specs.Parts.{ready_engine};
-ghost use Rattle.commonware_broadcast.specs.Polls.{Left, Settled as IsSettled, Took};
-ghost use Rattle.broadcast_mailbox.specs.Watch.{BroadcastsOnly};
+ghost use Rattle.commonware_broadcast.specs.Interfaces.{format, parties, interfaces};
+ghost use Rattle.commonware_broadcast.specs.Parts.{joined, ready_engine};
+ghost use Rattle.commonware_broadcast.specs.Polls.{TakesPolls, MakesReady, Runs};
 
-use crate::buffered::engine::parts::Parts;
+use crate::buffered::engine::node::Node;
+use crate::buffered::engine::report::Report;
 use crate::buffered::engine::running::run_turns;
 use crate::buffered::engine::state::Engine;
 use crate::buffered::observer::Observer;
 use crate::buffered::snapshots::Snapshots;
 use crate::buffered::strategy::Strategy;
 use broadcast_core::{Codec, Digestible, PublicKey};
-use broadcast_mailbox::buffered::{
-    Account, Bookkeeping, Books, Ingress, Message, Reply, Responder, Settled, Stopper, Tally, Watch,
-};
+use broadcast_mailbox::buffered::{Bookkeeping, Message, Reply, Responder, Stopper};
 use engine_io::{EndCause, Metrics, Outlet, Provider, Receiver, Requests, Sender, Turn};
 use std::alloc::AllocGlobal;
 use std::random::RandomSource;
@@ -33,107 +32,6 @@ pub enum StartError {
     /// No thread could be started.
     #[error("no thread could be started")]
     Spawn,
-}
-
-/// What a started engine leaves.
-#[derive(Drop)]
-pub struct Report<P: PublicKey, Q, W = ()> {
-    cause: EndCause,
-    metrics: Metrics<P>,
-    requests: Q,
-    observer: W,
-}
-
-impl<P: PublicKey, Q, W> Report<P, Q, W> {
-    /// Returns why the engine ended.
-    pub fn cause(&self) -> EndCause
-        ensures { result ≡ self.now.cause }
-    {
-        self.cause
-    }
-
-    /// Returns the counters.
-    pub fn metrics(&self) -> &Metrics<P>
-        ensures { result.now ≡ self.now.metrics }
-    {
-        &self.metrics
-    }
-
-    /// Returns the observer, which was handed every turn.
-    pub fn observer(&self) -> &W
-        ensures { result.now ≡ self.now.observer }
-    {
-        &self.observer
-    }
-
-    /// Returns the observer, and drops the rest.
-    pub fn into_observer(self) -> W
-    where
-        Q: Drop,
-        ensures { result ≡ self.observer }
-    {
-        let Report {
-            cause: _,
-            metrics,
-            requests,
-            observer,
-        } = self;
-        drop::<_>((metrics, requests));
-        observer
-    }
-}
-
-impl<P, M, S, G, R, A, K, V, W> Report<
-    P,
-    Ingress<Message<P, M, S, G>, R, Books<A, K, V, M::Digest>>,
-    W,
->
-where
-    P: PublicKey,
-    M: Digestible,
-    S: Responder<Reply<M>> + Drop,
-    G: Responder<Option<Reply<M>>> + Drop,
-    R: Wait + Drop,
-    A: Account,
-    K: Account,
-    V: Watch<M::Digest>,
-    W: Drop,
-{
-    /// Tells what became of the counted requests, of which none is left. Fails only if the tally
-    /// lacks a part.
-    pub fn settle(self, tally: Tally<A>) -> Result<Settled, (Self, Tally<A>)>
-        requires accounts { (A.all ≡ A.parts) × (K.all ≡ K.parts) }
-        ensures whole { (is_err result ≡ false) ↔ (tally.parts ≡ A.parts) }
-        ensures accepted { IfOk result (λ settled. tally.accepted ≡ settled.applied
-            + settled.refused + settled.skipped + settled.given_up) }
-        ensures taken { IfOk result (λ settled.
-            settled.applied + settled.refused ≡ self.requests.taken) }
-        ensures broadcasts { IfOk result (λ settled.
-            BroadcastsOnly V.watched → settled.skipped ≡ 0) }
-        ensures unchanged_on_error { IfErr result (λ both. (both.0 ≡ self) × (both.1 ≡ tally)) }
-    {
-        let Report {
-            cause,
-            metrics,
-            requests,
-            observer,
-        } = self;
-        match requests.settle(tally) {
-            Ok(settled) => {
-                drop::<_>((metrics, observer));
-                Ok(settled)
-            }
-            Err((requests, tally)) => {
-                let report = Report {
-                    cause,
-                    metrics,
-                    requests,
-                    observer,
-                };
-                Err((report, tally))
-            }
-        }
-    }
 }
 
 /// An engine without a job, with its network and its observer, which may move to the thread that
@@ -170,10 +68,11 @@ where
     V: Receiver<P> + Drop,
     R: Wait + RandomSource + AllocGlobal + Clone + Drop,
     W: Observer<P> + Drop,
-    ensures { IfOk result (λ ready. IsSettled (same_by P.cmp M.Digest.cmp) M.encoding M.digest_of
-        (λ cfg. whole (M.reading cfg)) (λ w b. S.may_answer w.responder b) T.Job.is_of
-        O.Outlet N.Sender V.Receiver B.Provider Q.Requests
-        engine (ready_engine ready) network ready.network) }
+    ensures { IfOk result (λ ready. MakesReady
+        (format (same_by P.cmp M.Digest.cmp) M.encoding M.digest_of (λ cfg. whole (M.reading cfg)))
+        (interfaces (parties (λ w b. S.may_answer w.responder b) T.Job.is_of O.Outlet)
+        N.Sender V.Receiver B.Provider Q.Requests)
+        (engine, network) (ready_engine ready, ready.network)) }
 {
     let mut engine = engine;
     let mut network = network;
@@ -222,10 +121,11 @@ where
     V: Receiver<P>,
     R: Wait + RandomSource + AllocGlobal + Clone,
     W: Observer<P>,
-    ensures took { OnOk result (Took (same_by P.cmp M.Digest.cmp) M.encoding M.digest_of
-        (λ cfg. whole (M.reading cfg)) (λ w b. S.may_answer w.responder b) T.Job.is_of
-        O.Outlet N.Sender V.Receiver B.Provider Q.Requests
-        engine.old engine.new network.old network.new) }
+    ensures took { OnOk result (TakesPolls
+        (format (same_by P.cmp M.Digest.cmp) M.encoding M.digest_of (λ cfg. whole (M.reading cfg)))
+        (interfaces (parties (λ w b. S.may_answer w.responder b) T.Job.is_of O.Outlet)
+        N.Sender V.Receiver B.Provider Q.Requests)
+        (engine.old, network.old) (engine.new, network.new)) }
     ensures settled { OnOk result (engine.new.end ≡ None → engine.new.job ≡ None) }
 {
     let ran = run_turns::<P, M, S, G, O, B, Q, T, N, V, R, W>(
@@ -259,10 +159,11 @@ where
     V: Receiver<P> + Drop,
     R: Wait + RandomSource + AllocGlobal + Drop,
     W: Observer<P>,
-    ensures left { Left (same_by P.cmp M.Digest.cmp) M.encoding M.digest_of
-        (λ cfg. whole (M.reading cfg)) (λ w b. S.may_answer w.responder b) T.Job.is_of
-        O.Outlet N.Sender V.Receiver B.Provider Q.Requests
-        (ready_engine ready) ready.network result.cause result.metrics }
+    ensures runs { Runs
+        (format (same_by P.cmp M.Digest.cmp) M.encoding M.digest_of (λ cfg. whole (M.reading cfg)))
+        (interfaces (parties (λ w b. S.may_answer w.responder b) T.Job.is_of O.Outlet)
+        N.Sender V.Receiver B.Provider Q.Requests)
+        (ready_engine ready, ready.network) result.cause result.metrics }
 {
     let Ready {
         parts,
@@ -313,10 +214,11 @@ where
     V: Receiver<P>,
     R: Wait + RandomSource + AllocGlobal,
     W: Observer<P>,
-    ensures left { Left (same_by P.cmp M.Digest.cmp) M.encoding M.digest_of
-        (λ cfg. whole (M.reading cfg)) (λ w b. S.may_answer w.responder b) T.Job.is_of
-        O.Outlet N.Sender V.Receiver B.Provider Q.Requests
-        engine.old network.old result engine.new.node.metrics }
+    ensures runs { Runs
+        (format (same_by P.cmp M.Digest.cmp) M.encoding M.digest_of (λ cfg. whole (M.reading cfg)))
+        (interfaces (parties (λ w b. S.may_answer w.responder b) T.Job.is_of O.Outlet)
+        N.Sender V.Receiver B.Provider Q.Requests)
+        (engine.old, network.old) result engine.new.node.metrics }
     ensures ends { engine.new.end ≡ Some result }
 {
     let ran = run_turns::<P, M, S, G, O, B, Q, T, N, V, R, W>(
@@ -365,5 +267,94 @@ where
             drop(work());
             Err(StartError::Spawn)
         }
+    }
+}
+
+/// An engine without its job, since a job may not move to another thread.
+#[derive(Drop)]
+pub(crate) struct Parts<P: PublicKey, M: Digestible, S, O, B, Q, C, T> {
+    pub(super) node: Node<P, M, S, O>,
+    pub(super) provider: B,
+    pub(super) requests: Q,
+    pub(super) end: Option<EndCause>,
+    pub(super) priority: bool,
+    pub(super) codec_config: C,
+    pub(super) strategy: T,
+}
+
+impl<P: PublicKey, M: Digestible + Codec, S, O, B, Q, T: Strategy<M>> Engine<P, M, S, O, B, Q, T> {
+    /// Takes the engine apart. A pending job is dropped.
+    pub(super) fn into_parts(self) -> Parts<P, M, S, O, B, Q, M::Cfg, T>
+        ensures { self ≡ joined result self.job }
+    {
+        let Engine {
+            node,
+            provider,
+            requests,
+            job,
+            end,
+            priority,
+            codec_config,
+            strategy,
+        } = self;
+        drop::<_>(job);
+        Parts {
+            node,
+            provider,
+            requests,
+            end,
+            priority,
+            codec_config,
+            strategy,
+        }
+    }
+
+    /// Puts an engine together that has no job.
+    pub(super) fn from_parts(parts: Parts<P, M, S, O, B, Q, M::Cfg, T>) -> Self
+        ensures { result ≡ joined parts None }
+    {
+        let Parts {
+            node,
+            provider,
+            requests,
+            end,
+            priority,
+            codec_config,
+            strategy,
+        } = parts;
+        Engine {
+            node,
+            provider,
+            requests,
+            job: None,
+            end,
+            priority,
+            codec_config,
+            strategy,
+        }
+    }
+
+    /// Takes the counters of the engine and its source of requests, and drops the rest.
+    pub(super) fn into_metrics(self) -> (Metrics<P>, Q)
+    where
+        S: Drop,
+        O: Drop,
+        B: Drop,
+        T: Drop,
+        M::Cfg: Drop,
+        ensures metrics { result.0 ≡ self.node.metrics }
+        ensures requests { result.1 ≡ self.requests }
+    {
+        let Parts {
+            node,
+            provider,
+            requests,
+            end: _,
+            priority: _,
+            codec_config,
+            strategy,
+        } = self.into_parts();
+        drop::<_>((provider, codec_config, strategy));
+        (node.into_metrics(), requests)
     }
 }

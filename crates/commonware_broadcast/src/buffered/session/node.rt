@@ -14,7 +14,9 @@ use crate::buffered::front::{WatchedEngine, WatchedNode};
 use crate::buffered::started::{Handle, MailboxReport};
 use crate::buffered::strategy::Strategy;
 use broadcast_core::{Codec, Digestible, PublicKey};
-use broadcast_mailbox::buffered::{Account, Books, Tally, Watch};
+use broadcast_mailbox::buffered::{
+    Account, Bookkeeping, Books, Incoming, Ingress, Stopper, Tally, Watch,
+};
 use engine_io::{Provider, Receiver, Sender};
 use std::alloc::{AllocError, AllocGlobal, Global};
 use std::num::NonZeroU32;
@@ -60,15 +62,20 @@ where
         length finished.outputs.items ≡ non_zero_u32_get clients) }
 {
     let Ok((session, outputs)) = reserve(rt.alloc(), session, clients.get()) else {
+        drop::<_>((cfg, network));
         return Err(StartError::Memory);
     };
     let Ok(made) = make::<P, M, B, T, R, A, K, S::Watch>(rt, cfg, clients, accepted, taken) else {
+        drop::<_>((network, session, outputs));
         return Err(StartError::Memory);
     };
     let (engine, ends, tally) = made;
     match engine.start(rt, network) {
         Ok(handle) => play::<P, S, M, R, A, K>(rt, handle, ends, session, outputs, tally, clients),
-        Err(error) => Err(error),
+        Err(error) => {
+            drop::<_>((ends, session, outputs, tally));
+            Err(error)
+        }
     }
 }
 
@@ -121,8 +128,12 @@ where
     requires one { (K.all ≡ K.parts) × (K.parts ≡ 1) }
     ensures { IfOk result (λ made. made.2.parts ≡ non_zero_u32_get clients) }
 {
+    let Ok(own) = rt.clone() else {
+        drop::<_>(cfg);
+        return Err(AllocError);
+    };
     let node: WatchedNode<P, M, B, T, R, A, K, W> = Engine::new_watched(
-        rt.clone()?,
+        own,
         rt.alloc(),
         cfg,
         clients,
@@ -130,8 +141,27 @@ where
         taken,
     )?;
     let (engine, mailbox, tally) = node;
-    let stopper = Arc::new(rt.alloc(), engine.requests().stopper()?)?;
-    Ok((engine, Ends { mailbox, stopper }, tally))
+    match share_stopper(rt.alloc(), engine.requests()) {
+        Ok(stopper) => Ok((engine, Ends { mailbox, stopper }, tally)),
+        Err(error) => {
+            drop::<_>((engine, mailbox, tally));
+            Err(error)
+        }
+    }
+}
+
+/// Creates a stopper of an engine that takes these requests, for all of its clients.
+fn share_stopper<P, M, R, A>(
+    alloc: Global,
+    requests: &Ingress<Incoming<P, M>, R, A>,
+) -> Result<Arc<Stopper<Incoming<P, M>, R, A>>, AllocError>
+where
+    P: PublicKey,
+    M: Digestible,
+    R: Clone + Drop,
+    A: Bookkeeping,
+{
+    Ok(Arc::new(alloc, requests.stopper()?)?)
 }
 
 /// Lets the clients use the started engine, and settles their account. If a client can't be
@@ -179,6 +209,7 @@ where
             handle.stop();
             abandon(rt, threads);
             drop::<_>(handle.join(rt));
+            drop::<_>((ends, session, outputs, tally));
             Err(error)
         }
     }

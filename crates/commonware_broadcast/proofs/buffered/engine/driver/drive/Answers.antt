@@ -1,26 +1,23 @@
-use Rattle.std.proofs.Common.{◌≡◌, ◌++◌, ◌∙◌, true, false, is_some, Some, None, [], ◌∷◌, suc, length, length-append, refl, sym, ap, subst, append-nil, arith}
+use Rattle.std.proofs.Common.{rules, ◌≡◌, ◌++◌, ◌∙◌, true, false, is_some, Some, None, [], ◌∷◌, suc, length, length-append, refl, sym, ap, subst, append-nil, arith}
 use Rattle.broadcast_core.specs.Codec.{whole}
 use Rattle.broadcast_core.specs.Content.{same_by}
 use Rattle.engine_io.specs.Sources.{given}
-use Rattle.commonware_broadcast.specs.EngineState.{TellsEnd, Went}
 use Rattle.commonware_broadcast.specs.EngineHistory.{end_told}
+use Rattle.commonware_broadcast.specs.Interfaces.{format, parties, interfaces}
+use Rattle.commonware_broadcast.specs.TakesSteps.{TellsEnd, AlwaysTakes}
+use Rattle.commonware_broadcast.specs.Polls.{Polls}
 use Rattle.engine_io.specs.declared.input.Turn.TheVariants.{Ended}
 use Rattle.futures.specs.declared.task.Poll.TheVariants.{Ready, Pending}
 use Rattle.std.specs.List.{All}
 use Rattle.std.proofs.lemmas.List.Elements.{All-push}
-use Rattle.commonware_broadcast.proofs.Going.{Went-still}
-use Rattle.commonware_broadcast.specs.Polls.{Polls}
 use Rattle.commonware_broadcast.proofs.Polls.{Polls-more}
-use Rattle.commonware_broadcast.proofs.Driving.{AlwaysWent-more, Turned-listed, none_unless, none_is, some_is, no_end}
+use Rattle.commonware_broadcast.proofs.Driving.{AlwaysTakes-more, IsPoll-takes, Polls-take, none_unless, none_is, some_is, no_end}
 use Rattle.commonware_broadcast.proofs.buffered.engine.driver.drive.Goals as goal
 
 pub loop-poll-init : goal.loop-poll-init
 loop-poll-init g c = record {
-  went = λ s e encoding priority own reading past has before held.
-      Went-still s (λ w b. g.S.Responder.may_answer w.responder b) g.O.Outlet.told g.N.Sender.told g.T.Job.Job.is_of g.R.Receiver.told g.B.Provider.told g.Q.Requests.told past before
-      c.args.engine.now c.args.network.now c.in_ok-turns.turns.items has held (λ _. c.in_ok-turns.ensures.items);
-  drove = λ count is.
-      subst (λ n. Polls (same_by g.P.Ord.cmp g.M.Digest.Ord.cmp) g.M.Write.encoding g.M.Digestible.digest_of (λ cfg. whole (g.M.Read.reading cfg)) (λ w b. g.S.Responder.may_answer w.responder b) g.T.Job.Job.is_of g.O.Outlet g.N.Sender g.R.Receiver g.B.Provider g.Q.Requests n c.args.engine.now c.args.engine.now c.args.network.now c.args.network.now c.in_ok-turns.turns.items) (sym is) (refl, refl, c.in_ok-turns.ensures.items);
+  polls = λ count is. subst (λ n. Polls (format (same_by g.P.Ord.cmp g.M.Digest.Ord.cmp) g.M.Write.encoding g.M.Digestible.digest_of (λ cfg. whole (g.M.Read.reading cfg))) (interfaces (parties (λ w b. g.S.Responder.may_answer w.responder b) g.T.Job.Job.is_of g.O.Outlet) g.N.Sender g.R.Receiver g.B.Provider g.Q.Requests)
+      n (c.args.engine.now, c.args.network.now) (c.args.engine.now, c.args.network.now) c.in_ok-turns.turns.items) (sym is) (refl, c.in_ok-turns.ensures.items);
   priority = refl;
   codec_config = refl;
   strategy = refl;
@@ -42,20 +39,11 @@ pub loop-poll-preserved : goal.loop-poll-preserved
 loop-poll-preserved g c =
     let at = c.loop-poll.invariant in
     let going : c.poll.new.self.end ≡ None = none_is c.poll.new.self.end (ap (λ k. is_some k.end) (sym c.engine.view_is) ∙ sym c.is_some.ensures ∙ c.if-is_some.false) in record {
-      went = (λ s e encoding priority own reading past has before held. subst (λ l. Went s (λ w b. g.S.Responder.may_answer w.responder b) g.O.Outlet.told g.N.Sender.told g.T.Job.Job.is_of g.R.Receiver.told g.B.Provider.told g.Q.Requests.told past before c.args.engine.now c.poll.new.self c.args.network.now c.poll.new.network l) (sym c.push_reserved.ensures.items)
-          (AlwaysWent-more (same_by g.P.Ord.cmp g.M.Digest.Ord.cmp) g.M.Write.encoding g.M.Digestible.digest_of (λ cfg. whole (g.M.Read.reading cfg))
-          (λ w b. g.S.Responder.may_answer w.responder b) g.O.Outlet.told g.N.Sender.told g.T.Job.Job.is_of g.R.Receiver.told g.B.Provider.told g.Q.Requests.told
-          c.args.engine.now c.loop-poll.engine c.poll.new.self c.args.network.now c.loop-poll.network c.poll.new.network c.loop-poll.turns.items (c.in-Ready.turn ∷ [])
-          at.unended at.went at.priority at.codec_config
-          (λ s e encoding priority own reading past has before held. Turned-listed s (λ w b. g.S.Responder.may_answer w.responder b) g.O.Outlet.told g.N.Sender.told g.T.Job.Job.is_of g.R.Receiver.told g.B.Provider.told g.Q.Requests.told
-          past before _ _ _ _ _ (c.in-Ready.turn ∷ []) (ap given c.in-Ready.is) (c.poll.ensures.polled.turned s e encoding priority own reading past has before held))
-          s e encoding priority own reading past has before held));
-      drove = λ count is.
-          let next : suc c.loop-poll._poll ≡ count = omega (arith, is) in
-          subst (λ n. Polls (same_by g.P.Ord.cmp g.M.Digest.Ord.cmp) g.M.Write.encoding g.M.Digestible.digest_of (λ cfg. whole (g.M.Read.reading cfg)) (λ w b. g.S.Responder.may_answer w.responder b) g.T.Job.Job.is_of g.O.Outlet g.N.Sender g.R.Receiver g.B.Provider g.Q.Requests n c.args.engine.now c.poll.new.self c.args.network.now c.poll.new.network c.push_reserved.new.self.items) next
-          (subst (λ l. Polls (same_by g.P.Ord.cmp g.M.Digest.Ord.cmp) g.M.Write.encoding g.M.Digestible.digest_of (λ cfg. whole (g.M.Read.reading cfg)) (λ w b. g.S.Responder.may_answer w.responder b) g.T.Job.Job.is_of g.O.Outlet g.N.Sender g.R.Receiver g.B.Provider g.Q.Requests (suc c.loop-poll._poll) c.args.engine.now c.poll.new.self c.args.network.now c.poll.new.network l) (ap (λ r. c.loop-poll.turns.items ++ given r) c.in-Ready.is ∙ sym c.push_reserved.ensures.items)
-          (Polls-more (same_by g.P.Ord.cmp g.M.Digest.Ord.cmp) g.M.Write.encoding g.M.Digestible.digest_of (λ cfg. whole (g.M.Read.reading cfg)) (λ w b. g.S.Responder.may_answer w.responder b) g.T.Job.Job.is_of g.O.Outlet g.N.Sender g.R.Receiver g.B.Provider g.Q.Requests c.loop-poll._poll c.args.engine.now c.loop-poll.engine c.poll.new.self c.args.network.now c.loop-poll.network c.poll.new.network c.loop-poll.turns.items c.poll.result
-          (at.drove c.loop-poll._poll refl) c.poll.ensures.polled));
+      polls = λ count is. subst (λ n. Polls (format (same_by g.P.Ord.cmp g.M.Digest.Ord.cmp) g.M.Write.encoding g.M.Digestible.digest_of (λ cfg. whole (g.M.Read.reading cfg))) (interfaces (parties (λ w b. g.S.Responder.may_answer w.responder b) g.T.Job.Job.is_of g.O.Outlet) g.N.Sender g.R.Receiver g.B.Provider g.Q.Requests)
+          n (c.args.engine.now, c.args.network.now) (c.poll.new.self, c.poll.new.network) c.push_reserved.new.self.items) (let next : suc c.loop-poll._poll ≡ count = omega (arith, is) in next)
+          (Polls-more (format (same_by g.P.Ord.cmp g.M.Digest.Ord.cmp) g.M.Write.encoding g.M.Digestible.digest_of (λ cfg. whole (g.M.Read.reading cfg))) (interfaces (parties (λ w b. g.S.Responder.may_answer w.responder b) g.T.Job.Job.is_of g.O.Outlet) g.N.Sender g.R.Receiver g.B.Provider g.Q.Requests)
+          c.loop-poll._poll (c.args.engine.now, c.args.network.now) (c.loop-poll.engine, c.loop-poll.network) (c.poll.new.self, c.poll.new.network) c.loop-poll.turns.items c.poll.result c.push_reserved.new.self.items
+          (at.polls c.loop-poll._poll refl) c.poll.ensures.polled (sym (ap (λ r. c.loop-poll.turns.items ++ given r) c.in-Ready.is ∙ sym c.push_reserved.ensures.items)));
       priority = c.poll.ensures.polled.keeps_priority ∙ at.priority;
       codec_config = c.poll.ensures.polled.keeps_codec_config ∙ at.codec_config;
       strategy = c.poll.ensures.polled.keeps_strategy ∙ at.strategy;
@@ -75,20 +63,11 @@ loop-poll-preserved g c =
 
 pub loop-poll-preserved-in_default : goal.loop-poll-preserved-in_default
 loop-poll-preserved-in_default g c = let at = c.loop-poll.invariant in record {
-  went = (λ s e encoding priority own reading past has before held. subst (λ l. Went s (λ w b. g.S.Responder.may_answer w.responder b) g.O.Outlet.told g.N.Sender.told g.T.Job.Job.is_of g.R.Receiver.told g.B.Provider.told g.Q.Requests.told past before c.args.engine.now c.poll.new.self c.args.network.now c.poll.new.network l) (append-nil c.loop-poll.turns.items)
-      (AlwaysWent-more (same_by g.P.Ord.cmp g.M.Digest.Ord.cmp) g.M.Write.encoding g.M.Digestible.digest_of (λ cfg. whole (g.M.Read.reading cfg))
-      (λ w b. g.S.Responder.may_answer w.responder b) g.O.Outlet.told g.N.Sender.told g.T.Job.Job.is_of g.R.Receiver.told g.B.Provider.told g.Q.Requests.told
-      c.args.engine.now c.loop-poll.engine c.poll.new.self c.args.network.now c.loop-poll.network c.poll.new.network c.loop-poll.turns.items ([])
-      at.unended at.went at.priority at.codec_config
-      (λ s e encoding priority own reading past has before held. Turned-listed s (λ w b. g.S.Responder.may_answer w.responder b) g.O.Outlet.told g.N.Sender.told g.T.Job.Job.is_of g.R.Receiver.told g.B.Provider.told g.Q.Requests.told
-      past before _ _ _ _ _ ([]) (ap given c.in_default.is) (c.poll.ensures.polled.turned s e encoding priority own reading past has before held))
-      s e encoding priority own reading past has before held));
-  drove = λ count is.
-      let next : suc c.loop-poll._poll ≡ count = omega (arith, is) in
-      subst (λ n. Polls (same_by g.P.Ord.cmp g.M.Digest.Ord.cmp) g.M.Write.encoding g.M.Digestible.digest_of (λ cfg. whole (g.M.Read.reading cfg)) (λ w b. g.S.Responder.may_answer w.responder b) g.T.Job.Job.is_of g.O.Outlet g.N.Sender g.R.Receiver g.B.Provider g.Q.Requests n c.args.engine.now c.poll.new.self c.args.network.now c.poll.new.network c.loop-poll.turns.items) next
-      (subst (λ l. Polls (same_by g.P.Ord.cmp g.M.Digest.Ord.cmp) g.M.Write.encoding g.M.Digestible.digest_of (λ cfg. whole (g.M.Read.reading cfg)) (λ w b. g.S.Responder.may_answer w.responder b) g.T.Job.Job.is_of g.O.Outlet g.N.Sender g.R.Receiver g.B.Provider g.Q.Requests (suc c.loop-poll._poll) c.args.engine.now c.poll.new.self c.args.network.now c.poll.new.network l) (ap (λ r. c.loop-poll.turns.items ++ given r) c.in_default.is ∙ append-nil c.loop-poll.turns.items)
-      (Polls-more (same_by g.P.Ord.cmp g.M.Digest.Ord.cmp) g.M.Write.encoding g.M.Digestible.digest_of (λ cfg. whole (g.M.Read.reading cfg)) (λ w b. g.S.Responder.may_answer w.responder b) g.T.Job.Job.is_of g.O.Outlet g.N.Sender g.R.Receiver g.B.Provider g.Q.Requests c.loop-poll._poll c.args.engine.now c.loop-poll.engine c.poll.new.self c.args.network.now c.loop-poll.network c.poll.new.network c.loop-poll.turns.items c.poll.result
-      (at.drove c.loop-poll._poll refl) c.poll.ensures.polled));
+  polls = λ count is. subst (λ n. Polls (format (same_by g.P.Ord.cmp g.M.Digest.Ord.cmp) g.M.Write.encoding g.M.Digestible.digest_of (λ cfg. whole (g.M.Read.reading cfg))) (interfaces (parties (λ w b. g.S.Responder.may_answer w.responder b) g.T.Job.Job.is_of g.O.Outlet) g.N.Sender g.R.Receiver g.B.Provider g.Q.Requests)
+      n (c.args.engine.now, c.args.network.now) (c.poll.new.self, c.poll.new.network) c.loop-poll.turns.items) (let next : suc c.loop-poll._poll ≡ count = omega (arith, is) in next)
+      (Polls-more (format (same_by g.P.Ord.cmp g.M.Digest.Ord.cmp) g.M.Write.encoding g.M.Digestible.digest_of (λ cfg. whole (g.M.Read.reading cfg))) (interfaces (parties (λ w b. g.S.Responder.may_answer w.responder b) g.T.Job.Job.is_of g.O.Outlet) g.N.Sender g.R.Receiver g.B.Provider g.Q.Requests)
+      c.loop-poll._poll (c.args.engine.now, c.args.network.now) (c.loop-poll.engine, c.loop-poll.network) (c.poll.new.self, c.poll.new.network) c.loop-poll.turns.items c.poll.result c.loop-poll.turns.items
+      (at.polls c.loop-poll._poll refl) c.poll.ensures.polled (sym (ap (λ r. c.loop-poll.turns.items ++ given r) c.in_default.is ∙ append-nil c.loop-poll.turns.items)));
   priority = c.poll.ensures.polled.keeps_priority ∙ at.priority;
   codec_config = c.poll.ensures.polled.keeps_codec_config ∙ at.codec_config;
   strategy = c.poll.ensures.polled.keeps_strategy ∙ at.strategy;
@@ -103,16 +82,17 @@ loop-poll-preserved-in_default g c = let at = c.loop-poll.invariant in record {
   room = at.room;
 }
 
-pub returns-then-is_some-clause-went : goal.returns-then-is_some-clause-went
-returns-then-is_some-clause-went g c = let at = c.loop-poll.invariant in
-    (λ s e encoding priority own reading past has before held. subst (λ l. Went s (λ w b. g.S.Responder.may_answer w.responder b) g.O.Outlet.told g.N.Sender.told g.T.Job.Job.is_of g.R.Receiver.told g.B.Provider.told g.Q.Requests.told past before c.args.engine.now c.poll.new.self c.args.network.now c.poll.new.network l) (sym c.push_reserved.ensures.items)
-    (AlwaysWent-more (same_by g.P.Ord.cmp g.M.Digest.Ord.cmp) g.M.Write.encoding g.M.Digestible.digest_of (λ cfg. whole (g.M.Read.reading cfg))
-    (λ w b. g.S.Responder.may_answer w.responder b) g.O.Outlet.told g.N.Sender.told g.T.Job.Job.is_of g.R.Receiver.told g.B.Provider.told g.Q.Requests.told
-    c.args.engine.now c.loop-poll.engine c.poll.new.self c.args.network.now c.loop-poll.network c.poll.new.network c.loop-poll.turns.items (c.in-Ready.turn ∷ [])
-    at.unended at.went at.priority at.codec_config
-    (λ s e encoding priority own reading past has before held. Turned-listed s (λ w b. g.S.Responder.may_answer w.responder b) g.O.Outlet.told g.N.Sender.told g.T.Job.Job.is_of g.R.Receiver.told g.B.Provider.told g.Q.Requests.told
-    past before _ _ _ _ _ (c.in-Ready.turn ∷ []) (ap given c.in-Ready.is) (c.poll.ensures.polled.turned s e encoding priority own reading past has before held))
-    s e encoding priority own reading past has before held))
+pub returns-then-is_some-clause-took : goal.returns-then-is_some-clause-took
+returns-then-is_some-clause-took g c = let at = c.loop-poll.invariant in
+    subst (λ l. AlwaysTakes (format (same_by g.P.Ord.cmp g.M.Digest.Ord.cmp) g.M.Write.encoding g.M.Digestible.digest_of (λ cfg. whole (g.M.Read.reading cfg))) (interfaces (parties (λ w b. g.S.Responder.may_answer w.responder b) g.T.Job.Job.is_of g.O.Outlet) g.N.Sender g.R.Receiver g.B.Provider g.Q.Requests)
+    (c.args.engine.now, c.args.network.now) (c.poll.new.self, c.poll.new.network) l) (sym c.push_reserved.ensures.items)
+    (AlwaysTakes-more (format (same_by g.P.Ord.cmp g.M.Digest.Ord.cmp) g.M.Write.encoding g.M.Digestible.digest_of (λ cfg. whole (g.M.Read.reading cfg))) (interfaces (parties (λ w b. g.S.Responder.may_answer w.responder b) g.T.Job.Job.is_of g.O.Outlet) g.N.Sender g.R.Receiver g.B.Provider g.Q.Requests)
+    (c.args.engine.now, c.args.network.now) (c.loop-poll.engine, c.loop-poll.network) (c.poll.new.self, c.poll.new.network) c.loop-poll.turns.items (c.in-Ready.turn ∷ []) at.unended
+    (Polls-take (format (same_by g.P.Ord.cmp g.M.Digest.Ord.cmp) g.M.Write.encoding g.M.Digestible.digest_of (λ cfg. whole (g.M.Read.reading cfg))) (interfaces (parties (λ w b. g.S.Responder.may_answer w.responder b) g.T.Job.Job.is_of g.O.Outlet) g.N.Sender g.R.Receiver g.B.Provider g.Q.Requests)
+    c.loop-poll._poll (c.args.engine.now, c.args.network.now) (c.loop-poll.engine, c.loop-poll.network) c.loop-poll.turns.items (at.polls c.loop-poll._poll refl) at.none_ends)
+    at.priority at.codec_config
+    (IsPoll-takes (format (same_by g.P.Ord.cmp g.M.Digest.Ord.cmp) g.M.Write.encoding g.M.Digestible.digest_of (λ cfg. whole (g.M.Read.reading cfg))) (interfaces (parties (λ w b. g.S.Responder.may_answer w.responder b) g.T.Job.Job.is_of g.O.Outlet) g.N.Sender g.R.Receiver g.B.Provider g.Q.Requests)
+    (c.loop-poll.engine, c.loop-poll.network) (c.poll.new.self, c.poll.new.network) c.poll.result (c.in-Ready.turn ∷ []) (ap given c.in-Ready.is) c.poll.ensures.polled))
 
 pub returns-then-is_some-clause-ends_with_last_turn : goal.returns-then-is_some-clause-ends_with_last_turn
 returns-then-is_some-clause-ends_with_last_turn g c = λ _.
@@ -121,12 +101,25 @@ returns-then-is_some-clause-ends_with_last_turn g c = λ _.
     subst (λ e. TellsEnd e c.push_reserved.new.self.items) (sym end.1)
     (c.loop-poll.turns.items, c.push_reserved.ensures.items ∙ ap (λ t. c.loop-poll.turns.items ++ t ∷ []) told, c.loop-poll.invariant.none_ends)
 
-pub returns-then-is_some-clause-drove : goal.returns-then-is_some-clause-drove
-returns-then-is_some-clause-drove g c = let at = c.loop-poll.invariant in record {
+pub returns-then-is_some-clause-drives : goal.returns-then-is_some-clause-drives
+returns-then-is_some-clause-drives g c = let at = c.loop-poll.invariant in record {
   count = suc c.loop-poll._poll;
-  polls = (subst (λ l. Polls (same_by g.P.Ord.cmp g.M.Digest.Ord.cmp) g.M.Write.encoding g.M.Digestible.digest_of (λ cfg. whole (g.M.Read.reading cfg)) (λ w b. g.S.Responder.may_answer w.responder b) g.T.Job.Job.is_of g.O.Outlet g.N.Sender g.R.Receiver g.B.Provider g.Q.Requests (suc c.loop-poll._poll) c.args.engine.now c.poll.new.self c.args.network.now c.poll.new.network l) (ap (λ r. c.loop-poll.turns.items ++ given r) c.in-Ready.is ∙ sym c.push_reserved.ensures.items)
-      (Polls-more (same_by g.P.Ord.cmp g.M.Digest.Ord.cmp) g.M.Write.encoding g.M.Digestible.digest_of (λ cfg. whole (g.M.Read.reading cfg)) (λ w b. g.S.Responder.may_answer w.responder b) g.T.Job.Job.is_of g.O.Outlet g.N.Sender g.R.Receiver g.B.Provider g.Q.Requests c.loop-poll._poll c.args.engine.now c.loop-poll.engine c.poll.new.self c.args.network.now c.loop-poll.network c.poll.new.network c.loop-poll.turns.items c.poll.result
-      (at.drove c.loop-poll._poll refl) c.poll.ensures.polled));
+  polls = Polls-more (format (same_by g.P.Ord.cmp g.M.Digest.Ord.cmp) g.M.Write.encoding g.M.Digestible.digest_of (λ cfg. whole (g.M.Read.reading cfg))) (interfaces (parties (λ w b. g.S.Responder.may_answer w.responder b) g.T.Job.Job.is_of g.O.Outlet) g.N.Sender g.R.Receiver g.B.Provider g.Q.Requests)
+      c.loop-poll._poll (c.args.engine.now, c.args.network.now) (c.loop-poll.engine, c.loop-poll.network) (c.poll.new.self, c.poll.new.network) c.loop-poll.turns.items c.poll.result c.push_reserved.new.self.items
+      (at.polls c.loop-poll._poll refl) c.poll.ensures.polled (sym (ap (λ r. c.loop-poll.turns.items ++ given r) c.in-Ready.is ∙ sym c.push_reserved.ensures.items));
   at_most = omega (arith, c.loop-poll-test.true);
   all_unless_ended = λ none. absurd (let no : true ≡ false = sym c.if-is_some.true ∙ c.is_some.ensures ∙ ap (λ k. is_some k.end) c.engine.view_is ∙ ap is_some none in cc);
+}
+
+pub returns-clause-took : goal.returns-clause-took
+returns-clause-took g c = let at = c.loop-poll.invariant in
+    Polls-take (format (same_by g.P.Ord.cmp g.M.Digest.Ord.cmp) g.M.Write.encoding g.M.Digestible.digest_of (λ cfg. whole (g.M.Read.reading cfg))) (interfaces (parties (λ w b. g.S.Responder.may_answer w.responder b) g.T.Job.Job.is_of g.O.Outlet) g.N.Sender g.R.Receiver g.B.Provider g.Q.Requests)
+    c.loop-poll._poll (c.args.engine.now, c.args.network.now) (c.loop-poll.engine, c.loop-poll.network) c.loop-poll.turns.items (at.polls c.loop-poll._poll refl) at.none_ends
+
+pub returns-clause-drives : goal.returns-clause-drives
+returns-clause-drives g c = record {
+  count = c.loop-poll._poll;
+  polls = c.loop-poll.invariant.polls c.loop-poll._poll refl;
+  at_most = search rules;
+  all_unless_ended = λ none. search rules;
 }

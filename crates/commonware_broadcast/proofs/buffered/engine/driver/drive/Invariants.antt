@@ -1,31 +1,22 @@
-use Rattle.std.proofs.Common.{◌≡◌, ℕ, Option, length}
+use Rattle.std.proofs.Common.{◌≡◌, ℕ, length}
 use Rattle.std.specs.Prelude.{◌<◌, ◌≤◌, Some, None, vec_len, vec_capacity}
 use Rattle.std.specs.List.{All}
 use Rattle.futures.specs.Task.{IsArmed, Keeps}
 use Rattle.broadcast_core.specs.Codec.{whole}
 use Rattle.broadcast_core.specs.Content.{same_by}
-use Rattle.broadcast_core.specs.Setting.{Setting}
-use Rattle.broadcast_core.specs.Happening.{History}
-use Rattle.broadcast_core.specs.HasContent.{HasContent}
 use Rattle.engine_io.specs.declared.input.EndCause.{EndCause}
-use Rattle.engine_io.specs.Replies.{Asker}
 use Rattle.commonware_broadcast.specs.EngineHistory.{end_told}
-use Rattle.commonware_broadcast.specs.EngineState.{Went}
+use Rattle.commonware_broadcast.specs.Interfaces.{format, parties, interfaces}
 use Rattle.commonware_broadcast.specs.Polls.{Polls}
-use Rattle.commonware_broadcast.specs.Taken.{Holds}
 use Rattle.commonware_broadcast.proofs.buffered.engine.driver.drive.Given as goal
 
 abbrev pub invariant-loop-poll : goal.invariant-loop-poll
 invariant-loop-poll g l =
     record {
-      went : (s : Setting g.row.P.Denot g.row.M.Denot g.row.M-Digest.Denot) → s.same ≡ same_by g.P.Ord.cmp g.M.Digest.Ord.cmp → s.encoding ≡ g.M.Write.encoding
-          → s.priority ≡ l.fn.engine.priority → s.digest_of ≡ g.M.Digestible.digest_of → s.reading ≡ whole (g.M.Read.reading l.fn.engine.codec_config)
-          → (past : History g.row.P.Denot g.row.M.Denot g.row.M-Digest.Denot (Asker g.row.S.Denot) (Asker g.row.G.Denot)) → HasContent s past l.fn.engine.node.core
-          → (before : Option (g.row.P.Denot × g.row.M.Denot)) → Holds g.T.Job.Job.is_of l.fn.engine.end l.fn.engine.job before
-          → Went s (λ w b. g.S.Responder.may_answer w.responder b) g.O.Outlet.told g.N.Sender.told g.T.Job.Job.is_of g.R.Receiver.told g.B.Provider.told g.Q.Requests.told past before
-          l.fn.engine l.engine l.fn.network l.network l.turns.items;
-      drove : (count : ℕ) → count ≡ l._poll
-          → Polls (same_by g.P.Ord.cmp g.M.Digest.Ord.cmp) g.M.Write.encoding g.M.Digestible.digest_of (λ cfg. whole (g.M.Read.reading cfg)) (λ w b. g.S.Responder.may_answer w.responder b) g.T.Job.Job.is_of g.O.Outlet g.N.Sender g.R.Receiver g.B.Provider g.Q.Requests count l.fn.engine l.engine l.fn.network l.network l.turns.items;
+      polls : (count : ℕ) → count ≡ l._poll
+          → Polls (format (same_by g.P.Ord.cmp g.M.Digest.Ord.cmp) g.M.Write.encoding g.M.Digestible.digest_of (λ cfg. whole (g.M.Read.reading cfg)))
+          (interfaces (parties (λ w b. g.S.Responder.may_answer w.responder b) g.T.Job.Job.is_of g.O.Outlet) g.N.Sender g.R.Receiver g.B.Provider g.Q.Requests)
+          count (l.fn.engine, l.fn.network) (l.engine, l.network) l.turns.items;
       priority : l.engine.priority ≡ l.fn.engine.priority;
       codec_config : l.engine.codec_config ≡ l.fn.engine.codec_config;
       strategy : l.engine.strategy ≡ l.fn.engine.strategy;

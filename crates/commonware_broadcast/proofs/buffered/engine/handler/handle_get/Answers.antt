@@ -3,7 +3,7 @@ use Rattle.broadcast_core.proofs.Lawful.{same_by-lawful}
 use Rattle.std.specs.Option.{option_copied}
 use Rattle.broadcast_core.specs.Content.{same_by, message_at}
 use Rattle.engine_io.specs.Replies.{got}
-use Rattle.commonware_broadcast.proofs.EngineSteps.{Steps-got}
+use Rattle.commonware_broadcast.proofs.EngineSteps.{AppliesStep-got}
 use Rattle.commonware_broadcast.proofs.buffered.engine.handler.handle_get.Goals as goal
 use Rattle.commonware_broadcast.proofs.buffered.engine.handler.handle_get.Goals.{in-Some+in_ok-clone-in-Some, in-None}
 
@@ -19,6 +19,6 @@ returns-clause-steps g c =
       got (record { ticket = c.args.ticket; responder = c.args.responder }) c.match-get.found handed.0 ∷ [],
       λ s e past has counted.
           let lawful = same_by-lawful g.met.P.Ord.total (g.met.M.Digest.Ord g.world.𝓛 g.world.𝓜 g.world.𝓡 (λ s x. x, λ x. x, λ x. x, λ x. x)).total in
-          Steps-got e lawful (λ w b. g.S.Responder.may_answer w.responder b) g.O.Outlet.told past c.args.node.now has
+          AppliesStep-got e lawful (λ w b. g.S.Responder.may_answer w.responder b) g.O.Outlet.told past c.args.node.now has
           (record { ticket = c.args.ticket; responder = c.args.responder }) c.args.digest handed.0 counted c.match-get.found c.respond_get.new.outlet c.respond_get.new.metrics found handed.1,
     )

@@ -5,7 +5,7 @@ use Rattle.broadcast_core.specs.Changes.{IsSubscribed}
 use Rattle.broadcast_core.specs.declared.outcome.Subscribed.TheVariants as outcome
 use Rattle.engine_io.specs.Replies.{subscribed}
 use Rattle.engine_io.proofs.Handing.{Hands-none}
-use Rattle.commonware_broadcast.proofs.EngineSteps.{Steps-subscribed}
+use Rattle.commonware_broadcast.proofs.EngineSteps.{AppliesStep-subscribed}
 use Rattle.commonware_broadcast.proofs.buffered.engine.handler.handle_subscribe.Goals as goal
 
 pub returns-in-Ok-Answered-clause-steps : goal.returns-in-Ok-Answered-clause-steps
@@ -17,7 +17,7 @@ returns-in-Ok-Answered-clause-steps g c =
       replies,
       λ s e past has counted.
           let lawful = same_by-lawful g.met.P.Ord.total (g.met.M.Digest.Ord g.world.𝓛 g.world.𝓜 g.world.𝓡 (λ s x. x, λ x. x, λ x. x, λ x. x)).total in
-          Steps-subscribed e lawful (λ w b. g.S.Responder.may_answer w.responder b) g.O.Outlet.told past c.args.node.now has
+          AppliesStep-subscribed e lawful (λ w b. g.S.Responder.may_answer w.responder b) g.O.Outlet.told past c.args.node.now has
           (record { ticket = c.args.ticket; responder = c.args.responder }) c.args.digest c.subscribe.new.self (outcome.Answered c.in-Ok-Answered.waiter x) replies counted
           c.respond_subscribe.new.outlet c.respond_subscribe.new.metrics
           (subst (λ w. IsSubscribed (same_by g.P.Ord.cmp g.M.Digest.Ord.cmp) c.args.digest w c.args.node.now.core c.subscribe.new.self (outcome.Answered c.in-Ok-Answered.waiter x)) c.new.ensures is)
@@ -30,7 +30,7 @@ returns-in-Ok-Waiting-clause-steps g c =
       [],
       λ s e past has counted.
           let lawful = same_by-lawful g.met.P.Ord.total (g.met.M.Digest.Ord g.world.𝓛 g.world.𝓜 g.world.𝓡 (λ s x. x, λ x. x, λ x. x, λ x. x)).total in
-          Steps-subscribed e lawful (λ w b. g.S.Responder.may_answer w.responder b) g.O.Outlet.told past c.args.node.now has
+          AppliesStep-subscribed e lawful (λ w b. g.S.Responder.may_answer w.responder b) g.O.Outlet.told past c.args.node.now has
           (record { ticket = c.args.ticket; responder = c.args.responder }) c.args.digest c.subscribe.new.self outcome.Waiting [] counted
           c.args.node.now.outlet c.args.node.now.metrics
           (subst (λ w. IsSubscribed (same_by g.P.Ord.cmp g.M.Digest.Ord.cmp) c.args.digest w c.args.node.now.core c.subscribe.new.self outcome.Waiting) c.new.ensures is)

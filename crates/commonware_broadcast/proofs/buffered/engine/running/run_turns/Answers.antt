@@ -1,12 +1,15 @@
 use Rattle.broadcast_core.specs.Codec.{whole}
 use Rattle.broadcast_core.specs.Content.{same_by}
-use Rattle.commonware_broadcast.proofs.Polls.{Took-append}
+use Rattle.commonware_broadcast.specs.Interfaces.{format, parties, interfaces}
+use Rattle.commonware_broadcast.proofs.Polls.{TakesPolls-more}
 use Rattle.commonware_broadcast.proofs.buffered.engine.running.run_turns.Goals as goal
 
 pub returns-in-Ready-clause-took : goal.returns-in-Ready-clause-took
-returns-in-Ready-clause-took g c = Took-append (same_by g.P.Ord.cmp g.M.Digest.Ord.cmp) g.M.Write.encoding g.M.Digestible.digest_of (λ cfg. whole (g.M.Read.reading cfg)) (λ w b. g.S.Responder.may_answer w.responder b) g.T.Job.Job.is_of g.O.Outlet g.N.Sender g.V.Receiver g.B.Provider g.Q.Requests
-    c.args.engine.now c.loop.engine c.poll_turns-polled.new.engine c.args.network.now c.loop.network c.poll_turns-polled.new.network c.loop.invariant c.poll_turns-polled.ensures.took
+returns-in-Ready-clause-took g c = TakesPolls-more (format (same_by g.P.Ord.cmp g.M.Digest.Ord.cmp) g.M.Write.encoding g.M.Digestible.digest_of (λ cfg. whole (g.M.Read.reading cfg)))
+    (interfaces (parties (λ w b. g.S.Responder.may_answer w.responder b) g.T.Job.Job.is_of g.O.Outlet) g.N.Sender g.V.Receiver g.B.Provider g.Q.Requests)
+    (c.args.engine.now, c.args.network.now) (c.loop.engine, c.loop.network) (c.poll_turns-polled.new.engine, c.poll_turns-polled.new.network) c.loop.invariant c.poll_turns-polled.ensures.took
 
 pub loop-preserved : goal.loop-preserved
-loop-preserved g c = Took-append (same_by g.P.Ord.cmp g.M.Digest.Ord.cmp) g.M.Write.encoding g.M.Digestible.digest_of (λ cfg. whole (g.M.Read.reading cfg)) (λ w b. g.S.Responder.may_answer w.responder b) g.T.Job.Job.is_of g.O.Outlet g.N.Sender g.V.Receiver g.B.Provider g.Q.Requests
-    c.args.engine.now c.loop.engine c.poll_turns-polled.new.engine c.args.network.now c.loop.network c.poll_turns-polled.new.network c.loop.invariant c.poll_turns-polled.ensures.took
+loop-preserved g c = TakesPolls-more (format (same_by g.P.Ord.cmp g.M.Digest.Ord.cmp) g.M.Write.encoding g.M.Digestible.digest_of (λ cfg. whole (g.M.Read.reading cfg)))
+    (interfaces (parties (λ w b. g.S.Responder.may_answer w.responder b) g.T.Job.Job.is_of g.O.Outlet) g.N.Sender g.V.Receiver g.B.Provider g.Q.Requests)
+    (c.args.engine.now, c.args.network.now) (c.loop.engine, c.loop.network) (c.poll_turns-polled.new.engine, c.poll_turns-polled.new.network) c.loop.invariant c.poll_turns-polled.ensures.took

@@ -4,11 +4,10 @@ use Rattle.commonware_broadcast.proofs.buffered.engine.take.take.Goals as goal
 
 pub returns-clause-serves : goal.returns-clause-serves
 returns-clause-serves g c =
-    let served = c.respond_waiters.ensures c.args.message.now c.in_ok-copies.ensures.equal in (
-      served.0,
-      record {
-        takes = c.in_ok-taken.ensures.ok;
-        due = served.1 ∙ ap (λ ws. map (λ w. to_subscribe w c.args.message.now) ws) c.in_ok-taken.ensures.served;
-        hands = served.2;
-      },
-    )
+    let served = c.respond_waiters.ensures c.args.message.now c.in_ok-copies.ensures.equal in
+    record {
+      replies = served.0;
+      takes = c.in_ok-taken.ensures.ok;
+      due = served.1 ∙ ap (λ ws. map (λ w. to_subscribe w c.args.message.now) ws) c.in_ok-taken.ensures.served;
+      hands = served.2;
+    }

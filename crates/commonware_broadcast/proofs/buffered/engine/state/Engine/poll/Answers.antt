@@ -1,21 +1,23 @@
-use Rattle.std.proofs.Common.{◌≡◌, ◌++◌, Option, None, Some, Ok, Err, IfOk, refl, ap, sym, ◌∙◌, subst}
-use Rattle.futures.specs.Poll.{IfReady, OnPending}
-use Rattle.futures.specs.declared.task.Poll.TheVariants.{Ready, Pending}
+use Rattle.std.proofs.Common.{◌≡◌, inl, inr, Option, None, Some, true, false, refl, ap, sym, ◌∙◌, subst}
+use Rattle.broadcast_core.specs.Codec.{whole}
+use Rattle.broadcast_core.specs.Content.{same_by}
+use Rattle.futures.specs.declared.task.Poll.TheVariants.{Ready}
+use Rattle.engine_io.specs.Causes.{HasCause}
+use Rattle.engine_io.specs.declared.first.First.TheVariants.{Stop, Job, Sources}
 use Rattle.engine_io.specs.declared.input.EndCause.TheVariants.{Stopped}
 use Rattle.engine_io.specs.declared.input.Turn.TheVariants as turn
-use Rattle.engine_io.specs.Sources.{given_ok}
-use Rattle.commonware_broadcast.specs.EngineHistory.{happenings, end_told}
-use Rattle.commonware_broadcast.specs.Order.{as_turn}
-use Rattle.commonware_broadcast.proofs.Ending.{Attends-told, not_ended}
-use Rattle.commonware_broadcast.proofs.Going.{Holds-open, Turned-still, Turned-woken, Turned-ended}
+use Rattle.commonware_broadcast.specs.EngineHistory.{ended}
+use Rattle.commonware_broadcast.specs.Interfaces.{format, parties, interfaces}
+use Rattle.commonware_broadcast.specs.Taken.{Holds}
+use Rattle.commonware_broadcast.proofs.Ending.{IsPoll-open, HasCause-weaker, IfNetwork-weaker, not_ended}
+use Rattle.commonware_broadcast.proofs.Applying.{AppliesSteps-one}
+use Rattle.commonware_broadcast.proofs.Taking.{Holds-open, PollsOnce-ended, PollsOnce-stopped, PollsOnce-job, PollsOnce-sources}
 use Rattle.commonware_broadcast.proofs.buffered.engine.state.Engine.poll.Goals as goal
 
 pub returns-in-Some-clause-polled : goal.returns-in-Some-clause-polled
 returns-in-Some-clause-polled g c = rw (← c.self.view_is) (record {
-  turned = λ s e encoding priority own reading past has before held.
-      Turned-still s (λ w b. g.S.Responder.may_answer w.responder b) g.O.Outlet.told g.N.Sender.told g.T.Job.Job.is_of g.R.Receiver.told g.B.Provider.told g.Q.Requests.told past before
-      _ c.args.network.now c.in-Some.cause (Ready (turn.Ended c.in-Some.cause)) has held c.in-Some.is;
-  attends = λ unended. absurd (let no : None ≡ Some c.in-Some.cause = sym unended ∙ c.in-Some.is in cc);
+  took = λ s is past has before held. PollsOnce-ended s (interfaces (parties (λ w b. g.S.Responder.may_answer w.responder b) g.T.Job.Job.is_of g.O.Outlet) g.N.Sender g.R.Receiver g.B.Provider g.Q.Requests) past before _ _ c.in-Some.cause _ has held c.in-Some.is refl;
+  attends = λ lives. absurd (let no : None ≡ Some c.in-Some.cause = sym lives ∙ c.in-Some.is in cc);
   same_after_end = λ cause ended. (let same : Some c.in-Some.cause ≡ Some cause = sym c.in-Some.is ∙ ended in cc, refl, refl);
   tells_its_end = λ cause ended. let same : Some c.in-Some.cause ≡ Some cause = sym c.in-Some.is ∙ ended in cc;
   ends_as_told = λ cause told. let same : Ready (turn.Ended c.in-Some.cause) ≡ Ready (turn.Ended cause) = told in let is = c.in-Some.is in cc;
@@ -24,64 +26,73 @@ returns-in-Some-clause-polled g c = rw (← c.self.view_is) (record {
   keeps_strategy = refl;
 })
 
-pub returns-in-Ready-Ok-clause-polled : goal.returns-in-Ready-Ok-clause-polled
-returns-in-Ready-Ok-clause-polled g c =
-    let is : c.poll_open-result.result ≡ Ready (Ok c.in-Ready-Ok.turn) = c.in-Ready-Ok.is ∙ ap Ready c.in-Ready-Ok.field-0-is in
-    let polled = c.poll_open-result.ensures in
-    let none : end_told c.in-Ready-Ok.turn ≡ None = subst (λ r. IfReady r (λ r. IfOk r (λ turn. end_told turn ≡ None))) is polled.tells_no_end in
-    rw (← c.self.view_is) (record {
-      turned = λ s e encoding priority own reading past has before held.
-          Turned-woken s (λ w b. g.S.Responder.may_answer w.responder b) g.O.Outlet.told g.N.Sender.told g.T.Job.Job.is_of g.R.Receiver.told g.B.Provider.told g.Q.Requests.told past before
-          _ _ _ _ c.poll_open-result.result (Ready c.in-Ready-Ok.turn) c.in_default.is c.in_default.is (ap given_ok is) (λ h. let no : Ready (Ok c.in-Ready-Ok.turn) ≡ Ready (Err Stopped) = sym is ∙ h in cc) held
-          (polled.woken s e encoding priority own reading past has before (Holds-open g.T.Job.Job.is_of c.self.inside.end c.self.inside.job before c.in_default.is held));
-      attends = λ _. Attends-told g.B.Provider g.R.Receiver g.Q.Requests _ _ _ _ c.poll_open-result.result _ (ap as_turn is)
-          polled.stop_first polled.has_cause (λ cause ended. absurd (let no : Ready (Ok c.in-Ready-Ok.turn) ≡ Ready (Err cause) = sym is ∙ ended in cc)) polled.tells_no_end polled.peers_first polled.requests_first polled.network_last polled.network_looked_at
-          polled.ends_with_peers polled.ends_with_network (subst (λ r. IfReady r (λ r. c.poll_open-result.new.slot ≡ None)) (sym is) (subst (λ r. IfReady r (λ r. IfOk r (λ turn. c.poll_open-result.new.slot ≡ None))) is polled.empty));
-      same_after_end = λ cause ended. absurd (let no : None ≡ Some cause = sym c.in_default.is ∙ ended in cc);
-      tells_its_end = λ cause ended. absurd (let no : None ≡ Some cause = sym c.in_default.is ∙ ended in cc);
-      ends_as_told = λ cause told. absurd (not_ended c.in-Ready-Ok.turn cause none told);
-      keeps_priority = refl;
-      keeps_codec_config = refl;
-      keeps_strategy = refl;
+pub returns-in-Stop-clause-polled : goal.returns-in-Stop-clause-polled
+returns-in-Stop-clause-polled g c = rw (← c.self.view_is) (
+    let over = c.end.ensures.keeps_all_else in
+    IsPoll-open (format (same_by g.P.Ord.cmp g.M.Digest.Ord.cmp) g.M.Write.encoding g.M.Digestible.digest_of (λ cfg. whole (g.M.Read.reading cfg))) (interfaces (parties (λ w b. g.S.Responder.may_answer w.responder b) g.T.Job.Job.is_of g.O.Outlet) g.N.Sender g.R.Receiver g.B.Provider g.Q.Requests) _ _ (Ready (turn.Ended Stopped)) c.in_default.is (ap (λ e. e.end) over)
+    (λ s is past has before held. PollsOnce-stopped s (interfaces (parties (λ w b. g.S.Responder.may_answer w.responder b) g.T.Job.Job.is_of g.O.Outlet) g.N.Sender g.R.Receiver g.B.Provider g.Q.Requests) past before _ _
+    (AppliesSteps-one s (λ w b. g.S.Responder.may_answer w.responder b) g.O.Outlet.told past (ended Stopped) c.self.inside.node c.end.new.self.node (c.end.ensures.ended s is.same past has) tt)
+    (ap (λ e. e.end) over) (ap (λ e. e.job) over) (ap (λ e. e.provider) over) refl (λ told h. c.end.ensures.tells told (c.comes_first.ensures.tells told h)))
+    (record {
+      stop_first = λ stops. refl;
+      has_cause = λ cause is. subst (λ k. HasCause k (g.Q.Requests.may_stop c.self.inside.requests) (g.B.Provider.may_end c.self.inside.provider) (g.R.Receiver.may_fail c.args.network.now.1))
+          (let same : Ready (turn.Ended Stopped) ≡ Ready (turn.Ended cause) = is in let e : Stopped ≡ cause = cc in e) (c.in-Stop.ensures.only_if_asked refl);
+      closes = λ cause is. c.end.ensures.closes;
+      peers_first = λ none. tt;
+      requests_first = λ none is. absurd (let no : false ≡ true = is in cc);
+      network_last = inl refl;
+      network_looked_at = λ none. tt;
+      ends_with_peers = λ none over. inl refl;
+      ends_with_network = λ none failed. inr (refl, tt);
+      idle_if_ready = ap (λ e. e.job) over;
     })
+    (ap (λ e. e.priority) over) (ap (λ e. e.codec_config) over) (ap (λ e. e.strategy) over))
 
-pub returns-in-Pending-clause-polled : goal.returns-in-Pending-clause-polled
-returns-in-Pending-clause-polled g c =
-    let is : c.poll_open-result.result ≡ Pending = c.in-Pending.is in
-    let polled = c.poll_open-result.ensures in
-    rw (← c.self.view_is) (record {
-      turned = λ s e encoding priority own reading past has before held.
-          Turned-woken s (λ w b. g.S.Responder.may_answer w.responder b) g.O.Outlet.told g.N.Sender.told g.T.Job.Job.is_of g.R.Receiver.told g.B.Provider.told g.Q.Requests.told past before
-          _ _ _ _ c.poll_open-result.result Pending c.in_default.is c.in_default.is (ap given_ok is) (λ h. let no : Pending ≡ Ready (Err Stopped) = sym is ∙ h in cc) held
-          (polled.woken s e encoding priority own reading past has before (Holds-open g.T.Job.Job.is_of c.self.inside.end c.self.inside.job before c.in_default.is held));
-      attends = λ _. Attends-told g.B.Provider g.R.Receiver g.Q.Requests _ _ _ _ c.poll_open-result.result _ (ap as_turn is)
-          polled.stop_first polled.has_cause (λ cause ended. absurd (let no : Pending ≡ Ready (Err cause) = sym is ∙ ended in cc)) polled.tells_no_end polled.peers_first polled.requests_first polled.network_last polled.network_looked_at
-          polled.ends_with_peers polled.ends_with_network (subst (λ r. IfReady r (λ r. c.poll_open-result.new.slot ≡ None)) (sym is) tt);
-      same_after_end = λ cause ended. absurd (let no : None ≡ Some cause = sym c.in_default.is ∙ ended in cc);
-      tells_its_end = λ cause ended. absurd (let no : None ≡ Some cause = sym c.in_default.is ∙ ended in cc);
-      ends_as_told = λ cause told. absurd (let no : Pending ≡ Ready (turn.Ended cause) = told in cc);
-      keeps_priority = refl;
-      keeps_codec_config = refl;
-      keeps_strategy = refl;
+pub returns-in-Job-clause-polled : goal.returns-in-Job-clause-polled
+returns-in-Job-clause-polled g c = rw (← c.self.view_is) (
+    let keeps = c.poll_job.ensures.keeps_all_else in
+    let had = c.in-Job.ensures.job_alone in
+    let some : c.self.inside.job ≡ None → ⊥ = λ none. let no : ◌≡◌ {A = Option (g.row.P.Denot × g.row.T-Job.Denot)} (Some (c.in-Job.peer, c.in-Job.job)) None = sym had.0 ∙ none in cc in
+    IsPoll-open (format (same_by g.P.Ord.cmp g.M.Digest.Ord.cmp) g.M.Write.encoding g.M.Digestible.digest_of (λ cfg. whole (g.M.Read.reading cfg))) (interfaces (parties (λ w b. g.S.Responder.may_answer w.responder b) g.T.Job.Job.is_of g.O.Outlet) g.N.Sender g.R.Receiver g.B.Provider g.Q.Requests) _ _ c.poll_job.result c.in_default.is (ap (λ e. e.end) keeps ∙ c.in_default.is ∙ sym c.poll_job.ensures.tells_no_end)
+    (λ s is past has before held. PollsOnce-job s (interfaces (parties (λ w b. g.S.Responder.may_answer w.responder b) g.T.Job.Job.is_of g.O.Outlet) g.N.Sender g.R.Receiver g.B.Provider g.Q.Requests) past before _ _ _ c.in-Job.peer c.in-Job.job c.poll_job.result had.0 has
+    (Holds-open g.T.Job.Job.is_of c.self.inside.end c.self.inside.job before c.in_default.is held) (λ m of_job. c.poll_job.ensures.arrives m of_job s is past has)
+    refl (ap (λ e. e.end) keeps ∙ c.in_default.is) (ap (λ e. e.provider) keeps)
+    (λ told h. subst (λ q. g.Q.Requests.told q told) (sym (ap (λ e. e.requests) keeps)) (c.comes_first.ensures.tells told h)) refl)
+    (record {
+      stop_first = λ stops. absurd (let no : Job c.in-Job.peer c.in-Job.job ≡ Stop = c.in-Job.ensures.stop_first stops in cc);
+      has_cause = λ cause is. not_ended c.poll_job.result cause c.poll_job.ensures.tells_no_end is;
+      closes = λ cause is. not_ended c.poll_job.result cause c.poll_job.ensures.tells_no_end is;
+      peers_first = λ none. absurd (some none);
+      requests_first = λ none. absurd (some none);
+      network_last = inl refl;
+      network_looked_at = λ none. absurd (some none);
+      ends_with_peers = λ none. absurd (some none);
+      ends_with_network = λ none. absurd (some none);
+      idle_if_ready = c.poll_job.ensures.idle_if_ready;
     })
+    (ap (λ e. e.priority) keeps) (ap (λ e. e.codec_config) keeps) (ap (λ e. e.strategy) keeps))
 
-pub returns-in-Ready-Err-clause-polled : goal.returns-in-Ready-Err-clause-polled
-returns-in-Ready-Err-clause-polled g c =
-    let is : c.poll_open-result.result ≡ Ready (Err c.in-Ready-Err.cause) = c.in-Ready-Err.is ∙ ap Ready c.in-Ready-Err.field-0-is in
-    let polled = c.poll_open-result.ensures in
-    rw (← c.self.view_is) (rw c.end.ensures.keeps_all_else (record {
-      turned = λ s e encoding priority own reading past has before held.
-          let one = polled.woken s e encoding priority own reading past has before (Holds-open g.T.Job.Job.is_of c.self.inside.end c.self.inside.job before c.in_default.is held) in
-          Turned-ended s (λ w b. g.S.Responder.may_answer w.responder b) g.O.Outlet.told g.N.Sender.told g.T.Job.Job.is_of g.R.Receiver.told g.B.Provider.told g.Q.Requests.told past before
-          _ _ _ _ c.poll_open-result.new.node c.poll_open-result.new.requests c.poll_open-result.new.slot c.poll_open-result.result c.in-Ready-Err.cause
-          c.in_default.is is held one c.end.ensures.tells (c.end.ensures.ended s e (happenings one.steps ++ past) one.ran.content) refl refl;
-      attends = λ _. Attends-told g.B.Provider g.R.Receiver g.Q.Requests _ _ _ _ c.poll_open-result.result _ (ap as_turn is)
-          polled.stop_first polled.has_cause (λ _ _. c.end.ensures.closes) polled.tells_no_end polled.peers_first polled.requests_first polled.network_last (λ _. subst (λ r. OnPending r (◌≡◌ {A = Option (g.row.P.Denot × g.row.T-Job.Denot)} None None → g.R.Receiver.quiet c.args.network.now.1)) (sym is) tt)
-          polled.ends_with_peers polled.ends_with_network (subst (λ r. IfReady r (λ r. ◌≡◌ {A = Option (g.row.P.Denot × g.row.T-Job.Denot)} None None)) (sym is) refl);
-      same_after_end = λ cause ended. absurd (let no : None ≡ Some cause = sym c.in_default.is ∙ ended in cc);
-      tells_its_end = λ cause ended. let same : Some c.in-Ready-Err.cause ≡ Some cause = ended in cc;
-      ends_as_told = λ cause told. let same : Ready (turn.Ended c.in-Ready-Err.cause) ≡ Ready (turn.Ended cause) = told in cc;
-      keeps_priority = refl;
-      keeps_codec_config = refl;
-      keeps_strategy = refl;
-    }))
+pub returns-in-Sources-clause-polled : goal.returns-in-Sources-clause-polled
+returns-in-Sources-clause-polled g c = rw (← c.self.view_is) (
+    let keeps = c.poll_sources.ensures.keeps_all_else in
+    let none = c.in-Sources.ensures.job_alone in
+    let did = c.poll_sources.ensures in
+    IsPoll-open (format (same_by g.P.Ord.cmp g.M.Digest.Ord.cmp) g.M.Write.encoding g.M.Digestible.digest_of (λ cfg. whole (g.M.Read.reading cfg))) (interfaces (parties (λ w b. g.S.Responder.may_answer w.responder b) g.T.Job.Job.is_of g.O.Outlet) g.N.Sender g.R.Receiver g.B.Provider g.Q.Requests) _ _ c.poll_sources.result c.in_default.is did.ends
+    (λ s is past has before held. PollsOnce-sources s (interfaces (parties (λ w b. g.S.Responder.may_answer w.responder b) g.T.Job.Job.is_of g.O.Outlet) g.N.Sender g.R.Receiver g.B.Provider g.Q.Requests) past before _ _ _ c.poll_sources.result none.0
+    (did.took s is past has before (subst (λ j. Holds g.T.Job.Job.is_of c.self.inside.end j before) (none.0 ∙ sym none.1) held))
+    refl refl refl c.comes_first.ensures.tells refl)
+    (record {
+      stop_first = λ stops. absurd (let no : Sources ≡ Stop = c.in-Sources.ensures.stop_first stops in cc);
+      has_cause = λ cause is. HasCause-weaker ⊥ (g.B.Provider.may_end c.self.inside.provider) (g.R.Receiver.may_fail c.args.network.now.1)
+          (g.Q.Requests.may_stop c.self.inside.requests) (g.B.Provider.may_end c.self.inside.provider) (g.R.Receiver.may_fail c.args.network.now.1)
+          (λ h. absurd h) (λ h. h) (λ h. h) cause (did.has_cause cause is);
+      closes = did.closes;
+      peers_first = λ _. did.peers_first;
+      requests_first = λ _. IfNetwork-weaker (g.Q.Requests.quiet c.comes_first.new.requests) (g.Q.Requests.quiet c.self.inside.requests) c.comes_first.ensures.quiet c.poll_sources.result did.requests_first;
+      network_last = elim did.network_last [ inl same ↦ inl same | inr both ↦ inr (both.0, c.comes_first.ensures.quiet both.1) ];
+      network_looked_at = λ _. did.network_looked_at;
+      ends_with_peers = λ _ over. inr (did.ends_with_peers over);
+      ends_with_network = λ _ failed. did.ends_with_network failed;
+      idle_if_ready = did.idle_if_ready;
+    })
+    (ap (λ e. e.priority) keeps) (ap (λ e. e.codec_config) keeps) (ap (λ e. e.strategy) keeps))

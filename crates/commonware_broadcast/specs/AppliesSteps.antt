@@ -1,0 +1,102 @@
+-- What the steps of an engine leave.
+use Rattle.std.specs.Prelude.{◌≡◌, ℕ, Bool, List, [], ◌∷◌, ◌++◌}
+use Rattle.std.specs.List.{count_by}
+use Rattle.broadcast_core.specs.Setting.{Setting}
+use Rattle.broadcast_core.specs.Happening.{History}
+use Rattle.broadcast_core.specs.HasContent.{HasContent}
+use Rattle.broadcast_core.specs.Sent.{sent}
+use Rattle.broadcast_core.specs.declared.event.Sent.{Sent}
+use Rattle.broadcast_mailbox.specs.declared.buffered.ingress.message.Message.{Message}
+use Rattle.engine_io.specs.declared.input.Input.{Input}
+use Rattle.engine_io.specs.declared.input.Input.TheVariants.{Request}
+use Rattle.engine_io.specs.declared.input.Turn.{Turn}
+use Rattle.commonware_broadcast.specs.declared.buffered.engine.node.Node.{Node}
+use Rattle.engine_io.specs.Counters.{Counted, raised, is_counted_as, number_at}
+use Rattle.engine_io.specs.Replies.{Asker, Replies}
+use Rattle.commonware_broadcast.specs.EngineHistory.{Step, applied, refused, happenings_at, happenings, handed_out_at, handed_out, turns_at}
+use Rattle.commonware_broadcast.specs.StepLaws.{IsStep, AreSteps}
+use Rattle.commonware_broadcast.specs.Counting.{counted, gauge}
+use Rattle.commonware_broadcast.specs.CountingCalls.{count}
+
+-- a request as an input
+abbrev pub requested : {P M D S G : Type 0} → ℕ → Bool → Message P M S G D → Input P M S G D
+requested ticket counted message =
+    Request (record { ticket = ticket; message = message; counted = counted })
+
+-- the step of an input: it was applied, or refused
+abbrev pub IsOf : {P M D S G : Type 0} → Input P M S G D → Step P M D S G → Type 0
+IsOf input (applied given replies) = given ≡ input
+IsOf input (refused given cause) = given ≡ input
+IsOf input _ = ⊥
+
+module _ {P M D S G O : Type 0} (s : Setting P M D) (may_answer : Asker S → Bool → Type 0)
+    (outlet_told : O → Replies S G M D → Type 0) where
+  -- one step, whatever was sent; it counts on no peer
+  pub record AppliesStep (past : History P M D (Asker S) (Asker G)) (step : Step P M D S G)
+      (old new : Node P M S O D) : Type 0 where
+    pub lawful : IsStep s may_answer step past
+    pub content : HasContent s (happenings_at step ++ past) new.core
+    pub counted : new.metrics ≡ record old.metrics { totals = count s step past old.metrics.totals }
+    pub replied : (replies : Replies S G M D) → outlet_told old.outlet replies
+        → outlet_told new.outlet (replies ++ handed_out_at step)
+
+  -- after a history these steps were taken
+  pub record AppliesSteps (past : History P M D (Asker S) (Asker G)) (steps : List (Step P M D S G))
+      (old new : Node P M S O D) : Type 0 where
+    -- each may follow those before it
+    pub lawful : AreSteps s may_answer steps past
+    -- the core has what the happenings give
+    pub content : HasContent s (happenings steps ++ past) new.core
+    -- each counter was raised by the number of what it counts
+    pub counters : (c : Counted P) → number_at s.same.key c new.metrics ≡ raised
+        (number_at s.same.key c old.metrics)
+        (count_by (is_counted_as s.same.key c) (counted s steps past))
+    -- the gauge has the number of digests that were awaited after the last cleanup
+    pub waiters : new.metrics.totals.waiters
+        ≡ gauge s steps past old.metrics.totals.waiters
+    -- the outlet was handed the replies
+    pub replied : (replies : Replies S G M D) → outlet_told old.outlet replies
+        → outlet_told new.outlet (replies ++ handed_out steps)
+
+module _ {P M D S G N : Type 0} (s : Setting P M D) (sender_told : N → List (Sent P) → Type 0) where
+  -- the sender was handed the broadcasts of the steps
+  abbrev pub Sends : List (Step P M D S G) → (old new : N) → Type 0
+  Sends steps old new = (sends : List (Sent P)) → sender_told old sends
+      → sender_told new (sends ++ sent s (happenings steps))
+
+-- those who wait, who may answer closed, and the outlet of replies
+pub record Replying (M D S G O : Type 0) : Type 1 where
+  pub may_answer : Asker S → Bool → Type 0
+  pub told : O → Replies S G M D → Type 0
+
+abbrev pub replying : {M D S G O : Type 0} → (Asker S → Bool → Type 0)
+    → (O → Replies S G M D → Type 0) → Replying M D S G O
+replying may_answer told = record { may_answer = may_answer; told = told }
+
+-- these, and the sender
+pub record Sinks (P M D S G O N : Type 0) : Type 1 where
+  pub of_replies : Replying M D S G O
+  pub sender_told : N → List (Sent P) → Type 0
+
+abbrev pub sinks : {P M D S G O N : Type 0} → (Asker S → Bool → Type 0)
+    → (O → Replies S G M D → Type 0) → (N → List (Sent P) → Type 0) → Sinks P M D S G O N
+sinks may_answer told sender_told = record {
+  of_replies = replying may_answer told;
+  sender_told = sender_told;
+}
+
+module _ {P M D S G O : Type 0} (s : Setting P M D) (r : Replying M D S G O) where
+  -- an input was applied or refused, with this turn
+  pub record Handles (past : History P M D (Asker S) (Asker G)) (input : Input P M S G D)
+      (turn : Turn P) (old new : Node P M S O D) : Type 0 where
+    pub step : Step P M D S G
+    pub of_input : IsOf input step
+    pub turned : turns_at s step past ≡ turn ∷ []
+    pub ran : AppliesSteps s r.may_answer r.told past (step ∷ []) old new
+
+module _ {P M D S G O N : Type 0} (s : Setting P M D) (k : Sinks P M D S G O N) where
+  -- so it was, and the sender was handed its broadcast
+  pub record Applies (past : History P M D (Asker S) (Asker G)) (input : Input P M S G D)
+      (turn : Turn P) (old new : Node P M S O D × N) : Type 0 where
+    pub handled : Handles s k.of_replies past input turn old.0 new.0
+    pub sends : Sends s k.sender_told (handled.step ∷ []) old.1 new.1

@@ -1,0 +1,73 @@
+-- What an engine is over: how messages are read, and what its sources and sinks tell.
+use Rattle.std.specs.Prelude.{◌≡◌, ℕ, Bool, List, Option, Result}
+use Rattle.broadcast_core.specs.Carried.{Carried}
+use Rattle.broadcast_core.specs.Content.{Same}
+use Rattle.broadcast_core.specs.Setting.{Setting}
+use Rattle.broadcast_core.specs.declared.codec.CodecError.{CodecError}
+use Rattle.broadcast_mailbox.specs.declared.buffered.ingress.message.Message.{Message}
+use Rattle.engine_io.specs.declared.network.Provider.{Ghosts as Provider}
+use Rattle.engine_io.specs.declared.network.Receiver.{Ghosts as Receiver}
+use Rattle.engine_io.specs.declared.network.Sender.{Ghosts as Sender}
+use Rattle.engine_io.specs.declared.outlet.Outlet.{Ghosts as Outlet}
+use Rattle.engine_io.specs.declared.requests.Requests.{Ghosts as Requests}
+use Rattle.engine_io.specs.Replies.{Asker}
+
+-- when keys and digests are equal, and how messages are encoded, digested and read
+pub record Format (P M D C : Type 0) : Type 0 where
+  pub same : Same P D
+  pub encoding : M → Option (List ℕ)
+  pub digest_of : M → D
+  pub reading : C → List ℕ → Result M CodecError
+
+abbrev pub format : {P M D C : Type 0} → Same P D → (M → Option (List ℕ)) → (M → D)
+    → (C → List ℕ → Result M CodecError) → Format P M D C
+format same encoding digest_of reading = record {
+  same = same;
+  encoding = encoding;
+  digest_of = digest_of;
+  reading = reading;
+}
+
+-- the setting is that of an engine of this format, with this configuration of the codec and this
+-- flag of its sends
+pub record IsSetting {P M D C : Type 0} (f : Format P M D C) (config : C) (flag : Bool)
+    (s : Setting P M D) : Type 0 where
+  pub same : s.same ≡ f.same
+  pub encoding : s.encoding ≡ f.encoding
+  pub priority : s.priority ≡ flag
+  pub digest_of : s.digest_of ≡ f.digest_of
+  pub reading : s.reading ≡ f.reading config
+
+-- what an arriving message meets: those who wait and may answer closed, the job that digests it,
+-- and the outlet of replies
+pub record Parties (M D S G O J : Type 0) : Type 1 where
+  pub may_answer : Asker S → Bool → Type 0
+  pub is_of : J → M → Type 0
+  pub outlet : Outlet O S G (Carried M D) (Option (Carried M D))
+
+abbrev pub parties : {M D S G O J : Type 0} → (Asker S → Bool → Type 0) → (J → M → Type 0)
+    → Outlet O S G (Carried M D) (Option (Carried M D)) → Parties M D S G O J
+parties may_answer is_of outlet = record {
+  may_answer = may_answer;
+  is_of = is_of;
+  outlet = outlet;
+}
+
+-- these, the network, and where peer sets and requests come from
+pub record Interfaces (P M D S G O J N R B Q : Type 0) : Type 1 where
+  pub of_arrivals : Parties M D S G O J
+  pub sender : Sender N P
+  pub receiver : Receiver R P
+  pub provider : Provider B P
+  pub requests : Requests Q (Message P M S G D)
+
+abbrev pub interfaces : {P M D S G O J N R B Q : Type 0} → Parties M D S G O J → Sender N P
+    → Receiver R P → Provider B P → Requests Q (Message P M S G D)
+    → Interfaces P M D S G O J N R B Q
+interfaces of_arrivals sender receiver provider requests = record {
+  of_arrivals = of_arrivals;
+  sender = sender;
+  receiver = receiver;
+  provider = provider;
+  requests = requests;
+}

@@ -1,0 +1,102 @@
+-- What polls of an engine do: the steps that they take.
+use Rattle.std.specs.Prelude.{◌≡◌, ℕ, List, [], ◌∷◌, ◌++◌, map, Option, None, Some, ◌⊎◌}
+use Rattle.std.specs.List.{All}
+use Rattle.futures.specs.declared.task.Poll.{Poll}
+use Rattle.futures.specs.declared.task.Poll.TheVariants.{Ready}
+use Rattle.broadcast_core.specs.Setting.{Setting}
+use Rattle.broadcast_core.specs.Handed.{handed}
+use Rattle.broadcast_core.specs.Happening.{History}
+use Rattle.broadcast_core.specs.HasContent.{HasContent}
+use Rattle.broadcast_mailbox.specs.declared.buffered.ingress.message.Message.{Message}
+use Rattle.broadcast_mailbox.specs.declared.buffered.ingress.request.Request.{Request}
+use Rattle.engine_io.specs.declared.input.EndCause.{EndCause}
+use Rattle.engine_io.specs.declared.input.EndCause.TheVariants.{Stopped}
+use Rattle.engine_io.specs.declared.input.Turn.{Turn}
+use Rattle.engine_io.specs.declared.input.Turn.TheVariants.{Ended}
+use Rattle.engine_io.specs.Inputs.{sets_in, requests_in, payloads_in}
+use Rattle.engine_io.specs.Replies.{Asker, reply_of}
+use Rattle.engine_io.specs.Sources.{given}
+use Rattle.commonware_broadcast.specs.EngineHistory.{Step, happenings, handed_out, inputs, read_from, end_of, end_told, turns, IsSweptFirst}
+use Rattle.commonware_broadcast.specs.EngineState.{Moment}
+use Rattle.commonware_broadcast.specs.Interfaces.{Format, Interfaces, IsSetting}
+use Rattle.commonware_broadcast.specs.AppliesSteps.{AppliesSteps, Sends}
+use Rattle.commonware_broadcast.specs.Taken.{payload_inputs, pending_input, senders_of, Holds, TakesNone}
+
+module _ {P : Type 0} where
+  -- the turns tell how the engine ended, if it did: the last of them, and no other
+  abbrev pub TellsEnd : Option EndCause → List (Turn P) → Type 0
+  TellsEnd None listed = All (λ turn. end_told turn ≡ None) listed
+  TellsEnd (Some cause) listed = (before : List (Turn P)) × (listed ≡ before ++ Ended cause ∷ [])
+      × All (λ turn. end_told turn ≡ None) before
+
+module _ {P M D S G O J N R B Q C T : Type 0} (s : Setting P M D)
+    (i : Interfaces P M D S G O J N R B Q) where
+  -- after a history, and with this message held before or none, an engine took these steps, and
+  -- these turns were ready
+  pub record TakesSteps (past : History P M D (Asker S) (Asker G)) (before : Option (P × M))
+      (old new : Moment P M S O D J B Q C T N R) (listed : List (Turn P)) : Type 0 where
+    pub steps : List (Step P M D S G)
+    pub ran : AppliesSteps s i.of_arrivals.may_answer i.of_arrivals.outlet.told past steps
+        old.0.node new.0.node
+    pub sends : Sends s i.sender.told steps old.1.0 new.1.0
+    -- the replies are those that are due at its happenings, in order, each to who asked
+    pub due : map reply_of (handed_out steps) ≡ handed s (happenings steps) past
+    -- the turns that were ready are those of the steps, each input and each end having one
+    pub turned : old.0.end ≡ None → turns s steps past ≡ listed
+    -- the engine has ended if and only if the newest step is its end
+    pub ends : old.0.end ≡ None → new.0.end ≡ end_of steps
+    -- the peer sets and the requests of its inputs are those that were given, in order
+    pub sets : (told : List (List P)) → i.provider.told old.0.provider told
+        → i.provider.told new.0.provider (told ++ sets_in (inputs steps))
+    pub requests : (told : List (Request (Message P M S G D)))
+        → i.requests.told old.0.requests told
+        → i.requests.told new.0.requests (told ++ requests_in (inputs steps))
+    -- the message held before, and then the payloads that were given, are, in order, those of its
+    -- inputs and then the message that is held now
+    pub received : List (P × List ℕ)
+    pub given : (told : List (P × List ℕ)) → i.receiver.told old.1.1 told
+        → i.receiver.told new.1.1 (told ++ received)
+    pub pending : Option (P × M)
+    pub held : Holds i.of_arrivals.is_of new.0.end new.0.job pending
+    pub flow : pending_input s before ++ payload_inputs s received
+        ≡ payloads_in (inputs steps) ++ pending_input s pending
+    -- each payload that is a message was decoded once, or refused before it was counted
+    pub read : read_from steps ≡ senders_of s received
+
+  -- so it did, and a cleanup of its waiters came first
+  pub record CleansUpFirst (past : History P M D (Asker S) (Asker G)) (before : Option (P × M))
+      (old new : Moment P M S O D J B Q C T N R) (listed : List (Turn P)) : Type 0 where
+    pub took : TakesSteps past before old new listed
+    pub swept_first : IsSweptFirst took.steps
+
+  -- a poll took steps
+  pub record PollsOnce (past : History P M D (Asker S) (Asker G)) (before : Option (P × M))
+      (old new : Moment P M S O D J B Q C T N R) (result : Poll (Turn P)) : Type 0 where
+    pub took : TakesSteps past before old new (given result)
+    -- while a job is pending, nothing is taken from any source
+    pub job_alone : (job : P × J) → old.0.job ≡ Some job → TakesNone old new took.steps
+    -- if none is pending, a cleanup comes first, unless the engine was told to stop
+    pub swept_first : old.0.end ≡ None → old.0.job ≡ None
+        → ((result ≡ Ready (Ended Stopped)) × TakesNone old new took.steps)
+        ⊎ IsSweptFirst took.steps
+
+module _ {P M D S G O J N R B Q C T : Type 0} (f : Format P M D C)
+    (i : Interfaces P M D S G O J N R B Q) (old : Moment P M S O D J B Q C T N R) where
+  -- this holds whatever happened to the engine before, and whatever message it holds
+  abbrev pub Always : ((s : Setting P M D) → History P M D (Asker S) (Asker G) → Option (P × M)
+      → Type 0) → Type 0
+  Always holds = (s : Setting P M D) → IsSetting f old.0.codec_config old.0.priority s
+      → (past : History P M D (Asker S) (Asker G)) → HasContent s past old.0.node.core
+      → (before : Option (P × M)) → Holds i.of_arrivals.is_of old.0.end old.0.job before
+      → holds s past before
+
+module _ {P M D S G O J N R B Q C T : Type 0} (f : Format P M D C)
+    (i : Interfaces P M D S G O J N R B Q) (old new : Moment P M S O D J B Q C T N R) where
+  -- the steps of some polls
+  abbrev pub AlwaysTakes : List (Turn P) → Type 0
+  AlwaysTakes listed = Always f i old (λ s past before. TakesSteps s i past before old new listed)
+
+  -- those of a poll of the sources, which cleans up first
+  abbrev pub AlwaysCleans : List (Turn P) → Type 0
+  AlwaysCleans listed =
+      Always f i old (λ s past before. CleansUpFirst s i past before old new listed)

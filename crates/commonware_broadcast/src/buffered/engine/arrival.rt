@@ -1,0 +1,195 @@
+//! A payload of a peer, and the job of its message.
+ghost use Rattle.std.specs.Prelude.{◌≡◌, List, None, Some, Ok};
+ghost use Rattle.futures.specs.Poll.{IfReady, OnPending};
+ghost use Rattle.futures.specs.Task.{IsArmed, Keeps};
+ghost use Rattle.broadcast_core.specs.Codec.{whole};
+ghost use Rattle.broadcast_core.specs.Content.{same_by};
+ghost use Rattle.broadcast_core.specs.Setting.{Setting};
+ghost use Rattle.broadcast_core.specs.Happening.{History};
+ghost use Rattle.broadcast_core.specs.HasContent.{HasContent};
+ghost use Rattle.engine_io.specs.declared.input.Input.TheVariants as input;
+ghost use Rattle.engine_io.specs.declared.input.Turn.TheVariants as turn;
+ghost use Rattle.engine_io.specs.Heard.{HearsJob};
+ghost use Rattle.engine_io.specs.Replies.{Asker};
+ghost use Rattle.commonware_broadcast.specs.AppliesSteps.{Handles, replying};
+ghost use Rattle.commonware_broadcast.specs.Arrives.{AlwaysArrives, payload_of, message_of};
+ghost use Rattle.commonware_broadcast.specs.EngineHistory.{end_told};
+ghost use Rattle.commonware_broadcast.specs.Interfaces.{format, parties};
+ghost use Rattle.commonware_broadcast.specs.Order.{end_in};
+
+use crate::buffered::engine::handler::{handle_arrival, handle_invalid};
+use crate::buffered::engine::node::Node;
+use crate::buffered::engine::state::Engine;
+use crate::buffered::strategy::{Job, Strategy};
+use broadcast_core::{
+    Cause, Codec, CodecError, Digested, Digestible, EncodeSize, PublicKey, decode_cfg,
+};
+use broadcast_mailbox::buffered::{Reply, Responder};
+use engine_io::{Outlet, Turn};
+use futures::task::{Context, Poll};
+use std::alloc::Global;
+
+impl<P: PublicKey, M: Digestible + Codec, S, O, B, Q, T: Strategy<M>> Engine<P, M, S, O, B, Q, T> {
+    /// Decodes a payload of `peer`, and starts the job of its message. A payload that is no
+    /// message is counted as invalid.
+    pub(super) fn receive<G>(
+        &mut self,
+        alloc: Global,
+        cx: &mut Context<'_>,
+        peer: P,
+        bytes: &[u8],
+    ) -> Poll<Turn<P>>
+    where
+        S: Responder<Reply<M>> + Drop,
+        O: Outlet<S, G, Reply<M>, Option<Reply<M>>>,
+        requires idle { self.old.job ≡ None }
+        ensures arrives { AlwaysArrives
+            (format (same_by P.cmp M.Digest.cmp) M.encoding M.digest_of
+            (λ cfg. whole (M.reading cfg)))
+            (parties (λ w b. S.may_answer w.responder b) T.Job.is_of O.Outlet)
+            (λ s. payload_of peer (s.reading bytes.now)) self.old self.new result }
+        ensures idle_if_ready { IfReady result (λ turn. self.new.job ≡ None) }
+        ensures held_if_pending { OnPending result (self.new.job ≡ None → ⊥) }
+        ensures tells_no_end { end_in result ≡ None }
+        ensures heard_job { OnPending result (HearsJob T.Job.needs cx.new self.new.job) }
+        ensures armed { OnPending result (IsArmed cx.new) }
+        ensures kept { Keeps cx.old cx.new }
+        ensures keeps_all_else { self.new ≡ record self.old {
+          node = self.new.node;
+          job = self.new.job;
+        } }
+    {
+        match decode_cfg(alloc, bytes, &self.codec_config) {
+            Ok(message) => self.start_job::<G>(alloc, cx, peer, message),
+            Err(error) => Poll::Ready(refuse(&mut self.node, peer, error)),
+        }
+    }
+
+    /// Counts a message of `peer` that was decoded, starts its job, and polls it. If the job can't
+    /// be started, or counted, the message is refused. The count of a message whose job is refused
+    /// stays.
+    fn start_job<G>(
+        &mut self,
+        alloc: Global,
+        cx: &mut Context<'_>,
+        peer: P,
+        message: M,
+    ) -> Poll<Turn<P>>
+    where
+        S: Responder<Reply<M>> + Drop,
+        O: Outlet<S, G, Reply<M>, Option<Reply<M>>>,
+        requires idle { self.old.job ≡ None }
+        ensures arrives { AlwaysArrives
+            (format (same_by P.cmp M.Digest.cmp) M.encoding M.digest_of
+            (λ cfg. whole (M.reading cfg)))
+            (parties (λ w b. S.may_answer w.responder b) T.Job.is_of O.Outlet)
+            (λ s. payload_of peer (Ok message)) self.old self.new result }
+        ensures idle_if_ready { IfReady result (λ turn. self.new.job ≡ None) }
+        ensures held_if_pending { OnPending result (self.new.job ≡ None → ⊥) }
+        ensures tells_no_end { end_in result ≡ None }
+        ensures heard_job { OnPending result (HearsJob T.Job.needs cx.new self.new.job) }
+        ensures armed { OnPending result (IsArmed cx.new) }
+        ensures kept { Keeps cx.old cx.new }
+        ensures keeps_all_else { self.new ≡ record self.old {
+          node = self.new.node;
+          job = self.new.job;
+        } }
+    {
+        let Ok(()) = self.node.metrics.count_peer(&peer) else {
+            return Poll::Ready(Turn::Refused(Some(peer), Cause::Memory));
+        };
+        match self.strategy.start(message) {
+            Ok(job) => self.poll_job::<G>(alloc, cx, peer, job),
+            Err(_) => Poll::Ready(Turn::Refused(Some(peer), Cause::Memory)),
+        }
+    }
+
+    /// Polls the job of a message of `peer`. A pending job is kept. The message of a ready one is
+    /// taken.
+    pub(super) fn poll_job<G>(
+        &mut self,
+        alloc: Global,
+        cx: &mut Context<'_>,
+        peer: P,
+        mut job: T::Job,
+    ) -> Poll<Turn<P>>
+    where
+        S: Responder<Reply<M>> + Drop,
+        O: Outlet<S, G, Reply<M>, Option<Reply<M>>>,
+        requires idle { self.old.job ≡ None }
+        ensures arrives { (m : M) → T.Job.is_of job m → AlwaysArrives
+            (format (same_by P.cmp M.Digest.cmp) M.encoding M.digest_of
+            (λ cfg. whole (M.reading cfg)))
+            (parties (λ w b. S.may_answer w.responder b) T.Job.is_of O.Outlet)
+            (λ s. message_of peer m) self.old self.new result }
+        ensures idle_if_ready { IfReady result (λ turn. self.new.job ≡ None) }
+        ensures held_if_pending { OnPending result (self.new.job ≡ None → ⊥) }
+        ensures tells_no_end { end_in result ≡ None }
+        ensures heard_job { OnPending result (HearsJob T.Job.needs cx.new self.new.job) }
+        ensures armed { OnPending result (IsArmed cx.new) }
+        ensures kept { Keeps cx.old cx.new }
+        ensures keeps_all_else { self.new ≡ record self.old {
+          node = self.new.node;
+          job = self.new.job;
+        } }
+    {
+        match job.poll(cx) {
+            Poll::Pending => {
+                self.job = Some((peer, job));
+                Poll::Pending
+            }
+            Poll::Ready((message, digest)) => {
+                Poll::Ready(arrive(&mut self.node, alloc, peer, message, digest))
+            }
+        }
+    }
+}
+
+/// Counts a payload of `peer` that is no message, or refuses one for which there is no memory.
+fn refuse<P, M, S, G, O>(node: &mut Node<P, M, S, O>, peer: P, error: CodecError) -> Turn<P>
+where
+    P: PublicKey,
+    M: Digestible,
+    S: Responder<Reply<M>> + Drop,
+    O: Outlet<S, G, Reply<M>, Option<Reply<M>>>,
+    ensures memory { error ≡ CodecError.Memory
+        → (result ≡ turn.Refused (Some peer) Cause.Memory) × (node.new ≡ node.old) }
+    ensures invalid { (error ≡ CodecError.Memory → ⊥)
+        → (s : Setting P M M.Digest) → s.same ≡ same_by P.cmp M.Digest.cmp
+        → (past : History P M M.Digest (Asker S) (Asker G)) → HasContent s past node.old.core
+        → Handles s (replying (λ w b. S.may_answer w.responder b) O.told) past
+        (input.Invalid peer error) result node.old node.new }
+    ensures tells_no_end { end_told result ≡ None }
+{
+    match error {
+        CodecError::Memory => Turn::Refused(Some(peer), Cause::Memory),
+        _ => handle_invalid(node, peer, error),
+    }
+}
+
+/// Takes a message of `peer` that has this digest.
+fn arrive<P, M, S, G, O>(
+    node: &mut Node<P, M, S, O>,
+    alloc: Global,
+    peer: P,
+    message: M,
+    digest: M::Digest,
+) -> Turn<P>
+where
+    P: PublicKey,
+    M: Digestible + EncodeSize,
+    S: Responder<Reply<M>> + Drop,
+    O: Outlet<S, G, Reply<M>, Option<Reply<M>>>,
+    ensures handled { (s : Setting P M M.Digest) → s.same ≡ same_by P.cmp M.Digest.cmp
+        → s.encoding ≡ M.encoding
+        → (past : History P M M.Digest (Asker S) (Asker G)) → HasContent s past node.old.core
+        → Handles s (replying (λ w b. S.may_answer w.responder b) O.told) past
+        (input.Arrived peer (record { message = message; digest = digest }))
+        result node.old node.new }
+    ensures tells_no_end { end_told result ≡ None }
+{
+    match Digested::precomputed(alloc, message, digest) {
+        Ok(message) => handle_arrival(node, alloc, peer, message),
+        Err(_) => Turn::Refused(Some(peer), Cause::Memory),
+    }
+}

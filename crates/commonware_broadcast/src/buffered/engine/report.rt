@@ -1,0 +1,111 @@
+//! What a started engine leaves.
+ghost use Rattle.std.specs.Prelude.{◌≡◌, ◌+◌, ◌↔◌, false, is_err, IfOk, IfErr};
+ghost use Rattle.broadcast_mailbox.specs.Watch.{BroadcastsOnly};
+
+use broadcast_core::{Digestible, PublicKey};
+use broadcast_mailbox::buffered::{
+    Account, Books, Ingress, Message, Reply, Responder, Settled, Tally, Watch,
+};
+use engine_io::{EndCause, Metrics};
+use std::sync::Wait;
+
+/// What a started engine leaves.
+#[derive(Drop)]
+pub struct Report<P: PublicKey, Q, W = ()> {
+    pub(super) cause: EndCause,
+    pub(super) metrics: Metrics<P>,
+    pub(super) requests: Q,
+    pub(super) observer: W,
+}
+
+impl<P: PublicKey, Q, W> Report<P, Q, W> {
+    /// Returns why the engine ended.
+    pub fn cause(&self) -> EndCause
+        ensures { result ≡ self.now.cause }
+    {
+        self.cause
+    }
+
+    /// Returns the counters.
+    pub fn metrics(&self) -> &Metrics<P>
+        ensures { result.now ≡ self.now.metrics }
+    {
+        &self.metrics
+    }
+
+    /// Returns the observer, which was handed every turn.
+    pub fn observer(&self) -> &W
+        ensures { result.now ≡ self.now.observer }
+    {
+        &self.observer
+    }
+
+    /// Returns the observer, and drops the rest.
+    pub fn into_observer(self) -> W
+    where
+        Q: Drop,
+        ensures { result ≡ self.observer }
+    {
+        let Report {
+            cause: _,
+            metrics,
+            requests,
+            observer,
+        } = self;
+        drop::<_>((metrics, requests));
+        observer
+    }
+}
+
+impl<P, M, S, G, R, A, K, V, W> Report<
+    P,
+    Ingress<Message<P, M, S, G>, R, Books<A, K, V, M::Digest>>,
+    W,
+>
+where
+    P: PublicKey,
+    M: Digestible,
+    S: Responder<Reply<M>> + Drop,
+    G: Responder<Option<Reply<M>>> + Drop,
+    R: Wait + Drop,
+    A: Account,
+    K: Account,
+    V: Watch<M::Digest>,
+    W: Drop,
+{
+    /// Tells what became of the counted requests, of which none is left. Fails only if the tally
+    /// lacks a part.
+    pub fn settle(self, tally: Tally<A>) -> Result<Settled, (Self, Tally<A>)>
+        requires accounts { (A.all ≡ A.parts) × (K.all ≡ K.parts) }
+        ensures whole { (is_err result ≡ false) ↔ (tally.parts ≡ A.parts) }
+        ensures accepted { IfOk result (λ settled. tally.accepted ≡ settled.applied
+            + settled.refused + settled.skipped + settled.given_up) }
+        ensures taken { IfOk result (λ settled.
+            settled.applied + settled.refused ≡ self.requests.taken) }
+        ensures broadcasts { IfOk result (λ settled.
+            BroadcastsOnly V.watched → settled.skipped ≡ 0) }
+        ensures unchanged_on_error { IfErr result (λ both. (both.0 ≡ self) × (both.1 ≡ tally)) }
+    {
+        let Report {
+            cause,
+            metrics,
+            requests,
+            observer,
+        } = self;
+        match requests.settle(tally) {
+            Ok(settled) => {
+                drop::<_>((metrics, observer));
+                Ok(settled)
+            }
+            Err((requests, tally)) => {
+                let report = Report {
+                    cause,
+                    metrics,
+                    requests,
+                    observer,
+                };
+                Err((report, tally))
+            }
+        }
+    }
+}

@@ -1,0 +1,79 @@
+//! How the threads of a cluster wait for each other, and how a run ends that fails.
+use super::poor::{Poor, Supply};
+use broadcast_core::{Key, TestMessage};
+use cluster_lib::fault::Fault;
+use cluster_lib::keys::key_of;
+use cluster_lib::progress::Progress;
+use cluster_lib::run::run;
+use cluster_lib::session::not_started;
+use cluster_lib::settings::Settings;
+use cluster_lib::shared::Shared;
+use commonware_broadcast::buffered::{StartError, channel};
+use memory_network::Network;
+use std::alloc::{AllocError, AllocGlobal, Global};
+use std::num::NonZeroUsize;
+use std::sync::{Arc, Wait};
+use std::test::Fail;
+
+/// A run of two nodes.
+const SETTINGS: Settings = Settings {
+    nodes: 2,
+    messages: 1,
+    deque_size: 1,
+};
+
+/// Creates the progress of the run.
+fn progress(alloc: Global) -> Result<Arc<Progress>, AllocError> {
+    Ok(Arc::new(alloc, Progress::new(SETTINGS.requests()))?)
+}
+
+/// Creates what the threads of the run share.
+fn shared<R: Wait + AllocGlobal>(rt: &R) -> Result<Shared, Fail> {
+    let network = Network::between(rt, &[key_of(1), key_of(2)])?;
+    let progress = progress(rt.alloc())?;
+    Ok(Shared::new(rt.alloc(), SETTINGS, network, progress)?)
+}
+
+#[test]
+fn clients_wait_until_all_have_subscribed(rt: HostRuntime) -> Result<(), Fail> {
+    let shared = shared(&rt)?;
+    // So that it does not wait for long.
+    shared.fail();
+    for have_all in [false, true] {
+        shared.count_subscribed();
+        assert_eq!(rt; shared.wait_for_subscribed(&rt).is_some(), have_all);
+    }
+    Ok(())
+}
+
+#[test]
+fn an_open_mailbox_of_a_node_that_is_not_started_is_told(rt: HostRuntime) -> Result<(), Fail> {
+    let size = NonZeroUsize::MIN;
+    let (mailbox, ingress) = channel::<Key, TestMessage, HostRuntime>(
+        rt.clone()?,
+        rt.alloc(),
+        size,
+    )?;
+    let open = not_started(&rt, &mailbox, StartError::Spawn);
+    assert!(rt; matches!(open, Fault::Open), "{open:?}");
+    ingress.close();
+    let closed = not_started(&rt, &mailbox, StartError::Spawn);
+    assert!(rt; matches!(closed, Fault::Thread), "{closed:?}");
+    Ok(())
+}
+
+#[test]
+fn a_node_that_fails_stops_those_before_it(rt: HostRuntime) -> Result<(), Fail> {
+    // The second node has no copy of the runtime.
+    let heirs = Supply::new(rt.alloc())?;
+    let supply = Supply::with_heirs(rt.alloc(), 1, &heirs)?;
+    let poor = Poor {
+        rt: rt.clone()?,
+        supply,
+    };
+    let ended = run(&poor, SETTINGS, &progress(rt.alloc())?);
+    assert!(rt; matches!(ended, Err(Fault::Memory)));
+    // The threads of the first node do not wait until all engines are idle, as without a failure.
+    assert!(rt; heirs.pauses() < 500);
+    Ok(())
+}
