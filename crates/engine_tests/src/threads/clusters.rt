@@ -65,11 +65,13 @@ fn an_open_mailbox_of_a_node_that_is_not_started_is_told(rt: HostRuntime) -> Res
 #[test]
 fn a_node_that_fails_stops_those_before_it(rt: HostRuntime) -> Result<(), Fail> {
     // The second node has no copy of the runtime.
+    let supply = Supply::new(rt.alloc())?;
+    supply.leave(1, 1000);
     let heirs = Supply::new(rt.alloc())?;
-    let supply = Supply::with_heirs(rt.alloc(), 1, &heirs)?;
     let poor = Poor {
         rt: rt.clone()?,
         supply,
+        heirs: Arc::try_clone(&heirs)?,
     };
     let ended = run(&poor, SETTINGS, &progress(rt.alloc())?);
     assert!(rt; matches!(ended, Err(Fault::Memory)));

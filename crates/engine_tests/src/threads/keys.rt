@@ -2,8 +2,7 @@
 use super::nodes::digest;
 use broadcast_core::{RangeCfg, TestMessage};
 use commonware_broadcast::buffered::{
-    Config, EndCause, Handle, Mailbox, Open, Pool, Sequential, Status, Threaded, Work, start,
-    start_threaded,
+    Config, EndCause, Handle, Mailbox, Open, Sequential, Status, Threaded, start, start_threaded,
 };
 use memory_network::{Ends, Network};
 use std::alloc::AllocGlobal;
@@ -48,14 +47,12 @@ where
     Ok(start(rt, cfg, (ends.sender, ends.receiver))?)
 }
 
-/// Starts an engine whose messages are digested on other threads, behind this gate or in this pool.
-fn threaded<G, R>(rt: &R, gate: G) -> Result<Running<R>, Fail>
+/// Starts an engine whose messages are digested on other threads.
+fn threaded<R>(rt: &R) -> Result<Running<R>, Fail>
 where
-    TestMessage: Work<G, R>,
-    G: Send + Sync + Drop + 'static,
     R: Threads + Wait + RandomSource + AllocGlobal + Clone + Send + Sync + Drop + 'static,
 {
-    let gate = Arc::new(rt.alloc(), gate)?;
+    let gate = Arc::new(rt.alloc(), Open)?;
     let strategy = Threaded::new(rt.clone()?, rt.alloc(), gate);
     let ends = ends(rt)?;
     let cfg = config(ends.provider, strategy);
@@ -78,18 +75,16 @@ where
 }
 
 /// Starts an engine with each strategy.
-fn start_each<R>(rt: &R) -> Result<bool, Fail>
+fn start_both<R>(rt: &R) -> Result<bool, Fail>
 where
     R: Threads + Wait + RandomSource + AllocGlobal + Clone + Send + Sync + Drop + 'static,
 {
     let alone = receives(rt, sequential(rt)?)?;
-    let apart = receives(rt, threaded(rt, Open)?)?;
-    let pool = Pool::start(rt, rt.alloc())?;
-    Ok(alone && apart && receives(rt, threaded(rt, pool)?)?)
+    Ok(alone && receives(rt, threaded(rt)?)?)
 }
 
 #[test]
 fn engines_of_keys_that_are_numbers_are_started(rt: HostRuntime) -> Result<(), Fail> {
-    assert!(rt; start_each(&rt)?);
+    assert!(rt; start_both(&rt)?);
     Ok(())
 }

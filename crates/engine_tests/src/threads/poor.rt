@@ -12,38 +12,17 @@ use std::time::{Clock, Duration};
 pub struct Supply {
     copies: AtomicU64,
     randoms: AtomicU64,
-    /// How often it slept.
+    /// How often a runtime slept.
     pauses: AtomicU64,
-    /// The supply of the copies, if it is another one.
-    heirs: Option<Arc<Supply>>,
 }
 
 impl Supply {
     /// Creates an ample supply.
     pub fn new(alloc: Global) -> Result<Arc<Supply>, AllocError> {
-        Supply::with(alloc, 1000, None)
-    }
-
-    /// Creates a supply of this many copies, whose copies have a supply of their own.
-    pub fn with_heirs(
-        alloc: Global,
-        copies: u64,
-        heirs: &Arc<Supply>,
-    ) -> Result<Arc<Supply>, AllocError> {
-        Supply::with(alloc, copies, Some(Arc::try_clone(heirs)?))
-    }
-
-    /// Creates a supply of this many copies.
-    fn with(
-        alloc: Global,
-        copies: u64,
-        heirs: Option<Arc<Supply>>,
-    ) -> Result<Arc<Supply>, AllocError> {
         let supply = Supply {
-            copies: AtomicU64::new(copies),
+            copies: AtomicU64::new(1000),
             randoms: AtomicU64::new(1000),
             pauses: AtomicU64::new(0),
-            heirs,
         };
         Ok(Arc::new(alloc, supply)?)
     }
@@ -74,6 +53,8 @@ pub struct Poor<R> {
     pub rt: R,
     /// What is left.
     pub supply: Arc<Supply>,
+    /// The supply of its copies.
+    pub heirs: Arc<Supply>,
 }
 
 impl<R: Threads> Threads for Poor<R> {}
@@ -116,9 +97,10 @@ impl<R: Clock> Clock for Poor<R> {
 impl<R: Clone> Clone for Poor<R> {
     fn clone(&self) -> Result<Self, AllocError> {
         let rt = self.rt.clone()?;
-        let supply = Arc::try_clone(self.supply.heirs.as_ref().unwrap_or(&self.supply))?;
+        let supply = Arc::try_clone(&self.heirs)?;
+        let heirs = Arc::try_clone(&self.heirs)?;
         if take(&self.supply.copies) {
-            Ok(Poor { rt, supply })
+            Ok(Poor { rt, supply, heirs })
         } else {
             Err(AllocError)
         }

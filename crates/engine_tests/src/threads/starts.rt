@@ -136,9 +136,11 @@ where
     R: Threads + Wait + Clock + RandomSource + AllocGlobal + Clone + Send + Sync + Drop + 'static,
 {
     for row in cases() {
+        let supply = Supply::new(rt.alloc())?;
         let poor = Poor {
             rt: rt.clone()?,
-            supply: Supply::new(rt.alloc())?,
+            heirs: Arc::try_clone(&supply)?,
+            supply,
         };
         if start::<R>(&poor, row.copies, row.randoms)? != (row.ending, true) {
             Err("a start ends otherwise")?

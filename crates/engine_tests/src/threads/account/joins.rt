@@ -68,9 +68,11 @@ fn attempt<R>(rt: &R, copies: u64) -> Result<(bool, u64, u64), Fail>
 where
     R: Threads + Wait + Clock + RandomSource + AllocGlobal + Clone + Send + Sync + Drop + 'static,
 {
+    let supply = Supply::new(rt.alloc())?;
     let poor = Poor {
         rt: rt.clone()?,
-        supply: Supply::new(rt.alloc())?,
+        heirs: Arc::try_clone(&supply)?,
+        supply,
     };
     let counts = Arc::new(rt.alloc(), Counts::new())?;
     let session = Staying {
