@@ -1,6 +1,6 @@
 -- A message that is taken: what the lists and the table are then.
 use Rattle.std.proofs.Common.{◌≡◌, ℕ, suc, ◌≤◌, ◌<◌, Bool, true, false, ◌||◌, inl, inr, List, [], ◌∷◌, ◌++◌, length, take, Option, Some, None, refl, sym, ap, ◌∙◌, subst, arith, length-append}
-use Rattle.std.specs.Prelude.{is_some}
+use Rattle.std.specs.Prelude.{is_some, MatchOption}
 use Rattle.std.specs.Option.{option_map}
 use Rattle.std.specs.List.{IsDistinct}
 use Rattle.std.specs.Map.{lookup, keys_of, remove_entry}
@@ -12,19 +12,19 @@ use Rattle.std.proofs.lemmas.List.{take_all, nil_from_length}
 use Rattle.entries.specs.declared.entry.Charged.{Charged}
 use Rattle.entries.specs.Linked.{Node, IsApart}
 use Rattle.entries.specs.Placed.{Placed}
-use Rattle.entries.specs.Store.{values_of, items_at, moved, Puts}
+use Rattle.entries.specs.Store.{values_of, items_at, moved, Puts, Evicts}
 use Rattle.entries.specs.Table.{messages_of, place_in, place_at, IsPlaced, Leaves}
 use Rattle.entries.proofs.Stores.{found_same}
 use Rattle.entries.proofs.Tables.{lookup-messages}
 use Rattle.broadcast_core.specs.Carried.{Carried}
 use Rattle.broadcast_core.specs.Content.{Same, same_charged, among, without}
-use Rattle.broadcast_core.specs.Indexed.{digest_lists, IsIndexed, stored_of, Origin, Holds}
+use Rattle.broadcast_core.specs.Indexed.{digest_lists, IsIndexed, stored_of, Origin, Holds, Pushes}
 use Rattle.broadcast_core.specs.Stored.{Stores}
 use Rattle.broadcast_core.proofs.Distinct.{by_test, or_right, length-moved, without-absent}
 use Rattle.broadcast_core.proofs.Entries.{remove_entry-insert_entry}
 use Rattle.broadcast_core.proofs.Staying.{charged_laws}
 use Rattle.broadcast_core.proofs.Placing.{items_at-digests, digests-append}
-use Rattle.broadcast_core.proofs.Indexing.{cond_true, cond_false, nodes-equal, sets-beside, sets-other, sets-here, moved-digests, among-stands, among-nowhere, IsIndexed-moved, IsIndexed-added, IsIndexed-replaced, moved-replaced}
+use Rattle.broadcast_core.proofs.Indexing.{cond_true, cond_false, nodes-equal, sets-beside, sets-other, sets-here, moved-digests, among-stands, among-nowhere, IsIndexed-moved, IsIndexed-added, IsIndexed-evicted}
 use Rattle.broadcast_core.proofs.Caching.{named-origin, Stores-made}
 
 take-front : {X : Type 0} (n : ℕ) (xs ys : List X) → n ≡ length xs → take n (xs ++ ys) ≡ xs
@@ -33,6 +33,22 @@ take-front n xs ys is = rw is (front xs)
     front : (zs : List _) → take (length zs) (zs ++ ys) ≡ zs
     front [] = refl
     front (z ∷ zs) = ap (λ (l : List _). z ∷ l) (front zs)
+
+-- values are as many as their nodes
+len-values : {D : Type 0} (ms : List (Node D)) → length (values_of ms) ≡ length ms
+len-values [] = refl
+len-values (m ∷ ms) = ap suc (len-values ms)
+
+-- a list that is put after another
+Puts-again : {K D : Type 0} {key : K → K → Bool} (laws : IsEquivalence key) (p : K) (ns ms : List (Node D)) (old mid new : List (K × List (Node D))) → Puts key p ns old mid → Puts key p ms mid new → Puts key p ms old new
+Puts-again {key = key} laws p ns ms old mid new first last = record {
+  lists = λ q. last.lists q ∙ by_test (key p q)
+      (λ h. rw h refl)
+      (λ h. rw h (first.lists q ∙ rw h refl));
+  keys = λ q there. by_test (key p q)
+      (λ h. rw h refl)
+      (λ h. first.keys q (sym (ap (λ b. b || is_some (lookup (key q) mid)) h) ∙ last.keys q there));
+}
 
 abbrev by_order : {P D : Type 0} → (P → P → Bool) → (D → D → Ordering) → Same P D
 by_order key R = record { key = key; digest = eq_by_cmp R }
@@ -67,11 +83,7 @@ module _ {P M D : Type 0} (same : Same P D) (key_laws : IsEquivalence same.key) 
     ds-is = items_at-digests same.key p lists
 
     len-is : length ds ≡ length ns
-    len-is = ap length ds-is ∙ len ns
-      where
-        len : (ms : List (Node (Charged D))) → length (values_of ms) ≡ length ms
-        len [] = refl
-        len (m ∷ ms) = ap suc (len ms)
+    len-is = ap length ds-is ∙ len-values ns
 
     -- a digest that is on the list
     pub Stores-moved : (i : ℕ) → IsApart ns → place_at same.digest same.key items x.digest p ≡ Some i → Puts same.key p (moved i c ns) lists new_lists → length ds ≤ size
@@ -106,36 +118,48 @@ module _ {P M D : Type 0} (same : Same P D) (key_laws : IsEquivalence same.key) 
       nowhere : among (same_charged same.digest) c ds ≡ false
       nowhere = ap (among (same_charged same.digest) c) ds-is ∙ among-nowhere same key_laws laws p lists new_lists items was c 0 none
 
-      -- a digest that is not on a list that is not full
-      pub Stores-added : (R : D → D → Ordering) (i : ℕ) (new_items : List (D × Placed P (Carried M D))) → Holds same R p x i items new_items → IsPlaced same.digest same.key new_items → Puts same.key p ((i, c) ∷ ns) lists new_lists → length ns < size
-          → IsIndexed same new_lists new_items × Stores same p x cs (stored_of lists items) (stored_of new_lists new_items)
-      Stores-added R i new_items holds placed puts fits =
-          let now = IsIndexed-added same key_laws laws p lists new_lists items was c i none new_items holds.places puts
-          (named-origin same key_laws laws x (messages_of items) (messages_of new_items) was.named holds.origin) placed in (
-            now,
-            Stores-made same key_laws laws p x cs lists new_lists items new_items was now distinct new_distinct ((i, c) ∷ ns) puts
-                (ap (λ l. c ∷ l) (sym ds-is ∙ sym (without-absent (charged_laws laws) c ds nowhere))
-                ∙ sym (take_all size (c ∷ without (same_charged same.digest) c ds) (omega (arith, fits, len-is, ap length (without-absent (charged_laws laws) c ds nowhere)))))
-                holds.origin,
-          )
+      abbrev whole : List (Charged D)
+      whole = c ∷ without (same_charged same.digest) c ds
 
-      -- a digest that is not on a full list
-      pub Stores-replaced : (R : D → D → Ordering) (i : ℕ) (mid new_items : List (D × Placed P (Carried M D))) (newer : List (Node (Charged D))) (stale : Charged D) → ns ≡ newer ++ (i, stale) ∷ [] → IsApart ns → length ns ≡ size
-          → Holds same R p x i items mid → Leaves same.digest same.key stale.digest p mid new_items → IsPlaced same.digest same.key new_items → Puts same.key p (moved i c ns) lists new_lists
-          → IsIndexed same new_lists new_items × Stores same p x cs (stored_of lists items) (stored_of new_lists new_items)
-      Stores-replaced R i mid new_items newer stale last apart full holds leaves placed puts =
-          let origin : Origin same x (messages_of items) (messages_of new_items) = λ d y h. holds.origin d y (leaves.fewer d y h) in
-          let now = IsIndexed-replaced same key_laws laws p lists new_lists items was c i none newer stale last mid new_items apart holds.places leaves.places puts
-          (named-origin same key_laws laws x (messages_of items) (messages_of new_items) was.named origin) placed in
-          let split : ds ≡ values_of newer ++ stale ∷ [] = ds-is ∙ ap values_of last ∙ digests-append newer ((i, stale) ∷ []) in
-          let cut : take size (c ∷ without (same_charged same.digest) c ds) ≡ c ∷ values_of newer =
-          ap (λ l. take size (c ∷ l)) (without-absent (charged_laws laws) c ds nowhere ∙ split)
-          ∙ take-front size (c ∷ values_of newer) (stale ∷ []) (omega (arith, full, len-is, ap length split, length-append (values_of newer) (stale ∷ []))) in (
-            now,
-            Stores-made same key_laws laws p x cs lists new_lists items new_items was now distinct new_distinct (moved i c ns) puts
-                (ap values_of (moved-replaced same key_laws laws p lists new_lists items was c i none newer stale last apart) ∙ sym cut)
-                origin,
-          )
+      whole-is : whole ≡ c ∷ values_of ns
+      whole-is = ap (λ l. c ∷ l) (without-absent (charged_laws laws) c ds nowhere ∙ ds-is)
+
+      -- a digest that is not on the list
+      pub Stores-pushed : (R : D → D → Ordering) (i : ℕ) (mid new_items : List (D × Placed P (Carried M D))) → Holds same R p x i items mid → IsPlaced same.digest same.key mid → IsPlaced same.digest same.key new_items → length ns ≤ size
+          → Pushes same p (i, c) size lists new_lists mid new_items → IsIndexed same new_lists new_items × Stores same p x cs (stored_of lists items) (stored_of new_lists new_items)
+      Stores-pushed R i mid new_items holds mid_placed placed fits pushes = cut pushes.stale pushes.extends.cut pushes.leaves
+        where
+          between : List (P × List (Node (Charged D)))
+          between = pushes.extends.between
+
+          at-key : items_at same.key p between ≡ (i, c) ∷ ns
+          at-key = pushes.extends.put.lists p ∙ cond_true (same.key p p) ((i, c) ∷ ns) ns (key_laws.refl p)
+
+          more : IsIndexed same between mid
+          more = IsIndexed-added same key_laws laws p lists between items was c i none mid holds.places pushes.extends.put
+              (named-origin same key_laws laws x (messages_of items) (messages_of mid) was.named holds.origin) mid_placed
+
+          cut : (stale : Option (Charged D)) → MatchOption stale ((length (items_at same.key p between) ≤ size) × (new_lists ≡ between)) (λ d. (size < length (items_at same.key p between)) × Evicts same.key p d between new_lists)
+              → MatchOption stale (new_items ≡ mid) (λ d. Leaves same.digest same.key d.digest p mid new_items) → IsIndexed same new_lists new_items × Stores same p x cs (stored_of lists items) (stored_of new_lists new_items)
+          cut None stays same_items =
+              let now : IsIndexed same new_lists new_items = subst (λ l. IsIndexed same l new_items) (sym stays.1) (subst (λ its. IsIndexed same between its) (sym same_items) more) in
+              let short : length whole ≤ size = omega (arith, stays.0, ap length at-key, ap length whole-is, len-values ns) in (
+                now,
+                Stores-made same key_laws laws p x cs lists new_lists items new_items was now distinct new_distinct ((i, c) ∷ ns) (subst (λ l. Puts same.key p ((i, c) ∷ ns) lists l) (sym stays.1) pushes.extends.put)
+                    (sym whole-is ∙ sym (take_all size whole short))
+                    (subst (λ its. Origin same x (messages_of items) (messages_of its)) (sym same_items) holds.origin),
+              )
+          cut (Some stale) evicts leaves =
+              let origin : Origin same x (messages_of items) (messages_of new_items) = λ d y h. holds.origin d y (leaves.fewer d y h) in
+              let now = IsIndexed-evicted same key_laws laws p between new_lists mid more stale evicts.1.place evicts.1.rest new_items evicts.1.last leaves.places evicts.1.put
+              (named-origin same key_laws laws x (messages_of items) (messages_of new_items) was.named origin) placed in
+              let split : (i, c) ∷ ns ≡ evicts.1.rest ++ (evicts.1.place, stale) ∷ [] = sym at-key ∙ evicts.1.last in
+              let full : size ≡ length (values_of evicts.1.rest) = omega (arith, evicts.0, fits, ap length at-key, ap length split, length-append evicts.1.rest ((evicts.1.place, stale) ∷ []), len-values evicts.1.rest) in (
+                now,
+                Stores-made same key_laws laws p x cs lists new_lists items new_items was now distinct new_distinct evicts.1.rest (Puts-again key_laws p ((i, c) ∷ ns) evicts.1.rest lists between new_lists pushes.extends.put evicts.1.put)
+                    (sym (take-front size (values_of evicts.1.rest) (stale ∷ []) full) ∙ ap (take size) (sym (whole-is ∙ ap values_of split ∙ digests-append evicts.1.rest ((evicts.1.place, stale) ∷ []))))
+                    origin,
+              )
 
 module _ {P M D : Type 0} {key : P → P → Bool} {R : D → D → Ordering} (key_laws : IsEquivalence key) (order : IsTotalOrder R) where
   module _ (p : P) (x : Carried M D) (i : ℕ) (items mid new_items : List (D × Placed P (Carried M D)))

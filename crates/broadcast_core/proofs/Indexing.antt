@@ -1,5 +1,5 @@
 -- What changes of a list and of the table make of how they agree.
-use Rattle.std.proofs.Common.{◌≡◌, ℕ, Bool, true, false, ◌&&◌, ◌||◌, cond, List, [], ◌∷◌, ◌++◌, Option, Some, None, refl, sym, ap, ◌∙◌, subst, append-nil}
+use Rattle.std.proofs.Common.{◌≡◌, ℕ, Bool, true, false, ◌&&◌, cond, List, [], ◌∷◌, ◌++◌, Option, Some, None, refl, sym, ap, ◌∙◌, subst, append-nil}
 use Rattle.std.specs.Prelude.{is_some, unwrap_or}
 use Rattle.std.specs.List.{IsDistinct}
 use Rattle.std.specs.Map.{lookup}
@@ -9,11 +9,11 @@ use Rattle.entries.specs.Linked.{Node, IsApart}
 use Rattle.entries.specs.Placed.{Placed}
 use Rattle.entries.specs.Store.{values_of, items_at, moved, Puts}
 use Rattle.entries.specs.Table.{messages_of, place_at, IsPlaced, SetsPlace}
-use Rattle.entries.proofs.Stores.{found_same, moved-parts}
+use Rattle.entries.proofs.Stores.{found_same}
 use Rattle.broadcast_core.specs.Carried.{Carried}
 use Rattle.broadcast_core.specs.Content.{Same, same_charged, among, without}
 use Rattle.broadcast_core.specs.Indexed.{place_of, IsIndexed}
-use Rattle.broadcast_core.proofs.Distinct.{by_test, or_false, list_any-append, or_none, among-equal, among-last, IsDistinct-init, IsDistinct-front, IsDistinct-moved}
+use Rattle.broadcast_core.proofs.Distinct.{by_test, among-equal, among-last, IsDistinct-init, IsDistinct-front, IsDistinct-moved}
 use Rattle.broadcast_core.proofs.Staying.{charged_laws}
 use Rattle.broadcast_core.proofs.Placing.{digests-append, among-place, place-none, place-beside, place-first, place-later, place-moved, found, digests-moved}
 
@@ -110,38 +110,6 @@ module _ {P M D : Type 0} (same : Same P D) (key_laws : IsEquivalence same.key) 
           (λ t. sets-beside d.digest p (Some i) items new_items sets e.digest q t ∙ at-key e q h ∙ sym (place-later (charged_laws laws) e (i, d) ns ((charged_laws laws).symm e d ∙ t))))
           (IsDistinct-front (charged_laws laws) d (values_of ns) among-nowhere (was.distinct p))
           named placed
-
-      module _ (newer : List (Node (Charged D))) (stale : Charged D) (last : ns ≡ newer ++ (i, stale) ∷ []) where
-        parts : (among (same_charged same.digest) d (values_of newer) ≡ false) × ((same_charged same.digest) d stale ≡ false)
-        parts =
-            let whole : among (same_charged same.digest) d (values_of newer ++ stale ∷ []) ≡ false = ap (among (same_charged same.digest) d) (sym (ap values_of last ∙ digests-append newer ((i, stale) ∷ []))) ∙ among-nowhere in
-            let both = or_false (among (same_charged same.digest) d (values_of newer)) ((same_charged same.digest) d stale || false) (sym (list_any-append (same_charged same.digest d) (values_of newer) (stale ∷ [])) ∙ whole) in
-            (both.0, sym (or_none ((same_charged same.digest) d stale)) ∙ both.1)
-
-        split : IsDistinct (same_charged same.digest) (values_of newer ++ stale ∷ [])
-        split = subst (IsDistinct (same_charged same.digest)) (ap values_of last ∙ digests-append newer ((i, stale) ∷ [])) (was.distinct p)
-
-        pub moved-replaced : IsApart ns → moved i d ns ≡ (i, d) ∷ newer
-        moved-replaced apart =
-            ap (moved i d) last ∙ moved-parts i d stale newer [] (rw last at apart) ∙ ap (λ (l : List (Node (Charged D))). (i, d) ∷ l) (append-nil newer)
-
-        pub IsIndexed-replaced : (mid new_items : List (D × Placed P (Carried M D))) → IsApart ns → SetsPlace same.digest same.key d.digest p (Some i) items mid → SetsPlace same.digest same.key stale.digest p None mid new_items
-            → Puts same.key p (moved i d ns) lists new_lists → Named new_items → IsPlaced same.digest same.key new_items → IsIndexed same new_lists new_items
-        IsIndexed-replaced mid new_items apart sets drops puts named placed =
-            let is = moved-replaced apart in
-            indexed ((i, d) ∷ newer) new_items (subst (λ l. Puts same.key p l lists new_lists) is puts)
-            (λ e q h. sets-other stale.digest p None mid new_items drops e.digest q h ∙ sets-other d.digest p (Some i) items mid sets e.digest q h)
-            (λ e q h. by_test ((same_charged same.digest) stale e)
-            (λ t.
-            let apart_e : (same_charged same.digest) e d ≡ false = sym ((charged_laws laws).congr stale e d t) ∙ (charged_laws laws).symm stale d ∙ parts.1 in
-            sets-here stale.digest p None mid new_items drops e.digest q t h ∙ sym (place-later (charged_laws laws) e (i, d) newer apart_e ∙ place-none (charged_laws laws) e newer (sym (among-equal (charged_laws laws) stale e (values_of newer) t) ∙ among-last (charged_laws laws) (values_of newer) stale split)))
-            (λ t. sets-beside stale.digest p None mid new_items drops e.digest q t ∙ by_test ((same_charged same.digest) d e)
-            (λ u. sets-here d.digest p (Some i) items mid sets e.digest q u h ∙ sym (place-first (charged_laws laws) e (i, d) newer ((charged_laws laws).symm e d ∙ u)))
-            (λ u. sets-beside d.digest p (Some i) items mid sets e.digest q u ∙ at-key e q h ∙ ap (place_of (same_charged same.digest) e) last
-            ∙ place-beside (charged_laws laws) e newer (i, stale) [] ((charged_laws laws).symm e stale ∙ t) ∙ ap (place_of (same_charged same.digest) e) (append-nil newer)
-            ∙ sym (place-later (charged_laws laws) e (i, d) newer ((charged_laws laws).symm e d ∙ u)))))
-            (IsDistinct-front (charged_laws laws) d (values_of newer) parts.0 (IsDistinct-init (charged_laws laws) (values_of newer) stale split))
-            named placed
 
     -- the oldest digest leaves
     pub IsIndexed-evicted : (stale : Charged D) (i : ℕ) (rest : List (Node (Charged D))) (new_items : List (D × Placed P (Carried M D))) → ns ≡ rest ++ (i, stale) ∷ [] → SetsPlace same.digest same.key stale.digest p None items new_items

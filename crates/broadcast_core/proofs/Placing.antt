@@ -1,5 +1,5 @@
 -- Places of digests among nodes.
-use Rattle.std.proofs.Common.{◌≡◌, ℕ, suc, ◌<◌, ◌⊎◌, inl, inr, arith, Bool, true, false, ◌||◌, cond, List, [], ◌∷◌, ◌++◌, length, Option, Some, None, refl, sym, ap, ◌∙◌, subst}
+use Rattle.std.proofs.Common.{◌≡◌, ℕ, suc, Bool, true, false, ◌||◌, cond, List, [], ◌∷◌, ◌++◌, length, Option, Some, None, refl, sym, ap, ◌∙◌, subst}
 use Rattle.std.specs.Prelude.{is_some, unwrap_or}
 use Rattle.std.specs.Option.{option_map}
 use Rattle.std.specs.List.{IsDistinct}
@@ -130,9 +130,3 @@ module _ {D : Type 0} {same : D → D → Bool} (laws : IsEquivalence same) wher
       (λ h.
       let other : same e f.digest ≡ false = laws.symm e f.digest ∙ sym (laws.congr d f.digest e f.equal) ∙ laws.symm d e ∙ h in
       place-later e (i, d) (f.front ++ f.back) h ∙ sym (place-beside e f.front (i, f.digest) f.back other) ∙ sym (ap (place_of same e) f.is))
-
--- a list of places that is not full has a list of digests that is not
-pub not_full-digests : {P D : Type 0} (key : P → P → Bool) (q : P) (n : ℕ) (lists : List (P × List (Node D)))
-    → (length (items_at key q lists) < n) ⊎ (items_at key q lists ≡ []) → (length (items_at key q (digest_lists lists)) < n) ⊎ (items_at key q (digest_lists lists) ≡ [])
-not_full-digests key q n lists (inl h) = inl (omega (arith, h, length-digests key q lists))
-not_full-digests key q n lists (inr h) = inr (items_at-digests key q lists ∙ ap values_of h)

@@ -1,12 +1,12 @@
 -- How the lists of places and the table of messages agree.
-use Rattle.std.specs.Prelude.{◌≡◌, ℕ, Bool, true, if◌then◌else◌, List, [], ◌∷◌, map, Option, Some, None, is_some, ◌⊎◌}
+use Rattle.std.specs.Prelude.{◌≡◌, ℕ, Bool, true, if◌then◌else◌, List, [], ◌∷◌, map, Option, Some, None, is_some, ◌⊎◌, MatchOption}
 use Rattle.std.specs.List.{IsDistinct}
 use Rattle.std.specs.Map.{lookup}
 use Rattle.entries.specs.declared.entry.Charged.{Charged}
 use Rattle.entries.specs.Linked.{Node}
 use Rattle.entries.specs.Placed.{Placed}
-use Rattle.entries.specs.Store.{values_of, items_at}
-use Rattle.entries.specs.Table.{messages_of, place_at, IsPlaced, SetsPlace}
+use Rattle.entries.specs.Store.{values_of, items_at, Extends}
+use Rattle.entries.specs.Table.{messages_of, place_at, IsPlaced, SetsPlace, Leaves}
 use Rattle.broadcast_core.specs.Carried.{Carried}
 use Rattle.std.specs.BTreeMap.{insert_entry}
 use Rattle.std.specs.declared.cmp.Ordering.{Ordering}
@@ -58,3 +58,11 @@ module _ {P M D : Type 0} (same : Same P D) where
         then messages_of old else insert_entry cmp (messages_of old) x.digest x)
     pub cached : is_some (lookup (same.digest x.digest) (messages_of new)) ≡ true
     pub origin : Origin x (messages_of old) (messages_of new)
+
+  -- the node goes in front of the key's list, and what leaves that list leaves the table
+  pub record Pushes (p : P) (n : Node (Charged D)) (size : ℕ) (old new : List (P × List (Node (Charged D))))
+      (old_items new_items : List (D × Placed P (Carried M D))) : Type 0 where
+    pub stale : Option (Charged D)
+    pub extends : Extends same.key p n size stale old new
+    pub leaves : MatchOption stale (new_items ≡ old_items)
+        (λ c. Leaves same.digest same.key c.digest p old_items new_items)

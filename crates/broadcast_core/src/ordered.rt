@@ -1,11 +1,12 @@
 //! Keys of peers, sets of keys, and recipients.
-ghost use Rattle.std.specs.Prelude.{◌≡◌, ◌==◌, true, List, [], length, is_some, IfSome, IfOk, OnOk, IsSomeAnd};
-ghost use Rattle.std.specs.Cmp.Lexicographic.{pointwise, lists_per, lists_equiv};
+ghost use Rattle.std.specs.Prelude.{◌≡◌, ◌==◌, true, refl, Some, List, [], length, is_some, IfSome, IfOk, OnOk, IsSomeAnd};
+ghost use Rattle.std.specs.Cmp.Lexicographic.{pointwise, lists_per, lists_equiv, slice_cmp, nat_list_cmp_total, texts_po, texts_ties};
+ghost use Rattle.std.specs.Cmp.{on_po, on_total};
 ghost use Rattle.std.specs.Cmp.Rules.{comparing};
 ghost use Rattle.std.specs.List.{AllZip, find, list_any, slice_get};
 ghost use Rattle.std.specs.List.Sorted.{IsStrictlySortedBy};
 ghost use Rattle.std.specs.Option.{option_copied};
-ghost use Rattle.std.specs.Ordering.{eq_by_cmp};
+ghost use Rattle.std.specs.Ordering.{eq_by_cmp, nat_cmp};
 ghost use Rattle.std.proofs.Common.{rules};
 ghost use Rattle.broadcast_core.specs.Stored.{AreBelow};
 
@@ -29,10 +30,41 @@ impl PublicKey for u64 {
 
 /// A key of 32 bytes, compared byte by byte. It is laid out as these bytes.
 #[repr(C)]
-#[derive(Clone, Copy, PartialEq, Eq, PartialOrd, Ord, Hash)]
+#[derive(Clone, Copy, PartialEq, Eq, Hash)]
 pub struct Key {
     /// The bytes of the key.
     pub bytes: [u8; 32],
+}
+
+impl PartialOrd for Key {
+    ghost partial_cmp = { λ x y. Some (slice_cmp nat_cmp x.bytes y.bytes) };
+
+    ghost laws = { on_po (λ key. key.bytes) texts_po };
+
+    fn partial_cmp(&self, other: &Self) -> Option<Ordering> {
+        Some(self.cmp(other))
+    }
+}
+
+impl Ord for Key {
+    ghost cmp = { λ x y. slice_cmp nat_cmp x.bytes y.bytes };
+
+    ghost total = { on_total (λ key. key.bytes) nat_list_cmp_total };
+
+    ghost matches_partial_cmp = { λ x y. refl };
+
+    ghost matches_eq = { λ x y. texts_ties x.bytes y.bytes };
+
+    /// Most keys differ in their first byte, which is compared without a call.
+    #[inline]
+    fn cmp(&self, other: &Self) -> Ordering {
+        let first = self.bytes[0].cmp(&other.bytes[0]);
+        if first.is_eq() {
+            self.bytes.cmp(&other.bytes)
+        } else {
+            first
+        }
+    }
 }
 
 impl PublicKey for Key {

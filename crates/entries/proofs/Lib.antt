@@ -1,8 +1,8 @@
 pub mod Chains
+pub mod Extending
 pub mod Freeing
 pub mod Items
 pub mod Linking
-pub mod Oldest
 pub mod Relinking
 pub mod Runs
 pub mod Stores

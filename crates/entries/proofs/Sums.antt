@@ -40,7 +40,7 @@ module _ {K D : Type 0} where
   Pops-bytes n h k old next digest p mine ns was = let r = p mine ns was in (r.0, r.1, r.2, r.3, IsChain-bytes n mine k next r.1 r.4, r.5)
 
 module _ {D : Type 0} where
-  bytes_of-cons : (n : Node (Charged D)) (ns : List (Node (Charged D))) → bytes_of (n ∷ ns) ≡ n.1.charge + bytes_of ns
+  pub bytes_of-cons : (n : Node (Charged D)) (ns : List (Node (Charged D))) → bytes_of (n ∷ ns) ≡ n.1.charge + bytes_of ns
   bytes_of-cons n ns = sum_by-cons (λ (c : Charged D). c.charge) n.1 (values_of ns)
 
   pub bytes_of-append : (xs ys : List (Node (Charged D))) → bytes_of (xs ++ ys) ≡ bytes_of xs + bytes_of ys

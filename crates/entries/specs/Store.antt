@@ -1,11 +1,11 @@
 -- The lists of all keys in one heap of places.
-use Rattle.std.specs.Prelude.{◌≡◌, ◌==◌, ℕ, Bool, true, false, not, ◌||◌, if◌then◌else◌, List, [], ◌∷◌, ◌++◌, map, Option, Some, is_some, unwrap_or}
+use Rattle.std.specs.Prelude.{◌≡◌, ◌==◌, ◌≤◌, ◌<◌, ◌-◌, ℕ, Bool, true, false, not, ◌||◌, if◌then◌else◌, List, [], ◌∷◌, ◌++◌, length, map, Option, Some, None, is_some, unwrap_or, MatchOption}
 use Rattle.std.specs.List.{filter, list_any, sum_by}
 use Rattle.std.specs.Map.{lookup}
 use Rattle.entries.specs.declared.entry.Charged.{Charged}
 use Rattle.entries.specs.declared.entry.Entry.{Entry}
 use Rattle.entries.specs.declared.entry.Chain.{Chain}
-use Rattle.entries.specs.Linked.{Node, walk, IsChain}
+use Rattle.entries.specs.Linked.{Node, walk, IsChain, Pops}
 
 -- the list that a map has at the key, or none
 abbrev pub items_at : {K X : Type 0} → (K → K → Bool) → K → List (K × List X) → List X
@@ -39,11 +39,6 @@ module _ {D : Type 0} where
   abbrev pub moved : ℕ → D → List (Node D) → List (Node D)
   moved place digest ns = if has_place place ns then (place, digest) ∷ elsewhere place ns else ns
 
-  -- the node is the oldest
-  pub record IsOldest (n : Node D) (ns : List (Node D)) : Type 0 where
-    pub newer : List (Node D)
-    pub last : ns ≡ newer ++ n ∷ []
-
 module _ {D : Type 0} where
   -- the digests of charged nodes
   abbrev pub digests_of : List (Node (Charged D)) → List D
@@ -74,6 +69,13 @@ module _ {K D : Type 0} where
     pub last : items_at same p old ≡ rest ++ (place, stale) ∷ []
     pub put : Puts same p rest old new
 
+  -- the node goes in front of the key's list, and the oldest leaves if there are then more than that
+  pub record Extends (same : K → K → Bool) (p : K) (n : Node D) (size : ℕ) (stale : Option D) (old new : List (K × List (Node D))) : Type 0 where
+    pub between : List (K × List (Node D))
+    pub put : Puts same p (n ∷ items_at same p old) old between
+    pub cut : MatchOption stale ((length (items_at same p between) ≤ size) × (new ≡ between))
+        (λ d. (size < length (items_at same p between)) × Evicts same p d between new)
+
   -- the key has no list any more, and the others stay
   pub record Removes (same : K → K → Bool) (p : K) (old new : List (K × List (Node D))) : Type 0 where
     pub lists : (q : K) → items_at same q new ≡ (if same p q then [] else items_at same q old)
@@ -98,3 +100,8 @@ module _ {K D : Type 0} where
   -- each chain has the sum of its charges
   pub record IsSummed (same : K → K → Bool) (h : ℕ → Option (Entry K (Charged D))) (es : List (K × Chain)) : Type 0 where
     pub sums : (p : K) (c : Chain) → lookup (same p) es ≡ Some c → c.bytes ≡ bytes_of (nodes h c)
+
+  -- the oldest digest leaves a chain that has more than that, with its charge
+  abbrev pub Trims : ℕ → (ℕ → Option (Entry K (Charged D))) → (ℕ → Option (Entry K (Charged D))) → Chain → Chain → Option (Charged D) → Type 0
+  Trims size old new chain next None = (chain.len ≤ size) × (new ≡ old) × (next ≡ chain)
+  Trims size old new chain next (Some stale) = (size < chain.len) × Pops old new chain next (Some stale) × (next.bytes ≡ chain.bytes - stale.charge)

@@ -5,7 +5,7 @@ ghost use Rattle.std.specs.Option.{option_copied};
 ghost use Rattle.slab.specs.Slab.{get, HasRoomFor};
 ghost use Rattle.entries.specs.Linked.{IsOn, Admits, Promotes, Pushes, Pops, Frees, IsOwned};
 ghost use Rattle.entries.specs.Linked.{HasNodes, SameValues, entry_at};
-ghost use Rattle.entries.specs.Store.{nodes, digests_of, overlaid};
+ghost use Rattle.entries.specs.Store.{nodes, bytes_of, digests_of, overlaid, Trims};
 
 use crate::entry::{Chain, Charged, Entry};
 use crate::links::{link_front, unlink};
@@ -74,6 +74,25 @@ pub fn pop_oldest<K: Drop, D>(places: &mut Slab<Entry<K, D>>, chain: &mut Chain)
             Some(digest)
         }
     }
+}
+
+/// Takes the oldest digest out of a chain that has more than `size`, with its charge. Does not
+/// allocate.
+pub fn trim<K: Drop, D: Copy>(
+    places: &mut Slab<Entry<K, Charged<D>>>,
+    chain: &mut Chain,
+    size: usize,
+) -> Option<Charged<D>>
+    requires nodes { HasNodes (get places.old) chain.old }
+    requires sum { chain.old.bytes ≡ bytes_of (nodes (get places.old) chain.old) }
+    ensures { Trims size (get places.old) (get places.new) chain.old chain.new result }
+{
+    if chain.len <= size {
+        return None;
+    }
+    let stale = pop_oldest(places, chain)?;
+    chain.bytes -= u128::from(stale.charge);
+    Some(stale)
 }
 
 /// Frees all places of a chain. Does not allocate.

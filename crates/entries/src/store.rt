@@ -7,7 +7,7 @@ ghost use Rattle.std.specs.List.{IsDistinct};
 ghost use Rattle.std.specs.Map.{lookup, keys_of};
 ghost use Rattle.slab.specs.Slab.{get, SameValues};
 ghost use Rattle.entries.specs.Linked.{IsApart, HasNodes};
-ghost use Rattle.entries.specs.Store.{IsStore, IsPlaceOf, IsNoPlaceOf, IsOldest, Puts, Evicts};
+ghost use Rattle.entries.specs.Store.{IsStore, IsPlaceOf, IsNoPlaceOf, Puts, Evicts, Extends};
 ghost use Rattle.entries.specs.Store.{Removes, nodes, lists_of, items_at, moved, digests_of, bytes_of, overlaid};
 ghost use Rattle.entries.specs.Store.{IsSummed};
 
@@ -67,19 +67,6 @@ impl<K: Ord + Drop, D: Copy> Entries<K, D> {
         self.places.vacant_key()
     }
 
-    /// Returns the place and the digest of the oldest entry of `peer` if its list has `size`
-    /// entries.
-    pub fn oldest_beyond(&self, peer: &K, size: usize) -> Option<(usize, Charged<D>)>
-        ensures { let ns = items_at (eq_by_cmp K.cmp) peer.now self.now.lists in
-            MatchOption result ((length ns < size) ⊎ (ns ≡ [])) (λ n. (size ≤ length ns)
-            × IsOldest n ns) }
-    {
-        match self.chains.get(peer) {
-            Some(chain) => oldest_of(&self.places, chain, size),
-            None => None,
-        }
-    }
-
     /// Returns the sum of the charges on the list of `peer`.
     pub fn bytes(&self, peer: &K) -> u128
         ensures { result ≡ bytes_of (items_at (eq_by_cmp K.cmp) peer.now self.now.lists) }
@@ -109,26 +96,38 @@ impl<K: Ord + Drop, D: Copy> Entries<K, D> {
         }
     }
 
-    /// Puts a digest in front of the list of `peer`, at the place of the next insert. Returns the
-    /// sum of the charges on the list.
+    /// Puts a digest in front of the list of `peer`, at the place of the next insert, and removes
+    /// the oldest digest if there are then more than `size`. Returns the sum of the charges on the
+    /// list, and what was removed.
     ///
     /// On an allocation failure nothing changes.
-    pub fn insert(&mut self, peer: &K, digest: Charged<D>) -> Result<u128, AllocError>
+    pub fn push(
+        &mut self,
+        peer: &K,
+        digest: Charged<D>,
+        size: usize,
+    ) -> Result<(u128, Option<Charged<D>>), AllocError>
     where
         K: Clone,
         requires copies { (key copy : K) → K.is_clone key copy → eq_by_cmp K.cmp key copy ≡ true }
         requires room { bytes_of (items_at (eq_by_cmp K.cmp) peer.now self.old.lists)
             + digest.charge < 2 ^ 128 }
-        ensures bytes { IfOk result (λ bytes. bytes
+        requires some { 0 < size }
+        ensures bytes { IfOk result (λ pushed. pushed.0
             ≡ bytes_of (items_at (eq_by_cmp K.cmp) peer.now self.new.lists)) }
-        ensures ok { let same = eq_by_cmp K.cmp in
-            OnOk result (Puts same peer.now
-            ((self.old.vacant, digest) ∷ items_at same peer.now self.old.lists) self.old.lists
-            self.new.lists) }
+        ensures ok { IfOk result (λ pushed. Extends (eq_by_cmp K.cmp) peer.now
+            (self.old.vacant, digest) size pushed.1 self.old.lists self.new.lists) }
         ensures err { OnErr result (self.new ≡ self.old) }
     {
         let owner = peer.clone()?;
-        add(&mut self.places, &mut self.chains, peer, owner, digest)
+        add(
+            &mut self.places,
+            &mut self.chains,
+            peer,
+            owner,
+            digest,
+            size,
+        )
     }
 
     /// Removes the oldest digest of `peer`, and returns it. Does not allocate.
@@ -206,29 +205,6 @@ fn is_place_of<K: Ord, D>(places: &Slab<Entry<K, D>>, peer: &K, place: usize) ->
     }
 }
 
-/// Returns the oldest node of a chain that has `size` nodes.
-fn oldest_of<K, D: Copy>(
-    places: &Slab<Entry<K, D>>,
-    chain: &Chain,
-    size: usize,
-) -> Option<(usize, D)>
-    requires { HasNodes (get places.now) chain.now }
-    ensures { let ns = nodes (get places.now) chain.now in
-        MatchOption result ((length ns < size) ⊎ (ns ≡ [])) (λ n. (size ≤ length ns)
-        × IsOldest n ns) }
-{
-    if chain.len < size {
-        return None;
-    }
-    match chain.oldest {
-        Some(place) => match places.get(place) {
-            Some(entry) => Some((place, entry.digest)),
-            None => None,
-        },
-        None => None,
-    }
-}
-
 /// Moves a place of a key to the front of its list, with another digest and charge. Returns the sum
 /// of the charges on the list.
 fn renew<K: Ord, D: Copy>(
@@ -281,40 +257,35 @@ fn evict<K: Ord + Drop, D: Copy>(
         (λ stale. Evicts (eq_by_cmp K.cmp) peer.now stale old new) }
 {
     match chains.get_mut(peer) {
-        Some(chain) => match chain::pop_oldest(places, chain) {
-            Some(stale) => {
-                chain.bytes -= u128::from(stale.charge);
-                Some(stale)
-            }
-            None => None,
-        },
+        Some(chain) => chain::trim(places, chain, 0),
         None => None,
     }
 }
 
-/// Puts a digest in front of a key's list, and returns the sum of the charges on it.
+/// Puts a digest in front of a key's list, and takes out the oldest if there are then more than
+/// `size`. Returns the sum of the charges on the list, and what was taken out.
 fn add<K: Ord + Clone + Drop, D: Copy>(
     places: &mut Slab<Entry<K, Charged<D>>>,
     chains: &mut BTreeMap<K, Chain>,
     peer: &K,
     owner: K,
     digest: Charged<D>,
-) -> Result<u128, AllocError>
+    size: usize,
+) -> Result<(u128, Option<Charged<D>>), AllocError>
     requires store { IsStore (eq_by_cmp K.cmp) (get places.old) chains.old.entries }
     requires summed { IsSummed (eq_by_cmp K.cmp) (get places.old) chains.old.entries }
     requires room { bytes_of (items_at (eq_by_cmp K.cmp) peer.now (lists_of (get places.old)
         chains.old.entries)) + digest.charge < 2 ^ 128 }
     requires copies { (key copy : K) → K.is_clone key copy → eq_by_cmp K.cmp key copy ≡ true }
     requires owned { eq_by_cmp K.cmp peer.now owner ≡ true }
+    requires some { 0 < size }
     ensures store { IsStore (eq_by_cmp K.cmp) (get places.new) chains.new.entries }
     ensures summed { IsSummed (eq_by_cmp K.cmp) (get places.new) chains.new.entries }
-    ensures bytes { IfOk result (λ bytes. bytes ≡ bytes_of (items_at (eq_by_cmp K.cmp) peer.now
+    ensures bytes { IfOk result (λ pushed. pushed.0 ≡ bytes_of (items_at (eq_by_cmp K.cmp) peer.now
         (lists_of (get places.new) chains.new.entries))) }
-    ensures ok { let same = eq_by_cmp K.cmp in
-        let old = lists_of (get places.old) chains.old.entries in
-        OnOk result (Puts same peer.now
-        ((places.old.vacant_key, digest) ∷ items_at same peer.now old)
-        old (lists_of (get places.new) chains.new.entries)) }
+    ensures ok { IfOk result (λ pushed. Extends (eq_by_cmp K.cmp) peer.now
+        (places.old.vacant_key, digest) size pushed.1 (lists_of (get places.old) chains.old.entries)
+        (lists_of (get places.new) chains.new.entries)) }
     ensures err { OnErr result ((lists_of (get places.new) chains.new.entries ≡ lists_of
         (get places.old) chains.old.entries)
         × (places.new.vacant_key ≡ places.old.vacant_key)) }
@@ -323,9 +294,13 @@ fn add<K: Ord + Clone + Drop, D: Copy>(
         Some(chain) => {
             chain::push_front(places, chain, owner, digest)?;
             chain.bytes += u128::from(digest.charge);
-            Ok(chain.bytes)
+            let stale = chain::trim(places, chain, size);
+            Ok((chain.bytes, stale))
         }
-        None => add_first(places, chains, peer, owner, digest),
+        None => {
+            let bytes = add_first(places, chains, peer, owner, digest)?;
+            Ok((bytes, None))
+        }
     }
 }
 

@@ -1,16 +1,16 @@
 //! The lists of the peers, and each listed message once.
-ghost use Rattle.std.specs.Prelude.{◌≡◌, ◌≤◌, ◌<◌, ◌+◌, ◌^◌, ◌⊎◌, ◌∷◌, ℕ, false, true, not, length, take, [], None, IsSome};
+ghost use Rattle.std.specs.Prelude.{◌≡◌, ◌≤◌, ◌<◌, ◌+◌, ◌^◌, ◌∷◌, false, true, not, length, take, [], None, IsSome};
 ghost use Rattle.std.specs.Prelude.{IfOk, IfSome, OnOk, OnErr, IsOk};
 ghost use Rattle.std.specs.Option.{option_copied};
 ghost use Rattle.std.specs.List.{IsDistinct};
 ghost use Rattle.std.specs.Map.{lookup, keys_of};
 ghost use Rattle.std.specs.Ordering.{eq_by_cmp};
-ghost use Rattle.entries.specs.Store.{overlaid};
-ghost use Rattle.entries.specs.Table.{place_at, IsPlaced, IsSame};
+ghost use Rattle.entries.specs.Store.{overlaid, items_at as nodes_at, bytes_of as sum_of};
+ghost use Rattle.entries.specs.Table.{place_at, IsPlaced, IsSame, Leaves};
 ghost use Rattle.broadcast_core.specs.Content.{same_by, same_charged, without, at_charge, digests_of, bytes_of};
 ghost use Rattle.broadcast_core.specs.Content.{among, within, fronted, items_at};
 ghost use Rattle.broadcast_core.specs.Stored.{has_digest};
-ghost use Rattle.broadcast_core.specs.Indexed.{Holds};
+ghost use Rattle.broadcast_core.specs.Indexed.{Holds, Pushes};
 
 use crate::digested::{Digested, Digestible};
 use crate::ordered::{PublicKey, Set};
@@ -135,10 +135,7 @@ impl<P: PublicKey, M: Digestible> Cache<P, M> {
             let _lists = self.lists.len();
             return Ok((true, 0));
         }
-        match self.replace(peer, message, charge, deque_size)? {
-            Some(put) => Ok(put),
-            None => self.insert(peer, message, charge),
-        }
+        self.insert(peer, message, charge, deque_size)
     }
 
     /// Drops the oldest digests of `peer` until their charges sum to at most `byte_budget`.
@@ -153,64 +150,17 @@ impl<P: PublicKey, M: Digestible> Cache<P, M> {
         let _new = self.lists.len();
     }
 
-    /// Puts the digest in front of the list of `peer`, if that is full, a new digest in the place
-    /// of the oldest one. Returns whether it is new there, and the sum of the charges, or `None` if
-    /// the list is not full.
-    fn replace(
-        &mut self,
-        peer: &P,
-        message: &Digested<M>,
-        charge: u64,
-        deque_size: usize,
-    ) -> Result<Option<(bool, u128)>, AllocError>
-        requires size { length (items_at (eq_by_cmp P.cmp) peer.now self.old.lists) ≤ deque_size }
-        requires room { bytes_of (items_at (eq_by_cmp P.cmp) peer.now self.old.lists) < 2 ^ 64 }
-        ensures not_full { let cs = items_at (eq_by_cmp P.cmp) peer.now self.old.lists in
-            IfOk result (λ new. new ≡ None
-            → (self.new ≡ self.old) × ((length cs < deque_size) ⊎ (cs ≡ []))) }
-        ensures new { let same = same_by P.cmp M.Digest.cmp in
-            let cs = items_at same.key peer.now self.old.lists in
-            IfOk result (λ new. IfSome new (λ new. new.0
-            ≡ not (has_digest same.digest message.now.digest cs))) }
-        ensures bytes { IfOk result (λ new. IfSome new (λ new. new.1
-            ≡ bytes_of (items_at (eq_by_cmp P.cmp) peer.now self.new.lists))) }
-        ensures ok { let same = same_by P.cmp M.Digest.cmp in
-            let cs = items_at same.key peer.now self.old.lists in
-            let c = at_charge message.now.digest charge in
-            IfOk result (λ new. IsSome new → Stores same peer.now message.now
-            (take deque_size (c ∷ without (same_charged same.digest) c cs)) self.old self.new) }
-        ensures err { OnErr result (self.new ≡ self.old) }
-        ensures succeeds_on_duplicate { among (eq_by_cmp M.Digest.cmp) message.now.digest
-            (digests_of (items_at (eq_by_cmp P.cmp) peer.now self.old.lists)) ≡ true → IsOk result }
-    {
-        let Some(oldest) = self.lists.oldest_beyond(peer, deque_size) else {
-            return Ok(None);
-        };
-        let (oldest, stale) = (oldest.0, oldest.1.digest);
-        let _old = self.lists.len();
-        let found = hold(&mut self.table, peer, message, oldest)?;
-        if found.is_none() {
-            self.table.remove(stale, peer);
-        }
-        let place = found.unwrap_or(oldest);
-        let charged = Charged {
-            digest: message.digest(),
-            charge,
-        };
-        let bytes = self.lists.promote(peer, place, charged);
-        // No two lists have one key: so says `len`.
-        let _new = self.lists.len();
-        Ok(Some((found.is_none(), bytes)))
-    }
-
-    /// Puts the digest in front of the list of `peer`, which may get longer. Returns whether it is
-    /// new there, and the sum of the charges.
+    /// Puts the digest in front of the list of `peer`, which keeps at least one. Returns whether it
+    /// is new there, and the sum of the charges.
     fn insert(
         &mut self,
         peer: &P,
         message: &Digested<M>,
         charge: u64,
+        size: usize,
     ) -> Result<(bool, u128), AllocError>
+        requires size { length (items_at (eq_by_cmp P.cmp) peer.now self.old.lists) ≤ size }
+        requires some { 0 < size }
         requires room { bytes_of (items_at (eq_by_cmp P.cmp) peer.now self.old.lists) < 2 ^ 64 }
         ensures new { let same = same_by P.cmp M.Digest.cmp in
             let cs = items_at same.key peer.now self.old.lists in
@@ -220,7 +170,7 @@ impl<P: PublicKey, M: Digestible> Cache<P, M> {
         ensures ok { let same = same_by P.cmp M.Digest.cmp in
             let cs = items_at same.key peer.now self.old.lists in
             let c = at_charge message.now.digest charge in
-            OnOk result ((size : ℕ) → length cs < size → Stores same peer.now message.now
+            OnOk result (Stores same peer.now message.now
             (take size (c ∷ without (same_charged same.digest) c cs)) self.old self.new) }
         ensures err { OnErr result (self.new ≡ self.old) }
         ensures succeeds_on_duplicate { among (eq_by_cmp M.Digest.cmp) message.now.digest
@@ -234,13 +184,7 @@ impl<P: PublicKey, M: Digestible> Cache<P, M> {
         };
         let bytes = match found {
             Some(place) => self.lists.promote(peer, place, charged),
-            None => match self.lists.insert(peer, charged) {
-                Ok(bytes) => bytes,
-                Err(refused) => {
-                    self.table.remove(message.digest(), peer);
-                    return Err(refused);
-                }
-            },
+            None => push(&mut self.lists, &mut self.table, peer, charged, size)?,
         };
         // No two lists have one key: so says `len`.
         let _new = self.lists.len();
@@ -325,4 +269,42 @@ fn hold<P: PublicKey, M: Digestible>(
     ensures placed { IsPlaced (eq_by_cmp M.Digest.cmp) (eq_by_cmp P.cmp) table.new }
 {
     table.insert(message.digest(), message, peer, place)
+}
+
+/// Puts a digest that is in the table in front of the list of `peer`, and takes the oldest out of
+/// both if the list has then more than `size`. Returns the sum of the charges on the list.
+///
+/// On an allocation failure the digest leaves the table, and the lists stay.
+fn push<P: PublicKey, M: Digestible>(
+    lists: &mut Entries<P, M::Digest>,
+    table: &mut Table<P, M::Digest, Digested<M>>,
+    peer: &P,
+    charged: Charged<M::Digest>,
+    size: usize,
+) -> Result<u128, AllocError>
+    requires some { 0 < size }
+    requires room { sum_of (nodes_at (eq_by_cmp P.cmp) peer.now lists.old.lists) + charged.charge
+        < 2 ^ 128 }
+    ensures bytes { IfOk result (λ bytes. bytes
+        ≡ sum_of (nodes_at (eq_by_cmp P.cmp) peer.now lists.new.lists)) }
+    ensures ok { OnOk result (Pushes (same_by P.cmp M.Digest.cmp) peer.now
+        (lists.old.vacant, charged) size lists.old.lists lists.new.lists table.old table.new) }
+    ensures stays { OnErr result (lists.new ≡ lists.old) }
+    ensures err { OnErr result (Leaves (eq_by_cmp M.Digest.cmp) (eq_by_cmp P.cmp) charged.digest
+        peer.now table.old table.new) }
+    ensures placed { IsPlaced (eq_by_cmp M.Digest.cmp) (eq_by_cmp P.cmp) table.old
+        → IsPlaced (eq_by_cmp M.Digest.cmp) (eq_by_cmp P.cmp) table.new }
+{
+    match lists.push(peer, charged, size) {
+        Ok((bytes, stale)) => {
+            if let Some(stale) = stale {
+                table.remove(stale.digest, peer);
+            }
+            Ok(bytes)
+        }
+        Err(refused) => {
+            table.remove(charged.digest, peer);
+            Err(refused)
+        }
+    }
 }

@@ -1,20 +1,17 @@
-use Rattle.std.proofs.Common.{◌≡◌, suc, ◌<◌, ◌∷◌, true, length, sym, ap, subst, not, ◌∙◌, arith}
-use Rattle.std.specs.Prelude.{is_some}
+use Rattle.std.proofs.Common.{Result, Ok, Err, OnErr, ◌≡◌, ◌≤◌, ◌<◌, true, length, sym, ap, subst, not, ◌∙◌, arith}
+use Rattle.std.specs.Prelude.{is_some, ◌^◌}
 use Rattle.std.specs.Cmp.{eq_by_cmp_equiv}
-use Rattle.entries.specs.Store.{items_at as nodes_at, Puts}
-use Rattle.broadcast_core.specs.Content.{same_by, at_charge, items_at, bytes_of}
-use Rattle.broadcast_core.specs.Indexed.{digest_lists}
 use Rattle.std.specs.Ordering.{eq_by_cmp}
-use Rattle.std.specs.Prelude.{◌^◌}
-use Rattle.broadcast_core.proofs.Placing.{items_at-digests}
+use Rattle.broadcast_core.specs.Content.{same_by, at_charge, items_at, bytes_of}
+use Rattle.broadcast_core.specs.Indexed.{digest_lists, stored_of, Pushes}
 use Rattle.broadcast_core.proofs.Distinct.{flip-not}
-use Rattle.broadcast_core.proofs.Placing.{distinct-digests, length-digests}
-use Rattle.broadcast_core.proofs.Filling.{Stores-added, Stores-moved, messages-undone, places-undone}
+use Rattle.broadcast_core.proofs.Placing.{items_at-digests, distinct-digests, length-digests}
+use Rattle.broadcast_core.proofs.Filling.{Stores-pushed, Stores-moved, messages-undone, places-undone}
 use Rattle.broadcast_core.proofs.Taking.{among-names}
 use Rattle.broadcast_core.proofs.Holding.{among-indexed, no_duplicate}
 use Rattle.broadcast_core.proofs.Indexing.{IsIndexed-same}
 use Rattle.broadcast_core.proofs.buffer.cache.Cache.insert.Goals as goal
-use Rattle.broadcast_core.proofs.buffer.cache.Cache.insert.Goals.{in-Some, in-None+in-Ok}
+use Rattle.broadcast_core.proofs.buffer.cache.Cache.insert.Goals.{in-Some, in-None+in_ok-bytes-in-None}
 
 pub returns-in_err-found-clause-succeeds_on_duplicate : goal.returns-in_err-found-clause-succeeds_on_duplicate
 returns-in_err-found-clause-succeeds_on_duplicate g c =
@@ -24,32 +21,49 @@ returns-in_err-found-clause-succeeds_on_duplicate g c =
     let has = among-indexed same key_laws laws c.self.inside.lists.lists c.self.inside.table c.self.invariant c.args.message.now.digest c.args.peer.now in
     rw (← c.self.view_is) (no_duplicate _ _ (among-names same.digest c.args.message.now.digest _ ∙ has) c.in_err-found.ensures.fails_for_new_places)
 
-pub invariant_of-self-in-Err : goal.invariant_of-self-in-Err
-invariant_of-self-in-Err g c =
+pub promote-bytes-requires : goal.promote-bytes-requires
+promote-bytes-requires g c =
+    let room = subst (λ s. bytes_of (items_at (eq_by_cmp g.P.Ord.cmp) c.args.peer.now s.lists) < 2 ^ 64) (sym c.self.view_is) c.requires.room in
+    let is = ap bytes_of (items_at-digests (eq_by_cmp g.P.Ord.cmp) c.args.peer.now c.self.inside.lists.lists) in
+    omega (arith, room, is, c.ranges.charge.fits)
+
+pub push-requires-clause-room : goal.push-requires-clause-room
+push-requires-clause-room g c =
+    let room = subst (λ s. bytes_of (items_at (eq_by_cmp g.P.Ord.cmp) c.args.peer.now s.lists) < 2 ^ 64) (sym c.self.view_is) c.requires.room in
+    let is = ap bytes_of (items_at-digests (eq_by_cmp g.P.Ord.cmp) c.args.peer.now c.self.inside.lists.lists) in
+    omega (arith, room, is, c.ranges.charge.fits)
+
+pub invariant_of-self-in_err-bytes-in-None : goal.invariant_of-self-in_err-bytes-in-None
+invariant_of-self-in_err-bytes-in-None g c =
     let same = same_by g.P.Ord.cmp g.M.Digest.Ord.cmp in
     let key_laws = eq_by_cmp_equiv g.met.P.Ord.total in
     let laws = eq_by_cmp_equiv (g.met.M.Digest.Ord g.world.𝓛 g.world.𝓜 g.world.𝓡 (λ s x. x, λ x. x, λ x. x, λ x. x)).total in
     let order = (g.met.M.Digest.Ord g.world.𝓛 g.world.𝓜 g.world.𝓡 (λ s x. x, λ x. x, λ x. x, λ x. x)).total in
     let none = sym c.in_ok-found.ensures.found ∙ c.in-None.is in
-    let left = rw c.digest-in-Err.ensures at c.remove.ensures.left in
-    rw (c.in-Err.ensures.err) (IsIndexed-same same key_laws laws c.self.inside.lists.lists c.self.inside.table c.remove.new.self c.self.invariant
-    (messages-undone key_laws order c.args.peer.now c.args.message.now c.vacant.result c.self.inside.table c.hold.new.table c.remove.new.self none (c.in_ok-found.ensures.held c.in-None.is) left c.self.invariant.placed c.remove.ensures.placed)
-    (places-undone key_laws order c.args.peer.now c.args.message.now c.vacant.result c.self.inside.table c.hold.new.table c.remove.new.self none (c.in_ok-found.ensures.held c.in-None.is) left)
-    c.remove.ensures.placed)
+    let left = rw c.digest.ensures at c.in_err-bytes-in-None.ensures.err in
+    rw c.in_err-bytes-in-None.ensures.stays (IsIndexed-same same key_laws laws c.self.inside.lists.lists c.self.inside.table c.push.new.table c.self.invariant
+    (messages-undone key_laws order c.args.peer.now c.args.message.now c.vacant.result c.self.inside.table c.hold.new.table c.push.new.table none (c.in_ok-found.ensures.held c.in-None.is) left c.self.invariant.placed (c.push.ensures.placed c.in_ok-found.ensures.placed))
+    (places-undone key_laws order c.args.peer.now c.args.message.now c.vacant.result c.self.inside.table c.hold.new.table c.push.new.table none (c.in_ok-found.ensures.held c.in-None.is) left)
+    (c.push.ensures.placed c.in_ok-found.ensures.placed))
 
-pub returns-in-Err-clause-err : goal.returns-in-Err-clause-err
-returns-in-Err-clause-err g c =
+on_err : {A E Q : Type 0} (r : Result A E) → Q → OnErr r Q
+on_err (Ok a) q = tt
+on_err (Err e) q = q
+
+pub returns-in_err-bytes-in-None-clause-err : goal.returns-in_err-bytes-in-None-clause-err
+returns-in_err-bytes-in-None-clause-err g c =
     let same = same_by g.P.Ord.cmp g.M.Digest.Ord.cmp in
     let key_laws = eq_by_cmp_equiv g.met.P.Ord.total in
     let laws = eq_by_cmp_equiv (g.met.M.Digest.Ord g.world.𝓛 g.world.𝓜 g.world.𝓡 (λ s x. x, λ x. x, λ x. x, λ x. x)).total in
     let order = (g.met.M.Digest.Ord g.world.𝓛 g.world.𝓜 g.world.𝓡 (λ s x. x, λ x. x, λ x. x, λ x. x)).total in
     let none = sym c.in_ok-found.ensures.found ∙ c.in-None.is in
-    let left = rw c.digest-in-Err.ensures at c.remove.ensures.left in
-    rw (c.in-Err.ensures.err, ← c.self.view_is) (ap (λ m. record { lists = digest_lists c.self.inside.lists.lists; messages = m })
-    (messages-undone key_laws order c.args.peer.now c.args.message.now c.vacant.result c.self.inside.table c.hold.new.table c.remove.new.self none (c.in_ok-found.ensures.held c.in-None.is) left c.self.invariant.placed c.remove.ensures.placed))
+    let left = rw c.digest.ensures at c.in_err-bytes-in-None.ensures.err in
+    let kept : stored_of c.push.new.lists.lists c.push.new.table ≡ c.args.self.now = rw (c.in_err-bytes-in-None.ensures.stays, ← c.self.view_is) (ap (λ m. record { lists = digest_lists c.self.inside.lists.lists; messages = m })
+    (messages-undone key_laws order c.args.peer.now c.args.message.now c.vacant.result c.self.inside.table c.hold.new.table c.push.new.table none (c.in_ok-found.ensures.held c.in-None.is) left c.self.invariant.placed (c.push.ensures.placed c.in_ok-found.ensures.placed))) in
+    on_err _ kept
 
-pub returns-in-Err-clause-succeeds_on_duplicate : goal.returns-in-Err-clause-succeeds_on_duplicate
-returns-in-Err-clause-succeeds_on_duplicate g c =
+pub returns-in_err-bytes-in-None-clause-succeeds_on_duplicate : goal.returns-in_err-bytes-in-None-clause-succeeds_on_duplicate
+returns-in_err-bytes-in-None-clause-succeeds_on_duplicate g c =
     let same = same_by g.P.Ord.cmp g.M.Digest.Ord.cmp in
     let key_laws = eq_by_cmp_equiv g.met.P.Ord.total in
     let laws = eq_by_cmp_equiv (g.met.M.Digest.Ord g.world.𝓛 g.world.𝓜 g.world.𝓡 (λ s x. x, λ x. x, λ x. x, λ x. x)).total in
@@ -61,21 +75,22 @@ invariant_of-self-2 g c =
     let same = same_by g.P.Ord.cmp g.M.Digest.Ord.cmp in
     let key_laws = eq_by_cmp_equiv g.met.P.Ord.total in
     let laws = eq_by_cmp_equiv (g.met.M.Digest.Ord g.world.𝓛 g.world.𝓜 g.world.𝓡 (λ s x. x, λ x. x, λ x. x, λ x. x)).total in
+    let fits = subst (λ s. length (items_at same.key c.args.peer.now s.lists) ≤ c.args.size) (sym c.self.view_is) c.requires.size in
     let distinct = distinct-digests same.key c.self.inside.lists.lists c.len-old.ensures.distinct in
     elim c.match-found.branch [
       | in-Some w ↦
           let some : is_some c.in_ok-found.found ≡ true = ap is_some w.in-Some.is in
           let stays = c.in_ok-found.ensures.stays some in
-          rw (w.self-inside-is, stays) (Stores-moved same key_laws laws c.args.peer.now c.args.message.now c.args.charge (length (items_at same.key c.args.peer.now (digest_lists c.self.inside.lists.lists))) c.self.inside.lists.lists w.promote-bytes.new.self.lists c.self.inside.table c.self.invariant distinct
+          rw (w.self-inside-is, stays) (Stores-moved same key_laws laws c.args.peer.now c.args.message.now c.args.charge c.args.size c.self.inside.lists.lists w.promote-bytes.new.self.lists c.self.inside.table c.self.invariant distinct
           (distinct-digests same.key w.promote-bytes.new.self.lists (rw w.self-inside-is at c.len-new.ensures.distinct)) w.in-Some.place w.promote-bytes.ensures.apart (sym c.in_ok-found.ensures.found ∙ w.in-Some.is)
-          (rw c.digest.ensures at w.promote-bytes.ensures.moved) (omega arith)).0
-      | in-None+in-Ok w ↦
+          (rw c.digest.ensures at w.promote-bytes.ensures.moved) fits).0
+      | in-None+in_ok-bytes-in-None w ↦
           let none = sym c.in_ok-found.ensures.found ∙ w.in-None.is in
-          let puts = subst (λ i. Puts same.key c.args.peer.now ((i, at_charge c.args.message.now.digest c.args.charge) ∷ nodes_at same.key c.args.peer.now c.self.inside.lists.lists) c.self.inside.lists.lists w.insert.new.self.lists)
-          (sym c.vacant.ensures) (rw c.digest.ensures at w.in-Ok.ensures.ok) in
-          rw w.self-inside-is (Stores-added same key_laws laws c.args.peer.now c.args.message.now c.args.charge (suc (length (nodes_at same.key c.args.peer.now c.self.inside.lists.lists))) c.self.inside.lists.lists w.insert.new.self.lists c.self.inside.table c.self.invariant distinct
-          (distinct-digests same.key w.insert.new.self.lists (rw w.self-inside-is at c.len-new.ensures.distinct)) none g.M.Digest.Ord.cmp c.vacant.result c.hold.new.table (c.in_ok-found.ensures.held w.in-None.is)
-          c.in_ok-found.ensures.placed puts (omega arith)).0
+          let pushes = subst (λ i. Pushes same c.args.peer.now (i, at_charge c.args.message.now.digest c.args.charge) c.args.size c.self.inside.lists.lists w.push.new.lists.lists c.hold.new.table w.push.new.table)
+          (sym c.vacant.ensures) (rw c.digest.ensures at w.in_ok-bytes-in-None.ensures.ok) in
+          rw w.self-inside-is (Stores-pushed same key_laws laws c.args.peer.now c.args.message.now c.args.charge c.args.size c.self.inside.lists.lists w.push.new.lists.lists c.self.inside.table c.self.invariant distinct
+          (distinct-digests same.key w.push.new.lists.lists (rw w.self-inside-is at c.len-new.ensures.distinct)) none g.M.Digest.Ord.cmp c.vacant.result c.hold.new.table w.push.new.table (c.in_ok-found.ensures.held w.in-None.is)
+          c.in_ok-found.ensures.placed (w.push.ensures.placed c.in_ok-found.ensures.placed) (omega (arith, fits, length-digests same.key c.args.peer.now c.self.inside.lists.lists)) pushes).0
     ]
 
 pub returns-clause-new : goal.returns-clause-new
@@ -84,46 +99,34 @@ returns-clause-new g c =
     let key_laws = eq_by_cmp_equiv g.met.P.Ord.total in
     let laws = eq_by_cmp_equiv (g.met.M.Digest.Ord g.world.𝓛 g.world.𝓜 g.world.𝓡 (λ s x. x, λ x. x, λ x. x, λ x. x)).total in
     let has = among-indexed same key_laws laws c.self.inside.lists.lists c.self.inside.table c.self.invariant c.args.message.now.digest c.args.peer.now in
-    let found : c.match-found.found ≡ c.in_ok-found.found = elim c.match-found.branch [ in-Some w ↦ w.found-is ∙ sym w.in-Some.is | in-None+in-Ok w ↦ w.found-is ] in
+    let found : c.match-found.found ≡ c.in_ok-found.found = elim c.match-found.branch [ in-Some w ↦ w.found-is ∙ sym w.in-Some.is | in-None+in_ok-bytes-in-None w ↦ w.found-is ] in
     rw (← c.self.view_is) (flip-not (is_some c.match-found.found) c.is_none.result c.is_none.ensures ∙ ap not (ap is_some (found ∙ c.in_ok-found.ensures.found) ∙ sym has))
 
 pub returns-clause-ok : goal.returns-clause-ok
-returns-clause-ok g c = λ size shorter.
+returns-clause-ok g c =
     let same = same_by g.P.Ord.cmp g.M.Digest.Ord.cmp in
     let key_laws = eq_by_cmp_equiv g.met.P.Ord.total in
     let laws = eq_by_cmp_equiv (g.met.M.Digest.Ord g.world.𝓛 g.world.𝓜 g.world.𝓡 (λ s x. x, λ x. x, λ x. x, λ x. x)).total in
-    let fits = subst (λ s. length (items_at same.key c.args.peer.now s.lists) < size) (sym c.self.view_is) shorter in
+    let fits = subst (λ s. length (items_at same.key c.args.peer.now s.lists) ≤ c.args.size) (sym c.self.view_is) c.requires.size in
     let distinct = distinct-digests same.key c.self.inside.lists.lists c.len-old.ensures.distinct in
     elim c.match-found.branch [
       | in-Some w ↦
           let some : is_some c.in_ok-found.found ≡ true = ap is_some w.in-Some.is in
           let stays = c.in_ok-found.ensures.stays some in
-          rw (w.self-inside-is, stays, ← c.self.view_is) (Stores-moved same key_laws laws c.args.peer.now c.args.message.now c.args.charge size c.self.inside.lists.lists w.promote-bytes.new.self.lists c.self.inside.table c.self.invariant distinct
+          rw (w.self-inside-is, stays, ← c.self.view_is) (Stores-moved same key_laws laws c.args.peer.now c.args.message.now c.args.charge c.args.size c.self.inside.lists.lists w.promote-bytes.new.self.lists c.self.inside.table c.self.invariant distinct
           (distinct-digests same.key w.promote-bytes.new.self.lists (rw w.self-inside-is at c.len-new.ensures.distinct)) w.in-Some.place w.promote-bytes.ensures.apart (sym c.in_ok-found.ensures.found ∙ w.in-Some.is)
-          (rw c.digest.ensures at w.promote-bytes.ensures.moved) (omega (arith, fits))).1
-      | in-None+in-Ok w ↦
+          (rw c.digest.ensures at w.promote-bytes.ensures.moved) fits).1
+      | in-None+in_ok-bytes-in-None w ↦
           let none = sym c.in_ok-found.ensures.found ∙ w.in-None.is in
-          let puts = subst (λ i. Puts same.key c.args.peer.now ((i, at_charge c.args.message.now.digest c.args.charge) ∷ nodes_at same.key c.args.peer.now c.self.inside.lists.lists) c.self.inside.lists.lists w.insert.new.self.lists)
-          (sym c.vacant.ensures) (rw c.digest.ensures at w.in-Ok.ensures.ok) in
-          rw (w.self-inside-is, ← c.self.view_is) (Stores-added same key_laws laws c.args.peer.now c.args.message.now c.args.charge size c.self.inside.lists.lists w.insert.new.self.lists c.self.inside.table c.self.invariant distinct
-          (distinct-digests same.key w.insert.new.self.lists (rw w.self-inside-is at c.len-new.ensures.distinct)) none g.M.Digest.Ord.cmp c.vacant.result c.hold.new.table (c.in_ok-found.ensures.held w.in-None.is)
-          c.in_ok-found.ensures.placed puts (omega (arith, fits, length-digests same.key c.args.peer.now c.self.inside.lists.lists))).1
+          let pushes = subst (λ i. Pushes same c.args.peer.now (i, at_charge c.args.message.now.digest c.args.charge) c.args.size c.self.inside.lists.lists w.push.new.lists.lists c.hold.new.table w.push.new.table)
+          (sym c.vacant.ensures) (rw c.digest.ensures at w.in_ok-bytes-in-None.ensures.ok) in
+          rw (w.self-inside-is, ← c.self.view_is) (Stores-pushed same key_laws laws c.args.peer.now c.args.message.now c.args.charge c.args.size c.self.inside.lists.lists w.push.new.lists.lists c.self.inside.table c.self.invariant distinct
+          (distinct-digests same.key w.push.new.lists.lists (rw w.self-inside-is at c.len-new.ensures.distinct)) none g.M.Digest.Ord.cmp c.vacant.result c.hold.new.table w.push.new.table (c.in_ok-found.ensures.held w.in-None.is)
+          c.in_ok-found.ensures.placed (w.push.ensures.placed c.in_ok-found.ensures.placed) (omega (arith, fits, length-digests same.key c.args.peer.now c.self.inside.lists.lists)) pushes).1
     ]
-
-pub promote-bytes-requires : goal.promote-bytes-requires
-promote-bytes-requires g c =
-    let room = subst (λ s. bytes_of (items_at (eq_by_cmp g.P.Ord.cmp) c.args.peer.now s.lists) < 2 ^ 64) (sym c.self.view_is) c.requires.room in
-    let is = ap bytes_of (items_at-digests (eq_by_cmp g.P.Ord.cmp) c.args.peer.now c.self.inside.lists.lists) in
-    omega (arith, room, is, c.ranges.charge.fits)
-
-pub insert-requires-clause-room : goal.insert-requires-clause-room
-insert-requires-clause-room g c =
-    let room = subst (λ s. bytes_of (items_at (eq_by_cmp g.P.Ord.cmp) c.args.peer.now s.lists) < 2 ^ 64) (sym c.self.view_is) c.requires.room in
-    let is = ap bytes_of (items_at-digests (eq_by_cmp g.P.Ord.cmp) c.args.peer.now c.self.inside.lists.lists) in
-    omega (arith, room, is, c.ranges.charge.fits)
 
 pub returns-clause-bytes : goal.returns-clause-bytes
 returns-clause-bytes g c = elim c.match-found.branch [
   | in-Some w ↦ rw (w.bytes-is, w.self-inside-is) (w.promote-bytes.ensures.bytes ∙ sym (ap bytes_of (items_at-digests (eq_by_cmp g.P.Ord.cmp) c.args.peer.now w.promote-bytes.new.self.lists)))
-  | in-None+in-Ok w ↦ rw (w.bytes-is, w.self-inside-is) (w.in-Ok.ensures.bytes ∙ sym (ap bytes_of (items_at-digests (eq_by_cmp g.P.Ord.cmp) c.args.peer.now w.insert.new.self.lists)))
+  | in-None+in_ok-bytes-in-None w ↦ rw (w.bytes-is, w.self-inside-is) (w.in_ok-bytes-in-None.ensures.bytes ∙ sym (ap bytes_of (items_at-digests (eq_by_cmp g.P.Ord.cmp) c.args.peer.now w.push.new.lists.lists)))
 ]
