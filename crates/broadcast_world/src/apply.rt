@@ -44,7 +44,7 @@ pub fn apply<P: PublicKey>(
         Step::Subscribe(key, ticket, digest) => nodes.subscribe(key, *ticket, digest),
         Step::Get(key, ticket, digest) => nodes.get(key, *ticket, digest),
         Step::Cleanup(key, gone) => nodes.cleanup(key, gone.as_slice()),
-        Step::Deliver(number) => deliver(alloc, nodes, range, packets, *number),
+        Step::Deliver(number) => deliver(nodes, range, packets, *number),
         Step::Hostile { from, to, bytes } => {
             attack(alloc, nodes, hostile, range, from, to, bytes.as_slice())
         }
@@ -53,7 +53,6 @@ pub fn apply<P: PublicKey>(
 
 /// Brings the packet with this number to its addressee.
 fn deliver<P: PublicKey>(
-    alloc: Global,
     nodes: &mut Nodes<P>,
     range: &RangeCfg,
     packets: &[Packet<P>],
@@ -69,13 +68,7 @@ fn deliver<P: PublicKey>(
     let Some(packet) = packets.get(number as usize) else {
         return WorldAnswer::NoSuch;
     };
-    nodes.payload(
-        alloc,
-        range,
-        packet.addressee(),
-        packet.sender(),
-        packet.bytes(),
-    )
+    nodes.delivery(range, packet.addressee(), packet.sender(), packet.encoded())
 }
 
 /// Brings the bytes of a hostile key to the node.

@@ -10,13 +10,12 @@ ghost use Rattle.broadcast_world.specs.World.{NodeEvent, event_at, made_by, pack
 ghost use Rattle.broadcast_world.specs.Steps.{AreCopies, AtNode, NodeFollows};
 ghost use Rattle.broadcast_world.specs.declared.step.WorldAnswer.TheVariants as world;
 
+use crate::encoded::Encoded;
 use crate::node;
 use crate::nodes::Nodes;
 use crate::packet::{Packet, addressees, packets_for};
 use crate::step::WorldAnswer;
-use broadcast_core::{
-    Answer, Cause, CodecError, Core, Digested, PublicKey, Recipients, Set, TestMessage, Write,
-};
+use broadcast_core::{Answer, Cause, Core, Digested, PublicKey, Recipients, Set, TestMessage};
 use std::alloc::{AllocError, Global};
 
 /// Takes the message under the key of the node that `key` names, and makes its packets.
@@ -44,11 +43,11 @@ pub fn broadcast<P: PublicKey>(
     };
     let keys: &Set<P> = &nodes.keys;
     let sender = &keys.as_slice()[place];
-    let bytes = match message.encode(alloc) {
-        Ok(bytes) => bytes,
+    let encoded = match Encoded::new(alloc, message) {
+        Ok(encoded) => encoded,
         Err(cause) => return WorldAnswer::Given(Answer::Refused(cause)),
     };
-    match prepare(alloc, keys, sender, packets, recipients, message, bytes) {
+    match prepare(alloc, keys, sender, packets, recipients, message, encoded) {
         Ok((made, message)) => {
             WorldAnswer::Given(take(&mut nodes.cores[place], packets, made, message))
         }
@@ -64,18 +63,18 @@ fn prepare<P: PublicKey>(
     packets: &mut Vec<Packet<P>>,
     recipients: &Recipients<P>,
     message: &Digested<TestMessage>,
-    bytes: Vec<u8>,
+    encoded: Encoded,
 ) -> Result<(Vec<Packet<P>>, Digested<TestMessage>), AllocError>
     ensures kept { packets.new.items ≡ packets.old.items }
     ensures made { IfOk result (λ prepared. (w : Scene P) → w.nodes ≡ nodes.now
         → AreCopies P.cmp prepared.0.items (packets_to P.cmp w sender.now
-        (addressed P.cmp w sender.now recipients.now) (Some bytes.items))) }
+        (addressed P.cmp w sender.now recipients.now) (Some encoded.bytes))) }
     ensures message { IfOk result (λ prepared. prepared.1 ≡ message.now) }
     ensures room { IfOk result (λ prepared.
         vec_len packets.new + vec_len prepared.0 ≤ vec_capacity packets.new) }
 {
     let to = addressees(alloc, nodes, sender, recipients)?;
-    let made = packets_for(alloc, sender, &to, bytes)?;
+    let made = packets_for(alloc, sender, &to, encoded)?;
     packets.reserve(made.len())?;
     Ok((made, message.clone()?))
 }

@@ -3,6 +3,7 @@
 
 mod apply;
 mod broadcast;
+mod encoded;
 mod error;
 mod made;
 mod node;

@@ -9,6 +9,7 @@ ghost use Rattle.broadcast_world.specs.World.{event_at};
 ghost use Rattle.broadcast_world.specs.Steps.{AtNode};
 ghost use Rattle.broadcast_core.specs.declared.event.Event.TheVariants as event;
 
+use crate::encoded::Encoded;
 use crate::made::cores_for;
 use crate::node;
 use crate::step::WorldAnswer;
@@ -84,6 +85,28 @@ impl<P: PublicKey> Nodes<P> {
             return WorldAnswer::NoSuch;
         };
         WorldAnswer::Given(node::payload(alloc, &mut self.cores[place], range, peer, bytes))
+    }
+
+    /// Takes the message that the bytes of the encoding decode to under the peer's key at the node.
+    /// Both keys may be copies of those meant.
+    pub fn delivery(
+        &mut self,
+        range: &RangeCfg,
+        key: &P,
+        peer: &P,
+        encoded: &Encoded,
+    ) -> WorldAnswer
+        ensures keys { self.new.keys ≡ self.old.keys }
+        ensures node { (w : Scene P) (n p : P)
+            → w.nodes ≡ arc_value self.old.keys → w.range ≡ range.now
+            → IsTrue (eq_by_cmp P.cmp n key.now) → IsTrue (eq_by_cmp P.cmp p peer.now)
+            → AtNode P.cmp w (event_at P.cmp w n (event.Payload p encoded.now.bytes))
+            self.old.cores.items self.new.cores.items result }
+    {
+        let Some(place) = self.place_of(key) else {
+            return WorldAnswer::NoSuch;
+        };
+        WorldAnswer::Given(node::delivery(&mut self.cores[place], range, peer, encoded))
     }
 
     /// Answers a subscribe at the node.

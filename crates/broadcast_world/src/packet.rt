@@ -8,18 +8,19 @@ ghost use Rattle.broadcast_world.specs.Scene.{Scene};
 ghost use Rattle.broadcast_world.specs.Steps.{AreCopies};
 ghost use Rattle.broadcast_world.specs.World.{addressed, addressed_of, packets_to};
 
+use crate::encoded::Encoded;
 use crate::nodes::place_of;
-use broadcast_core::{Items, PublicKey, Recipients, Set};
+use broadcast_core::{PublicKey, Recipients, Set};
 use std::alloc::{AllocError, Global};
 use std::marker::Model;
 use std::sync::Arc;
 
-/// A packet on its way to a node. The packets of a broadcast share its bytes.
+/// A packet on its way to a node. The packets of a broadcast share its encoding.
 #[derive(Drop)]
 pub struct Packet<P: PublicKey> {
     sender: P,
     addressee: P,
-    bytes: Arc<Items<u8>>,
+    encoded: Arc<Encoded>,
 }
 
 impl<P: PublicKey> Model for Packet<P> {
@@ -31,7 +32,7 @@ impl<P: PublicKey> Model for Packet<P> {
     ghost view = { λ it. record {
       sender = it.sender;
       addressee = it.addressee;
-      bytes = arc_value it.bytes;
+      bytes = (arc_value it.encoded).bytes;
     } };
 }
 
@@ -50,32 +51,32 @@ impl<P: PublicKey> Packet<P> {
         &self.addressee
     }
 
-    /// Returns the bytes.
-    pub fn bytes(&self) -> &[u8]
-        ensures { result.now ≡ self.now.bytes }
+    /// Returns the bytes, with the message that they encode.
+    pub fn encoded(&self) -> &Encoded
+        ensures { result.now.bytes ≡ self.now.bytes }
     {
-        self.bytes.as_slice()
+        &self.encoded
     }
 }
 
-/// Returns one packet with the bytes for each of the nodes.
+/// Returns one packet with the encoding for each of the nodes.
 pub fn packets_for<P: PublicKey>(
     alloc: Global,
     sender: &P,
     nodes: &[P],
-    bytes: Vec<u8>,
+    encoded: Encoded,
 ) -> Result<Vec<Packet<P>>, AllocError>
     ensures { (w : Scene P) (to : List P) → AreEqual (eq_by_cmp P.cmp) nodes.now to
         → IfOk result (λ packets. AreCopies P.cmp packets.items
-        (packets_to P.cmp w sender.now to (Some bytes.items))) }
+        (packets_to P.cmp w sender.now to (Some encoded.bytes))) }
 {
-    let bytes = Arc::new(alloc, Items::from_vec(bytes))?;
+    let encoded = Arc::new(alloc, encoded)?;
     let mut packets = Vec::with_capacity(alloc, nodes.len())?;
     for node in nodes {
         packets.push(Packet {
             sender: sender.clone()?,
             addressee: node.clone()?,
-            bytes: Arc::try_clone(&bytes)?,
+            encoded: Arc::try_clone(&encoded)?,
         })?;
     }
     Ok(packets)

@@ -22,8 +22,8 @@ returns-clause-node g c = λ w sent is ranged copies.
     let meant = AllZip-some _ c.args.packets.now sent c.args.number c.in-Some.packet.now copies there in
     let p = meant.0 in
     let packet = c.in-Some.packet.now in
-    let at = c.payload.ensures.node w p.addressee p.sender is ranged
+    let at = c.delivery.ensures.node w p.addressee p.sender is ranged
     (ap (eq_by_cmp cmp p.addressee) c.addressee.ensures ∙ laws.symm p.addressee packet.addressee ∙ meant.2.1)
     (ap (eq_by_cmp cmp p.sender) c.sender.ensures ∙ laws.symm p.sender packet.sender ∙ meant.2.0) in
-    subst (λ o. AtNode cmp w (delivery cmp w o) c.args.nodes.now.cores.items c.payload.new.self.cores.items c.payload.result) (sym meant.1)
-    (subst (λ b. AtNode cmp w (event_at cmp w p.addressee (event.Payload p.sender b)) c.args.nodes.now.cores.items c.payload.new.self.cores.items c.payload.result) (c.bytes.ensures ∙ meant.2.2) at)
+    subst (λ o. AtNode cmp w (delivery cmp w o) c.args.nodes.now.cores.items c.delivery.new.self.cores.items c.delivery.result) (sym meant.1)
+    (subst (λ b. AtNode cmp w (event_at cmp w p.addressee (event.Payload p.sender b)) c.args.nodes.now.cores.items c.delivery.new.self.cores.items c.delivery.result) (c.encoded.ensures ∙ meant.2.2) at)
