@@ -6,21 +6,18 @@ ghost use Rattle.broadcast_mailbox.specs.Mailbox.{Enqueues, Gives, GivesOut, Req
 ghost use Rattle.broadcast_mailbox.specs.Queue.{waiting, counted_in};
 ghost use Rattle.broadcast_mailbox.specs.Attended.{ready};
 ghost use Rattle.broadcast_mailbox.specs.Account.{TallyState, counted_of, is_accepted, tallied};
-ghost use Rattle.broadcast_mailbox.specs.Watch.{BroadcastsOnly, is_watched};
+ghost use Rattle.broadcast_mailbox.specs.Watch.{BroadcastsOnly};
 
 use crate::MailboxError;
 use crate::buffered::ingress::account::{Account, Bookkeeping};
 use crate::buffered::ingress::books::{Books, Taker};
 use crate::buffered::ingress::inbox::Inbox;
-use crate::buffered::ingress::message::Message;
 use crate::buffered::ingress::queued::{Counts, Queued};
-use crate::buffered::ingress::reply::Reply;
 use crate::buffered::ingress::request::Request;
-use crate::buffered::ingress::responder::Responder;
 use crate::buffered::ingress::settled::Settled;
 use crate::buffered::ingress::tally::Tally;
-use crate::buffered::ingress::watch::Watch;
-use broadcast_core::{Closable, Digestible, PublicKey};
+use crate::buffered::ingress::watch::{Kind, Watch};
+use broadcast_core::Closable;
 use futures::task::{Context, Poll, Source, Waker};
 
 /// The wakers that a call takes out. The caller drops them, which wakes the task, once it has let
@@ -161,29 +158,26 @@ impl<T: Closable + Drop, A: Bookkeeping> Attended<T, A> {
     }
 }
 
-impl<P, M, S, G, A, K, V> Attended<Message<P, M, S, G>, Books<A, K, V, M::Digest>>
+impl<T, A, K, V, D> Attended<T, Books<A, K, V, D>>
 where
-    P: PublicKey,
-    M: Digestible,
-    S: Responder<Reply<M>> + Drop,
-    G: Responder<Option<Reply<M>>> + Drop,
+    T: Closable + Drop,
     A: Account,
     K: Account,
-    V: Watch<M::Digest>,
+    V: Watch<D>,
 {
-    /// Queues a message for a tally, which counts it if it is accepted and `counted`.
+    /// Queues a message of this kind for a tally, which counts it if it is accepted and `counted`.
     pub(super) fn enqueue_as(
         &mut self,
-        message: Message<P, M, S, G>,
+        kind: Kind,
+        message: T,
         counted: bool,
         tally: &mut Tally<A>,
     ) -> (Result<Queued, MailboxError>, Woken)
-        requires { counted ≡ is_watched V.watched message }
+        requires { counted ≡ true → (digest : D) × (V.watched kind digest ≡ true) }
         ensures tallied { tally.new ≡ tallied counted (is_accepted result.0) tally.old }
         ensures wakes { result.1 ≡ (self.old.queued, None) }
     {
         let woken = self.queued.take();
-        let kind = message.kind();
         let queued = self.inbox.enqueue_as(message, counted);
         self.account.count(counted, kind, &queued, tally);
         (queued, (woken, None))

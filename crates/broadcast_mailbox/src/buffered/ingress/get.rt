@@ -1,7 +1,7 @@
 //! The future of a get.
 ghost use Rattle.std.specs.Prelude.{◌≡◌, IfSome, IfOk, IfErr};
 ghost use Rattle.broadcast_mailbox.specs.Waited.{get_waited};
-ghost use Rattle.futures.specs.Channel.{completed_source};
+ghost use Rattle.futures.specs.Channel.{canceled_source};
 ghost use Rattle.futures.specs.Poll.{IfReady};
 ghost use Rattle.broadcast_mailbox.specs.Asked.{GoesBy, get_returns};
 
@@ -9,10 +9,10 @@ use crate::buffered::ingress::limit::Limit;
 use crate::buffered::ingress::reply::{Reply, Returns, try_receive};
 use broadcast_core::{Digested, Digestible};
 use futures::Future;
-use futures::channel::oneshot::{Canceled, Receiver};
+use futures::channel::oneshot::{self, Canceled, Receiver, Sender};
 use futures::executor::block_on;
 use futures::task::{Context, Poll};
-use std::alloc::AllocGlobal;
+use std::alloc::{AllocError, AllocGlobal, Global};
 use std::io;
 use std::marker::Model;
 use std::random::RandomSource;
@@ -39,11 +39,18 @@ impl<M: Digestible> Model for Get<M> {
 }
 
 impl<M: Digestible> Get<M> {
-    // Creates the future of a get of `digest` whose reply comes through the channel.
-    pub(super) fn new(digest: M::Digest, receiver: Receiver<Option<Reply<M>>>) -> Self
-        ensures { result ≡ record { digest = digest; source = completed_source receiver } }
+    // Creates the future of a get of `digest`. Returns also where its reply goes.
+    pub(super) fn open(
+        alloc: Global,
+        digest: M::Digest,
+    ) -> Result<(Sender<Option<Reply<M>>>, Self), AllocError>
+        ensures digest { IfOk result (λ ends. ends.1.digest ≡ digest) }
+        ensures same_channel { IfOk result (λ ends. ends.1.source ≡ canceled_source ends.0) }
     {
-        Get { digest, receiver }
+        let Ok((responder, receiver)) = oneshot::channel(alloc) else {
+            return Err(AllocError);
+        };
+        Ok((responder, Get { digest, receiver }))
     }
 
     /// Blocks the calling thread until the reply is there, and returns what the future gives.

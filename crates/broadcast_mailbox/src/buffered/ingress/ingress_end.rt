@@ -10,16 +10,14 @@ ghost use Rattle.broadcast_mailbox.specs.Watch.{BroadcastsOnly};
 
 use crate::buffered::ingress::account::{Account, Bookkeeping};
 use crate::buffered::ingress::books::Books;
-use crate::buffered::ingress::message::{Awaits, Message};
+use crate::buffered::ingress::message::Awaits;
 use crate::buffered::ingress::queued::Counts;
-use crate::buffered::ingress::reply::Reply;
 use crate::buffered::ingress::request::Request;
-use crate::buffered::ingress::responder::Responder;
 use crate::buffered::ingress::settled::Settled;
 use crate::buffered::ingress::shared::Shared;
 use crate::buffered::ingress::tally::Tally;
 use crate::buffered::ingress::watch::Watch;
-use broadcast_core::{Closable, Digestible, PublicKey};
+use broadcast_core::Closable;
 use futures::task::{Context, Poll};
 use std::alloc::AllocError;
 use std::marker::Model;
@@ -150,16 +148,13 @@ impl<T: Closable + Drop, R: Wait> Ingress<T, R> {
     }
 }
 
-impl<P, M, S, G, R, A, K, V> Ingress<Message<P, M, S, G>, R, Books<A, K, V, M::Digest>>
+impl<T, R, A, K, V, D> Ingress<T, R, Books<A, K, V, D>>
 where
-    P: PublicKey,
-    M: Digestible,
-    S: Responder<Reply<M>> + Drop,
-    G: Responder<Option<Reply<M>>> + Drop,
+    T: Closable + Drop,
     R: Wait + Drop,
     A: Account,
     K: Account,
-    V: Watch<M::Digest>,
+    V: Watch<D>,
 {
     /// Closes the mailbox, and tells what became of the counted requests. Fails only if the tally
     /// lacks a part.

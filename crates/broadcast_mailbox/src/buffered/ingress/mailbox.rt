@@ -6,9 +6,7 @@ ghost use Rattle.broadcast_mailbox.specs.Ends.{IngressEnd, MailboxEnd};
 
 use crate::buffered::ingress::account::{Account, Bookkeeping};
 use crate::buffered::ingress::books::Books;
-use crate::buffered::ingress::dropped::Dropped;
 use crate::buffered::ingress::get::Get;
-use crate::buffered::ingress::inbox::Inbox;
 use crate::buffered::ingress::ingress_end::Ingress;
 use crate::buffered::ingress::message::Message;
 use crate::buffered::ingress::queued::Queued;
@@ -47,11 +45,34 @@ where
     R: Clone + Drop,
     ensures same_inbox { IfOk result (λ ends. ends.0.inbox ≡ ends.1.inbox) }
 {
-    let dropped = Arc::new(alloc, Dropped::new())?;
-    let shared = Shared::new(Inbox::new(alloc, mailbox_size), (), dropped);
-    let inbox = Arc::new(alloc, shared)?;
-    let ingress = Ingress::new(rt.clone()?, Arc::try_clone(&inbox)?, ());
-    Ok((Mailbox { inbox, alloc, rt }, ingress))
+    let Ok(inbox) = Shared::create(alloc, mailbox_size, ()) else {
+        drop::<_>(rt);
+        return Err(AllocError);
+    };
+    both_ends(rt, alloc, inbox, ())
+}
+
+/// Creates both ends of the inbox.
+fn both_ends<P, M, R, A>(
+    rt: R,
+    alloc: Global,
+    inbox: Arc<Shared<Incoming<P, M>, A>>,
+    taker: A::Taker,
+) -> Result<(Mailbox<P, M, R, A>, Ingress<Incoming<P, M>, R, A>), AllocError>
+where
+    P: PublicKey,
+    M: Digestible,
+    R: Clone + Drop,
+    A: Bookkeeping,
+    ensures same_inbox { IfOk result (λ ends. ends.0.inbox ≡ ends.1.inbox) }
+{
+    match Shared::ends(&rt, &inbox) {
+        Ok((own, its)) => Ok((Mailbox { inbox, alloc, rt }, Ingress::new(own, its, taker))),
+        Err(error) => {
+            drop::<_>((rt, inbox, taker));
+            Err(error)
+        }
+    }
 }
 
 /// The ends of a mailbox that counts the tallied requests that the watch `V` matches, and the tally
@@ -100,11 +121,17 @@ where
         taken,
         parts.get() as u64,
     );
-    let dropped = Arc::new(alloc, Dropped::new())?;
-    let shared = Shared::new(Inbox::new(alloc, mailbox_size), books, dropped);
-    let inbox = Arc::new(alloc, shared)?;
-    let ingress = Ingress::new(rt.clone()?, Arc::try_clone(&inbox)?, taking);
-    Ok((Mailbox { inbox, alloc, rt }, ingress, tally))
+    let Ok(inbox) = Shared::create(alloc, mailbox_size, books) else {
+        drop::<_>((rt, tally, taking));
+        return Err(AllocError);
+    };
+    match both_ends(rt, alloc, inbox, taking) {
+        Ok((mailbox, ingress)) => Ok((mailbox, ingress, tally)),
+        Err(error) => {
+            drop::<_>(tally);
+            Err(error)
+        }
+    }
 }
 
 /// The mailbox of a node. Copies of it may be used on any thread.
@@ -141,11 +168,18 @@ where
     pub fn subscribe(&self, digest: M::Digest) -> Result<Subscription<M>, MailboxError>
         ensures { IfOk result (λ subscription. subscription.digest ≡ digest) }
     {
-        let (responder, receiver) = oneshot::channel(self.alloc)?;
-        let dropped = self.inbox.dropped()?;
+        let mark = self.inbox.dropped();
+        let Ok((responder, subscription)) = Subscription::open(self.alloc, digest, mark) else {
+            return Err(MailboxError::Memory);
+        };
         let request = Message::subscribe(digest, responder);
-        let _queued = self.inbox.enqueue(&self.rt, request)?;
-        Ok(Subscription::new(digest, receiver, dropped))
+        match self.inbox.enqueue(&self.rt, request) {
+            Ok(_) => Ok(subscription),
+            Err(error) => {
+                drop::<_>(subscription);
+                Err(error)
+            }
+        }
     }
 
     /// Requests the message of `digest` if it is cached.
@@ -154,10 +188,17 @@ where
     pub fn get(&self, digest: M::Digest) -> Result<Get<M>, MailboxError>
         ensures { IfOk result (λ get. get.digest ≡ digest) }
     {
-        let (responder, receiver) = oneshot::channel(self.alloc)?;
+        let Ok((responder, get)) = Get::open(self.alloc, digest) else {
+            return Err(MailboxError::Memory);
+        };
         let request = Message::get(digest, responder);
-        let _queued = self.inbox.enqueue(&self.rt, request)?;
-        Ok(Get::new(digest, receiver))
+        match self.inbox.enqueue(&self.rt, request) {
+            Ok(_) => Ok(get),
+            Err(error) => {
+                drop::<_>(get);
+                Err(error)
+            }
+        }
     }
 }
 
@@ -198,12 +239,19 @@ where
             MayCount (V.watched Kind.Subscribe digest) tally.old tally.new) }
         ensures unchanged_on_error { OnErr result (tally.new ≡ tally.old) }
     {
-        let (responder, receiver) = oneshot::channel(self.alloc)?;
-        let dropped = self.inbox.dropped()?;
+        let mark = self.inbox.dropped();
+        let Ok((responder, subscription)) = Subscription::open(self.alloc, digest, mark) else {
+            return Err(MailboxError::Memory);
+        };
         let counted = V::matches(Kind::Subscribe, &digest);
         let request = Message::subscribe(digest, responder);
-        let _queued = self.inbox.enqueue_as(&self.rt, request, counted, tally)?;
-        Ok(Subscription::new(digest, receiver, dropped))
+        match self.inbox.enqueue_as(&self.rt, request, counted, tally) {
+            Ok(_) => Ok(subscription),
+            Err(error) => {
+                drop::<_>(subscription);
+                Err(error)
+            }
+        }
     }
 
     /// Gets as `get` does. The tally is one higher exactly if the request was accepted and the
@@ -214,11 +262,18 @@ where
             MayCount (V.watched Kind.Get digest) tally.old tally.new) }
         ensures unchanged_on_error { OnErr result (tally.new ≡ tally.old) }
     {
-        let (responder, receiver) = oneshot::channel(self.alloc)?;
+        let Ok((responder, get)) = Get::open(self.alloc, digest) else {
+            return Err(MailboxError::Memory);
+        };
         let counted = V::matches(Kind::Get, &digest);
         let request = Message::get(digest, responder);
-        let _queued = self.inbox.enqueue_as(&self.rt, request, counted, tally)?;
-        Ok(Get::new(digest, receiver))
+        match self.inbox.enqueue_as(&self.rt, request, counted, tally) {
+            Ok(_) => Ok(get),
+            Err(error) => {
+                drop::<_>(get);
+                Err(error)
+            }
+        }
     }
 }
 
@@ -233,10 +288,13 @@ where
 
     /// Returns a mailbox over the same inbox, or an allocation failure.
     fn clone(&self) -> Result<Self, AllocError> {
+        let Ok((rt, inbox)) = Shared::ends(&self.rt, &self.inbox) else {
+            return Err(AllocError);
+        };
         Ok(Mailbox {
-            inbox: Arc::try_clone(&self.inbox)?,
+            inbox,
             alloc: self.alloc,
-            rt: self.rt.clone()?,
+            rt,
         })
     }
 }

@@ -1,5 +1,6 @@
 //! The inbox that the ends of a mailbox share.
-ghost use Rattle.std.specs.Prelude.{◌≡◌, ◌+◌, [], true, false};
+ghost use Rattle.std.specs.Prelude.{◌≡◌, ◌+◌, [], true, false, IfOk};
+ghost use Rattle.std.specs.Arc.{arc_value};
 ghost use Rattle.futures.specs.Poll.{OnPending};
 ghost use Rattle.futures.specs.Task.{Hears, IsArmed, Keeps};
 ghost use Rattle.broadcast_mailbox.specs.Queue.{waiting};
@@ -21,11 +22,12 @@ use crate::buffered::ingress::request::Request;
 use crate::buffered::ingress::responder::Responder;
 use crate::buffered::ingress::settled::Settled;
 use crate::buffered::ingress::tally::Tally;
-use crate::buffered::ingress::watch::Watch;
+use crate::buffered::ingress::watch::{Kind, Watch};
 use broadcast_core::{Closable, Digestible, PublicKey};
 use futures::task::{Context, Poll, Source};
-use std::alloc::AllocError;
+use std::alloc::{AllocError, Global};
 use std::marker::Model;
+use std::num::NonZeroUsize;
 use std::sync::{Arc, Mutex, Wait};
 
 /// The inbox that the ends of a mailbox share.
@@ -51,8 +53,8 @@ impl<T, A: Bookkeeping> Model for Shared<T, A> {
 }
 
 impl<T, A: Bookkeeping> Shared<T, A> {
-    /// Shares the inbox, and the mark of its subscriptions.
-    pub(super) fn new(inbox: Inbox<T>, account: A, dropped: Arc<Dropped>) -> Self
+    // Puts the inbox behind a lock, beside the mark of its subscriptions.
+    fn new(inbox: Inbox<T>, account: A, dropped: Arc<Dropped>) -> Self
         requires nothing_waits { waiting inbox.queue ≡ [] }
         requires nothing_counted { (A.waiting account ≡ 0) × (A.accepted account ≡ 0) }
     {
@@ -65,8 +67,8 @@ impl<T, A: Bookkeeping> Shared<T, A> {
     }
 
     /// Returns the mark that a subscription makes once it is dropped.
-    pub(super) fn dropped(&self) -> Result<Arc<Dropped>, AllocError> {
-        Arc::try_clone(&self.dropped)
+    pub(super) fn dropped(&self) -> &Arc<Dropped> {
+        &self.dropped
     }
 
     /// Marks that a subscription was dropped, whose channel is closed.
@@ -105,6 +107,43 @@ impl<T, A: Bookkeeping> Shared<T, A> {
             ≡ result.taken + result.skipped + result.waiting + result.given_up }
     {
         self.state.lock(rt).counts()
+    }
+}
+
+impl<T: Drop, A: Bookkeeping> Shared<T, A> {
+    /// Shares a new inbox whose ready list has `mailbox_size` places.
+    pub(super) fn create(
+        alloc: Global,
+        mailbox_size: NonZeroUsize,
+        account: A,
+    ) -> Result<Arc<Self>, AllocError>
+        requires { (A.waiting account ≡ 0) × (A.accepted account ≡ 0) }
+    {
+        let Ok(dropped) = Arc::new(alloc, Dropped::new()) else {
+            drop::<_>(account);
+            return Err(AllocError);
+        };
+        let inbox = Inbox::new(alloc, mailbox_size);
+        let Ok(shared) = Arc::new(alloc, Shared::new(inbox, account, dropped)) else {
+            return Err(AllocError);
+        };
+        Ok(shared)
+    }
+
+    /// Copies what an end of the inbox has: the right to wait, and the inbox.
+    pub(super) fn ends<R: Clone>(rt: &R, inbox: &Arc<Self>) -> Result<(R, Arc<Self>), AllocError>
+        ensures { IfOk result (λ end. arc_value end.1 ≡ arc_value inbox.now) }
+    {
+        let Ok(inbox) = Arc::try_clone(inbox) else {
+            return Err(AllocError);
+        };
+        match rt.clone() {
+            Ok(rt) => Ok((rt, inbox)),
+            Err(error) => {
+                drop::<_>(inbox);
+                Err(error)
+            }
+        }
     }
 }
 
@@ -165,7 +204,34 @@ where
         requires { counted ≡ is_watched V.watched message }
         ensures { tally.new ≡ tallied counted (is_accepted result) tally.old }
     {
-        let (queued, woken) = self.state.lock(rt).enqueue_as(message, counted, tally);
+        let kind = message.kind();
+        self.enqueue_kind(rt, kind, message, counted, tally)
+    }
+}
+
+impl<T, A, K, V, D> Shared<T, Books<A, K, V, D>>
+where
+    T: Closable + Drop,
+    A: Account,
+    K: Account,
+    V: Watch<D>,
+{
+    // Queues a message of this kind, as `enqueue_as` does.
+    fn enqueue_kind(
+        &self,
+        rt: &impl Wait,
+        kind: Kind,
+        message: T,
+        counted: bool,
+        tally: &mut Tally<A>,
+    ) -> Result<Queued, MailboxError>
+        requires { counted ≡ true → (digest : D) × (V.watched kind digest ≡ true) }
+        ensures { tally.new ≡ tallied counted (is_accepted result) tally.old }
+    {
+        let (queued, woken) = self
+            .state
+            .lock(rt)
+            .enqueue_as(kind, message, counted, tally);
         drop(woken);
         queued
     }

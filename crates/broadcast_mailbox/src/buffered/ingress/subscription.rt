@@ -1,7 +1,7 @@
 //! The future of a subscribe.
 ghost use Rattle.std.specs.Prelude.{◌≡◌, IfOk, IfErr};
 ghost use Rattle.broadcast_mailbox.specs.Waited.{subscription_waited};
-ghost use Rattle.futures.specs.Channel.{completed_source};
+ghost use Rattle.futures.specs.Channel.{canceled_source};
 ghost use Rattle.futures.specs.Poll.{IfReady};
 ghost use Rattle.broadcast_mailbox.specs.Asked.{GoesBy, subscription_returns};
 
@@ -10,10 +10,10 @@ use crate::buffered::ingress::limit::Limit;
 use crate::buffered::ingress::reply::{Reply, Returns, try_receive};
 use broadcast_core::{Digested, Digestible};
 use futures::Future;
-use futures::channel::oneshot::{Canceled, Receiver};
+use futures::channel::oneshot::{self, Canceled, Receiver, Sender};
 use futures::executor::block_on;
 use futures::task::{Context, Poll};
-use std::alloc::AllocGlobal;
+use std::alloc::{AllocError, AllocGlobal, Global};
 use std::io;
 use std::marker::Model;
 use std::random::RandomSource;
@@ -57,21 +57,30 @@ impl<M: Digestible> Model for Subscription<M> {
 }
 
 impl<M: Digestible> Subscription<M> {
-    // Creates the future of a subscribe to `digest` whose reply comes through the channel, and
-    // whose drop is marked there.
-    pub(super) fn new(
+    // Creates the future of a subscribe to `digest`, whose drop is marked there. Returns also where
+    // its reply goes.
+    pub(super) fn open(
+        alloc: Global,
         digest: M::Digest,
-        receiver: Receiver<Reply<M>>,
-        dropped: Arc<Dropped>,
-    ) -> Self
-        ensures { result ≡ record { digest = digest; source = completed_source receiver } }
+        dropped: &Arc<Dropped>,
+    ) -> Result<(Sender<Reply<M>>, Self), AllocError>
+        ensures digest { IfOk result (λ ends. ends.1.digest ≡ digest) }
+        ensures same_channel { IfOk result (λ ends. ends.1.source ≡ canceled_source ends.0) }
     {
-        Subscription {
+        let Ok(dropped) = Arc::try_clone(dropped) else {
+            return Err(AllocError);
+        };
+        let Ok((responder, receiver)) = oneshot::channel(alloc) else {
+            drop(dropped);
+            return Err(AllocError);
+        };
+        let subscription = Subscription {
             digest,
             receiver,
             is_done: false,
             dropped,
-        }
+        };
+        Ok((responder, subscription))
     }
 
     /// Blocks the calling thread until the message is there, and returns what the future gives.
