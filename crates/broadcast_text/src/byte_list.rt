@@ -71,19 +71,25 @@ fn are_digits_of_bytes(word: &[u8]) -> bool
     if word.is_empty() || word.len() % 2 != 0 {
         return false;
     }
+    let mut greatest = 0;
     for digit in word {
-        if !is_digit(*digit) {
-            return false;
-        }
+        greatest = greater_value(greatest, *digit);
     }
-    true
+    is_digit_value(greatest)
 }
 
-/// Returns whether the byte is a lower-case hexadecimal digit.
-fn is_digit(byte: u8) -> bool
-    ensures { result ≡ true ↔ IsHexDigit byte }
+/// Returns whether the value is that of a digit.
+fn is_digit_value(value: u8) -> bool
+    ensures { result ≡ true ↔ (value < 16) }
 {
-    digit_value(byte) < 16
+    value < 16
+}
+
+/// Returns the greater of the value and that of the digit. It is below 16 if both are.
+fn greater_value(value: u8, digit: u8) -> u8
+    ensures { (result < 16) ↔ ((value < 16) × IsHexDigit digit) }
+{
+    value.max(digit_value(digit))
 }
 
 /// Writes the byte of each two digits to `bytes`. Returns whether all of them are digits.
@@ -152,6 +158,30 @@ fn write_chunk<W: Write>(out: &mut W, chunk: &[u8]) -> io::Result<()>
 {
     let mut digits = [0; 2 * CHUNK_LEN];
     let digits = &mut digits[..2 * chunk.len()];
-    hex::encode_to_slice(chunk, digits).unwrap();
+    encode(chunk, digits);
     out.write_all(digits)
+}
+
+/// Writes the digits of the bytes to `digits`. Without a table the compiler takes vectors, and two
+/// fifths of the instructions.
+fn encode(bytes: &[u8], digits: &mut [u8])
+    requires { length digits.old ≡ 2 * length bytes.now }
+    ensures { digits.new ≡ encode_lower bytes.now }
+{
+    for i in 0..bytes.len() {
+        digits[2 * i] = digit_of(bytes[i] / 16);
+        digits[2 * i + 1] = digit_of(bytes[i] % 16);
+    }
+}
+
+/// Returns the digit of a value.
+fn digit_of(value: u8) -> u8
+    requires { value < 16 }
+    ensures { result ≡ slice_index lower_digits value }
+{
+    if value < 10 {
+        b'0' + value
+    } else {
+        b'a' - 10 + value
+    }
 }

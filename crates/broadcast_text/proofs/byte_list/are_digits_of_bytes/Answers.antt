@@ -6,9 +6,21 @@ use Rattle.broadcast_text.proofs.byte_list.are_digits_of_bytes.Goals as goal
 
 pub loop-digit-preserved : goal.loop-digit-preserved
 loop-digit-preserved c =
-    All-more IsHexDigit c.args.word.now c.loop-digit.digit-index 0 c.loop-digit-test.true c.loop-digit.invariant (c.is_digit.ensures.0 c.if-not-is_digit.false)
+    let before = c.loop-digit.invariant in
+    let at = c.loop-digit.digit-index in
+    record {
+      found = λ h. All-more IsHexDigit c.args.word.now at 0 c.loop-digit-test.true
+          (before.found (c.greater_value-greatest.ensures.0 h).0) (c.greater_value-greatest.ensures.0 h).1;
+      only = λ all. c.greater_value-greatest.ensures.1 (before.only all, all at 0 c.loop-digit-test.true);
+    }
 
 pub returns : goal.returns
 returns c =
-    let all = subst (All IsHexDigit) (take_all _ _ c.loop-digit-test.false) c.loop-digit.invariant in
-    (λ _. (grind (arith, c.is_empty.ensures), omega (arith, c.if-word-ne0.false), all), λ _. refl)
+    let after = c.loop-digit.invariant in (
+      λ yes. (
+        grind (arith, c.is_empty.ensures),
+        omega (arith, c.if-word-ne0.false),
+        subst (All IsHexDigit) (take_all _ _ c.loop-digit-test.false) (after.found (c.is_digit_value.ensures.0 yes)),
+      ),
+      λ parts. c.is_digit_value.ensures.1 (after.only parts.2),
+    )
