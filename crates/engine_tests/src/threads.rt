@@ -11,6 +11,7 @@ mod lock;
 mod nodes;
 mod observed;
 mod patient;
+mod pools;
 mod poor;
 mod shutdown;
 mod soak;

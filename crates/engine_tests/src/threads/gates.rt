@@ -21,21 +21,35 @@ use std::test::Fail;
 use std::thread::{self, Threads};
 
 /// How often a job is polled while its worker waits at the gate.
-const POLLS: u64 = 100;
+pub const POLLS: u64 = 100;
 
 /// How often a worker gives up its thread after a look. A busy machine may start the other late.
 const YIELDS: u64 = 1000;
 
 /// A gate that counts who entered, and who saw two enter.
 #[derive(Drop)]
-struct Meeting {
+pub struct Meeting {
     entered: AtomicU64,
     met: AtomicU64,
 }
 
 impl Meeting {
+    /// Creates a gate that nobody has entered.
+    pub fn new(alloc: Global) -> Result<Arc<Meeting>, AllocError> {
+        let gate = Meeting {
+            entered: AtomicU64::new(0),
+            met: AtomicU64::new(0),
+        };
+        Ok(Arc::new(alloc, gate)?)
+    }
+
+    /// Returns how many saw two enter.
+    pub fn met(&self) -> u64 {
+        self.met.load(Ordering::SeqCst)
+    }
+
     /// Waits until this many workers have entered. Returns whether they have.
-    fn waits_for(&self, workers: u64) -> bool {
+    pub fn waits_for(&self, workers: u64) -> bool {
         for _ in 0..LIMIT {
             if self.entered.load(Ordering::SeqCst) >= workers {
                 return true;
@@ -89,16 +103,10 @@ fn meet<R>(rt: &R) -> Result<(u64, bool, bool), Fail>
 where
     R: Threads + Wait + RandomSource + AllocGlobal + Clone + Drop,
 {
-    let gate = Arc::new(
-        rt.alloc(),
-        Meeting {
-            entered: AtomicU64::new(0),
-            met: AtomicU64::new(0),
-        },
-    )?;
+    let gate = Meeting::new(rt.alloc())?;
     let strategy = Threaded::new(rt.clone()?, rt.alloc(), Arc::try_clone(&gate)?);
     let (pending, equal) = digests(rt, &gate, &strategy)?;
-    Ok((gate.met.load(Ordering::SeqCst), pending, equal))
+    Ok((gate.met(), pending, equal))
 }
 
 /// Starts two jobs before it waits for one, the second once a worker waits at the gate. Returns

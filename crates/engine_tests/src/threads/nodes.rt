@@ -4,7 +4,7 @@ use broadcast_core::{Digested, Digestible, Key, RangeCfg, Recipients, Set, TestM
 use cluster_lib::fault::Fault;
 use cluster_lib::keys::key_of;
 use cluster_lib::node::{Node, config};
-use commonware_broadcast::buffered::{self, Mailbox, Open, Strategy, Subscription, Threaded};
+use commonware_broadcast::buffered::{self, Mailbox, Open, Pool, Strategy, Subscription, Threaded};
 use commonware_broadcast::{Broadcaster, Feedback};
 use memory_network::{Inbound, Mail, Outbound};
 use std::alloc::{AllocError, AllocGlobal, Global};
@@ -38,6 +38,23 @@ where
 {
     let gate = Arc::new(rt.alloc(), Open)?;
     let strategy = Threaded::new(rt.clone()?, rt.alloc(), gate);
+    let (mail, network) = network(rt)?;
+    let cfg = config(rt, RangeCfg::any(), strategy, &mail, 4)?;
+    let (handle, mailbox) = buffered::start_threaded(rt, cfg, network)?;
+    Ok(Node {
+        mailbox,
+        mail,
+        handle,
+    })
+}
+
+/// Starts the node of number 1, whose messages are digested on the thread of the pool.
+pub fn start_pooled<R>(rt: &R, pool: Pool<TestMessage, R>) -> Result<Node<TestMessage, R>, Fail>
+where
+    R: Threads + Wait + RandomSource + AllocGlobal + Clone + Send + Sync + Drop + 'static,
+{
+    let pool = Arc::new(rt.alloc(), pool)?;
+    let strategy = Threaded::new(rt.clone()?, rt.alloc(), pool);
     let (mail, network) = network(rt)?;
     let cfg = config(rt, RangeCfg::any(), strategy, &mail, 4)?;
     let (handle, mailbox) = buffered::start_threaded(rt, cfg, network)?;

@@ -57,6 +57,17 @@ pub struct Poor<R> {
     pub heirs: Arc<Supply>,
 }
 
+impl<R: Clone> Poor<R> {
+    /// Creates a runtime that has the supply, which its copies have too.
+    pub fn new(rt: &R, supply: &Arc<Supply>) -> Result<Self, AllocError> {
+        Ok(Poor {
+            rt: rt.clone()?,
+            supply: Arc::try_clone(supply)?,
+            heirs: Arc::try_clone(supply)?,
+        })
+    }
+}
+
 impl<R: Threads> Threads for Poor<R> {}
 
 impl<R: Wait> Wait for Poor<R> {}

@@ -136,12 +136,7 @@ where
     R: Threads + Wait + Clock + RandomSource + AllocGlobal + Clone + Send + Sync + Drop + 'static,
 {
     for row in cases() {
-        let supply = Supply::new(rt.alloc())?;
-        let poor = Poor {
-            rt: rt.clone()?,
-            heirs: Arc::try_clone(&supply)?,
-            supply,
-        };
+        let poor = Poor::new(rt, &Supply::new(rt.alloc())?)?;
         if start::<R>(&poor, row.copies, row.randoms)? != (row.ending, true) {
             Err("a start ends otherwise")?
         }

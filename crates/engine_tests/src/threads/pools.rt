@@ -1,0 +1,232 @@
+//! Pools: one that digests for a started engine, and ones whose thread is held while it digests.
+use super::gates::{Meeting, POLLS};
+use super::nodes::{broadcast, gets, send, start_pooled, subscribe, track};
+use super::patient::{LIMIT, pause};
+use super::poor::{Poor, Supply};
+use crate::task::Task;
+use broadcast_core::{Digestible, TestMessage};
+use cluster_lib::node::Node;
+use commonware_broadcast::buffered::gate::Gate;
+use commonware_broadcast::buffered::{EndCause, Pool, Pooled, Status};
+use std::alloc::{AllocError, AllocGlobal};
+use std::random::RandomSource;
+use std::sync::{Arc, Wait};
+use std::test::Fail;
+use std::thread::{self, JoinHandle, Threads};
+use std::time::{Clock, Duration};
+
+/// The letters of the messages that a peer sends.
+const SENT: [u8; 6] = [2, 3, 4, 5, 6, 7];
+
+/// The letter of the message that the node broadcasts.
+const OWN: u8 = 1;
+
+/// Starts a pool, each of whose runtimes has the supply.
+fn start_pool<R>(rt: &R, supply: &Arc<Supply>) -> Result<Pool<TestMessage, Poor<R>>, AllocError>
+where
+    R: Threads + Wait + AllocGlobal + Clone + Send + Drop + 'static,
+{
+    let poor = Poor::new(rt, supply)?;
+    Pool::start(&poor, rt.alloc())
+}
+
+/// Lets a peer send the message of the letter. Returns whether a subscriber and a get are given it.
+fn takes<R>(rt: &R, node: &Node<TestMessage, R>, letter: u8) -> Result<bool, Fail>
+where
+    R: Wait + Clock + RandomSource + AllocGlobal,
+{
+    let waiting = subscribe(rt, &node.mailbox, letter)?;
+    send(rt, &node.mail, 5, &[0, 0, 0, 0, 0, 0, 0, 1, letter])?;
+    let served = matches!(waiting.wait_timeout(rt, Duration::from_secs(60)), Ok(Ok(_)));
+    Ok(served && gets(rt, &node.mailbox, letter)?)
+}
+
+/// Lets a node take messages of a peer and broadcast one. Returns whether callers are given each.
+fn serves<R>(rt: &R, node: &Node<TestMessage, R>) -> Result<bool, Fail>
+where
+    R: Wait + Clock + RandomSource + AllocGlobal + Clone + Send + 'static,
+{
+    track(rt, &node.mail, &[1, 5])?;
+    for letter in SENT {
+        if !takes(rt, node, letter)? {
+            return Ok(false);
+        }
+    }
+    let accepted = broadcast(rt, &node.mailbox, OWN)?.accepted();
+    Ok(accepted && gets(rt, &node.mailbox, OWN)?)
+}
+
+/// Lets a node with the pool serve its callers, and stops it. Its network fails then, so that it
+/// ends also if it does not stop. Returns whether they were served, why it ended, and how many
+/// messages it took.
+fn run<R>(rt: &R, pool: Pool<TestMessage, R>) -> Result<(bool, EndCause, u64), Fail>
+where
+    R: Threads + Wait + Clock + RandomSource + AllocGlobal + Clone + Send + Sync + Drop + 'static,
+{
+    let node = start_pooled(rt, pool)?;
+    let served = serves(rt, &node)?;
+    node.handle.stop();
+    node.mail.fail(rt)?;
+    let report = node.join(rt);
+    let taken = report.metrics().receive(Status::Success);
+    Ok((served, report.cause(), taken))
+}
+
+/// Waits until no runtime has the supply any more. Returns whether none has.
+fn wait_for_end(clock: &impl Clock, supply: &Arc<Supply>) -> bool {
+    for _ in 0..LIMIT {
+        if Arc::strong_count(supply) == 1 {
+            return true;
+        }
+        pause(clock);
+    }
+    false
+}
+
+/// Runs an engine with a pool. Returns what `run` does, and whether the pool's thread ends with it.
+fn run_pooled<R>(rt: &R) -> Result<((bool, EndCause, u64), bool), Fail>
+where
+    R: Threads + Wait + Clock + RandomSource + AllocGlobal + Clone + Send + Sync + Drop + 'static,
+{
+    let supply = Supply::new(rt.alloc())?;
+    let pool = start_pool(rt, &supply)?;
+    let engines = Poor::new(rt, &Supply::new(rt.alloc())?)?;
+    let ended = run(&engines, pool)?;
+    Ok((ended, wait_for_end(rt, &supply)))
+}
+
+#[test]
+fn a_pool_serves_an_engine_and_ends_with_it(rt: HostRuntime) -> Result<(), Fail> {
+    assert_eq!(rt; run_pooled(&rt)?, ((true, EndCause::Stopped, 6), true));
+    Ok(())
+}
+
+/// A message whose digest, a number, waits at a gate.
+#[derive(Drop)]
+struct Held {
+    number: u64,
+    gate: Arc<Meeting>,
+}
+
+impl Digestible for Held {
+    type Digest = u64;
+
+    ghost digest_of = { λ held. held.number };
+
+    fn digest(&self) -> u64 {
+        self.gate.pass();
+        self.number
+    }
+}
+
+/// A pool whose thread digests a message that waits at the gate.
+type Holding<R> = (Pool<Held, R>, Pooled<Held>);
+
+/// Starts a pool that digests a message.
+fn hold<R>(rt: &R, gate: &Arc<Meeting>) -> Result<Holding<R>, AllocError>
+where
+    R: Threads + Wait + AllocGlobal + Clone + Send + Drop + 'static,
+{
+    let pool = Pool::start(rt, rt.alloc())?;
+    let held = Held {
+        number: 7,
+        gate: Arc::try_clone(gate)?,
+    };
+    let job = pool.digest(rt.alloc(), held)?;
+    Ok((pool, job))
+}
+
+/// Polls the job once. Returns whether it is done.
+fn poll(task: &mut Task, job: &mut Pooled<Held>) -> bool {
+    let mut cx = task.solo.begin();
+    let polled = job.poll(&mut cx);
+    task.rest.end(cx);
+    polled.is_ready()
+}
+
+/// Polls the job some times. Returns whether it stays pending, and nothing wakes its task.
+fn is_pending(task: &mut Task, job: &mut Pooled<Held>) -> bool {
+    for _ in 0..POLLS {
+        let done = poll(task, job);
+        task.look();
+        if done || task.wakes > 0 {
+            return false;
+        }
+    }
+    true
+}
+
+/// Waits until the task is woken. Returns whether it is.
+fn wait_for_wake(clock: &impl Clock, task: &mut Task) -> bool {
+    for _ in 0..LIMIT {
+        task.look();
+        if task.wakes > 0 {
+            return true;
+        }
+        pause(clock);
+    }
+    false
+}
+
+/// What a job does whose digest waits at a gate: whether it is pending meanwhile, whether its task
+/// is woken once the gate is passed, and whether it is done then.
+type Course = (bool, bool, bool);
+
+/// Holds the thread of a pool until this one passes the gate too. Returns the course of its job,
+/// how many threads met, and the digest.
+fn release<R>(rt: &R) -> Result<(Course, u64, u64), Fail>
+where
+    R: Threads + Wait + Clock + RandomSource + AllocGlobal + Clone + Send + Drop + 'static,
+{
+    let gate = Meeting::new(rt.alloc())?;
+    let mut task = Task::new(rt)?;
+    let (pool, mut job) = hold(rt, &gate)?;
+    let pending = gate.waits_for(1) && is_pending(&mut task, &mut job);
+    gate.pass();
+    let woken = wait_for_wake(rt, &mut task);
+    let course = (pending, woken, poll(&mut task, &mut job));
+    drop(pool);
+    let (message, digest) = job.join(rt);
+    drop(message);
+    Ok((course, gate.met(), digest))
+}
+
+#[test]
+fn a_job_is_pending_until_the_thread_of_its_pool_has_digested(rt: HostRuntime) -> Result<(), Fail> {
+    assert_eq!(rt; release(&rt)?, ((true, true, true), 2, 7));
+    Ok(())
+}
+
+/// Starts a thread that passes the gate later.
+fn pass_later<R>(rt: &R, gate: &Arc<Meeting>) -> Result<JoinHandle<()>, Fail>
+where
+    R: Threads + Clock + Clone + Send + Drop + 'static,
+{
+    let gate = Arc::try_clone(gate)?;
+    let own = rt.clone()?;
+    Ok(thread::spawn(rt, move || {
+        thread::sleep(&own, Duration::from_millis(50));
+        gate.pass();
+    })?)
+}
+
+/// Drops a pool while its thread waits at a gate. Returns whether somebody has met by then, and how
+/// many have at last.
+fn drop_held<R>(rt: &R) -> Result<(bool, u64), Fail>
+where
+    R: Threads + Wait + Clock + AllocGlobal + Clone + Send + Drop + 'static,
+{
+    let gate = Meeting::new(rt.alloc())?;
+    let holding = hold(rt, &gate)?;
+    let passing = pass_later(rt, &gate)?;
+    drop(holding);
+    let met = gate.met() > 0;
+    passing.join(rt);
+    Ok((met, gate.met()))
+}
+
+#[test]
+fn a_dropped_pool_waits_until_its_thread_has_digested(rt: HostRuntime) -> Result<(), Fail> {
+    assert_eq!(rt; drop_held(&rt)?, (true, 2));
+    Ok(())
+}
