@@ -6,7 +6,7 @@ from pathlib import Path
 
 TOP = Path(__file__).resolve().parents[2]
 EXPORTS = TOP / "crates" / "broadcast_c" / "src"
-KEY = TOP / "crates" / "broadcast_core" / "src" / "ordered.rt"
+CORE = TOP / "crates" / "broadcast_core" / "src"
 HEADER = TOP / "ffi" / "broadcast_c.h"
 RUST = TOP / "rust" / "src" / "raw.rs"
 
@@ -20,9 +20,9 @@ SCALARS = {
     "*mut ()": "void *",
 }
 PREFIX = "BROADCAST_"
-KEY_STRUCT = re.compile(
-    r"#\[repr\(C\)\]\n#\[derive[^\n]*\npub struct Key \{[^}]*?pub bytes: (\[u8; \d+\]),\n\}"
-)
+# The structs that cross as their bytes, and where they are declared.
+BYTES = {"Key": "ordered.rt", "Digest": "digest.rt"}
+BYTES_STRUCT = r"#\[repr\(C\)\]\n#\[derive[^\n]*\npub struct %s \{[^}]*?pub bytes: (\[u8; \d+\]),\n\}"
 FUNCTION = r"fn (\w+)\(([^{}]*?)\)(?: -> (\w+))?"
 
 
@@ -37,10 +37,10 @@ class Texts:
     @staticmethod
     def read():
         exports = "\n".join(file.read_text() for file in sorted(EXPORTS.glob("*.rt")))
-        # A key crosses as its bytes.
-        key = KEY_STRUCT.search(KEY.read_text())[1]
-        exports = re.sub(r"&Key\b", f"&{key}", exports)
-        exports = re.sub(r"&(mut )?\[Key\]", rf"&\1[{key}]", exports)
+        for name, file in BYTES.items():
+            it = re.search(BYTES_STRUCT % name, (CORE / file).read_text())[1]
+            exports = re.sub(rf"&(mut )?{name}\b", rf"&\1{it}", exports)
+            exports = re.sub(rf"&(mut )?\[{name}\]", rf"&\1[{it}]", exports)
         rust = RUST.read_text() if RUST.exists() else None
         return Texts(exports, HEADER.read_text(), rust)
 

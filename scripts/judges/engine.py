@@ -37,7 +37,7 @@ class Request(Asked):
 
     def reply(self, found):
         """Hands a message over, or none. Returns whether it is delivered."""
-        carried = found and f"Digested {{ message: {shown(found)}, digest: {list(self.digest)} }}"
+        carried = found and f"Digested {{ message: {shown(found)}, digest: {self.digest.hex()} }}"
         self.gives = self.gives or (f"{FOUND[self.kind]}({carried})" if found else "None")
         return not self.closed
 

@@ -11,7 +11,7 @@ ghost use Rattle.broadcast_c.specs.Told.{BothHold, Fails, Finds, IsFilled, Tells
 use crate::codes::{EMPTY, MEMORY, NONE, OK, SHORT, WAITS, code_of_outcome};
 use crate::handle::CacheHandle;
 use crate::room::fill;
-use broadcast_core::{Key, Outcome};
+use broadcast_core::{Digest, Key, Outcome};
 use byte_cache::Cache;
 use std::alloc::{AllocError, Global};
 
@@ -76,7 +76,7 @@ pub extern "C" fn broadcast_cache_free(alloc: Global, cache: &mut CacheHandle)
 /// Makes the keys the primary keys.
 #[unsafe(no_mangle)]
 pub extern "C" fn broadcast_cache_peers(alloc: Global, cache: &mut CacheHandle, keys: &[Key]) -> u32
-    ensures taken { let same = same_by ⟦<Key as Ord>⟧.cmp ⟦<[u8; 32] as Ord>⟧.cmp in
+    ensures taken { let same = same_by ⟦<Key as Ord>⟧.cmp ⟦<Digest as Ord>⟧.cmp in
         result ≡ OK → BothHold cache.old.value cache.new.value (λ old new. (set : List Key)
         × HaveSameKeys same set keys.now × TakesPeers same set old.core new.core) }
     ensures fails { ¬ (result ≡ OK) → Fails cache.old.value cache.new.value result }
@@ -98,11 +98,11 @@ pub extern "C" fn broadcast_cache_take(
     alloc: Global,
     cache: &mut CacheHandle,
     peer: &Key,
-    digest: &[u8; 32],
+    digest: &Digest,
     bytes: &[u8],
     out: &mut Taken,
 ) -> u32
-    ensures taken { let same = same_by ⟦<Key as Ord>⟧.cmp ⟦<[u8; 32] as Ord>⟧.cmp in
+    ensures taken { let same = same_by ⟦<Key as Ord>⟧.cmp ⟦<Digest as Ord>⟧.cmp in
         result ≡ OK → BothHold cache.old.value cache.new.value (λ old new.
         TellsTaking same peer.now digest.now bytes.now old new out.new.outcome out.new.served) }
     ensures fails { ¬ (result ≡ OK) → Fails cache.old.value cache.new.value result }
@@ -123,7 +123,7 @@ pub extern "C" fn broadcast_cache_take_hashed(
     bytes: &[u8],
     out: &mut Taken,
 ) -> u32
-    ensures taken { let same = same_by ⟦<Key as Ord>⟧.cmp ⟦<[u8; 32] as Ord>⟧.cmp in
+    ensures taken { let same = same_by ⟦<Key as Ord>⟧.cmp ⟦<Digest as Ord>⟧.cmp in
         result ≡ OK → BothHold cache.old.value cache.new.value (λ old new. TellsTaking same
         peer.now (sha256 bytes.now) bytes.now old new out.new.outcome out.new.served) }
     ensures fails { ¬ (result ≡ OK) → Fails cache.old.value cache.new.value result }
@@ -140,11 +140,11 @@ pub extern "C" fn broadcast_cache_take_hashed(
 pub extern "C" fn broadcast_cache_take_own(
     alloc: Global,
     cache: &mut CacheHandle,
-    digest: &[u8; 32],
+    digest: &Digest,
     bytes: &[u8],
     out: &mut Taken,
 ) -> u32
-    ensures taken { let same = same_by ⟦<Key as Ord>⟧.cmp ⟦<[u8; 32] as Ord>⟧.cmp in
+    ensures taken { let same = same_by ⟦<Key as Ord>⟧.cmp ⟦<Digest as Ord>⟧.cmp in
         result ≡ OK → BothHold cache.old.value cache.new.value (λ old new. TellsTaking same
         old.core.own digest.now bytes.now old new out.new.outcome out.new.served) }
     ensures fails { ¬ (result ≡ OK) → Fails cache.old.value cache.new.value result }
@@ -205,13 +205,13 @@ pub extern "C" fn broadcast_cache_subscribe(
     alloc: Global,
     cache: &mut CacheHandle,
     ticket: u64,
-    digest: &[u8; 32],
+    digest: &Digest,
 ) -> u32
-    ensures waits { let same = same_by ⟦<Key as Ord>⟧.cmp ⟦<[u8; 32] as Ord>⟧.cmp in
+    ensures waits { let same = same_by ⟦<Key as Ord>⟧.cmp ⟦<Digest as Ord>⟧.cmp in
         result ≡ WAITS → BothHold cache.old.value cache.new.value (λ old new.
         (message_at same old.core digest.now ≡ None)
         × Awaits same digest.now ticket old.core new.core × (new.served ≡ old.served)) }
-    ensures answered { let same = same_by ⟦<Key as Ord>⟧.cmp ⟦<[u8; 32] as Ord>⟧.cmp in
+    ensures answered { let same = same_by ⟦<Key as Ord>⟧.cmp ⟦<Digest as Ord>⟧.cmp in
         result ≡ OK → BothHold cache.old.value cache.new.value (λ old new.
         (is_some (message_at same old.core digest.now) ≡ true) × (new ≡ old)) }
     ensures fails { ¬ (result ≡ OK) → ¬ (result ≡ WAITS)
@@ -234,11 +234,11 @@ pub extern "C" fn broadcast_cache_subscribe(
 pub extern "C" fn broadcast_cache_get(
     alloc: Global,
     cache: &mut CacheHandle,
-    digest: &[u8; 32],
+    digest: &Digest,
     out: &mut [u8],
     needed: &mut usize,
 ) -> u32
-    ensures { let same = same_by ⟦<Key as Ord>⟧.cmp ⟦<[u8; 32] as Ord>⟧.cmp in
+    ensures { let same = same_by ⟦<Key as Ord>⟧.cmp ⟦<Digest as Ord>⟧.cmp in
         Finds cache.old.value cache.new.value result (λ old new. (new ≡ old)
         × MatchOption (message_at same old.core digest.now) (result ≡ NONE)
         (λ it. IsFilled it.message out.old out.new needed.new result)) }
@@ -262,7 +262,7 @@ pub extern "C" fn broadcast_cache_cleanup(
     tickets: &[u64],
     removed: &mut u64,
 ) -> u32
-    ensures { let same = same_by ⟦<Key as Ord>⟧.cmp ⟦<[u8; 32] as Ord>⟧.cmp in
+    ensures { let same = same_by ⟦<Key as Ord>⟧.cmp ⟦<Digest as Ord>⟧.cmp in
         Finds cache.old.value cache.new.value result (λ old new. (result ≡ OK)
         × Cleans same (is_gone (λ t. t) tickets.now) old.core new.core
         × (removed.new ≡ counted (gone_from (λ t. t) tickets.now old.core.waiters))) }
@@ -281,10 +281,10 @@ pub extern "C" fn broadcast_cache_list(
     alloc: Global,
     cache: &mut CacheHandle,
     peer: &Key,
-    out: &mut [[u8; 32]],
+    out: &mut [Digest],
     needed: &mut usize,
 ) -> u32
-    ensures { let same = same_by ⟦<Key as Ord>⟧.cmp ⟦<[u8; 32] as Ord>⟧.cmp in
+    ensures { let same = same_by ⟦<Key as Ord>⟧.cmp ⟦<Digest as Ord>⟧.cmp in
         Finds cache.old.value cache.new.value result (λ old new. (new ≡ old)
         × IsFilled (list_at same old.core peer.now) out.old out.new needed.new result) }
 {

@@ -12,7 +12,7 @@ use crate::codes::{EMPTY, MEMORY, NONE, OK};
 use crate::handle::NodeHandle;
 use crate::room::fill;
 use crate::told::{Told, tell};
-use broadcast_core::{Key, Recipients, Sent};
+use broadcast_core::{Digest, Key, Recipients, Sent};
 use byte_cache::Node;
 use std::alloc::{AllocError, Global};
 
@@ -67,7 +67,7 @@ pub extern "C" fn broadcast_node_peers(
     keys: &[Key],
     out: &mut Told,
 ) -> u32
-    ensures applied { let same = same_by ⟦<Key as Ord>⟧.cmp ⟦<[u8; 32] as Ord>⟧.cmp in
+    ensures applied { let same = same_by ⟦<Key as Ord>⟧.cmp ⟦<Digest as Ord>⟧.cmp in
         result ≡ OK → BothHold node.old.value node.new.value (λ old new. (set : List Key)
         × HaveSameKeys same set keys.now × HasApplied same (event.Peers set) old new
         × TellsAnswer new out.new) }
@@ -90,7 +90,7 @@ pub extern "C" fn broadcast_node_broadcast(
     bytes: &[u8],
     out: &mut Told,
 ) -> u32
-    ensures applied { let same = same_by ⟦<Key as Ord>⟧.cmp ⟦<[u8; 32] as Ord>⟧.cmp in
+    ensures applied { let same = same_by ⟦<Key as Ord>⟧.cmp ⟦<Digest as Ord>⟧.cmp in
         result ≡ OK → BothHold node.old.value node.new.value (λ old new. HasApplied same
         (event.Broadcast (recipients_of all recipients.now)
         (record { message = bytes.now; digest = sha256 bytes.now })) old new
@@ -111,11 +111,11 @@ pub extern "C" fn broadcast_node_broadcast_as(
     node: &mut NodeHandle,
     all: bool,
     recipients: &[Key],
-    digest: &[u8; 32],
+    digest: &Digest,
     bytes: &[u8],
     out: &mut Told,
 ) -> u32
-    ensures applied { let same = same_by ⟦<Key as Ord>⟧.cmp ⟦<[u8; 32] as Ord>⟧.cmp in
+    ensures applied { let same = same_by ⟦<Key as Ord>⟧.cmp ⟦<Digest as Ord>⟧.cmp in
         result ≡ OK → BothHold node.old.value node.new.value (λ old new. HasApplied same
         (event.Broadcast (recipients_of all recipients.now)
         (record { message = bytes.now; digest = digest.now })) old new
@@ -138,7 +138,7 @@ pub extern "C" fn broadcast_node_payload(
     bytes: &[u8],
     out: &mut Told,
 ) -> u32
-    ensures applied { let same = same_by ⟦<Key as Ord>⟧.cmp ⟦<[u8; 32] as Ord>⟧.cmp in
+    ensures applied { let same = same_by ⟦<Key as Ord>⟧.cmp ⟦<Digest as Ord>⟧.cmp in
         result ≡ OK → BothHold node.old.value node.new.value (λ old new.
         HasApplied same (event.Payload peer.now bytes.now) old new × TellsAnswer new out.new) }
     ensures fails { ¬ (result ≡ OK) → Fails node.old.value node.new.value result }
@@ -156,10 +156,10 @@ pub extern "C" fn broadcast_node_subscribe(
     alloc: Global,
     node: &mut NodeHandle,
     ticket: u64,
-    digest: &[u8; 32],
+    digest: &Digest,
     out: &mut Told,
 ) -> u32
-    ensures { let same = same_by ⟦<Key as Ord>⟧.cmp ⟦<[u8; 32] as Ord>⟧.cmp in
+    ensures { let same = same_by ⟦<Key as Ord>⟧.cmp ⟦<Digest as Ord>⟧.cmp in
         Finds node.old.value node.new.value result (λ old new. (result ≡ OK)
         × HasApplied same (event.Subscribe ticket digest.now) old new
         × TellsAnswer new out.new) }
@@ -177,10 +177,10 @@ pub extern "C" fn broadcast_node_get(
     alloc: Global,
     node: &mut NodeHandle,
     ticket: u64,
-    digest: &[u8; 32],
+    digest: &Digest,
     out: &mut Told,
 ) -> u32
-    ensures { let same = same_by ⟦<Key as Ord>⟧.cmp ⟦<[u8; 32] as Ord>⟧.cmp in
+    ensures { let same = same_by ⟦<Key as Ord>⟧.cmp ⟦<Digest as Ord>⟧.cmp in
         Finds node.old.value node.new.value result (λ old new. (result ≡ OK)
         × HasApplied same (event.Get ticket digest.now) old new × TellsAnswer new out.new) }
 {
@@ -199,7 +199,7 @@ pub extern "C" fn broadcast_node_cleanup(
     tickets: &[u64],
     out: &mut Told,
 ) -> u32
-    ensures applied { let same = same_by ⟦<Key as Ord>⟧.cmp ⟦<[u8; 32] as Ord>⟧.cmp in
+    ensures applied { let same = same_by ⟦<Key as Ord>⟧.cmp ⟦<Digest as Ord>⟧.cmp in
         result ≡ OK → BothHold node.old.value node.new.value (λ old new.
         HasApplied same (event.Cleanup tickets.now) old new × TellsAnswer new out.new) }
     ensures fails { ¬ (result ≡ OK) → Fails node.old.value node.new.value result }
@@ -257,7 +257,7 @@ pub extern "C" fn broadcast_node_served(
 pub extern "C" fn broadcast_node_message(
     alloc: Global,
     node: &mut NodeHandle,
-    digest: &mut [u8; 32],
+    digest: &mut Digest,
     out: &mut [u8],
     needed: &mut usize,
 ) -> u32

@@ -5,7 +5,9 @@
 #![tactic(auto)]
 
 pub mod buffer;
+mod bytes32;
 pub mod codec;
+mod digest;
 pub mod digested;
 mod event;
 mod items;
@@ -18,6 +20,7 @@ pub mod runner;
 
 pub use buffer::Core;
 pub use codec::{Codec, CodecError, EncodeSize, RangeCfg, Read, Write, byte_list, decode_cfg};
+pub use digest::Digest;
 pub use digested::{Digested, Digestible};
 pub use event::{Answer, Cause, Event, Run, Sent};
 pub use items::Items;

@@ -10,8 +10,8 @@ ghost use Rattle.broadcast_core.specs.TestMessage.{Parts, encoding_of, read_mess
 ghost use Rattle.broadcast_core.specs.CodecLaws.{message_within, message_refusals, message_reads_back};
 
 use crate::codec::{Codec, CodecError, EncodeSize, RangeCfg, Read, Write, byte_list};
+use crate::digest::Digest;
 use crate::digested::Digestible;
-use sha2::{Digest, Sha256};
 use std::alloc::{AllocError, Global};
 use std::marker::Model;
 
@@ -78,13 +78,13 @@ impl Eq for TestMessage {
 }
 
 impl Digestible for TestMessage {
-    type Digest = [u8; 32];
+    type Digest = Digest;
 
     ghost digest_of = { λ m. sha256 m.content };
 
     /// Computes the SHA-256 digest of the content alone.
-    fn digest(&self) -> [u8; 32] {
-        Sha256::digest(&self.content)
+    fn digest(&self) -> Digest {
+        Digest::sha256(&self.content)
     }
 }
 

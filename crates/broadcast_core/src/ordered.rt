@@ -10,6 +10,7 @@ ghost use Rattle.std.specs.Ordering.{eq_by_cmp, nat_cmp};
 ghost use Rattle.std.proofs.Common.{rules};
 ghost use Rattle.broadcast_core.specs.Stored.{AreBelow};
 
+use crate::bytes32::{compare, write_hex};
 use crate::items::Items;
 use std::alloc::{AllocError, Global};
 use std::cmp::Ordering;
@@ -55,15 +56,9 @@ impl Ord for Key {
 
     ghost matches_eq = { λ x y. texts_ties x.bytes y.bytes };
 
-    /// Most keys differ in their first byte, which is compared without a call.
     #[inline]
     fn cmp(&self, other: &Self) -> Ordering {
-        let first = self.bytes[0].cmp(&other.bytes[0]);
-        if first.is_eq() {
-            self.bytes.cmp(&other.bytes)
-        } else {
-            first
-        }
+        compare(&self.bytes, &other.bytes)
     }
 }
 
@@ -74,10 +69,7 @@ impl PublicKey for Key {
 /// The bytes in lower-case hexadecimal.
 impl fmt::Debug for Key {
     fn fmt<W: fmt::Write>(&self, f: &mut fmt::Formatter<W>) -> fmt::Result {
-        for byte in &self.bytes {
-            write!(f, "{byte:02x}")?;
-        }
-        Ok(())
+        write_hex(&self.bytes, f)
     }
 }
 

@@ -3,6 +3,7 @@
 mod rows;
 mod world_rows;
 
+use broadcast_core::Digest;
 use broadcast_mailbox::buffered::{Fixed, Inbox, Message};
 use replay_lib::{Request, play_through};
 use rows::{Program, Row, Stream, Through, replay_rows};
@@ -85,7 +86,7 @@ fn inbox(alloc: Global, through: Through) -> Inbox<Request> {
         }
         Through::Shared => {
             let request = Message::Get {
-                digest: [0; 32],
+                digest: Digest { bytes: [0; 32] },
                 responder: Fixed { closed: false },
             };
             // A request that finds no place is missed by the comparison of the counts.

@@ -10,8 +10,7 @@ ghost use Rattle.broadcast_text.specs.declared.line_error.LineError.TheVariants.
 use crate::byte_list::{is_byte_list, parse_byte_list};
 use crate::line_error::LineError;
 use crate::words::{Words, expect_number, strip_mark};
-use broadcast_core::{Digested, TestMessage};
-use sha2::{Digest, Sha256};
+use broadcast_core::{Digest, Digested, TestMessage};
 use std::alloc::{AllocError, Global};
 
 /// The words of a message.
@@ -64,7 +63,7 @@ impl<'a> MessageWords<'a> {
         let Some(word) = self.named else {
             return Ok(Digested::compute(alloc, message)?);
         };
-        let digest = Sha256::digest(&bytes_of(alloc, word)?);
+        let digest = Digest::sha256(&bytes_of(alloc, word)?);
         Ok(Digested::precomputed(alloc, message, digest)?)
     }
 }
@@ -123,7 +122,7 @@ fn bytes_of(alloc: Global, word: &[u8]) -> Result<Vec<u8>, AllocError>
 ///
 /// Fails with [`LineError::Syntax`] if the words are no request, and with [`LineError::Memory`] if
 /// an allocation fails.
-pub fn parse_request(alloc: Global, words: Words<'_>) -> Result<(u64, [u8; 32]), LineError>
+pub fn parse_request(alloc: Global, words: Words<'_>) -> Result<(u64, Digest), LineError>
     ensures spelled_so { IfOk result (λ r. (content : List ℕ)
         × (words.entry ≡ decimal r.0 ∷ byte_list_word content ∷ []) × (r.1 ≡ sha256 content)) }
     ensures reads_all_requests { (ticket : ℕ) (content : List ℕ) → ticket < 2 ^ 64
@@ -143,7 +142,7 @@ pub fn parse_request(alloc: Global, words: Words<'_>) -> Result<(u64, [u8; 32]),
 ///
 /// Fails with [`LineError::Syntax`] if it spells none, and with [`LineError::Memory`] if an
 /// allocation fails.
-pub fn parse_digest(alloc: Global, word: &[u8]) -> Result<[u8; 32], LineError>
+pub fn parse_digest(alloc: Global, word: &[u8]) -> Result<Digest, LineError>
     ensures spelled_so { IfOk result (λ digest.
         (content : List ℕ) × (word.now ≡ byte_list_word content) × (digest ≡ sha256 content)) }
     ensures reads_all_contents { (content : List ℕ) → IsBytes content
@@ -151,5 +150,5 @@ pub fn parse_digest(alloc: Global, word: &[u8]) -> Result<[u8; 32], LineError>
     ensures no_memory_for_a_content { IfErr result (λ e. e ≡ Memory → SpellsBytes word.now) }
 {
     let content = parse_byte_list(alloc, word)?;
-    Ok(Sha256::digest(&content))
+    Ok(Digest::sha256(&content))
 }

@@ -13,7 +13,9 @@ ghost use Rattle.broadcast_core.specs.declared.event.Event.TheVariants as event;
 
 use crate::encoded::Encoded;
 use broadcast_core::runner::apply;
-use broadcast_core::{Answer, Cause, Core, Digested, PublicKey, RangeCfg, Set, TestMessage};
+use broadcast_core::{
+    Answer, Cause, Core, Digest, Digested, PublicKey, RangeCfg, Set, TestMessage,
+};
 use std::alloc::{AllocError, Global};
 
 /// Drops the waiters with these tickets.
@@ -90,7 +92,7 @@ fn arrival<P: PublicKey>(
 pub fn subscribe<P: PublicKey>(
     core: &mut Core<P, TestMessage, u64>,
     ticket: u64,
-    digest: &[u8; 32],
+    digest: &Digest,
 ) -> Answer<TestMessage>
     ensures { (w : Scene P) (n : P)
         → NodeFollows P.cmp w n (event.Subscribe ticket digest.now) core.old core.new result }
@@ -102,7 +104,7 @@ pub fn subscribe<P: PublicKey>(
 pub fn get<P: PublicKey>(
     core: &Core<P, TestMessage, u64>,
     ticket: u64,
-    digest: &[u8; 32],
+    digest: &Digest,
 ) -> Answer<TestMessage>
     ensures { (w : Scene P) (n : P)
         → NodeFollows P.cmp w n (event.Get ticket digest.now) core.now core.now result }

@@ -13,7 +13,7 @@ use crate::encoded::Encoded;
 use crate::made::cores_for;
 use crate::node;
 use crate::step::WorldAnswer;
-use broadcast_core::{Core, PublicKey, RangeCfg, Set, TestMessage};
+use broadcast_core::{Core, Digest, PublicKey, RangeCfg, Set, TestMessage};
 use std::alloc::{AllocError, Global};
 use std::sync::Arc;
 
@@ -110,7 +110,7 @@ impl<P: PublicKey> Nodes<P> {
     }
 
     /// Answers a subscribe at the node.
-    pub fn subscribe(&mut self, key: &P, ticket: u64, digest: &[u8; 32]) -> WorldAnswer
+    pub fn subscribe(&mut self, key: &P, ticket: u64, digest: &Digest) -> WorldAnswer
         ensures keys { self.new.keys ≡ self.old.keys }
         ensures node { (w : Scene P) → w.nodes ≡ arc_value self.old.keys
             → AtNode P.cmp w (event_at P.cmp w key.now (event.Subscribe ticket digest.now))
@@ -123,7 +123,7 @@ impl<P: PublicKey> Nodes<P> {
     }
 
     /// Answers a get at the node.
-    pub fn get(&self, key: &P, ticket: u64, digest: &[u8; 32]) -> WorldAnswer
+    pub fn get(&self, key: &P, ticket: u64, digest: &Digest) -> WorldAnswer
         ensures { (w : Scene P) → w.nodes ≡ arc_value self.now.keys
             → AtNode P.cmp w (event_at P.cmp w key.now (event.Get ticket digest.now))
             self.now.cores.items self.now.cores.items result }

@@ -2,7 +2,7 @@
 ghost use Rattle.std.specs.Prelude.{◌≡◌};
 ghost use Rattle.broadcast_world.specs.TwoRuns.{is_hostile};
 
-use broadcast_core::{Answer, Digested, Items, PublicKey, Recipients, Set, TestMessage};
+use broadcast_core::{Answer, Digest, Digested, Items, PublicKey, Recipients, Set, TestMessage};
 
 /// A step of a world.
 #[derive(Drop)]
@@ -12,9 +12,9 @@ pub enum Step<P: PublicKey> {
     /// The node broadcasts the message to the recipients.
     Broadcast(P, Recipients<P>, Digested<TestMessage>),
     /// The node subscribes to the digest's message with a ticket.
-    Subscribe(P, u64, [u8; 32]),
+    Subscribe(P, u64, Digest),
     /// The node is asked for the digest's cached message with a ticket.
-    Get(P, u64, [u8; 32]),
+    Get(P, u64, Digest),
     /// The node drops the waiters with these tickets.
     Cleanup(P, Items<u64>),
     /// The packet with this number arrives at its addressee.

@@ -3,8 +3,9 @@ ghost use Rattle.std.specs.Prelude.{◌≡◌, IfOk};
 ghost use Rattle.sha2.specs.Sha256.{sha256};
 ghost use Rattle.byte_cache.specs.Blob.{encoding_of, read_blob, blob_within, blob_refusals, blob_reads_back};
 
-use broadcast_core::{Codec, CodecError, Digestible, EncodeSize, RangeCfg, Read, Write, byte_list};
-use sha2::{Digest, Sha256};
+use broadcast_core::{
+    Codec, CodecError, Digest, Digestible, EncodeSize, RangeCfg, Read, Write, byte_list,
+};
 use std::alloc::{AllocError, Global};
 use std::marker::Model;
 
@@ -42,13 +43,13 @@ impl Blob {
 }
 
 impl Digestible for Blob {
-    type Digest = [u8; 32];
+    type Digest = Digest;
 
     ghost digest_of = { sha256 };
 
     /// Computes the SHA-256 of the bytes.
-    fn digest(&self) -> [u8; 32] {
-        Sha256::digest(&self.bytes)
+    fn digest(&self) -> Digest {
+        Digest::sha256(&self.bytes)
     }
 }
 

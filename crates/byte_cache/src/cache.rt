@@ -8,7 +8,7 @@ ghost use Rattle.broadcast_core.specs.Waiters.{is_gone, gone_from, counted};
 ghost use Rattle.byte_cache.specs.Changes.{HaveSameKeys, TakesBytes};
 
 use crate::blob::Blob;
-use broadcast_core::{Core, Digested, Items, Key, Outcome, Set, Subscribed};
+use broadcast_core::{Core, Digest, Digested, Items, Key, Outcome, Set, Subscribed};
 use std::alloc::{AllocError, Global};
 
 /// A cache of messages that are bytes. A waiter is a ticket.
@@ -45,7 +45,7 @@ impl Cache {
 
     /// Makes `keys` the primary keys. They may come in any order, and repeat.
     pub fn update_primary_peers(&mut self, alloc: Global, keys: &[Key]) -> Result<(), AllocError>
-        ensures taken { let same = same_by ⟦<Key as Ord>⟧.cmp ⟦<[u8; 32] as Ord>⟧.cmp in
+        ensures taken { let same = same_by ⟦<Key as Ord>⟧.cmp ⟦<Digest as Ord>⟧.cmp in
             OnOk result ((set : List Key) × HaveSameKeys same set keys.now
             × TakesPeers same set self.old.core self.new.core) }
         ensures refused { OnErr result (self.new ≡ self.old) }
@@ -60,10 +60,10 @@ impl Cache {
         &mut self,
         alloc: Global,
         peer: &Key,
-        digest: [u8; 32],
+        digest: Digest,
         bytes: &[u8],
     ) -> Result<Outcome, AllocError>
-        ensures taken { let same = same_by ⟦<Key as Ord>⟧.cmp ⟦<[u8; 32] as Ord>⟧.cmp in
+        ensures taken { let same = same_by ⟦<Key as Ord>⟧.cmp ⟦<Digest as Ord>⟧.cmp in
             IfOk result (TakesBytes same peer.now digest bytes.now self.old self.new) }
         ensures refused { OnErr result (self.new ≡ self.old) }
     {
@@ -78,7 +78,7 @@ impl Cache {
         peer: &Key,
         bytes: &[u8],
     ) -> Result<Outcome, AllocError>
-        ensures taken { let same = same_by ⟦<Key as Ord>⟧.cmp ⟦<[u8; 32] as Ord>⟧.cmp in
+        ensures taken { let same = same_by ⟦<Key as Ord>⟧.cmp ⟦<Digest as Ord>⟧.cmp in
             IfOk result (TakesBytes same peer.now (sha256 bytes.now) bytes.now self.old self.new) }
         ensures refused { OnErr result (self.new ≡ self.old) }
     {
@@ -90,10 +90,10 @@ impl Cache {
     pub fn take_own(
         &mut self,
         alloc: Global,
-        digest: [u8; 32],
+        digest: Digest,
         bytes: &[u8],
     ) -> Result<Outcome, AllocError>
-        ensures taken { let same = same_by ⟦<Key as Ord>⟧.cmp ⟦<[u8; 32] as Ord>⟧.cmp in
+        ensures taken { let same = same_by ⟦<Key as Ord>⟧.cmp ⟦<Digest as Ord>⟧.cmp in
             IfOk result (TakesBytes same self.old.core.own digest bytes.now self.old self.new) }
         ensures refused { OnErr result (self.new ≡ self.old) }
     {
@@ -103,7 +103,7 @@ impl Cache {
 
     // Takes the message under the key.
     fn take_message(&mut self, peer: &Key, message: &Digested<Blob>) -> Result<Outcome, AllocError>
-        ensures taken { let same = same_by ⟦<Key as Ord>⟧.cmp ⟦<[u8; 32] as Ord>⟧.cmp in
+        ensures taken { let same = same_by ⟦<Key as Ord>⟧.cmp ⟦<Digest as Ord>⟧.cmp in
             IfOk result (TakesBytes same peer.now message.now.digest message.now.message
             self.old self.new) }
         ensures refused { OnErr result (self.new ≡ self.old) }
@@ -114,11 +114,11 @@ impl Cache {
     }
 
     /// Lets the ticket wait for the digest, unless its message is cached. Returns whether it waits.
-    pub fn subscribe(&mut self, ticket: u64, digest: [u8; 32]) -> Result<bool, AllocError>
-        ensures answered { let same = same_by ⟦<Key as Ord>⟧.cmp ⟦<[u8; 32] as Ord>⟧.cmp in
+    pub fn subscribe(&mut self, ticket: u64, digest: Digest) -> Result<bool, AllocError>
+        ensures answered { let same = same_by ⟦<Key as Ord>⟧.cmp ⟦<Digest as Ord>⟧.cmp in
             IfOk result (λ waits. waits ≡ false
             → (is_some (message_at same self.old.core digest) ≡ true) × (self.new ≡ self.old)) }
-        ensures waits { let same = same_by ⟦<Key as Ord>⟧.cmp ⟦<[u8; 32] as Ord>⟧.cmp in
+        ensures waits { let same = same_by ⟦<Key as Ord>⟧.cmp ⟦<Digest as Ord>⟧.cmp in
             IfOk result (λ waits. waits ≡ true → (message_at same self.old.core digest ≡ None)
             × Awaits same digest ticket self.old.core self.new.core
             × (self.new.served ≡ self.old.served)) }
@@ -132,8 +132,8 @@ impl Cache {
     }
 
     /// Returns the cached bytes of the digest.
-    pub fn get(&self, digest: &[u8; 32]) -> Option<&[u8]>
-        ensures { let same = same_by ⟦<Key as Ord>⟧.cmp ⟦<[u8; 32] as Ord>⟧.cmp in
+    pub fn get(&self, digest: &Digest) -> Option<&[u8]>
+        ensures { let same = same_by ⟦<Key as Ord>⟧.cmp ⟦<Digest as Ord>⟧.cmp in
             option_copied result
             ≡ option_map (λ x. x.message) (message_at same self.now.core digest.now) }
     {
@@ -147,7 +147,7 @@ impl Cache {
     pub fn cleanup(&mut self, tickets: &[u64]) -> u64
         ensures removed { result
             ≡ counted (gone_from (λ t. t) tickets.now self.old.core.waiters) }
-        ensures dropped { let same = same_by ⟦<Key as Ord>⟧.cmp ⟦<[u8; 32] as Ord>⟧.cmp in
+        ensures dropped { let same = same_by ⟦<Key as Ord>⟧.cmp ⟦<Digest as Ord>⟧.cmp in
             Cleans same (is_gone (λ t. t) tickets.now) self.old.core self.new.core }
         ensures served { self.new.served ≡ self.old.served }
     {

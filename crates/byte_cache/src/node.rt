@@ -9,7 +9,9 @@ ghost use Rattle.byte_cache.specs.Changes.{HasApplied, HaveSameKeys, message_of,
 
 use crate::blob::Blob;
 use broadcast_core::runner::apply::apply;
-use broadcast_core::{Answer, Core, Digested, Event, Items, Key, RangeCfg, Recipients, Sent, Set};
+use broadcast_core::{
+    Answer, Core, Digest, Digested, Event, Items, Key, RangeCfg, Recipients, Sent, Set,
+};
 use std::alloc::{AllocError, Global};
 
 /// A node that is handed events. It keeps the answer to the last one and what that one sends.
@@ -55,7 +57,7 @@ impl Node {
 
     // Applies the event, and keeps its answer and what it sends.
     fn apply(&mut self, alloc: Global, event: Event<Key, Blob>)
-        ensures { let same = same_by ⟦<Key as Ord>⟧.cmp ⟦<[u8; 32] as Ord>⟧.cmp in
+        ensures { let same = same_by ⟦<Key as Ord>⟧.cmp ⟦<Digest as Ord>⟧.cmp in
             HasApplied same event self.old self.new }
     {
         let (answer, packet) = apply(alloc, &mut self.core, false, &self.lengths, event);
@@ -65,7 +67,7 @@ impl Node {
 
     /// The keys become the primary ones. They may come in any order, and repeat.
     pub fn peers(&mut self, alloc: Global, keys: &[Key]) -> Result<(), AllocError>
-        ensures applied { let same = same_by ⟦<Key as Ord>⟧.cmp ⟦<[u8; 32] as Ord>⟧.cmp in
+        ensures applied { let same = same_by ⟦<Key as Ord>⟧.cmp ⟦<Digest as Ord>⟧.cmp in
             OnOk result ((set : List Key) × HaveSameKeys same set keys.now
             × HasApplied same (event.Peers set) self.old self.new) }
         ensures refused { OnErr result (self.new ≡ self.old) }
@@ -83,7 +85,7 @@ impl Node {
         keys: &[Key],
         bytes: &[u8],
     ) -> Result<(), AllocError>
-        ensures applied { let same = same_by ⟦<Key as Ord>⟧.cmp ⟦<[u8; 32] as Ord>⟧.cmp in
+        ensures applied { let same = same_by ⟦<Key as Ord>⟧.cmp ⟦<Digest as Ord>⟧.cmp in
             OnOk result (HasApplied same (event.Broadcast (recipients_of all keys.now)
             (record { message = bytes.now; digest = sha256 bytes.now })) self.old self.new) }
         ensures refused { OnErr result (self.new ≡ self.old) }
@@ -100,10 +102,10 @@ impl Node {
         alloc: Global,
         all: bool,
         keys: &[Key],
-        digest: [u8; 32],
+        digest: Digest,
         bytes: &[u8],
     ) -> Result<(), AllocError>
-        ensures applied { let same = same_by ⟦<Key as Ord>⟧.cmp ⟦<[u8; 32] as Ord>⟧.cmp in
+        ensures applied { let same = same_by ⟦<Key as Ord>⟧.cmp ⟦<Digest as Ord>⟧.cmp in
             OnOk result (HasApplied same (event.Broadcast (recipients_of all keys.now)
             (record { message = bytes.now; digest = digest })) self.old self.new) }
         ensures refused { OnErr result (self.new ≡ self.old) }
@@ -116,7 +118,7 @@ impl Node {
 
     /// The peer sent these bytes.
     pub fn payload(&mut self, alloc: Global, peer: &Key, bytes: &[u8]) -> Result<(), AllocError>
-        ensures applied { let same = same_by ⟦<Key as Ord>⟧.cmp ⟦<[u8; 32] as Ord>⟧.cmp in
+        ensures applied { let same = same_by ⟦<Key as Ord>⟧.cmp ⟦<Digest as Ord>⟧.cmp in
             OnOk result (HasApplied same (event.Payload peer.now bytes.now) self.old self.new) }
         ensures refused { OnErr result (self.new ≡ self.old) }
     {
@@ -126,16 +128,16 @@ impl Node {
     }
 
     /// The ticket waits for the message of the digest, unless it is cached.
-    pub fn subscribe(&mut self, alloc: Global, ticket: u64, digest: [u8; 32])
-        ensures { let same = same_by ⟦<Key as Ord>⟧.cmp ⟦<[u8; 32] as Ord>⟧.cmp in
+    pub fn subscribe(&mut self, alloc: Global, ticket: u64, digest: Digest)
+        ensures { let same = same_by ⟦<Key as Ord>⟧.cmp ⟦<Digest as Ord>⟧.cmp in
             HasApplied same (event.Subscribe ticket digest) self.old self.new }
     {
         self.apply(alloc, Event::Subscribe(ticket, digest));
     }
 
     /// The cached message of the digest is asked for.
-    pub fn get(&mut self, alloc: Global, ticket: u64, digest: [u8; 32])
-        ensures { let same = same_by ⟦<Key as Ord>⟧.cmp ⟦<[u8; 32] as Ord>⟧.cmp in
+    pub fn get(&mut self, alloc: Global, ticket: u64, digest: Digest)
+        ensures { let same = same_by ⟦<Key as Ord>⟧.cmp ⟦<Digest as Ord>⟧.cmp in
             HasApplied same (event.Get ticket digest) self.old self.new }
     {
         self.apply(alloc, Event::Get(ticket, digest));
@@ -143,7 +145,7 @@ impl Node {
 
     /// The waiters with these tickets are gone.
     pub fn cleanup(&mut self, alloc: Global, tickets: &[u64]) -> Result<(), AllocError>
-        ensures applied { let same = same_by ⟦<Key as Ord>⟧.cmp ⟦<[u8; 32] as Ord>⟧.cmp in
+        ensures applied { let same = same_by ⟦<Key as Ord>⟧.cmp ⟦<Digest as Ord>⟧.cmp in
             OnOk result (HasApplied same (event.Cleanup tickets.now) self.old self.new) }
         ensures refused { OnErr result (self.new ≡ self.old) }
     {

@@ -7,11 +7,11 @@ ghost use Rattle.cluster_lib.specs.Measured.{measured_text};
 
 use crate::fault::Fault;
 use crate::keys::{key_of, keys_of};
-use crate::message::{Digest, broadcast, digest_of};
+use crate::message::{broadcast, digest_of};
 use crate::node::{Node, start};
 use crate::progress::Progress;
 use crate::rate::Rate;
-use broadcast_core::{Key, RangeCfg, TestMessage};
+use broadcast_core::{Digest, Key, RangeCfg, TestMessage};
 use commonware_broadcast::buffered::{Get, Mailbox, Sequential};
 use memory_network::Mail;
 use std::alloc::AllocGlobal;

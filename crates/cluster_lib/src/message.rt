@@ -1,13 +1,10 @@
 //! The messages that the program's nodes broadcast.
 use crate::fault::Fault;
-use broadcast_core::{Digested, Digestible, Key, Recipients, TestMessage};
+use broadcast_core::{Digest, Digested, Digestible, Key, Recipients, TestMessage};
 use broadcast_mailbox::{Broadcaster, Feedback};
 use commonware_broadcast::buffered::{Bookkeeping, Mailbox};
 use std::alloc::{AllocError, AllocGlobal, Global};
 use std::sync::Wait;
-
-/// The name of a message.
-pub type Digest = [u8; 32];
 
 /// Creates the message of the node with this number. Its content has the number of the node and
 /// that of the message, eight bytes each.

@@ -1,8 +1,8 @@
 //! What the threads of a run share.
-use crate::message::{Digest, digests_of};
+use crate::message::digests_of;
 use crate::progress::Progress;
 use crate::settings::Settings;
-use broadcast_core::Key;
+use broadcast_core::{Digest, Key};
 use memory_network::Network;
 use std::alloc::{AllocError, Global};
 use std::sync::Arc;

@@ -2,8 +2,7 @@
 ghost use Rattle.std.specs.Prelude.{◌≡◌};
 ghost use Rattle.broadcast_mailbox.specs.Account.{TallyState};
 
-use crate::message::Digest;
-use broadcast_core::{Digested, Key, Recipients, TestMessage};
+use broadcast_core::{Digest, Digested, Key, Recipients, TestMessage};
 use broadcast_mailbox::{Feedback, MailboxError};
 use commonware_broadcast::buffered::{Account, All, Books, Get, Mailbox, Subscription, Tally};
 use std::sync::Wait;

@@ -225,7 +225,7 @@ impl Writing {
     }
 
     fn has_digest(&self, alloc: Global) -> Result<bool, AllocError> {
-        Ok(self.message(alloc)?.digest() == self.digest)
+        Ok(self.message(alloc)?.digest().bytes == self.digest)
     }
 
     fn is_kept(&self, alloc: Global) -> Result<bool, Fail> {

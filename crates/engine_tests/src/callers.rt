@@ -3,7 +3,7 @@ use super::act::Act;
 use super::asked::{Asked, Given};
 use super::message::{To, digest, digested, recipients};
 use super::wires::place;
-use broadcast_core::{Digested, Recipients, TestMessage};
+use broadcast_core::{Digest, Digested, Recipients, TestMessage};
 use broadcast_mailbox::buffered::Mailbox;
 use broadcast_mailbox::{Broadcaster, Feedback, MailboxError};
 use std::alloc::{AllocError, AllocGlobal, Global};
@@ -91,7 +91,7 @@ where
     }
 
     /// Makes the get or the subscribe. Returns whether it is queued.
-    fn ask_for(&mut self, key: u64, act: Act, digest: [u8; 32]) -> bool {
+    fn ask_for(&mut self, key: u64, act: Act, digest: Digest) -> bool {
         match self.queued(key, act, digest) {
             Some(asked) => self.asked.push(asked).is_ok(),
             None => false,
@@ -99,7 +99,7 @@ where
     }
 
     /// Makes the get or the subscribe. Returns its future if it is queued.
-    fn queued(&self, key: u64, act: Act, digest: [u8; 32]) -> Option<Asked> {
+    fn queued(&self, key: u64, act: Act, digest: Digest) -> Option<Asked> {
         asked(self.mailboxes.get(place(key))?, act, digest).ok()
     }
 
@@ -152,7 +152,7 @@ fn is_told(act: Act, told: Option<Feedback>) -> bool {
 fn asked<R: Wait>(
     mailbox: &Mailbox<u64, TestMessage, R>,
     act: Act,
-    digest: [u8; 32],
+    digest: Digest,
 ) -> Result<Asked, MailboxError> {
     match act {
         Act::Subscribe(..) | Act::Hears(..) => {

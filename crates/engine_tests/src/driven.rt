@@ -1,7 +1,7 @@
 //! An engine over scripts, and what was made of it.
 use super::message::{To, digest, sending};
 use super::scripts::{Handed, Network, Scripted, Sources};
-use broadcast_core::TestMessage;
+use broadcast_core::{Digest, TestMessage};
 use commonware_broadcast::buffered::{Engine, Reply, Turn, drive};
 use commonware_broadcast::mocks::{RecordingOutlet, Replied};
 use futures::task::{Poll, Solo};
@@ -108,7 +108,7 @@ fn is_reply(
 }
 
 /// Returns the ticket of the reply, the digest of its message, and whether it was delivered.
-fn told(reply: &Handed) -> (u64, Option<[u8; 32]>, bool) {
+fn told(reply: &Handed) -> (u64, Option<Digest>, bool) {
     match reply {
         Replied::Subscribed(it) => (it.ticket, Some(it.reply.digest()), it.delivered),
         Replied::Got(it) => (it.ticket, got(&it.reply), it.delivered),
@@ -116,7 +116,7 @@ fn told(reply: &Handed) -> (u64, Option<[u8; 32]>, bool) {
 }
 
 /// Returns the digest of the message, if there is one.
-fn got(reply: &Option<Reply<TestMessage>>) -> Option<[u8; 32]> {
+fn got(reply: &Option<Reply<TestMessage>>) -> Option<Digest> {
     match reply {
         Some(reply) => Some(reply.digest()),
         None => None,

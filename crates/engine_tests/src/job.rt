@@ -3,7 +3,7 @@ ghost use Rattle.std.specs.Prelude.{◌≡◌};
 ghost use Rattle.futures.specs.Task.{IsArmed, Keeps};
 ghost use Rattle.futures.specs.declared.task.Poll.TheVariants.{Pending};
 
-use broadcast_core::{Digestible, TestMessage};
+use broadcast_core::{Digest, Digestible, TestMessage};
 use commonware_broadcast::buffered::{Job, Strategy};
 use futures::task::{Context, Poll, Source, Waker};
 use std::alloc::{AllocError, Global};
@@ -83,7 +83,7 @@ pub struct Gated(pub Rc<Gate>);
 #[derive(Drop)]
 pub struct GatedJob {
     gate: Rc<Gate>,
-    message: Option<(TestMessage, [u8; 32])>,
+    message: Option<(TestMessage, Digest)>,
 }
 
 impl Strategy<TestMessage> for Gated {
@@ -107,7 +107,7 @@ impl Job<TestMessage> for GatedJob {
 
     ghost is_of = { λ job m. HoldsDigested ⟦<TestMessage as Digestible>⟧.digest_of m job.message };
 
-    fn poll(&mut self, cx: &mut Context<'_>) -> Poll<(TestMessage, [u8; 32])> {
+    fn poll(&mut self, cx: &mut Context<'_>) -> Poll<(TestMessage, Digest)> {
         if self.gate.is_shut() {
             return self.gate.wait(cx);
         }

@@ -1,5 +1,7 @@
 //! Messages and recipients by short names.
-use broadcast_core::{Digested, Digestible, Items, Recipients, Sent, Set, TestMessage, Write};
+use broadcast_core::{
+    Digest, Digested, Digestible, Items, Recipients, Sent, Set, TestMessage, Write,
+};
 use std::alloc::{AllocError, Global};
 
 /// Recipients.
@@ -33,7 +35,7 @@ pub fn letter_of(message: &TestMessage) -> u8 {
 }
 
 /// Returns the digest of the message of the letter.
-pub fn digest(alloc: Global, letter: u8) -> Result<[u8; 32], AllocError> {
+pub fn digest(alloc: Global, letter: u8) -> Result<Digest, AllocError> {
     Ok(message_of(alloc, letter)?.digest())
 }
 

@@ -6,9 +6,8 @@ ghost use Rattle.examples.specs.Note.{encoding_of, read_note, note_within, note_
 
 use anyhow::Error;
 use broadcast_core::{
-    Codec, CodecError, Digestible, EncodeSize, RangeCfg, Read, Write, byte_list, decode_cfg,
+    Codec, CodecError, Digest, Digestible, EncodeSize, RangeCfg, Read, Write, byte_list, decode_cfg,
 };
-use sha2::{Digest, Sha256};
 use std::alloc::Global;
 use std::io;
 use std::marker::Model;
@@ -33,12 +32,12 @@ impl Model for Note {
 }
 
 impl Digestible for Note {
-    type Digest = [u8; 32];
+    type Digest = Digest;
 
     ghost digest_of = { λ note. sha256 note };
 
-    fn digest(&self) -> [u8; 32] {
-        Sha256::digest(&self.text)
+    fn digest(&self) -> Digest {
+        Digest::sha256(&self.text)
     }
 }
 

@@ -5,7 +5,7 @@ ghost use Rattle.futures.specs.Poll.{OnPending};
 ghost use Rattle.futures.specs.Task.{IsArmed, Keeps};
 
 use crate::buffered::worker::Work;
-use broadcast_core::{Digestible, TestMessage};
+use broadcast_core::{Digest, Digestible, TestMessage};
 use counted_slot::{Counted, Fits, TAKEN};
 use futures::task::{Context, Poll, Source, Waker};
 use std::alloc::{AllocError, Global};
@@ -340,7 +340,7 @@ impl<R: Threads + Wait + Drop> Work<Pool<TestMessage, R>, R> for TestMessage {
         worker.poll(cx)
     }
 
-    fn join(worker: Pooled<TestMessage>, rt: &R) -> (TestMessage, [u8; 32]) {
+    fn join(worker: Pooled<TestMessage>, rt: &R) -> (TestMessage, Digest) {
         worker.join(rt)
     }
 }

@@ -5,7 +5,7 @@ ghost use Rattle.futures.specs.Task.{IsArmed, Keeps};
 ghost use Rattle.commonware_broadcast.specs.Workers.{IsWorkerOf};
 
 use crate::buffered::gate::{Gate, Open};
-use broadcast_core::{Digestible, TestMessage};
+use broadcast_core::{Digest, Digestible, TestMessage};
 use futures::Future;
 use futures::channel::oneshot::{self, Receiver};
 use futures::task::{Context, Poll};
@@ -158,7 +158,7 @@ impl<R: Threads> Work<Open, R> for TestMessage {
         worker.poll(cx)
     }
 
-    fn join(worker: Worker<TestMessage>, rt: &R) -> (TestMessage, [u8; 32]) {
+    fn join(worker: Worker<TestMessage>, rt: &R) -> (TestMessage, Digest) {
         worker.join(rt)
     }
 }

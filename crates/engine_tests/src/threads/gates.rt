@@ -4,7 +4,7 @@ ghost use Rattle.commonware_broadcast.specs.Workers.{IsWorkerOf};
 
 use super::patient::LIMIT;
 use crate::task::Task;
-use broadcast_core::{Digestible, TestMessage};
+use broadcast_core::{Digest, Digestible, TestMessage};
 use commonware_broadcast::buffered::gate::Gate;
 use commonware_broadcast::buffered::strategy::{Job, Strategy};
 use commonware_broadcast::buffered::threaded::{Threaded, Working};
@@ -92,7 +92,7 @@ impl<R: Threads> Work<Meeting, R> for TestMessage {
         worker.poll(cx)
     }
 
-    fn join(worker: Worker<TestMessage>, rt: &R) -> (TestMessage, [u8; 32]) {
+    fn join(worker: Worker<TestMessage>, rt: &R) -> (TestMessage, Digest) {
         worker.join(rt)
     }
 }
@@ -144,7 +144,7 @@ where
 }
 
 /// Waits for the digest of a job.
-fn digest<R>(rt: &R, job: &mut Working<TestMessage, Meeting, R>) -> io::Result<[u8; 32]>
+fn digest<R>(rt: &R, job: &mut Working<TestMessage, Meeting, R>) -> io::Result<Digest>
 where
     R: Threads + Wait + RandomSource + AllocGlobal + Drop,
 {

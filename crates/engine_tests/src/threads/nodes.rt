@@ -1,6 +1,6 @@
 //! A started node, and what feeds it.
 use super::patient::{LIMIT, Patient, Talk, pause};
-use broadcast_core::{Digested, Digestible, Key, RangeCfg, Recipients, Set, TestMessage};
+use broadcast_core::{Digest, Digested, Digestible, Key, RangeCfg, Recipients, Set, TestMessage};
 use cluster_lib::fault::Fault;
 use cluster_lib::keys::key_of;
 use cluster_lib::node::{Node, config};
@@ -182,6 +182,6 @@ pub fn message(alloc: Global, letter: u8) -> Result<TestMessage, AllocError> {
 }
 
 /// Returns the digest of the message of the letter.
-pub fn digest(alloc: Global, letter: u8) -> Result<[u8; 32], AllocError> {
+pub fn digest(alloc: Global, letter: u8) -> Result<Digest, AllocError> {
     Ok(message(alloc, letter)?.digest())
 }

@@ -7,7 +7,7 @@ use super::callers::{Asked, Callers};
 use super::printer::Printer;
 use super::requests::asked;
 use super::settings::Settings;
-use broadcast_core::{Event, TestMessage};
+use broadcast_core::{Digest, Event, TestMessage};
 use commonware_broadcast::buffered::{
     Account, All, Books, Incoming, Ingress, Tally, WatchedMailbox, watched_channel,
 };
@@ -21,7 +21,7 @@ use std::sync::ledger::Blank;
 use std::vec::IntoIter;
 
 /// The account of the mailbox.
-type Counting<A, K> = Books<A, K, All, [u8; 32]>;
+type Counting<A, K> = Books<A, K, All, Digest>;
 
 /// The end from which its requests are taken.
 type Taking<R, A, K> = Ingress<Incoming<u64, TestMessage>, R, Counting<A, K>>;
@@ -184,7 +184,7 @@ impl<A: Account> Counted<A> {
         &mut self,
         out: &mut Printer,
         mailbox: &Asking<R, A, K>,
-        digest: [u8; 32],
+        digest: Digest,
     ) {
         match mailbox.subscribe_as(&mut self.tally, digest) {
             Ok(subscription) => self.callers.keep(out, Asked::Subscription(subscription)),
@@ -196,7 +196,7 @@ impl<A: Account> Counted<A> {
         &mut self,
         out: &mut Printer,
         mailbox: &Asking<R, A, K>,
-        digest: [u8; 32],
+        digest: Digest,
     ) {
         match mailbox.get_as(&mut self.tally, digest) {
             Ok(get) => self.callers.keep(out, Asked::Get(get)),

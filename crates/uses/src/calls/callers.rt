@@ -1,6 +1,6 @@
 //! The callers of a mailbox.
 use super::printer::Printer;
-use broadcast_core::{Items, TestMessage};
+use broadcast_core::{Digest, Items, TestMessage};
 use broadcast_mailbox::buffered::{Get, Mailbox, Subscription};
 use futures::Future;
 use futures::task::{Poll, Solo};
@@ -35,7 +35,7 @@ impl Callers {
         &mut self,
         out: &mut Printer,
         mailbox: &Mailbox<u64, TestMessage, R>,
-        digest: [u8; 32],
+        digest: Digest,
     ) {
         match mailbox.subscribe(digest) {
             Ok(subscription) => self.keep(out, Asked::Subscription(subscription)),
@@ -48,7 +48,7 @@ impl Callers {
         &mut self,
         out: &mut Printer,
         mailbox: &Mailbox<u64, TestMessage, R>,
-        digest: [u8; 32],
+        digest: Digest,
     ) {
         match mailbox.get(digest) {
             Ok(get) => self.keep(out, Asked::Get(get)),

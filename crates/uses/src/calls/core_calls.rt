@@ -6,8 +6,8 @@ use super::printer::Printer;
 use super::requests::is_gone;
 use super::settings::Settings;
 use broadcast_core::{
-    Closable, Core, Digested, Event, Items, Recipients, Set, Subscribed, Taken, TestMessage,
-    Ticketed,
+    Closable, Core, Digest, Digested, Event, Items, Recipients, Set, Subscribed, Taken,
+    TestMessage, Ticketed,
 };
 use std::alloc::{AllocError, Global};
 
@@ -92,7 +92,7 @@ fn taken(
 }
 
 /// Subscribes, and prints the answer, with the waiter that comes back.
-fn subscribe(out: &mut Printer, core: &mut TestCore, ticket: u64, digest: [u8; 32]) {
+fn subscribe(out: &mut Printer, core: &mut TestCore, ticket: u64, digest: Digest) {
     match core.subscribe(digest, Waiter(ticket)) {
         Ok(Subscribed::Waiting) => out.line("subscribe", &"waits"),
         Ok(Subscribed::Answered(back, message)) => {
@@ -103,12 +103,12 @@ fn subscribe(out: &mut Printer, core: &mut TestCore, ticket: u64, digest: [u8; 3
     out.line("waiting", &core.waiting(&digest));
 }
 
-fn get(out: &mut Printer, core: &TestCore, digest: [u8; 32]) {
+fn get(out: &mut Printer, core: &TestCore, digest: Digest) {
     out.line("get", &found(core, &digest));
 }
 
 /// Returns the cached message of the digest.
-fn found<'a>(core: &'a TestCore, digest: &[u8; 32]) -> Option<&'a TestMessage> {
+fn found<'a>(core: &'a TestCore, digest: &Digest) -> Option<&'a TestMessage> {
     match core.get(digest) {
         Some(message) => Some(message.inner()),
         None => None,
@@ -142,8 +142,8 @@ fn show_list(alloc: Global, out: &mut Printer, core: &TestCore, key: u64) {
 }
 
 /// Prints each message with the first byte of its digest.
-fn show_messages(out: &mut Printer, core: &TestCore, key: u64, digests: &[[u8; 32]]) {
+fn show_messages(out: &mut Printer, core: &TestCore, key: u64, digests: &[Digest]) {
     for digest in digests {
-        out.line("list", &(key, digest[0], found(core, digest)));
+        out.line("list", &(key, digest.bytes[0], found(core, digest)));
     }
 }

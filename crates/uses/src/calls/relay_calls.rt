@@ -45,5 +45,5 @@ fn show(out: &mut Printer, relay: &Relay<TestMessage>) {
 
 /// Prints the message with the first byte of its digest.
 fn show_message(out: &mut Printer, message: &Digested<TestMessage>) {
-    out.line("message", &(message.digest()[0], message.inner()));
+    out.line("message", &(message.digest().bytes[0], message.inner()));
 }

@@ -37,8 +37,8 @@ pub fn asked<S, G>(
         Message::Broadcast {
             recipients,
             message,
-        } => ("broadcast", message.digest()[0], Some(recipients)),
-        Message::Subscribe { digest, .. } => ("subscribe", digest[0], None),
-        Message::Get { digest, .. } => ("get", digest[0], None),
+        } => ("broadcast", message.digest().bytes[0], Some(recipients)),
+        Message::Subscribe { digest, .. } => ("subscribe", digest.bytes[0], None),
+        Message::Get { digest, .. } => ("get", digest.bytes[0], None),
     }
 }

@@ -1,4 +1,4 @@
-use Rattle.std.proofs.Common.{◌≡◌, ◌∙◌, ◌<◌, ℕ, List, map, true, [], length, is_some, IsSome, Option, Some, None, Bor, refl, ap, subst}
+use Rattle.std.proofs.Common.{◌≡◌, ◌∙◌, ◌<◌, ℕ, List, map, true, length, is_some, IsSome, Option, Some, None, Bor, refl, ap, subst}
 use Rattle.std.specs.Option.{option_copied}
 use Rattle.std.proofs.lemmas.List.{take_all}
 use Rattle.broadcast_core.specs.Content.{Content, message_at}
@@ -17,7 +17,7 @@ unwrap-requires c =
     let i = c.loop-digest.digest-index in
     let listed = c.deref-digest-items.ensures.value ∙ c.in_ok-digests.ensures.digests in
     let inside = subst (λ ds. i < length ds) listed c.loop-digest-test.true in
-    is_some-behind c.get.result (ap is_some c.get.ensures.message ∙ rw listed (c.in_ok-digests.ensures.cached i [] inside))
+    is_some-behind c.get.result (ap is_some c.get.ensures.message ∙ rw c.digest-item.is (rw listed (c.in_ok-digests.ensures.cached i c.digest-item.result inside)))
 
 -- a digest as it is shown
 abbrev shown : Content ℕ Parts (List ℕ) ℕ → List ℕ → List ℕ
@@ -29,7 +29,7 @@ loop-digest-init c = ap (map (λ m. m.now.content)) c.in_ok-messages.ensures.ite
 pub loop-digest-preserved : goal.loop-digest-preserved
 loop-digest-preserved c =
     let content = content_there c.get.result c.unwrap.result _ c.inner.result c.unwrap.ensures c.get.ensures.message c.inner.ensures in
-    shown_more (shown c.args.core.now) _ c.loop-digest.digest-index [] _ _ c.inner.result c.loop-digest-test.true c.in_ok-push.ensures.items c.loop-digest.invariant content
+    shown_more (shown c.args.core.now) _ c.loop-digest.digest-index c.digest-item.result _ _ c.inner.result c.loop-digest-test.true c.in_ok-push.ensures.items c.loop-digest.invariant (content ∙ ap (shown c.args.core.now) c.digest-item.is)
 
 pub returns : goal.returns
 returns c =

@@ -2,7 +2,7 @@
 use super::quiet::{Gives, Sets, Void, Wire, config};
 use crate::message::{digest, digested};
 use crate::threads::patient::{LIMIT, pause};
-use broadcast_core::{Recipients, TestMessage};
+use broadcast_core::{Digest, Recipients, TestMessage};
 use broadcast_mailbox::MailboxError;
 use commonware_broadcast::buffered::{
     Account, All, Broadcasts, EndCause, Finished, Kind, Sequential, Session, Watch, WatchedClient,
@@ -23,21 +23,21 @@ const ASKING: u32 = 4;
 /// How often each of them makes three requests.
 const ROUNDS: u8 = 34;
 
-/// A digest that no message has.
+/// The bytes of a digest that no message has.
 const NOBODYS: [u8; 32] = [7; 32];
 
 /// Counts the tallied subscribes to one digest.
 struct Nobodys;
 
-impl Watch<[u8; 32]> for Nobodys {
+impl Watch<Digest> for Nobodys {
     ghost use Rattle.engine_tests.specs.Watches.{is_subscribe_to};
     ghost use Rattle.engine_tests.specs.declared.threads.account.clients.TheConstants.{NOBODYS};
 
     ghost watched = { is_subscribe_to NOBODYS };
 
-    fn matches(kind: Kind, digest: &[u8; 32]) -> bool {
+    fn matches(kind: Kind, digest: &Digest) -> bool {
         match kind {
-            Kind::Subscribe => *digest == NOBODYS,
+            Kind::Subscribe => digest.bytes == NOBODYS,
             Kind::Broadcast | Kind::Get => false,
         }
     }
@@ -59,7 +59,7 @@ type Left = (u32, Told);
 impl<R, V> Session<u64, TestMessage, R> for Asking<R, V>
 where
     R: Wait + Clock + RandomSource + AllocGlobal,
-    V: Watch<[u8; 32]>,
+    V: Watch<Digest>,
 {
     type Watch = V;
 
@@ -87,7 +87,7 @@ where
     R: Wait,
     A: Account,
     K: Account,
-    V: Watch<[u8; 32]>,
+    V: Watch<Digest>,
 {
     let mut told = 0u64;
     for round in 0..ROUNDS {
@@ -106,11 +106,11 @@ where
     R: Wait,
     A: Account,
     K: Account,
-    V: Watch<[u8; 32]>,
+    V: Watch<Digest>,
 {
     let message = digested(alloc, letter, letter)?;
     drop::<_>(client.get(message.digest())?);
-    drop::<_>(client.subscribe(NOBODYS)?);
+    drop::<_>(client.subscribe(Digest { bytes: NOBODYS })?);
     let feedback = client.broadcast(Recipients::All, message)?;
     Ok(u64::from(feedback.accepted()))
 }
@@ -124,7 +124,7 @@ where
     R: Wait + Clock + RandomSource + AllocGlobal,
     A: Account,
     K: Account,
-    V: Watch<[u8; 32]>,
+    V: Watch<Digest>,
 {
     let told = ask(rt.alloc(), client, 0)?;
     let get = client.get(digest(rt.alloc(), 0)?)?;
@@ -143,7 +143,7 @@ where
     R: Wait + Clock + AllocGlobal,
     A: Account,
     K: Account,
-    V: Watch<[u8; 32]>,
+    V: Watch<Digest>,
 {
     for accepted in 0..LIMIT {
         let message = digested(rt.alloc(), 0, 0)?;
@@ -159,7 +159,7 @@ where
 /// leaves.
 fn run<V, R>(rt: &R) -> Result<(u64, Finished<Left>), Fail>
 where
-    V: Watch<[u8; 32]> + Send + Sync + 'static,
+    V: Watch<Digest> + Send + Sync + 'static,
     R: Threads + Wait + Clock + RandomSource + AllocGlobal + Clone + Send + Sync + Drop + 'static,
 {
     let session: Asking<R, V> = Asking {
