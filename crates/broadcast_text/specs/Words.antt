@@ -1,5 +1,5 @@
 -- How the words of a line are spelled.
-use Rattle.std.specs.Prelude.{List, ℕ, Bool, [], ◌∷◌, ◌==◌, if◌then◌else◌, ◌≡◌, ◌<◌, ◌≤◌, ◌^◌, All, codes, length, map, slice_index}
+use Rattle.std.specs.Prelude.{List, ℕ, Bool, [], ◌∷◌, ◌*◌, ◌==◌, if◌then◌else◌, ◌≡◌, ◌<◌, ◌≤◌, ◌^◌, All, codes, length, map, slice_index, take}
 use Rattle.std.specs.List.{slice_split}
 use Rattle.std.specs.Fmt.{decimal}
 use Rattle.hex.specs.Hex.{IsBytes, encode_lower, lower_digits}
@@ -24,6 +24,15 @@ SpellsBytes word = (bytes : List ℕ) × IsBytes bytes × (word ≡ byte_list_wo
 -- the byte is a digit of a byte list
 abbrev pub IsHexDigit : ℕ → Type 0
 IsHexDigit byte = (value : ℕ) × (value < 16) × (slice_index lower_digits value ≡ byte)
+
+-- the value is that of the digit, or 16 or more if the byte is no digit
+pub record ReadsDigit (digit value : ℕ) : Type 0 where
+  pub spelled_so : value < 16 → slice_index lower_digits value ≡ digit
+  pub reads_each_digit : (v : ℕ) → v < 16 → digit ≡ slice_index lower_digits v → value ≡ v
+
+-- the first digits spell the first bytes, this many of them
+abbrev pub IsSpelled : List ℕ → List ℕ → ℕ → Type 0
+IsSpelled digits bytes count = take (2 * count) digits ≡ encode_lower (take count bytes)
 
 -- the words spell numbers
 abbrev pub SpellNumbers : List (List ℕ) → Type 0
