@@ -1,6 +1,5 @@
 //! What is done to the nodes of a scenario, and what must come of it.
 use super::asked::Given;
-use super::message::To;
 use super::node::Metric;
 use super::world::{Sizes, World};
 use broadcast_mailbox::Feedback;
@@ -11,6 +10,7 @@ use std::process::Abort;
 use std::random::RandomSource;
 use std::sync::Wait;
 use std::test::Fail;
+use test_support::message::To;
 
 /// An action on the node of a key, or what must be seen of it. A letter names a message.
 #[derive(Clone, Copy)]

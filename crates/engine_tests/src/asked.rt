@@ -1,5 +1,4 @@
 //! The futures of gets and subscribes.
-use super::message::letter_of;
 use broadcast_core::TestMessage;
 use broadcast_mailbox::buffered::{Get, Subscription};
 use futures::executor::block_on;
@@ -7,6 +6,7 @@ use futures::future::poll_immediate;
 use std::alloc::AllocGlobal;
 use std::random::RandomSource;
 use std::sync::Wait;
+use test_support::message::letter_of;
 
 /// A future, until it is ready or dropped.
 #[derive(Drop)]

@@ -1,7 +1,6 @@
 //! The callers of nodes with the keys from 1.
 use super::act::Act;
 use super::asked::{Asked, Given};
-use super::message::{To, digest, digested, recipients};
 use super::wires::place;
 use broadcast_core::{Digest, Digested, Recipients, TestMessage};
 use broadcast_mailbox::buffered::Mailbox;
@@ -9,6 +8,7 @@ use broadcast_mailbox::{Broadcaster, Feedback, MailboxError};
 use std::alloc::{AllocError, AllocGlobal, Global};
 use std::random::RandomSource;
 use std::sync::Wait;
+use test_support::message::{To, digest, digested, recipients};
 
 /// The callers of each node, in the order of the keys, and their futures.
 #[derive(Drop)]

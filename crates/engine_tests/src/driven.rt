@@ -1,5 +1,4 @@
 //! An engine over scripts, and what was made of it.
-use super::message::{To, digest, sending};
 use super::scripts::{Handed, Network, Scripted, Sources};
 use broadcast_core::{Digest, TestMessage};
 use commonware_broadcast::buffered::{Engine, Reply, Turn, drive};
@@ -7,6 +6,7 @@ use commonware_broadcast::mocks::{RecordingOutlet, Replied};
 use futures::task::{Poll, Solo};
 use std::alloc::{AllocError, Global};
 use std::marker::Model;
+use test_support::message::{To, digest, sending};
 
 /// An engine with its network. Nothing is known of its state, and it is kept in a box: so the
 /// proofs of its tests are small.

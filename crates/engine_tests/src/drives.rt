@@ -1,12 +1,12 @@
 //! `drive` goes on after pending polls, to its limit or to the end, and takes all that there is.
 use super::driven::Driven;
-use super::message::To;
 use super::scripts::{Asks, Comes, Peered, Sources};
 use broadcast_core::{CodecError, Outcome};
 use commonware_broadcast::buffered::{EndCause, Turn};
 use futures::task::{Doorbell, Solo};
 use std::alloc::{AllocError, Global};
 use std::test::Fail;
+use test_support::message::To;
 
 /// What an engine is driven over, and what must come of it.
 struct Row {

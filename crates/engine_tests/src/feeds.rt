@@ -1,6 +1,5 @@
 //! The providers and the jobs of nodes with the keys from 1.
 use super::job::{Gate, Gated};
-use super::message::peers;
 use super::peers::{Feed, Peers};
 use super::wires::place;
 use super::world::Sizes;
@@ -8,6 +7,7 @@ use broadcast_core::RangeCfg;
 use commonware_broadcast::buffered::Config;
 use std::alloc::{AllocError, Global};
 use std::rc::Rc;
+use test_support::message::peers;
 
 /// What feeds one node.
 #[derive(Drop)]

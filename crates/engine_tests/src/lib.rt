@@ -1,4 +1,4 @@
-//! Tests of the engine: over scripted sources, over a network in memory, and started in threads.
+//! Tests of the engine: over scripted sources, and over a network in memory.
 #![tactic(auto)]
 
 #[cfg(test)]
@@ -15,8 +15,6 @@ mod drives;
 mod feeds;
 #[cfg(test)]
 mod job;
-#[cfg(test)]
-mod message;
 #[cfg(test)]
 mod network;
 #[cfg(test)]
@@ -36,11 +34,7 @@ mod scenarios;
 #[cfg(test)]
 mod scripts;
 #[cfg(test)]
-mod task;
-#[cfg(test)]
 mod texts;
-#[cfg(test)]
-mod threads;
 #[cfg(test)]
 mod wakes;
 #[cfg(test)]

@@ -1,13 +1,13 @@
 //! Engines over a network in memory, which one thread polls.
 use super::network::{Inbound, Outbound};
 use super::node::{Metric, Node};
-use super::task::Task;
 use super::wires::Wires;
 use commonware_broadcast::buffered::Turn;
 use futures::task::Poll;
 use std::alloc::{AllocError, AllocGlobal, Global};
 use std::random::RandomSource;
 use std::sync::Wait;
+use test_support::task::Task;
 
 /// The engines of the nodes, in the order of their keys, with their tasks and their network.
 #[derive(Drop)]

@@ -1,12 +1,12 @@
 //! The order of turns, what is counted, and how an engine ends.
 use super::act::{Act, Row, all_go};
 use super::asked::Given;
-use super::message::To;
 use super::node::Metric;
 use broadcast_core::{Cause, CodecError, Outcome};
 use broadcast_mailbox::Feedback;
 use commonware_broadcast::buffered::{EndCause, Status, Turn};
 use std::test::Fail;
+use test_support::message::To;
 
 static ROWS: [Row; 13] = [
     Row {

@@ -1,6 +1,4 @@
 //! The nodes to which a network in memory hands a payload.
-use super::message::{To, recipients};
-use super::task::Task;
 use broadcast_core::Set;
 use commonware_broadcast::buffered::Sender;
 use futures::task::Poll;
@@ -9,6 +7,8 @@ use std::alloc::{AllocError, AllocGlobal};
 use std::random::RandomSource;
 use std::sync::{Arc, Wait};
 use std::test::Fail;
+use test_support::message::{To, recipients};
+use test_support::task::Task;
 
 /// Recipients, and which of the nodes 2, 3 and 4 are handed a payload of the node 1.
 struct Row(To, &'static [u64]);

@@ -1,10 +1,10 @@
 //! The scenarios of the Rust crate that need no running thread, under their names there.
 use super::act::{Act, Row, all_go};
 use super::asked::Given;
-use super::message::To;
 use super::node::Metric;
 use commonware_broadcast::buffered::Status;
 use std::test::Fail;
+use test_support::message::To;
 
 static ROWS: [Row; 17] = [
     Row {

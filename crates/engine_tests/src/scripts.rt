@@ -1,5 +1,4 @@
 //! Engines whose sources follow a script.
-use super::message::{To, digest, digested, payload, peers, recipients};
 use broadcast_core::{Items, RangeCfg, Set, TestMessage};
 use commonware_broadcast::buffered::{
     Config, Engine, Fixed, Message, NetworkFailed, Reply, Request,
@@ -10,6 +9,7 @@ use commonware_broadcast::mocks::{
 use futures::task::Poll;
 use std::alloc::{AllocError, Global};
 use std::num::NonZeroUsize;
+use test_support::message::{To, digest, digested, payload, peers, recipients};
 
 /// The result of a poll of the peer sets.
 #[derive(Clone, Copy)]

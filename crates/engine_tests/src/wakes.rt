@@ -1,9 +1,9 @@
 //! A pending engine is woken by each source that it waits for.
 use super::act::{Act, Row, all_go};
-use super::message::To;
 use broadcast_core::Outcome;
 use commonware_broadcast::buffered::{EndCause, Turn};
 use std::test::Fail;
+use test_support::message::To;
 
 static ROWS: [Row; 7] = [
     Row {

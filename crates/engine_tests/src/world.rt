@@ -2,7 +2,6 @@
 use super::act::Act;
 use super::callers::Callers;
 use super::feeds::Feeds;
-use super::message::payload;
 use super::node::Node;
 use super::nodes::Nodes;
 use super::wires::{Wires, place};
@@ -10,6 +9,7 @@ use std::alloc::{AllocError, AllocGlobal, Global};
 use std::num::NonZeroUsize;
 use std::random::RandomSource;
 use std::sync::Wait;
+use test_support::message::payload;
 
 /// The number of nodes, and the sizes of their mailboxes and lists.
 #[derive(Clone, Copy)]

@@ -1,18 +1,35 @@
 //! Tests of engines and digests on several threads.
+#![tactic(auto)]
 
+#[cfg(test)]
 mod account;
+#[cfg(test)]
 mod clusters;
+#[cfg(test)]
 mod counts;
+#[cfg(test)]
 mod ends;
+#[cfg(test)]
 mod gates;
+#[cfg(test)]
 mod keys;
+#[cfg(test)]
 mod live;
+#[cfg(test)]
 mod lock;
+#[cfg(test)]
 mod nodes;
+#[cfg(test)]
 mod observed;
+#[cfg(test)]
 mod patient;
+#[cfg(test)]
 mod pools;
+#[cfg(test)]
 mod poor;
+#[cfg(test)]
 mod shutdown;
+#[cfg(test)]
 mod soak;
+#[cfg(test)]
 mod starts;

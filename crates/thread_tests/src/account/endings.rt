@@ -3,7 +3,6 @@ ghost use Rattle.std.specs.Prelude.{◌≡◌, ◌<◌, ◌^◌};
 ghost use Rattle.std.specs.NonZero.{non_zero_u32_get};
 
 use super::quiet::{Gives, Sets, Void, Wire, config};
-use crate::message::digested;
 use broadcast_core::{Codec, Digested, Digestible, Recipients};
 use broadcast_mailbox::MailboxError;
 use commonware_broadcast::buffered::{
@@ -20,6 +19,7 @@ use std::sync::Wait;
 use std::sync::ledger::Blank;
 use std::test::Fail;
 use std::thread::Threads;
+use test_support::message::digested;
 
 /// The network of an engine.
 type Network = (Void, Wire);

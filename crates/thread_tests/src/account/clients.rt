@@ -1,7 +1,6 @@
 //! Clients on several threads, and one that stops the engine meanwhile.
 use super::quiet::{Gives, Sets, Void, Wire, config};
-use crate::message::{digest, digested};
-use crate::threads::patient::{LIMIT, pause};
+use crate::patient::{LIMIT, pause};
 use broadcast_core::{Digest, Recipients, TestMessage};
 use broadcast_mailbox::MailboxError;
 use commonware_broadcast::buffered::{
@@ -16,6 +15,7 @@ use std::sync::Wait;
 use std::test::Fail;
 use std::thread::Threads;
 use std::time::Clock;
+use test_support::message::{digest, digested};
 
 /// How many clients make requests. The next one stops the engine.
 const ASKING: u32 = 4;
@@ -30,8 +30,8 @@ const NOBODYS: [u8; 32] = [7; 32];
 struct Nobodys;
 
 impl Watch<Digest> for Nobodys {
-    ghost use Rattle.engine_tests.specs.Watches.{is_subscribe_to};
-    ghost use Rattle.engine_tests.specs.declared.threads.account.clients.TheConstants.{NOBODYS};
+    ghost use Rattle.thread_tests.specs.Watches.{is_subscribe_to};
+    ghost use Rattle.thread_tests.specs.declared.account.clients.TheConstants.{NOBODYS};
 
     ghost watched = { is_subscribe_to NOBODYS };
 

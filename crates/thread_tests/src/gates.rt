@@ -3,7 +3,6 @@ ghost use Rattle.std.specs.Prelude.{IfOk};
 ghost use Rattle.commonware_broadcast.specs.Workers.{IsWorkerOf};
 
 use super::patient::LIMIT;
-use crate::task::Task;
 use broadcast_core::{Digest, Digestible, TestMessage};
 use commonware_broadcast::buffered::gate::Gate;
 use commonware_broadcast::buffered::strategy::{Job, Strategy};
@@ -19,6 +18,7 @@ use std::sync::atomic::{AtomicU64, Ordering};
 use std::sync::{Arc, Wait};
 use std::test::Fail;
 use std::thread::{self, Threads};
+use test_support::task::Task;
 
 /// How often a job is polled while its worker waits at the gate.
 pub const POLLS: u64 = 100;

@@ -1,4 +1,4 @@
-use Rattle.engine_tests.proofs.threads.account.endings.end.Given as goal
+use Rattle.thread_tests.proofs.account.endings.end.Given as goal
 
 -- the ledgers are those of the blanks
 abbrev pub ghosts-end_with-A-Ledger : goal.ghosts-end_with-A-Ledger

@@ -1,12 +1,12 @@
 //! A node to whose clients alone something happens, or to which one thing more does.
 ghost use Rattle.std.specs.Prelude.{⊤};
 
-use crate::message::{payload, peers};
 use broadcast_core::{Items, RangeCfg, Recipients, Set};
 use commonware_broadcast::buffered::{Config, NetworkFailed, Provider, Receiver, Sender};
 use futures::task::{Context, Poll, Source, Waker};
 use std::alloc::{AllocError, Global};
 use std::num::NonZeroUsize;
+use test_support::message::{payload, peers};
 
 /// The key of the only peer.
 const PEER: u64 = 5;

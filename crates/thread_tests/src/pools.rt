@@ -3,7 +3,6 @@ use super::gates::{Meeting, POLLS};
 use super::nodes::{broadcast, gets, send, start_pooled, subscribe, track};
 use super::patient::{LIMIT, pause};
 use super::poor::{Poor, Supply};
-use crate::task::Task;
 use broadcast_core::{Digestible, TestMessage};
 use cluster_lib::node::Node;
 use commonware_broadcast::buffered::gate::Gate;
@@ -14,6 +13,7 @@ use std::sync::{Arc, Wait};
 use std::test::Fail;
 use std::thread::{self, JoinHandle, Threads};
 use std::time::{Clock, Duration};
+use test_support::task::Task;
 
 /// The letters of the messages that a peer sends.
 const SENT: [u8; 6] = [2, 3, 4, 5, 6, 7];

@@ -1,8 +1,8 @@
 //! Sessions of which a client can't be started.
 use super::clients::broadcast_until_closed;
 use super::quiet::{Gives, Sets, Void, Wire, config};
-use crate::threads::patient::pause;
-use crate::threads::poor::{Poor, Supply};
+use crate::patient::pause;
+use crate::poor::{Poor, Supply};
 use broadcast_core::TestMessage;
 use commonware_broadcast::buffered::{
     Account, All, Sequential, Session, WatchedClient, run_session,
