@@ -1,9 +1,11 @@
 -- How a text is made of lines, and what is read of them.
-use Rattle.std.specs.Prelude.{List, ℕ, Option, None, Some, [], ◌∷◌, ◌++◌, ◌+◌, ◌≡◌, ◌≢◌, ◌⊎◌, ◌==◌, if◌then◌else◌, ⊤, All, length}
+use Rattle.std.specs.Prelude.{List, ℕ, Option, None, Some, Result, IfOk, IfErr, [], ◌∷◌, ◌++◌, ◌+◌, ◌≡◌, ◌≢◌, ◌⊎◌, ◌==◌, if◌then◌else◌, ⊤, All, length}
 use Rattle.std.specs.List.{onto_first}
 use Rattle.std.specs.Io.KnownBytes.{Consumes}
 use Rattle.broadcast_text.specs.declared.fault.Fault.{Fault}
 use Rattle.broadcast_text.specs.declared.fault.Fault.TheVariants.{Syntax, Read, Memory}
+use Rattle.broadcast_text.specs.declared.line_error.LineError.{LineError}
+use Rattle.broadcast_text.specs.declared.line_error.LineError.TheVariants as line_error
 use Rattle.broadcast_text.specs.declared.lines.Progress.{Progress}
 use Rattle.broadcast_text.specs.declared.lines.Progress.TheVariants.{LineEnd, InputEnd, More}
 
@@ -30,6 +32,11 @@ abbrev pub LinesLeft : Option (List ℕ) → Option (List ℕ) → List (List �
 LinesLeft None new lines = ⊤
 LinesLeft (Some text) None lines = ⊥
 LinesLeft (Some text) (Some rest) lines = lines_of text ≡ lines ++ lines_of rest
+
+-- the line means the item, or is none of the format
+pub record IsParsed {Item : Type 0} (means : List ℕ → Item → Type 0) (spells : List ℕ → Type 0) (line : List ℕ) (parsed : Result Item LineError) : Type 0 where
+  pub item : IfOk parsed (means line)
+  pub unread : IfErr parsed (λ error. error ≡ line_error.Syntax → ¬ spells line)
 
 -- each line means the item at its place
 abbrev pub AreRead : {Item : Type 0} → (List ℕ → Item → Type 0) → List (List ℕ) → List Item → Type 0

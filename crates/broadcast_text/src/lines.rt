@@ -1,7 +1,7 @@
 //! The lines of a reader, each read as an item.
-ghost use Rattle.std.specs.Prelude.{◌≡◌, ◌++◌, ◌∷◌, ◌+◌, ℕ, List, [], IfSome, IfOk, IfErr, OnOk, OnSome, length, Ok, true, false};
-ghost use Rattle.std.specs.Io.KnownBytes.{IsAtEnd};
-ghost use Rattle.broadcast_text.specs.Lines.{AreRead, IsFirstUnread, Extends, IsLineRead, IsFailure, IsOfReading, LinesLeft, ending_of, line_end, lines_of};
+ghost use Rattle.std.specs.Prelude.{◌≡◌, ◌++◌, ◌∷◌, ◌+◌, ℕ, List, [], IfSome, IfOk, IfErr, OnOk, OnSome, None, length, Ok, true, false};
+ghost use Rattle.std.specs.Io.KnownBytes.{IsAtEnd, Keeps};
+ghost use Rattle.broadcast_text.specs.Lines.{AreRead, IsFirstUnread, IsParsed, Extends, IsLineRead, IsFailure, IsOfReading, LinesLeft, ending_of, line_end, lines_of};
 ghost use Rattle.broadcast_text.specs.declared.lines.Progress.TheVariants.{InputEnd};
 ghost use Rattle.broadcast_text.specs.declared.line_error.LineError.TheVariants as line_error;
 ghost use Rattle.broadcast_text.specs.declared.fault.Fault.TheVariants as faults;
@@ -118,10 +118,10 @@ fn read_item<L: LineFormat, R: BufRead>(
         × (lines_of text ≡ next ∷ back) × ¬ L.spells next)) }
     ensures faults { IfErr result IsOfReading }
 {
-    if !next_line(reader, line)? {
+    let Some(parsed) = parse_line::<L, R>(alloc, reader, line)? else {
         return Ok(false);
-    }
-    let item = match L::parse(alloc, line) {
+    };
+    let item = match parsed {
         Ok(item) => item,
         Err(error) => return Err(fault_of(reader, error, items.len() as u64 + 1)),
     };
@@ -129,6 +129,60 @@ fn read_item<L: LineFormat, R: BufRead>(
         return Err(Fault::Memory);
     }
     Ok(true)
+}
+
+/// What a line is read as.
+type Parsed<L> = Result<<L as LineFormat>::Item, LineError>;
+
+/// Returns what the next line is read as, if there is one.
+fn parse_line<L: LineFormat, R: BufRead>(
+    alloc: Global,
+    reader: &mut R,
+    line: &mut Vec<u8>,
+) -> Result<Option<Parsed<L>>, Fault>
+    ensures next_line { IfOk result (λ next. IfSome next (λ parsed. (text : List ℕ)
+        × LinesLeft (R.remaining reader.old) (R.remaining reader.new) (text ∷ [])
+        × IsParsed L.means L.spells text parsed)) }
+    ensures no_line { result ≡ Ok None
+        → LinesLeft (R.remaining reader.old) (R.remaining reader.new) [] }
+    ensures at_end { result ≡ Ok None
+        → OnSome (R.remaining reader.old) (IsAtEnd (R.remaining reader.new)) }
+    ensures faults { IfErr result IsFailure }
+{
+    if let Some(parsed) = parse_buffered::<L, R>(alloc, reader)? {
+        return Ok(Some(parsed));
+    }
+    if next_line(reader, line)? {
+        Ok(Some(L::parse(alloc, line)))
+    } else {
+        Ok(None)
+    }
+}
+
+/// Returns what the next line is read as if it is buffered to its end, so that it is not copied.
+/// Otherwise returns `None`, and nothing is read.
+fn parse_buffered<L: LineFormat, R: BufRead>(
+    alloc: Global,
+    reader: &mut R,
+) -> Result<Option<Parsed<L>>, Fault>
+    ensures next_line { IfOk result (λ next. IfSome next (λ parsed. (text : List ℕ)
+        × LinesLeft (R.remaining reader.old) (R.remaining reader.new) (text ∷ [])
+        × IsParsed L.means L.spells text parsed)) }
+    ensures unread { result ≡ Ok None
+        → Keeps (R.remaining reader.old) (R.remaining reader.new) }
+    ensures faults { IfErr result IsFailure }
+{
+    let buffered = match reader.fill_buf() {
+        Ok(buffered) => buffered,
+        Err(error) if error.kind() == ErrorKind::Interrupted => return Ok(None),
+        Err(_) => return Err(Fault::Read),
+    };
+    let Some(end) = memchr(b'\n', buffered) else {
+        return Ok(None);
+    };
+    let parsed = L::parse(alloc, &buffered[..end]);
+    reader.consume(end + 1);
+    Ok(Some(parsed))
 }
 
 /// Returns the fault of a line that was not read. What is left is read too.

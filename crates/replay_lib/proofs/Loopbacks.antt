@@ -4,11 +4,11 @@ use Rattle.broadcast_core.specs.declared.event.Event.{Event}
 use Rattle.broadcast_mailbox.specs.Mailbox.{MailboxState}
 use Rattle.replay_lib.specs.Loopback.{IsIdle, passed, broadcasts_by, broadcasts_in}
 
--- an element that is written twice, at last as it was
-pub set-back : {X : Type 0} (xs : List X) (i : ℕ) (mid last d : X) → last ≡ get_or xs i d → set (set xs i mid) i last ≡ xs
-set-back [] i mid last d is = refl
-set-back (x ∷ xs) zero mid last d is = ap (λ y. y ∷ xs) is
-set-back (x ∷ xs) (suc i) mid last d is = ap (λ ys. x ∷ ys) (set-back xs i mid last d is)
+-- an element that is written as it was
+pub set-same : {X : Type 0} (xs : List X) (i : ℕ) (last d : X) → last ≡ get_or xs i d → set xs i last ≡ xs
+set-same [] i last d is = refl
+set-same (x ∷ xs) zero last d is = ap (λ y. y ∷ xs) is
+set-same (x ∷ xs) (suc i) last d is = ap (λ ys. x ∷ ys) (set-same xs i last d is)
 
 module _ {P M D : Type 0} where
   -- one event more

@@ -33,9 +33,27 @@ pub fn loop_back(
         → IfErr result (λ fault. fault ≡ Memory) }
 {
     for i in 0..events.len() {
-        let event = mem::replace(&mut events[i], Event::Cleanup(Items::new(alloc)));
-        events[i] = pass_event(inbox, event)?;
+        pass_back(inbox, alloc, &mut events[i])?;
     }
+    Ok(())
+}
+
+/// Passes the event through the inbox if it is a broadcast. It stays the same.
+fn pass_back(
+    inbox: &mut Inbox<Request>,
+    alloc: Global,
+    event: &mut Event<u64, TestMessage>,
+) -> Result<(), Fault>
+    ensures event_stays { OnOk result (event.new ≡ event.old) }
+    ensures counts_each { OnOk result (inbox.new ≡ passed inbox.old (broadcasts_by event.old)) }
+    ensures idle_lacks_memory_alone { IsIdle inbox.old (broadcasts_by event.old)
+        → IfErr result (λ fault. fault ≡ Memory) }
+{
+    if !matches!(event, Event::Broadcast(..)) {
+        return Ok(());
+    }
+    let taken = mem::replace(event, Event::Cleanup(Items::new(alloc)));
+    *event = pass_event(inbox, taken)?;
     Ok(())
 }
 

@@ -1,4 +1,4 @@
-use Rattle.std.proofs.Common.{refl, subst, All, arith}
+use Rattle.std.proofs.Common.{subst, All, arith}
 use Rattle.std.proofs.lemmas.List.{take_all}
 use Rattle.std.proofs.lemmas.List.Elements.{All-more}
 use Rattle.broadcast_text.specs.Words.{IsHexDigit}

@@ -1,4 +1,4 @@
-use Rattle.std.proofs.Common.{◌≢◌, length, rules, Ok, true, ap}
+use Rattle.std.proofs.Common.{◌≢◌, length, rules, Ok, ap}
 use Rattle.broadcast_text.proofs.Reading.{next-ended, next-last}
 use Rattle.broadcast_text.proofs.lines.next_line.Goals.{then-has_end, else-has_end}
 use Rattle.broadcast_text.proofs.lines.next_line.Goals as goal
