@@ -6,14 +6,14 @@ ghost use Rattle.broadcast_mailbox.specs.Account.{capped};
 ghost use Rattle.cluster_lib.specs.Measured.{measured_text};
 
 use crate::fault::Fault;
-use crate::keys::{key_of, keys_of};
 use crate::message::{broadcast, digest_of};
-use crate::node::{Node, start};
 use crate::progress::Progress;
 use crate::rate::Rate;
 use broadcast_core::{Digest, Key, RangeCfg, TestMessage};
 use commonware_broadcast::buffered::{Get, Mailbox, Sequential};
 use memory_network::Mail;
+use memory_node::keys::{key_of, keys_of};
+use memory_node::node::{Node, start};
 use std::alloc::AllocGlobal;
 use std::fmt::{self, Display, Formatter};
 use std::io;

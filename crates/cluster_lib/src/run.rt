@@ -3,7 +3,6 @@ ghost use Rattle.std.specs.Prelude.{◌≡◌, [], ◌∷◌, ◌++◌, OnOk};
 
 use crate::ended::{Ended, Outcome};
 use crate::fault::Fault;
-use crate::keys::{key_of, keys_of};
 use crate::message::message_of;
 use crate::progress::Progress;
 use crate::session::{NodeSession, STRANGER};
@@ -11,6 +10,7 @@ use crate::settings::Settings;
 use crate::shared::Shared;
 use broadcast_core::{CodecError, Key, Write};
 use memory_network::{Mail, Network};
+use memory_node::keys::{key_of, keys_of};
 use std::alloc::{AllocError, AllocGlobal, Global};
 use std::random::RandomSource;
 use std::sync::{Arc, Wait};

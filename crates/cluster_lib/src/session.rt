@@ -7,7 +7,6 @@ ghost use Rattle.cluster_lib.specs.Settlements.{ended};
 use crate::client::{Client, Seen};
 use crate::fault::Fault;
 use crate::message::broadcast;
-use crate::node::{Counted, Node, config, start_counting};
 use crate::row::Row;
 use crate::settings::Settings;
 use crate::settlement::Settlement;
@@ -19,6 +18,7 @@ use commonware_broadcast::buffered::{
     Account, Bookkeeping, Mailbox, MailboxReport, Sequential, StartError,
 };
 use memory_network::Mail;
+use memory_node::node::{Counted, Node, config, start_counting};
 use std::alloc::{AllocError, AllocGlobal};
 use std::marker::Brand;
 use std::num::NonZeroU32;

@@ -1,11 +1,10 @@
 //! How a started engine ends that nobody stops.
-use super::nodes::{broadcast, gets, start};
 use super::patient::pause;
 use broadcast_core::{Key, TestMessage};
-use cluster_lib::fault::Fault;
-use cluster_lib::node::Node;
+use broadcast_mailbox::MailboxError;
 use commonware_broadcast::buffered::{EndCause, Mailbox, Sequential};
 use memory_network::Mail;
+use memory_node::node::Node;
 use std::alloc::AllocGlobal;
 use std::random::RandomSource;
 use std::sync::atomic::Ordering;
@@ -13,6 +12,7 @@ use std::sync::{Arc, Wait};
 use std::test::Fail;
 use std::thread::{self, JoinHandle, Threads};
 use std::time::Clock;
+use test_support::nodes::{broadcast, gets, start};
 
 /// Returns whether an engine that has answered is not polled while nothing happens.
 fn is_idle(clock: &impl Clock, mail: &Mail<Key>) -> bool {
@@ -30,7 +30,7 @@ fn fail_later<R>(
     rt: &R,
     mailbox: &Mailbox<Key, TestMessage, R>,
     mail: &Mail<Key>,
-) -> Result<bool, Fault>
+) -> Result<bool, MailboxError>
 where
     R: Wait + Clock + RandomSource + AllocGlobal + Clone + Send + 'static,
 {
@@ -45,7 +45,7 @@ where
 fn start_failing<R>(
     rt: &R,
     node: &Node<TestMessage, R>,
-) -> Result<JoinHandle<Result<bool, Fault>>, Fail>
+) -> Result<JoinHandle<Result<bool, MailboxError>>, Fail>
 where
     R: Threads + Wait + Clock + RandomSource + AllocGlobal + Clone + Send + Sync + Drop + 'static,
 {

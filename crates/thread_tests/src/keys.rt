@@ -1,5 +1,4 @@
 //! Engines in threads whose peers have numbers as keys.
-use super::nodes::digest;
 use broadcast_core::{RangeCfg, TestMessage};
 use commonware_broadcast::buffered::{
     Config, EndCause, Handle, Mailbox, Open, Sequential, Status, Threaded, start, start_threaded,
@@ -11,6 +10,7 @@ use std::random::RandomSource;
 use std::sync::{Arc, Wait};
 use std::test::Fail;
 use std::thread::Threads;
+use test_support::nodes::digest;
 
 type Running<R> = (Handle<u64, TestMessage, R>, Mailbox<u64, TestMessage, R>);
 

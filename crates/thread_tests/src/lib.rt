@@ -4,10 +4,6 @@
 #[cfg(test)]
 mod account;
 #[cfg(test)]
-mod clusters;
-#[cfg(test)]
-mod counts;
-#[cfg(test)]
 mod ends;
 #[cfg(test)]
 mod gates;
@@ -25,8 +21,6 @@ mod observed;
 mod patient;
 #[cfg(test)]
 mod pools;
-#[cfg(test)]
-mod poor;
 #[cfg(test)]
 mod shutdown;
 #[cfg(test)]

@@ -1,12 +1,12 @@
 //! What the holder of a started engine's handle sees and does.
-use super::nodes::{broadcast, gets, send, start, subscribe, track, wait_for_close};
+use super::nodes::wait_for_close;
 use super::patient::{LIMIT, pause};
 use broadcast_core::{Key, TestMessage};
-use cluster_lib::keys::key_of;
-use cluster_lib::node::Node;
 use commonware_broadcast::buffered::{
     Handle, Metrics, MetricsError, Sequential, Status, Subscription,
 };
+use memory_node::keys::key_of;
+use memory_node::node::Node;
 use std::alloc::AllocGlobal;
 use std::random::RandomSource;
 use std::sync::Wait;
@@ -14,6 +14,7 @@ use std::sync::atomic::Ordering;
 use std::test::Fail;
 use std::thread::Threads;
 use std::time::{Clock, Duration};
+use test_support::nodes::{broadcast, gets, send, start, subscribe, track};
 
 /// The payloads of peer 5 that were decoded, messages that were received and that were invalid,
 /// subscribes that were served, gets that gave a message and that gave none, and awaited digests.

@@ -1,14 +1,15 @@
 //! A broadcast that is answered while a job is pending.
-use super::nodes::{broadcast, hold, start_patient, subscribe};
+use super::nodes::{hold, start_patient};
 use super::patient::Talk;
 use broadcast_core::TestMessage;
-use cluster_lib::node::Node;
+use memory_node::node::Node;
 use std::alloc::AllocGlobal;
 use std::random::RandomSource;
 use std::sync::Wait;
 use std::test::Fail;
 use std::thread::Threads;
 use std::time::Clock;
+use test_support::nodes::{broadcast, subscribe};
 
 /// Whether a broadcast was accepted while a job was pending at an engine, the job was polled to its
 /// limit before that, and the job's message was taken afterwards.

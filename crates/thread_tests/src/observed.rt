@@ -1,18 +1,18 @@
 //! What the observers of a started engine see.
-use super::nodes::{digest, send};
 use broadcast_core::{CodecError, Key, Outcome, RangeCfg, TestMessage};
-use cluster_lib::keys::key_of;
-use cluster_lib::node::config;
 use commonware_broadcast::buffered::{
     EndCause, Lines, Mailbox, Observer, Recent, Sequential, Turn, start_observed,
 };
 use memory_network::{Mail, Network};
+use memory_node::keys::key_of;
+use memory_node::node::config;
 use std::alloc::{AllocError, AllocGlobal, Global};
 use std::io::{self, Write};
 use std::random::RandomSource;
 use std::sync::Wait;
 use std::test::Fail;
 use std::thread::Threads;
+use test_support::nodes::{digest, send};
 
 /// Lets a node with the observer take some inputs, and end. Returns the observer.
 fn observe<R, W>(rt: &R, observer: W) -> Result<W, Fail>

@@ -1,18 +1,19 @@
 //! Pools: one that digests for a started engine, and ones whose thread is held while it digests.
 use super::gates::{Meeting, POLLS};
-use super::nodes::{broadcast, gets, send, start_pooled, subscribe, track};
+use super::nodes::start_pooled;
 use super::patient::{LIMIT, pause};
-use super::poor::{Poor, Supply};
 use broadcast_core::{Digestible, TestMessage};
-use cluster_lib::node::Node;
 use commonware_broadcast::buffered::gate::Gate;
 use commonware_broadcast::buffered::{EndCause, Pool, Pooled, Status};
+use memory_node::node::Node;
 use std::alloc::{AllocError, AllocGlobal};
 use std::random::RandomSource;
 use std::sync::{Arc, Wait};
 use std::test::Fail;
 use std::thread::{self, JoinHandle, Threads};
 use std::time::{Clock, Duration};
+use test_support::nodes::{broadcast, gets, send, subscribe, track};
+use test_support::poor::{Poor, Supply};
 use test_support::task::Task;
 
 /// The letters of the messages that a peer sends.

@@ -1,12 +1,12 @@
 //! Many callers of one started engine, which digests on other threads and is stopped in the middle.
-use super::nodes::{broadcast, gets, send, start_threaded, subscribe, track};
+use super::nodes::start_threaded;
 use super::patient::{LIMIT, pause};
 use broadcast_core::{Key, TestMessage};
-use cluster_lib::fault::Fault;
-use cluster_lib::keys::key_of;
-use cluster_lib::node::Node;
+use broadcast_mailbox::MailboxError;
 use commonware_broadcast::buffered::{EndCause, Mailbox, Metrics, Status, Subscription};
 use memory_network::Mail;
+use memory_node::keys::key_of;
+use memory_node::node::Node;
 use std::alloc::{AllocError, AllocGlobal};
 use std::random::RandomSource;
 use std::sync::atomic::{AtomicU64, Ordering};
@@ -14,6 +14,7 @@ use std::sync::{Arc, Wait};
 use std::test::Fail;
 use std::thread::{self, JoinHandle, Threads};
 use std::time::Clock;
+use test_support::nodes::{broadcast, gets, send, subscribe, track};
 
 /// The number of callers.
 const CALLERS: u64 = 8;
@@ -36,7 +37,7 @@ struct Ends {
 }
 
 /// The result of a caller's thread.
-type Outcome = Result<Ends, Fault>;
+type Outcome = Result<Ends, MailboxError>;
 
 /// A caller of an engine.
 #[derive(Drop)]
@@ -56,8 +57,9 @@ where
         let mut waiting = Vec::new(self.rt.alloc());
         let mut got = 0u64;
         for round in 0..ROUNDS {
+            waiting.reserve(1)?;
             let (subscription, is_found) = self.ask(round as u8)?;
-            waiting.push(subscription)?;
+            waiting.push_reserved(subscription);
             got = got.saturating_add(u64::from(is_found));
             self.made.fetch_add(4, Ordering::SeqCst);
         }
@@ -81,7 +83,7 @@ where
 
     /// Makes a request of each kind, and drops a subscription that nobody serves. Returns another
     /// one, and whether the get gave a message.
-    fn ask(&self, letter: u8) -> Result<(Subscription<TestMessage>, bool), Fault> {
+    fn ask(&self, letter: u8) -> Result<(Subscription<TestMessage>, bool), MailboxError> {
         let _feedback = broadcast(&self.rt, &self.mailbox, letter % 64)?;
         drop::<_>(subscribe(&self.rt, &self.mailbox, 255)?);
         let got = gets(&self.rt, &self.mailbox, letter % 128)?;

@@ -1,18 +1,19 @@
 //! Engines that can't be started, or can't wait once they are.
-use super::nodes::{broadcast, wait_for_close};
-use super::poor::{Poor, Supply};
+use super::nodes::wait_for_close;
 use broadcast_core::{Codec, Digestible, Key, RangeCfg, TestMessage};
-use cluster_lib::keys::key_of;
-use cluster_lib::node::{Node, Prepared, Started};
 use commonware_broadcast::Feedback;
 use commonware_broadcast::buffered::{EndCause, Handle, Mailbox, Sequential, StartError};
 use memory_network::Mail;
+use memory_node::keys::key_of;
+use memory_node::node::{Node, Prepared, Started};
 use std::alloc::{AllocError, AllocGlobal};
 use std::random::RandomSource;
 use std::sync::{Arc, Wait};
 use std::test::Fail;
 use std::thread::Threads;
 use std::time::Clock;
+use test_support::nodes::broadcast;
+use test_support::poor::{Poor, Supply};
 
 /// How a start ends: its error, or the cause with which the engine ended.
 type Ending = Result<EndCause, StartError>;

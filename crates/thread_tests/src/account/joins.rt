@@ -2,7 +2,6 @@
 use super::clients::broadcast_until_closed;
 use super::quiet::{Gives, Sets, Void, Wire, config};
 use crate::patient::pause;
-use crate::poor::{Poor, Supply};
 use broadcast_core::TestMessage;
 use commonware_broadcast::buffered::{
     Account, All, Sequential, Session, WatchedClient, run_session,
@@ -15,6 +14,7 @@ use std::sync::{Arc, Wait};
 use std::test::Fail;
 use std::thread::Threads;
 use std::time::Clock;
+use test_support::poor::{Poor, Supply};
 
 /// How many clients there are.
 const CLIENTS: u32 = 4;

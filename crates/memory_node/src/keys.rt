@@ -10,7 +10,7 @@ pub fn key_of(number: u64) -> Key {
 }
 
 /// Returns the keys of the nodes with the numbers from 1.
-pub(crate) fn keys_of(alloc: Global, nodes: u64) -> Result<Set<Key>, AllocError> {
+pub fn keys_of(alloc: Global, nodes: u64) -> Result<Set<Key>, AllocError> {
     let mut keys = Vec::new(alloc);
     for number in 1..=nodes {
         keys.push(key_of(number))?;

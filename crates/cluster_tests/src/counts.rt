@@ -1,5 +1,4 @@
 //! What the callers of a node count once it is stopped.
-use super::nodes::{broadcast, digest, gets, start, track};
 use broadcast_core::{Key, TestMessage};
 use cluster_lib::client::count_served;
 use cluster_lib::measure::count_answered;
@@ -9,6 +8,7 @@ use std::random::RandomSource;
 use std::sync::Wait;
 use std::test::Fail;
 use std::thread::Threads;
+use test_support::nodes::{broadcast, digest, gets, start, track};
 
 /// Letters that are broadcast, and how many subscriptions and gets of the letters 1 and 2 give a
 /// message then.

@@ -1,8 +1,6 @@
 //! How the threads of a cluster wait for each other, and how a run ends that fails.
-use super::poor::{Poor, Supply};
 use broadcast_core::{Key, TestMessage};
 use cluster_lib::fault::Fault;
-use cluster_lib::keys::key_of;
 use cluster_lib::progress::Progress;
 use cluster_lib::run::run;
 use cluster_lib::session::not_started;
@@ -10,10 +8,12 @@ use cluster_lib::settings::Settings;
 use cluster_lib::shared::Shared;
 use commonware_broadcast::buffered::{StartError, channel};
 use memory_network::Network;
+use memory_node::keys::key_of;
 use std::alloc::{AllocError, AllocGlobal, Global};
 use std::num::NonZeroUsize;
 use std::sync::{Arc, Wait};
 use std::test::Fail;
+use test_support::poor::{Poor, Supply};
 
 /// A run of two nodes.
 const SETTINGS: Settings = Settings {
