@@ -1,9 +1,9 @@
 -- Bytes and their digits.
-use Rattle.std.proofs.Common.{◌≢◌, All, codes, ◌≡◌, ℕ, suc, zero, ◌+◌, ◌*◌, ◌/◌, ◌%◌, ◌<◌, List, [], ◌∷◌, ◌++◌, length, take, drop, slice_index, slice_set, refl, ap, ◌∙◌, arith}
-use Rattle.std.proofs.lemmas.List.{append_assoc, take_more, take_more_set, take-append-drop}
+use Rattle.std.proofs.Common.{◌≢◌, All, codes, ◌≡◌, ℕ, suc, zero, ◌+◌, ◌*◌, ◌/◌, ◌%◌, ◌<◌, ◌≤◌, List, [], ◌∷◌, ◌++◌, length, take, drop, slice_index, slice_set, refl, ap, ◌∙◌, arith}
+use Rattle.std.proofs.lemmas.List.{append_assoc, take_more, take_more_set, take-append-drop, take-take, take_all}
 use Rattle.hex.specs.Hex.{encode_with, encode_lower, lower_digits, IsBytes}
 use Rattle.std.proofs.lemmas.List.Elements.{All-head, All-tail}
-use Rattle.broadcast_text.specs.Words.{IsHexDigit, SpellsBytes, byte_list_word}
+use Rattle.broadcast_text.specs.Words.{IsHexDigit, IsSpelled, SpellsBytes, byte_list_word}
 use Rattle.hex.proofs.HexLemmas.{length-encode_with}
 
 -- digits of bytes in turn are the digits of all
@@ -62,6 +62,31 @@ decode_step digits bytes i b high low h len eh el eb hd ld inv =
     let pair : encode_lower (b ∷ []) ≡ slice_index digits (2 * i) ∷ slice_index digits (2 * i + 1) ∷ [] =
     rw (encode_with-one lower_digits b, hi, lo, hd, ld) refl in
     rw (two, front, take_more_set bytes i b h, encode_with-append lower_digits (take i bytes) (b ∷ []), pair, inv) refl
+
+-- the digits of the first bytes are the first digits
+encode_with-take : (t xs : List ℕ) (n : ℕ) → encode_with t (take n xs) ≡ take (2 * n) (encode_with t xs)
+unfolding encode_with
+encode_with-take t xs zero = refl
+encode_with-take t [] (suc n) = let two : 2 * suc n ≡ suc (suc (2 * n)) = omega arith in rw two refl
+encode_with-take t (x ∷ xs) (suc n) =
+    let two : 2 * suc n ≡ suc (suc (2 * n)) = omega arith in
+    rw (two, encode_with-take t xs n) refl
+
+-- what spells the first bytes spells fewer
+pub spelled_fewer : (digits bytes : List ℕ) (m n : ℕ) → m ≤ n → IsSpelled digits bytes n → IsSpelled digits bytes m
+spelled_fewer digits bytes m n le spelled =
+    let fewer = encode_with-take lower_digits (take n bytes) m in
+    let front = take-take (2 * m) (2 * n) digits (omega arith) in
+    let own = take-take m n bytes le in
+    rw (← own, fewer, ← spelled, front) refl
+
+-- what spells all bytes is all of the digits
+pub spelled_whole : (digits bytes : List ℕ) (n : ℕ) → length bytes ≤ n → length digits ≡ 2 * length bytes
+    → IsSpelled digits bytes n → digits ≡ encode_lower bytes
+spelled_whole digits bytes n all len spelled =
+    let ds = take_all (2 * n) digits (omega arith) in
+    let bs = take_all n bytes all in
+    rw (← ds, spelled, bs) refl
 
 -- digits that spell bytes read as them
 pub digit_found : (bs digits : List ℕ) (i high low : ℕ) → IsBytes bs → digits ≡ encode_lower bs → i < length bs

@@ -105,12 +105,15 @@ fn decode(digits: &[u8], bytes: &mut [u8]) -> bool
     ensures reads_all_bytes { (bs : List ℕ) → IsBytes bs
         → digits.now ≡ encode_lower bs → result ≡ true }
 {
-    let pieces = bytes.len() / PIECE_LEN;
+    if bytes.len() < PIECE_LEN {
+        return is_digit_value(decode_few(digits, bytes));
+    }
     let mut greatest = 0u8;
-    for piece in 0..pieces {
+    for piece in 0..bytes.len() / PIECE_LEN {
         greatest = greatest.max(decode_piece(digits, bytes, piece * PIECE_LEN));
     }
-    greatest = greatest.max(decode_rest(digits, bytes, pieces * PIECE_LEN));
+    // The last piece may begin within the one before.
+    greatest = greatest.max(decode_piece(digits, bytes, bytes.len() - PIECE_LEN));
     is_digit_value(greatest)
 }
 
@@ -149,16 +152,15 @@ fn piece_values(digits: &[u8], start: usize) -> [u8; 2 * PIECE_LEN]
     values
 }
 
-/// Writes the bytes from `start` on. Returns the greatest value of their digits.
-fn decode_rest(digits: &[u8], bytes: &mut [u8], start: usize) -> u8
+/// Writes the bytes one by one. Returns the greatest value of their digits.
+fn decode_few(digits: &[u8], bytes: &mut [u8]) -> u8
     requires { length digits.now ≡ 2 * length bytes.old }
-    ensures spelled_so { IsSpelled digits.now bytes.old start → result < 16
-        → digits.now ≡ encode_lower bytes.new }
+    ensures spelled_so { result < 16 → digits.now ≡ encode_lower bytes.new }
     ensures reads_all_bytes { (bs : List ℕ) → IsBytes bs
         → digits.now ≡ encode_lower bs → result < 16 }
 {
     let mut greatest = 0u8;
-    for i in start..bytes.len() {
+    for i in 0..bytes.len() {
         let high = digit_value(digits[2 * i]);
         let low = digit_value(digits[2 * i + 1]);
         greatest = greatest.max(high).max(low);

@@ -1,10 +1,10 @@
 use Rattle.std.proofs.Common.{◌≡◌, ℕ, List, ◌<◌}
 use Rattle.hex.specs.Hex.{IsBytes, encode_lower}
 use Rattle.broadcast_text.specs.Words.{IsSpelled}
-use Rattle.broadcast_text.proofs.byte_list.decode_rest.Given as goal
+use Rattle.broadcast_text.proofs.byte_list.decode_few.Given as goal
 
 abbrev pub invariant-loop-i : goal.invariant-loop-i
 invariant-loop-i l = record {
-  found : IsSpelled l.digits l.initial.bytes l.start → l.greatest < 16 → IsSpelled l.digits l.bytes l.i;
+  found : l.greatest < 16 → IsSpelled l.digits l.bytes l.i;
   only : (bs : List ℕ) → IsBytes bs → l.digits ≡ encode_lower bs → l.greatest < 16;
 }
