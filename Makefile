@@ -3,7 +3,7 @@
 EVENTS ?= examples/two-peers.events
 REPLAY := crates/replay/out/replay
 
-.PHONY: example test lib border runs generated alloc-failures io-failures wrong-bodies more-edits pictures bench
+.PHONY: example test lib border runs generated alloc-failures io-failures must-fail wrong-bodies pictures bench
 
 # `rt run` proves and builds the program, and prints how; the example is then run by itself.
 example:
@@ -39,13 +39,13 @@ io-failures:
 	@echo "io-failures: letting each read and write of a program go wrong in turn"
 	@scripts/io_failures
 
+must-fail:
+	@echo "must-fail: trying wrong bodies, each of which its contract must refuse"
+	@scripts/must_fail
+
 wrong-bodies:
 	@echo "wrong-bodies: building wrong bodies that the prover accepts, and running what must refuse each"
 	@scripts/wrong_bodies
-
-more-edits:
-	@echo "more-edits: trying must-fail edits that are no part of the gate"
-	@scripts/more_edits
 
 pictures:
 	@scripts/pictures
