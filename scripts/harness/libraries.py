@@ -36,20 +36,20 @@ def below(crate, named):
     return found
 
 
-def built(crate):
+def built(crate, crates=CRATES):
     """Where the library of a crate stands."""
-    return CRATES / crate / "out" / "rlib"
+    return crates / crate / "out" / "rlib"
 
 
-def words(crate, named):
+def words(crate, named, crates=CRATES):
     """The words that tell the compiler of a library, and of the libraries that `rt ci` built below it."""
     rlibs = kit() / "rlibs"
     found = ["--crate-name", crate, "src/lib.rt"]
     if is_static(crate):
         found += ["--crate-type", "staticlib"]
     for it in ["std", *named[crate]]:
-        found += ["--extern", f"{it}={built(it) if it in named else rlibs}/{it}.rlib"]
-    for folder in [rlibs, *map(built, below(crate, named))]:
+        found += ["--extern", f"{it}={built(it, crates) if it in named else rlibs}/{it}.rlib"]
+    for folder in [rlibs, *(built(it, crates) for it in below(crate, named))]:
         found += ["-L", f"dependency={folder}"]
     logic = kit() / "rattle" / "logic" / "antt-project.json"
     return [*found, "--antt-project", logic, "--links", f"{crate}="]
