@@ -1,14 +1,16 @@
-//! Tests of engines and digests on several threads.
+//! Tests of engines, of digests and of `cluster` on several threads.
 #![tactic(auto)]
 
 #[cfg(test)]
 mod account;
 #[cfg(test)]
+mod clusters;
+#[cfg(test)]
+mod counts;
+#[cfg(test)]
 mod ends;
 #[cfg(test)]
 mod gates;
-#[cfg(test)]
-mod keys;
 #[cfg(test)]
 mod live;
 #[cfg(test)]

@@ -38,20 +38,19 @@ mod printer;
 mod relay_calls;
 mod requests;
 mod settings;
-mod usage;
 
 use broadcast_core::{Event, TestMessage};
 use broadcast_text::fault::Fault;
 use commonware_broadcast::buffered::Sequential;
 use printer::Printer;
 use replay_lib::read_events;
+pub use settings::USAGE;
 use settings::{Part, Settings};
 use std::alloc::AllocError;
 use std::io::{Stderr, Stdin, Stdout};
 use std::random::RandomSource;
 use std::sync::Wait;
 use std::thread::Threads;
-pub use usage::{USAGE, asks_for_help, help};
 
 /// The keys whose lists and counters are shown.
 const KEYS: u64 = 7;
@@ -61,9 +60,8 @@ pub fn play<H>(rt: &H, words: &[String], reader: Stdin, out: Stdout, err: Stderr
 where
     H: Threads + Wait + RandomSource + Clone + Send + Drop + AllocGlobal + 'static,
 {
-    let settings = match Settings::parse(words) {
-        Ok(settings) => settings,
-        Err(refused) => return usage::report(refused, err),
+    let Some(settings) = Settings::parse(words) else {
+        return Fault::Usage(USAGE).report(err);
     };
     match read_and_make(rt, settings, reader, out) {
         Ok(()) => 0,

@@ -6,20 +6,14 @@ mod calls;
 mod memory;
 mod node;
 
-use anyhow::Error;
 use broadcast_text::arguments::read_arguments;
-use calls::{USAGE, asks_for_help, help};
+use calls::USAGE;
 use std::process::ExitCode;
 
-fn main(rt: HostRuntime) -> Result<ExitCode, Error> {
-    let words = match read_arguments(&rt, USAGE) {
-        Ok(words) => words,
-        Err(fault) => return Ok(ExitCode::from(fault.report(rt.stderr()))),
+fn main(rt: HostRuntime) -> ExitCode {
+    let status = match read_arguments(&rt, USAGE) {
+        Ok(words) => calls::play(&rt, &words, rt.stdin(), rt.stdout(), rt.stderr()),
+        Err(fault) => fault.report(rt.stderr()),
     };
-    if asks_for_help(&words) {
-        help(&mut rt.stdout())?;
-        return Ok(ExitCode::SUCCESS);
-    }
-    let status = calls::play(&rt, &words, rt.stdin(), rt.stdout(), rt.stderr());
-    Ok(ExitCode::from(status))
+    ExitCode::from(status)
 }

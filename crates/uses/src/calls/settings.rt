@@ -2,6 +2,10 @@
 use broadcast_text::words::parse_number;
 use std::num::NonZeroUsize;
 
+/// The usage line.
+pub const USAGE: &str =
+    "usage: uses core|inbox|engine|relay|account|digests SIZE PLACES GREATEST STEPS";
+
 const CORE: &[u8] = b"core";
 
 const INBOX: &[u8] = b"inbox";
@@ -40,50 +44,30 @@ pub struct Settings<'a> {
     pub steps: &'a [u8],
 }
 
-/// Why arguments name no calls.
-#[derive(Clone, Copy)]
-pub enum Refused<'a> {
-    /// They are not five words.
-    Words,
-    /// There is no such part.
-    Part(&'a str),
-    /// This argument is no number, or a smaller one than the given.
-    Number(&'static str, u8, &'a str),
-    /// This part has no step of this letter.
-    Step(&'a str, char),
-}
-
 impl<'a> Settings<'a> {
-    /// Returns the settings of the words. Fails with the first that is wrong.
-    pub fn parse(words: &'a [String]) -> Result<Settings<'a>, Refused<'a>> {
-        let [name, size, places, greatest, steps] = words else {
-            return Err(Refused::Words);
+    /// Returns the settings of the words, or nothing if one of them is wrong.
+    pub fn parse(words: &'a [String]) -> Option<Settings<'a>> {
+        let [part, size, places, greatest, steps] = words else {
+            return None;
         };
-        let settings = Settings {
-            part: part_of(name.as_bytes()).ok_or(Refused::Part(name.as_str()))?,
-            deque_size: number("SIZE", size.as_str())?,
-            places: places_of(places.as_str())?,
-            greatest: number("GREATEST", greatest.as_str())?,
-            steps: steps.as_bytes(),
-        };
-        match unknown_step(settings.part, steps.as_str()) {
-            Some(unknown) => Err(Refused::Step(name.as_str(), unknown)),
-            None => Ok(settings),
+        let part = part_of(part.as_bytes())?;
+        if !are_steps(part, steps.as_str()) {
+            return None;
         }
+        Some(Settings {
+            part,
+            deque_size: number_of(size)?,
+            places: NonZeroUsize::new(number_of(places)?)?,
+            greatest: number_of(greatest)?,
+            steps: steps.as_bytes(),
+        })
     }
 }
 
-fn number<'a>(name: &'static str, word: &'a str) -> Result<usize, Refused<'a>> {
+fn number_of(word: &str) -> Option<usize> {
     match parse_number(word.as_bytes()) {
-        Some(number) => Ok(number as usize),
-        None => Err(Refused::Number(name, 0, word)),
-    }
-}
-
-fn places_of<'a>(word: &'a str) -> Result<NonZeroUsize, Refused<'a>> {
-    match parse_number(word.as_bytes()).and_then(|number| NonZeroUsize::new(number as usize)) {
-        Some(places) => Ok(places),
-        None => Err(Refused::Number("PLACES", 1, word)),
+        Some(number) => Some(number as usize),
+        None => None,
     }
 }
 
@@ -109,14 +93,14 @@ fn part_of(word: &[u8]) -> Option<Part> {
     None
 }
 
-/// Returns the first letter that is no step of the part.
-fn unknown_step(part: Part, steps: &str) -> Option<char> {
+/// Returns whether each letter is a step of the part.
+fn are_steps(part: Part, steps: &str) -> bool {
     for letter in steps.chars() {
         if letter != 'c' && !is_step(part, letter) {
-            return Some(letter);
+            return false;
         }
     }
-    None
+    true
 }
 
 /// Returns whether the part has this step beside those that take an event.

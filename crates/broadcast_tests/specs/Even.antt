@@ -4,7 +4,7 @@ use Rattle.broadcast_core.specs.Codec.{IsRefusal}
 use Rattle.broadcast_core.specs.CodecLaws.{chosen_ok, ok_is}
 use Rattle.broadcast_core.specs.declared.codec.CodecError.{CodecError}
 use Rattle.broadcast_core.specs.declared.codec.CodecError.TheVariants.{EndOfBuffer, Invalid}
-use Rattle.core_tests.specs.declared.even.Even.{Even}
+use Rattle.broadcast_tests.specs.declared.even.Even.{Even}
 
 -- one byte where the number is even
 abbrev pub encoding_of : Even → Option (List ℕ)

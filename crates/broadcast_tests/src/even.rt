@@ -1,5 +1,5 @@
 //! A message that has no encoding for some values.
-ghost use Rattle.core_tests.specs.Even.{encoding_of, even_at, even_within, even_refusals, even_reads_back};
+ghost use Rattle.broadcast_tests.specs.Even.{encoding_of, even_at, even_within, even_refusals, even_reads_back};
 
 use broadcast_core::{Codec, CodecError, Digestible, EncodeSize, Read, Write};
 use std::alloc::Global;

@@ -1,5 +1,5 @@
 //! Worked examples of the definitions.
-ghost use Rattle.core_tests.specs.WorkedExamples.{Repeats, Broadcasts, Stays, Requests, Budgets};
+ghost use Rattle.broadcast_tests.specs.WorkedExamples.{Repeats, Broadcasts, Stays, Requests, Budgets};
 
 /// Does nothing. Its contract has lists of events with the answers, lists, waiters and sends
 /// that the definitions give.

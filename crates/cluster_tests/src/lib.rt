@@ -1,7 +1,0 @@
-//! Tests of the clients and threads of `cluster`.
-#![tactic(auto)]
-
-#[cfg(test)]
-mod clusters;
-#[cfg(test)]
-mod counts;
