@@ -1,4 +1,4 @@
-//! Tests of the engine: over scripted sources, and over a network in memory.
+//! Tests of the engine: over scripted sources, and over a network in memory. Tests of `cluster`.
 #![tactic(auto)]
 
 #[cfg(test)]
@@ -7,6 +7,10 @@ mod act;
 mod asked;
 #[cfg(test)]
 mod callers;
+#[cfg(test)]
+mod clusters;
+#[cfg(test)]
+mod counts;
 #[cfg(test)]
 mod driven;
 #[cfg(test)]

@@ -1,12 +1,8 @@
-//! Tests of engines, of digests and of `cluster` on several threads.
+//! Tests of engines and digests on several threads.
 #![tactic(auto)]
 
 #[cfg(test)]
 mod account;
-#[cfg(test)]
-mod clusters;
-#[cfg(test)]
-mod counts;
 #[cfg(test)]
 mod ends;
 #[cfg(test)]

@@ -141,13 +141,15 @@ where
     M::Cfg: Send + Drop + 'static,
     R: Threads + Wait + RandomSource + AllocGlobal + Clone + Send + Sync + Drop + 'static,
 {
+    let own = rt.clone()?;
     let (accepted, taken) = (Blank::new(1), Blank::new(1));
-    end_with::<M, T, R, Brand, Brand>(rt, row, cfg, network, message, accepted, taken)
+    end_with::<M, T, R, Brand, Brand>(rt, own, row, cfg, network, message, accepted, taken)
 }
 
 /// Lets an engine end after three requests, whose account has these ledgers.
 fn end_with<M, T, R, A, K>(
     rt: &R,
+    own: R,
     row: &Row,
     cfg: Config<u64, M::Cfg, Sets, T>,
     network: Network,
@@ -170,7 +172,7 @@ where
     requires one { (K.all ≡ K.parts) × (K.parts ≡ 1) }
 {
     let node: WatchedNode<u64, M, Sets, T, R, A, K, All> = Engine::new_watched(
-        rt.clone()?,
+        own,
         rt.alloc(),
         cfg,
         NonZeroU32::MIN,
@@ -180,8 +182,8 @@ where
     let (engine, mailbox, tally) = node;
     let asked = ask(&mailbox, tally, message);
     drop::<_>(mailbox);
-    let report = run(rt, row, engine, network);
-    finish(report?, asked?)
+    let report = run(rt, row, engine, network)?;
+    finish(report, asked)
 }
 
 /// What is left of the requests: the future of the get, and the tally.
@@ -267,7 +269,10 @@ where
 }
 
 /// Settles the account.
-fn finish<M, R, A, K>(report: Left<M, R, A, K>, asked: Asked<M, A>) -> Result<Ending, Fail>
+fn finish<M, R, A, K>(
+    report: Left<M, R, A, K>,
+    asked: Result<Asked<M, A>, MailboxError>,
+) -> Result<Ending, Fail>
 where
     M: Digestible,
     R: Wait + Drop,
@@ -276,7 +281,7 @@ where
     requires accounts { (A.all ≡ A.parts) × (K.all ≡ K.parts) }
     requires parts { A.parts < 2 ^ 64 }
 {
-    let (get, tally) = asked;
+    let (get, tally) = asked?;
     drop::<_>(get);
     let cause = report.cause();
     let taken = report.metrics().receive(Status::Success);
