@@ -8,6 +8,8 @@ mod ends;
 #[cfg(test)]
 mod gates;
 #[cfg(test)]
+mod keys;
+#[cfg(test)]
 mod live;
 #[cfg(test)]
 mod lock;

@@ -4,9 +4,11 @@ use crate::patient::{LIMIT, pause};
 use broadcast_core::{Digest, Recipients, TestMessage};
 use broadcast_mailbox::MailboxError;
 use commonware_broadcast::buffered::{
-    Account, Broadcasts, EndCause, Finished, Sequential, Session, WatchedClient, run_session,
+    Account, All, Broadcasts, EndCause, Finished, Kind, Sequential, Session, Watch, WatchedClient,
+    run_session,
 };
 use std::alloc::{AllocGlobal, Global};
+use std::marker::PhantomData;
 use std::num::NonZeroU32;
 use std::random::RandomSource;
 use std::sync::Wait;
@@ -24,10 +26,28 @@ const ROUNDS: u8 = 34;
 /// The bytes of a digest that no message has.
 const NOBODYS: [u8; 32] = [7; 32];
 
-/// A session whose account counts the broadcasts.
+/// Counts the tallied subscribes to one digest.
+struct Nobodys;
+
+impl Watch<Digest> for Nobodys {
+    ghost use Rattle.thread_tests.specs.Watches.{is_subscribe_to};
+    ghost use Rattle.thread_tests.specs.declared.account.clients.TheConstants.{NOBODYS};
+
+    ghost watched = { is_subscribe_to NOBODYS };
+
+    fn matches(kind: Kind, digest: &Digest) -> bool {
+        match kind {
+            Kind::Subscribe => digest.bytes == NOBODYS,
+            Kind::Broadcast | Kind::Get => false,
+        }
+    }
+}
+
+/// A session whose account has the watch.
 #[derive(Drop)]
-struct Asking<R> {
+struct Asking<R, V> {
     rt: R,
+    of: PhantomData<V>,
 }
 
 /// How many of its broadcasts a client was told are accepted.
@@ -36,18 +56,19 @@ pub type Told = Result<u64, MailboxError>;
 /// What a client leaves: its number, and what it was told.
 type Left = (u32, Told);
 
-impl<R> Session<u64, TestMessage, R> for Asking<R>
+impl<R, V> Session<u64, TestMessage, R> for Asking<R, V>
 where
     R: Wait + Clock + RandomSource + AllocGlobal,
+    V: Watch<Digest>,
 {
-    type Watch = Broadcasts;
+    type Watch = V;
 
     type Output = Left;
 
     fn run<A: Account, K: Account>(
         &self,
         number: u32,
-        client: &mut WatchedClient<u64, TestMessage, R, A, K, Broadcasts>,
+        client: &mut WatchedClient<u64, TestMessage, R, A, K, V>,
     ) -> Left {
         if number < ASKING {
             (number, ask_often(self.rt.alloc(), client))
@@ -58,14 +79,15 @@ where
 }
 
 /// Makes all requests of a client.
-fn ask_often<R, A, K>(
+fn ask_often<R, A, K, V>(
     alloc: Global,
-    client: &mut WatchedClient<u64, TestMessage, R, A, K, Broadcasts>,
+    client: &mut WatchedClient<u64, TestMessage, R, A, K, V>,
 ) -> Told
 where
     R: Wait,
     A: Account,
     K: Account,
+    V: Watch<Digest>,
 {
     let mut told = 0u64;
     for round in 0..ROUNDS {
@@ -75,15 +97,16 @@ where
 }
 
 /// Makes a request of each kind, and drops the futures. Returns 1 if the broadcast is accepted.
-fn ask<R, A, K>(
+fn ask<R, A, K, V>(
     alloc: Global,
-    client: &mut WatchedClient<u64, TestMessage, R, A, K, Broadcasts>,
+    client: &mut WatchedClient<u64, TestMessage, R, A, K, V>,
     letter: u8,
 ) -> Told
 where
     R: Wait,
     A: Account,
     K: Account,
+    V: Watch<Digest>,
 {
     let message = digested(alloc, letter, letter)?;
     drop::<_>(client.get(message.digest())?);
@@ -93,14 +116,15 @@ where
 }
 
 /// Makes a request of each kind, waits for the reply to a get, and stops the engine.
-fn ask_and_stop<R, A, K>(
+fn ask_and_stop<R, A, K, V>(
     rt: &R,
-    client: &mut WatchedClient<u64, TestMessage, R, A, K, Broadcasts>,
+    client: &mut WatchedClient<u64, TestMessage, R, A, K, V>,
 ) -> Told
 where
     R: Wait + Clock + RandomSource + AllocGlobal,
     A: Account,
     K: Account,
+    V: Watch<Digest>,
 {
     let told = ask(rt.alloc(), client, 0)?;
     let get = client.get(digest(rt.alloc(), 0)?)?;
@@ -111,14 +135,15 @@ where
 
 /// Broadcasts until the mailbox is closed, as it is soon after a stop. Returns how many broadcasts
 /// are accepted. A mailbox that stays open is told as one without tickets.
-pub fn broadcast_until_closed<R, A, K>(
+pub fn broadcast_until_closed<R, A, K, V>(
     rt: &R,
-    client: &mut WatchedClient<u64, TestMessage, R, A, K, Broadcasts>,
+    client: &mut WatchedClient<u64, TestMessage, R, A, K, V>,
 ) -> Told
 where
     R: Wait + Clock + AllocGlobal,
     A: Account,
     K: Account,
+    V: Watch<Digest>,
 {
     for accepted in 0..LIMIT {
         let message = digested(rt.alloc(), 0, 0)?;
@@ -130,17 +155,22 @@ where
     Err(MailboxError::Exhausted)
 }
 
-/// Runs a session.
-fn run<R>(rt: &R) -> Result<Finished<Left>, Fail>
+/// Runs a session. Returns how many broadcasts its clients were told are accepted, and what else it
+/// leaves.
+fn run<V, R>(rt: &R) -> Result<(u64, Finished<Left>), Fail>
 where
+    V: Watch<Digest> + Send + Sync + 'static,
     R: Threads + Wait + Clock + RandomSource + AllocGlobal + Clone + Send + Sync + Drop + 'static,
 {
-    let session = Asking { rt: rt.clone()? };
+    let session: Asking<R, V> = Asking {
+        rt: rt.clone()?,
+        of: PhantomData,
+    };
     let sets = Sets::new(rt.alloc(), Gives::Nothing)?;
     let wire = Wire::new(rt.alloc(), Gives::Nothing)?;
     let clients = NonZeroU32::new(ASKING + 1).unwrap();
-    let cfg = config(sets, Sequential);
-    Ok(run_session(rt, cfg, (Void, wire), clients, session)?)
+    let finished = run_session(rt, config(sets, Sequential), (Void, wire), clients, session)?;
+    Ok((told_by_all(&finished)?, finished))
 }
 
 /// Returns how many broadcasts all clients were told are accepted.
@@ -177,14 +207,30 @@ fn adds_up(finished: &Finished<Left>) -> bool {
 }
 
 #[test]
+fn all_requests_of_four_threads_are_accounted_for(rt: HostRuntime) -> Result<(), Fail> {
+    let (told, finished) = run::<All, HostRuntime>(&rt)?;
+    assert!(rt; adds_up(&finished) && are_in_order(&finished.outputs));
+    // The client that stops the engine also makes a subscribe and two gets, and waits for the last.
+    assert!(rt; finished.accepted >= told.saturating_add(3));
+    // Its broadcast and its last get are applied; a request without a caller may be skipped.
+    assert!(rt; finished.settled.applied >= 2);
+    Ok(())
+}
+
+#[test]
 fn broadcasts_of_four_threads_are_those_that_they_were_told_of(
     rt: HostRuntime,
 ) -> Result<(), Fail> {
-    let finished = run(&rt)?;
-    assert!(rt; adds_up(&finished) && are_in_order(&finished.outputs));
-    assert_eq!(rt; finished.accepted, told_by_all(&finished)?);
+    let (told, finished) = run::<Broadcasts, HostRuntime>(&rt)?;
+    assert!(rt; adds_up(&finished));
+    assert_eq!(rt; finished.accepted, told);
     assert_eq!(rt; finished.settled.skipped, 0);
-    // The client that stops the engine waits for a get after its first broadcast.
-    assert!(rt; finished.settled.applied >= 1);
+    Ok(())
+}
+
+#[test]
+fn subscribes_of_four_threads_to_one_digest_are_accounted_for(rt: HostRuntime) -> Result<(), Fail> {
+    let (_told, finished) = run::<Nobodys, HostRuntime>(&rt)?;
+    assert!(rt; adds_up(&finished));
     Ok(())
 }

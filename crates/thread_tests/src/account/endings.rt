@@ -1,5 +1,6 @@
 //! What becomes of three requests, of which one has no caller any more, by how their engine ends.
 ghost use Rattle.std.specs.Prelude.{◌≡◌, ◌<◌, ◌^◌};
+ghost use Rattle.std.specs.NonZero.{non_zero_u32_get};
 
 use super::quiet::{Gives, Sets, Void, Wire, config};
 use broadcast_core::{Codec, Digested, Digestible, Recipients};
@@ -10,7 +11,7 @@ use commonware_broadcast::buffered::{
 };
 use commonware_broadcast::mocks::Slow;
 use futures::task::{Doorbell, Poll, Solo};
-use std::alloc::{AllocError, AllocGlobal};
+use std::alloc::AllocGlobal;
 use std::marker::Brand;
 use std::num::NonZeroU32;
 use std::random::RandomSource;
@@ -31,6 +32,8 @@ struct Row {
     polls: usize,
     /// Whether it is asked to stop after its start.
     stops: bool,
+    /// Whether the account is first settled with a part of the tally alone.
+    lacks_part: bool,
     ending: Ending,
 }
 
@@ -50,12 +53,13 @@ const APPLIED: Settled = Settled {
     given_up: 0,
 };
 
-static ROWS: [Row; 4] = [
+static ROWS: [Row; 5] = [
     Row {
         name: "a stop with no request left",
         gives: Gives::Nothing,
         polls: 2,
         stops: true,
+        lacks_part: false,
         ending: Ending {
             cause: EndCause::Stopped,
             taken: 0,
@@ -67,6 +71,7 @@ static ROWS: [Row; 4] = [
         gives: Gives::EndOfSets,
         polls: 1,
         stops: false,
+        lacks_part: false,
         ending: Ending {
             cause: EndCause::PeersClosed,
             taken: 0,
@@ -79,10 +84,23 @@ static ROWS: [Row; 4] = [
         },
     },
     Row {
+        name: "a part of the tally is missing at first",
+        gives: Gives::Nothing,
+        polls: 2,
+        stops: true,
+        lacks_part: true,
+        ending: Ending {
+            cause: EndCause::Stopped,
+            taken: 0,
+            settled: APPLIED,
+        },
+    },
+    Row {
         name: "a failure of the network",
         gives: Gives::Failure,
         polls: 2,
         stops: false,
+        lacks_part: false,
         ending: Ending {
             cause: EndCause::NetworkFailed,
             taken: 0,
@@ -94,6 +112,7 @@ static ROWS: [Row; 4] = [
         gives: Gives::Payload,
         polls: 4,
         stops: true,
+        lacks_part: false,
         ending: Ending {
             cause: EndCause::Stopped,
             taken: 1,
@@ -141,19 +160,20 @@ where
     M::Cfg: Send + Drop + 'static,
     R: Threads + Wait + RandomSource + AllocGlobal + Clone + Send + Sync + Drop + 'static,
 {
-    let own = rt.clone()?;
-    let (accepted, taken) = (Blank::new(1), Blank::new(1));
-    end_with::<M, T, R, Brand, Brand>(rt, own, row, cfg, network, message, accepted, taken)
+    let parts = NonZeroU32::new(2).unwrap();
+    let accepted = Blank::new(parts.get() as u64);
+    let taken = Blank::new(1);
+    end_with::<M, T, R, Brand, Brand>(rt, row, cfg, network, message, parts, accepted, taken)
 }
 
 /// Lets an engine end after three requests, whose account has these ledgers.
 fn end_with<M, T, R, A, K>(
     rt: &R,
-    own: R,
     row: &Row,
     cfg: Config<u64, M::Cfg, Sets, T>,
     network: Network,
     message: Digested<M>,
+    parts: NonZeroU32,
     accepted: Blank,
     taken: Blank,
 ) -> Result<Ending, Fail>
@@ -167,29 +187,29 @@ where
     A: Account + Send + Sync + 'static,
     K: Account + Send + Sync + 'static,
     requires accepted { (accepted.name ≡ A.name) × (accepted.parts ≡ A.parts) }
-    requires parts { (A.all ≡ A.parts) × (A.parts ≡ 1) }
+    requires parts { (A.all ≡ A.parts) × (A.parts ≡ non_zero_u32_get parts) }
     requires taken { (taken.name ≡ K.name) × (taken.parts ≡ K.parts) }
     requires one { (K.all ≡ K.parts) × (K.parts ≡ 1) }
 {
     let node: WatchedNode<u64, M, Sets, T, R, A, K, All> = Engine::new_watched(
-        own,
+        rt.clone()?,
         rt.alloc(),
         cfg,
-        NonZeroU32::MIN,
+        parts,
         accepted,
         taken,
     )?;
     let (engine, mailbox, tally) = node;
     let asked = ask(&mailbox, tally, message);
     drop::<_>(mailbox);
-    let report = run(rt, row, engine, network)?;
-    finish(report, asked)
+    let report = run(rt, row, engine, network);
+    finish(report?, asked?, row.lacks_part)
 }
 
-/// What is left of the requests: the future of the get, and the tally.
-type Asked<M, A> = (Get<M>, Tally<A>);
+/// What is left of the requests: the future of the get, and two parts of the tally.
+type Asked<M, A> = (Get<M>, Tally<A>, Tally<A>);
 
-/// Makes a get, a subscribe whose caller hangs up, and a broadcast.
+/// Makes a get, a subscribe whose caller hangs up, and a broadcast, with a part of the tally.
 fn ask<M, R, A, K>(
     mailbox: &WatchedMailbox<u64, M, R, A, K, All>,
     tally: Tally<A>,
@@ -201,13 +221,15 @@ where
     A: Account,
     K: Account,
 {
-    let mut tally = tally;
+    let Ok((first, mut second)) = tally.split() else {
+        return Err(MailboxError::Exhausted);
+    };
     let digest = message.digest();
-    let get = mailbox.get_as(&mut tally, digest)?;
-    let subscription = mailbox.subscribe_as(&mut tally, digest)?;
-    let _feedback = mailbox.broadcast_as(&mut tally, Recipients::All, message)?;
+    let get = mailbox.get_as(&mut second, digest)?;
+    let subscription = mailbox.subscribe_as(&mut second, digest)?;
+    let _feedback = mailbox.broadcast_as(&mut second, Recipients::All, message)?;
     drop::<_>(subscription);
-    Ok((get, tally))
+    Ok((get, first, second))
 }
 
 /// What an engine leaves that counts requests.
@@ -232,14 +254,12 @@ where
 {
     let mut engine = engine;
     let mut network = network;
-    let polled = poll_often(rt, row.polls, &mut engine, &mut network);
+    poll_often(rt, row.polls, &mut engine, &mut network)?;
     let handle = engine.start(rt, network)?;
     if row.stops {
         handle.stop();
     }
-    let report = handle.join(rt);
-    polled?;
-    Ok(report)
+    Ok(handle.join(rt))
 }
 
 /// Polls the engine this many times.
@@ -248,7 +268,7 @@ fn poll_often<M, T, R, A, K>(
     polls: usize,
     engine: &mut WatchedEngine<u64, M, Sets, T, R, A, K, All>,
     network: &mut Network,
-) -> Result<(), AllocError>
+) -> Result<(), Fail>
 where
     T: Strategy<M>,
     M: Digestible + Codec,
@@ -256,9 +276,7 @@ where
     A: Account,
     K: Account,
 {
-    let Ok(task) = Solo::new(rt, Doorbell::spinning()) else {
-        return Err(AllocError);
-    };
+    let task = Solo::new(rt, Doorbell::spinning())?;
     let mut cx = task.begin();
     let turns = drive(rt.alloc(), engine, &mut cx, network, polls);
     // A task that is parked must have asked for another poll.
@@ -271,7 +289,8 @@ where
 /// Settles the account.
 fn finish<M, R, A, K>(
     report: Left<M, R, A, K>,
-    asked: Result<Asked<M, A>, MailboxError>,
+    asked: Asked<M, A>,
+    lacks_part: bool,
 ) -> Result<Ending, Fail>
 where
     M: Digestible,
@@ -281,17 +300,45 @@ where
     requires accounts { (A.all ≡ A.parts) × (K.all ≡ K.parts) }
     requires parts { A.parts < 2 ^ 64 }
 {
-    let (get, tally) = asked?;
+    let (get, first, second) = asked;
     drop::<_>(get);
     let cause = report.cause();
     let taken = report.metrics().receive(Status::Success);
-    match report.settle(tally) {
-        Ok(settled) => Ok(Ending {
+    let settled = if lacks_part {
+        settle_again(report, first, second)
+    } else {
+        report.settle(first.join(second)).ok()
+    };
+    match settled {
+        Some(settled) => Ok(Ending {
             cause,
             taken,
             settled,
         }),
-        Err(_) => Err("an account settles otherwise")?,
+        None => Err("an account settles otherwise")?,
+    }
+}
+
+/// Settles the account with both parts of the tally, if it can't be settled with the first alone.
+fn settle_again<M, R, A, K>(
+    report: Left<M, R, A, K>,
+    first: Tally<A>,
+    second: Tally<A>,
+) -> Option<Settled>
+where
+    M: Digestible,
+    R: Wait + Drop,
+    A: Account,
+    K: Account,
+    requires accounts { (A.all ≡ A.parts) × (K.all ≡ K.parts) }
+    requires parts { A.parts < 2 ^ 64 }
+{
+    match report.settle(first) {
+        Ok(_) => {
+            drop::<_>(second);
+            None
+        }
+        Err((report, first)) => report.settle(first.join(second)).ok(),
     }
 }
 

@@ -4,7 +4,7 @@ use super::quiet::{Gives, Sets, Void, Wire, config};
 use crate::patient::pause;
 use broadcast_core::TestMessage;
 use commonware_broadcast::buffered::{
-    Account, Broadcasts, Sequential, Session, WatchedClient, run_session,
+    Account, All, Sequential, Session, WatchedClient, run_session,
 };
 use std::alloc::AllocGlobal;
 use std::num::NonZeroU32;
@@ -41,14 +41,14 @@ impl<R> Session<u64, TestMessage, R> for Staying<R>
 where
     R: Wait + Clock + AllocGlobal,
 {
-    type Watch = Broadcasts;
+    type Watch = All;
 
     type Output = ();
 
     fn run<A: Account, K: Account>(
         &self,
         number: u32,
-        client: &mut WatchedClient<u64, TestMessage, R, A, K, Broadcasts>,
+        client: &mut WatchedClient<u64, TestMessage, R, A, K, All>,
     ) {
         self.counts.begun.fetch_add(1, Ordering::SeqCst);
         if number == 0 {

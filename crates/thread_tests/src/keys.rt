@@ -1,0 +1,90 @@
+//! Engines in threads whose peers have numbers as keys.
+use broadcast_core::{RangeCfg, TestMessage};
+use commonware_broadcast::buffered::{
+    Config, EndCause, Handle, Mailbox, Open, Sequential, Status, Threaded, start, start_threaded,
+};
+use memory_network::{Ends, Network};
+use std::alloc::AllocGlobal;
+use std::num::NonZeroUsize;
+use std::random::RandomSource;
+use std::sync::{Arc, Wait};
+use std::test::Fail;
+use std::thread::Threads;
+use test_support::nodes::digest;
+
+type Running<R> = (Handle<u64, TestMessage, R>, Mailbox<u64, TestMessage, R>);
+
+/// Returns what the node of key 1 has of a network with the node of key 5, which sends it the
+/// message of the letter 2.
+fn ends<R: Wait + AllocGlobal + Clone + Drop>(rt: &R) -> Result<Ends<u64, R>, Fail> {
+    let ends = Network::between(rt, &[1, 5])?.join(rt, &1)?;
+    let bytes = Vec::from_slice(rt.alloc(), &[0, 0, 0, 0, 0, 0, 0, 1, 2])?;
+    ends.mail.deliver(rt, 5, bytes)?;
+    Ok(ends)
+}
+
+/// Returns the configuration of the node of key 1.
+fn config<B, T>(peer_provider: B, strategy: T) -> Config<u64, RangeCfg, B, T> {
+    Config {
+        public_key: 1,
+        mailbox_size: NonZeroUsize::MIN,
+        deque_size: 4,
+        byte_budget: u64::MAX,
+        priority: false,
+        codec_config: RangeCfg::any(),
+        peer_provider,
+        strategy,
+    }
+}
+
+/// Starts an engine that digests messages itself.
+fn sequential<R>(rt: &R) -> Result<Running<R>, Fail>
+where
+    R: Threads + Wait + RandomSource + AllocGlobal + Clone + Send + Sync + Drop + 'static,
+{
+    let ends = ends(rt)?;
+    let cfg = config(ends.provider, Sequential);
+    Ok(start(rt, cfg, (ends.sender, ends.receiver))?)
+}
+
+/// Starts an engine whose messages are digested on other threads.
+fn threaded<R>(rt: &R) -> Result<Running<R>, Fail>
+where
+    R: Threads + Wait + RandomSource + AllocGlobal + Clone + Send + Sync + Drop + 'static,
+{
+    let gate = Arc::new(rt.alloc(), Open)?;
+    let strategy = Threaded::new(rt.clone()?, rt.alloc(), gate);
+    let ends = ends(rt)?;
+    let cfg = config(ends.provider, strategy);
+    Ok(start_threaded(rt, cfg, (ends.sender, ends.receiver))?)
+}
+
+/// Subscribes to the message of the letter 2, and stops the engine. Returns whether the message
+/// came, and was counted for its peer.
+fn receives<R>(rt: &R, running: Running<R>) -> Result<bool, Fail>
+where
+    R: Threads + Wait + RandomSource + AllocGlobal + Drop,
+{
+    let (handle, mailbox) = running;
+    let came = mailbox.subscribe(digest(rt.alloc(), 2)?)?.wait(rt).is_ok();
+    handle.stop();
+    let report = handle.join(rt);
+    let metrics = report.metrics();
+    let counted = (metrics.peer(&5), metrics.receive(Status::Success));
+    Ok(came && report.cause() == EndCause::Stopped && counted == (1, 1))
+}
+
+/// Starts an engine with each strategy.
+fn start_both<R>(rt: &R) -> Result<bool, Fail>
+where
+    R: Threads + Wait + RandomSource + AllocGlobal + Clone + Send + Sync + Drop + 'static,
+{
+    let alone = receives(rt, sequential(rt)?)?;
+    Ok(alone && receives(rt, threaded(rt)?)?)
+}
+
+#[test]
+fn engines_of_keys_that_are_numbers_are_started(rt: HostRuntime) -> Result<(), Fail> {
+    assert!(rt; start_both(&rt)?);
+    Ok(())
+}
