@@ -1,9 +1,10 @@
-# `make example` runs the program on an example; `make test` is the merge gate. `make pictures` draws the
-# pictures of the documents. The others want the programs built, as `make test` leaves them.
+# `make example` runs the program on an example; `make check` and `make quick` are beginnings of `make test`, the merge
+# gate, without a proof. `make pictures` draws the pictures of the documents. The others want the programs built, as
+# `make test` leaves them.
 EVENTS ?= examples/two-peers.events
 REPLAY := crates/replay/out/replay
 
-.PHONY: example test lib border runs generated alloc-failures io-failures must-fail wrong-bodies pictures bench
+.PHONY: example check quick test lib dist border relays soak runs generated faults mutants pictures bench
 
 # `rt run` proves and builds the program, and prints how; the example is then run by itself.
 example:
@@ -11,17 +12,35 @@ example:
 	cd crates/replay && rt run -- 1 10 < ../../$(EVENTS) > /dev/null
 	$(REPLAY) 1 10 < $(EVENTS)
 
+check:
+	@scripts/gate static
+
+quick:
+	@scripts/gate quick
+
 test:
 	@scripts/gate
 
-# The static library for callers in C and Rust, which is linked with `c/liblibc_c.a` of the kit.
+# The static library for callers in C and Rust. In C it is linked with `c/liblibc_c.a` of the kit.
 lib:
 	@echo "lib: proving and building crates/broadcast_c/out/libbroadcast_c.a"
 	cd crates/broadcast_c && rt lib
 
+# What callers without the toolchain need, in one folder of `dist`.
+dist:
+	@scripts/dist
+
 border:
 	@echo "border: building the static library by both compilers, and calling it from C and Rust"
 	@scripts/border
+
+relays:
+	@echo "relays: testing the async engine, and relays under attack, over that library"
+	@scripts/relays
+
+# Twenty minutes of load and attack; no part of the gate.
+soak:
+	@scripts/relays soak
 
 runs:
 	@echo "runs: running each program over its stored runs, as both compilers built it"
@@ -31,21 +50,13 @@ generated:
 	@echo "generated: running programs over long generated inputs, and comparing them with models"
 	@scripts/generated_runs
 
-alloc-failures:
-	@echo "alloc-failures: refusing each allocation of a program in turn"
-	@scripts/alloc_failures
+faults:
+	@echo "faults: refusing each allocation, read and write of a program in turn"
+	@scripts/faults
 
-io-failures:
-	@echo "io-failures: letting each read and write of a program go wrong in turn"
-	@scripts/io_failures
-
-must-fail:
-	@echo "must-fail: trying wrong bodies, each of which its contract must refuse"
-	@scripts/must_fail
-
-wrong-bodies:
-	@echo "wrong-bodies: building wrong bodies that the prover accepts, and running what must refuse each"
-	@scripts/wrong_bodies
+mutants:
+	@echo "mutants: trying wrong bodies, each of which the prover or a test must refuse"
+	@scripts/mutants
 
 pictures:
 	@scripts/pictures

@@ -12,12 +12,12 @@ static size_t packet_len;
 static void make(broadcast_node *node, const uint8_t own[32])
 {
     must(broadcast_node_new(node, own, DEQUE, BUDGET, MAX_LEN) == BROADCAST_OK);
-    must(broadcast_node_peers(node, keys, 2, &answer) == BROADCAST_OK);
+    must(broadcast_node_peers(node, keys[0], 2, &answer) == BROADCAST_OK);
     must(answer.answer == BROADCAST_ANSWER_PEERS && !answer.sends);
 }
 
 /* Reads the packet of `left`. Returns how many recipients it names. */
-static size_t take_packet(bool *all, uint8_t (*recipients)[32], size_t places)
+static size_t take_packet(bool *all, uint8_t *recipients, size_t places)
 {
     size_t named = 0;
     must(answer.sends);
@@ -29,11 +29,10 @@ static size_t take_packet(bool *all, uint8_t (*recipients)[32], size_t places)
 static void broadcasts_to_all(void)
 {
     bool all = false;
-    uint8_t room[1][32] = {{0}};
-    must(broadcast_node_broadcast(&left, true, keys, 0, (const uint8_t *)"hello", 5, &answer) ==
+    must(broadcast_node_broadcast(&left, true, NULL, 0, (const uint8_t *)"hello", 5, &answer) ==
          BROADCAST_OK);
     must(answer.answer == BROADCAST_ANSWER_TAKEN && answer.outcome == BROADCAST_INSERTED);
-    must(take_packet(&all, room, 0) == 0 && all);
+    must(take_packet(&all, NULL, 0) == 0 && all);
     must(packet_len == 9 && !memcmp(packet, "\0\0\0\5hello", 9));
 }
 
@@ -76,12 +75,27 @@ static void waits_until_served(void)
     }
     must(broadcast_node_cleanup(&left, (const uint64_t[]){9, 6}, 2, &answer) == BROADCAST_OK);
     must(answer.answer == BROADCAST_ANSWER_REMOVED && answer.removed == 1);
-    must(broadcast_node_broadcast_as(&left, false, keys + 1, 1, digest, (const uint8_t *)"hey", 3,
+    must(broadcast_node_broadcast_as(&left, false, keys[1], 1, digest, (const uint8_t *)"hey", 3,
                                      &answer) == BROADCAST_OK);
     must(answer.answer == BROADCAST_ANSWER_TAKEN && answer.served == 2);
     must(broadcast_node_served(&left, tickets, 2, &needed) == BROADCAST_OK && needed == 2);
     must(tickets[0] == 5 && tickets[1] == 7);
-    must(take_packet(&all, named, 2) == 1 && !all && !memcmp(named[0], keys[1], 32));
+    must(take_packet(&all, named[0], 2) == 1 && !all && !memcmp(named[0], keys[1], 32));
+}
+
+/* Where there is nothing, the rooms stay, and nothing is needed. */
+static void tells_of_nothing(void)
+{
+    bool all = true;
+    uint8_t name[32] = {3}, bytes[2] = {1, 2};
+    size_t needed = 9, named = 9;
+    must(broadcast_node_get(&left, 1, (const uint8_t[32]){9}, &answer) == BROADCAST_OK);
+    must(answer.answer == BROADCAST_ANSWER_MISSED);
+    must(broadcast_node_message(&left, name, bytes, 2, &needed) == BROADCAST_NONE);
+    must(needed == 0 && name[0] == 3 && bytes[0] == 1 && bytes[1] == 2);
+    needed = 9;
+    must(broadcast_node_packet(&left, &all, name, 1, &named, bytes, 2, &needed) == BROADCAST_NONE);
+    must(all && named == 0 && needed == 0 && name[0] == 3 && bytes[0] == 1);
 }
 
 static void refuses_garbage(void)
@@ -103,6 +117,7 @@ int main(void)
     arrives_and_serves();
     waits_until_served();
     refuses_garbage();
+    tells_of_nothing();
     must(broadcast_node_count(&left, &counts) == BROADCAST_OK);
     must(counts.cached == 2 && counts.awaited == 0);
     broadcast_node_free(&left);

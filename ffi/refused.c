@@ -54,6 +54,8 @@ static broadcast_cache cache;
 
 typedef struct {
     broadcast_counts counts;
+    uint64_t served[CALLS];
+    size_t served_len;
     uint8_t lists[KEYS][LISTED][32];
     size_t lengths[KEYS];
     uint8_t messages[NAMES][LONGEST];
@@ -67,8 +69,9 @@ static void look(cache_state *to)
     is_counting = false;
     memset(to, 0, sizeof *to);
     must(broadcast_cache_count(&cache, &to->counts) == BROADCAST_OK);
+    must(broadcast_cache_served(&cache, to->served, CALLS, &to->served_len) == BROADCAST_OK);
     for (int i = 0; i < KEYS; i++)
-        must(broadcast_cache_list(&cache, keys[i], to->lists[i], LISTED, &to->lengths[i]) ==
+        must(broadcast_cache_list(&cache, keys[i], to->lists[i][0], LISTED, &to->lengths[i]) ==
              BROADCAST_OK);
     for (int i = 0; i < NAMES; i++)
         to->found[i] =
@@ -85,7 +88,7 @@ static uint32_t call_cache(int at)
     size_t needed = 0;
     switch (at % 10) {
     case 0:
-        return broadcast_cache_peers(&cache, (const uint8_t(*)[32])keys + at % 2, KEYS - at % 2);
+        return broadcast_cache_peers(&cache, keys[at % 2], KEYS - at % 2);
     case 1:
     case 4:
     case 8: return broadcast_cache_subscribe(&cache, at, name);
@@ -147,6 +150,28 @@ static void look_node(node_state *to)
     is_counting = true;
 }
 
+/* What the node keeps of its last event. */
+typedef struct {
+    uint64_t served[CALLS];
+    uint8_t digest[32], message[LONGEST], recipients[KEYS][32], packet[LONGEST + 4];
+    size_t served_len, message_len, recipients_len, packet_len;
+    uint32_t has_message, has_packet;
+    bool all;
+} kept_state;
+
+static void look_kept(kept_state *to)
+{
+    is_counting = false;
+    memset(to, 0, sizeof *to);
+    must(broadcast_node_served(&node, to->served, CALLS, &to->served_len) == BROADCAST_OK);
+    to->has_message = broadcast_node_message(&node, to->digest, to->message, LONGEST,
+                                             &to->message_len);
+    to->has_packet = broadcast_node_packet(&node, &to->all, to->recipients[0], KEYS,
+                                           &to->recipients_len, to->packet, LONGEST + 4,
+                                           &to->packet_len);
+    is_counting = true;
+}
+
 static uint32_t call_node(int at, broadcast_answer *answer)
 {
     const uint8_t *key = keys[at % KEYS], *name = names[at * 5 % 7 % NAMES];
@@ -154,18 +179,16 @@ static uint32_t call_node(int at, broadcast_answer *answer)
     payload[2] = at * 7 / 256, payload[3] = at * 7 % 256;
     switch (at % 8) {
     case 0:
-        return broadcast_node_peers(&node, (const uint8_t(*)[32])keys + at % 2, KEYS - at % 2,
-                                    answer);
+        return broadcast_node_peers(&node, keys[at % 2], KEYS - at % 2, answer);
     case 1:
     case 4: return broadcast_node_subscribe(&node, at, name, answer);
     case 2:
-        return broadcast_node_broadcast_as(&node, at % 16 == 2, (const uint8_t(*)[32])keys, 2, name,
-                                           bytes, at, answer);
+        return broadcast_node_broadcast_as(&node, at % 16 == 2, keys[0], 2, name, bytes, at,
+                                           answer);
     case 3: return broadcast_node_payload(&node, key, payload, at * 7 + 4, answer);
     case 5: return broadcast_node_get(&node, at, name, answer);
     case 6:
-        return broadcast_node_broadcast(&node, false, (const uint8_t(*)[32])keys, 2, bytes, at,
-                                        answer);
+        return broadcast_node_broadcast(&node, false, keys[0], 2, bytes, at, answer);
     default: return broadcast_node_cleanup(&node, gone, 3, answer);
     }
 }
@@ -173,18 +196,26 @@ static uint32_t call_node(int at, broadcast_answer *answer)
 static void run_node(void)
 {
     static node_state before, after;
+    static kept_state kept, left;
     uint32_t status = broadcast_node_new(&node, keys[0], LISTED, BUDGET, LONGEST);
     must(status == BROADCAST_OK || (status == BROADCAST_MEMORY && !node.full));
     refusals += status == BROADCAST_MEMORY;
     for (int at = 0; at < CALLS && node.full; at++) {
-        broadcast_answer answer = {0};
+        broadcast_answer answer = {0}, again = {0};
         look_node(&before);
+        is_counting = false;
+        must(broadcast_node_broadcast(&node, false, keys[0], 2, bytes, 0, &again) == BROADCAST_OK);
+        look_node(&before);
+        is_counting = false;
+        must(broadcast_node_broadcast(&node, false, keys[0], 2, bytes, 0, &again) == BROADCAST_OK);
+        look_kept(&kept);
         status = call_node(at, &answer);
-        look_node(&after);
         must(status == BROADCAST_OK || status == BROADCAST_MEMORY);
-        if (status == BROADCAST_MEMORY || answer.answer == BROADCAST_ANSWER_MEMORY) {
+        if (status == BROADCAST_MEMORY) {
             refusals++;
-            must(!memcmp(&before, &after, sizeof before) && !answer.sends);
+            look_kept(&left);
+            look_node(&after);
+            must(!memcmp(&before, &after, sizeof before) && !memcmp(&kept, &left, sizeof kept));
         }
     }
     broadcast_node_free(&node);

@@ -2,46 +2,62 @@
 
 import re
 from dataclasses import dataclass
-from pathlib import Path
 
-TOP = Path(__file__).resolve().parents[2]
+from harness.common import TOP
+
 EXPORTS = TOP / "crates" / "broadcast_c" / "src"
 CORE = TOP / "crates" / "broadcast_core" / "src"
 HEADER = TOP / "ffi" / "broadcast_c.h"
-RUST = TOP / "rust" / "src" / "raw.rs"
+BYTE_CACHE = TOP / "crates" / "byte_cache" / "src"
+# Structs of byte_cache cross, too.
+CROSSING = ("name.rt", "counters.rt")
+RUST = TOP / "rust" / "broadcast-node" / "src"
 
 # What the structs are called in C. In Rust they have the names of Rattle.
 STRUCTS = {
     "CacheHandle": "broadcast_cache", "NodeHandle": "broadcast_node", "Taken": "broadcast_taken",
-    "Counts": "broadcast_counts", "Told": "broadcast_answer",
+    "Counts": "broadcast_counts", "Told": "broadcast_answer", "StoreHandle": "broadcast_store",
+    "Stored": "broadcast_stored", "Name": "broadcast_name", "Counters": "broadcast_counters",
 }
+# What Rust calls the types that cross as their one field, and what each is.
+TRANSPARENT = {
+    "Key": ("Name", "pub struct Key([u8; Key::MAX_LEN + 1]);"),
+    "Digest": ("[u8; 32]", "pub struct Digest([u8; Digest::LEN]);"),
+    "Ticket": ("u64", "pub struct Ticket(pub(crate) u64);"),
+}
+# What the other types are called in C; no type is that of a function without a result.
 SCALARS = {
     "u8": "uint8_t", "u32": "uint32_t", "u64": "uint64_t", "usize": "size_t", "bool": "bool",
-    "*mut ()": "void *",
+    "*mut ()": "void *", "": "void",
 }
-PREFIX = "BROADCAST_"
 # The structs that cross as their bytes, and where they are declared.
 BYTES = {"Key": "ordered.rt", "Digest": "digest.rt"}
 BYTES_STRUCT = r"#\[repr\(C\)\]\n#\[derive[^\n]*\npub struct %s \{[^}]*?pub bytes: (\[u8; \d+\]),\n\}"
 FUNCTION = r"fn (\w+)\(([^{}]*?)\)(?: -> (\w+))?"
 
 
+CODE = re.compile(r"^pub const (\w+): u32 = (\d+);", re.M)
+ARRAY = re.compile(r"\[(\w+); (\d+)\]")
+
+
 @dataclass(frozen=True)
 class Texts:
-    """What is compared. `rust` is `None` where there is no Rust crate."""
+    """What is compared."""
 
     exports: str
     header: str
-    rust: str | None
+    rust: str
 
     @staticmethod
     def read():
-        exports = "\n".join(file.read_text() for file in sorted(EXPORTS.glob("*.rt")))
+        files = [*sorted(EXPORTS.glob("*.rt")), *(BYTE_CACHE / it for it in CROSSING)]
+        exports = "\n".join(file.read_text() for file in files)
         for name, file in BYTES.items():
             it = re.search(BYTES_STRUCT % name, (CORE / file).read_text())[1]
             exports = re.sub(rf"&(mut )?{name}\b", rf"&\1{it}", exports)
             exports = re.sub(rf"&(mut )?\[{name}\]", rf"&\1[{it}]", exports)
-        rust = RUST.read_text() if RUST.exists() else None
+        names = ("raw.rs", "key.rs", "tickets.rs", "node/books.rs")
+        rust = "\n".join((RUST / it).read_text() for it in names)
         return Texts(exports, HEADER.read_text(), rust)
 
 
@@ -51,19 +67,21 @@ def without_comments(text):
 
 def evened(text):
     """The text with even spaces, and none where none is needed."""
-    return re.sub(r"\s*([(),*\[\];:&])\s*", r"\1", re.sub(r"\s+", " ", text)).strip()
-
-
-def parameters(text):
-    """The names and types of parameters."""
-    parts = [re.sub(r"\s+", " ", it).strip() for it in text.split(",")]
-    return [tuple(it.split(": ", 1)) for it in parts if it]
+    return re.sub(r"\s*([(),*\[\]{};:&])\s*", r"\1", re.sub(r"\s+", " ", text)).strip()
 
 
 def exported(text):
-    """Each exported function: its name, parameters and result. `Global` crosses as nothing."""
+    """Each exported function: its name, its parameters with their types, and its result. `Global` crosses as nothing."""
     for name, inside, result in re.findall(r'pub extern "C" ' + FUNCTION, text, re.S):
-        yield name, [it for it in parameters(inside) if it[1] != "Global"], result or None
+        given = [re.sub(r"\s+", " ", it).strip().split(": ", 1) for it in inside.split(",") if it.strip()]
+        yield name, [it for it in given if it[1] != "Global"], result
+
+
+def fields(text, name):
+    """The fields of a struct with their types, without ghost ones; none if there is no such struct."""
+    found = re.search(rf"#\[repr\(C\)\]\n(?:#\[[^\n]*\n)*pub struct {name} \{{(.*?)\n\}}", text, re.S)
+    inside = re.sub(r"^\s*(pub )?ghost .*$", "", found[1], flags=re.M) if found else ""
+    return re.findall(r"^\s*(?:pub )?(\w+): ([^,\n]+),", inside, re.M)
 
 
 def in_c(name, kind):
@@ -72,91 +90,73 @@ def in_c(name, kind):
         return [f"{SCALARS[kind]} {name}"]
     const = "" if kind.startswith("&mut ") else "const "
     to = re.sub(r"^&(mut )?", "", kind)
-    if to in STRUCTS or to in SCALARS:
-        return [f"{const}{STRUCTS.get(to) or SCALARS[to]} *{name}"]
-    if found := re.fullmatch(r"\[\[(\w+); (\d+)\]\]", to):
-        return [f"{const}{SCALARS[found[1]]} (*{name})[{found[2]}]", f"size_t {name}_len"]
-    if found := re.fullmatch(r"\[(\w+); (\d+)\]", to):
-        return [f"{const}{SCALARS[found[1]]} {name}[{found[2]}]"]
-    return [f"{const}{SCALARS[to[1:-1]]} *{name}", f"size_t {name}_len"]
+    if array := ARRAY.fullmatch(to):
+        return [f"{const}{SCALARS[array[1]]} {name}[{array[2]}]"]
+    item = ARRAY.sub(r"\1", to.removeprefix("[").removesuffix("]"))
+    pointer = f"{const}{STRUCTS.get(item) or SCALARS[item]} *{name}"
+    return [pointer, f"size_t {name}_len"] if to.startswith("[") else [pointer]
+
+
+def field_in_c(name, kind):
+    array = ARRAY.fullmatch(kind)
+    return f"{SCALARS[array[1]]} {name}[{array[2]}];" if array else f"{SCALARS[kind]} {name};"
 
 
 def in_rust(name, kind):
-    """The names and types of Rust that a parameter of Rattle crosses as; a length has any name."""
+    """The parameters of Rust that one of Rattle crosses as. A length has any name."""
     if found := re.fullmatch(r"&(mut )?\[(\[\w+; \d+\]|\w+)\]", kind):
-        return [(name, f"*{'mut' if found[1] else 'const'} {found[2]}"), (None, "usize")]
-    return [(name, kind)]
+        return f"{name}: *{'mut' if found[1] else 'const'} {found[2]}, _: usize"
+    return f"{name}: {kind}"
 
 
-def fields(text, head):
-    """The fields of a struct, without ghost ones, or `None` if there is no such struct."""
-    found = re.search(head + r" \{(.*?)\n\}", text, re.S)
-    if found is None:
-        return None
-    inside = re.sub(r"^\s*(pub )?ghost .*$", "", found[1], flags=re.M)
-    return re.findall(r"^\s*(?:pub )?(\w+): ([^,\n]+),", inside, re.M)
+def wanted_in_c(exports):
+    for name, given, result in exported(exports):
+        parameters = ", ".join(it for param in given for it in in_c(*param)) or "void"
+        yield f"{SCALARS[result]} {name}({parameters});"
+    for name, short in STRUCTS.items():
+        yield f"typedef struct {{ {''.join(field_in_c(*it) for it in fields(exports, name))} }} {short};"
+    for name, number in CODE.findall(exports):
+        yield f"BROADCAST_{name} = {number}"
 
 
-def codes(text, row):
-    return {name: int(number) for name, number in re.findall(row, text, re.M)}
+def declared_in_c(header):
+    header = without_comments(header)
+    yield from re.findall(r"^(?:uint32_t|void) [^;{]*;", header, re.M)
+    yield from re.findall(r"typedef struct \{[^}]*\} \w+;", header)
+    yield from re.findall(r"^\s*(BROADCAST_\w+ = \d+)\b", header, re.M)
+
+
+def wanted_in_rust(exports):
+    for name, given, result in exported(exports):
+        yield f"fn {name}({', '.join(in_rust(*it) for it in given)}) -> {result}"
+    for name in STRUCTS:
+        own = [f"{at}: {kind.replace('*mut ()', '*mut c_void')}" for at, kind in fields(exports, name)]
+        yield f"struct {name} {{ {', '.join(own)} }}"
+    yield from (f"{name} = {number}" for name, number in CODE.findall(exports))
+    yield from (declared for _, declared in TRANSPARENT.values())
+
+
+def declared_in_rust(rust):
+    rust = without_comments(rust)
+    yield from re.findall(r"#\[repr\(transparent\)\]\n(.*)", rust)
+    for name, (kind, _) in TRANSPARENT.items():
+        rust = re.sub(rf"(&|&mut |\*const |\*mut ){name}\b", rf"\1{kind}", rust)
+    for name, inside, result in re.findall(FUNCTION + ";", rust, re.S):
+        inside = re.sub(r"(\*(?:const|mut) [^,]*, )\w+: usize", r"\1_: usize", " ".join(inside.split()).rstrip(","))
+        yield f"fn {name}({inside}) -> {result}"
+    for name in STRUCTS:
+        own = [f"{at}: {kind}" for at, kind in fields(rust, name)]
+        if own:
+            yield f"struct {name} {{ {', '.join(own)} }}"
+    yield from (f"{name} = {number}" for name, number in CODE.findall(rust))
 
 
 def differences(texts):
-    """What C and Rust declare otherwise than Rattle does."""
-    functions = list(exported(texts.exports))
-    found = [*c_differences(texts, functions)]
-    if texts.rust is not None:
-        found += rust_differences(texts, functions)
-    return found or ([] if functions else ["no function is exported"])
-
-
-def c_differences(texts, functions):
-    header = without_comments(texts.header)
-    declared = {evened(it) for it in re.findall(r"^(?:uint32_t|void) [^;{]*;", header, re.M)}
-    wanted = set()
-    for name, given, result in functions:
-        given = ", ".join(it for param in given for it in in_c(*param))
-        wanted.add(evened(f"{SCALARS[result] if result else 'void'} {name}({given});"))
-    yield from (f"the header lacks {it}" for it in sorted(wanted - declared))
-    yield from (f"the header has {it}" for it in sorted(declared - wanted))
-    for name, short in STRUCTS.items():
-        own = fields(texts.exports, rf"pub struct {name}") or []
-        wanted = evened("".join(f"{SCALARS[kind]} {at};" for at, kind in own))
-        there = re.search(rf"typedef struct \{{([^}}]*)\}} {short};", header)
-        if not own or not there or evened(there[1]) != wanted:
-            yield f"the header's {short} is not {name}"
-    numbers = codes(header, rf"^\s*{PREFIX}(\w+) = (\d+)\b")
-    yield from code_differences(texts, numbers, "the header")
-
-
-def rust_differences(texts, functions):
-    rust = re.sub(r"\b(KEY_LEN|DIGEST_LEN)\b", "32", without_comments(texts.rust))
-    declared = {
-        name: (parameters(inside), result or None)
-        for name, inside, result in re.findall(r"pub " + FUNCTION + ";", rust, re.S)
-    }
-    for name, given, result in functions:
-        wanted = [it for param in given for it in in_rust(*param)]
-        there, says = declared.pop(name, ([], "nothing"))
-        is_alike = says == result and len(there) == len(wanted)
-        for (at, kind), (name_wanted, kind_wanted) in zip(there, wanted):
-            is_alike = is_alike and kind == kind_wanted and name_wanted in (at, None)
-        if not is_alike:
-            yield f"the Rust crate declares {name} otherwise"
-    for name in sorted(declared):
-        if name.startswith("broadcast_"):
-            yield f"the Rust crate declares {name}, which is not exported"
-    for name in STRUCTS:
-        own = fields(texts.exports, rf"pub struct {name}") or []
-        own = [(at, kind.replace("*mut ()", "*mut c_void")) for at, kind in own]
-        there = fields(rust, rf"#\[repr\(C\)\]\n(?:#\[[^\n]*\n)*pub struct {name}")
-        if not own or there != own:
-            yield f"the Rust crate's {name} differs"
-    yield from code_differences(texts, codes(rust, r"^pub const (\w+): u32 = (\d+);"), "the Rust crate")
-
-
-def code_differences(texts, numbers, where):
-    own = codes(texts.exports, r"^pub const (\w+): u32 = (\d+);")
-    for name in sorted({*own, *numbers}):
-        if own.get(name) != numbers.get(name):
-            yield f"{where} has {numbers.get(name)} for {name}, not {own.get(name)}"
+    """What C and Rust declare otherwise than Rattle does. Rust need not declare all."""
+    wanted, declared = ({evened(it) for it in of} for of in (wanted_in_c(texts.exports), declared_in_c(texts.header)))
+    found = [f"the header lacks {it}" for it in sorted(wanted - declared)]
+    found += [f"the header has {it}" for it in sorted(declared - wanted)]
+    wanted, declared = ({evened(it) for it in of} for of in (wanted_in_rust(texts.exports), declared_in_rust(texts.rust)))
+    found += [f"the Rust crate has {it}" for it in sorted(declared - wanted)]
+    found += [f"the Rust crate lacks {it}" for _, it in TRANSPARENT.values() if evened(it) not in declared]
+    return found if any(it.startswith("fn ") for it in declared) else [*found, "the Rust crate declares nothing"]

@@ -1,55 +1,54 @@
-"""The toolchain, and the libraries that `rt ci` built."""
+"""The toolchain, and the crates and libraries of the repository."""
 
+import functools
 import re
 import subprocess
 from pathlib import Path
 
-TOP = Path(__file__).resolve().parents[2]
+from harness.common import TOP
+
 CRATES = TOP / "crates"
 
 
+@functools.cache
 def kit():
     """The toolchain's folder."""
-    page = subprocess.run(["rt", "doc"], stdout=subprocess.PIPE, text=True, check=True).stdout
-    return Path(page.strip()).parent
+    return Path(subprocess.check_output(["rt", "doc"], text=True).strip()).parent
 
 
-def uses():
-    """The libraries that each crate of the repository names."""
-    rows = re.findall(r"^(\w+)[^:#\n]*:([^\n#]*)$", (TOP / "crates.txt").read_text(), re.M)
-    return {name: libraries.split() for name, libraries in rows}
+@functools.cache
+def rows():
+    """What crates.txt says of each crate: what kind it is, and the libraries that it names."""
+    found = re.findall(r"^(\w+)([^:#\n]*):([^\n#]*)$", (TOP / "crates.txt").read_text(), re.M)
+    return {name: (kind.split(), libraries.split()) for name, kind, libraries in found}
 
 
-def is_static(crate):
-    """Whether the crate is a static library."""
-    return bool(re.search(rf"^{crate} staticlib\b", (TOP / "crates.txt").read_text(), re.M))
-
-
-def below(crate, named):
+def below(crate):
     """The crates of the repository on which the crate stands."""
     found, left = [], [crate]
     while left:
-        for it in named[left.pop()]:
-            if it in named and it not in found:
+        for it in rows()[left.pop()][1]:
+            if it in rows() and it not in found:
                 found.append(it)
                 left.append(it)
     return found
 
 
-def built(crate, crates=CRATES):
+def built(crate):
     """Where the library of a crate stands."""
-    return crates / crate / "out" / "rlib"
+    return CRATES / crate / "out" / "rlib"
 
 
-def words(crate, named, crates=CRATES):
-    """The words that tell the compiler of a library, and of the libraries that `rt ci` built below it."""
+def words(crate):
+    """The words that tell the compiler of a library, and of the libraries that are built below it."""
+    kind, named = rows()[crate]
     rlibs = kit() / "rlibs"
     found = ["--crate-name", crate, "src/lib.rt"]
-    if is_static(crate):
+    if "staticlib" in kind:
         found += ["--crate-type", "staticlib"]
-    for it in ["std", *named[crate]]:
-        found += ["--extern", f"{it}={built(it, crates) if it in named else rlibs}/{it}.rlib"]
-    for folder in [rlibs, *(built(it, crates) for it in below(crate, named))]:
+    for it in ["std", *named]:
+        found += ["--extern", f"{it}={built(it) if it in rows() else rlibs}/{it}.rlib"]
+    for folder in [rlibs, *map(built, below(crate))]:
         found += ["-L", f"dependency={folder}"]
     logic = kit() / "rattle" / "logic" / "antt-project.json"
     return [*found, "--antt-project", logic, "--links", f"{crate}="]

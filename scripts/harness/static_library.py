@@ -1,10 +1,9 @@
 """Builds the static library by both compilers."""
 
-import shutil
-import subprocess
 import tempfile
 
-from harness.libraries import CRATES, below, built, kit, uses, words
+from harness.common import call
+from harness.libraries import CRATES, below, built, kit, words
 
 NAME = "broadcast_c"
 CRATE = CRATES / NAME
@@ -17,48 +16,34 @@ def library_of(backend):
     return folder / f"lib{NAME}.a"
 
 
+def heap():
+    """The three functions by which the library asks for memory, as an archive."""
+    return kit() / "c" / "liblibc_c.a"
+
+
 def build():
-    """Builds both libraries. Returns what went wrong, by compiler."""
-    folders = [built(it) for it in below(NAME, uses())]
-    for backend in BACKENDS:
-        library_of(backend).unlink(missing_ok=True)
-        library_of(backend).parent.mkdir(parents=True, exist_ok=True)
-    has_kept = all((folder / "stamp").exists() for folder in folders)
-    if not has_kept and all(any(folder.glob("*.rlib")) for folder in folders):
-        faults = build_over()
-        if not any(faults.values()):
-            return faults
-    return build_by_rt()
+    """Builds both libraries. Returns what went wrong, by compiler.
 
-
-def build_by_rt():
-    """Builds over what `rt check` and `rt lib` kept, or from nothing."""
-    faults = {}
-    for backend in reversed(BACKENDS):
-        faults[backend] = call(["rt", "lib", "--backend", backend])
-        if backend != "llvm" and not faults[backend]:
-            shutil.move(library_of("llvm"), library_of(backend))
-    return faults
-
-
-def build_over():
-    """Builds over the libraries that `rt ci` left: proves the crate once, and compiles it twice."""
-    rattle, given = kit() / "bin" / "rattle", words(NAME, uses())
+    Proves the crate once, and compiles it twice, over the libraries below it. Those that `rt ci` leaves have no stamp,
+    and are proved; else `rt lib` proves what changed."""
+    folders = [built(it) for it in below(NAME)]
+    if not all(any(it.glob("*.rlib")) and not (it / "stamp").exists() for it in folders):
+        is_well, said = call(["rt", "lib"], cwd=CRATE)
+        if not is_well:
+            return dict.fromkeys(BACKENDS, said[-2000:])
+    rattle, given = kit() / "bin" / "rattle", words(NAME)
     with tempfile.TemporaryDirectory() as room:
-        proved = ["--logic-built", kit() / "logic_built", "--jobs", "1", "-o", f"{room}/checked"]
-        fault = call([rattle, "check", *given, *proved])
-        if fault:
-            return dict.fromkeys(BACKENDS, fault)
-        made = ["--crate-checked", f"{room}/checked", "--toolchain", kit() / "toolchain"]
-        build = [rattle, "build", *given, *made]
-        return {
-            backend: call([*build, "--backend", backend, "-o", library_of(backend)])
-            for backend in BACKENDS
-        }
-
-
-def call(command):
-    """What a command says, if it fails."""
-    how = {"stdout": subprocess.PIPE, "stderr": subprocess.STDOUT, "text": True}
-    ran = subprocess.run(command, cwd=CRATE, **how)
-    return ran.stdout[-2000:] if ran.returncode else None
+        checked = ["--logic-built", kit() / "logic_built", "--jobs", "1", "-o", f"{room}/checked"]
+        is_well, said = call([rattle, "check", *given, *checked], cwd=CRATE)
+        if not is_well:
+            return dict.fromkeys(BACKENDS, said[-2000:])
+        faults = {}
+        for backend in BACKENDS:
+            library = library_of(backend)
+            library.parent.mkdir(parents=True, exist_ok=True)
+            library.unlink(missing_ok=True)
+            made = ["--crate-checked", f"{room}/checked", "--toolchain", kit() / "toolchain"]
+            build = [rattle, "build", *given, *made, "--backend", backend, "-o", library]
+            is_well, said = call(build, cwd=CRATE)
+            faults[backend] = None if is_well else said[-2000:]
+        return faults

@@ -1,14 +1,13 @@
 """Inputs beyond what a program reads, keeps or writes at once, and beyond the length of any number."""
 
-from harness.programs import Row
-from inputs.generated import encoded, stdin_of
-from judges.program import outcome
+from inputs.words import encoded, stdin_of
 from models import replay, world
 from models.replay import spelled
+from models.rows import row_of
 
 # The bytes that a program reads or writes at once.
 BUFFER = 64 * 1024
-LINES, EVENTS, TICKETS, LISTS = 70_000, 10_000, 200, 100
+LINES, EVENTS, BROADCASTS, TICKETS, LISTS = 70_000, 10_000, 400, 200, 100
 # The bytes of a content whose line is of 2 MiB.
 LONG = 1024 * 1024
 # A number of 30 digits, and one that begins as a number of 64 bits does.
@@ -50,6 +49,7 @@ def inputs(at, send, senders):
     whole = spelled(encoded("-", "61" * LONG))
     yield "a line of 2 MiB", [f"peers{at} 1 9", f"{send('9')} {whole}", f"get{at} 7 {'61' * LONG}"]
     yield "many answers", [f"peers{at} 1 9", *answers(at)]
+    yield "many broadcasts", [f"peers{at} 1", *(f"broadcast{at} all - {it:04x}" for it in range(BROADCASTS))]
     waiting = [f"subscribe{at} {ticket} 61" for ticket in range(TICKETS)]
     yield "many tickets", [*waiting, f"broadcast{at} all - 61"]
     yield "many lists", [f"peers{at} {' '.join(senders)}", *map(sent, senders)]
@@ -92,9 +92,7 @@ PROGRAMS = {"replay": (replay, of_replay), "world": (world, of_world)}
 def rows(program):
     """The runs of a program, which must end as those of its model."""
     model, inputs_of = PROGRAMS[program]
-    for name, args, stdin in inputs_of():
-        right = outcome(model, args, stdin)
-        yield Row(name, args, stdin, right.stdout, right.stderr, right.status)
+    return (row_of(model, *given) for given in inputs_of())
 
 
 def long_outputs(program):

@@ -1,13 +1,13 @@
-"""What `replay OWN SIZE [MAX [BUDGET]]` must print, computed from docs/REPLAY.md alone.
+"""What `replay OWN SIZE [MAX [BUDGET]]` must print, computed from crates/replay/README.md alone.
 
 This is written apart from the program, in another language and with other structures: it finds what
 is listed by what was taken, drops nothing, keeps no counts and no sums, and finds what is cached by
-looking at the lists. The judges of refusals stand on it.
+looking at the lists.
 """
 
 import functools
 import hashlib
-from dataclasses import dataclass, field
+from dataclasses import dataclass
 
 GREATEST = 2**64 - 1
 USAGE = "usage: replay OWN SIZE [MAX [BUDGET]]"
@@ -28,8 +28,7 @@ class Message:
 
     @functools.cached_property
     def encoding(self):
-        spelled = (len(part).to_bytes(4, "big") + part for part in (self.commitment, self.content))
-        return b"".join(spelled)
+        return b"".join(len(part).to_bytes(4, "big") + part for part in (self.commitment, self.content))
 
 
 @functools.cache
@@ -41,12 +40,9 @@ def digest_of(content):
 
 
 def number(word):
-    if not word.isascii() or not word.isdigit() or (len(word) > 1 and word[:1] == b"0"):
+    if not word.isascii() or not word.isdigit() or (len(word) > 1 and word[:1] == b"0") or int(word) > GREATEST:
         raise Syntax
-    value = int(word)
-    if value > GREATEST:
-        raise Syntax
-    return value
+    return int(word)
 
 
 def byte_list(word):
@@ -57,12 +53,14 @@ def byte_list(word):
     return bytes.fromhex(word.decode())
 
 
-def recipients(word):
-    if word == b"all":
-        return "all"
-    if not word.startswith(b"to:"):
+def behind(mark, word):
+    if not word.startswith(mark):
         raise Syntax
-    return ",".join(str(number(key)) for key in word[3:].split(b","))
+    return word.removeprefix(mark)
+
+
+def recipients(word):
+    return "all" if word == b"all" else ",".join(str(number(key)) for key in behind(b"to:", word).split(b","))
 
 
 def spelled(data):
@@ -73,40 +71,42 @@ def spelled(data):
 
 
 def event(line):
-    kind, *words = line.split(b" ")
-    if kind == b"peers":
-        return "peers", frozenset(map(number, words))
-    if kind == b"cleanup":
-        return "cleanup", [number(word) for word in words]
-    if kind == b"broadcast" and len(words) in (3, 4):
-        message = Message(byte_list(words[1]), byte_list(words[2]))
-        digest = digest_of(message.content)
-        if len(words) == 4:
-            if not words[3].startswith(b"as:"):
-                raise Syntax
-            digest = digest_of(byte_list(words[3][3:]))
-        return "broadcast", recipients(words[0]), message, digest
-    if kind == b"payload" and len(words) == 2:
-        return "payload", number(words[0]), byte_list(words[1])
-    if kind in (b"subscribe", b"get") and len(words) == 2:
-        return kind.decode(), number(words[0]), digest_of(byte_list(words[1]))
+    match line.split(b" "):
+        case b"peers", *keys:
+            return "peers", frozenset(map(number, keys))
+        case b"cleanup", *tickets:
+            return "cleanup", [number(it) for it in tickets]
+        case b"broadcast", to, commitment, content, *other if len(other) < 2:
+            message = Message(byte_list(commitment), byte_list(content))
+            goes_by = byte_list(behind(b"as:", other[0])) if other else message.content
+            return "broadcast", recipients(to), message, digest_of(goes_by)
+        case b"payload", key, data:
+            return "payload", number(key), byte_list(data)
+        case (b"subscribe" | b"get") as kind, ticket, content:
+            return kind.decode(), number(ticket), digest_of(byte_list(content))
     raise Syntax
 
 
-def lines_of(data):
-    lines = data.split(b"\n")
-    return lines if lines[-1] else lines[:-1]
+def read(line_of, data):
+    """What each line says. Raises `Fault` with the first that says nothing."""
+    said = []
+    for line in data.removesuffix(b"\n").split(b"\n") if data else ():
+        try:
+            said.append(line_of(line))
+        except Syntax:
+            raise Fault(f"line {len(said) + 1}: syntax") from None
+    return said
 
 
-def arguments(words):
-    """The own key, the size, the greatest length and the budget. Raises `Fault`."""
+def parse(words, data):
+    """The own key, the size, the greatest length and the budget, and the events. Raises `Fault`."""
     try:
         numbers = [number(word) for word in words]
     except Syntax:
         raise Fault(USAGE) from None
     if len(numbers) not in (2, 3, 4):
         raise Fault(USAGE)
-    return [*numbers, GREATEST, GREATEST][:4]
+    return [*numbers, GREATEST, GREATEST][:4], read(event, data)
 
 
 @functools.cache
@@ -138,168 +138,96 @@ class History:
         self.size, self.budget = size, budget
         # Each a digest and its charge, oldest first.
         self.takings = []
-        # The digests that are listed after these takings, the last taken first.
-        self.listed = []
+        # The digests that are listed after these takings with their messages, the last taken first.
+        self.listed = {}
 
-    def company(self, digest):
-        """The charges of its company by their digests."""
+    def fits(self, digest):
+        """Whether its company fits."""
         charges = {}
         for taken, charge in reversed(self.takings):
             charges.setdefault(taken, charge)
             if taken == digest:
                 break
-        return charges
+        return len(charges) <= self.size and sum(charges.values()) <= self.budget
 
-    def fits(self, company):
-        return len(company) <= self.size and sum(company.values()) <= self.budget
-
-    def take(self, digest, charge):
+    def take(self, digest, message, charge):
         self.takings.append((digest, charge))
         # Those whose company has fitted at every moment before this one since they were last taken.
-        before = [digest, *(it for it in self.listed if it != digest)]
-        self.listed = [it for it in before if self.fits(self.company(it))]
-
-
-@dataclass
-class Core:
-    """Lists of (digest, message), newest first, and waiters as (digest, ticket), oldest first."""
-
-    own: int
-    size: int
-    budget: int = GREATEST
-    primary: frozenset = frozenset()
-    histories: dict = field(default_factory=dict)
-    lists: dict = field(default_factory=dict)
-    waiters: list = field(default_factory=list)
-
-    def cached(self, digest):
-        held = (message for kept in self.lists.values() for at, message in kept if at == digest)
-        return next(held, None)
-
-    def cached_count(self):
-        return len({digest for kept in self.lists.values() for digest, _ in kept})
-
-    def awaited_count(self):
-        return len({digest for digest, _ in self.waiters})
-
-    def set_primary(self, keys):
-        self.primary = keys
-        for by_key in (self.histories, self.lists):
-            for key in by_key.keys() - keys:
-                del by_key[key]
-
-    def take(self, key, digest, message):
-        """The outcome and the tickets that are served."""
-        served = [ticket for at, ticket in self.waiters if at == digest]
-        self.waiters = [waiter for waiter in self.waiters if waiter[0] != digest]
-        if key not in self.primary:
-            return "ineligible", served
-        charge = len(message.encoding)
-        if charge > self.budget:
-            return "oversize", served
-        messages = dict(self.lists.get(key, []))
-        outcome = "duplicate" if digest in messages else "inserted"
-        # A digest that is cached keeps the message that it came with.
-        messages[digest] = self.cached(digest) or message
-        history = self.histories.setdefault(key, History(self.size, self.budget))
-        history.take(digest, charge)
-        self.lists[key] = [(listed, messages[listed]) for listed in history.listed]
-        return outcome, served
-
-    def subscribe(self, ticket, digest):
-        """The cached message, or `None` if the ticket waits from now on."""
-        message = self.cached(digest)
-        if message is None:
-            self.waiters.append((digest, ticket))
-        return message
-
-    def cleanup(self, gone):
-        """How many waiters went."""
-        before = len(self.waiters)
-        self.waiters = [waiter for waiter in self.waiters if waiter[1] not in gone]
-        return before - len(self.waiters)
-
-    def report(self):
-        lines = []
-        for key in sorted(self.lists):
-            if self.lists[key]:
-                contents = (spelled(message.content) for _, message in self.lists[key])
-                lines.append(" ".join([f"list {key}", *contents]))
-        return [*lines, f"cached {self.cached_count()}", f"awaited {self.awaited_count()}"]
-
-
-def shown(word, message):
-    return f"{word} {spelled(message.commitment)} {spelled(message.content)}"
+        before = {digest: message} | {at: it for at, it in self.listed.items() if at != digest}
+        self.listed = {at: it for at, it in before.items() if self.fits(at)}
 
 
 class Run:
-    """A core, the answers given so far, and what was sent."""
+    """The histories of the primary keys, waiters as (digest, ticket), oldest first, the answers given so far, and what
+    was sent."""
 
     def __init__(self, own, size, greatest, budget=GREATEST):
-        self.core = Core(own, size, budget)
-        self.greatest = greatest
-        self.answers = []
-        self.sent = []
+        self.own, self.size, self.greatest, self.budget = own, size, greatest, budget
+        self.histories, self.waiters, self.answers, self.sent = {}, [], [], []
 
-    def taken(self, key, digest, message):
-        outcome, served = self.core.take(key, digest, message)
-        return " ".join([outcome, *map(str, served)])
+    def cached(self, digest):
+        lists = (history.listed for history in self.histories.values())
+        return next((listed[digest] for listed in lists if digest in listed), None)
 
-    def may_be_refused(self, given):
-        """Whether the event may ever allocate, as things stand."""
-        kind = given[0]
-        if kind == "payload":
-            return isinstance(decode(given[2], self.greatest), Message)
-        if kind == "get":
-            return self.core.cached(given[2]) is not None
-        return kind in ("broadcast", "subscribe")
+    def take(self, key, digest, message):
+        """The outcome, and the tickets that are served."""
+        served = [str(ticket) for at, ticket in self.waiters if at == digest]
+        self.waiters = [waiter for waiter in self.waiters if waiter[0] != digest]
+        return " ".join([self.outcome(key, digest, message), *served])
+
+    def outcome(self, key, digest, message):
+        if key not in self.histories:
+            return "ineligible"
+        charge, history = len(message.encoding), self.histories[key]
+        if charge > self.budget:
+            return "oversize"
+        outcome = "duplicate" if digest in history.listed else "inserted"
+        # A digest that is cached keeps the message that it came with.
+        history.take(digest, self.cached(digest) or message, charge)
+        return outcome
 
     def answer(self, given):
-        kind, *rest = given
-        core = self.core
-        if kind == "peers":
-            core.set_primary(*rest)
-            return "ok"
-        if kind == "broadcast":
-            to, message, digest = rest
-            self.sent.append(f"sent {to} {spelled(message.encoding)}")
-            return self.taken(core.own, digest, message)
-        if kind == "payload":
-            key, data = rest
-            message = decode(data, self.greatest)
-            if isinstance(message, str):
-                return f"invalid {message}"
-            return self.taken(key, digest_of(message.content), message)
-        if kind == "subscribe":
-            message = core.subscribe(*rest)
-            return "waiting" if message is None else shown("answered", message)
-        if kind == "get":
-            message = core.cached(rest[1])
-            return "none" if message is None else shown("found", message)
-        return f"removed {core.cleanup(*rest)}"
+        match given:
+            case "peers", keys:
+                new = {key: History(self.size, self.budget) for key in keys}
+                self.histories = {key: self.histories.get(key, new[key]) for key in keys}
+                return "ok"
+            case "broadcast", to, message, digest:
+                self.sent.append(f"sent {to} {spelled(message.encoding)}")
+                return self.take(self.own, digest, message)
+            case "payload", key, data:
+                message = decode(data, self.greatest)
+                is_refused = isinstance(message, str)
+                return f"invalid {message}" if is_refused else self.take(key, digest_of(message.content), message)
+            case "get", _, digest:
+                return self.shown("found", digest) or "none"
+            case "subscribe", ticket, digest:
+                shown = self.shown("answered", digest)
+                self.waiters += [] if shown else [(digest, ticket)]
+                return shown or "waiting"
+            case "cleanup", gone:
+                before = len(self.waiters)
+                self.waiters = [waiter for waiter in self.waiters if waiter[1] not in gone]
+                return f"removed {before - len(self.waiters)}"
+
+    def shown(self, word, digest):
+        """The word and the cached message, or none."""
+        message = self.cached(digest)
+        return message and f"{word} {spelled(message.commitment)} {spelled(message.content)}"
 
     def step(self, given):
         self.answers.append(self.answer(given))
 
+    def lists(self):
+        """A line for each list that is not empty."""
+        for key, history in sorted(self.histories.items()):
+            if history.listed:
+                yield " ".join([f"list {key}", *(spelled(it.content) for it in history.listed.values())])
+
     def output(self):
-        return [*self.answers, *self.core.report(), *self.sent]
-
-
-def read(line_of, data):
-    """What each line says. Raises `Fault` with the first that says nothing."""
-    said = []
-    for line in lines_of(data):
-        try:
-            said.append(line_of(line))
-        except Syntax:
-            raise Fault(f"line {len(said) + 1}: syntax") from None
-    return said
-
-
-def parse(words, data):
-    """The arguments as numbers, and the events. Raises `Fault`."""
-    settings = arguments(words)
-    return settings, read(event, data)
+        cached = {digest for history in self.histories.values() for digest in history.listed}
+        counts = f"cached {len(cached)}", f"awaited {len({digest for digest, _ in self.waiters})}"
+        return [*self.answers, *self.lists(), *counts, *self.sent]
 
 
 def parts(events):

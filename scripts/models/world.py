@@ -1,5 +1,5 @@
-"""What `world SIZE NODES HOSTILE [BUDGET]` must print, computed from docs/WORLD.md and
-docs/REPLAY.md alone.
+"""What `world SIZE NODES HOSTILE [BUDGET]` must print, computed from crates/world/README.md and
+crates/replay/README.md alone.
 
 As the model of `replay`, on which it stands, this is written apart from the program.
 """
@@ -16,8 +16,8 @@ def keys(word):
     return [number(key) for key in word.split(b",")]
 
 
-def arguments(words):
-    """The size, the nodes, the hostile keys and the budget. Raises `Fault`."""
+def parse(words, data):
+    """The size, the nodes, the hostile keys and the budget, and the steps. Raises `Fault`."""
     if len(words) not in (3, 4):
         raise Fault(USAGE)
     size, nodes, hostile, *budget = words
@@ -28,25 +28,19 @@ def arguments(words):
         raise Fault(USAGE) from None
     if len(set(nodes)) < len(nodes) or set(nodes) & set(hostile):
         raise Fault("shared key")
-    return settings
+    return settings, replay.read(step, data)
 
 
 def step(line):
     """The node and its event, the number of a packet, or a hostile key, a node and bytes."""
-    kind, *words = line.split(b" ")
-    if kind in EVENTS and words:
-        return "at", number(words[0]), replay.event(b" ".join([kind, *words[1:]]))
-    if kind == b"deliver" and len(words) == 1:
-        return "deliver", number(words[0])
-    if kind == b"hostile" and len(words) == 3:
-        return "hostile", number(words[0]), number(words[1]), replay.byte_list(words[2])
+    match line.split(b" "):
+        case b"deliver", packet:
+            return "deliver", number(packet)
+        case b"hostile", key, node, data:
+            return "hostile", number(key), number(node), replay.byte_list(data)
+        case kind, node, *words if kind in EVENTS:
+            return "at", number(node), replay.event(b" ".join([kind, *words]))
     raise Syntax
-
-
-def parse(words, data):
-    """The arguments, and the steps. Raises `Fault`."""
-    settings = arguments(words)
-    return settings, replay.read(step, data)
 
 
 def parts(steps):
@@ -68,25 +62,15 @@ class Run:
 
     def event_of(self, given):
         """The node and the event of the step, or `None` if it names what does not exist."""
-        kind, *rest = given
-        if kind == "deliver":
-            if rest[0] >= len(self.packets):
-                return None
-            sender, to, data = self.packets[rest[0]]
-            return to, ("payload", sender, data)
-        if kind == "hostile":
-            sender, to, data = rest
-            exists = sender in self.hostile and to in self.nodes
-            return (to, ("payload", sender, data)) if exists else None
-        return rest if rest[0] in self.nodes else None
-
-    def may_be_refused(self, given):
-        """Whether the step may ever allocate, as things stand. A node copies a peer set."""
-        found = self.event_of(given)
-        if found is None:
-            return False
-        node, event = found
-        return event[0] == "peers" or self.nodes[node].may_be_refused(event)
+        match given:
+            case "deliver", number if number < len(self.packets):
+                sender, to, data = self.packets[number]
+                return to, ("payload", sender, data)
+            case "hostile", sender, to, data if sender in self.hostile and to in self.nodes:
+                return to, ("payload", sender, data)
+            case "at", node, event if node in self.nodes:
+                return node, event
+        return None
 
     def step(self, given):
         found = self.event_of(given)
@@ -100,12 +84,7 @@ class Run:
 
     def packets_of(self, sender, to, message):
         named = self.nodes if to == "all" else dict.fromkeys(map(int, to.split(",")))
-        addressed = [key for key in named if key in self.nodes and key != sender]
-        return [(sender, key, message.encoding) for key in addressed]
+        return [(sender, key, message.encoding) for key in named if key in self.nodes and key != sender]
 
     def output(self):
-        lines = list(self.answers)
-        for node, run in self.nodes.items():
-            lists = run.core.report()[:-2]
-            lines += [f"node {node} {line}" for line in lists]
-        return lines
+        return self.answers + [f"node {node} {line}" for node, run in self.nodes.items() for line in run.lists()]

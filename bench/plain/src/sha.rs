@@ -1,4 +1,4 @@
-//! SHA-256 in portable Rust.
+//! SHA-256 in portable Rust, in the forms of the toolchain's `sha2`.
 
 pub type Digest = [u8; 32];
 
@@ -45,37 +45,92 @@ fn compress(state: &mut [u32; 8], blocks: &[u8]) {
         for (word, bytes) in w.iter_mut().zip(block.chunks_exact(4)) {
             *word = u32::from_be_bytes(bytes.try_into().unwrap());
         }
-        let [mut a, mut b, mut c, mut d, mut e, mut f, mut g, mut h] = *state;
+        let mut v = *state;
+        // Sixteen rounds a turn, so that each word has a constant place.
         for turn in 0..4 {
-            for i in 0..16 {
-                if turn > 0 {
-                    let x = w[(i + 1) % 16];
-                    let y = w[(i + 14) % 16];
-                    let s0 = x.rotate_right(7) ^ x.rotate_right(18) ^ (x >> 3);
-                    let s1 = y.rotate_right(17) ^ y.rotate_right(19) ^ (y >> 10);
-                    w[i] = w[i].wrapping_add(s0).wrapping_add(w[(i + 9) % 16]).wrapping_add(s1);
-                }
-                let s1 = e.rotate_right(6) ^ e.rotate_right(11) ^ e.rotate_right(25);
-                let ch = g ^ (e & (f ^ g));
-                let t1 = h
-                    .wrapping_add(s1)
-                    .wrapping_add(ch)
-                    .wrapping_add(K[16 * turn + i])
-                    .wrapping_add(w[i]);
-                let s0 = a.rotate_right(2) ^ a.rotate_right(13) ^ a.rotate_right(22);
-                let maj = (a & b) ^ (c & (a ^ b));
-                h = g;
-                g = f;
-                f = e;
-                e = d.wrapping_add(t1);
-                d = c;
-                c = b;
-                b = a;
-                a = t1.wrapping_add(s0.wrapping_add(maj));
+            let k = &K[16 * turn..16 * turn + 16];
+            macro_rules! rounds {
+                ($($i:literal)*) => {
+                    $(
+                        if turn > 0 {
+                            w[$i] = w[$i]
+                                .wrapping_add(small_sigma0(w[($i + 1) % 16]))
+                                .wrapping_add(w[($i + 9) % 16])
+                                .wrapping_add(small_sigma1(w[($i + 14) % 16]));
+                        }
+                        round(&mut v, $i, k[$i].wrapping_add(w[$i]));
+                    )*
+                };
             }
+            rounds!(0 1 2 3 4 5 6 7 8 9 10 11 12 13 14 15);
         }
-        for (word, add) in state.iter_mut().zip([a, b, c, d, e, f, g, h]) {
+        for (word, add) in state.iter_mut().zip(v) {
             *word = word.wrapping_add(add);
         }
+    }
+}
+
+/// One round. Its letters move one place down the words, so that none is copied.
+#[inline(always)]
+fn round(v: &mut [u32; 8], i: usize, word: u32) {
+    let at = |letter: usize| (letter + 8 - i % 8) % 8;
+    let (a, b, c) = (v[at(0)], v[at(1)], v[at(2)]);
+    let (e, f, g) = (v[at(4)], v[at(5)], v[at(6)]);
+    let first = v[at(7)]
+        .wrapping_add(big_sigma1(e))
+        .wrapping_add(g ^ (e & (f ^ g)))
+        .wrapping_add(word);
+    let majority = b ^ ((a ^ b) & (b ^ c));
+    v[at(3)] = v[at(3)].wrapping_add(first);
+    v[at(7)] = first.wrapping_add(big_sigma0(a)).wrapping_add(majority);
+}
+
+// Nested rotations take fewer copies of `x`.
+
+#[inline(always)]
+fn big_sigma0(x: u32) -> u32 {
+    (x ^ (x ^ x.rotate_right(9)).rotate_right(11)).rotate_right(2)
+}
+
+#[inline(always)]
+fn big_sigma1(x: u32) -> u32 {
+    (x ^ (x ^ x.rotate_right(14)).rotate_right(5)).rotate_right(6)
+}
+
+#[inline(always)]
+fn small_sigma0(x: u32) -> u32 {
+    (x ^ x.rotate_right(11)).rotate_right(7) ^ (x >> 3)
+}
+
+#[inline(always)]
+fn small_sigma1(x: u32) -> u32 {
+    (x ^ x.rotate_right(2)).rotate_right(17) ^ (x >> 10)
+}
+
+#[cfg(test)]
+mod tests {
+    use super::sha256;
+
+    fn hexadecimal(message: &[u8]) -> String {
+        sha256(message)
+            .iter()
+            .map(|byte| format!("{byte:02x}"))
+            .collect()
+    }
+
+    #[test]
+    fn digests_of_the_standard() {
+        assert_eq!(
+            hexadecimal(b""),
+            "e3b0c44298fc1c149afbf4c8996fb92427ae41e4649b934ca495991b7852b855"
+        );
+        assert_eq!(
+            hexadecimal(b"abc"),
+            "ba7816bf8f01cfea414140de5dae2223b00361a396177a9cb410ff61f20015ad"
+        );
+        assert_eq!(
+            hexadecimal(&[b'a'; 1_000_000]),
+            "cdc76e5c9914fb9281a1c7e284d73e67f1809a48a497200e046d39ccc7112cd0"
+        );
     }
 }

@@ -1,4 +1,5 @@
 pub mod CacheBox
 pub mod NodeBox
 pub mod Overlaying
+pub mod StoreBox
 pub mod Values

@@ -1,3 +1,4 @@
+-- Internal.
 -- What a handle owns: a box, if it is full.
 use base.Fml.{Fml, ftrue}
 use denote.RawPtr.{Ptr}
@@ -8,6 +9,7 @@ use Rattle.std_heap.specs.contracts.Global as Heap
 use Rattle.std_heap.specs.contracts.GlobalAllocator.TheImpl.{ghosts}
 use Rattle.byte_cache.specs.contracts.cache.Cache as cache
 use Rattle.byte_cache.specs.contracts.node.Node as node
+use Rattle.byte_cache.specs.contracts.store.Store as store
 
 -- the global allocator, of which there is one
 abbrev pub heap : (Heap.the_row).Denot
@@ -26,3 +28,8 @@ holds_cache p None = ftrue
 abbrev pub holds_node : Ptr → Option (node.the_row).Denot → Fml
 holds_node p (Some x) = box_owns token node.the_row p x
 holds_node p None = ftrue
+
+-- ownership of the box at p with the store, if there is one
+abbrev pub holds_store : Ptr → Option (store.the_row).Denot → Fml
+holds_store p (Some x) = box_owns token store.the_row p x
+holds_store p None = ftrue

@@ -1,5 +1,6 @@
+-- Believed.
 -- What the exported functions promise of a handle, and what they tell.
-use Rattle.std.specs.Prelude.{◌≡◌, ℕ, Bool, true, false, ◌==◌, if◌then◌else◌, List, [], ◌∷◌, length, nat_le, Option, Some, None, is_some}
+use Rattle.std.specs.Prelude.{◌≡◌, ◌⊎◌, ℕ, Bool, true, false, ◌==◌, if◌then◌else◌, List, [], ◌∷◌, length, nat_le, Option, Some, None, is_some}
 use Rattle.entries.specs.Store.{overlaid}
 use Rattle.broadcast_core.specs.Carried.{Carried}
 use Rattle.broadcast_core.specs.Content.{Same}
@@ -12,8 +13,12 @@ use Rattle.broadcast_core.specs.declared.ordered.Recipients.TheVariants as recip
 use Rattle.broadcast_core.specs.declared.outcome.Outcome.{Outcome}
 use Rattle.byte_cache.specs.Changes.{TakesBytes, message_of, served_of}
 use Rattle.byte_cache.specs.declared.cache.Cache.{Cache}
+use Rattle.byte_cache.specs.Held.{TakesHandle, handle_at, is_new}
+use Rattle.byte_cache.specs.declared.name.Name.{Name}
 use Rattle.byte_cache.specs.declared.node.Node.{Node}
+use Rattle.byte_cache.specs.declared.store.Store.{Store}
 use Rattle.broadcast_c.specs.Codes.{answer_code, outcome_code}
+use Rattle.broadcast_c.specs.declared.store.Stored.{Stored}
 use Rattle.broadcast_c.specs.declared.told.Told.{Told}
 
 -- there was a value and there is one, and P holds of the two
@@ -33,6 +38,12 @@ abbrev pub Fails : {X : Type 0} → Option X → Option X → ℕ → Type 0
 Fails None new status = (status ≡ 2) × (new ≡ None)
 Fails (Some old) new status = (status ≡ 1) × (new ≡ Some old)
 
+-- of an empty handle the status is EMPTY, and of a full one MEMORY or TOO_LONG; the handle is as it
+-- was
+abbrev pub Refuses : {X : Type 0} → Option X → Option X → ℕ → Type 0
+Refuses None new status = (status ≡ 2) × (new ≡ None)
+Refuses (Some old) new status = ((status ≡ 1) ⊎ (status ≡ 6)) × (new ≡ Some old)
+
 -- OK if the room has a place for each of them, else SHORT
 abbrev pub room_status : ℕ → ℕ → ℕ
 room_status needed places = if nat_le needed places then 0 else 4
@@ -43,6 +54,10 @@ pub record IsFilled {X : Type 0} (xs old new : List X) (needed status : ℕ) : T
   pub filled : new ≡ overlaid xs old
   pub length_told : needed ≡ length xs
   pub status_told : status ≡ room_status (length xs) (length old)
+
+-- there is nothing to copy: the caller is told NONE and a length of 0, and the room stays
+abbrev pub IsLeft : {X : Type 0} → List X → List X → ℕ → ℕ → Type 0
+IsLeft old new needed status = (status ≡ 3) × (needed ≡ 0) × (new ≡ old)
 
 -- the bytes were taken, and the caller is told the outcome and the number of tickets served
 pub record TellsTaking (same : Same Key (List ℕ)) (peer : Key) (digest bytes : List ℕ)
@@ -96,3 +111,14 @@ pub record IsPacket (sent : Sent Key) (keys_old keys_new : List Key) (keys_neede
   pub keys : IsFilled (keys_of sent.recipients) keys_old keys_new keys_needed of_keys
   pub bytes : IsFilled sent.bytes old new needed of_bytes
   pub status_told : status ≡ (if of_keys == 0 then of_bytes else of_keys)
+
+-- the message of the handle was taken, and the caller is told the outcome, the number of tickets
+-- served, whether it was inserted and the store keeps its handle, and the number of cached messages
+pub record TellsStoring (same : Same Name (List ℕ)) (peer : Name) (digest : List ℕ)
+    (charge handle : ℕ) (old new : Store) (told : Stored) : Type 0 where
+  pub was : Outcome
+  pub taken : TakesHandle same peer digest charge handle old new was
+  pub outcome_told : told.outcome ≡ outcome_code was
+  pub served_told : told.served ≡ length new.served
+  pub kept_told : told.kept ≡ is_new was handle (handle_at same new.core digest)
+  pub cached_told : told.cached ≡ length new.core.cached

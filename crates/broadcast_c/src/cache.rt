@@ -1,12 +1,13 @@
 //! The functions of a cache.
 ghost use Rattle.std.specs.Prelude.{◌≡◌, ℕ, List, [], length, is_some, true, None, IfOk, OnErr, MatchOption};
 ghost use Rattle.sha2.specs.Sha256.{sha256};
-ghost use Rattle.broadcast_core.specs.Content.{same_by, list_at, message_at};
-ghost use Rattle.broadcast_core.specs.Changes.{TakesPeers, Awaits, Cleans};
+ghost use Rattle.broadcast_core.specs.Content.{same_by, list_at, message_at, waiting_at};
+ghost use Rattle.std.specs.List.{count_by};
+ghost use Rattle.broadcast_core.specs.Changes.{TakesPeers, Awaits, Cleans, CleansAt};
 ghost use Rattle.broadcast_core.specs.Waiters.{is_gone, gone_from, counted};
 ghost use Rattle.byte_cache.specs.Changes.{HaveSameKeys};
 ghost use Rattle.broadcast_c.specs.Codes.{outcome_code};
-ghost use Rattle.broadcast_c.specs.Told.{BothHold, Fails, Finds, IsFilled, TellsTaking};
+ghost use Rattle.broadcast_c.specs.Told.{BothHold, Fails, Finds, IsFilled, IsLeft, TellsTaking};
 
 use crate::codes::{EMPTY, MEMORY, NONE, OK, SHORT, WAITS, code_of_outcome};
 use crate::handle::CacheHandle;
@@ -78,7 +79,8 @@ pub extern "C" fn broadcast_cache_free(alloc: Global, cache: &mut CacheHandle)
 pub extern "C" fn broadcast_cache_peers(alloc: Global, cache: &mut CacheHandle, keys: &[Key]) -> u32
     ensures taken { let same = same_by ⟦<Key as Ord>⟧.cmp ⟦<Digest as Ord>⟧.cmp in
         result ≡ OK → BothHold cache.old.value cache.new.value (λ old new. (set : List Key)
-        × HaveSameKeys same set keys.now × TakesPeers same set old.core new.core) }
+        × HaveSameKeys same set keys.now × TakesPeers same set old.core new.core
+        × (new.served ≡ old.served)) }
     ensures fails { ¬ (result ≡ OK) → Fails cache.old.value cache.new.value result }
 {
     let Some(mut held) = cache.take(alloc) else {
@@ -240,7 +242,8 @@ pub extern "C" fn broadcast_cache_get(
 ) -> u32
     ensures { let same = same_by ⟦<Key as Ord>⟧.cmp ⟦<Digest as Ord>⟧.cmp in
         Finds cache.old.value cache.new.value result (λ old new. (new ≡ old)
-        × MatchOption (message_at same old.core digest.now) (result ≡ NONE)
+        × MatchOption (message_at same old.core digest.now)
+        (IsLeft out.old out.new needed.new result)
         (λ it. IsFilled it.message out.old out.new needed.new result)) }
 {
     let Some(held) = cache.take(alloc) else {
@@ -248,7 +251,10 @@ pub extern "C" fn broadcast_cache_get(
     };
     let status = match held.get(digest) {
         Some(bytes) => fill(bytes, out, needed),
-        None => NONE,
+        None => {
+            *needed = 0;
+            NONE
+        }
     };
     cache.put(held);
     status
@@ -265,12 +271,37 @@ pub extern "C" fn broadcast_cache_cleanup(
     ensures { let same = same_by ⟦<Key as Ord>⟧.cmp ⟦<Digest as Ord>⟧.cmp in
         Finds cache.old.value cache.new.value result (λ old new. (result ≡ OK)
         × Cleans same (is_gone (λ t. t) tickets.now) old.core new.core
+        × (new.served ≡ old.served)
         × (removed.new ≡ counted (gone_from (λ t. t) tickets.now old.core.waiters))) }
 {
     let Some(mut held) = cache.take(alloc) else {
         return EMPTY;
     };
     *removed = held.cleanup(tickets);
+    cache.put(held);
+    OK
+}
+
+/// Drops the waiters of the digest with these tickets.
+#[unsafe(no_mangle)]
+pub extern "C" fn broadcast_cache_cleanup_of(
+    alloc: Global,
+    cache: &mut CacheHandle,
+    digest: &Digest,
+    tickets: &[u64],
+    removed: &mut u64,
+) -> u32
+    ensures { let same = same_by ⟦<Key as Ord>⟧.cmp ⟦<Digest as Ord>⟧.cmp in
+        Finds cache.old.value cache.new.value result (λ old new. (result ≡ OK)
+        × CleansAt same digest.now (is_gone (λ t. t) tickets.now) old.core new.core
+        × (new.served ≡ old.served)
+        × (removed.new ≡ count_by (is_gone (λ t. t) tickets.now)
+        (waiting_at same old.core digest.now))) }
+{
+    let Some(mut held) = cache.take(alloc) else {
+        return EMPTY;
+    };
+    *removed = held.cleanup_of(digest, tickets);
     cache.put(held);
     OK
 }

@@ -1,9 +1,21 @@
-//! What the exported functions return, as numbers.
-ghost use Rattle.std.specs.Prelude.{◌≡◌};
+//! The numbers that the exported functions return.
+ghost use Rattle.std.specs.Prelude.{◌≡◌, false};
+ghost use Rattle.broadcast_core.specs.Log.{is_refused};
 ghost use Rattle.broadcast_c.specs.Codes.{answer_code, outcome_code};
 
-use broadcast_core::{Answer, Cause, Outcome};
+use broadcast_core::{Answer, Outcome};
 use byte_cache::Blob;
+
+/// The version of these functions. It changes whenever one of them does.
+pub const VERSION: u32 = 4;
+
+/// Returns the version of these functions.
+#[unsafe(no_mangle)]
+pub extern "C" fn broadcast_c_version() -> u32
+    ensures { result ≡ VERSION }
+{
+    VERSION
+}
 
 /// The call did what it says.
 pub const OK: u32 = 0;
@@ -23,6 +35,9 @@ pub const SHORT: u32 = 4;
 /// The ticket waits.
 pub const WAITS: u32 = 5;
 
+/// The message has more than 4,294,967,295 bytes.
+pub const TOO_LONG: u32 = 6;
+
 /// The digest was put in front of the list.
 pub const INSERTED: u32 = 0;
 
@@ -34,6 +49,9 @@ pub const INELIGIBLE: u32 = 2;
 
 /// The message is charged more than the byte budget.
 pub const OVERSIZE: u32 = 3;
+
+/// A payload that does not decode is counted under this number, beside those of the outcomes.
+pub const INVALID: u32 = 4;
 
 /// The keys are the primary ones.
 pub const ANSWER_PEERS: u32 = 0;
@@ -59,12 +77,6 @@ pub const ANSWER_MISSED: u32 = 6;
 /// Waiters were dropped.
 pub const ANSWER_REMOVED: u32 = 7;
 
-/// An allocation failed.
-pub const ANSWER_MEMORY: u32 = 8;
-
-/// The message has no encoding.
-pub const ANSWER_UNENCODABLE: u32 = 9;
-
 /// Returns the number of an outcome.
 pub fn code_of_outcome(outcome: Outcome) -> u32
     ensures { result ≡ outcome_code outcome }
@@ -77,8 +89,9 @@ pub fn code_of_outcome(outcome: Outcome) -> u32
     }
 }
 
-/// Returns the number of an answer.
+/// Returns the number of an answer that is not a refusal.
 pub fn code_of_answer(answer: &Answer<Blob>) -> u32
+    requires { is_refused answer.now ≡ false }
     ensures { result ≡ answer_code answer.now }
 {
     match answer {
@@ -90,7 +103,6 @@ pub fn code_of_answer(answer: &Answer<Blob>) -> u32
         Answer::Got(Some(_)) => ANSWER_GOT,
         Answer::Got(None) => ANSWER_MISSED,
         Answer::Removed(_) => ANSWER_REMOVED,
-        Answer::Refused(Cause::Memory) => ANSWER_MEMORY,
-        Answer::Refused(Cause::Unencodable) => ANSWER_UNENCODABLE,
+        Answer::Refused(_) => unreachable!(),
     }
 }

@@ -1,18 +1,21 @@
 //! The functions of a node.
-ghost use Rattle.std.specs.Prelude.{◌≡◌, ℕ, List, [], length, is_some, None, OnOk, OnErr, MatchOption};
+ghost use Rattle.std.specs.Prelude.{◌≡◌, ◌↔◌, ℕ, List, [], length, is_some, None, OnOk, OnErr, IfErr, MatchOption};
 ghost use Rattle.sha2.specs.Sha256.{sha256};
 ghost use Rattle.broadcast_core.specs.Content.{same_by};
 ghost use Rattle.broadcast_core.specs.declared.event.Answer.TheVariants as answer;
 ghost use Rattle.broadcast_core.specs.declared.event.Event.TheVariants as event;
-ghost use Rattle.byte_cache.specs.Changes.{HasApplied, HaveSameKeys, message_of, recipients_of, served_of};
-ghost use Rattle.broadcast_c.specs.Told.{BothHold, Fails, Finds, IsFilled, IsPacket, TellsAnswer, is_all, keys_of};
+ghost use Rattle.byte_cache.specs.Blob.{encoding_of};
+ghost use Rattle.byte_cache.specs.Changes.{HasApplied, HaveSameKeys, MayRefuse, message_of, recipients_of, served_of};
+ghost use Rattle.broadcast_c.specs.Codes.{cause_code};
+ghost use Rattle.broadcast_c.specs.Told.{BothHold, Fails, Finds, IsFilled, IsLeft, IsPacket, Refuses, TellsAnswer, is_all};
 
 use crate::cache::Counts;
-use crate::codes::{EMPTY, MEMORY, NONE, OK};
+use crate::codes::{EMPTY, MEMORY, NONE, OK, TOO_LONG};
 use crate::handle::NodeHandle;
+use crate::packet::copy_packet;
 use crate::room::fill;
 use crate::told::{Told, tell};
-use broadcast_core::{Digest, Key, Recipients, Sent};
+use broadcast_core::{Cause, Digest, Key, Recipients};
 use byte_cache::Node;
 use std::alloc::{AllocError, Global};
 
@@ -95,13 +98,15 @@ pub extern "C" fn broadcast_node_broadcast(
         (event.Broadcast (recipients_of all recipients.now)
         (record { message = bytes.now; digest = sha256 bytes.now })) old new
         × TellsAnswer new out.new) }
-    ensures fails { ¬ (result ≡ OK) → Fails node.old.value node.new.value result }
+    ensures fails { ¬ (result ≡ OK) → Refuses node.old.value node.new.value result }
+    ensures too_long { MatchOption node.old.value (result ≡ EMPTY)
+        (λ _. (result ≡ TOO_LONG) ↔ (encoding_of bytes.now ≡ None)) }
 {
     let Some(mut held) = node.take(alloc) else {
         return EMPTY;
     };
     let result = held.broadcast(alloc, all, recipients, bytes);
-    finish(node, held, result, out)
+    finish_broadcast(node, held, result, out)
 }
 
 /// Broadcasts the bytes, which go by the digest here.
@@ -120,13 +125,15 @@ pub extern "C" fn broadcast_node_broadcast_as(
         (event.Broadcast (recipients_of all recipients.now)
         (record { message = bytes.now; digest = digest.now })) old new
         × TellsAnswer new out.new) }
-    ensures fails { ¬ (result ≡ OK) → Fails node.old.value node.new.value result }
+    ensures fails { ¬ (result ≡ OK) → Refuses node.old.value node.new.value result }
+    ensures too_long { MatchOption node.old.value (result ≡ EMPTY)
+        (λ _. (result ≡ TOO_LONG) ↔ (encoding_of bytes.now ≡ None)) }
 {
     let Some(mut held) = node.take(alloc) else {
         return EMPTY;
     };
     let result = held.broadcast_as(alloc, all, recipients, *digest, bytes);
-    finish(node, held, result, out)
+    finish_broadcast(node, held, result, out)
 }
 
 /// The peer sent these bytes.
@@ -142,6 +149,9 @@ pub extern "C" fn broadcast_node_payload(
         result ≡ OK → BothHold node.old.value node.new.value (λ old new.
         HasApplied same (event.Payload peer.now bytes.now) old new × TellsAnswer new out.new) }
     ensures fails { ¬ (result ≡ OK) → Fails node.old.value node.new.value result }
+    ensures refused { let same = same_by ⟦<Key as Ord>⟧.cmp ⟦<Digest as Ord>⟧.cmp in
+        result ≡ MEMORY → MatchOption node.old.value ⊥
+        (MayRefuse same (event.Payload peer.now bytes.now)) }
 {
     let Some(mut held) = node.take(alloc) else {
         return EMPTY;
@@ -159,16 +169,19 @@ pub extern "C" fn broadcast_node_subscribe(
     digest: &Digest,
     out: &mut Told,
 ) -> u32
-    ensures { let same = same_by ⟦<Key as Ord>⟧.cmp ⟦<Digest as Ord>⟧.cmp in
-        Finds node.old.value node.new.value result (λ old new. (result ≡ OK)
-        × HasApplied same (event.Subscribe ticket digest.now) old new
-        × TellsAnswer new out.new) }
+    ensures applied { let same = same_by ⟦<Key as Ord>⟧.cmp ⟦<Digest as Ord>⟧.cmp in
+        result ≡ OK → BothHold node.old.value node.new.value (λ old new.
+        HasApplied same (event.Subscribe ticket digest.now) old new × TellsAnswer new out.new) }
+    ensures fails { ¬ (result ≡ OK) → Fails node.old.value node.new.value result }
+    ensures refused { let same = same_by ⟦<Key as Ord>⟧.cmp ⟦<Digest as Ord>⟧.cmp in
+        result ≡ MEMORY → MatchOption node.old.value ⊥
+        (MayRefuse same (event.Subscribe ticket digest.now)) }
 {
     let Some(mut held) = node.take(alloc) else {
         return EMPTY;
     };
-    held.subscribe(alloc, ticket, *digest);
-    finish(node, held, Ok(()), out)
+    let result = held.subscribe(alloc, ticket, *digest);
+    finish(node, held, result, out)
 }
 
 /// The cached message of the digest is asked for.
@@ -180,15 +193,19 @@ pub extern "C" fn broadcast_node_get(
     digest: &Digest,
     out: &mut Told,
 ) -> u32
-    ensures { let same = same_by ⟦<Key as Ord>⟧.cmp ⟦<Digest as Ord>⟧.cmp in
-        Finds node.old.value node.new.value result (λ old new. (result ≡ OK)
-        × HasApplied same (event.Get ticket digest.now) old new × TellsAnswer new out.new) }
+    ensures applied { let same = same_by ⟦<Key as Ord>⟧.cmp ⟦<Digest as Ord>⟧.cmp in
+        result ≡ OK → BothHold node.old.value node.new.value (λ old new.
+        HasApplied same (event.Get ticket digest.now) old new × TellsAnswer new out.new) }
+    ensures fails { ¬ (result ≡ OK) → Fails node.old.value node.new.value result }
+    ensures refused { let same = same_by ⟦<Key as Ord>⟧.cmp ⟦<Digest as Ord>⟧.cmp in
+        result ≡ MEMORY → MatchOption node.old.value ⊥
+        (MayRefuse same (event.Get ticket digest.now)) }
 {
     let Some(mut held) = node.take(alloc) else {
         return EMPTY;
     };
-    held.get(alloc, ticket, *digest);
-    finish(node, held, Ok(()), out)
+    let result = held.get(alloc, ticket, *digest);
+    finish(node, held, result, out)
 }
 
 /// The waiters with these tickets are gone.
@@ -233,6 +250,29 @@ fn finish(
     }
 }
 
+// The same for a broadcast.
+fn finish_broadcast(
+    node: &mut NodeHandle,
+    held: Box<Node>,
+    applied: Result<(), Cause>,
+    out: &mut Told,
+) -> u32
+    ensures put { node.new.value ≡ Some held.value }
+    ensures ok { OnOk applied ((result ≡ OK) × TellsAnswer held.value out.new) }
+    ensures err { IfErr applied (λ cause. result ≡ cause_code cause) }
+{
+    let told = tell(&held);
+    node.put(held);
+    match applied {
+        Ok(()) => {
+            *out = told;
+            OK
+        }
+        Err(Cause::Memory) => MEMORY,
+        Err(Cause::Unencodable) => TOO_LONG,
+    }
+}
+
 /// Copies the tickets that the last event served.
 #[unsafe(no_mangle)]
 pub extern "C" fn broadcast_node_served(
@@ -262,7 +302,9 @@ pub extern "C" fn broadcast_node_message(
     needed: &mut usize,
 ) -> u32
     ensures { Finds node.old.value node.new.value result (λ old new. (new ≡ old)
-        × MatchOption (message_of old.answer) (result ≡ NONE) (λ it. (digest.new ≡ it.digest)
+        × MatchOption (message_of old.answer)
+        ((digest.new ≡ digest.old) × IsLeft out.old out.new needed.new result)
+        (λ it. (digest.new ≡ it.digest)
         × IsFilled it.message out.old out.new needed.new result)) }
 {
     let Some(held) = node.take(alloc) else {
@@ -273,7 +315,10 @@ pub extern "C" fn broadcast_node_message(
             *digest = message.digest();
             fill(message.inner().as_slice(), out, needed)
         }
-        None => NONE,
+        None => {
+            *needed = 0;
+            NONE
+        }
     };
     node.put(held);
     status
@@ -291,7 +336,10 @@ pub extern "C" fn broadcast_node_packet(
     needed: &mut usize,
 ) -> u32
     ensures { Finds node.old.value node.new.value result (λ old new. (new ≡ old)
-        × MatchOption old.packet (result ≡ NONE) (λ sent. (all.new ≡ is_all sent.recipients)
+        × MatchOption old.packet ((all.new ≡ all.old)
+        × IsLeft recipients.old recipients.new recipients_needed.new result
+        × IsLeft out.old out.new needed.new result)
+        (λ sent. (all.new ≡ is_all sent.recipients)
         × IsPacket sent recipients.old recipients.new recipients_needed.new
         out.old out.new needed.new result)) }
 {
@@ -303,37 +351,14 @@ pub extern "C" fn broadcast_node_packet(
             *all = matches!(sent.recipients, Recipients::All);
             copy_packet(sent, recipients, recipients_needed, out, needed)
         }
-        None => NONE,
+        None => {
+            *recipients_needed = 0;
+            *needed = 0;
+            NONE
+        }
     };
     node.put(held);
     status
-}
-
-// Copies the recipients and the bytes of a packet.
-fn copy_packet(
-    sent: &Sent<Key>,
-    recipients: &mut [Key],
-    recipients_needed: &mut usize,
-    out: &mut [u8],
-    needed: &mut usize,
-) -> u32
-    ensures { IsPacket sent.now recipients.old recipients.new recipients_needed.new
-        out.old out.new needed.new result }
-{
-    let keys = fill_keys(&sent.recipients, recipients, recipients_needed);
-    let bytes = fill(sent.bytes.as_slice(), out, needed);
-    if keys == OK { bytes } else { keys }
-}
-
-// Copies the recipients that are named.
-fn fill_keys(recipients: &Recipients<Key>, out: &mut [Key], needed: &mut usize) -> u32
-    ensures { IsFilled (keys_of recipients.now) out.old out.new needed.new result }
-{
-    match recipients {
-        Recipients::All => fill(&[], out, needed),
-        Recipients::Some(keys) => fill(keys.as_slice(), out, needed),
-        Recipients::One(key) => fill(&[*key], out, needed),
-    }
 }
 
 /// Tells the sizes of the node.

@@ -80,6 +80,7 @@ module _ {P D : Type 0} (same : Same P D) where
         (λ h. ap values_of (cond_true (same.key p q) ns (items_at same.key q lists) h) ∙ is ∙ sym (cond_true (same.key p q) ds (items_at same.key q (digest_lists lists)) h))
         (λ h. ap values_of (cond_false (same.key p q) ns (items_at same.key q lists) h) ∙ sym (items_at-digests same.key q lists) ∙ sym (cond_false (same.key p q) ds (items_at same.key q (digest_lists lists)) h));
     keys = λ q there. ap (λ b. same.key p q || b) (is_some-digests same.key q lists) ∙ puts.keys q (sym (is_some-digests same.key q new_lists) ∙ there);
+    stays = λ q there. is_some-digests same.key q new_lists ∙ puts.stays q (sym (is_some-digests same.key q lists) ∙ there);
     distinct = distinct;
   }
 

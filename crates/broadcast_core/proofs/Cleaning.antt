@@ -121,7 +121,7 @@ range_same o Unbounded q k same h = refl
 abbrev pub passing : {D W : Type 0} → (W → Bool) → List (D × List W) → ℕ
 passing test es = sum_by (λ e. count_by test e.1) es
 
-sum-values : {K X : Type 0} (f : X → ℕ) (es : List (K × X)) → sum_by f (values_of es) ≡ sum_by (λ e. f e.1) es
+pub sum-values : {K X : Type 0} (f : X → ℕ) (es : List (K × X)) → sum_by f (values_of es) ≡ sum_by (λ e. f e.1) es
 sum-values f [] = refl
 sum-values {K} {X} f (e ∷ es) = omega (arith, sum_by-cons f e.1 (values_of es), sum_by-cons (λ (x : K × X). f x.1) e es, sum-values f es)
 
@@ -175,7 +175,7 @@ passing-none {D} {W} {R} o test (e ∷ es) apart h =
         (λ f. sym (ap (λ b. list_any test (unwrap_or (cond b (Some e.1) (lookup (eq_by_cmp R q) es)) [])) f) ∙ h q)
 
 -- some more are counted
-counted_more : (done removed n : ℕ) → removed ≡ counted done → min (removed + n) (2 ^ 64 - 1) ≡ counted (done + n)
+pub counted_more : (done removed n : ℕ) → removed ≡ counted done → min (removed + n) (2 ^ 64 - 1) ≡ counted (done + n)
 counted_more done removed n is = omega (arith, is)
 
 -- those who pass have left the lists up to a bound

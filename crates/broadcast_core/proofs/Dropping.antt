@@ -16,7 +16,7 @@ use Rattle.broadcast_core.specs.Stored.{Stored, Drops, is_stored, is_dropped}
 use Rattle.broadcast_core.proofs.Distinct.{by_test, among-equal, list_any-append, or_none, or_right}
 use Rattle.broadcast_core.proofs.Placing.{items_at-digests, is_some-digests}
 use Rattle.broadcast_core.proofs.Indexing.{cond_true, cond_false, IsIndexed-evicted, IsIndexed-closed}
-use Rattle.broadcast_core.proofs.Caching.{stored-cached, fewer-cases}
+use Rattle.broadcast_core.proofs.Caching.{fewer-cases}
 
 module _ {P D : Type 0} (same : Same P D) where
   module _ (key_laws : IsEquivalence same.key) (seen peers : List P) (p q : P) where
@@ -43,7 +43,7 @@ module _ {P D : Type 0} (same : Same P D) where
 
   module _ (key_laws : IsEquivalence same.key) (p q : P) where
     -- a set of one key that is followed by the empty one
-    one-dropped : is_dropped same (p ∷ []) [] q ≡ same.key p q
+    pub one-dropped : is_dropped same (p ∷ []) [] q ≡ same.key p q
     one-dropped = and_true (same.key q p || false) ∙ or_none (same.key q p) ∙ key_laws.symm q p
       where
         and_true : (b : Bool) → (b && true) ≡ b
@@ -59,10 +59,11 @@ module _ {P M D : Type 0} (same : Same P D) where
   pub record Dropping (seen peers : List P) (old new : Stored P M D) : Type 0 where
     pub lists : (q : P) → stored_at same.key q new.lists ≡ cond (is_dropped same seen peers q) [] (stored_at same.key q old.lists)
     pub keys : (q : P) → is_some (lookup (same.key q) new.lists) ≡ true → (is_dropped same seen peers q ≡ false) × (is_some (lookup (same.key q) old.lists) ≡ true)
+    pub stays : (q : P) → is_dropped same seen peers q ≡ false → is_some (lookup (same.key q) old.lists) ≡ true → is_some (lookup (same.key q) new.lists) ≡ true
     pub fewer : Fewer same old.messages new.messages
 
   pub Dropping-start : (peers : List P) (old : Stored P M D) → Dropping [] peers old old
-  Dropping-start peers old = record { lists = λ q. refl; keys = λ q there. (refl, there); fewer = λ d y h. h }
+  Dropping-start peers old = record { lists = λ q. refl; keys = λ q there. (refl, there); stays = λ q left there. there; fewer = λ d y h. h }
 
   module _ (key_laws : IsEquivalence same.key) (seen peers : List P) (old now : Stored P M D) (c : Dropping seen peers old now) (p : P) where
     -- the key is in the new set
@@ -74,6 +75,7 @@ module _ {P M D : Type 0} (same : Same P D) where
         record {
           lists = λ q. c.lists q ∙ sym (ap (λ b. cond b [] (stored_at same.key q old.lists)) (agrees q));
           keys = λ q there. let r = c.keys q there in (agrees q ∙ r.0, r.1);
+          stays = λ q left there. c.stays q (sym (agrees q) ∙ left) there;
           fewer = c.fewer;
         }
 
@@ -86,18 +88,21 @@ module _ {P M D : Type 0} (same : Same P D) where
           (λ h. cond_false (is_dropped same (p ∷ []) [] q) [] (stored_at same.key q now.lists) (one-dropped same key_laws p q ∙ h)
           ∙ c.lists q ∙ sym (ap (λ b. cond b [] (stored_at same.key q old.lists)) (dropped-other same key_laws seen peers p q h)));
       keys = λ q there. let r = drops.keys q there in let s = c.keys q r.1 in (dropped-other same key_laws seen peers p q (sym (one-dropped same key_laws p q) ∙ r.0) ∙ s.0, s.1);
+      stays = λ q left there. by_test (same.key p q)
+          (λ h. let no : true ≡ false = sym (dropped-here same key_laws seen peers p q h gone) ∙ left in absurd (cc))
+          (λ h. drops.stays q (one-dropped same key_laws p q ∙ h) (c.stays q (sym (dropped-other same key_laws seen peers p q h) ∙ left) there));
       fewer = λ d y h. c.fewer d y (fewer_from (is_stored same d new.lists) (lookup (same.digest d) now.messages) (lookup (same.digest d) new.messages) (drops.messages d) y h);
     }
 
   -- all keys were looked at
-  pub Drops-made : (key_laws : IsEquivalence same.key) (laws : IsEquivalence same.digest) (was peers : List P) (old : Stored P M D) (now : List (P × List (Node (Charged D)))) (new : List (D × Placed P (Carried M D)))
-      → IsIndexed same now new → IsDistinct same.key (keys_of (digest_lists now)) → Dropping was peers old (stored_of now new) → Drops same was peers old (stored_of now new)
-  Drops-made key_laws laws was peers old now new indexed distinct c = record {
+  pub Drops-made : (key_laws : IsEquivalence same.key) (laws : IsEquivalence same.digest) (was peers : List P) (old new : Stored P M D)
+      → ((d : D) → is_stored same d new.lists ≡ is_some (lookup (same.digest d) new.messages)) → IsDistinct same.key (keys_of new.lists) → Dropping was peers old new → Drops same was peers old new
+  Drops-made key_laws laws was peers old new cached distinct c = record {
     lists = c.lists;
     keys = c.keys;
+    stays = c.stays;
     distinct = distinct;
-    messages = λ d. fewer-cases same key_laws laws (is_stored same d (digest_lists now)) (lookup (same.digest d) old.messages) (lookup (same.digest d) (messages_of new))
-        (stored-cached same key_laws laws now new indexed distinct d) (λ y h. c.fewer d y h);
+    messages = λ d. fewer-cases same key_laws laws (is_stored same d new.lists) (lookup (same.digest d) old.messages) (lookup (same.digest d) new.messages) (cached d) (λ y h. c.fewer d y h);
   }
 
 module _ {P M D : Type 0} (same : Same P D) where
@@ -106,10 +111,11 @@ module _ {P M D : Type 0} (same : Same P D) where
     pub indexed : IsIndexed same now new
     pub lists : (q : P) → same.key p q ≡ false → items_at same.key q now ≡ items_at same.key q first
     pub keys : (q : P) → same.key p q ≡ false → is_some (lookup (same.key q) now) ≡ true → is_some (lookup (same.key q) first) ≡ true
+    pub stays : (q : P) → is_some (lookup (same.key q) first) ≡ true → is_some (lookup (same.key q) now) ≡ true
     pub fewer : Fewer same (messages_of old) (messages_of new)
 
   pub Clearing-start : (p : P) (lists : List (P × List (Node (Charged D)))) (items : List (D × Placed P (Carried M D))) → IsIndexed same lists items → Clearing p lists lists items items
-  Clearing-start p lists items was = record { indexed = was; lists = λ q h. refl; keys = λ q h there. there; fewer = λ d y h. h }
+  Clearing-start p lists items was = record { indexed = was; lists = λ q h. refl; keys = λ q h there. there; stays = λ q there. there; fewer = λ d y h. h }
 
   module _ (key_laws : IsEquivalence same.key) (laws : IsEquivalence same.digest) (p : P) (first now next : List (P × List (Node (Charged D)))) (old mid new : List (D × Placed P (Carried M D))) (c : Clearing p first now old mid) where
     or_no : (a b : Bool) → a ≡ false → (a || b) ≡ true → b ≡ true
@@ -122,6 +128,7 @@ module _ {P M D : Type 0} (same : Same P D) where
           (λ d y h. c.indexed.named d y (leaves.fewer d y h)) placed;
       lists = λ q h. evicts.put.lists q ∙ cond_false (same.key p q) evicts.rest (items_at same.key q now) h ∙ c.lists q h;
       keys = λ q h there. c.keys q h (or_no (same.key p q) (is_some (lookup (same.key q) now)) h (evicts.put.keys q there));
+      stays = λ q there. evicts.put.stays q (c.stays q there);
       fewer = λ d y h. c.fewer d y (leaves.fewer d y h);
     }
 
@@ -134,7 +141,7 @@ module _ {P M D : Type 0} (same : Same P D) where
         → IsIndexed same gone mid × Dropping same (p ∷ []) [] (stored_of first old) (stored_of gone mid)
     Clearing-end gone empty stays removes =
         let at : (q : P) → items_at same.key q gone ≡ cond (same.key p q) [] (items_at same.key q now) = λ q. removes.lists q ∙ ap (λ l. cond (same.key p q) [] (items_at same.key q l)) stays in (
-          IsIndexed-closed same key_laws laws p now gone mid c.indexed empty at,
+          IsIndexed-closed same key_laws laws p now gone mid c.indexed empty at removes.distinct,
           record {
             lists = λ q. items_at-digests same.key q gone ∙ by_test (same.key p q)
                 (λ h. ap values_of (at q ∙ cond_true (same.key p q) [] (items_at same.key q now) h)
@@ -145,6 +152,8 @@ module _ {P M D : Type 0} (same : Same P D) where
               one-dropped same key_laws p q ∙ r.0,
               is_some-digests same.key q first ∙ c.keys q r.0 (ap (λ l. is_some (lookup (same.key q) l)) (sym stays) ∙ r.1),
             );
+            stays = λ q left there. is_some-digests same.key q gone
+                ∙ removes.stays q (sym (one-dropped same key_laws p q) ∙ left) (ap (λ l. is_some (lookup (same.key q) l)) stays ∙ c.stays q (sym (is_some-digests same.key q first) ∙ there));
             fewer = c.fewer;
           },
         )

@@ -48,7 +48,19 @@ Puts-again {key = key} laws p ns ms old mid new first last = record {
   keys = λ q there. by_test (key p q)
       (λ h. rw h refl)
       (λ h. first.keys q (sym (ap (λ b. b || is_some (lookup (key q) mid)) h) ∙ last.keys q there));
+  stays = λ q there. last.stays q (first.stays q there);
+  distinct = last.distinct;
 }
+
+-- no list is there twice after a push
+pub pushed_distinct : {P M D : Type 0} (same : Same P D) (p : P) (n : Node (Charged D)) (size : ℕ) (old new : List (P × List (Node (Charged D)))) (old_items new_items : List (D × Placed P (Carried M D)))
+    → Pushes same p n size old new old_items new_items → IsDistinct same.key (keys_of new)
+pushed_distinct {D = D} same p n size old new old_items new_items pushes = by pushes.stale pushes.extends.cut
+  where
+    by : (stale : Option (Charged D)) → MatchOption stale ((length (items_at same.key p pushes.extends.between) ≤ size) × (new ≡ pushes.extends.between))
+        (λ d. (size < length (items_at same.key p pushes.extends.between)) × Evicts same.key p d pushes.extends.between new) → IsDistinct same.key (keys_of new)
+    by None cut = subst (λ l. IsDistinct same.key (keys_of l)) (sym cut.1) pushes.extends.put.distinct
+    by (Some d) cut = cut.1.put.distinct
 
 abbrev by_order : {P D : Type 0} → (P → P → Bool) → (D → D → Ordering) → Same P D
 by_order key R = record { key = key; digest = eq_by_cmp R }
@@ -110,6 +122,8 @@ module _ {P M D : Type 0} (same : Same P D) (key_laws : IsEquivalence same.key) 
               (λ h. nodes-equal key_laws lists p q h ∙ none ∙ sym (cond_true (same.key p q) [] (items_at same.key q lists) h))
               (λ h. sym (cond_false (same.key p q) [] (items_at same.key q lists) h));
           keys = λ q h. ap (λ b. same.key p q || b) (ap (λ l. is_some (lookup (same.key q) l)) (sym stays) ∙ h) ∙ or_right (same.key p q);
+          stays = λ q h. ap (λ l. is_some (lookup (same.key q) l)) stays ∙ h;
+          distinct = now.apart;
         })
         (rw zero refl)
         (λ d y h. inl h)

@@ -2,7 +2,7 @@
 use Rattle.std.proofs.Common.{◌≡◌, ℕ, Bool, true, false, ◌&&◌, cond, List, [], ◌∷◌, ◌++◌, Option, Some, None, refl, sym, ap, ◌∙◌, subst, append-nil}
 use Rattle.std.specs.Prelude.{is_some, unwrap_or}
 use Rattle.std.specs.List.{IsDistinct}
-use Rattle.std.specs.Map.{lookup}
+use Rattle.std.specs.Map.{lookup, keys_of}
 use Rattle.std.specs.Cmp.{IsEquivalence}
 use Rattle.entries.specs.declared.entry.Charged.{Charged}
 use Rattle.entries.specs.Linked.{Node, IsApart}
@@ -76,6 +76,7 @@ module _ {P M D : Type 0} (same : Same P D) (key_laws : IsEquivalence same.key) 
           (λ h. subst (λ l. IsDistinct (same_charged same.digest) (values_of l)) (sym (puts.lists q ∙ cond_false (same.key p q) ms (items_at same.key q lists) h)) (was.distinct q));
       named = named;
       placed = placed;
+      apart = puts.distinct;
     }
 
     -- a digest of the list moves to its front
@@ -133,12 +134,13 @@ module _ {P M D : Type 0} (same : Same P D) (key_laws : IsEquivalence same.key) 
     distinct = was.distinct;
     named = λ e x h. was.named e x (ap (lookup (same.digest e)) (sym messages) ∙ h);
     placed = placed;
+    apart = was.apart;
   }
 
   -- the list of a key is gone, and it was empty
   pub IsIndexed-closed : (p : P) (lists new_lists : List (P × List (Node (Charged D)))) (items : List (D × Placed P (Carried M D))) → IsIndexed same lists items → items_at same.key p lists ≡ []
-      → ((q : P) → items_at same.key q new_lists ≡ cond (same.key p q) [] (items_at same.key q lists)) → IsIndexed same new_lists items
-  IsIndexed-closed p lists new_lists items was empty at =
+      → ((q : P) → items_at same.key q new_lists ≡ cond (same.key p q) [] (items_at same.key q lists)) → IsDistinct same.key (keys_of new_lists) → IsIndexed same new_lists items
+  IsIndexed-closed p lists new_lists items was empty at distinct =
       let stays : (q : P) → items_at same.key q new_lists ≡ items_at same.key q lists = λ q. at q ∙ by_test (same.key p q)
       (λ h. cond_true (same.key p q) [] (items_at same.key q lists) h ∙ sym (nodes-equal key_laws lists p q h ∙ empty))
       (λ h. cond_false (same.key p q) [] (items_at same.key q lists) h) in
@@ -147,4 +149,5 @@ module _ {P M D : Type 0} (same : Same P D) (key_laws : IsEquivalence same.key) 
         distinct = λ q. subst (λ l. IsDistinct (same_charged same.digest) (values_of l)) (sym (stays q)) (was.distinct q);
         named = was.named;
         placed = was.placed;
+        apart = distinct;
       }

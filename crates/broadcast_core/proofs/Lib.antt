@@ -6,8 +6,10 @@ pub mod Gone
 pub mod Entries
 pub mod WaitersLemmas
 pub mod Cleaning
+pub mod CleaningAt
 pub mod Taking
 pub mod Placing
+pub mod Numbering
 pub mod Indexing
 pub mod Caching
 pub mod Filling
@@ -32,3 +34,4 @@ pub mod Stepping
 pub mod Handing
 pub mod Applying
 pub mod Running
+pub mod TakenLaws

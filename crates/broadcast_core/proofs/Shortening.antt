@@ -55,6 +55,7 @@ module _ {P M D : Type 0} (same : Same P D) where
             keys = λ q there. by_test (same.key p q)
                 (λ h. rw h refl)
                 (λ h. rw h (is_some-digests same.key q first ∙ c.clearing.keys q h (sym (is_some-digests same.key q now) ∙ there)));
+            stays = λ q there. is_some-digests same.key q now ∙ c.clearing.stays q (sym (is_some-digests same.key q first) ∙ there);
             distinct = distinct;
           };
           messages = λ d. fewer-cases same key_laws laws (is_stored same d (digest_lists now)) (lookup (same.digest d) (messages_of old)) (lookup (same.digest d) (messages_of mid))
@@ -93,6 +94,7 @@ module _ {P M D : Type 0} (same : Same P D) where
               (λ h. rw h refl)
               (λ h. rw h (let in_mid : is_some (lookup (same.key q) mid.lists) ≡ true = sym (ap (λ t. t || is_some (lookup (same.key q) mid.lists)) h) ∙ cuts.put.keys q there in
               sym (ap (λ t. t || is_some (lookup (same.key q) old.lists)) h) ∙ stores.put.keys q in_mid));
+          stays = λ q there. cuts.put.stays q (stores.put.stays q there);
           distinct = cuts.put.distinct;
         };
         messages = λ d. by_test (is_stored same d new.lists)

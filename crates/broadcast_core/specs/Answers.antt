@@ -1,3 +1,4 @@
+-- Believed.
 -- What each event is answered.
 use Rattle.std.specs.Prelude.{◌≡◌, ℕ, Bool, false, true, ◌==◌, IsTrue, List, ◌∷◌, Option, None, Some, is_some, Result, Ok, Err, is_ok, ◌⊎◌}
 use Rattle.std.specs.List.{list_any, count_by}

@@ -1,3 +1,4 @@
+-- Believed.
 -- How a list of bytes is spelled and read.
 use Rattle.std.specs.Prelude.{◌≡◌, ℕ, ◌+◌, ◌^◌, ◌<◌, ◌≤◌, false, IsTrue, ◌&&◌, ◌⊎◌, Bool, if◌then◌else◌, List, ◌++◌, length, take, drop, Result, Ok, Err, nat_lt, nat_le}
 use Rattle.byteorder.specs.Endian.{big_bytes, big_number}

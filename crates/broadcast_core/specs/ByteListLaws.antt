@@ -1,3 +1,4 @@
+-- Internal.
 -- Lemmas, not definitions: for the laws of a message type that reads its lists one after the other.
 use Rattle.std.proofs.Common.{◌≡◌, ℕ, true, List, ◌++◌, length, Ok, Err, sym, ap, ◌∙◌}
 use Rattle.std.proofs.lemmas.Bool.{ltb-true}

@@ -1,3 +1,4 @@
+-- Believed.
 -- What is cached.
 use Rattle.std.specs.Prelude.{Bool, if◌then◌else◌, [], ◌∷◌, Option, None}
 use Rattle.std.specs.List.{list_any}

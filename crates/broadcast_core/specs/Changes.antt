@@ -1,3 +1,4 @@
+-- Believed.
 -- How the calls of a core change its content.
 use Rattle.std.specs.Prelude.{◌≡◌, ℕ, Bool, Option, is_some, true, false, not, if◌then◌else◌, List, [], ◌∷◌, ◌++◌, Some, None, Result, IfOk, OnOk, OnErr, IsOk}
 use Rattle.std.specs.List.{filter, list_any}
@@ -74,6 +75,14 @@ module _ {P M D W : Type 0} (same : Same P D) where
     pub store : KeepsStore old new
     pub waiters : (e : D) → waiting_at same new e
         ≡ filter (λ w. not (is_gone w)) (waiting_at same old e)
+
+  -- so with the waiters of one digest, and all others stay
+  pub record CleansAt (d : D) (is_gone : W → Bool) (old new : Content P M D W) : Type 0 where
+    pub store : KeepsStore old new
+    pub waiters : (e : D) → waiting_at same new e
+        ≡ (if same.digest d e
+        then filter (λ w. not (is_gone w)) (waiting_at same old e)
+        else waiting_at same old e)
 
   -- a waiter is answered by the cached message of the digest, or waits if none is cached
   abbrev pub IsSubscribed : D → W → Content P M D W → Content P M D W → Subscribed W M D → Type 0

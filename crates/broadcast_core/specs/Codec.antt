@@ -1,3 +1,4 @@
+-- Believed.
 -- What reading and writing return.
 use Rattle.std.specs.Prelude.{◌≡◌, ℕ, ◌-◌, ◌==◌, ◌⊎◌, if◌then◌else◌, List, ◌++◌, length, Option, Some, Result, Ok, Err, IsOk}
 use Rattle.broadcast_core.specs.declared.codec.CodecError.{CodecError}

@@ -1,3 +1,4 @@
+-- Internal.
 -- Lemmas, not definitions: the laws of `Read` and `Codec` for test messages. They stand here since
 -- the impls cite them as their ghost laws, which may name this folder alone.
 use Rattle.std.proofs.Common.{◌≡◌, ℕ, ◌-◌, ◌^◌, ◌<◌, ◌≤◌, Bool, true, false, cond, ltb, ◌&&◌, List, ◌++◌, length, take, drop, Some, None, Result, Ok, Err, refl, sym, ap, subst, ◌∙◌, append_assoc, arith, ◌⊎◌, inl, inr, ⊎_elim}
@@ -46,7 +47,7 @@ chosen_ok true d x y e = (refl, e)
 chosen_ok false d x y e = absurd cc
 
 -- which refusal a test gives
-guard_err : {A : Type 0} (b : Bool) (d e : CodecError) (x : A) → cond b (Err d) (Ok x) ≡ Err e
+pub guard_err : {A : Type 0} (b : Bool) (d e : CodecError) (x : A) → cond b (Err d) (Ok x) ≡ Err e
     → (b ≡ true) × (d ≡ e)
 guard_err true d e x h = (refl, cc)
 guard_err false d e x h = absurd cc

@@ -1,3 +1,4 @@
+-- Believed.
 -- Companies: what is taken since a digest was last taken.
 use Rattle.std.specs.Prelude.{ℕ, Bool, false, ◌&&◌, ◌||◌, if◌then◌else◌, List, [], ◌∷◌, length, nat_le}
 use Rattle.std.specs.List.{filter}

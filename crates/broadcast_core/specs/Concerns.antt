@@ -1,3 +1,4 @@
+-- Believed.
 -- What a key's list depends on.
 use Rattle.std.specs.Prelude.{◌≡◌, Bool, IsTrue, List, [], ◌∷◌, ◌++◌, map}
 use Rattle.std.specs.List.{AllZip, list_any}

@@ -1,3 +1,4 @@
+-- Believed.
 -- What a core contains, and how it is read.
 use Rattle.std.specs.Prelude.{ℕ, ◌-◌, Bool, not, if◌then◌else◌, List, [], ◌∷◌, map, take, nat_le, Option, None, Some, is_some, unwrap_or}
 use Rattle.std.specs.List.{filter, list_any, sum_by}
@@ -5,6 +6,7 @@ use Rattle.std.specs.Map.{lookup}
 use Rattle.std.specs.Ordering.{eq_by_cmp}
 use Rattle.std.specs.declared.cmp.Ordering.{Ordering}
 use Rattle.entries.specs.declared.entry.Charged.{Charged}
+use Rattle.entries.specs.Store.{same_number}
 use Rattle.broadcast_core.specs.Carried.{Carried}
 use Rattle.broadcast_core.specs.declared.outcome.Outcome.{Outcome}
 use Rattle.broadcast_core.specs.declared.outcome.Outcome.TheVariants.{Inserted, Duplicate, Ineligible, Oversize}
@@ -28,6 +30,10 @@ pub record Same (P D : Type 0) : Type 0 where
 -- the equalities of an order of keys and an order of digests
 abbrev pub same_by : {P D : Type 0} → (P → P → Ordering) → (D → D → Ordering) → Same P D
 same_by key digest = record { key = eq_by_cmp key; digest = eq_by_cmp digest }
+
+-- the equalities of numbers of lists and an order of digests
+abbrev pub same_listed : {D : Type 0} → (D → D → Ordering) → Same ℕ D
+same_listed digest = record { key = same_number; digest = eq_by_cmp digest }
 
 module _ {D : Type 0} (same : D → D → Bool) where
   -- whether a digest of the list equals d

@@ -1,3 +1,4 @@
+-- Believed.
 -- What is handed out: the replies to subscribes and to gets.
 use Rattle.std.specs.Prelude.{List, [], ◌∷◌, ◌++◌, map, Option, None, Some}
 use Rattle.broadcast_core.specs.Carried.{Carried}

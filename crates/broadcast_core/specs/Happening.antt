@@ -1,3 +1,4 @@
+-- Believed.
 -- What happens to a core.
 use Rattle.std.specs.Prelude.{ℕ, Bool, false, List, Option, None, Some}
 use Rattle.broadcast_core.specs.Carried.{Carried}

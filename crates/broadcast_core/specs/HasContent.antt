@@ -1,3 +1,4 @@
+-- Believed.
 -- What a core contains after a history.
 use Rattle.std.specs.Prelude.{◌≡◌, ℕ, Bool, List, ◌∷◌}
 use Rattle.std.specs.List.{AllByRecursion, count_by}

@@ -1,3 +1,4 @@
+-- Believed.
 -- What one event does to a core, and what a run of events leaves.
 use Rattle.std.specs.Prelude.{◌≡◌, ℕ, List, [], ◌∷◌, ◌++◌, length, if◌then◌else◌, ◌⊎◌}
 use Rattle.broadcast_core.specs.Content.{Content, list_at}

@@ -1,7 +1,8 @@
+-- Internal.
 -- How the lists of places and the table of messages agree.
 use Rattle.std.specs.Prelude.{◌≡◌, ℕ, Bool, true, if◌then◌else◌, List, [], ◌∷◌, map, Option, Some, None, is_some, ◌⊎◌, MatchOption}
 use Rattle.std.specs.List.{IsDistinct}
-use Rattle.std.specs.Map.{lookup}
+use Rattle.std.specs.Map.{lookup, keys_of}
 use Rattle.entries.specs.declared.entry.Charged.{Charged}
 use Rattle.entries.specs.Linked.{Node}
 use Rattle.entries.specs.Placed.{Placed}
@@ -23,7 +24,7 @@ abbrev pub digest_lists : {P D : Type 0} → List (P × List (Node D)) → List 
 digest_lists lists = map (λ e. (e.0, values_of e.1)) lists
 
 -- the table finds the place of each digest on a list, and no other; the digests of a list differ;
--- a message goes by its own digest, and has a place
+-- a message goes by its own digest, and has a place; no list is there twice
 pub record IsIndexed {P M D : Type 0} (same : Same P D) (lists : List (P × List (Node (Charged D))))
     (items : List (D × Placed P (Carried M D))) : Type 0 where
   pub finds : (c : Charged D) (p : P) → place_at same.digest same.key items c.digest p
@@ -32,6 +33,7 @@ pub record IsIndexed {P M D : Type 0} (same : Same P D) (lists : List (P × List
   pub named : (d : D) (x : Carried M D) → lookup (same.digest d) (messages_of items) ≡ Some x
       → same.digest d x.digest ≡ true
   pub placed : IsPlaced same.digest same.key items
+  pub apart : IsDistinct same.key (keys_of lists)
 
 -- the content of lists of places and a table
 abbrev pub stored_of : {P M D : Type 0} → List (P × List (Node (Charged D)))

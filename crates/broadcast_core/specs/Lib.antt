@@ -3,6 +3,10 @@ pub mod ByteList
 pub mod Codec
 pub mod CodecLaws
 pub mod ByteListLaws
+pub mod Blocks
+pub mod BlockLaws
+pub mod Tagged
+pub mod TaggedLaws
 pub mod TestMessage
 pub mod Content
 pub mod Setting
@@ -21,6 +25,8 @@ pub mod Answers
 pub mod HasRun
 pub mod Changes
 pub mod Stored
+pub mod Numbered
 pub mod Waiters
 pub mod Indexed
 pub mod ListLaw
+pub mod TakenLaw

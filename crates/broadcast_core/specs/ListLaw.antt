@@ -1,3 +1,4 @@
+-- Believed.
 -- What follows from the definition of a list.
 use Rattle.std.specs.Prelude.{◌≡◌, ◌≤◌, ℕ, Bool, true, false, if◌then◌else◌, List, [], ◌∷◌, ◌++◌, map, take, Option, None, Some, is_some, unwrap_or}
 use Rattle.std.specs.List.{AllByRecursion, sum_by}

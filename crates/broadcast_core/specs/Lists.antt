@@ -1,3 +1,4 @@
+-- Believed.
 -- The list of a key.
 use Rattle.std.specs.Prelude.{ℕ, if◌then◌else◌, List, [], ◌∷◌, ◌++◌, length, Option, None, Some}
 use Rattle.std.specs.Option.{option_map, option_to_list}

@@ -1,3 +1,4 @@
+-- Believed.
 -- The history that events with their answers make.
 use Rattle.std.specs.Prelude.{ℕ, ◌==◌, Bool, true, false, if◌then◌else◌, List, [], ◌∷◌, reverse, Result, Ok, Err}
 use Rattle.std.specs.List.{list_any, zip}

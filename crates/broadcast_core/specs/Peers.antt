@@ -1,3 +1,4 @@
+-- Believed.
 -- Which keys are primary, and since when.
 use Rattle.std.specs.Prelude.{Bool, if◌then◌else◌, List, [], ◌∷◌}
 use Rattle.std.specs.List.{list_any}

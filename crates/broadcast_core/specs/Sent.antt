@@ -1,3 +1,4 @@
+-- Believed.
 -- What is sent to the network.
 use Rattle.std.specs.Prelude.{ℕ, List, [], ◌∷◌, ◌++◌, Option, None, Some}
 use Rattle.broadcast_core.specs.Setting.{Setting}

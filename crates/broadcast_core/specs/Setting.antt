@@ -1,3 +1,4 @@
+-- Believed.
 -- What a history is read by.
 use Rattle.std.specs.Prelude.{ℕ, Bool, List, Option, Result}
 use Rattle.broadcast_core.specs.Carried.{Carried}

@@ -1,3 +1,4 @@
+-- Internal.
 -- The content of a cache, and how takings and peer sets change it.
 use Rattle.std.specs.Prelude.{◌^◌, ◌≡◌, ℕ, Bool, false, true, not, ◌&&◌, ◌||◌, if◌then◌else◌, List, [], length, ◌≤◌, ◌<◌, slice_index_or, Option, Some, None, is_some}
 use Rattle.std.specs.List.{list_any, IsDistinct}
@@ -38,12 +39,13 @@ abbrev pub AreBelow : {K : Type 0} → (K → K → Ordering) → List K → K �
 AreBelow {K} cmp keys key n = (n ≤ length keys)
     × ((k : ℕ) (d : K) → k < n → cmp (slice_index_or keys k d) key ≡ Less)
 
--- the list of the key is replaced, and the others stay
+-- the list of the key is replaced, and the others stay; no list comes but the key's, and none leaves
 pub record PutsList {P D : Type 0} (same : P → P → Bool) (p : P) (ds : List D)
     (old new : List (P × List D)) : Type 0 where
   pub lists : (q : P) → items_at same q new ≡ (if same p q then ds else items_at same q old)
   pub keys : (q : P) → is_some (lookup (same q) new) ≡ true
       → (same p q || is_some (lookup (same q) old)) ≡ true
+  pub stays : (q : P) → is_some (lookup (same q) old) ≡ true → is_some (lookup (same q) new) ≡ true
   pub distinct : IsDistinct same (keys_of new)
 
 -- whether a list has the digest
@@ -87,6 +89,8 @@ module _ {P D : Type 0} (same : Same P D) where
           ≡ (if is_dropped was peers q then [] else items_at same.key q old.lists)
       pub keys : (q : P) → is_some (lookup (same.key q) new.lists) ≡ true
           → (is_dropped was peers q ≡ false) × (is_some (lookup (same.key q) old.lists) ≡ true)
+      pub stays : (q : P) → is_dropped was peers q ≡ false → is_some (lookup (same.key q) old.lists) ≡ true
+          → is_some (lookup (same.key q) new.lists) ≡ true
       pub distinct : IsDistinct same.key (keys_of new.lists)
       pub messages : (d : D) → lookup (same.digest d) new.messages
           ≡ (if is_stored d new.lists then lookup (same.digest d) old.messages else None)

@@ -1,3 +1,4 @@
+-- Believed.
 -- What a test message is, and how it is spelled and read.
 use Rattle.std.specs.Prelude.{◌≡◌, ℕ, ◌-◌, ◌≤◌, ◌&&◌, ◌⊎◌, if◌then◌else◌, IsTrue, List, ◌++◌, length, take, Option, None, Some, Result, Ok}
 use Rattle.broadcast_core.specs.ByteList.{◌>>=◌, contains, has_spelling, spelled, Stands, NoneStands, read_list}

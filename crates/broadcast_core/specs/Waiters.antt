@@ -1,3 +1,4 @@
+-- Believed.
 -- The waiters, by digest, and the effect of a cleanup on them.
 use Rattle.std.specs.Prelude.{◌≡◌, ℕ, ◌-◌, ◌<◌, ◌^◌, ◌==◌, min, Bool, true, false, if◌then◌else◌, List, [], ◌∷◌, length, Option, None, Some, ◌⊎◌}
 use Rattle.std.specs.List.{list_any, count_by, sum_by}
@@ -39,6 +40,11 @@ DropsClosed answers [] ys = ys ≡ []
 DropsClosed {W} answers (x ∷ xs) ys =
     (answers x true × DropsClosed answers xs ys)
     ⊎ (answers x false × ((rest : List W) × (ys ≡ x ∷ rest) × DropsClosed answers xs rest))
+
+-- so with the waiters of a digest that is asked, and the waiters of another stay
+abbrev pub DropsClosedIf : {W : Type 0} → Bool → (W → Bool → Type 0) → List W → List W → Type 0
+DropsClosedIf true answers xs ys = DropsClosed answers xs ys
+DropsClosedIf false answers xs ys = ys ≡ xs
 
 -- a number, saturating at the greatest of 64 bits
 abbrev pub counted : ℕ → ℕ

@@ -1,3 +1,4 @@
+-- Believed.
 -- The reply to a subscribe, and the subscribes that wait.
 use Rattle.std.specs.Prelude.{ℕ, ◌+◌, Bool, false, not, ◌&&◌, ◌==◌, if◌then◌else◌, List, [], ◌∷◌, ◌++◌, length, map, Option, None, Some, is_none}
 use Rattle.std.specs.Option.{option_map}

@@ -2,7 +2,7 @@
 //!
 //! A call whose result has no `AllocError` does not allocate.
 ghost use Rattle.std.specs.Prelude.{◌≡◌, ◌≤◌, true, false, [], length, is_some, IsSome, IfOk, IfSome, IfErr, IsOk};
-ghost use Rattle.std.specs.List.{All, IsDistinct};
+ghost use Rattle.std.specs.List.{All, IsDistinct, count_by};
 ghost use Rattle.std.specs.Map.{keys_of};
 ghost use Rattle.std.specs.Option.{option_copied, option_map};
 ghost use Rattle.std.specs.Ordering.{eq_by_cmp};
@@ -11,6 +11,7 @@ ghost use Rattle.broadcast_core.specs.Content.{same_by};
 
 mod cache;
 mod gone;
+mod shelf;
 mod state;
 mod waiters;
 
@@ -43,9 +44,9 @@ impl<P: PublicKey, M: Digestible, W> Model for Core<P, M, W> {
 
 impl<P: PublicKey, M: Digestible, W: Drop> Core<P, M, W> {
     ghost use Rattle.std.specs.Prelude.{ℕ, ◌+◌, ◌*◌};
-    ghost use Rattle.broadcast_core.specs.Content.{has_primary, is_on_list, bytes_of, charged_at, list_at, message_at, waiting_at};
-    ghost use Rattle.broadcast_core.specs.Changes.{IsTaken, TakesPeers, Cleans, KeepsStore, IsSubscribed};
-    ghost use Rattle.broadcast_core.specs.Waiters.{NoneEmpty, waiting_in, is_gone, gone_from, DropsClosed, counted};
+    ghost use Rattle.broadcast_core.specs.Content.{among, has_primary, is_on_list, bytes_of, charged_at, list_at, message_at, waiting_at};
+    ghost use Rattle.broadcast_core.specs.Changes.{IsTaken, TakesPeers, Cleans, CleansAt, KeepsStore, IsSubscribed};
+    ghost use Rattle.broadcast_core.specs.Waiters.{NoneEmpty, waiting_in, is_gone, gone_from, DropsClosed, DropsClosedIf, counted};
 
     /// Creates an empty core for the node `own` that keeps at most `deque_size` digests a peer,
     /// which are charged at most `byte_budget` bytes together. No peer is primary yet.
@@ -259,6 +260,53 @@ impl<P: PublicKey, M: Digestible, W: Drop> Core<P, M, W> {
         ensures distinct_left { IsDistinct (eq_by_cmp M.Digest.cmp) (keys_of self.new.waiters) }
     {
         self.state.waiters.cleanup_by()
+    }
+
+    /// Drops the waiters of `digest` that are closed, asking each of them once and no other.
+    /// Returns how many.
+    pub fn cleanup_at(&mut self, digest: &M::Digest) -> u64
+    where
+        W: Closable,
+        ensures store { KeepsStore (same_by P.cmp M.Digest.cmp) self.old self.new }
+        ensures dropped { let same = same_by P.cmp M.Digest.cmp in
+            (d : _) → DropsClosedIf (same.digest digest.now d) W.may_answer
+            (waiting_at same self.old d) (waiting_at same self.new d) }
+        ensures removed { waiting_in self.new.waiters + result ≡ waiting_in self.old.waiters }
+        ensures distinct { IsDistinct (eq_by_cmp M.Digest.cmp) (keys_of self.old.waiters) }
+        ensures distinct_left { IsDistinct (eq_by_cmp M.Digest.cmp) (keys_of self.new.waiters) }
+    {
+        self.state.waiters.cleanup_at(digest)
+    }
+
+    /// Drops the waiters of the digests that are closed, asking no other. Returns how many,
+    /// saturating at `u64::MAX`. A digest may be named twice.
+    pub fn cleanup_each(&mut self, digests: &[M::Digest]) -> u64
+    where
+        W: Closable,
+        ensures store { KeepsStore (same_by P.cmp M.Digest.cmp) self.old self.new }
+        ensures dropped { let same = same_by P.cmp M.Digest.cmp in
+            (d : _) → DropsClosedIf (among same.digest d digests.now) W.may_answer
+            (waiting_at same self.old d) (waiting_at same self.new d) }
+        ensures removed { (n : ℕ) × (waiting_in self.old.waiters ≡ waiting_in self.new.waiters + n)
+            × (result ≡ counted n) }
+        ensures distinct { IsDistinct (eq_by_cmp M.Digest.cmp) (keys_of self.old.waiters) }
+        ensures distinct_left { IsDistinct (eq_by_cmp M.Digest.cmp) (keys_of self.new.waiters) }
+    {
+        self.state.waiters.cleanup_each(digests)
+    }
+
+    /// Drops the waiters of `digest` whose tickets are in `gone`, and looks at no other. Returns
+    /// how many.
+    pub fn cleanup_of(&mut self, digest: &M::Digest, gone: &[u64]) -> u64
+    where
+        W: Ticketed,
+        ensures dropped { CleansAt (same_by P.cmp M.Digest.cmp) digest.now
+            (is_gone W.ticket_of gone.now) self.old self.new }
+        ensures removed { let same = same_by P.cmp M.Digest.cmp in
+            result ≡ count_by (is_gone W.ticket_of gone.now)
+            (waiting_at same self.old digest.now) }
+    {
+        self.state.waiters.cleanup_of(digest, gone)
     }
 
     /// Drops all waiters. Everything else stays.

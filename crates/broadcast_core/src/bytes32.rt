@@ -1,4 +1,4 @@
-//! What keys and digests of 32 bytes share.
+//! The 32 bytes of a key or a digest.
 ghost use Rattle.std.specs.Prelude.{◌≡◌};
 ghost use Rattle.std.specs.Cmp.Lexicographic.{slice_cmp};
 ghost use Rattle.std.specs.Ordering.{nat_cmp};

@@ -7,6 +7,7 @@ ghost use Rattle.broadcast_core.specs.Codec.{Appends, IsRefusal, layout_of, whol
 use std::alloc::{AllocError, Global};
 use thiserror::Error;
 
+pub mod blocks;
 pub mod byte_list;
 
 /// The reason why bytes do not decode, or a message does not encode.

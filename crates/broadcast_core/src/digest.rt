@@ -1,5 +1,6 @@
 //! Digests of 32 bytes.
-ghost use Rattle.std.specs.Prelude.{◌≡◌, Some, refl};
+ghost use Rattle.std.specs.Prelude.{◌≡◌, map, Some, refl};
+ghost use Rattle.std.specs.List.{concat};
 ghost use Rattle.std.specs.Cmp.Lexicographic.{slice_cmp, nat_list_cmp_total, texts_po, texts_ties};
 ghost use Rattle.std.specs.Ordering.{nat_cmp};
 ghost use Rattle.sha2.specs.Sha256.{sha256};
@@ -36,6 +37,19 @@ impl Digest {
     {
         Digest {
             bytes: Sha256::digest(bytes),
+        }
+    }
+
+    /// Computes the SHA-256 of the pieces, one after the other. Does not allocate.
+    pub fn sha256_of(pieces: &[&[u8]]) -> Self
+        ensures { result ≡ sha256 (concat (map (λ piece. piece.now) pieces.now)) }
+    {
+        let mut hasher = Sha256::new();
+        for piece in pieces {
+            hasher.update(piece);
+        }
+        Digest {
+            bytes: hasher.finalize(),
         }
     }
 }

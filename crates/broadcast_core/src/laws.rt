@@ -1,15 +1,24 @@
-//! The laws of a list.
-ghost use Rattle.std.specs.Prelude.{◌≡◌, ◌≤◌, ◌↔◌, ℕ, Bool, true, List};
+//! Laws of lists, of the cache, of answers and of the codec, which a caller cites by calling them.
+//! They do nothing when they run.
+ghost use Rattle.std.specs.Prelude.{◌≡◌, ◌≤◌, ◌↔◌, ◌⊎◌, ℕ, Bool, true, List, ◌∷◌, Option, Some, is_some, Ok};
+ghost use Rattle.broadcast_core.specs.Codec.{whole};
 ghost use Rattle.std.specs.Cmp.{IsEquivalence};
 ghost use Rattle.entries.specs.declared.entry.Charged.{Charged};
-ghost use Rattle.broadcast_core.specs.Content.{bytes_of};
+ghost use Rattle.broadcast_core.specs.Carried.{Carried};
+ghost use Rattle.broadcast_core.specs.Content.{bytes_of, same_by};
 ghost use Rattle.broadcast_core.specs.Company.{has_stayed};
 ghost use Rattle.broadcast_core.specs.Setting.{Setting};
-ghost use Rattle.broadcast_core.specs.Happening.{History};
+ghost use Rattle.broadcast_core.specs.Happening.{History, Future, get};
 ghost use Rattle.broadcast_core.specs.Peers.{since};
 ghost use Rattle.broadcast_core.specs.Lists.{charged_list, list};
+ghost use Rattle.broadcast_core.specs.Cache.{is_listed, message};
+ghost use Rattle.broadcast_core.specs.Waiting.{Awaiting, Reply, reply};
+ghost use Rattle.broadcast_core.specs.Log.{Log};
+ghost use Rattle.broadcast_core.specs.HasRun.{IsAnswered};
+ghost use Rattle.broadcast_core.specs.TakenLaw.{IsFrom, FoundWasTaken};
 ghost use Rattle.broadcast_core.specs.ListLaw.{FitTogether, HasAlwaysFitted, last_distinct, messages_under};
 
+use crate::codec::Codec;
 use crate::digested::Digestible;
 use crate::ordered::PublicKey;
 
@@ -29,4 +38,50 @@ pub fn list_law<P: PublicKey, M: Digestible, W, V>()
         → (size budget : ℕ) (c : Charged M.Digest) (takings : List (Charged M.Digest))
         → (has_stayed same size budget c takings ≡ true)
         ↔ HasAlwaysFitted same size budget c takings }
+{}
+
+/// Proves that the equalities of an order of keys and of an order of digests are equivalences, as
+/// the other laws ask.
+pub fn same_law<P: Ord, D: Ord>()
+    ensures key { IsEquivalence (same_by P.cmp D.cmp).key }
+    ensures digest { IsEquivalence (same_by P.cmp D.cmp).digest }
+{}
+
+/// Proves what follows from the definition of the cache, for every history.
+///
+/// A cached message was taken before, and goes by the digest under which it is cached. A digest has
+/// a cached message if and only if it is listed.
+pub fn cache_law<P: PublicKey, M: Digestible, W, V>()
+    ensures was_taken { (s : Setting P M M.Digest) → IsEquivalence s.same.key
+        → IsEquivalence s.same.digest → (past : History P M M.Digest W V) (d : M.Digest)
+        (c : Carried M M.Digest) → message s d past ≡ Some c → IsFrom s d past c }
+    ensures if_listed { (s : Setting P M M.Digest) → IsEquivalence s.same.key
+        → (past : History P M M.Digest W V) (d : M.Digest)
+        → is_some (message s d past) ≡ is_listed s d past }
+{}
+
+/// Proves what follows from the definitions of the replies, for every history.
+///
+/// The message with which a get is answered was taken before, and goes by the digest that was
+/// asked for. The reply to a subscribe was taken before the subscribe or after it, and goes by its
+/// digest. Each message that the answers of a run find was taken by an earlier event.
+pub fn answer_law<P: PublicKey, M: Digestible, W, V>()
+    ensures to_get { (s : Setting P M M.Digest) → IsEquivalence s.same.key
+        → IsEquivalence s.same.digest → (past : History P M M.Digest W V) (v : V) (d : M.Digest)
+        (c : Carried M M.Digest) → message s d (get v d ∷ past) ≡ Some c → IsFrom s d past c }
+    ensures to_subscribe { (s : Setting P M M.Digest) → IsEquivalence s.same.key
+        → IsEquivalence s.same.digest → (w : Awaiting W M.Digest)
+        (past : History P M M.Digest W V) (after : Future P M M.Digest W V)
+        (r : Reply M M.Digest) → reply s w past after ≡ Some r
+        → IsFrom s w.digest past r.1 ⊎ IsFrom s w.digest after r.1 }
+    ensures found { (s : Setting P M M.Digest) → IsEquivalence s.same.key
+        → IsEquivalence s.same.digest → (log : Log P M M.Digest) → IsAnswered s log
+        → FoundWasTaken s log }
+{}
+
+/// Proves that bytes which encode a message decode to that message, if they decode.
+pub fn codec_law<M: Codec>()
+    ensures { (cfg : M.Cfg) (message decoded : M) (bytes : List ℕ)
+        → M.encoding message ≡ Some bytes → whole (M.reading cfg) bytes ≡ Ok decoded
+        → decoded ≡ message }
 {}

@@ -1,5 +1,6 @@
+-- Believed.
 -- What is counted of the requests that are made through tallies.
-use Rattle.std.specs.Prelude.{◌≡◌, ℕ, ◌+◌, ◌-◌, ◌^◌, min, if◌then◌else◌, ◌&&◌, Bool, true, false}
+use Rattle.std.specs.Prelude.{ℕ, ◌+◌, ◌-◌, ◌^◌, min, if◌then◌else◌, ◌&&◌, Bool, true, false}
 use Rattle.std.specs.Prelude.{Option, None, Some, Result, Ok, Err}
 use Rattle.broadcast_mailbox.specs.declared.buffered.ingress.request.Request.{Request}
 use Rattle.broadcast_mailbox.specs.declared.buffered.ingress.queued.Queued.{Queued}
@@ -43,10 +44,6 @@ is_taken_up (Err error) = false
 abbrev pub tallied : Bool → Bool → TallyState → TallyState
 tallied counted accepted tally =
     record tally { accepted = tally.accepted + one_if (counted && accepted) }
-
--- a tally before and after a call, which counts one request if it was accepted and matches the watch
-abbrev pub MayCount : Bool → TallyState → TallyState → Type 0
-MayCount counted old new = (accepted : Bool) × (new ≡ tallied counted accepted old)
 
 -- how many counted requests a take with this result takes
 abbrev pub counted_of : {T : Type 0} → Option (Request T) → ℕ

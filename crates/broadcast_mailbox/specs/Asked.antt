@@ -1,5 +1,6 @@
+-- Believed.
 -- What the future of a request gives, for the digest that was asked for.
-use Rattle.std.specs.Prelude.{◌≡◌, ℕ, true, if◌then◌else◌}
+use Rattle.std.specs.Prelude.{◌≡◌, ℕ, Bool, true, if◌then◌else◌}
 use Rattle.std.specs.Prelude.{Option, None, Some, Result, Ok, Err, ok_or}
 use Rattle.std.specs.Ordering.{eq_by_cmp}
 use Rattle.std.specs.declared.cmp.Ordering.{Ordering}
@@ -8,10 +9,13 @@ use Rattle.futures.specs.declared.task.Poll.TheVariants.{Ready, Pending}
 use Rattle.futures.specs.declared.channel.oneshot.Canceled.{Canceled}
 use Rattle.broadcast_core.specs.Carried.{Carried}
 
--- the digest that was asked for, and the source that fires once the reply is sent or never will be
+-- the digest that was asked for, the source that fires once the reply is sent or never will be,
+-- whether the mailbox accepted the request, and whether the future has given its result
 pub record Asked (D : Type 0) : Type 0 where
   pub digest : D
   pub source : ℕ
+  pub accepted : Bool
+  pub done : Bool
 
 module _ {M D : Type 0} (cmp : D → D → Ordering) where
   -- the message goes by the digest

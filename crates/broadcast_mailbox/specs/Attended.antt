@@ -1,3 +1,4 @@
+-- Believed.
 -- What a poll of an inbox takes.
 use Rattle.std.specs.Prelude.{Option, None, Some}
 use Rattle.futures.specs.declared.task.Poll.{Poll}

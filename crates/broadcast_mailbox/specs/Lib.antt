@@ -6,11 +6,11 @@ pub mod Skips
 pub mod Mailbox
 pub mod Tickets
 pub mod Asked
-pub mod Waited
 pub mod Attended
 pub mod Watch
 pub mod Account
 pub mod Ends
+pub mod Told
 pub use Rattle.broadcast_core.specs.Carried
 pub use Rattle.broadcast_core.specs.ByteList
 pub use Rattle.broadcast_core.specs.Codec

@@ -1,3 +1,4 @@
+-- Believed.
 -- The state of a mailbox, and what each call may return and leave.
 use Rattle.std.specs.Prelude.{◌≡◌, ℕ, ◌+◌, Bool, true, false, List, length, Option, None, Some}
 use Rattle.std.specs.Prelude.{Result, Ok}

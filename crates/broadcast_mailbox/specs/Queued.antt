@@ -1,3 +1,4 @@
+-- Believed.
 -- What the caller of a broadcast is told.
 use Rattle.std.specs.Prelude.{Result, Ok, Err}
 use Rattle.broadcast_mailbox.specs.declared.buffered.ingress.queued.Queued.{Queued}

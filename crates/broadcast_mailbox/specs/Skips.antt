@@ -1,3 +1,4 @@
+-- Internal.
 -- How many requests were skipped.
 use Rattle.std.specs.Prelude.{◌≡◌, List, length}
 use Rattle.broadcast_mailbox.specs.declared.buffered.ingress.request.Request.{Request}

@@ -1,3 +1,4 @@
+-- Believed.
 -- What becomes of each ticket, over any list of calls.
 use Rattle.std.specs.Prelude.{◌≡◌, ℕ, ◌+◌, ◌==◌, if◌then◌else◌, Bool, List, [], ◌∷◌, ◌++◌, length}
 use Rattle.std.specs.Prelude.{Option, Some, Result, Ok, Contains}

@@ -1,3 +1,4 @@
+-- Believed.
 -- Which requests a watch matches.
 use Rattle.std.specs.Prelude.{◌≡◌, Bool, true, false}
 use Rattle.broadcast_mailbox.specs.declared.buffered.ingress.message.Message.{Message}

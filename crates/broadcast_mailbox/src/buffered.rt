@@ -1,7 +1,9 @@
 //! The mailbox of a node that keeps the latest messages of each peer.
 mod ingress;
 
+pub use ingress::abandoned::Abandoned;
 pub use ingress::account::{Account, Bookkeeping};
+pub use ingress::bell::Answering;
 pub use ingress::books::{Books, Taker};
 pub use ingress::get::Get;
 pub use ingress::inbox::Inbox;
@@ -10,7 +12,7 @@ pub use ingress::laws::ticket_law;
 pub use ingress::mailbox::{
     Incoming, Mailbox, WatchedEnds, WatchedMailbox, channel, watched_channel,
 };
-pub use ingress::message::{Awaits, Message};
+pub use ingress::message::{Awaits, Message, Named};
 pub use ingress::overflow::{Overflow, Policy};
 pub use ingress::pending::Pending;
 pub use ingress::queued::{Counts, Queued};

@@ -1,3 +1,4 @@
+// SPDX-License-Identifier: Apache-2.0
 //! Broadcasts messages to peers: the mailbox through which callers on any thread reach a node.
 #![tactic(auto)]
 

@@ -1,3 +1,4 @@
+-- Believed.
 -- The counters of an engine as a page: OpenMetrics text.
 use Rattle.std.specs.Prelude.{ℕ, List, [], ◌∷◌, ◌++◌, codes}
 use Rattle.std.specs.List.{flat_map}

@@ -1,3 +1,4 @@
+// SPDX-License-Identifier: Apache-2.0
 //! The counters of an engine as a page that a monitoring system reads: OpenMetrics text.
 #![tactic(auto)]
 

@@ -1,3 +1,4 @@
+-- Believed.
 -- What a broadcaster answers that is handed messages one after the other.
 use Rattle.std.specs.Prelude.{◌≡◌, List, [], ◌∷◌, Option, None, Some, Result, Ok, Err}
 use Rattle.broadcast_mailbox.specs.declared.broadcaster.Feedback.{Feedback}

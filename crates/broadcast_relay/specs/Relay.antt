@@ -1,3 +1,4 @@
+-- Believed.
 -- The relay: the messages that replied to subscribes, each digest once.
 use Rattle.std.specs.Prelude.{Bool, List, [], ◌∷◌, ◌++◌}
 use Rattle.std.specs.Option.{option_to_list}

@@ -1,3 +1,4 @@
+-- Believed.
 -- The relay of answers, and what a run gives of it.
 use Rattle.std.specs.Prelude.{◌≡◌, ℕ, ◌+◌, ◌==◌, Bool, true, if◌then◌else◌, List, [], ◌∷◌, ◌++◌, length, reverse}
 use Rattle.std.specs.List.{flat_map, list_any}

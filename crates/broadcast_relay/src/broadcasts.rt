@@ -7,7 +7,7 @@ use broadcast_core::Recipients;
 use broadcast_mailbox::{Broadcaster, Feedback, MailboxError};
 use std::alloc::{AllocError, Global};
 
-/// What a broadcaster answered.
+/// The answers of a broadcaster.
 #[derive(Debug, PartialEq, Eq, Drop)]
 pub struct Relayed {
     /// The feedback for each message that was handed over, in order. After a `Closed` no message

@@ -1,3 +1,4 @@
+// SPDX-License-Identifier: Apache-2.0
 //! The relay of a node: the messages with which its subscribes were answered, to be broadcast on
 //! another network.
 //!

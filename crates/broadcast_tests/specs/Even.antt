@@ -1,3 +1,4 @@
+-- Internal.
 -- Even numbers as bytes.
 use Rattle.std.proofs.Common.{◌≡◌, ℕ, ◌%◌, ◌≤◌, if◌then◌else◌, ◌==◌, Bool, true, false, List, [], ◌∷◌, ◌++◌, length, Option, Some, None, Result, Ok, Err, sym, ap, ◌∙◌, subst, arith}
 use Rattle.broadcast_core.specs.Codec.{IsRefusal}

@@ -1,3 +1,4 @@
+-- Internal.
 -- Worked examples, computed by the definitions. A message is a pair of numbers, of which the second
 -- is its digest. Its encoding is both, and as many zeros as the first says.
 use Rattle.std.specs.Prelude.{◌≡◌, ◌^◌, ◌-◌, ℕ, zero, suc, ◌==◌, false, List, [], ◌∷◌, map, None, Some, Result, Ok, Err}

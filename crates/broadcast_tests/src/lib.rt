@@ -1,7 +1,10 @@
+// SPDX-License-Identifier: Apache-2.0
 //! Tests of the cache, its codec and runs, of the mailbox, of pages, of relays, and of the programs
 //! over their streams.
 #![tactic(auto)]
 
+#[cfg(test)]
+mod blocks;
 #[cfg(test)]
 mod codec;
 #[cfg(test)]

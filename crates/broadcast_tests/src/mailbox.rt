@@ -9,5 +9,6 @@ mod overflow;
 mod polls;
 mod relays;
 mod replies;
+mod tallied;
 mod threads;
 mod tickets;

@@ -1,7 +1,7 @@
-//! Takings that find no memory for a copy of their key.
+//! Takings that find no memory for a copy of their key, alone and in a run.
 use crate::even::Even;
 use crate::key::Key;
-use broadcast_core::{Core, Digested, Set};
+use broadcast_core::{Answer, Cause, Core, Digested, Event, Items, Set, run};
 use std::alloc::{AllocError, Global};
 use std::test::Fail;
 
@@ -69,5 +69,41 @@ fn shown_by(
 #[test]
 fn refused_take_changes_nothing(rt: HostRuntime) -> Result<(), Fail> {
     assert_eq!(rt; shown(rt.alloc())?, (true, [0, 0, 0, 1], true));
+    Ok(())
+}
+
+/// Returns a payload of the key with the message whose digest is 4.
+fn payload(alloc: Global, key: Key) -> Result<Event<Key, Even>, AllocError> {
+    Ok(Event::Payload(key, Items::from_vec(Vec::from_slice(alloc, &[4])?)))
+}
+
+/// Events of which the third finds no memory.
+fn events(alloc: Global) -> Result<Vec<Event<Key, Even>>, AllocError> {
+    let mut events = Vec::with_capacity(alloc, 4)?;
+    events.push(Event::Peers(primary(alloc)?))?;
+    events.push(Event::Subscribe(7, 4))?;
+    events.push(payload(alloc, without_copies(1))?)?;
+    events.push(payload(alloc, Key::new(1))?)?;
+    Ok(events)
+}
+
+/// Returns whether these are the answers: the refused payload serves nobody, and the next one does.
+fn are_answers(answers: &[Answer<Even>]) -> bool {
+    match answers {
+        [
+            Answer::Peers,
+            Answer::Waiting,
+            Answer::Refused(Cause::Memory),
+            Answer::Taken { served, .. },
+        ] => { served.as_slice() == [7].as_slice() }
+        _ => false,
+    }
+}
+
+#[test]
+fn a_run_goes_on_after_a_refused_event(rt: HostRuntime) -> Result<(), Fail> {
+    let alloc = rt.alloc();
+    let ran = run(alloc, Key::new(0), 2, u64::MAX, false, &(), events(alloc)?)?;
+    assert!(rt; are_answers(ran.answers.as_slice()));
     Ok(())
 }

@@ -53,6 +53,12 @@ enum Call {
     Bytes(u64, u64),
     Cleanup(&'static [u64], u64),
     CleanupBy(u64),
+    /// A cleanup of the digest's tickets.
+    CleanupOf(u8, &'static [u64], u64),
+    /// A cleanup of those who wait for the digest.
+    CleanupAt(u8, u64),
+    /// A cleanup of those who wait for one of the digests.
+    CleanupEach(&'static [u8], u64),
     ClearWaiters,
     /// The answer is the numbers of cached and of awaited digests, and of the waiters of 2 and 4.
     Sizes([usize; 4]),
@@ -63,7 +69,7 @@ enum Call {
 }
 
 /// Calls on a core of the own key 1, whose lists have at most two digests.
-static CALLS: [Call; 59] = [
+static CALLS: [Call; 84] = [
     Call::Peers(&[3, 1]),
     Call::Subscribe(2, 70, false, None),
     Call::Subscribe(2, 50, true, None),
@@ -129,6 +135,34 @@ static CALLS: [Call; 59] = [
     Call::ClearWaiters,
     Call::Alive(1),
     Call::Sizes([1, 0, 0, 0]),
+    // Those of one digest, by ticket: the others of the ticket stay, and nobody is asked.
+    Call::Subscribe(2, 1, true, None),
+    Call::Subscribe(2, 2, false, None),
+    Call::Subscribe(2, 1, false, None),
+    Call::Subscribe(4, 1, true, None),
+    Call::Subscribe(8, 3, true, None),
+    Call::CleanupOf(6, &[1, 2, 3], 0),
+    Call::CleanupOf(4, &[2, 3], 0),
+    Call::CleanupOf(8, &[3, 3], 1),
+    Call::Sizes([1, 2, 3, 1]),
+    Call::CleanupOf(2, &[4, 2], 1),
+    Call::Sizes([1, 2, 2, 1]),
+    Call::Asked(7),
+    // Those of one digest are asked, and no other.
+    Call::CleanupAt(6, 0),
+    Call::CleanupAt(2, 1),
+    Call::Asked(9),
+    Call::Sizes([1, 2, 1, 1]),
+    Call::CleanupEach(&[], 0),
+    Call::CleanupEach(&[6, 2], 0),
+    Call::Asked(10),
+    // A digest that is named twice.
+    Call::CleanupEach(&[4, 2, 4, 2], 1),
+    Call::Asked(13),
+    Call::Sizes([1, 1, 1, 0]),
+    Call::Take(5, 2, Outcome::Ineligible, &[1]),
+    Call::Alive(1),
+    Call::Sizes([1, 0, 0, 0]),
 ];
 
 fn calls() -> &'static [Call] {
@@ -174,6 +208,11 @@ impl Room {
             Call::Bytes(key, bytes) => self.core.bytes(&key) == bytes,
             Call::Cleanup(gone, removed) => self.core.cleanup(gone) == removed,
             Call::CleanupBy(removed) => self.core.cleanup_by() == removed,
+            Call::CleanupOf(digest, gone, removed) => {
+                self.core.cleanup_of(&digest, gone) == removed
+            }
+            Call::CleanupAt(digest, removed) => self.core.cleanup_at(&digest) == removed,
+            Call::CleanupEach(digests, removed) => self.core.cleanup_each(digests) == removed,
             Call::ClearWaiters => self.clear_waiters(),
             Call::Sizes(sizes) => self.sizes() == sizes,
             Call::Alive(alive) => Rc::strong_count(&self.asked) == alive,

@@ -1,3 +1,4 @@
+-- Believed.
 -- How a run of a program ends.
 use Rattle.std.specs.Prelude.{List, ℕ, ◌++◌, codes}
 use Rattle.std.specs.Fmt.{decimal}

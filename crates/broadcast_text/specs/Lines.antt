@@ -1,3 +1,4 @@
+-- Believed.
 -- How a text is made of lines, and what is read of them.
 use Rattle.std.specs.Prelude.{List, ℕ, Option, None, Some, Result, IfOk, IfErr, [], ◌∷◌, ◌++◌, ◌+◌, ◌≡◌, ◌≢◌, ◌⊎◌, ◌==◌, if◌then◌else◌, ⊤, All, length}
 use Rattle.std.specs.List.{onto_first}

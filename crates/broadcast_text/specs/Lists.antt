@@ -1,3 +1,4 @@
+-- Believed.
 -- How the lists of a cache are printed.
 use Rattle.std.specs.Prelude.{List, ℕ, [], ◌∷◌, codes, map, Option, None, Some}
 use Rattle.std.specs.List.{flat_map}

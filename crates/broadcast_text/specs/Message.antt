@@ -1,3 +1,4 @@
+-- Believed.
 -- How a message is spelled.
 use Rattle.std.specs.Prelude.{List, ℕ, [], ◌∷◌, ◌++◌, Option, None, Some, IfSome, codes, unwrap_or}
 use Rattle.sha2.specs.Sha256.{sha256}

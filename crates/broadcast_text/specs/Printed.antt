@@ -1,3 +1,4 @@
+-- Believed.
 -- How answers are printed.
 use Rattle.std.specs.Prelude.{List, ℕ, [], ◌∷◌, ◌++◌, codes, map, None, Some}
 use Rattle.std.specs.List.{flat_map}

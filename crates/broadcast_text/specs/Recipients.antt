@@ -1,3 +1,4 @@
+-- Believed.
 -- How recipients are spelled.
 use Rattle.std.specs.Prelude.{List, ℕ, [], ◌∷◌, ◌++◌, ◌≡◌, ◌<◌, ◌^◌, All, codes, length, map}
 use Rattle.std.specs.Fmt.{decimal}

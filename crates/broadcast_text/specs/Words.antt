@@ -1,3 +1,4 @@
+-- Believed.
 -- How the words of a line are spelled.
 use Rattle.std.specs.Prelude.{List, ℕ, Bool, [], ◌∷◌, ◌*◌, ◌==◌, if◌then◌else◌, ◌≡◌, ◌<◌, ◌≤◌, ◌^◌, All, codes, length, map, slice_index, take}
 use Rattle.std.specs.List.{slice_split}

@@ -1,4 +1,4 @@
-//! What ends a run of a program.
+//! The faults of the programs.
 ghost use Rattle.std.specs.Prelude.{◌≡◌};
 ghost use Rattle.broadcast_text.specs.FaultText.{fault_status};
 ghost use Rattle.broadcast_text.specs.declared.fault.Fault.TheVariants.{Memory};
@@ -7,7 +7,7 @@ use std::alloc::AllocError;
 use std::fmt::{self, Display, Formatter};
 use std::io::Write;
 
-/// What ends a run of a program. Its text is that of standard error.
+/// A fault, which ends a run of a program. Its text is that of standard error.
 #[derive(Clone, Copy, Debug, PartialEq, Eq)]
 pub enum Fault {
     /// The arguments are wrong. The text is the program's usage line.

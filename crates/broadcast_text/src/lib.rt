@@ -1,3 +1,4 @@
+// SPDX-License-Identifier: Apache-2.0
 //! Text of the programs: arguments, words and numbers, byte lists, recipients, lines, messages,
 //! answers and faults.
 #![tactic(auto)]

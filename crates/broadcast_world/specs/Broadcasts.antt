@@ -1,3 +1,4 @@
+-- Believed.
 -- What was broadcast in a world, and to which nodes.
 use Rattle.std.specs.Prelude.{◌≡◌, ℕ, Bool, true, false, ◌&&◌, List, [], ◌∷◌, ◌++◌, Option, None, Some}
 use Rattle.std.specs.List.{AllZip, list_any}

@@ -1,3 +1,4 @@
+-- Believed.
 -- What a world is made with, and how its nodes are looked up.
 use Rattle.std.specs.Prelude.{◌≡◌, ℕ, IsTrue, Bool, false, ◌||◌, List, [], ◌∷◌, Option}
 use Rattle.std.specs.List.{AllZip, find, list_any, zip}

@@ -1,3 +1,4 @@
+-- Believed.
 -- A packet: the encoding of a broadcast, on its way to one node.
 use Rattle.std.specs.Prelude.{ℕ, List}
 

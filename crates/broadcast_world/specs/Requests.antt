@@ -1,3 +1,4 @@
+-- Believed.
 -- Requests of a run, which are its gets and subscribes, and the answers that they have so far.
 use Rattle.std.specs.Prelude.{◌≡◌, ℕ, ◌-◌, Bool, true, false, List, [], ◌∷◌, ◌++◌, length, reverse, Option, None, Some, ◌⊎◌}
 use Rattle.std.specs.Option.{option_map}

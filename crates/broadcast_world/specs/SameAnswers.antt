@@ -1,3 +1,4 @@
+-- Believed.
 -- The answers of two runs: that of all steps, and the clean one.
 use Rattle.std.specs.Prelude.{◌≡◌, ℕ, Bool, true, false, ◌&&◌, List, ◌∷◌, ◌++◌, None, Some, Result, Ok, Err}
 use Rattle.std.specs.List.{list_any}

@@ -1,3 +1,4 @@
+-- Believed.
 -- What a world is made of.
 use Rattle.std.specs.Prelude.{ℕ, List}
 use Rattle.broadcast_core.specs.Content.{Content}

@@ -1,3 +1,4 @@
+-- Believed.
 -- What steps leave of a world.
 use Rattle.std.specs.Prelude.{◌≡◌, ℕ, IsTrue, if◌then◌else◌, List, ◌∷◌, ◌++◌, length, Option, None, Some, slice_set}
 use Rattle.std.specs.List.{AllZip, slice_get}

@@ -1,3 +1,4 @@
+-- Believed.
 -- Two runs: that of all steps, and the clean one, of the steps without the hostile ones.
 use Rattle.std.specs.Prelude.{◌≡◌, ℕ, ◌*◌, ◌≤◌, Bool, true, false, not, ◌||◌, List, [], ◌++◌, length, map}
 use Rattle.std.specs.List.{filter, list_any}

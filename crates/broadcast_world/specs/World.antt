@@ -1,3 +1,4 @@
+-- Believed.
 -- Which event each step gives a node, which packets are sent, and what the nodes answer.
 use Rattle.std.specs.Prelude.{◌≡◌, ℕ, Bool, true, false, if◌then◌else◌, IsTrue, List, [], ◌∷◌, ◌++◌, map, reverse, Option, None, Some, ◌⊎◌}
 use Rattle.std.specs.Option.{option_map}

@@ -1,3 +1,4 @@
+// SPDX-License-Identifier: Apache-2.0
 //! Many nodes and a hostile network, step by step.
 #![tactic(auto)]
 

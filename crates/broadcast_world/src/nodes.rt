@@ -65,7 +65,7 @@ impl<P: PublicKey> Nodes<P> {
         WorldAnswer::Given(node::peers(&mut self.cores[place], peers))
     }
 
-    /// Takes the bytes under the peer's key at the node. Both keys may be copies of those meant.
+    /// Takes the bytes under the peer's key at the node. Keys are compared by value.
     pub fn payload(
         &mut self,
         alloc: Global,
@@ -88,7 +88,7 @@ impl<P: PublicKey> Nodes<P> {
     }
 
     /// Takes the message that the bytes of the encoding decode to under the peer's key at the node.
-    /// Both keys may be copies of those meant.
+    /// Keys are compared by value.
     pub fn delivery(
         &mut self,
         range: &RangeCfg,

@@ -1,3 +1,4 @@
+-- Believed.
 -- How the calls of a cache and the events of a node change them.
 use Rattle.std.specs.Prelude.{◌≡◌, ℕ, Bool, false, if◌then◌else◌, List, [], Ok, Option, Some, None}
 use Rattle.std.specs.List.{list_any}
@@ -11,6 +12,7 @@ use Rattle.broadcast_core.specs.HasRun.{Follows}
 use Rattle.broadcast_core.specs.Setting.{Setting, setting}
 use Rattle.broadcast_core.specs.declared.event.Answer.{Answer}
 use Rattle.broadcast_core.specs.declared.event.Answer.TheVariants as answer
+use Rattle.broadcast_core.specs.declared.event.Cause.{Cause}
 use Rattle.broadcast_core.specs.declared.event.Event.{Event}
 use Rattle.broadcast_core.specs.declared.ordered.Key.{Key}
 use Rattle.broadcast_core.specs.declared.ordered.Recipients.{Recipients}
@@ -43,6 +45,11 @@ pub record HasApplied (same : Same Key (List ℕ)) (event : Event Key (List ℕ)
   pub follows : Follows (setting_of same old) event old.core new.core new.answer
       (option_to_list new.packet)
   pub lengths : new.lengths ≡ old.lengths
+
+-- the event may be refused, and then nothing follows from it
+abbrev pub MayRefuse : Same Key (List ℕ) → Event Key (List ℕ) (List ℕ) → Node → Type 0
+MayRefuse same event node = (cause : Cause)
+    × Follows (setting_of same node) event node.core node.core (answer.Refused cause) []
 
 -- all peers, or these
 abbrev pub recipients_of : Bool → List Key → Recipients Key

@@ -1,2 +1,4 @@
 pub mod Blob
 pub mod Changes
+pub mod Counting
+pub mod Held

@@ -2,8 +2,9 @@
 ghost use Rattle.std.specs.Prelude.{◌≡◌, List, [], IfOk, OnErr, OnOk, is_some, true, false, None};
 ghost use Rattle.std.specs.Option.{option_map, option_copied};
 ghost use Rattle.sha2.specs.Sha256.{sha256};
-ghost use Rattle.broadcast_core.specs.Content.{same_by, message_at};
-ghost use Rattle.broadcast_core.specs.Changes.{TakesPeers, Cleans, Awaits};
+ghost use Rattle.broadcast_core.specs.Content.{same_by, message_at, waiting_at};
+ghost use Rattle.std.specs.List.{count_by};
+ghost use Rattle.broadcast_core.specs.Changes.{TakesPeers, Cleans, CleansAt, Awaits};
 ghost use Rattle.broadcast_core.specs.Waiters.{is_gone, gone_from, counted};
 ghost use Rattle.byte_cache.specs.Changes.{HaveSameKeys, TakesBytes};
 
@@ -48,6 +49,7 @@ impl Cache {
         ensures taken { let same = same_by ⟦<Key as Ord>⟧.cmp ⟦<Digest as Ord>⟧.cmp in
             OnOk result ((set : List Key) × HaveSameKeys same set keys.now
             × TakesPeers same set self.old.core self.new.core) }
+        ensures served { self.new.served ≡ self.old.served }
         ensures refused { OnErr result (self.new ≡ self.old) }
     {
         let peers = Set::from_iter_dedup(Vec::from_slice(alloc, keys)?)?;
@@ -152,5 +154,17 @@ impl Cache {
         ensures served { self.new.served ≡ self.old.served }
     {
         self.core.cleanup(tickets)
+    }
+
+    /// Drops the waiters of `digest` with these tickets, and looks at no other. Returns how many.
+    pub fn cleanup_of(&mut self, digest: &Digest, tickets: &[u64]) -> u64
+        ensures removed { let same = same_by ⟦<Key as Ord>⟧.cmp ⟦<Digest as Ord>⟧.cmp in
+            result ≡ count_by (is_gone (λ t. t) tickets.now)
+            (waiting_at same self.old.core digest.now) }
+        ensures dropped { let same = same_by ⟦<Key as Ord>⟧.cmp ⟦<Digest as Ord>⟧.cmp in
+            CleansAt same digest.now (is_gone (λ t. t) tickets.now) self.old.core self.new.core }
+        ensures served { self.new.served ≡ self.old.served }
+    {
+        self.core.cleanup_of(digest, tickets)
     }
 }

@@ -1,22 +1,25 @@
 //! A node that broadcasts messages, without a network of its own.
-ghost use Rattle.std.specs.Prelude.{◌≡◌, List, [], IfOk, OnErr, OnOk, None};
+ghost use Rattle.std.specs.Prelude.{◌≡◌, ◌↔◌, List, [], IfOk, OnErr, OnOk, None, Err, false};
 ghost use Rattle.std.specs.Option.{option_copied};
 ghost use Rattle.sha2.specs.Sha256.{sha256};
 ghost use Rattle.broadcast_core.specs.Content.{same_by};
+ghost use Rattle.broadcast_core.specs.Log.{is_refused};
 ghost use Rattle.broadcast_core.specs.declared.event.Event.TheVariants as event;
 ghost use Rattle.broadcast_core.specs.declared.event.Answer.TheVariants as answer;
-ghost use Rattle.byte_cache.specs.Changes.{HasApplied, HaveSameKeys, message_of, recipients_of, served_of};
+ghost use Rattle.byte_cache.specs.Blob.{encoding_of};
 
 use crate::blob::Blob;
-use broadcast_core::runner::apply::apply;
+use broadcast_core::runner::apply::{apply, payload};
 use broadcast_core::{
-    Answer, Core, Digest, Digested, Event, Items, Key, RangeCfg, Recipients, Sent, Set,
+    Answer, Cause, Core, Digest, Digested, Event, Items, Key, RangeCfg, Recipients, Sent, Set,
+    byte_list,
 };
 use std::alloc::{AllocError, Global};
 
 /// A node that is handed events. It keeps the answer to the last one and what that one sends.
 ///
-/// After an `Err`, which is an allocation failure, nothing has changed.
+/// An event that is refused leaves everything as it was, the last answer too. `AllocError` is an
+/// allocation failure.
 #[derive(Drop)]
 pub struct Node {
     /// The lists, the messages and the waiters, which are tickets.
@@ -27,9 +30,12 @@ pub struct Node {
     pub answer: Answer<Blob>,
     /// What the last event sends.
     pub packet: Option<Sent<Key>>,
+    ghost not_refused: { is_refused answer ≡ false },
 }
 
 impl Node {
+    ghost use Rattle.byte_cache.specs.Changes.{HasApplied, HaveSameKeys, MayRefuse, message_of, recipients_of, served_of};
+
     /// Creates a node with the key `own` that keeps at most `deque_size` digests a peer, which are
     /// charged at most `byte_budget` bytes together. It decodes messages of at most `max_len`
     /// bytes.
@@ -56,13 +62,19 @@ impl Node {
     }
 
     // Applies the event, and keeps its answer and what it sends.
-    fn apply(&mut self, alloc: Global, event: Event<Key, Blob>)
-        ensures { let same = same_by ⟦<Key as Ord>⟧.cmp ⟦<Digest as Ord>⟧.cmp in
-            HasApplied same event self.old self.new }
+    fn apply(&mut self, alloc: Global, event: Event<Key, Blob>) -> Result<(), AllocError>
+        ensures applied { let same = same_by ⟦<Key as Ord>⟧.cmp ⟦<Digest as Ord>⟧.cmp in
+            OnOk result (HasApplied same event self.old self.new) }
+        ensures refused { let same = same_by ⟦<Key as Ord>⟧.cmp ⟦<Digest as Ord>⟧.cmp in
+            OnErr result ((self.new ≡ self.old) × MayRefuse same event self.old) }
     {
         let (answer, packet) = apply(alloc, &mut self.core, false, &self.lengths, event);
+        if let Answer::Refused(_) = answer {
+            return Err(AllocError);
+        }
         self.answer = answer;
         self.packet = packet;
+        Ok(())
     }
 
     /// The keys become the primary ones. They may come in any order, and repeat.
@@ -73,12 +85,61 @@ impl Node {
         ensures refused { OnErr result (self.new ≡ self.old) }
     {
         let peers = Set::from_iter_dedup(Vec::from_slice(alloc, keys)?)?;
-        self.apply(alloc, Event::Peers(peers));
-        Ok(())
+        self.apply(alloc, Event::Peers(peers))
     }
 
     /// Broadcasts the bytes, by their SHA-256, to all peers, or to `keys` if `all` is false.
+    ///
+    /// Fails with `Unencodable` if there are more than 4,294,967,295 bytes, before anything is
+    /// copied, and else with `Memory`.
     pub fn broadcast(
+        &mut self,
+        alloc: Global,
+        all: bool,
+        keys: &[Key],
+        bytes: &[u8],
+    ) -> Result<(), Cause>
+        ensures applied { let same = same_by ⟦<Key as Ord>⟧.cmp ⟦<Digest as Ord>⟧.cmp in
+            OnOk result (HasApplied same (event.Broadcast (recipients_of all keys.now)
+            (record { message = bytes.now; digest = sha256 bytes.now })) self.old self.new) }
+        ensures refused { OnErr result (self.new ≡ self.old) }
+        ensures too_long { (result ≡ Err Cause.Unencodable) ↔ (encoding_of bytes.now ≡ None) }
+    {
+        if byte_list::encode_size(bytes).is_none() {
+            return Err(Cause::Unencodable);
+        }
+        match self.broadcast_hashed(alloc, all, keys, bytes) {
+            Ok(()) => Ok(()),
+            Err(AllocError) => Err(Cause::Memory),
+        }
+    }
+
+    /// Broadcasts the bytes, which go by the digest here. It fails as `broadcast` does.
+    pub fn broadcast_as(
+        &mut self,
+        alloc: Global,
+        all: bool,
+        keys: &[Key],
+        digest: Digest,
+        bytes: &[u8],
+    ) -> Result<(), Cause>
+        ensures applied { let same = same_by ⟦<Key as Ord>⟧.cmp ⟦<Digest as Ord>⟧.cmp in
+            OnOk result (HasApplied same (event.Broadcast (recipients_of all keys.now)
+            (record { message = bytes.now; digest = digest })) self.old self.new) }
+        ensures refused { OnErr result (self.new ≡ self.old) }
+        ensures too_long { (result ≡ Err Cause.Unencodable) ↔ (encoding_of bytes.now ≡ None) }
+    {
+        if byte_list::encode_size(bytes).is_none() {
+            return Err(Cause::Unencodable);
+        }
+        match self.broadcast_named(alloc, all, keys, digest, bytes) {
+            Ok(()) => Ok(()),
+            Err(AllocError) => Err(Cause::Memory),
+        }
+    }
+
+    // Broadcasts the bytes, by their SHA-256.
+    fn broadcast_hashed(
         &mut self,
         alloc: Global,
         all: bool,
@@ -90,14 +151,13 @@ impl Node {
             (record { message = bytes.now; digest = sha256 bytes.now })) self.old self.new) }
         ensures refused { OnErr result (self.new ≡ self.old) }
     {
-        let recipients = recipients(alloc, all, keys)?;
+        let recipients = Node::recipients(alloc, all, keys)?;
         let message = Digested::compute(alloc, Blob::copied(alloc, bytes)?)?;
-        self.apply(alloc, Event::Broadcast(recipients, message));
-        Ok(())
+        self.apply(alloc, Event::Broadcast(recipients, message))
     }
 
-    /// Broadcasts the bytes, which go by the digest here.
-    pub fn broadcast_as(
+    // Broadcasts the bytes, by the digest.
+    fn broadcast_named(
         &mut self,
         alloc: Global,
         all: bool,
@@ -110,37 +170,53 @@ impl Node {
             (record { message = bytes.now; digest = digest })) self.old self.new) }
         ensures refused { OnErr result (self.new ≡ self.old) }
     {
-        let recipients = recipients(alloc, all, keys)?;
+        let recipients = Node::recipients(alloc, all, keys)?;
         let message = Digested::precomputed(alloc, Blob::copied(alloc, bytes)?, digest)?;
-        self.apply(alloc, Event::Broadcast(recipients, message));
-        Ok(())
+        self.apply(alloc, Event::Broadcast(recipients, message))
     }
 
-    /// The peer sent these bytes.
+    /// The peer sent these bytes. They are copied once, after they were read.
     pub fn payload(&mut self, alloc: Global, peer: &Key, bytes: &[u8]) -> Result<(), AllocError>
         ensures applied { let same = same_by ⟦<Key as Ord>⟧.cmp ⟦<Digest as Ord>⟧.cmp in
             OnOk result (HasApplied same (event.Payload peer.now bytes.now) self.old self.new) }
-        ensures refused { OnErr result (self.new ≡ self.old) }
+        ensures refused { let same = same_by ⟦<Key as Ord>⟧.cmp ⟦<Digest as Ord>⟧.cmp in
+            OnErr result ((self.new ≡ self.old)
+            × MayRefuse same (event.Payload peer.now bytes.now) self.old) }
     {
-        let bytes = Items::from_vec(Vec::from_slice(alloc, bytes)?);
-        self.apply(alloc, Event::Payload(*peer, bytes));
+        let answer = payload(alloc, &mut self.core, &self.lengths, peer, bytes);
+        if let Answer::Refused(_) = answer {
+            return Err(AllocError);
+        }
+        self.answer = answer;
+        self.packet = None;
         Ok(())
     }
 
     /// The ticket waits for the message of the digest, unless it is cached.
-    pub fn subscribe(&mut self, alloc: Global, ticket: u64, digest: Digest)
-        ensures { let same = same_by ⟦<Key as Ord>⟧.cmp ⟦<Digest as Ord>⟧.cmp in
-            HasApplied same (event.Subscribe ticket digest) self.old self.new }
+    pub fn subscribe(
+        &mut self,
+        alloc: Global,
+        ticket: u64,
+        digest: Digest,
+    ) -> Result<(), AllocError>
+        ensures applied { let same = same_by ⟦<Key as Ord>⟧.cmp ⟦<Digest as Ord>⟧.cmp in
+            OnOk result (HasApplied same (event.Subscribe ticket digest) self.old self.new) }
+        ensures refused { let same = same_by ⟦<Key as Ord>⟧.cmp ⟦<Digest as Ord>⟧.cmp in
+            OnErr result ((self.new ≡ self.old)
+            × MayRefuse same (event.Subscribe ticket digest) self.old) }
     {
-        self.apply(alloc, Event::Subscribe(ticket, digest));
+        self.apply(alloc, Event::Subscribe(ticket, digest))
     }
 
     /// The cached message of the digest is asked for.
-    pub fn get(&mut self, alloc: Global, ticket: u64, digest: Digest)
-        ensures { let same = same_by ⟦<Key as Ord>⟧.cmp ⟦<Digest as Ord>⟧.cmp in
-            HasApplied same (event.Get ticket digest) self.old self.new }
+    pub fn get(&mut self, alloc: Global, ticket: u64, digest: Digest) -> Result<(), AllocError>
+        ensures applied { let same = same_by ⟦<Key as Ord>⟧.cmp ⟦<Digest as Ord>⟧.cmp in
+            OnOk result (HasApplied same (event.Get ticket digest) self.old self.new) }
+        ensures refused { let same = same_by ⟦<Key as Ord>⟧.cmp ⟦<Digest as Ord>⟧.cmp in
+            OnErr result ((self.new ≡ self.old)
+            × MayRefuse same (event.Get ticket digest) self.old) }
     {
-        self.apply(alloc, Event::Get(ticket, digest));
+        self.apply(alloc, Event::Get(ticket, digest))
     }
 
     /// The waiters with these tickets are gone.
@@ -150,8 +226,7 @@ impl Node {
         ensures refused { OnErr result (self.new ≡ self.old) }
     {
         let tickets = Items::from_vec(Vec::from_slice(alloc, tickets)?);
-        self.apply(alloc, Event::Cleanup(tickets));
-        Ok(())
+        self.apply(alloc, Event::Cleanup(tickets))
     }
 
     /// Returns the message of the last answer, if that has one.
@@ -174,14 +249,14 @@ impl Node {
             _ => &[],
         }
     }
-}
 
-/// Returns all peers as recipients, or these.
-fn recipients(alloc: Global, all: bool, keys: &[Key]) -> Result<Recipients<Key>, AllocError>
-    ensures { IfOk result (λ recipients. recipients ≡ recipients_of all keys.now) }
-{
-    if all {
-        return Ok(Recipients::All);
+    // Returns all peers as recipients, or these.
+    fn recipients(alloc: Global, all: bool, keys: &[Key]) -> Result<Recipients<Key>, AllocError>
+        ensures { IfOk result (λ recipients. recipients ≡ recipients_of all keys.now) }
+    {
+        if all {
+            return Ok(Recipients::All);
+        }
+        Ok(Recipients::Some(Items::from_vec(Vec::from_slice(alloc, keys)?)))
     }
-    Ok(Recipients::Some(Items::from_vec(Vec::from_slice(alloc, keys)?)))
 }

@@ -1,3 +1,4 @@
+// SPDX-License-Identifier: Apache-2.0
 //! Runs nodes in threads of one process, as `cluster NODES MESSAGES SIZE`.
 #![tactic(auto)]
 

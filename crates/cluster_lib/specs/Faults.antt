@@ -1,3 +1,4 @@
+-- Believed.
 -- What ends a run of the program.
 use Rattle.std.specs.Prelude.{ℕ, List, ◌++◌, codes}
 use Rattle.std.specs.Fmt.{decimal}

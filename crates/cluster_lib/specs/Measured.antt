@@ -1,3 +1,4 @@
+-- Believed.
 -- What is printed of a measurement.
 use Rattle.std.specs.Prelude.{ℕ, List, ◌++◌, codes}
 use Rattle.std.specs.Fmt.{decimal}

@@ -1,3 +1,4 @@
+-- Believed.
 -- What became of the nodes of a run.
 use Rattle.std.specs.Prelude.{List, [], ◌∷◌, Option, None, Some, Result, Ok, Err}
 use Rattle.cluster_lib.specs.declared.fault.Fault.{Fault}

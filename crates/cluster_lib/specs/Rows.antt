@@ -1,3 +1,4 @@
+-- Believed.
 -- What becomes of subscriptions.
 use Rattle.std.specs.Prelude.{◌+◌, List, sum_by}
 use Rattle.broadcast_mailbox.specs.Account.{capped}

@@ -1,3 +1,4 @@
+-- Believed.
 -- What becomes of requests.
 use Rattle.std.specs.Prelude.{ℕ, ◌+◌, List, ◌++◌, codes}
 use Rattle.std.specs.Fmt.{decimal}

@@ -1,3 +1,4 @@
+-- Believed.
 -- What is printed of a run.
 use Rattle.std.specs.Prelude.{ℕ, ◌^◌, ◌-◌, List, [], ◌∷◌, ◌++◌, codes, sum_by}
 use Rattle.std.specs.List.{flat_map}

@@ -1,5 +1,5 @@
 //! The arguments of the program.
-ghost use Rattle.std.specs.Prelude.{◌≡◌, ◌≤◌, ◌↔◌, ℕ, IfOk, IfErr, Ok, codes, true};
+ghost use Rattle.std.specs.Prelude.{◌≡◌, ◌≤◌, ◌↔◌, ◌⊎◌, ℕ, IfOk, IfErr, Ok, codes, true};
 ghost use Rattle.std.specs.Fmt.{decimal};
 ghost use Rattle.cluster_lib.specs.declared.fault.Fault.TheVariants.{Argument};
 
@@ -11,11 +11,12 @@ use std::io::ErrorKind;
 use std::rt::Env;
 
 /// The usage line.
-pub const USAGE: &str = "usage: cluster NODES MESSAGES SIZE, or cluster rate CLIENTS ROUNDS DEPTH";
+pub const USAGE: &str =
+    "usage: cluster NODES MESSAGES SIZE, or cluster rate CLIENTS ROUNDS DEPTH WAITING DROPS";
 
-/// What `cluster --help` prints.
+/// What `cluster --help` and `cluster -h` print.
 pub const HELP: &str = "\
-usage: cluster NODES MESSAGES SIZE, or cluster rate CLIENTS ROUNDS DEPTH
+usage: cluster NODES MESSAGES SIZE, or cluster rate CLIENTS ROUNDS DEPTH WAITING DROPS
 
 cluster NODES MESSAGES SIZE runs nodes in threads, each with a client, and prints what became of
 the messages.
@@ -24,18 +25,20 @@ the messages.
   MESSAGES  the number of messages that each node broadcasts, from 1 to 100
   SIZE      the number of digests that a node keeps for each peer, from 0
 
-cluster rate CLIENTS ROUNDS DEPTH measures how many gets one node answers.
+cluster rate CLIENTS ROUNDS DEPTH WAITING DROPS measures how many gets one node answers.
 
   CLIENTS   the number of threads that make gets, from 1 to 64
   ROUNDS    how often each of them makes DEPTH gets and waits for all of them, from 1 to 10000000
   DEPTH     the number of gets that are made at once, from 1 to 10000000
+  WAITING   the number of subscriptions that wait meanwhile, from 0 to 1000000
+  DROPS     the number of subscriptions that a client drops after each round, from 0 to 1000000
 ";
 
 /// Returns whether the word asks for help.
 pub fn is_help(word: &[u8]) -> bool
-    ensures { result ≡ true ↔ word.now ≡ codes "--help" }
+    ensures { result ≡ true ↔ ((word.now ≡ codes "--help") ⊎ (word.now ≡ codes "-h")) }
 {
-    word == b"--help".as_slice()
+    word == b"--help".as_slice() || word == b"-h".as_slice()
 }
 
 /// Returns the number that the word spells. Fails with [`Fault::Argument`] if it spells none, or

@@ -13,7 +13,7 @@ use std::random::RandomSource;
 use std::sync::{Arc, Wait};
 use std::time::Clock;
 
-/// What the client of a node saw.
+/// The counts of a node's client.
 #[derive(Clone, Copy)]
 pub struct Seen {
     /// The key of the node.

@@ -1,4 +1,4 @@
-//! What became of the nodes of a run.
+//! The nodes of a run at its end.
 ghost use Rattle.std.specs.Prelude.{◌≡◌, All, Err, IfErr, IfOk, IfSome, IsOk, OnOk};
 ghost use Rattle.std.specs.List.{flat_map};
 ghost use Rattle.std.specs.Io.KnownBytes.{Appends};
@@ -17,7 +17,7 @@ use std::io::{self, Write};
 /// The result of a node's thread.
 pub type Outcome = Result<Played, Fault>;
 
-/// What became of the nodes of a run.
+/// The nodes of a run at its end.
 #[derive(Drop)]
 pub struct Ended {
     /// What became of each node.

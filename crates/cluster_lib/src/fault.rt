@@ -1,4 +1,4 @@
-//! What ends a run of the program.
+//! The faults of the program.
 ghost use Rattle.std.specs.Prelude.{◌≡◌};
 ghost use Rattle.cluster_lib.specs.Faults.{fault_status};
 ghost use Rattle.cluster_lib.specs.declared.fault.Fault.TheVariants.{Memory};
@@ -10,7 +10,7 @@ use std::alloc::{AllocError, AllocFailed};
 use std::fmt::{self, Display, Formatter};
 use std::io::Write;
 
-/// What ends a run of the program. Its text is that of standard error.
+/// A fault, which ends a run of the program. Its text is that of standard error.
 #[derive(Clone, Copy, Debug)]
 pub enum Fault {
     /// The number of arguments is wrong. The text is the usage line.

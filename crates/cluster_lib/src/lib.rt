@@ -1,3 +1,4 @@
+// SPDX-License-Identifier: Apache-2.0
 //! Engines in threads of one process, over a network in memory, and the program `cluster`.
 #![tactic(auto)]
 
@@ -8,6 +9,7 @@ pub mod fault;
 pub mod limits;
 pub mod measure;
 pub mod message;
+pub mod node;
 pub mod progress;
 pub mod rate;
 pub mod row;

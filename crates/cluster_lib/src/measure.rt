@@ -1,4 +1,4 @@
-//! How many requests a started engine answers.
+//! Measures how many requests a started engine answers.
 ghost use Rattle.std.specs.Prelude.{◌≡◌, ◌*◌, ◌/◌, IfOk, IfErr, Err, Ok, OnOk, length, max, ◌+◌, [], ◌∷◌, ◌++◌};
 ghost use Rattle.std.specs.Io.KnownBytes.{Appends};
 ghost use Rattle.std.specs.Duration.{as_nanos};
@@ -7,13 +7,12 @@ ghost use Rattle.cluster_lib.specs.Measured.{measured_text};
 
 use crate::fault::Fault;
 use crate::message::{broadcast, digest_of};
+use crate::node::{Started, config, join, key_of, keys_of};
 use crate::progress::Progress;
 use crate::rate::Rate;
-use broadcast_core::{Digest, Key, RangeCfg, TestMessage};
-use commonware_broadcast::buffered::{Get, Mailbox, Sequential};
-use memory_network::Mail;
-use memory_node::keys::{key_of, keys_of};
-use memory_node::node::{Node, start};
+use broadcast_core::{Digest, Key, TestMessage};
+use commonware_broadcast::buffered::{self, Get, Mailbox, Subscription};
+use memory_network::Network;
 use std::alloc::AllocGlobal;
 use std::fmt::{self, Display, Formatter};
 use std::io;
@@ -23,7 +22,7 @@ use std::sync::{Arc, Wait};
 use std::thread::{self, JoinHandle, Threads};
 use std::time::{Clock, Duration, Instant};
 
-/// What was measured.
+/// The result of a measurement.
 #[derive(Clone, Copy)]
 pub struct Measured {
     /// The number of requests that were answered.
@@ -65,45 +64,65 @@ impl Display for Measured {
     }
 }
 
-/// Lets the clients get a message from one started engine. The time counts from before the first
-/// client is started to the end of the last. If a client fails, all of them end.
+/// Lets the clients get a message from one started engine, while subscriptions wait. The time
+/// counts from before the first client is started to the end of the last. If a client fails, all
+/// of them end.
 pub fn measure<R>(rt: &R, rate: Rate, progress: &Arc<Progress>) -> Result<Measured, Fault>
 where
     R: Threads + Wait + Clock + RandomSource + AllocGlobal + Clone + Send + Sync + Drop + 'static,
 {
-    let node = start_alone(rt)?;
-    let measured = measure_node(rt, rate, progress, &node);
-    node.handle.stop();
-    drop::<_>(node.join(rt));
+    let (handle, mailbox) = start_alone(rt)?;
+    let measured = measure_node(rt, rate, progress, &mailbox);
+    handle.stop();
+    drop::<_>(handle.join(rt));
     measured
 }
 
 /// Starts a node that has no other peers.
-fn start_alone<R>(rt: &R) -> Result<Node<TestMessage, R>, Fault>
+fn start_alone<R>(rt: &R) -> Result<Started<TestMessage, R>, Fault>
 where
     R: Threads + Wait + RandomSource + AllocGlobal + Clone + Send + Sync + Drop + 'static,
 {
-    let mail = Arc::new(rt.alloc(), Mail::new(rt.alloc(), key_of(1)))?;
-    mail.set_peers(rt, keys_of(rt.alloc(), 1)?)?;
-    let others = Vec::new(rt.alloc());
-    match start(rt, RangeCfg::any(), Sequential, &mail, others, 1)? {
-        Ok(node) => Ok(node),
-        Err((_, error)) => Err(Fault::from(error)),
-    }
+    let network = Network::new(rt, &keys_of(rt.alloc(), 1)?)?;
+    let ends = join(rt, &network, &key_of(1))?;
+    let config = config(ends.mail.key, ends.provider, 1);
+    Ok(buffered::start(rt, config, (ends.sender, ends.receiver))?)
 }
 
-/// Lets the clients get a message from the node, which broadcast it.
+/// Lets the clients get a message from the node of the mailbox, which broadcast it.
 fn measure_node<R>(
     rt: &R,
     rate: Rate,
     progress: &Arc<Progress>,
-    node: &Node<TestMessage, R>,
+    mailbox: &Mailbox<Key, TestMessage, R>,
 ) -> Result<Measured, Fault>
 where
     R: Threads + Wait + Clock + RandomSource + AllocGlobal + Clone + Send + Sync + Drop + 'static,
 {
-    let _feedback = broadcast(rt, &node.mailbox, 1, 1)?;
-    time(rt, rate, progress, &node.mailbox)
+    let _feedback = broadcast(rt, mailbox, 1, 1)?;
+    let waiting = subscribe(rt, mailbox, rate.waiting)?;
+    let measured = time(rt, rate, progress, mailbox);
+    drop(waiting);
+    measured
+}
+
+/// Subscribes to as many messages that nobody sends, and waits until the engine has these
+/// subscriptions.
+fn subscribe<R>(
+    rt: &R,
+    mailbox: &Mailbox<Key, TestMessage, R>,
+    number: u64,
+) -> Result<Vec<Subscription<TestMessage>>, Fault>
+where
+    R: Wait + RandomSource + AllocGlobal,
+{
+    let mut waiting = Vec::new(rt.alloc());
+    for message in 0..number {
+        waiting.push(mailbox.subscribe(digest_of(rt.alloc(), 2, message)?)?)?;
+    }
+    // Requests are taken in order.
+    let _last = mailbox.get(digest_of(rt.alloc(), 1, 1)?)?.wait(rt);
+    Ok(waiting)
 }
 
 /// Starts the clients, and waits for them. Returns what was measured.
@@ -241,15 +260,27 @@ where
     /// Makes the requests of all rounds, until a client fails. Returns how many were answered.
     fn ask(&self) -> Answered {
         let digest = digest_of(self.rt.alloc(), 1, 1)?;
+        let unsent = digest_of(self.rt.alloc(), 3, 1)?;
         let mut answered = 0u64;
         for _ in 0..self.rate.rounds {
             if self.failed.load(Ordering::SeqCst) {
                 return Ok(answered);
             }
+            let waiting = self.subscriptions(unsent)?;
             answered = answered.saturating_add(self.ask_at_once(digest)?);
+            drop(waiting);
             self.progress.count(self.rate.depth);
         }
         Ok(answered)
+    }
+
+    /// Makes the subscriptions of a round.
+    fn subscriptions(&self, digest: Digest) -> Result<Vec<Subscription<TestMessage>>, Fault> {
+        let mut waiting = Vec::new(self.rt.alloc());
+        for _ in 0..self.rate.drops {
+            waiting.push(self.mailbox.subscribe(digest)?)?;
+        }
+        Ok(waiting)
     }
 
     /// Makes the requests of a round, and waits for them. Returns how many were answered.

@@ -1,4 +1,4 @@
-//! How far a long run is, as a terminal shows it.
+//! The progress of a long run on a terminal.
 use std::alloc::AllocError;
 use std::io::{self, Write};
 use std::sync::Arc;
@@ -12,7 +12,7 @@ const PAUSE: u64 = 100;
 /// The number of looks after which a run is long.
 const LONG: u64 = 10;
 
-/// How many of its requests a run has made.
+/// The number of requests that a run has made.
 #[derive(Drop)]
 pub struct Progress {
     /// The number of requests of the whole run.

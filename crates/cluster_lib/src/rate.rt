@@ -28,6 +28,20 @@ const DEPTH: Limits = Limits {
     most: 10_000_000,
 };
 
+/// The limits of the number of subscriptions that wait.
+const WAITING: Limits = Limits {
+    name: "WAITING",
+    least: 0,
+    most: 1_000_000,
+};
+
+/// The limits of the number of subscriptions that a client drops in a round.
+const DROPS: Limits = Limits {
+    name: "DROPS",
+    least: 0,
+    most: 1_000_000,
+};
+
 /// The settings of a measurement.
 #[derive(Clone, Copy)]
 pub struct Rate {
@@ -37,14 +51,19 @@ pub struct Rate {
     pub rounds: u64,
     /// The number of gets that a client makes before it waits.
     pub depth: u64,
+    /// The number of subscriptions that wait all the time.
+    pub waiting: u64,
+    /// The number of subscriptions that a client makes before the gets of a round, and drops after
+    /// them.
+    pub drops: u64,
 }
 
 impl Rate {
-    /// Returns the settings of the words `rate CLIENTS ROUNDS DEPTH`.
+    /// Returns the settings of the words `rate CLIENTS ROUNDS DEPTH WAITING DROPS`.
     ///
     /// # Errors
     ///
-    /// Fails with [`Fault::Usage`] if these are not four words of which the first is `rate`, and
+    /// Fails with [`Fault::Usage`] if these are not six words of which the first is `rate`, and
     /// else with [`Fault::Argument`] of the first word that is not a number within its limits.
     pub fn parse(words: &[String]) -> Result<Rate, Fault>
         ensures spelled_so { IfOk result (λ it. map string_bytes words.now ≡ words_of_rate it) }
@@ -52,28 +71,44 @@ impl Rate {
         ensures reads_all_arguments { (it : Rate) → IsAllowedRate it
             → map string_bytes words.now ≡ words_of_rate it → result ≡ Ok it }
     {
-        let [rate, clients, rounds, depth] = words else {
+        let [rate, clients, rounds, depth, waiting, drops] = words else {
             return Err(Fault::Usage(USAGE));
         };
         if is_rate(rate.as_bytes()) {
-            return Rate::read(clients.as_bytes(), rounds.as_bytes(), depth.as_bytes());
+            return Rate::read(
+                clients.as_bytes(),
+                rounds.as_bytes(),
+                depth.as_bytes(),
+                waiting.as_bytes(),
+                drops.as_bytes(),
+            );
         }
         Err(Fault::Usage(USAGE))
     }
 
     /// Returns the settings of these numbers.
-    fn read(clients: &[u8], rounds: &[u8], depth: &[u8]) -> Result<Rate, Fault>
+    fn read(
+        clients: &[u8],
+        rounds: &[u8],
+        depth: &[u8],
+        waiting: &[u8],
+        drops: &[u8],
+    ) -> Result<Rate, Fault>
         ensures spelled_so { IfOk result (λ it. (clients.now ≡ decimal it.clients)
-            × (rounds.now ≡ decimal it.rounds) × (depth.now ≡ decimal it.depth)) }
+            × (rounds.now ≡ decimal it.rounds) × (depth.now ≡ decimal it.depth)
+            × (waiting.now ≡ decimal it.waiting) × (drops.now ≡ decimal it.drops)) }
         ensures allowed { IfOk result IsAllowedRate }
         ensures reads_all_numbers { (it : Rate) → IsAllowedRate it
             → clients.now ≡ decimal it.clients → rounds.now ≡ decimal it.rounds
-            → depth.now ≡ decimal it.depth → result ≡ Ok it }
+            → depth.now ≡ decimal it.depth → waiting.now ≡ decimal it.waiting
+            → drops.now ≡ decimal it.drops → result ≡ Ok it }
     {
         Ok(Rate {
             clients: read_number(clients, CLIENTS)?,
             rounds: read_number(rounds, ROUNDS)?,
             depth: read_number(depth, DEPTH)?,
+            waiting: read_number(waiting, WAITING)?,
+            drops: read_number(drops, DROPS)?,
         })
     }
 

@@ -1,4 +1,4 @@
-//! What became of a node.
+//! The row of a node.
 ghost use Rattle.std.specs.Prelude.{◌≡◌, ◌-◌, ◌↔◌, All, IsOk, IfErr, OnOk};
 ghost use Rattle.std.specs.List.{flat_map};
 ghost use Rattle.std.specs.Io.KnownBytes.{Appends};
@@ -13,7 +13,7 @@ use broadcast_core::Key;
 use commonware_broadcast::buffered::{Metrics, Status};
 use std::io::{self, Write};
 
-/// What became of a node.
+/// The row of a node in the table.
 #[derive(Clone, Copy)]
 pub struct Row {
     /// Its number.

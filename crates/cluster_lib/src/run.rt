@@ -4,13 +4,13 @@ ghost use Rattle.std.specs.Prelude.{◌≡◌, [], ◌∷◌, ◌++◌, OnOk};
 use crate::ended::{Ended, Outcome};
 use crate::fault::Fault;
 use crate::message::message_of;
+use crate::node::{join, key_of, keys_of};
 use crate::progress::Progress;
 use crate::session::{NodeSession, STRANGER};
 use crate::settings::Settings;
 use crate::shared::Shared;
 use broadcast_core::{CodecError, Key, Write};
 use memory_network::{Mail, Network};
-use memory_node::keys::{key_of, keys_of};
 use std::alloc::{AllocError, AllocGlobal, Global};
 use std::random::RandomSource;
 use std::sync::{Arc, Wait};
@@ -51,8 +51,7 @@ where
         threads.reserve(1)?;
         let session = NodeSession {
             number: place.saturating_add(1) as u64,
-            mail: Arc::try_clone(mail)?,
-            others: shared.network.others(rt.alloc(), &mail.key)?,
+            ends: join(rt, &shared.network, &mail.key)?,
             settings,
             shared: Arc::try_clone(shared)?,
             rt: rt.clone()?,

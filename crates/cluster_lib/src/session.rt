@@ -7,18 +7,16 @@ ghost use Rattle.cluster_lib.specs.Settlements.{ended};
 use crate::client::{Client, Seen};
 use crate::fault::Fault;
 use crate::message::broadcast;
+use crate::node::{Counted, Started, config, start_counting};
 use crate::row::Row;
 use crate::settings::Settings;
 use crate::settlement::Settlement;
 use crate::shared::Shared;
 use crate::tally::{Counting, WholeTally};
-use broadcast_core::{Key, RangeCfg, TestMessage};
+use broadcast_core::{Key, TestMessage};
 use broadcast_mailbox::Feedback;
-use commonware_broadcast::buffered::{
-    Account, Bookkeeping, Mailbox, MailboxReport, Sequential, StartError,
-};
-use memory_network::Mail;
-use memory_node::node::{Counted, Node, config, start_counting};
+use commonware_broadcast::buffered::{Account, Bookkeeping, Mailbox, MailboxReport, StartError};
+use memory_network::Ends;
 use std::alloc::{AllocError, AllocGlobal};
 use std::marker::Brand;
 use std::num::NonZeroU32;
@@ -48,10 +46,8 @@ pub struct Played {
 pub struct NodeSession<R> {
     /// The number of the node.
     pub number: u64,
-    /// The mail of the node.
-    pub mail: Arc<Mail<Key>>,
-    /// The mail of the other nodes.
-    pub others: Vec<Arc<Mail<Key>>>,
+    /// The ends of the node.
+    pub ends: Ends<Key, R>,
     /// The settings of the run.
     pub settings: Settings,
     /// What it shares with the other nodes and with the clients.
@@ -106,15 +102,15 @@ where
 {
     let NodeSession {
         number,
-        mail,
-        others,
+        ends,
         settings,
         shared,
         rt,
     } = session;
-    let config = config(&rt, RangeCfg::any(), Sequential, &mail, settings.deque_size)?;
+    let config = config(ends.mail.key, ends.provider, settings.deque_size);
+    let network = (ends.sender, ends.receiver);
     let counted: Counted<TestMessage, R, A, K> = start_counting(
-        &rt, config, &mail, others, parts, accepted, taken,
+        &rt, config, network, parts, accepted, taken,
     )?;
     let (started, tally) = counted;
     let tally = WholeTally::new(tally);
@@ -148,7 +144,7 @@ fn run_node<R, A, K>(
     number: u64,
     settings: Settings,
     shared: &Arc<Shared>,
-    node: Node<TestMessage, R, Counting<A, K>>,
+    node: Started<TestMessage, R, Counting<A, K>>,
     tally: WholeTally<A>,
 ) -> Result<Played, Fault>
 where
@@ -157,12 +153,13 @@ where
     K: Account + Send + Sync + 'static,
     requires accounts { (A.all ≡ A.parts) × (K.all ≡ K.parts) }
 {
-    let client = start_client(rt, number, settings, shared, &node, tally);
+    let (handle, mailbox) = node;
+    let client = start_client(rt, number, settings, shared, &mailbox, tally);
     if client.is_ok() {
         shared.wait_for_finished(rt);
     }
-    node.handle.stop();
-    let report = node.join(rt);
+    handle.stop();
+    let report = handle.join(rt);
     let (tally, seen) = client?.join(rt);
     Ok(settle(report, settings, tally, seen?))
 }
@@ -173,7 +170,7 @@ fn start_client<R, A, K>(
     number: u64,
     settings: Settings,
     shared: &Arc<Shared>,
-    node: &Node<TestMessage, R, Counting<A, K>>,
+    mailbox: &Mailbox<Key, TestMessage, R, Counting<A, K>>,
     tally: WholeTally<A>,
 ) -> Result<JoinHandle<Finished<A>>, Fault>
 where
@@ -181,7 +178,7 @@ where
     A: Account + Send + Sync + 'static,
     K: Account + Send + Sync + 'static,
 {
-    let client = client_of(rt, number, settings, shared, node)?;
+    let client = client_of(rt, number, settings, shared, mailbox)?;
     match thread::spawn(rt, move || client.run(tally)) {
         Ok(thread) => Ok(thread),
         Err(_) => Err(Fault::Thread),
@@ -194,7 +191,7 @@ fn client_of<R, A, K>(
     number: u64,
     settings: Settings,
     shared: &Arc<Shared>,
-    node: &Node<TestMessage, R, Counting<A, K>>,
+    mailbox: &Mailbox<Key, TestMessage, R, Counting<A, K>>,
 ) -> Result<Client<R, Counting<A, K>>, AllocError>
 where
     R: Wait + Clone + Drop,
@@ -203,7 +200,7 @@ where
 {
     Ok(Client {
         number,
-        mailbox: node.mailbox.clone()?,
+        mailbox: mailbox.clone()?,
         settings,
         shared: Arc::try_clone(shared)?,
         rt: rt.clone()?,

@@ -1,4 +1,4 @@
-//! What became of the requests of clients.
+//! The settled account of the clients' requests.
 ghost use Rattle.std.specs.Prelude.{◌≡◌, ◌+◌, sum_by};
 ghost use Rattle.broadcast_mailbox.specs.Account.{capped};
 ghost use Rattle.cluster_lib.specs.Settlements.{ended, settled_both};

@@ -1,4 +1,4 @@
-//! What the threads of a run share.
+//! The state that the threads of a run share.
 use crate::message::digests_of;
 use crate::progress::Progress;
 use crate::settings::Settings;
@@ -22,7 +22,7 @@ pub struct AllSubscribed {
     _counted: (),
 }
 
-/// What the threads of all nodes and clients share.
+/// The state that the threads of all nodes and clients share.
 #[derive(Drop)]
 pub struct Shared {
     /// The network of the nodes.

@@ -40,7 +40,7 @@ module _ {P M D S G O : Type 0} (s : Setting P M D) (may_answer : Asker S → Bo
     replied = steps.replied;
   }
 
-  abbrev pub Handles-applied : (input : Input P M S G D) (replies : Replies S G M D) (result : Turn P) (old new : Node P M S O D)
+  abbrev pub Handles-applied : (input : Input P M S G D) (replies : Replies S G M D) (result : Turn P D) (old new : Node P M S O D)
       → AppliesStep s may_answer outlet_told past (applied input replies) old new → turns_at s (applied input replies) past ≡ result ∷ []
       → Handles s (replying may_answer outlet_told) past input result old new
   Handles-applied input replies result old new steps turned = record {
@@ -70,7 +70,7 @@ module _ {P M D S G O N : Type 0} (s : Setting P M D) (may_answer : Asker S → 
     (outlet_told : O → Replies S G M D → Type 0) (sender_told : N → List (Sent P) → Type 0)
     (past : History P M D (Asker S) (Asker G)) where
   -- an input at which nothing is sent
-  pub Applies-silent : (input : Input P M S G D) (replies : Replies S G M D) (result : Turn P) (old new : Node P M S O D) (sender : N)
+  pub Applies-silent : (input : Input P M S G D) (replies : Replies S G M D) (result : Turn P D) (old new : Node P M S O D) (sender : N)
       → AppliesStep s may_answer outlet_told past (applied input replies) old new → turns_at s (applied input replies) past ≡ result ∷ [] → sent s (happening_of input) ≡ []
       → Applies s (sinks may_answer outlet_told sender_told) past input result (old, sender) (new, sender)
   Applies-silent input replies result old new sender steps turned none = record {
@@ -79,7 +79,7 @@ module _ {P M D S G O N : Type 0} (s : Setting P M D) (may_answer : Asker S → 
   }
 
   -- an input that is no request
-  pub Applies-handled : (input : Input P M S G D) (result : Turn P) (old new : Node P M S O D) (sender : N) → requests_in (input ∷ []) ≡ []
+  pub Applies-handled : (input : Input P M S G D) (result : Turn P D) (old new : Node P M S O D) (sender : N) → requests_in (input ∷ []) ≡ []
       → Handles s (replying may_answer outlet_told) past input result old new → Applies s (sinks may_answer outlet_told sender_told) past input result (old, sender) (new, sender)
   Applies-handled input result old new sender none one = record { handled = one; sends = Sends-input s sender_told input one.step sender one.of_input none }
 
@@ -95,14 +95,14 @@ module _ {P M D S G O N : Type 0} (s : Setting P M D) (may_answer : Asker S → 
       → AppliesStep s may_answer outlet_told past (applied (Request (record { ticket = ticket; message = Broadcast r c; counted = counted })) replies) old new
       → out ≡ outcome s s.own c past → s.encoding c.message ≡ Some bytes → s.priority ≡ priority
       → ((sends : List (Sent P)) → sender_told first sends → sender_told last (sends ++ record { recipients = r; bytes = bytes; priority = priority } ∷ []))
-      → Applies s (sinks may_answer outlet_told sender_told) past (Request (record { ticket = ticket; message = Broadcast r c; counted = counted })) (turn.Broadcast out) (old, first) (new, last)
+      → Applies s (sinks may_answer outlet_told sender_told) past (Request (record { ticket = ticket; message = Broadcast r c; counted = counted })) (turn.Broadcast c.digest out) (old, first) (new, last)
   Applies-broadcast r c ticket counted bytes priority out replies old new first last steps is encoding flag sends = record {
-    handled = Handles-applied s may_answer outlet_told past (Request (record { ticket = ticket; message = Broadcast r c; counted = counted })) replies (turn.Broadcast out) old new steps (ap (λ o. turn.Broadcast o ∷ []) (sym is));
+    handled = Handles-applied s may_answer outlet_told past (Request (record { ticket = ticket; message = Broadcast r c; counted = counted })) replies (turn.Broadcast c.digest out) old new steps (ap (λ o. turn.Broadcast c.digest o ∷ []) (sym is));
     sends = λ before h. subst (λ xs. sender_told last (before ++ xs)) (ap (λ f. record { recipients = r; bytes = bytes; priority = f } ∷ []) (sym flag) ∙ ap (sending s r) (sym encoding)) (sends before h);
   }
 
   -- the same request, its message written otherwise
-  pub Applies-message : (request : RequestOf (Message P M S G D)) (message : Message P M S G D) (result : Turn P) (old new : Node P M S O D) (first last : N) → request.message ≡ message
+  pub Applies-message : (request : RequestOf (Message P M S G D)) (message : Message P M S G D) (result : Turn P D) (old new : Node P M S O D) (first last : N) → request.message ≡ message
       → Applies s (sinks may_answer outlet_told sender_told) past (Request (record { ticket = request.ticket; message = message; counted = request.counted })) result (old, first) (new, last)
       → Applies s (sinks may_answer outlet_told sender_told) past (Request request) result (old, first) (new, last)
   Applies-message request message result old new first last is applied_so =

@@ -1,5 +1,5 @@
 -- Messages that arrive.
-use Rattle.std.proofs.Common.{◌≡◌, if◌then◌else◌, List, [], ◌∷◌, ◌++◌, Some, None, Result, true, false, is_ok, refl, sym, ap, ◌∙◌, subst, append-nil}
+use Rattle.std.proofs.Common.{◌≡◌, ◌+◌, if◌then◌else◌, List, [], ◌∷◌, ◌++◌, Some, None, Result, true, false, is_ok, refl, sym, ap, ◌∙◌, subst, append-nil, arith}
 use Rattle.std.specs.Prelude.{Ok, Err}
 use Rattle.futures.specs.declared.task.Poll.{Poll}
 use Rattle.futures.specs.declared.task.Poll.TheVariants.{Ready, Pending}
@@ -18,13 +18,13 @@ use Rattle.engine_io.specs.Sources.{given}
 use Rattle.commonware_broadcast.specs.declared.buffered.engine.node.Node.{Node}
 use Rattle.commonware_broadcast.specs.AppliesSteps.{AppliesSteps, Handles, replying}
 use Rattle.commonware_broadcast.specs.Arrives.{Arrival, Arrives, IsRemote, payload_of, message_of, input_of, reader_of}
-use Rattle.commonware_broadcast.specs.EngineHistory.{Step, decoded, uncounted, happenings, inputs, inputs_at, read_from, turns}
+use Rattle.commonware_broadcast.specs.EngineHistory.{Step, decoded, uncounted, happenings, inputs, inputs_at, read_from, sweeps, turns}
 use Rattle.commonware_broadcast.specs.EngineState.{EngineState}
 use Rattle.commonware_broadcast.specs.Interfaces.{Parties}
 use Rattle.commonware_broadcast.specs.Taken.{pending_input, HoldsJob}
 use Rattle.commonware_broadcast.proofs.Composing.{AppliesSteps-none, AppliesSteps-more}
 use Rattle.commonware_broadcast.proofs.Counting.{raised-none, decoded-counted}
-use Rattle.commonware_broadcast.proofs.Telling.{input-at, inputs-append, Tells-input, Tells-more}
+use Rattle.commonware_broadcast.proofs.Telling.{input-at, inputs-append, sweeps-append, sweeps-none, Tells-input, Tells-more}
 
 module _ {P M D S G : Type 0} where
   -- the earlier steps have no input
@@ -54,11 +54,11 @@ module _ {P M D S G O J B Q C T : Type 0} (s : Setting P M D) (i : Parties M D S
     (past : History P M D (Asker S) (Asker G)) where
   module _ (arrival : Arrival P M) (old new : EngineState P M S O D J B Q C T) where
     -- its input was applied or refused, after steps without any
-    pub Arrives-handled : (steps : List (Step P M D S G)) (mid : Node P M S O D) (input : Input P M S G D) (turn : Turn P)
-        → AppliesSteps s i.may_answer i.outlet.told past steps old.node mid → turns s steps past ≡ [] → inputs steps ≡ [] → read_from steps ≡ reader_of s arrival
+    pub Arrives-handled : (steps : List (Step P M D S G)) (mid : Node P M S O D) (input : Input P M S G D) (turn : Turn P D)
+        → AppliesSteps s i.may_answer i.outlet.told past steps old.node mid → turns s steps past ≡ [] → inputs steps ≡ [] → sweeps steps ≡ 0 → read_from steps ≡ reader_of s arrival
         → input_of s arrival ≡ input ∷ [] → IsRemote (input ∷ []) → Handles s (replying i.may_answer i.outlet.told) (happenings steps ++ past) input turn mid new.node → new.job ≡ None
         → Arrives s i past arrival old new (Ready turn)
-    Arrives-handled steps mid input turn began silent none reads is remote one idle =
+    Arrives-handled steps mid input turn began silent none unasked reads is remote one idle =
         let all : inputs (one.step ∷ steps) ≡ input ∷ [] = ap (λ l. l ++ inputs_at one.step) none ∙ input-at input one.step one.of_input in
         let tells = Tells-input s past input turn one.step steps (reader_of s arrival) silent reads one.of_input one.turned in
         record {
@@ -68,6 +68,7 @@ module _ {P M D S G O J B Q C T : Type 0} (s : Setting P M D) (i : Parties M D S
           goes_on = tells.goes_on;
           read_from = tells.read;
           remote = subst (λ l. IsRemote l) (sym all) remote;
+          asks_none = omega (arith, unasked, sweeps-none input one.step one.of_input);
           pending = None;
           held = subst (λ x. HoldsJob i.is_of x None) (sym idle) tt;
           flow = is ∙ sym all ∙ sym (append-nil (inputs (one.step ∷ steps)));
@@ -83,13 +84,14 @@ module _ {P M D S G O J B Q C T : Type 0} (s : Setting P M D) (i : Parties M D S
     goes_on = refl;
     read_from = refl;
     remote = record { no_sets = refl; no_requests = refl; all = refl };
+    asks_none = refl;
     pending = Some (p, m);
     held = subst (λ x. HoldsJob i.is_of x (Some (p, m))) (sym at) (refl, of_job);
     flow = refl;
   }
 
   -- it was read only now
-  pub Arrives-decoded : (p : P) (m : M) (old mid new : EngineState P M S O D J B Q C T) (result : Poll (Turn P))
+  pub Arrives-decoded : (p : P) (m : M) (old mid new : EngineState P M S O D J B Q C T) (result : Poll (Turn P D))
       → AppliesSteps s i.may_answer i.outlet.told past (decoded p ∷ []) old.node mid.node → Arrives s i past (message_of p m) mid new result
       → Arrives s i past (payload_of p (Ok m)) old new result
   Arrives-decoded p m old mid new result began one =
@@ -103,13 +105,14 @@ module _ {P M D S G O J B Q C T : Type 0} (s : Setting P M D) (i : Parties M D S
         goes_on = tells.goes_on;
         read_from = tells.read;
         remote = subst (λ l. IsRemote l) (sym all) one.remote;
+        asks_none = omega (arith, one.asks_none, sweeps-append one.steps (decoded p ∷ []));
         pending = one.pending;
         held = one.held;
         flow = one.flow ∙ ap (λ l. l ++ pending_input s one.pending) (sym all);
       }
 
   -- a payload was refused before it was counted
-  pub Arrives-uncounted : (p : P) (m : M) (old new : EngineState P M S O D J B Q C T) (told : Turn P) → HasContent s past old.node.core → new.node ≡ old.node → new.job ≡ None
+  pub Arrives-uncounted : (p : P) (m : M) (old new : EngineState P M S O D J B Q C T) (told : Turn P D) → HasContent s past old.node.core → new.node ≡ old.node → new.job ≡ None
       → told ≡ turn.Refused (Some p) Memory → Arrives s i past (payload_of p (Ok m)) old new (Ready told)
   Arrives-uncounted p m old new told has same idle refused = record {
     steps = uncounted p (own_digested s m) ∷ [];
@@ -124,12 +127,13 @@ module _ {P M D S G O J B Q C T : Type 0} (s : Setting P M D) (i : Parties M D S
     goes_on = refl;
     read_from = refl;
     remote = record { no_sets = refl; no_requests = refl; all = refl };
+    asks_none = refl;
     pending = None;
     held = subst (λ x. HoldsJob i.is_of x None) (sym idle) tt;
     flow = refl;
   }
 
   -- what its bytes read as, written otherwise
-  pub Arrives-read : (p : P) (first second : Result M CodecError) (old new : EngineState P M S O D J B Q C T) (result : Poll (Turn P)) → first ≡ second
+  pub Arrives-read : (p : P) (first second : Result M CodecError) (old new : EngineState P M S O D J B Q C T) (result : Poll (Turn P D)) → first ≡ second
       → Arrives s i past (payload_of p second) old new result → Arrives s i past (payload_of p first) old new result
   Arrives-read p first second old new result is one = subst (λ r. Arrives s i past (payload_of p r) old new result) (sym is) one

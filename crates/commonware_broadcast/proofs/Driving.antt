@@ -1,5 +1,5 @@
 -- Polls after polls.
-use Rattle.std.proofs.Common.{◌≡◌, ℕ, zero, suc, true, false, is_some, List, ◌++◌, Option, Some, None, refl, sym, subst}
+use Rattle.std.proofs.Common.{◌≡◌, ℕ, zero, suc, true, false, is_some, ◌≤◌, List, [], ◌∷◌, ◌++◌, length, Option, Some, None, refl, sym, subst, arith}
 use Rattle.std.specs.List.{All}
 use Rattle.std.proofs.lemmas.List.Elements.{All-head, All-tail}
 use Rattle.futures.specs.declared.task.Poll.{Poll}
@@ -28,38 +28,43 @@ pub some_is : {A : Type 0} (o : Option A) → is_some o ≡ true → (a : A) × 
 some_is None h = absurd (let no : false ≡ true = h in cc)
 some_is (Some a) h = (a, refl)
 
+-- a list of no length is empty
+pub none_listed : {A : Type 0} (xs : List A) → length xs ≤ 0 → xs ≡ []
+none_listed [] h = refl
+none_listed (x ∷ xs) h = absurd (omega (arith, h))
+
 -- a turn that is no end tells none
-pub no_end : {P : Type 0} (t : Turn P) → ((cause : EndCause) → t ≡ turn.Ended cause → ⊥) → end_told t ≡ None
+pub no_end : {P D : Type 0} (t : Turn P D) → ((cause : EndCause) → t ≡ turn.Ended cause → ⊥) → end_told t ≡ None
 no_end turn.Peers h = refl
-no_end (turn.Broadcast out) h = refl
+no_end (turn.Broadcast d out) h = refl
 no_end turn.Subscribe h = refl
 no_end turn.Get h = refl
-no_end (turn.Payload p out) h = refl
+no_end (turn.Payload p d out) h = refl
 no_end (turn.Invalid p error) h = refl
 no_end (turn.Refused peer cause) h = refl
 no_end (turn.Ended cause) h = absurd (h cause refl)
 
-module _ {P : Type 0} where
+module _ {P D : Type 0} where
   -- turns that tell no end are not that of an end
-  unended : (result : Poll (Turn P)) (rest : List (Turn P)) (cause : EndCause) → All (λ t. end_told t ≡ None) (given result ++ rest) → result ≡ Ready (turn.Ended cause) → ⊥
+  unended : (result : Poll (Turn P D)) (rest : List (Turn P D)) (cause : EndCause) → All (λ t. end_told t ≡ None) (given result ++ rest) → result ≡ Ready (turn.Ended cause) → ⊥
   unended (Ready t) rest cause none is =
       let same : Ready t ≡ Ready (turn.Ended cause) = is in
-      let no : Some cause ≡ None = subst (λ (x : Turn P). end_told x ≡ None) (let e : t ≡ turn.Ended cause = cc in e) (All-head (λ (x : Turn P). end_told x ≡ None) t rest none) in cc
+      let no : Some cause ≡ None = subst (λ (x : Turn P D). end_told x ≡ None) (let e : t ≡ turn.Ended cause = cc in e) (All-head (λ (x : Turn P D). end_told x ≡ None) t rest none) in cc
   unended Pending rest cause none is = let no : Pending ≡ Ready (turn.Ended cause) = is in cc
 
-  later : (result : Poll (Turn P)) (rest : List (Turn P)) → All (λ t. end_told t ≡ None) (given result ++ rest) → All (λ t. end_told t ≡ None) rest
-  later (Ready t) rest none = All-tail (λ (x : Turn P). end_told x ≡ None) t rest none
+  later : (result : Poll (Turn P D)) (rest : List (Turn P D)) → All (λ t. end_told t ≡ None) (given result ++ rest) → All (λ t. end_told t ≡ None) rest
+  later (Ready t) rest none = All-tail (λ (x : Turn P D). end_told x ≡ None) t rest none
   later Pending rest none = none
 
 module _ {P M D S G O J N R B Q C T : Type 0} (f : Format P M D C) (i : Interfaces P M D S G O J N R B Q) where
   -- the steps of a poll whose turns are these
-  pub IsPoll-takes : (old new : Moment P M S O D J B Q C T N R) (result : Poll (Turn P)) (listed : List (Turn P)) → given result ≡ listed
+  pub IsPoll-takes : (old new : Moment P M S O D J B Q C T N R) (result : Poll (Turn P D)) (listed : List (Turn P D)) → given result ≡ listed
       → IsPoll f i old new result → AlwaysTakes f i old new listed
   IsPoll-takes old new result listed is one = λ s has_format past has before held.
       subst (λ l. TakesSteps s i past before old new l) is (one.took s has_format past has before held).took
 
   -- steps, and then more
-  pub AlwaysTakes-more : (old mid new : Moment P M S O D J B Q C T N R) (listed more_listed : List (Turn P)) → (old.0.end ≡ None → mid.0.end ≡ None)
+  pub AlwaysTakes-more : (old mid new : Moment P M S O D J B Q C T N R) (listed more_listed : List (Turn P D)) → (old.0.end ≡ None → mid.0.end ≡ None)
       → AlwaysTakes f i old mid listed → mid.0.priority ≡ old.0.priority → mid.0.codec_config ≡ old.0.codec_config
       → AlwaysTakes f i mid new more_listed → AlwaysTakes f i old new (listed ++ more_listed)
   AlwaysTakes-more old mid new listed more_listed lives begun priority config more = λ s has_format past has before held.
@@ -68,7 +73,7 @@ module _ {P M D S G O J N R B Q C T : Type 0} (f : Format P M D C) (i : Interfac
       TakesSteps-more s i past before old mid new listed more_listed lives one (more s still (happenings one.steps ++ past) one.ran.content one.pending one.held)
 
   -- the steps of polls of which none ended the engine
-  pub Polls-take : (count : ℕ) (old new : Moment P M S O D J B Q C T N R) (turns : List (Turn P)) → Polls f i count old new turns
+  pub Polls-take : (count : ℕ) (old new : Moment P M S O D J B Q C T N R) (turns : List (Turn P D)) → Polls f i count old new turns
       → All (λ t. end_told t ≡ None) turns → AlwaysTakes f i old new turns
   Polls-take zero old new turns polls none = λ s has_format past has before held.
       subst (λ n. TakesSteps s i past before old n turns) (sym polls.0)

@@ -22,28 +22,28 @@ HasCause-weaker a o f a' o' f' on_a on_e on_f PeersClosed h = on_e h
 HasCause-weaker a o f a' o' f' on_a on_e on_f NetworkFailed h = on_f h
 HasCause-weaker a o f a' o' f' on_a on_e on_f WaitFailed h = h
 
-module _ {P : Type 0} where
+module _ {P D : Type 0} where
   -- a poll that tells no end is that of none
-  pub not_ended : {holds : Type 0} (result : Poll (Turn P)) (cause : EndCause) → end_in result ≡ None → result ≡ Ready (turn.Ended cause) → holds
+  pub not_ended : {holds : Type 0} (result : Poll (Turn P D)) (cause : EndCause) → end_in result ≡ None → result ≡ Ready (turn.Ended cause) → holds
   not_ended result cause none is = absurd (let no : Some cause ≡ None = sym (ap end_in is) ∙ none in cc)
 
-  turn_of_end : (t : Turn P) (cause : EndCause) → end_told t ≡ Some cause → t ≡ turn.Ended cause
+  turn_of_end : (t : Turn P D) (cause : EndCause) → end_told t ≡ Some cause → t ≡ turn.Ended cause
   turn_of_end turn.Peers cause h = absurd (let no : None ≡ Some cause = h in cc)
-  turn_of_end (turn.Broadcast out) cause h = absurd (let no : None ≡ Some cause = h in cc)
+  turn_of_end (turn.Broadcast d out) cause h = absurd (let no : None ≡ Some cause = h in cc)
   turn_of_end turn.Subscribe cause h = absurd (let no : None ≡ Some cause = h in cc)
   turn_of_end turn.Get cause h = absurd (let no : None ≡ Some cause = h in cc)
-  turn_of_end (turn.Payload p out) cause h = absurd (let no : None ≡ Some cause = h in cc)
+  turn_of_end (turn.Payload p d out) cause h = absurd (let no : None ≡ Some cause = h in cc)
   turn_of_end (turn.Invalid p error) cause h = absurd (let no : None ≡ Some cause = h in cc)
   turn_of_end (turn.Refused peer why) cause h = absurd (let no : None ≡ Some cause = h in cc)
   turn_of_end (turn.Ended why) cause h = let same : Some why ≡ Some cause = h in cc
 
   -- a poll that tells an end is that of this end
-  pub as_ended : (result : Poll (Turn P)) (cause : EndCause) → end_in result ≡ Some cause → result ≡ Ready (turn.Ended cause)
+  pub as_ended : (result : Poll (Turn P D)) (cause : EndCause) → end_in result ≡ Some cause → result ≡ Ready (turn.Ended cause)
   as_ended (Ready t) cause h = ap Ready (turn_of_end t cause h)
   as_ended Pending cause h = absurd (let no : None ≡ Some cause = h in cc)
 
 module _ {P M D S G O J N R B Q C T : Type 0} (f : Format P M D C) (i : Interfaces P M D S G O J N R B Q)
-    (old new : Moment P M S O D J B Q C T N R) (result : Poll (Turn P)) where
+    (old new : Moment P M S O D J B Q C T N R) (result : Poll (Turn P D)) where
   -- a poll of an engine that had not ended
   pub IsPoll-open : old.0.end ≡ None → new.0.end ≡ end_in result → Always f i old (λ s past before. PollsOnce s i past before old new result)
       → Attends i.provider i.receiver i.requests old new result
@@ -59,6 +59,6 @@ module _ {P M D S G O J N R B Q C T : Type 0} (f : Format P M D C) (i : Interfac
     keeps_strategy = strategy;
   }
 
-pub IfNetwork-weaker : {P : Type 0} (holds more : Type 0) → (holds → more) → (result : Poll (Turn P)) → IfNetwork result holds → IfNetwork result more
+pub IfNetwork-weaker : {P D : Type 0} (holds more : Type 0) → (holds → more) → (result : Poll (Turn P D)) → IfNetwork result holds → IfNetwork result more
 IfNetwork-weaker holds more then (Ready t) h = λ is. then (h is)
 IfNetwork-weaker holds more then Pending h = then h

@@ -11,4 +11,6 @@ pub mod Driving
 pub mod Ending
 pub mod Polls
 pub mod Parting
-pub mod Unasked
+pub mod Repolled
+pub mod Leaving
+pub mod Naming

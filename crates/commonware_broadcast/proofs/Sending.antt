@@ -7,7 +7,7 @@ use Rattle.broadcast_core.specs.declared.event.Sent.{Sent}
 use Rattle.engine_io.specs.declared.input.Input.{Input}
 use Rattle.engine_io.specs.declared.input.Input.TheVariants.{Peers, Request, Arrived, Invalid}
 use Rattle.engine_io.specs.Inputs.{requests_in}
-use Rattle.commonware_broadcast.specs.EngineHistory.{Step, swept, applied, refused, decoded, uncounted, ended, happenings_at, happenings, inputs, inputs_at}
+use Rattle.commonware_broadcast.specs.EngineHistory.{Step, swept, applied, refused, decoded, uncounted, ended, happenings_at, happenings, inputs, inputs_at, outcomes, outcomes_at}
 use Rattle.commonware_broadcast.specs.AppliesSteps.{Sends, IsOf}
 use Rattle.commonware_broadcast.proofs.Composing.{happenings-append}
 use Rattle.commonware_broadcast.proofs.Telling.{input-at, none-before, none-after}
@@ -45,6 +45,29 @@ module _ {P M D S G : Type 0} (s : Setting P M D) where
       sent-append s (happenings_at step) (happenings steps)
       ∙ ap (λ xs. xs ++ sent s (happenings_at step)) (sent-none steps (none-before (requests_in (inputs steps)) (requests_in (inputs_at step)) both))
       ∙ sent-at-none step (none-after (requests_in (inputs steps)) (requests_in (inputs_at step)) both)
+
+module _ {P M D S G : Type 0} where
+  outcomes-at-none : (step : Step P M D S G) → requests_in (inputs_at step) ≡ [] → outcomes_at step ≡ []
+  outcomes-at-none (swept test) h = refl
+  outcomes-at-none (applied (Peers ps) replies) h = refl
+  outcomes-at-none (applied (Request r) replies) h = absurd (let no : r ∷ [] ≡ [] = h in cc)
+  outcomes-at-none (applied (Arrived p c) replies) h = refl
+  outcomes-at-none (applied (Invalid p error) replies) h = refl
+  outcomes-at-none (refused (Peers ps) cause) h = refl
+  outcomes-at-none (refused (Request r) cause) h = absurd (let no : r ∷ [] ≡ [] = h in cc)
+  outcomes-at-none (refused (Arrived p c) cause) h = refl
+  outcomes-at-none (refused (Invalid p error) cause) h = refl
+  outcomes-at-none (decoded p) h = refl
+  outcomes-at-none (uncounted p c) h = refl
+  outcomes-at-none (ended cause) h = refl
+
+  -- where there was no request, nothing is told of one
+  pub outcomes-none : (steps : List (Step P M D S G)) → requests_in (inputs steps) ≡ [] → outcomes steps ≡ []
+  outcomes-none [] h = refl
+  outcomes-none (step ∷ steps) h =
+      let both : requests_in (inputs steps) ++ requests_in (inputs_at step) ≡ [] = sym (requests-append (inputs steps) (inputs_at step)) ∙ h in
+      ap (λ bs. bs ++ outcomes_at step) (outcomes-none steps (none-before (requests_in (inputs steps)) (requests_in (inputs_at step)) both))
+      ∙ outcomes-at-none step (none-after (requests_in (inputs steps)) (requests_in (inputs_at step)) both)
 
 module _ {P M D S G N : Type 0} (s : Setting P M D) (sender_told : N → List (Sent P) → Type 0) where
   -- nothing was sent

@@ -1,5 +1,5 @@
 -- The steps of polls.
-use Rattle.std.proofs.Common.{inl, inr, ◌≡◌, ℕ, Bool, List, [], ◌∷◌, ◌++◌, Option, Some, None, refl, sym, ap, ◌∙◌, subst, append-nil, append_assoc}
+use Rattle.std.proofs.Common.{inl, inr, ◌≡◌, ℕ, ◌+◌, Bool, List, [], ◌∷◌, ◌++◌, Option, Some, None, refl, sym, ap, ◌∙◌, subst, append-nil, append_assoc, arith}
 use Rattle.futures.specs.declared.task.Poll.{Poll}
 use Rattle.futures.specs.declared.task.Poll.TheVariants.{Ready}
 use Rattle.broadcast_core.specs.Setting.{Setting}
@@ -14,21 +14,22 @@ use Rattle.engine_io.specs.declared.input.Input.TheVariants.{Peers, Request, Arr
 use Rattle.engine_io.specs.declared.input.Turn.{Turn}
 use Rattle.engine_io.specs.declared.input.Turn.TheVariants.{Ended}
 use Rattle.engine_io.specs.Inputs.{sets_in, requests_in, payloads_in}
+use Rattle.engine_io.specs.Refused.{refuses, is_request, outcome_of}
 use Rattle.engine_io.specs.Replies.{Asker}
 use Rattle.engine_io.specs.Sources.{given}
 use Rattle.commonware_broadcast.specs.declared.buffered.engine.node.Node.{Node}
 use Rattle.commonware_broadcast.specs.AppliesSteps.{AppliesStep, AppliesSteps, Applies, Sends, sinks}
 use Rattle.commonware_broadcast.specs.Arrives.{Arrival, Arrives, message_of, input_of, reader_of}
-use Rattle.commonware_broadcast.specs.EngineHistory.{Step, swept, ended, happenings, inputs, inputs_at, read_from, read_from_at, end_of, turns, turns_at}
+use Rattle.commonware_broadcast.specs.EngineHistory.{Step, swept, ended, happenings, inputs, inputs_at, outcomes, outcomes_at, read_from, read_from_at, end_of, sweeps, sweeps_at, turns, turns_at}
 use Rattle.commonware_broadcast.specs.EngineState.{EngineState, Moment}
 use Rattle.commonware_broadcast.specs.Interfaces.{Format, IsSetting, Interfaces}
 use Rattle.commonware_broadcast.specs.Taken.{pending_input, payload_inputs, sender_of, senders_of, HoldsJob, Holds, TakesNone}
-use Rattle.commonware_broadcast.specs.TakesSteps.{TakesSteps, CleansUpFirst, PollsOnce}
+use Rattle.commonware_broadcast.specs.TakesSteps.{TakesSteps, TakesOnly, CleansUpFirst, PollsOnce}
 use Rattle.commonware_broadcast.proofs.Composing.{AppliesSteps-none, AppliesSteps-more, AreSteps-append}
 use Rattle.commonware_broadcast.proofs.Due.{map-after, all-due}
 use Rattle.commonware_broadcast.proofs.Applying.{AppliesSteps-one}
-use Rattle.commonware_broadcast.proofs.Sending.{requests-append, Sends-silent, Sends-none, Sends-more}
-use Rattle.commonware_broadcast.proofs.Telling.{input-at, reads-none, goes-on-at, inputs-append, read_from-append, turns-append, end_of-append}
+use Rattle.commonware_broadcast.proofs.Sending.{requests-append, outcomes-none, Sends-silent, Sends-none, Sends-more}
+use Rattle.commonware_broadcast.proofs.Telling.{input-at, outcome-at, reads-none, goes-on-at, inputs-append, outcomes-append, read_from-append, turns-append, end_of-append, sweeps-append, sweeps-none}
 
 -- the setting stays that of the engine
 pub IsSetting-later : {P M D C : Type 0} (f : Format P M D C) (config later_config : C) (flag later_flag : Bool) (s : Setting P M D) → IsSetting f config flag s
@@ -91,7 +92,7 @@ flow-append b m n p q i j first second =
 module _ {P M D S G O J N R B Q C T : Type 0} (s : Setting P M D) (i : Interfaces P M D S G O J N R B Q)
     (past : History P M D (Asker S) (Asker G)) (before : Option (P × M)) where
   -- the engine stays, and the network gives nothing
-  abbrev pub TakesSteps-none : (old new : Moment P M S O D J B Q C T N R) (listed : List (Turn P)) → HasContent s past old.0.node.core
+  abbrev pub TakesSteps-none : (old new : Moment P M S O D J B Q C T N R) (listed : List (Turn P D)) → HasContent s past old.0.node.core
       → Holds i.of_arrivals.is_of old.0.end old.0.job before → (old.0.end ≡ None → listed ≡ []) → new.0 ≡ old.0 → new.1.0 ≡ old.1.0
       → ((told : List (P × List ℕ)) → i.receiver.told old.1.1 told → i.receiver.told new.1.1 (told ++ []))
       → TakesSteps s i past before old new listed
@@ -105,6 +106,7 @@ module _ {P M D S G O J N R B Q C T : Type 0} (s : Setting P M D) (i : Interface
     ends = λ lives. ap (λ e. e.end) same ∙ lives;
     sets = λ told h. subst (λ e. i.provider.told e.provider (told ++ [])) (sym same) (told-same i.provider.told old.0.provider told h);
     requests = λ told h. subst (λ e. i.requests.told e.requests (told ++ [])) (sym same) (told-same i.requests.told old.0.requests told h);
+    outcomes = λ told h. subst (λ e. i.requests.ended e.requests (told ++ [])) (sym same) (told-same i.requests.ended old.0.requests told h);
     received = [];
     given = gives;
     pending = before;
@@ -115,15 +117,16 @@ module _ {P M D S G O J N R B Q C T : Type 0} (s : Setting P M D) (i : Interface
 
   module _ (old new : Moment P M S O D J B Q C T N R) where
     -- one step, which takes nothing from the network
-    abbrev pub TakesSteps-step : (step : Step P M D S G) (listed : List (Turn P))
+    abbrev pub TakesSteps-step : (step : Step P M D S G) (listed : List (Turn P D))
         → AppliesSteps s i.of_arrivals.may_answer i.of_arrivals.outlet.told past (step ∷ []) old.0.node new.0.node
         → Sends s i.sender.told (step ∷ []) old.1.0 new.1.0 → turns_at s step past ≡ listed → new.0.end ≡ end_of (step ∷ [])
         → ((told : List (List P)) → i.provider.told old.0.provider told → i.provider.told new.0.provider (told ++ sets_in (inputs_at step)))
         → ((told : List (Asked (Message P M S G D))) → i.requests.told old.0.requests told → i.requests.told new.0.requests (told ++ requests_in (inputs_at step)))
+        → ((told : List Bool) → i.requests.ended old.0.requests told → i.requests.ended new.0.requests (told ++ outcomes_at step))
         → ((told : List (P × List ℕ)) → i.receiver.told old.1.1 told → i.receiver.told new.1.1 (told ++ []))
         → payloads_in (inputs_at step) ≡ [] → read_from_at step ≡ [] → Holds i.of_arrivals.is_of new.0.end new.0.job before
         → TakesSteps s i past before old new listed
-    TakesSteps-step step listed ran sends turned ends sets requests gives local reads held = record {
+    TakesSteps-step step listed ran sends turned ends sets requests outcomes gives local reads held = record {
       steps = step ∷ [];
       ran = ran;
       sends = sends;
@@ -132,6 +135,7 @@ module _ {P M D S G O J N R B Q C T : Type 0} (s : Setting P M D) (i : Interface
       ends = λ _. ends;
       sets = sets;
       requests = requests;
+      outcomes = outcomes;
       received = [];
       given = gives;
       pending = before;
@@ -141,15 +145,16 @@ module _ {P M D S G O J N R B Q C T : Type 0} (s : Setting P M D) (i : Interface
     }
 
     -- a cleanup of the waiters, and then a step that takes nothing from the network
-    pub CleansUpFirst-step : (test : ℕ → Asker S → Bool) (mid : Node P M S O D) (step : Step P M D S G) (listed : List (Turn P))
+    pub CleansUpFirst-step : (test : ℕ → Asker S → Bool) (mid : Node P M S O D) (step : Step P M D S G) (listed : List (Turn P D))
         → AppliesStep s i.of_arrivals.may_answer i.of_arrivals.outlet.told past (swept test) old.0.node mid
         → AppliesSteps s i.of_arrivals.may_answer i.of_arrivals.outlet.told (cleanup test ∷ past) (step ∷ []) mid new.0.node
         → Sends s i.sender.told (step ∷ []) old.1.0 new.1.0 → turns_at s step (cleanup test ∷ past) ≡ listed → new.0.end ≡ end_of (step ∷ [])
         → ((told : List (List P)) → i.provider.told old.0.provider told → i.provider.told new.0.provider (told ++ sets_in (inputs_at step)))
         → ((told : List (Asked (Message P M S G D))) → i.requests.told old.0.requests told → i.requests.told new.0.requests (told ++ requests_in (inputs_at step)))
-        → new.1.1 ≡ old.1.1 → payloads_in (inputs_at step) ≡ [] → read_from_at step ≡ [] → Holds i.of_arrivals.is_of new.0.end new.0.job before
+        → ((told : List Bool) → i.requests.ended old.0.requests told → i.requests.ended new.0.requests (told ++ outcomes_at step))
+        → new.1.1 ≡ old.1.1 → payloads_in (inputs_at step) ≡ [] → read_from_at step ≡ [] → sweeps_at step ≡ 0 → Holds i.of_arrivals.is_of new.0.end new.0.job before
         → CleansUpFirst s i past before old new listed
-    CleansUpFirst-step test mid step listed cleaned ran sends turned ends sets requests receiver local reads held =
+    CleansUpFirst-step test mid step listed cleaned ran sends turned ends sets requests outcomes receiver local reads unasked held =
         let all = AppliesSteps-more s i.of_arrivals.may_answer i.of_arrivals.outlet.told past (swept test ∷ []) (step ∷ []) old.0.node mid new.0.node
         (AppliesSteps-one s i.of_arrivals.may_answer i.of_arrivals.outlet.told past (swept test) old.0.node mid cleaned tt) ran in
         record {
@@ -162,6 +167,7 @@ module _ {P M D S G O J N R B Q C T : Type 0} (s : Setting P M D) (i : Interface
             ends = λ _. ends ∙ sym (end_of-append (step ∷ []) (swept test ∷ []) refl);
             sets = sets;
             requests = requests;
+            outcomes = outcomes;
             received = [];
             given = λ told h. subst (λ r. i.receiver.told r (told ++ [])) (sym receiver) (told-same i.receiver.told old.1.1 told h);
             pending = before;
@@ -169,47 +175,51 @@ module _ {P M D S G O J N R B Q C T : Type 0} (s : Setting P M D) (i : Interface
             flow = append-nil (pending_input s before) ∙ ap (λ l. l ++ pending_input s before) (sym local);
             read = reads;
           };
-          swept_first = (test, step ∷ [], refl);
+          swept_once = record { test = test; later = step ∷ []; first = refl; once = omega (arith, unasked) };
         }
 
     -- a cleanup, and then one input, which was applied or refused
-    pub CleansUpFirst-input : (test : ℕ → Asker S → Bool) (mid : Node P M S O D) (input : Input P M S G D) (turn : Turn P)
+    pub CleansUpFirst-input : (test : ℕ → Asker S → Bool) (mid : Node P M S O D) (input : Input P M S G D) (turn : Turn P D)
         → AppliesStep s i.of_arrivals.may_answer i.of_arrivals.outlet.told past (swept test) old.0.node mid
         → Applies s (sinks i.of_arrivals.may_answer i.of_arrivals.outlet.told i.sender.told) (cleanup test ∷ past) input turn (mid, old.1.0) (new.0.node, new.1.0)
         → payloads_in (input ∷ []) ≡ []
         → ((told : List (List P)) → i.provider.told old.0.provider told → i.provider.told new.0.provider (told ++ sets_in (input ∷ [])))
         → ((told : List (Asked (Message P M S G D))) → i.requests.told old.0.requests told → i.requests.told new.0.requests (told ++ requests_in (input ∷ [])))
+        → ((told : List Bool) → i.requests.ended old.0.requests told → i.requests.ended new.0.requests (told ++ outcome_of (is_request input) (refuses turn)))
         → new.1.1 ≡ old.1.1 → new.0.end ≡ None → Holds i.of_arrivals.is_of new.0.end new.0.job before
         → CleansUpFirst s i past before old new (turn ∷ [])
-    CleansUpFirst-input test mid input turn cleaned one local sets requests receiver lives held =
+    CleansUpFirst-input test mid input turn cleaned one local sets requests outcomes receiver lives held =
         let done = one.handled in
         let is : inputs_at done.step ≡ input ∷ [] = input-at input done.step done.of_input in
         CleansUpFirst-step test mid done.step (turn ∷ []) cleaned done.ran one.sends done.turned (lives ∙ sym (goes-on-at input done.step [] done.of_input))
         (λ told h. subst (λ is. i.provider.told new.0.provider (told ++ sets_in is)) (sym is) (sets told h))
         (λ told h. subst (λ is. i.requests.told new.0.requests (told ++ requests_in is)) (sym is) (requests told h))
-        receiver (ap payloads_in is ∙ local) (reads-none input done.step done.of_input) held
+        (λ told h. subst (λ bs. i.requests.ended new.0.requests (told ++ bs)) (sym (outcome-at s (cleanup test ∷ past) input turn done.step done.of_input done.turned)) (outcomes told h))
+        receiver (ap payloads_in is ∙ local) (reads-none input done.step done.of_input) (sweeps-none input done.step done.of_input) held
 
     -- a cleanup alone
     pub CleansUpFirst-alone : (test : ℕ → Asker S → Bool) → AppliesStep s i.of_arrivals.may_answer i.of_arrivals.outlet.told past (swept test) old.0.node new.0.node → new.0.end ≡ None
         → ((told : List (List P)) → i.provider.told old.0.provider told → i.provider.told new.0.provider (told ++ []))
         → ((told : List (Asked (Message P M S G D))) → i.requests.told old.0.requests told → i.requests.told new.0.requests (told ++ []))
+        → ((told : List Bool) → i.requests.ended old.0.requests told → i.requests.ended new.0.requests (told ++ []))
         → new.1 ≡ old.1 → Holds i.of_arrivals.is_of new.0.end new.0.job before
         → CleansUpFirst s i past before old new []
-    CleansUpFirst-alone test cleaned ends sets requests network held = record {
+    CleansUpFirst-alone test cleaned ends sets requests outcomes network held = record {
       took = TakesSteps-step (swept test) [] (AppliesSteps-one s i.of_arrivals.may_answer i.of_arrivals.outlet.told past (swept test) old.0.node new.0.node cleaned tt)
           (subst (λ n. Sends {S = S} {G = G} s i.sender.told (swept test ∷ []) old.1.0 n.0) (sym network) (Sends-silent {S = S} {G = G} s i.sender.told (swept test ∷ []) old.1.0 refl))
-          refl ends sets requests (λ told h. subst (λ n. i.receiver.told n.1 (told ++ [])) (sym network) (told-same i.receiver.told old.1.1 told h)) refl refl held;
-      swept_first = (test, [], refl);
+          refl ends sets requests outcomes (λ told h. subst (λ n. i.receiver.told n.1 (told ++ [])) (sym network) (told-same i.receiver.told old.1.1 told h)) refl refl held;
+      swept_once = record { test = test; later = []; first = refl; once = refl };
     }
 
     -- the steps of an arrival, which is the message held before or what the network gave
-    abbrev pub TakesSteps-arrival : (mid : EngineState P M S O D J B Q C T) (arrival : Arrival P M) (result : Poll (Turn P)) (received : List (P × List ℕ))
+    abbrev pub TakesSteps-arrival : (mid : EngineState P M S O D J B Q C T) (arrival : Arrival P M) (result : Poll (Turn P D)) (received : List (P × List ℕ))
         → Arrives s i.of_arrivals past arrival mid new.0 result → mid.node ≡ old.0.node → new.0.end ≡ None → new.0.provider ≡ old.0.provider
-        → ((told : List (Asked (Message P M S G D))) → i.requests.told old.0.requests told → i.requests.told new.0.requests told) → new.1.0 ≡ old.1.0
+        → ((told : List (Asked (Message P M S G D))) → i.requests.told old.0.requests told → i.requests.told new.0.requests told)
+        → ((told : List Bool) → i.requests.ended old.0.requests told → i.requests.ended new.0.requests told) → new.1.0 ≡ old.1.0
         → ((told : List (P × List ℕ)) → i.receiver.told old.1.1 told → i.receiver.told new.1.1 (told ++ received))
         → input_of s {S = S} {G = G} arrival ≡ pending_input s before ++ payload_inputs s received → reader_of s arrival ≡ senders_of s received
         → TakesSteps s i past before old new (given result)
-    TakesSteps-arrival mid arrival result received one node lives provider requests sender gives coming reads = record {
+    TakesSteps-arrival mid arrival result received one node lives provider requests outcomes sender gives coming reads = record {
       steps = one.steps;
       ran = subst (λ n. AppliesSteps s i.of_arrivals.may_answer i.of_arrivals.outlet.told past one.steps n new.0.node) node one.ran;
       sends = subst (λ n. Sends s i.sender.told one.steps old.1.0 n) (sym sender) (Sends-none s i.sender.told one.steps old.1.0 one.remote.no_requests);
@@ -218,6 +228,7 @@ module _ {P M D S G O J N R B Q C T : Type 0} (s : Setting P M D) (i : Interface
       ends = λ _. lives ∙ sym one.goes_on;
       sets = λ told h. subst (λ l. i.provider.told new.0.provider (told ++ l)) (sym one.remote.no_sets) (subst (λ b. i.provider.told b (told ++ [])) (sym provider) (told-same i.provider.told old.0.provider told h));
       requests = λ told h. subst (λ l. i.requests.told new.0.requests (told ++ l)) (sym one.remote.no_requests) (told-same i.requests.told new.0.requests told (requests told h));
+      outcomes = λ told h. subst (λ l. i.requests.ended new.0.requests (told ++ l)) (sym (outcomes-none one.steps one.remote.no_requests)) (told-same i.requests.ended new.0.requests told (outcomes told h));
       received = received;
       given = gives;
       pending = one.pending;
@@ -227,11 +238,12 @@ module _ {P M D S G O J N R B Q C T : Type 0} (s : Setting P M D) (i : Interface
     }
 
     -- requests that tell as much were there first
-    abbrev pub TakesSteps-asked : (first : Moment P M S O D J B Q C T N R) (listed : List (Turn P)) → TakesSteps s i past before old new listed
+    abbrev pub TakesSteps-asked : (first : Moment P M S O D J B Q C T N R) (listed : List (Turn P D)) → TakesSteps s i past before old new listed
         → first.0.node ≡ old.0.node → first.0.end ≡ old.0.end → first.0.provider ≡ old.0.provider
-        → ((told : List (Asked (Message P M S G D))) → i.requests.told first.0.requests told → i.requests.told old.0.requests told) → first.1 ≡ old.1
+        → ((told : List (Asked (Message P M S G D))) → i.requests.told first.0.requests told → i.requests.told old.0.requests told)
+        → ((told : List Bool) → i.requests.ended first.0.requests told → i.requests.ended old.0.requests told) → first.1 ≡ old.1
         → TakesSteps s i past before first new listed
-    TakesSteps-asked first listed one node end provider tells network = record {
+    TakesSteps-asked first listed one node end provider tells outcomes network = record {
       steps = one.steps;
       ran = subst (λ n. AppliesSteps s i.of_arrivals.may_answer i.of_arrivals.outlet.told past one.steps n new.0.node) (sym node) one.ran;
       sends = subst (λ n. Sends s i.sender.told one.steps n.0 new.1.0) (sym network) one.sends;
@@ -240,6 +252,7 @@ module _ {P M D S G O J N R B Q C T : Type 0} (s : Setting P M D) (i : Interface
       ends = λ lives. one.ends (sym end ∙ lives);
       sets = λ told h. one.sets told (subst (λ b. i.provider.told b told) provider h);
       requests = λ told h. one.requests told (tells told h);
+      outcomes = λ told h. one.outcomes told (outcomes told h);
       received = one.received;
       given = λ told h. one.given told (subst (λ n. i.receiver.told n.1 told) network h);
       pending = one.pending;
@@ -249,7 +262,7 @@ module _ {P M D S G O J N R B Q C T : Type 0} (s : Setting P M D) (i : Interface
     }
 
   -- steps, and then more
-  abbrev pub TakesSteps-more : (old mid new : Moment P M S O D J B Q C T N R) (listed more_listed : List (Turn P)) → (old.0.end ≡ None → mid.0.end ≡ None)
+  abbrev pub TakesSteps-more : (old mid new : Moment P M S O D J B Q C T N R) (listed more_listed : List (Turn P D)) → (old.0.end ≡ None → mid.0.end ≡ None)
       → (one : TakesSteps s i past before old mid listed) → TakesSteps s i (happenings one.steps ++ past) one.pending mid new more_listed
       → TakesSteps s i past before old new (listed ++ more_listed)
   TakesSteps-more old mid new listed more_listed lives one more =
@@ -265,6 +278,8 @@ module _ {P M D S G O J N R B Q C T : Type 0} (s : Setting P M D) (i : Interface
             ∙ ap (λ l. told ++ l) (sym (ap sets_in all ∙ sets-append (inputs one.steps) (inputs more.steps)))) (more.sets (told ++ sets_in (inputs one.steps)) (one.sets told h));
         requests = λ told h. subst (i.requests.told new.0.requests) (append_assoc told (requests_in (inputs one.steps)) (requests_in (inputs more.steps))
             ∙ ap (λ l. told ++ l) (sym (ap requests_in all ∙ requests-append (inputs one.steps) (inputs more.steps)))) (more.requests (told ++ requests_in (inputs one.steps)) (one.requests told h));
+        outcomes = λ told h. subst (i.requests.ended new.0.requests) (append_assoc told (outcomes one.steps) (outcomes more.steps)
+            ∙ ap (λ l. told ++ l) (sym (outcomes-append more.steps one.steps))) (more.outcomes (told ++ outcomes one.steps) (one.outcomes told h));
         received = one.received ++ more.received;
         given = λ told h. subst (i.receiver.told new.1.1) (append_assoc told one.received more.received) (more.given (told ++ one.received) (one.given told h));
         pending = more.pending;
@@ -276,75 +291,80 @@ module _ {P M D S G O J N R B Q C T : Type 0} (s : Setting P M D) (i : Interface
         read = read_from-append more.steps one.steps ∙ ap (λ ps. ps ++ read_from more.steps) one.read ∙ ap (λ ps. senders_of s one.received ++ ps) more.read ∙ sym (senders-append s one.received more.received);
       }
 
-  pub CleansUpFirst-more : (old mid new : Moment P M S O D J B Q C T N R) (listed more_listed : List (Turn P)) → (old.0.end ≡ None → mid.0.end ≡ None)
-      → (one : CleansUpFirst s i past before old mid listed) → TakesSteps s i (happenings one.took.steps ++ past) one.took.pending mid new more_listed
+  pub CleansUpFirst-more : (old mid new : Moment P M S O D J B Q C T N R) (listed more_listed : List (Turn P D)) → (old.0.end ≡ None → mid.0.end ≡ None)
+      → (one : CleansUpFirst s i past before old mid listed) → TakesOnly s i (happenings one.took.steps ++ past) one.took.pending mid new more_listed
       → CleansUpFirst s i past before old new (listed ++ more_listed)
   CleansUpFirst-more old mid new listed more_listed lives one more = record {
-    took = TakesSteps-more old mid new listed more_listed lives one.took more;
-    swept_first = (
-      one.swept_first.0,
-      more.steps ++ one.swept_first.1,
-      ap (λ l. more.steps ++ l) one.swept_first.2 ∙ sym (append_assoc more.steps one.swept_first.1 (swept one.swept_first.0 ∷ [])),
-    );
+    took = TakesSteps-more old mid new listed more_listed lives one.took more.took;
+    swept_once = record {
+      test = one.swept_once.test;
+      later = more.took.steps ++ one.swept_once.later;
+      first = ap (λ l. more.took.steps ++ l) one.swept_once.first ∙ sym (append_assoc more.took.steps one.swept_once.later (swept one.swept_once.test ∷ []));
+      once = omega (arith, sweeps-append more.took.steps one.took.steps, one.swept_once.once, more.asks_none);
+    };
   }
 
 module _ {P M D S G O J N R B Q C T : Type 0} (s : Setting P M D) (i : Interfaces P M D S G O J N R B Q)
     (past : History P M D (Asker S) (Asker G)) (before : Option (P × M)) (old new : Moment P M S O D J B Q C T N R) where
   -- nothing is taken where the engine and its network stay
-  idle : (steps : List (Step P M D S G)) → new.0.provider ≡ old.0.provider → new.1 ≡ old.1 → requests_in (inputs steps) ≡ [] → TakesNone old new steps
-  idle steps provider network none = record { provider = provider; receiver = ap (λ n. n.1) network; requests = none }
+  idle : (steps : List (Step P M D S G)) → new.0.provider ≡ old.0.provider → new.1 ≡ old.1 → requests_in (inputs steps) ≡ [] → sweeps steps ≡ 0 → TakesNone old new steps
+  idle steps provider network none unasked = record { provider = provider; receiver = ap (λ n. n.1) network; requests = none; asks_none = unasked }
 
   -- a poll of an engine that has ended
-  pub PollsOnce-ended : (cause : EndCause) (result : Poll (Turn P)) → HasContent s past old.0.node.core → Holds i.of_arrivals.is_of old.0.end old.0.job before → old.0.end ≡ Some cause
+  pub PollsOnce-ended : (cause : EndCause) (result : Poll (Turn P D)) → HasContent s past old.0.node.core → Holds i.of_arrivals.is_of old.0.end old.0.job before → old.0.end ≡ Some cause
       → new ≡ old → PollsOnce s i past before old new result
   PollsOnce-ended cause result has held at same = subst (λ n. PollsOnce s i past before old n result) (sym same) (record {
     took = TakesSteps-none s i past before old old (given result) has held (λ lives. absurd (let no : Some cause ≡ None = sym at ∙ lives in cc)) refl refl
         (λ told h. told-same i.receiver.told old.1.1 told h);
-    job_alone = λ job is. record { provider = refl; receiver = refl; requests = refl };
-    swept_first = λ lives. absurd (let no : Some cause ≡ None = sym at ∙ lives in cc);
+    job_alone = λ job is. record { provider = refl; receiver = refl; requests = refl; asks_none = refl };
+    swept_once = λ lives. absurd (let no : Some cause ≡ None = sym at ∙ lives in cc);
   })
 
   -- a stop was asked for, and the engine ended
   pub PollsOnce-stopped : AppliesSteps s i.of_arrivals.may_answer i.of_arrivals.outlet.told past (ended Stopped ∷ []) old.0.node new.0.node
       → new.0.end ≡ Some Stopped → new.0.job ≡ None → new.0.provider ≡ old.0.provider → new.1 ≡ old.1
       → ((told : List (Asked (Message P M S G D))) → i.requests.told old.0.requests told → i.requests.told new.0.requests told)
+      → ((told : List Bool) → i.requests.ended old.0.requests told → i.requests.ended new.0.requests told)
       → PollsOnce s i past before old new (Ready (Ended Stopped))
-  PollsOnce-stopped ran end empty provider network tells = record {
+  PollsOnce-stopped ran end empty provider network tells outcomes = record {
     took = TakesSteps-step s i past before old new (ended Stopped) (Ended Stopped ∷ []) ran
         (subst (λ n. Sends {S = S} {G = G} s i.sender.told (ended Stopped ∷ []) old.1.0 n) (sym (ap (λ n. n.0) network)) (Sends-silent {S = S} {G = G} s i.sender.told (ended Stopped ∷ []) old.1.0 refl))
         refl end
         (λ told h. subst (λ b. i.provider.told b (told ++ [])) (sym provider) (told-same i.provider.told old.0.provider told h))
         (λ told h. told-same i.requests.told new.0.requests told (tells told h))
+        (λ told h. told-same i.requests.ended new.0.requests told (outcomes told h))
         (λ told h. subst (λ n. i.receiver.told n.1 (told ++ [])) (sym network) (told-same i.receiver.told old.1.1 told h)) refl refl (subst (λ e. Holds i.of_arrivals.is_of e new.0.job before) (sym end) empty);
-    job_alone = λ job is. idle (ended Stopped ∷ []) provider network refl;
-    swept_first = λ lives none. inl (refl, idle (ended Stopped ∷ []) provider network refl);
+    job_alone = λ job is. idle (ended Stopped ∷ []) provider network refl refl;
+    swept_once = λ lives none. inl (refl, idle (ended Stopped ∷ []) provider network refl refl);
   }
 
   -- the job that was pending was polled
-  pub PollsOnce-job : (mid : EngineState P M S O D J B Q C T) (p : P) (job : J) (result : Poll (Turn P)) → old.0.job ≡ Some (p, job) → HasContent s past old.0.node.core
+  pub PollsOnce-job : (mid : EngineState P M S O D J B Q C T) (p : P) (job : J) (result : Poll (Turn P D)) → old.0.job ≡ Some (p, job) → HasContent s past old.0.node.core
       → HoldsJob i.of_arrivals.is_of old.0.job before
       → ((m : M) → i.of_arrivals.is_of job m → Arrives s i.of_arrivals past (message_of p m) mid new.0 result)
       → mid.node ≡ old.0.node → new.0.end ≡ None → new.0.provider ≡ old.0.provider
-      → ((told : List (Asked (Message P M S G D))) → i.requests.told old.0.requests told → i.requests.told new.0.requests told) → new.1 ≡ old.1
+      → ((told : List (Asked (Message P M S G D))) → i.requests.told old.0.requests told → i.requests.told new.0.requests told)
+      → ((told : List Bool) → i.requests.ended old.0.requests told → i.requests.ended new.0.requests told) → new.1 ≡ old.1
       → PollsOnce s i past before old new result
-  PollsOnce-job mid p job result at has held arrives node lives provider tells network =
+  PollsOnce-job mid p job result at has held arrives node lives provider tells outcomes network =
       let m = Holds-some i.of_arrivals.is_of p job before (subst (λ j. HoldsJob i.of_arrivals.is_of j before) at held) in
       let one = arrives m.0 m.2 in
       record {
-        took = TakesSteps-arrival s i past before old new mid (message_of p m.0) result [] one node lives provider tells (ap (λ n. n.0) network)
+        took = TakesSteps-arrival s i past before old new mid (message_of p m.0) result [] one node lives provider tells outcomes (ap (λ n. n.0) network)
             (λ told h. subst (λ r. i.receiver.told r (told ++ [])) (sym (ap (λ n. n.1) network)) (told-same i.receiver.told old.1.1 told h))
             (ap (λ b. pending_input s b) (sym m.1) ∙ sym (append-nil (pending_input s before))) refl;
-        job_alone = λ held_job is. idle one.steps provider network one.remote.no_requests;
-        swept_first = λ _ none. absurd (let no : Some (p, job) ≡ None = sym at ∙ none in cc);
+        job_alone = λ held_job is. idle one.steps provider network one.remote.no_requests one.asks_none;
+        swept_once = λ _ none. absurd (let no : Some (p, job) ≡ None = sym at ∙ none in cc);
       }
 
   -- no job was pending, and the sources were polled
-  pub PollsOnce-sources : (mid : Moment P M S O D J B Q C T N R) (result : Poll (Turn P)) → old.0.job ≡ None → CleansUpFirst s i past before mid new (given result)
+  pub PollsOnce-sources : (mid : Moment P M S O D J B Q C T N R) (result : Poll (Turn P D)) → old.0.job ≡ None → CleansUpFirst s i past before mid new (given result)
       → old.0.node ≡ mid.0.node → old.0.end ≡ mid.0.end → old.0.provider ≡ mid.0.provider
-      → ((told : List (Asked (Message P M S G D))) → i.requests.told old.0.requests told → i.requests.told mid.0.requests told) → old.1 ≡ mid.1
+      → ((told : List (Asked (Message P M S G D))) → i.requests.told old.0.requests told → i.requests.told mid.0.requests told)
+      → ((told : List Bool) → i.requests.ended old.0.requests told → i.requests.ended mid.0.requests told) → old.1 ≡ mid.1
       → PollsOnce s i past before old new result
-  PollsOnce-sources mid result none one node end provider tells network = record {
-    took = TakesSteps-asked s i past before mid new old (given result) one.took node end provider tells network;
+  PollsOnce-sources mid result none one node end provider tells outcomes network = record {
+    took = TakesSteps-asked s i past before mid new old (given result) one.took node end provider tells outcomes network;
     job_alone = λ job is. absurd (let no : None ≡ Some job = sym none ∙ is in cc);
-    swept_first = λ _ _. inr one.swept_first;
+    swept_once = λ _ _. inr one.swept_once;
   }

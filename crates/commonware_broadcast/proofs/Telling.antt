@@ -1,17 +1,22 @@
 -- What steps tell: their turns, and whose messages they read.
-use Rattle.std.proofs.Common.{◌≡◌, List, [], ◌∷◌, ◌++◌, None, refl, sym, ap, ◌∙◌, append-nil, append_assoc}
+use Rattle.std.proofs.Common.{◌≡◌, ◌+◌, false, List, [], ◌∷◌, ◌++◌, None, refl, sym, ap, ◌∙◌, append-nil, append_assoc, arith}
 use Rattle.broadcast_core.specs.Setting.{Setting}
 use Rattle.broadcast_core.specs.Happening.{History}
 use Rattle.engine_io.specs.declared.input.Input.{Input}
+use Rattle.broadcast_mailbox.specs.declared.buffered.ingress.message.Message.{Message}
+use Rattle.broadcast_mailbox.specs.declared.buffered.ingress.message.Message.TheVariants.{Broadcast, Subscribe, Get}
+use Rattle.engine_io.specs.declared.input.Input.TheVariants.{Peers, Request, Arrived, Invalid}
 use Rattle.engine_io.specs.declared.input.Turn.{Turn}
+use Rattle.engine_io.specs.declared.input.Turn.TheVariants as tell
+use Rattle.engine_io.specs.Refused.{refuses, is_request, outcome_of}
 use Rattle.engine_io.specs.Replies.{Asker}
-use Rattle.commonware_broadcast.specs.EngineHistory.{Step, swept, applied, refused, decoded, uncounted, ended, happenings, inputs, inputs_at, read_from, read_from_at, end_of, turns, turns_at}
+use Rattle.commonware_broadcast.specs.EngineHistory.{Step, swept, applied, refused, decoded, uncounted, ended, happenings, inputs, inputs_at, outcomes, outcomes_at, turn_of_request, read_from, read_from_at, end_of, sweeps, sweeps_at, turns, turns_at}
 use Rattle.commonware_broadcast.specs.AppliesSteps.{IsOf}
 use Rattle.commonware_broadcast.proofs.Composing.{history-append}
 
 -- the steps have these turns, read messages of these peers, and end in no end
 pub record Tells {P M D S G : Type 0} (s : Setting P M D) (past : History P M D (Asker S) (Asker G))
-    (steps : List (Step P M D S G)) (listed : List (Turn P)) (peers : List P) : Type 0 where
+    (steps : List (Step P M D S G)) (listed : List (Turn P D)) (peers : List P) : Type 0 where
   pub turned : turns s steps past ≡ listed
   pub goes_on : end_of steps ≡ None
   pub read : read_from steps ≡ peers
@@ -33,6 +38,14 @@ module _ {P M D S G : Type 0} where
   pub read_from-append : (later earlier : List (Step P M D S G)) → read_from (later ++ earlier) ≡ read_from earlier ++ read_from later
   read_from-append [] earlier = sym (append-nil (read_from earlier))
   read_from-append (step ∷ later) earlier = ap (λ ps. ps ++ read_from_at step) (read_from-append later earlier) ∙ append_assoc (read_from earlier) (read_from later) (read_from_at step)
+
+  pub outcomes-append : (later earlier : List (Step P M D S G)) → outcomes (later ++ earlier) ≡ outcomes earlier ++ outcomes later
+  outcomes-append [] earlier = sym (append-nil (outcomes earlier))
+  outcomes-append (step ∷ later) earlier = ap (λ bs. bs ++ outcomes_at step) (outcomes-append later earlier) ∙ append_assoc (outcomes earlier) (outcomes later) (outcomes_at step)
+
+  pub sweeps-append : (later earlier : List (Step P M D S G)) → sweeps (later ++ earlier) ≡ sweeps earlier + sweeps later
+  sweeps-append [] earlier = omega arith
+  sweeps-append (step ∷ later) earlier = omega (arith, sweeps-append later earlier)
 
   -- the newest step is among the later ones, if the earlier ones are no end
   pub end_of-append : (later earlier : List (Step P M D S G)) → end_of earlier ≡ None → end_of (later ++ earlier) ≡ end_of later
@@ -61,6 +74,14 @@ module _ {P M D S G : Type 0} where
   reads-none input (uncounted p c) h = absurd h
   reads-none input (ended cause) h = absurd h
 
+  pub sweeps-none : (input : Input P M S G D) (step : Step P M D S G) → IsOf input step → sweeps_at step ≡ 0
+  sweeps-none input (applied given replies) h = refl
+  sweeps-none input (refused given cause) h = refl
+  sweeps-none input (swept other) h = absurd h
+  sweeps-none input (decoded p) h = absurd h
+  sweeps-none input (uncounted p c) h = absurd h
+  sweeps-none input (ended cause) h = absurd h
+
   pub goes-on-at : (input : Input P M S G D) (step : Step P M D S G) (steps : List (Step P M D S G)) → IsOf input step → end_of (step ∷ steps) ≡ None
   goes-on-at input (applied given replies) steps h = refl
   goes-on-at input (refused given cause) steps h = refl
@@ -70,6 +91,34 @@ module _ {P M D S G : Type 0} where
   goes-on-at input (ended cause) steps h = absurd h
 
 module _ {P M D S G : Type 0} (s : Setting P M D) where
+  -- a request that was applied was not refused
+  applied-not : (message : Message P M S G D) (past : History P M D (Asker S) (Asker G)) → false ≡ refuses (turn_of_request s message past)
+  applied-not (Broadcast r c) past = refl
+  applied-not (Subscribe d responder) past = refl
+  applied-not (Get d responder) past = refl
+
+  -- of a request that was applied or refused it is told which
+  pub outcome-at : (past : History P M D (Asker S) (Asker G)) (input : Input P M S G D) (turn : Turn P D) (step : Step P M D S G) → IsOf input step → turns_at s step past ≡ turn ∷ []
+      → outcomes_at step ≡ outcome_of (is_request input) (refuses turn)
+  outcome-at past input turn (applied (Peers ps) replies) h t = ap (λ (i : Input P M S G D). outcome_of (is_request i) (refuses turn)) h
+  outcome-at past input turn (applied (Request r) replies) h t =
+      let same : turn_of_request s r.message past ∷ [] ≡ turn ∷ [] = t in
+      let e : turn_of_request s r.message past ≡ turn = cc in
+      ap (λ b. b ∷ []) (applied-not r.message past ∙ ap refuses e) ∙ ap (λ (i : Input P M S G D). outcome_of (is_request i) (refuses turn)) h
+  outcome-at past input turn (applied (Arrived p c) replies) h t = ap (λ (i : Input P M S G D). outcome_of (is_request i) (refuses turn)) h
+  outcome-at past input turn (applied (Invalid p error) replies) h t = ap (λ (i : Input P M S G D). outcome_of (is_request i) (refuses turn)) h
+  outcome-at past input turn (refused (Peers ps) cause) h t = ap (λ (i : Input P M S G D). outcome_of (is_request i) (refuses turn)) h
+  outcome-at past input turn (refused (Request r) cause) h t =
+      let same : tell.Refused None cause ∷ [] ≡ turn ∷ [] = t in
+      let e : tell.Refused None cause ≡ turn = cc in
+      ap (λ b. b ∷ []) (ap refuses e) ∙ ap (λ (i : Input P M S G D). outcome_of (is_request i) (refuses turn)) h
+  outcome-at past input turn (refused (Arrived p c) cause) h t = ap (λ (i : Input P M S G D). outcome_of (is_request i) (refuses turn)) h
+  outcome-at past input turn (refused (Invalid p error) cause) h t = ap (λ (i : Input P M S G D). outcome_of (is_request i) (refuses turn)) h
+  outcome-at past input turn (swept test) h t = absurd h
+  outcome-at past input turn (decoded p) h t = absurd h
+  outcome-at past input turn (uncounted p c) h t = absurd h
+  outcome-at past input turn (ended cause) h t = absurd h
+
   pub turns-append : (later earlier : List (Step P M D S G)) (past : History P M D (Asker S) (Asker G))
       → turns s (later ++ earlier) past ≡ turns s earlier past ++ turns s later (happenings earlier ++ past)
   turns-append [] earlier past = sym (append-nil (turns s earlier past))
@@ -79,7 +128,7 @@ module _ {P M D S G : Type 0} (s : Setting P M D) where
       ∙ ap (λ hs. turns s earlier past ++ (turns s later (happenings earlier ++ past) ++ turns_at s step hs)) (history-append later earlier past)
 
   -- the step of an input, after others that have no turn
-  pub Tells-input : (past : History P M D (Asker S) (Asker G)) (input : Input P M S G D) (turn : Turn P) (step : Step P M D S G) (steps : List (Step P M D S G)) (peers : List P)
+  pub Tells-input : (past : History P M D (Asker S) (Asker G)) (input : Input P M S G D) (turn : Turn P D) (step : Step P M D S G) (steps : List (Step P M D S G)) (peers : List P)
       → turns s steps past ≡ [] → read_from steps ≡ peers → IsOf input step → turns_at s step (happenings steps ++ past) ≡ turn ∷ [] → Tells s past (step ∷ steps) (turn ∷ []) peers
   Tells-input past input turn step steps peers none read of_input turned = record {
     turned = ap (λ ts. ts ++ turns_at s step (happenings steps ++ past)) none ∙ turned;
@@ -88,7 +137,7 @@ module _ {P M D S G : Type 0} (s : Setting P M D) where
   }
 
   -- steps, and then more
-  pub Tells-more : (past : History P M D (Asker S) (Asker G)) (earlier later : List (Step P M D S G)) (first second : List (Turn P)) (peers more : List P)
+  pub Tells-more : (past : History P M D (Asker S) (Asker G)) (earlier later : List (Step P M D S G)) (first second : List (Turn P D)) (peers more : List P)
       → Tells s past earlier first peers → Tells s (happenings earlier ++ past) later second more → Tells s past (later ++ earlier) (first ++ second) (peers ++ more)
   Tells-more past earlier later first second peers more one two = record {
     turned = turns-append later earlier past ∙ ap (λ ts. ts ++ turns s later (happenings earlier ++ past)) one.turned ∙ ap (λ ts. first ++ ts) two.turned;

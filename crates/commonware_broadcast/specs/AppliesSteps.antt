@@ -1,3 +1,4 @@
+-- Believed.
 -- What the steps of an engine leave.
 use Rattle.std.specs.Prelude.{◌≡◌, ℕ, Bool, List, [], ◌∷◌, ◌++◌}
 use Rattle.std.specs.List.{count_by}
@@ -88,7 +89,7 @@ sinks may_answer told sender_told = record {
 module _ {P M D S G O : Type 0} (s : Setting P M D) (r : Replying M D S G O) where
   -- an input was applied or refused, with this turn
   pub record Handles (past : History P M D (Asker S) (Asker G)) (input : Input P M S G D)
-      (turn : Turn P) (old new : Node P M S O D) : Type 0 where
+      (turn : Turn P D) (old new : Node P M S O D) : Type 0 where
     pub step : Step P M D S G
     pub of_input : IsOf input step
     pub turned : turns_at s step past ≡ turn ∷ []
@@ -97,6 +98,6 @@ module _ {P M D S G O : Type 0} (s : Setting P M D) (r : Replying M D S G O) whe
 module _ {P M D S G O N : Type 0} (s : Setting P M D) (k : Sinks P M D S G O N) where
   -- so it was, and the sender was handed its broadcast
   pub record Applies (past : History P M D (Asker S) (Asker G)) (input : Input P M S G D)
-      (turn : Turn P) (old new : Node P M S O D × N) : Type 0 where
+      (turn : Turn P D) (old new : Node P M S O D × N) : Type 0 where
     pub handled : Handles s k.of_replies past input turn old.0 new.0
     pub sends : Sends s k.sender_told (handled.step ∷ []) old.1 new.1

@@ -1,3 +1,4 @@
+-- Internal.
 -- What an engine does with a message that arrives.
 use Rattle.std.specs.Prelude.{◌≡◌, List, [], ◌∷◌, ◌++◌, Option, Some, None, Result}
 use Rattle.futures.specs.declared.task.Poll.{Poll}
@@ -10,7 +11,7 @@ use Rattle.engine_io.specs.declared.input.Turn.{Turn}
 use Rattle.engine_io.specs.Inputs.{sets_in, requests_in, payloads_in}
 use Rattle.engine_io.specs.Replies.{Asker}
 use Rattle.engine_io.specs.Sources.{given}
-use Rattle.commonware_broadcast.specs.EngineHistory.{Step, inputs, read_from, end_of, turns}
+use Rattle.commonware_broadcast.specs.EngineHistory.{Step, inputs, read_from, end_of, sweeps, turns}
 use Rattle.commonware_broadcast.specs.EngineState.{EngineState}
 use Rattle.commonware_broadcast.specs.Interfaces.{Format, IsSetting, Parties}
 use Rattle.commonware_broadcast.specs.AppliesSteps.{AppliesSteps}
@@ -42,13 +43,15 @@ module _ {P M D : Type 0} (s : Setting P M D) where
 module _ {P M D S G O J B Q C T : Type 0} (s : Setting P M D) (i : Parties M D S G O J) where
   -- after a history, an arrival was taken by these steps
   pub record Arrives (past : History P M D (Asker S) (Asker G)) (arrival : Arrival P M)
-      (old new : EngineState P M S O D J B Q C T) (result : Poll (Turn P)) : Type 0 where
+      (old new : EngineState P M S O D J B Q C T) (result : Poll (Turn P D)) : Type 0 where
     pub steps : List (Step P M D S G)
     pub ran : AppliesSteps s i.may_answer i.outlet.told past steps old.node new.node
     pub turned : turns s steps past ≡ given result
     pub goes_on : end_of steps ≡ None
     pub read_from : read_from steps ≡ reader_of s arrival
     pub remote : IsRemote (inputs steps)
+    -- no waiter was asked whether it is closed
+    pub asks_none : sweeps steps ≡ 0
     -- it is the input, or the message of the job that is pending now
     pub pending : Option (P × M)
     pub held : HoldsJob i.is_of new.job pending
@@ -57,7 +60,7 @@ module _ {P M D S G O J B Q C T : Type 0} (s : Setting P M D) (i : Parties M D S
 module _ {P M D S G O J B Q C T : Type 0} (f : Format P M D C) (i : Parties M D S G O J) where
   -- so it was, whatever happened before
   abbrev pub AlwaysArrives : (Setting P M D → Arrival P M)
-      → (old new : EngineState P M S O D J B Q C T) → Poll (Turn P) → Type 0
+      → (old new : EngineState P M S O D J B Q C T) → Poll (Turn P D) → Type 0
   AlwaysArrives arrival old new result = (s : Setting P M D)
       → IsSetting f old.codec_config old.priority s
       → (past : History P M D (Asker S) (Asker G)) → HasContent s past old.node.core

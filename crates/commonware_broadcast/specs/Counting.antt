@@ -1,3 +1,4 @@
+-- Believed.
 -- What the steps of an engine count.
 use Rattle.std.specs.Prelude.{ℕ, true, false, List, [], ◌∷◌, ◌++◌, map, length, Option, None, Some}
 use Rattle.std.specs.List.{filter}

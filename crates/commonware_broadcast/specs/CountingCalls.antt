@@ -1,3 +1,4 @@
+-- Believed.
 -- What the calls of an engine's counters make of them, for one step.
 use Rattle.std.specs.Prelude.{◌∷◌, length}
 use Rattle.broadcast_core.specs.Setting.{Setting}

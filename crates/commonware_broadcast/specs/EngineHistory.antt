@@ -1,5 +1,6 @@
+-- Believed.
 -- What an engine did: a list of steps, the newest first, and what is read off it.
-use Rattle.std.specs.Prelude.{◌≡◌, ℕ, Bool, true, List, [], ◌∷◌, ◌++◌, Option, None, Some}
+use Rattle.std.specs.Prelude.{◌≡◌, ℕ, ◌+◌, Bool, true, false, List, [], ◌∷◌, ◌++◌, Option, None, Some}
 use Rattle.broadcast_core.specs.Carried.{Carried}
 use Rattle.broadcast_core.specs.Setting.{Setting}
 use Rattle.broadcast_core.specs.Happening.{Happening, History, peers, broadcast, arrival, subscribe, get, cleanup}
@@ -66,6 +67,16 @@ module _ {P M D S G : Type 0} where
   inputs [] = []
   inputs (step ∷ steps) = inputs steps ++ inputs_at step
 
+  abbrev pub outcomes_at : Step P M D S G → List Bool
+  outcomes_at (applied (Request request) replies) = false ∷ []
+  outcomes_at (refused (Request request) cause) = true ∷ []
+  outcomes_at _ = []
+
+  -- whether each request was refused, the oldest first
+  abbrev pub outcomes : List (Step P M D S G) → List Bool
+  outcomes [] = []
+  outcomes (step ∷ steps) = outcomes steps ++ outcomes_at step
+
   abbrev pub handed_out_at : Step P M D S G → Replies S G M D
   handed_out_at (applied input replies) = replies
   handed_out_at _ = []
@@ -96,25 +107,36 @@ module _ {P M D S G : Type 0} where
   end_of (ended cause ∷ steps) = Some cause
   end_of _ = None
 
-  -- the oldest step is a cleanup of the waiters that answered closed
-  abbrev pub IsSweptFirst : List (Step P M D S G) → Type 0
-  IsSweptFirst steps = (test : ℕ → Asker S → Bool) × (later : List (Step P M D S G))
-      × (steps ≡ later ++ swept test ∷ [])
+  abbrev pub sweeps_at : Step P M D S G → ℕ
+  sweeps_at (swept test) = 1
+  sweeps_at _ = 0
+
+  -- how often the waiters that answered closed were dropped
+  abbrev pub sweeps : List (Step P M D S G) → ℕ
+  sweeps [] = 0
+  sweeps (step ∷ steps) = sweeps steps + sweeps_at step
+
+  -- the oldest step is a cleanup of the waiters that answered closed, and there is no other
+  pub record IsSweptOnce (steps : List (Step P M D S G)) : Type 0 where
+    pub test : ℕ → Asker S → Bool
+    pub later : List (Step P M D S G)
+    pub first : steps ≡ later ++ swept test ∷ []
+    pub once : sweeps steps ≡ 1
 
 module _ {P M D S G : Type 0} (s : Setting P M D) where
-  abbrev pub turn_of_request : Message P M S G D → History P M D (Asker S) (Asker G) → Turn P
-  turn_of_request (Broadcast r c) past = turn.Broadcast (outcome s s.own c past)
+  abbrev pub turn_of_request : Message P M S G D → History P M D (Asker S) (Asker G) → Turn P D
+  turn_of_request (Broadcast r c) past = turn.Broadcast c.digest (outcome s s.own c past)
   turn_of_request (Subscribe d responder) past = turn.Subscribe
   turn_of_request (Get d responder) past = turn.Get
 
-  -- the turn of a payload names its peer
-  abbrev pub turn_of_input : Input P M S G D → History P M D (Asker S) (Asker G) → Turn P
+  -- the turn of a message names its digest, that of a payload its peer
+  abbrev pub turn_of_input : Input P M S G D → History P M D (Asker S) (Asker G) → Turn P D
   turn_of_input (Peers ps) past = turn.Peers
   turn_of_input (Request request) past = turn_of_request request.message past
-  turn_of_input (Arrived p c) past = turn.Payload p (outcome s p c past)
+  turn_of_input (Arrived p c) past = turn.Payload p c.digest (outcome s p c past)
   turn_of_input (Invalid p error) past = turn.Invalid p error
 
-  abbrev pub turns_at : Step P M D S G → History P M D (Asker S) (Asker G) → List (Turn P)
+  abbrev pub turns_at : Step P M D S G → History P M D (Asker S) (Asker G) → List (Turn P D)
   turns_at (applied input replies) past = turn_of_input input past ∷ []
   turns_at (refused input cause) past = turn.Refused (peer_of input) cause ∷ []
   turns_at (uncounted p c) past = turn.Refused (Some p) Memory ∷ []
@@ -122,11 +144,11 @@ module _ {P M D S G : Type 0} (s : Setting P M D) where
   turns_at _ past = []
 
   -- the turns of the steps after a history, the oldest first
-  abbrev pub turns : List (Step P M D S G) → History P M D (Asker S) (Asker G) → List (Turn P)
+  abbrev pub turns : List (Step P M D S G) → History P M D (Asker S) (Asker G) → List (Turn P D)
   turns [] past = []
   turns (step ∷ steps) past = turns steps past ++ turns_at step (happenings steps ++ past)
 
 -- why the engine ended, if the turn tells that
-abbrev pub end_told : {P : Type 0} → Turn P → Option EndCause
+abbrev pub end_told : {P D : Type 0} → Turn P D → Option EndCause
 end_told (turn.Ended cause) = Some cause
 end_told _ = None

@@ -1,3 +1,4 @@
+-- Believed.
 -- An engine.
 use Rattle.std.specs.Prelude.{Bool, Option}
 use Rattle.engine_io.specs.declared.input.EndCause.{EndCause}

@@ -1,3 +1,4 @@
+-- Believed.
 -- An engine to which nothing has happened.
 use Rattle.std.specs.Prelude.{[], None}
 use Rattle.commonware_broadcast.specs.declared.buffered.config.Config.{Config}

@@ -1,7 +1,10 @@
+-- Believed.
 -- What an engine is over: how messages are read, and what its sources and sinks tell.
 use Rattle.std.specs.Prelude.{◌≡◌, ℕ, Bool, List, Option, Result}
+use Rattle.std.specs.declared.cmp.Ordering.{Ordering}
 use Rattle.broadcast_core.specs.Carried.{Carried}
-use Rattle.broadcast_core.specs.Content.{Same}
+use Rattle.broadcast_core.specs.Codec.{whole}
+use Rattle.broadcast_core.specs.Content.{Same, same_by}
 use Rattle.broadcast_core.specs.Setting.{Setting}
 use Rattle.broadcast_core.specs.declared.codec.CodecError.{CodecError}
 use Rattle.broadcast_mailbox.specs.declared.buffered.ingress.message.Message.{Message}
@@ -59,10 +62,10 @@ pub record Interfaces (P M D S G O J N R B Q : Type 0) : Type 1 where
   pub sender : Sender N P
   pub receiver : Receiver R P
   pub provider : Provider B P
-  pub requests : Requests Q (Message P M S G D)
+  pub requests : Requests Q (Message P M S G D) D
 
 abbrev pub interfaces : {P M D S G O J N R B Q : Type 0} → Parties M D S G O J → Sender N P
-    → Receiver R P → Provider B P → Requests Q (Message P M S G D)
+    → Receiver R P → Provider B P → Requests Q (Message P M S G D) D
     → Interfaces P M D S G O J N R B Q
 interfaces of_arrivals sender receiver provider requests = record {
   of_arrivals = of_arrivals;
@@ -71,3 +74,24 @@ interfaces of_arrivals sender receiver provider requests = record {
   provider = provider;
   requests = requests;
 }
+
+-- the format of an engine, by the order of its keys and that of its digests
+abbrev pub format_of : {P M D C : Type 0} → (P → P → Ordering) → (D → D → Ordering)
+    → (M → Option (List ℕ)) → (M → D) → (C → List ℕ → Result (M × ℕ) CodecError) → Format P M D C
+format_of key digest encoding digest_of reading =
+    format (same_by key digest) encoding digest_of (λ cfg. whole (reading cfg))
+
+-- a waiter answers as its responder does
+abbrev pub by_responder : {S : Type 0} → (S → Bool → Type 0) → Asker S → Bool → Type 0
+by_responder may_answer waiter answer = may_answer waiter.responder answer
+
+abbrev pub parties_of : {M D S G O J : Type 0} → (S → Bool → Type 0) → (J → M → Type 0)
+    → Outlet O S G (Carried M D) (Option (Carried M D)) → Parties M D S G O J
+parties_of may_answer is_of outlet = parties (by_responder may_answer) is_of outlet
+
+-- what an engine is over
+abbrev pub over : {P M D S G O J N R B Q : Type 0} → (S → Bool → Type 0) → (J → M → Type 0)
+    → Outlet O S G (Carried M D) (Option (Carried M D)) → Sender N P → Receiver R P → Provider B P
+    → Requests Q (Message P M S G D) D → Interfaces P M D S G O J N R B Q
+over may_answer is_of outlet sender receiver provider requests =
+    interfaces (parties_of may_answer is_of outlet) sender receiver provider requests

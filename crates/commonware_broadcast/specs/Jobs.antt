@@ -1,3 +1,4 @@
+-- Believed.
 -- Jobs that digest at once.
 use Rattle.std.specs.Prelude.{◌≡◌, Option, None, Some}
 

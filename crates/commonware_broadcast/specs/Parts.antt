@@ -1,3 +1,4 @@
+-- Believed.
 -- The parts of an engine.
 use Rattle.std.specs.Prelude.{Option, None}
 use Rattle.commonware_broadcast.specs.declared.buffered.engine.thread.Parts.{Parts}

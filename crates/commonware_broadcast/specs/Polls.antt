@@ -1,5 +1,6 @@
+-- Believed.
 -- Polls of an engine, one after another.
-use Rattle.std.specs.Prelude.{◌≡◌, ◌≤◌, ◌⊎◌, ℕ, zero, suc, List, [], ◌++◌, None, Some}
+use Rattle.std.specs.Prelude.{◌≡◌, ◌≤◌, ◌⊎◌, ℕ, zero, suc, List, [], ◌∷◌, ◌++◌, Option, None, Some, MatchOption}
 use Rattle.futures.specs.Poll.{IfReady, OnPending}
 use Rattle.futures.specs.declared.task.Poll.{Poll}
 use Rattle.futures.specs.declared.task.Poll.TheVariants.{Ready}
@@ -14,15 +15,16 @@ use Rattle.engine_io.specs.declared.requests.Requests.{Ghosts as Requests}
 use Rattle.engine_io.specs.Causes.{HasCause}
 use Rattle.engine_io.specs.Counters.{Counters}
 use Rattle.engine_io.specs.Sources.{given}
+use Rattle.commonware_broadcast.specs.declared.buffered.asleep.CannotWait.{CannotWait}
 use Rattle.commonware_broadcast.specs.EngineState.{EngineState, Moment}
 use Rattle.commonware_broadcast.specs.Interfaces.{Format, Interfaces}
 use Rattle.commonware_broadcast.specs.Order.{UnlessPeers, IfNetwork}
 use Rattle.commonware_broadcast.specs.TakesSteps.{PollsOnce, Always}
 
 module _ {P M S G O D J N R B Q C T : Type 0} (provider : Provider B P) (receiver : Receiver R P)
-    (requests : Requests Q (Message P M S G D)) where
+    (requests : Requests Q (Message P M S G D) D) where
   -- what a poll of an engine that has not ended does with its sources, as far as they tell
-  pub record Attends (old new : Moment P M S O D J B Q C T N R) (result : Poll (Turn P))
+  pub record Attends (old new : Moment P M S O D J B Q C T N R) (result : Poll (Turn P D))
       : Type 0 where
     -- a stop comes first
     pub stop_first : requests.stops old.0.requests → result ≡ Ready (Ended Stopped)
@@ -50,10 +52,16 @@ module _ {P M S G O D J N R B Q C T : Type 0} (provider : Provider B P) (receive
     -- it takes one input at most, so a turn leaves no job behind
     pub idle_if_ready : IfReady result (λ turn. new.0.job ≡ None)
 
+-- the turns that are no end
+abbrev pub unended : {P D : Type 0} → List (Turn P D) → List (Turn P D)
+unended [] = []
+unended (Ended cause ∷ turns) = unended turns
+unended (turn ∷ turns) = turn ∷ unended turns
+
 module _ {P M D S G O J N R B Q C T : Type 0} (f : Format P M D C)
     (i : Interfaces P M D S G O J N R B Q) where
   -- a poll of an engine, whatever happened to it before
-  pub record IsPoll (old new : Moment P M S O D J B Q C T N R) (result : Poll (Turn P))
+  pub record IsPoll (old new : Moment P M S O D J B Q C T N R) (result : Poll (Turn P D))
       : Type 0 where
     pub took : Always f i old (λ s past before. PollsOnce s i past before old new result)
     pub attends : old.0.end ≡ None
@@ -72,15 +80,15 @@ module _ {P M D S G O J N R B Q C T : Type 0} (f : Format P M D C)
 
   -- this many polls, one after another, and the turns that were ready
   abbrev pub Polls : ℕ → Moment P M S O D J B Q C T N R → Moment P M S O D J B Q C T N R
-      → List (Turn P) → Type 0
+      → List (Turn P D) → Type 0
   Polls zero old new turns = (new ≡ old) × (turns ≡ [])
   Polls (suc count) old new turns =
-      (mid : Moment P M S O D J B Q C T N R) × (result : Poll (Turn P)) × IsPoll old mid result
-      × (rest : List (Turn P)) × (turns ≡ given result ++ rest) × Polls count mid new rest
+      (mid : Moment P M S O D J B Q C T N R) × (result : Poll (Turn P D)) × IsPoll old mid result
+      × (rest : List (Turn P D)) × (turns ≡ given result ++ rest) × Polls count mid new rest
 
   -- as many polls as were asked for, or fewer that ended the engine
   pub record Drives (limit : ℕ) (old new : Moment P M S O D J B Q C T N R)
-      (turns : List (Turn P)) : Type 0 where
+      (turns : List (Turn P D)) : Type 0 where
     pub count : ℕ
     pub polls : Polls count old new turns
     pub at_most : count ≤ limit
@@ -89,7 +97,7 @@ module _ {P M D S G O J N R B Q C T : Type 0} (f : Format P M D C)
   -- some polls, one after another
   pub record TakesPolls (old new : Moment P M S O D J B Q C T N R) : Type 0 where
     pub count : ℕ
-    pub turns : List (Turn P)
+    pub turns : List (Turn P D)
     pub polls : Polls count old new turns
 
   -- an engine took some polls until it had no job, or had ended, and is to have none from then on
@@ -100,10 +108,33 @@ module _ {P M D S G O J N R B Q C T : Type 0} (f : Format P M D C)
     pub without_job : new.0 ≡ record last { job = None }
 
   -- an engine took some polls, and left these counters: the last poll ended it for this cause, or
-  -- its thread could not wait for another one
+  -- its thread could not wait, and no poll was taken
   pub record Runs (old : Moment P M S O D J B Q C T N R) (cause : EndCause)
-      (metrics : Counters P) : Type 0 where
+      (failure : Option CannotWait) (metrics : Counters P) : Type 0 where
     pub last : Moment P M S O D J B Q C T N R
     pub took : TakesPolls old last
     pub counters : metrics ≡ last.0.node.metrics
-    pub caused : (last.0.end ≡ Some cause) ⊎ (cause ≡ WaitFailed)
+    pub caused : MatchOption failure (last.0.end ≡ Some cause)
+        (λ failed. (cause ≡ WaitFailed) × (last ≡ old))
+
+module _ {P M D S G O J N R B Q C T W : Type 0} (f : Format P M D C)
+    (i : Interfaces P M D S G O J N R B Q) (seen : W → List (Turn P D) → Type 0) where
+  -- some polls, one after another, whose turns were shown to the observer, but no end
+  pub record ShowsPolls (old new : Moment P M S O D J B Q C T N R) (watching watched : W)
+      : Type 0 where
+    pub took : TakesPolls f i old new
+    pub shown : (turns : List (Turn P D)) → seen watching turns
+        → seen watched (turns ++ unended took.turns)
+
+  -- such polls, which left an engine that has ended for this cause
+  abbrev pub RunsTo : Moment P M S O D J B Q C T N R → W → Moment P M S O D J B Q C T N R × W
+      → EndCause → Type 0
+  RunsTo old watching left cause =
+      ShowsPolls old left.0 watching left.1 × (left.0.0.end ≡ Some cause)
+
+  -- an engine ran, and its observer was handed its turns, and then these
+  pub record ShowsRun (old : Moment P M S O D J B Q C T N R) (cause : EndCause)
+      (failure : Option CannotWait) (metrics : Counters P) (watching watched : W) (last : List (Turn P D)) : Type 0 where
+    pub ran : Runs f i old cause failure metrics
+    pub shown : (turns : List (Turn P D)) → seen watching turns
+        → seen watched ((turns ++ unended ran.took.turns) ++ last)

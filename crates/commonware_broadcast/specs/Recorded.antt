@@ -1,3 +1,4 @@
+-- Believed.
 -- The replies that an outlet records.
 use Rattle.commonware_broadcast.specs.declared.mocks.outlet.Replied.TheVariants as mocks
 use Rattle.commonware_broadcast.specs.declared.mocks.outlet.Replied.{Replied as Recorded}

@@ -1,3 +1,4 @@
+-- Believed.
 -- Sources whose polls have given results.
 use Rattle.std.specs.Prelude.{◌≡◌, List, [], ◌∷◌, ◌++◌}
 use Rattle.futures.specs.declared.task.Poll.{Poll}

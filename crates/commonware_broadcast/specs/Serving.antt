@@ -1,3 +1,4 @@
+-- Internal.
 -- A message is taken, and served to who waits for it.
 use Rattle.std.specs.Prelude.{◌≡◌, ℕ, Option, map}
 use Rattle.broadcast_core.specs.Carried.{Carried}

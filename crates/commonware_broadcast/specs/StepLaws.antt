@@ -1,3 +1,4 @@
+-- Believed.
 -- Which steps may follow a history.
 use Rattle.std.specs.Prelude.{◌≡◌, Bool, true, List, [], ◌∷◌, ◌++◌, map, None, is_some}
 use Rattle.broadcast_core.specs.Setting.{Setting}

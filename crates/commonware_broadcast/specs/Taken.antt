@@ -1,3 +1,4 @@
+-- Believed.
 -- What an engine took from its sources.
 use Rattle.std.specs.Prelude.{◌≡◌, ℕ, List, [], ◌∷◌, ◌++◌, map, Option, None, Some, Result, Ok, Err}
 use Rattle.broadcast_core.specs.Setting.{Setting, own_digested}
@@ -6,7 +7,7 @@ use Rattle.engine_io.specs.declared.input.EndCause.{EndCause}
 use Rattle.engine_io.specs.declared.input.Input.{Input}
 use Rattle.engine_io.specs.declared.input.Input.TheVariants as input
 use Rattle.engine_io.specs.Inputs.{requests_in}
-use Rattle.commonware_broadcast.specs.EngineHistory.{Step, inputs}
+use Rattle.commonware_broadcast.specs.EngineHistory.{Step, inputs, sweeps}
 use Rattle.commonware_broadcast.specs.EngineState.{Moment}
 
 module _ {P M D : Type 0} (s : Setting P M D) where
@@ -46,9 +47,10 @@ module _ {P M J : Type 0} (is_of : J → M → Type 0) where
   Holds None job message = HoldsJob job message
   Holds (Some cause) job message = job ≡ None
 
--- nothing was taken from a source
+-- nothing was taken from a source, and no waiter was asked
 pub record TakesNone {P M D S G O J B Q C T N R : Type 0}
     (old new : Moment P M S O D J B Q C T N R) (steps : List (Step P M D S G)) : Type 0 where
   pub provider : new.0.provider ≡ old.0.provider
   pub receiver : new.1.1 ≡ old.1.1
   pub requests : requests_in (inputs steps) ≡ []
+  pub asks_none : sweeps steps ≡ 0

@@ -1,5 +1,6 @@
+-- Believed.
 -- What polls of an engine do: the steps that they take.
-use Rattle.std.specs.Prelude.{◌≡◌, ℕ, List, [], ◌∷◌, ◌++◌, map, Option, None, Some, ◌⊎◌}
+use Rattle.std.specs.Prelude.{◌≡◌, ℕ, Bool, List, [], ◌∷◌, ◌++◌, map, Option, None, Some, ◌⊎◌}
 use Rattle.std.specs.List.{All}
 use Rattle.futures.specs.declared.task.Poll.{Poll}
 use Rattle.futures.specs.declared.task.Poll.TheVariants.{Ready}
@@ -16,17 +17,17 @@ use Rattle.engine_io.specs.declared.input.Turn.TheVariants.{Ended}
 use Rattle.engine_io.specs.Inputs.{sets_in, requests_in, payloads_in}
 use Rattle.engine_io.specs.Replies.{Asker, reply_of}
 use Rattle.engine_io.specs.Sources.{given}
-use Rattle.commonware_broadcast.specs.EngineHistory.{Step, happenings, handed_out, inputs, read_from, end_of, end_told, turns, IsSweptFirst}
+use Rattle.commonware_broadcast.specs.EngineHistory.{Step, happenings, handed_out, inputs, outcomes, read_from, end_of, end_told, turns, sweeps, IsSweptOnce}
 use Rattle.commonware_broadcast.specs.EngineState.{Moment}
 use Rattle.commonware_broadcast.specs.Interfaces.{Format, Interfaces, IsSetting}
 use Rattle.commonware_broadcast.specs.AppliesSteps.{AppliesSteps, Sends}
 use Rattle.commonware_broadcast.specs.Taken.{payload_inputs, pending_input, senders_of, Holds, TakesNone}
 
-module _ {P : Type 0} where
+module _ {P D : Type 0} where
   -- the turns tell how the engine ended, if it did: the last of them, and no other
-  abbrev pub TellsEnd : Option EndCause → List (Turn P) → Type 0
+  abbrev pub TellsEnd : Option EndCause → List (Turn P D) → Type 0
   TellsEnd None listed = All (λ turn. end_told turn ≡ None) listed
-  TellsEnd (Some cause) listed = (before : List (Turn P)) × (listed ≡ before ++ Ended cause ∷ [])
+  TellsEnd (Some cause) listed = (before : List (Turn P D)) × (listed ≡ before ++ Ended cause ∷ [])
       × All (λ turn. end_told turn ≡ None) before
 
 module _ {P M D S G O J N R B Q C T : Type 0} (s : Setting P M D)
@@ -34,7 +35,7 @@ module _ {P M D S G O J N R B Q C T : Type 0} (s : Setting P M D)
   -- after a history, and with this message held before or none, an engine took these steps, and
   -- these turns were ready
   pub record TakesSteps (past : History P M D (Asker S) (Asker G)) (before : Option (P × M))
-      (old new : Moment P M S O D J B Q C T N R) (listed : List (Turn P)) : Type 0 where
+      (old new : Moment P M S O D J B Q C T N R) (listed : List (Turn P D)) : Type 0 where
     pub steps : List (Step P M D S G)
     pub ran : AppliesSteps s i.of_arrivals.may_answer i.of_arrivals.outlet.told past steps
         old.0.node new.0.node
@@ -51,6 +52,9 @@ module _ {P M D S G O J N R B Q C T : Type 0} (s : Setting P M D)
     pub requests : (told : List (Request (Message P M S G D)))
         → i.requests.told old.0.requests told
         → i.requests.told new.0.requests (told ++ requests_in (inputs steps))
+    -- of each of those requests it was told, in order, whether it was refused
+    pub outcomes : (told : List Bool) → i.requests.ended old.0.requests told
+        → i.requests.ended new.0.requests (told ++ outcomes steps)
     -- the message held before, and then the payloads that were given, are, in order, those of its
     -- inputs and then the message that is held now
     pub received : List (P × List ℕ)
@@ -63,22 +67,28 @@ module _ {P M D S G O J N R B Q C T : Type 0} (s : Setting P M D)
     -- each payload that is a message was decoded once, or refused before it was counted
     pub read : read_from steps ≡ senders_of s received
 
-  -- so it did, and a cleanup of its waiters came first
-  pub record CleansUpFirst (past : History P M D (Asker S) (Asker G)) (before : Option (P × M))
-      (old new : Moment P M S O D J B Q C T N R) (listed : List (Turn P)) : Type 0 where
+  -- so it did, and asked no waiter whether it is closed
+  pub record TakesOnly (past : History P M D (Asker S) (Asker G)) (before : Option (P × M))
+      (old new : Moment P M S O D J B Q C T N R) (listed : List (Turn P D)) : Type 0 where
     pub took : TakesSteps past before old new listed
-    pub swept_first : IsSweptFirst took.steps
+    pub asks_none : sweeps took.steps ≡ 0
+
+  -- so it did, and one cleanup of its waiters came first
+  pub record CleansUpFirst (past : History P M D (Asker S) (Asker G)) (before : Option (P × M))
+      (old new : Moment P M S O D J B Q C T N R) (listed : List (Turn P D)) : Type 0 where
+    pub took : TakesSteps past before old new listed
+    pub swept_once : IsSweptOnce took.steps
 
   -- a poll took steps
   pub record PollsOnce (past : History P M D (Asker S) (Asker G)) (before : Option (P × M))
-      (old new : Moment P M S O D J B Q C T N R) (result : Poll (Turn P)) : Type 0 where
+      (old new : Moment P M S O D J B Q C T N R) (result : Poll (Turn P D)) : Type 0 where
     pub took : TakesSteps past before old new (given result)
-    -- while a job is pending, nothing is taken from any source
+    -- while a job is pending, nothing is taken from any source, and no waiter is asked
     pub job_alone : (job : P × J) → old.0.job ≡ Some job → TakesNone old new took.steps
-    -- if none is pending, a cleanup comes first, unless the engine was told to stop
-    pub swept_first : old.0.end ≡ None → old.0.job ≡ None
+    -- if none is pending, one cleanup comes first, unless the engine was told to stop
+    pub swept_once : old.0.end ≡ None → old.0.job ≡ None
         → ((result ≡ Ready (Ended Stopped)) × TakesNone old new took.steps)
-        ⊎ IsSweptFirst took.steps
+        ⊎ IsSweptOnce took.steps
 
 module _ {P M D S G O J N R B Q C T : Type 0} (f : Format P M D C)
     (i : Interfaces P M D S G O J N R B Q) (old : Moment P M S O D J B Q C T N R) where
@@ -93,10 +103,15 @@ module _ {P M D S G O J N R B Q C T : Type 0} (f : Format P M D C)
 module _ {P M D S G O J N R B Q C T : Type 0} (f : Format P M D C)
     (i : Interfaces P M D S G O J N R B Q) (old new : Moment P M S O D J B Q C T N R) where
   -- the steps of some polls
-  abbrev pub AlwaysTakes : List (Turn P) → Type 0
+  abbrev pub AlwaysTakes : List (Turn P D) → Type 0
   AlwaysTakes listed = Always f i old (λ s past before. TakesSteps s i past before old new listed)
 
-  -- those of a poll of the sources, which cleans up first
-  abbrev pub AlwaysCleans : List (Turn P) → Type 0
+  -- those of a poll of the network, which asks no waiter
+  abbrev pub AlwaysTakesOnly : List (Turn P D) → Type 0
+  AlwaysTakesOnly listed =
+      Always f i old (λ s past before. TakesOnly s i past before old new listed)
+
+  -- those of a poll of the sources, which cleans up once, and first
+  abbrev pub AlwaysCleans : List (Turn P D) → Type 0
   AlwaysCleans listed =
       Always f i old (λ s past before. CleansUpFirst s i past before old new listed)

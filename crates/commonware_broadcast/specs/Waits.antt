@@ -1,3 +1,4 @@
+-- Believed.
 -- What a pending poll of an engine has registered with.
 use Rattle.std.specs.Prelude.{◌≡◌, ℕ, Option, None}
 use Rattle.futures.specs.declared.task.context.Context.{Context}
@@ -10,7 +11,7 @@ use Rattle.commonware_broadcast.specs.EngineState.{Moment}
 
 module _ {P M S G O D J N R B Q C T : Type 0} (job_needs : J → ℕ → Type 0)
     (receiver : Receiver R P) (provider : Provider B P)
-    (requests : Requests Q (Message P M S G D)) (cx : Context) where
+    (requests : Requests Q (Message P M S G D) D) (cx : Context) where
   -- with each source that wakes it, as far as its sources tell which: always with the order to stop
   pub record Waits (old_job : Option (P × J)) (new : Moment P M S O D J B Q C T N R)
       : Type 0 where

@@ -1,5 +1,7 @@
+-- Believed.
 -- Workers that digest messages on other threads.
-use Rattle.std.specs.Prelude.{◌≡◌, Option, None, Some}
+use Rattle.std.specs.Prelude.{◌≡◌, ℕ, Option, None, Some}
+use Rattle.futures.specs.Channel.{completed_source}
 use Rattle.commonware_broadcast.specs.declared.buffered.worker.Worker.{Worker}
 use Rattle.commonware_broadcast.specs.declared.buffered.worker.Worker.TheVariants as worker
 
@@ -9,6 +11,21 @@ module _ {M D : Type 0} where
   IsWorkerOf digest_of (worker.Running thread watch) message = thread.promise.0.value ≡ message
   IsWorkerOf digest_of (worker.Digested digested digest) message =
       (digested ≡ message) × (digest ≡ digest_of message)
+
+  -- a thread wakes who waits for it by the source of its channel
+  abbrev pub WaitsFor : Worker M D → ℕ → Type 0
+  WaitsFor (worker.Running thread watch) source = source ≡ completed_source watch
+  WaitsFor (worker.Digested digested digest) source = ⊥
+
+-- a message that a pool digests, and the source that fires once it has
+pub record Pooling (M : Type 0) : Type 0 where
+  pub message : M
+  pub source : ℕ
+
+-- the worker waits for this source, if it is not joined yet
+abbrev pub MayWaitFor : {W : Type 0} → (W → ℕ → Type 0) → Option W → ℕ → Type 0
+MayWaitFor needs None source = ⊥
+MayWaitFor needs (Some worker) source = needs worker source
 
 -- the worker is one of this message, if it is not joined yet
 abbrev pub MayBeOf : {M W : Type 0} → (W → M → Type 0) → Option W → M → Type 0

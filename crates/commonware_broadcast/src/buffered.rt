@@ -1,4 +1,5 @@
 //! Broadcasts messages to peers, and buffers what they broadcast.
+pub(crate) mod asleep;
 pub mod config;
 pub mod engine;
 pub mod front;
@@ -6,6 +7,7 @@ pub mod gate;
 pub mod launch;
 pub mod observer;
 pub mod pool;
+pub mod runtime;
 pub mod session;
 pub mod snapshots;
 pub mod started;
@@ -14,16 +16,15 @@ pub mod threaded;
 pub mod worker;
 
 pub use crate::mocks;
+pub use asleep::CannotWait;
 pub use broadcast_mailbox::buffered::{
-    Account, All, Awaits, Bookkeeping, Books, Broadcasts, Counts, Fixed, Get, Inbox, Incoming,
-    Ingress, Kind, Mailbox, Message, Overflow, Pending, Policy, Queued, Reply, Request, Responder,
-    Settled, Stopper, Subscription, Taker, Tally, Watch, WatchedEnds, WatchedMailbox, channel,
-    ticket_law, watched_channel,
+    Abandoned, Account, All, Answering, Awaits, Bookkeeping, Books, Broadcasts, Counts, Fixed, Get,
+    Inbox, Incoming, Ingress, Kind, Mailbox, Message, Named, Overflow, Pending, Policy, Queued,
+    Reply, Request, Responder, Settled, Stopper, Subscription, Taker, Tally, Watch, WatchedEnds,
+    WatchedMailbox, channel, ticket_law, watched_channel,
 };
 pub use config::Config;
-pub use engine::{
-    Engine, Ready, Report, StartError, drive, make_ready, new_engine_law, run, spawn,
-};
+pub use engine::{Engine, Ready, Report, StartError, drive, make_ready, new_engine_law, run};
 pub use engine_io::{
     Counter, Direct, EndCause, Input, Metrics, NetworkFailed, Outlet, Provider, Receiver, Requests,
     Sender, Sequencer, Status, Turn,
@@ -35,7 +36,8 @@ pub use observer::Observer;
 pub use observer::lines::Lines;
 pub use observer::recent::Recent;
 pub use pool::{Pool, Pooled};
-pub use session::{Client, Finished, Session, WatchedClient, run_session};
+pub use runtime::Runtime;
+pub use session::{Client, Finished, Leaves, Session, WatchedClient, run_session};
 pub use snapshots::{MetricsError, Snapshots};
 pub use started::{Handle, MailboxReport, Prepared};
 pub use strategy::{Done, Job, Sequential, Strategy};

@@ -1,3 +1,4 @@
+-- Believed.
 -- Why an engine ends.
 use Rattle.std.specs.Prelude.{Result, Ok, Err, ⊤}
 use Rattle.futures.specs.declared.task.Poll.{Poll}

@@ -1,3 +1,4 @@
+-- Believed.
 -- What an engine counts: each number stops at the greatest of 64 bits.
 use Rattle.std.specs.Prelude.{◌≡◌, ℕ, ◌+◌, ◌-◌, ◌^◌, min, Bool, true, false, List, [], unwrap_or, is_some}
 use Rattle.std.specs.Map.{lookup}

@@ -1,3 +1,4 @@
+-- Believed.
 -- What a poll of an engine does first.
 use Rattle.std.specs.Prelude.{◌≡◌, Option, Some, None}
 use Rattle.engine_io.specs.declared.first.First.{First}

@@ -1,3 +1,4 @@
+-- Believed.
 -- What is taken before other sources are looked at.
 use Rattle.std.specs.Prelude.{Result, Ok, Err, ⊤}
 use Rattle.futures.specs.declared.task.Poll.{Poll}

@@ -1,3 +1,4 @@
+-- Believed.
 -- Replies are handed out, and counted.
 use Rattle.std.specs.Prelude.{◌≡◌, List, ◌++◌, Option}
 use Rattle.engine_io.specs.Counters.{Counters}

@@ -1,3 +1,4 @@
+-- Believed.
 -- What a poll has registered with.
 use Rattle.std.specs.Prelude.{ℕ, Option, Some, None, ⊤}
 use Rattle.futures.specs.Task.{Hears}

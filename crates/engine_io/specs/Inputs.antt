@@ -1,3 +1,4 @@
+-- Believed.
 -- What the inputs of an engine are.
 use Rattle.std.specs.Prelude.{List, [], ◌∷◌}
 use Rattle.broadcast_mailbox.specs.declared.buffered.ingress.message.Message.{Message}

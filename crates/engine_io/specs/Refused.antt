@@ -1,8 +1,21 @@
--- Whether an input was refused.
-use Rattle.std.specs.Prelude.{Bool, true, false}
+-- Believed.
+-- Whether an input was refused, and what is told of that.
+use Rattle.std.specs.Prelude.{Bool, true, false, List, [], ◌∷◌}
 use Rattle.engine_io.specs.declared.input.Turn.{Turn}
 use Rattle.engine_io.specs.declared.input.Turn.TheVariants as turn
+use Rattle.engine_io.specs.declared.input.Input.{Input}
+use Rattle.engine_io.specs.declared.input.Input.TheVariants as input
 
-abbrev pub refuses : {P : Type 0} → Turn P → Bool
+abbrev pub refuses : {P D : Type 0} → Turn P D → Bool
 refuses (turn.Refused peer cause) = true
 refuses _ = false
+
+-- whether the input is a request
+abbrev pub is_request : {P M S G D : Type 0} → Input P M S G D → Bool
+is_request (input.Request request) = true
+is_request _ = false
+
+-- what is told of an input: of a request, whether it was refused
+abbrev pub outcome_of : Bool → Bool → List Bool
+outcome_of true refused = refused ∷ []
+outcome_of false refused = []

@@ -1,3 +1,4 @@
+-- Believed.
 -- The replies that an engine handed out.
 use Rattle.std.specs.Prelude.{ℕ, Bool, List, Option}
 use Rattle.broadcast_core.specs.Carried.{Carried}

@@ -1,3 +1,4 @@
+-- Believed.
 -- What the replies that are handed out make of the counters.
 use Rattle.std.specs.Prelude.{true, false, List, [], ◌∷◌, Option, None, Some}
 use Rattle.engine_io.specs.declared.metrics.Status.TheVariants.{Success, Failure, Dropped}

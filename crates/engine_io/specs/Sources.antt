@@ -1,3 +1,4 @@
+-- Believed.
 -- What a poll of a source gives.
 use Rattle.std.specs.Prelude.{List, [], ◌∷◌, Option, None, Some, Result, Ok, Err, ⊤}
 use Rattle.futures.specs.declared.task.Poll.{Poll}

@@ -1,5 +1,5 @@
-//! What a poll of an engine does first.
-ghost use Rattle.std.specs.Prelude.{◌≡◌, List};
+//! The first step of a poll.
+ghost use Rattle.std.specs.Prelude.{◌≡◌, Bool, List};
 ghost use Rattle.futures.specs.Task.{IsArmed, Keeps};
 ghost use Rattle.broadcast_mailbox.specs.declared.buffered.ingress.request.Request.{Request};
 ghost use Rattle.engine_io.specs.declared.first.First.TheVariants.{Stop, Sources};
@@ -10,7 +10,7 @@ use crate::requests::Requests;
 use broadcast_mailbox::buffered::Awaits;
 use futures::task::Context;
 
-/// What a poll of an engine does first.
+/// The first step of a poll.
 #[derive(Drop)]
 pub enum First<P: Drop, J: Drop> {
     /// It ends, since a stop was asked for.
@@ -33,6 +33,8 @@ pub fn comes_first<P: Drop, J: Drop, T: Awaits, Q: Requests<T>>(
     ensures job_alone { Empties result slot.old slot.new }
     ensures tells { (given : List (Request T)) → Q.told requests.old given
         → Q.told requests.new given }
+    ensures ended { (outcomes : List Bool) → Q.ended requests.old outcomes
+        → Q.ended requests.new outcomes }
     ensures quiet { Q.quiet requests.new → Q.quiet requests.old }
     ensures heard_stop { (result ≡ Stop → ⊥) → HearsAll cx.new (Q.needs_stop requests.new) }
     ensures kept { Keeps cx.old cx.new }

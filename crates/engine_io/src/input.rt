@@ -1,6 +1,6 @@
-//! What an engine is given, and the result of a turn.
+//! The inputs of an engine, and the result of a turn.
 ghost use Rattle.std.specs.Prelude.{◌≡◌};
-ghost use Rattle.engine_io.specs.Refused.{refuses};
+ghost use Rattle.engine_io.specs.Refused.{refuses, is_request};
 
 use broadcast_core::{Cause, CodecError, Digested, Digestible, Outcome, PublicKey, Set};
 use broadcast_mailbox::buffered::{Message, Request};
@@ -18,19 +18,31 @@ pub enum Input<P: PublicKey, M: Digestible, S, G> {
     Invalid(P, CodecError),
 }
 
+impl<P: PublicKey, M: Digestible, S, G> Input<P, M, S, G> {
+    /// Returns whether it is a request.
+    pub fn is_request(&self) -> bool
+        ensures { result ≡ is_request self.now }
+    {
+        match self {
+            Input::Request(_) => true,
+            Input::Peers(_) | Input::Arrived(_, _) | Input::Invalid(_, _) => false,
+        }
+    }
+}
+
 /// The result of a turn.
 #[derive(Clone, Debug, PartialEq, Eq, Drop)]
-pub enum Turn<P> {
+pub enum Turn<P, D> {
     /// The primary peers were replaced.
     Peers,
-    /// A message of the node was taken.
-    Broadcast(Outcome),
+    /// The message of the node with this digest was taken.
+    Broadcast(D, Outcome),
     /// A subscribe was answered, or waits.
     Subscribe,
     /// A get was answered.
     Get,
-    /// A message of this peer was taken.
-    Payload(P, Outcome),
+    /// The message of this peer with this digest was taken.
+    Payload(P, D, Outcome),
     /// A payload of this peer was no message.
     Invalid(P, CodecError),
     /// The input was refused, and changed nothing: a payload of this peer, or, if it names none, a
@@ -40,7 +52,7 @@ pub enum Turn<P> {
     Ended(EndCause),
 }
 
-impl<P> Turn<P> {
+impl<P, D> Turn<P, D> {
     /// Returns whether the input was refused.
     pub fn is_refused(&self) -> bool
         ensures { result ≡ refuses self.now }
@@ -48,10 +60,10 @@ impl<P> Turn<P> {
         match self {
             Turn::Refused(_, _) => true,
             Turn::Peers
-            | Turn::Broadcast(_)
+            | Turn::Broadcast(_, _)
             | Turn::Subscribe
             | Turn::Get
-            | Turn::Payload(_, _)
+            | Turn::Payload(_, _, _)
             | Turn::Invalid(_, _)
             | Turn::Ended(_) => false,
         }

@@ -1,5 +1,5 @@
-//! What an engine is over: where its inputs come from, where messages and replies go, and what is
-//! counted.
+// SPDX-License-Identifier: Apache-2.0
+//! The interfaces of an engine: its sources and sinks, its inputs and turns, and its counters.
 #![tactic(auto)]
 
 pub mod first;

@@ -1,5 +1,5 @@
 //! The next input of the node's own sources.
-ghost use Rattle.std.specs.Prelude.{◌≡◌, ℕ, List, [], ◌∷◌, ◌++◌, Err, IfOk};
+ghost use Rattle.std.specs.Prelude.{◌≡◌, ℕ, Bool, List, [], ◌∷◌, ◌++◌, Err, IfOk};
 ghost use Rattle.futures.specs.Poll.{IfReady, OnPending};
 ghost use Rattle.futures.specs.Task.{IsArmed, Keeps};
 ghost use Rattle.futures.specs.declared.task.Poll.TheVariants.{Ready};
@@ -37,6 +37,8 @@ where
     ensures requests { (before : List (Request (Message P M S G M.Digest)))
         → Q.told requests.old before
         → Q.told requests.new (before ++ requests_in (given_ok result)) }
+    ensures ended { (outcomes : List Bool) → Q.ended requests.old outcomes
+        → Q.ended requests.new outcomes }
     ensures no_payload { payloads_in (given_ok result) ≡ [] }
     ensures ends { B.ends provider.old → result ≡ Ready (Err EndCause.PeersClosed) }
     ensures has_cause { EndsBy result ⊥ (B.may_end provider.old) ⊥ }

@@ -1,4 +1,4 @@
-//! Where an engine's replies go.
+//! The outlet of an engine's replies.
 ghost use Rattle.std.specs.Prelude.{List, [], ◌∷◌, ◌++◌};
 ghost use Rattle.std.specs.List.{All};
 ghost use Rattle.engine_io.specs.Replies.{IsAsSaid, Replied, subscribed, got};

@@ -1,5 +1,5 @@
-//! Where an engine's requests come from.
-ghost use Rattle.std.specs.Prelude.{◌≡◌, ⊤, ℕ, List, ◌++◌, true, false};
+//! The source of an engine's requests.
+ghost use Rattle.std.specs.Prelude.{◌≡◌, ⊤, ◌⊎◌, ℕ, Bool, List, [], ◌∷◌, ◌++◌, true, false};
 ghost use Rattle.futures.specs.Poll.{OnPending};
 ghost use Rattle.futures.specs.Task.{IsArmed, Keeps};
 ghost use Rattle.engine_io.specs.Heard.{HearsAll};
@@ -16,6 +16,10 @@ use std::sync::Wait;
 pub trait Requests<T: Awaits> {
     /// Whether this may be the list of the requests that were given, oldest first.
     ghost told: { Self → List (Request T) → Type 0 };
+
+    /// Whether this may be the list of what was told of the requests that were given, oldest first:
+    /// whether each was refused. By default any list may be.
+    ghost ended: { Self → List Bool → Type 0 } = { λ _ _. ⊤ };
 
     /// Whether there may be no request to give.
     ghost quiet: { Self → Type 0 } = { λ _. ⊤ };
@@ -41,6 +45,7 @@ pub trait Requests<T: Awaits> {
         ensures only_if_asked { result ≡ true → may_stop self.old }
         ensures tells { (requests : List (Request T))
             → told self.old requests → told self.new requests }
+        ensures ended { (outcomes : List Bool) → ended self.old outcomes → ended self.new outcomes }
         ensures heard { result ≡ false → HearsAll cx.new (needs_stop self.new) }
         ensures armed { result ≡ false → IsArmed cx.new }
         ensures quiet { quiet self.new → quiet self.old }
@@ -50,6 +55,7 @@ pub trait Requests<T: Awaits> {
     fn poll_next(&mut self, cx: &mut Context<'_>) -> Poll<Request<T>>
         ensures tells { (requests : List (Request T))
             → told self.old requests → told self.new (requests ++ given result) }
+        ensures ended { (outcomes : List Bool) → ended self.old outcomes → ended self.new outcomes }
         ensures quiet { OnPending result (quiet self.old) }
         ensures heard { OnPending result (HearsAll cx.new (needs self.new)) }
         ensures same_stop { OnPending result
@@ -57,24 +63,32 @@ pub trait Requests<T: Awaits> {
         ensures armed { OnPending result (IsArmed cx.new) }
         ensures kept { Keeps cx.old cx.new };
 
-    /// Returns whether a request that was given may have closed since the last call. A source that
-    /// does not tell always says so.
-    fn may_have_closed(&self) -> bool
-        ensures only_if { result ≡ false → (request : T) → T.may_stay request }
+    /// Puts the digests of which a request that was given may have closed since the last call in
+    /// place of those in `digests`. Returns whether one of another digest may have closed too. A
+    /// source that does not tell always says so.
+    fn take_closed(&mut self, digests: &mut Vec<T::Digest>) -> bool
+        ensures only_if { result ≡ false
+            → (request : T) → T.may_stay request ⊎ T.is_among digests.new.items request }
+        ensures same { self.new ≡ self.old }
     {
+        digests.clear();
         true
     }
 
     /// Tells that the request that was given last was refused, or else applied.
-    fn end(&mut self, _refused: bool)
-        ensures { (requests : List (Request T)) → told self.old requests → told self.new requests }
-    {}
+    fn end(&mut self, refused: bool)
+        ensures tells { (requests : List (Request T))
+            → told self.old requests → told self.new requests }
+        ensures ended { (outcomes : List Bool)
+            → ended self.old outcomes → ended self.new (outcomes ++ refused ∷ []) };
 
     /// Refuses later requests, and gives up those that wait.
     fn close(&mut self)
         ensures closes { closed self.new }
         ensures tells { (requests : List (Request T))
-            → told self.old requests → told self.new requests };
+            → told self.old requests → told self.new requests }
+        ensures ended { (outcomes : List Bool)
+            → ended self.old outcomes → ended self.new outcomes };
 }
 
 /// Other threads queue the requests, so nothing is told of them. A task that waits is woken by the
@@ -100,9 +114,9 @@ where
         self.poll_request(cx)
     }
 
-    /// Returns whether a subscription was dropped since the last call.
-    fn may_have_closed(&self) -> bool {
-        self.take_dropped()
+    /// Takes the digests of which a subscription was dropped since the last call.
+    fn take_closed(&mut self, digests: &mut Vec<M::Digest>) -> bool {
+        self.take_dropped(digests)
     }
 
     fn end(&mut self, refused: bool) {

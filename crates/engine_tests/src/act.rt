@@ -4,13 +4,13 @@ use super::node::Metric;
 use super::world::{Sizes, World};
 use broadcast_mailbox::Feedback;
 use commonware_broadcast::buffered::Turn;
+use memory_node::support::message::To;
 use std::alloc::{AllocError, AllocGlobal};
 use std::num::NonZeroUsize;
 use std::process::Abort;
 use std::random::RandomSource;
 use std::sync::Wait;
 use std::test::Fail;
-use test_support::message::To;
 
 /// An action on the node of a key, or what must be seen of it. A letter names a message.
 #[derive(Clone, Copy)]
@@ -56,7 +56,7 @@ pub enum Act {
     /// The engine with the greatest key is dropped.
     DropLast,
     /// The engine is polled once: this is its turn, or it is pending.
-    Poll(u64, Option<&'static Turn<u64>>),
+    Poll(u64, Option<&'static Turn<u64, ()>>),
     /// All nodes run until they are pending.
     Run,
     /// The next sends are lost.
@@ -65,6 +65,10 @@ pub enum Act {
     Sends(u64, usize, To, u8),
     /// The counter has this value.
     Counts(u64, Metric, u64),
+    /// All that is counted: the payloads of the peers 1 to 4; what was received with success,
+    /// dropped and invalid; subscribes that were served and dropped; gets that found, did not, and
+    /// were dropped; how many digests are awaited.
+    Totals(u64, [u64; 4], [u64; 3], [u64; 2], [u64; 3], u64),
     /// The engine was woken this often since its last poll.
     Wakes(u64, u64),
 }

@@ -3,10 +3,10 @@ use broadcast_core::TestMessage;
 use broadcast_mailbox::buffered::{Get, Subscription};
 use futures::executor::block_on;
 use futures::future::poll_immediate;
+use memory_node::support::message::letter_of;
 use std::alloc::AllocGlobal;
 use std::random::RandomSource;
 use std::sync::Wait;
-use test_support::message::letter_of;
 
 /// A future, until it is ready or dropped.
 #[derive(Drop)]

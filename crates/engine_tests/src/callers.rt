@@ -5,10 +5,10 @@ use super::wires::place;
 use broadcast_core::{Digest, Digested, Recipients, TestMessage};
 use broadcast_mailbox::buffered::Mailbox;
 use broadcast_mailbox::{Broadcaster, Feedback, MailboxError};
+use memory_node::support::message::{To, digest, digested, recipients};
 use std::alloc::{AllocError, AllocGlobal, Global};
 use std::random::RandomSource;
 use std::sync::Wait;
-use test_support::message::{To, digest, digested, recipients};
 
 /// The callers of each node, in the order of the keys, and their futures.
 #[derive(Drop)]

@@ -9,11 +9,11 @@ use cluster_lib::shared::Shared;
 use commonware_broadcast::buffered::{StartError, channel};
 use memory_network::Network;
 use memory_node::keys::key_of;
+use memory_node::support::poor::{Poor, Supply};
 use std::alloc::{AllocError, AllocGlobal, Global};
 use std::num::NonZeroUsize;
 use std::sync::{Arc, Wait};
 use std::test::Fail;
-use test_support::poor::{Poor, Supply};
 
 /// A run of two nodes.
 const SETTINGS: Settings = Settings {

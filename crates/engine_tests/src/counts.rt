@@ -3,12 +3,12 @@ use broadcast_core::{Key, TestMessage};
 use cluster_lib::client::count_served;
 use cluster_lib::measure::count_answered;
 use commonware_broadcast::buffered::{Get, Mailbox, Sequential, Subscription};
+use memory_node::support::nodes::{broadcast, digest, gets, start, track};
 use std::alloc::AllocGlobal;
 use std::random::RandomSource;
 use std::sync::Wait;
 use std::test::Fail;
 use std::thread::Threads;
-use test_support::nodes::{broadcast, digest, gets, start, track};
 
 /// Letters that are broadcast, and how many subscriptions and gets of the letters 1 and 2 give a
 /// message then.

@@ -1,12 +1,13 @@
 //! An engine over scripts, and what was made of it.
 use super::scripts::{Handed, Network, Scripted, Sources};
+use super::turns::without_digest;
 use broadcast_core::{Digest, TestMessage};
 use commonware_broadcast::buffered::{Engine, Reply, Turn, drive};
 use commonware_broadcast::mocks::{RecordingOutlet, Replied};
 use futures::task::{Poll, Solo};
+use memory_node::support::message::{To, digest, sending};
 use std::alloc::{AllocError, Global};
 use std::marker::Model;
-use test_support::message::{To, digest, sending};
 
 /// An engine with its network. Nothing is known of its state, and it is kept in a box: so the
 /// proofs of its tests are small.
@@ -45,13 +46,17 @@ impl Driven {
         alloc: Global,
         task: &Solo,
         limit: usize,
-    ) -> Result<Vec<Turn<u64>>, AllocError> {
+    ) -> Result<Vec<Turn<u64, ()>>, AllocError> {
         let mut cx = task.begin();
         let turns = drive(alloc, &mut self.engine, &mut cx, &mut self.network, limit);
         // A task that is parked must have asked for another poll.
         let _: Poll<()> = cx.yield_now();
         cx.park();
-        turns
+        let mut plain = Vec::new(alloc);
+        for turn in turns? {
+            plain.push(without_digest(turn))?;
+        }
+        Ok(plain)
     }
 
     /// Returns whether these messages were sent.

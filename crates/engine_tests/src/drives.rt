@@ -4,16 +4,16 @@ use super::scripts::{Asks, Comes, Peered, Sources};
 use broadcast_core::{CodecError, Outcome};
 use commonware_broadcast::buffered::{EndCause, Turn};
 use futures::task::{Doorbell, Solo};
+use memory_node::support::message::To;
 use std::alloc::{AllocError, Global};
 use std::test::Fail;
-use test_support::message::To;
 
 /// What an engine is driven over, and what must come of it.
 struct Row {
     name: &'static str,
     sources: Sources,
     /// The limit of each drive, and its turns.
-    drives: &'static [(usize, &'static [Turn<u64>])],
+    drives: &'static [(usize, &'static [Turn<u64, ()>])],
     /// What was sent, to whom.
     sent: &'static [(To, u8)],
     /// The ticket of each reply, its message, and whether it counts as delivered.
@@ -37,8 +37,8 @@ static ROWS: [Row; 10] = [
         drives: &[
             (0, &[]),
             (1, &[]),
-            (2, &[Turn::Peers, Turn::Broadcast(Outcome::Inserted)]),
-            (3, &[Turn::Payload(5, Outcome::Inserted)]),
+            (2, &[Turn::Peers, Turn::Broadcast((), Outcome::Inserted)]),
+            (3, &[Turn::Payload(5, (), Outcome::Inserted)]),
             (2, &[]),
         ],
         sent: &[(To::All, b'b')],
@@ -76,10 +76,10 @@ static ROWS: [Row; 10] = [
                 Turn::Peers,
                 Turn::Subscribe,
                 Turn::Peers,
-                Turn::Payload(5, Outcome::Inserted),
+                Turn::Payload(5, (), Outcome::Inserted),
                 Turn::Get,
                 Turn::Invalid(5, CodecError::EndOfBuffer),
-                Turn::Payload(6, Outcome::Ineligible),
+                Turn::Payload(6, (), Outcome::Ineligible),
             ],
         )],
         sent: &[],
@@ -98,8 +98,8 @@ static ROWS: [Row; 10] = [
         },
         drives: &[
             (3, &[Turn::Peers]),
-            (1, &[Turn::Payload(5, Outcome::Inserted)]),
-            (9, &[Turn::Get, Turn::Payload(5, Outcome::Inserted)]),
+            (1, &[Turn::Payload(5, (), Outcome::Inserted)]),
+            (9, &[Turn::Get, Turn::Payload(5, (), Outcome::Inserted)]),
         ],
         sent: &[],
         replies: &[(1, Some(b'a'), true)],
@@ -126,7 +126,7 @@ static ROWS: [Row; 10] = [
                 Turn::Subscribe,
                 Turn::Subscribe,
                 Turn::Get,
-                Turn::Payload(5, Outcome::Inserted),
+                Turn::Payload(5, (), Outcome::Inserted),
             ],
         )],
         sent: &[],
@@ -147,7 +147,7 @@ static ROWS: [Row; 10] = [
             9,
             &[
                 Turn::Peers,
-                Turn::Payload(5, Outcome::Inserted),
+                Turn::Payload(5, (), Outcome::Inserted),
                 Turn::Subscribe,
             ],
         )],
@@ -237,7 +237,7 @@ static ROWS: [Row; 10] = [
                 9,
                 &[
                     Turn::Peers,
-                    Turn::Payload(5, Outcome::Inserted),
+                    Turn::Payload(5, (), Outcome::Inserted),
                     Turn::Ended(EndCause::NetworkFailed),
                 ],
             ),

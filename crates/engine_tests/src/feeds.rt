@@ -5,9 +5,9 @@ use super::wires::place;
 use super::world::Sizes;
 use broadcast_core::RangeCfg;
 use commonware_broadcast::buffered::Config;
+use memory_node::support::message::peers;
 use std::alloc::{AllocError, Global};
 use std::rc::Rc;
-use test_support::message::peers;
 
 /// What feeds one node.
 #[derive(Drop)]

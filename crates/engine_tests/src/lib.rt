@@ -1,3 +1,4 @@
+// SPDX-License-Identifier: Apache-2.0
 //! Tests of the engine: over scripted sources, and over a network in memory. Tests of `cluster`.
 #![tactic(auto)]
 
@@ -6,15 +7,21 @@ mod act;
 #[cfg(test)]
 mod asked;
 #[cfg(test)]
+mod asks;
+#[cfg(test)]
 mod callers;
 #[cfg(test)]
 mod clusters;
+#[cfg(test)]
+mod counter_rows;
 #[cfg(test)]
 mod counts;
 #[cfg(test)]
 mod driven;
 #[cfg(test)]
 mod drives;
+#[cfg(test)]
+mod drops;
 #[cfg(test)]
 mod feeds;
 #[cfg(test)]
@@ -34,11 +41,15 @@ mod peers;
 #[cfg(test)]
 mod recipients;
 #[cfg(test)]
+mod scenario_rows;
+#[cfg(test)]
 mod scenarios;
 #[cfg(test)]
 mod scripts;
 #[cfg(test)]
 mod texts;
+#[cfg(test)]
+mod turns;
 #[cfg(test)]
 mod wakes;
 #[cfg(test)]

@@ -2,7 +2,7 @@
 use super::job::Gated;
 use super::network::{Inbound, Outbound};
 use super::peers::Peers;
-use broadcast_core::{Codec, Digestible, RangeCfg, TestMessage};
+use broadcast_core::{Codec, Digest, Digestible, RangeCfg, TestMessage};
 use commonware_broadcast::buffered::{
     Config, Engine, Mailbox, MailboxEngine, Metrics, Status, Strategy, Turn,
 };
@@ -57,13 +57,27 @@ impl<R: Wait + Clone + Drop> Node<R> {
         alloc: Global,
         cx: &mut Context<'_>,
         network: &mut (Outbound, Inbound),
-    ) -> Poll<Turn<u64>> {
+    ) -> Poll<Turn<u64, Digest>> {
         self.engine.poll(alloc, cx, network)
     }
 
     /// Returns the counter.
     pub fn count(&self, metric: Metric) -> u64 {
         count(self.engine.metrics(), metric)
+    }
+
+    /// Returns whether the counters have these values, and all others are 0.
+    pub fn has_totals(
+        &self,
+        peers: [u64; 4],
+        received: [u64; 3],
+        subscribed: [u64; 2],
+        got: [u64; 3],
+    ) -> bool {
+        let metrics = self.engine.metrics();
+        by_peer(metrics) == peers
+            && by_status(metrics) == (received, subscribed, got)
+            && never(metrics) == [0; 4]
     }
 
     /// Asks the engine to stop. Returns whether there is memory to ask.
@@ -105,4 +119,43 @@ fn count(metrics: &Metrics<u64>, metric: Metric) -> u64 {
         Metric::Get(status) => metrics.get(status),
         Metric::Waiters => metrics.waiters(),
     }
+}
+
+/// Returns how many payloads the peers 1 to 4 sent.
+fn by_peer(metrics: &Metrics<u64>) -> [u64; 4] {
+    [
+        metrics.peer(&1),
+        metrics.peer(&2),
+        metrics.peer(&3),
+        metrics.peer(&4),
+    ]
+}
+
+/// Returns what was received, subscribed to and asked for, as `Act::Totals` has it.
+fn by_status(metrics: &Metrics<u64>) -> ([u64; 3], [u64; 2], [u64; 3]) {
+    let received = [
+        metrics.receive(Status::Success),
+        metrics.receive(Status::Dropped),
+        metrics.receive(Status::Invalid),
+    ];
+    let subscribed = [
+        metrics.subscribe(Status::Success),
+        metrics.subscribe(Status::Dropped),
+    ];
+    let got = [
+        metrics.get(Status::Success),
+        metrics.get(Status::Failure),
+        metrics.get(Status::Dropped),
+    ];
+    (received, subscribed, got)
+}
+
+/// Returns the counters of what never happens.
+fn never(metrics: &Metrics<u64>) -> [u64; 4] {
+    [
+        metrics.receive(Status::Failure),
+        metrics.subscribe(Status::Failure),
+        metrics.subscribe(Status::Invalid),
+        metrics.get(Status::Invalid),
+    ]
 }

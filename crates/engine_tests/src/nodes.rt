@@ -1,13 +1,14 @@
 //! Engines over a network in memory, which one thread polls.
 use super::network::{Inbound, Outbound};
 use super::node::{Metric, Node};
+use super::turns::without_digest;
 use super::wires::Wires;
 use commonware_broadcast::buffered::Turn;
 use futures::task::Poll;
+use memory_node::support::task::Task;
 use std::alloc::{AllocError, AllocGlobal, Global};
 use std::random::RandomSource;
 use std::sync::Wait;
-use test_support::task::Task;
 
 /// The engines of the nodes, in the order of their keys, with their tasks and their network.
 #[derive(Drop)]
@@ -58,14 +59,14 @@ impl<R: Wait + Clone + Drop> Nodes<R> {
     }
 
     /// Polls the engine at the place once. Returns the turn, if it is ready.
-    fn poll(&mut self, alloc: Global, at: usize) -> Option<Turn<u64>> {
+    fn poll(&mut self, alloc: Global, at: usize) -> Option<Turn<u64, ()>> {
         let engine = self.engines.get_mut(at)?;
         let (task, network) = ends(&mut self.tasks, &mut self.wires, at)?;
         poll(engine, task, alloc, network)
     }
 
     /// Polls the engine at the place once. Returns whether this is its turn, or it is pending.
-    pub fn takes(&mut self, alloc: Global, at: usize, turn: Option<&Turn<u64>>) -> bool {
+    pub fn takes(&mut self, alloc: Global, at: usize, turn: Option<&Turn<u64, ()>>) -> bool {
         self.poll(alloc, at).as_ref() == turn
     }
 
@@ -73,6 +74,22 @@ impl<R: Wait + Clone + Drop> Nodes<R> {
     pub fn counted(&self, at: usize, metric: Metric, number: u64) -> bool {
         match self.engines.get(at) {
             Some(engine) => engine.count(metric) == number,
+            None => false,
+        }
+    }
+
+    /// Returns whether the counters of the engine at the place have these values, and all others
+    /// are 0.
+    pub fn has_totals(
+        &self,
+        at: usize,
+        peers: [u64; 4],
+        received: [u64; 3],
+        subscribed: [u64; 2],
+        got: [u64; 3],
+    ) -> bool {
+        match self.engines.get(at) {
+            Some(engine) => engine.has_totals(peers, received, subscribed, got),
             None => false,
         }
     }
@@ -133,13 +150,13 @@ fn poll<R: Wait + Clone + Drop>(
     task: &mut Task,
     alloc: Global,
     network: &mut (Outbound, Inbound),
-) -> Option<Turn<u64>> {
+) -> Option<Turn<u64, ()>> {
     task.wakes = 0;
     let mut cx = task.solo.begin();
     let polled = engine.poll(alloc, &mut cx, network);
     task.rest.end(cx);
     match polled {
-        Poll::Ready(turn) => Some(turn),
+        Poll::Ready(turn) => Some(without_digest(turn)),
         Poll::Pending => None,
     }
 }

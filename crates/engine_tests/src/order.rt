@@ -5,10 +5,10 @@ use super::node::Metric;
 use broadcast_core::{Cause, CodecError, Outcome};
 use broadcast_mailbox::Feedback;
 use commonware_broadcast::buffered::{EndCause, Status, Turn};
+use memory_node::support::message::To;
 use std::test::Fail;
-use test_support::message::To;
 
-static ROWS: [Row; 13] = [
+static ROWS: [Row; 12] = [
     Row {
         name: "a peer set comes before a request, and a request before a payload",
         nodes: 1,
@@ -18,42 +18,9 @@ static ROWS: [Row; 13] = [
             Act::Broadcast(1, To::All, b'b'),
             Act::Comes(1, 5, b'a'),
             Act::Poll(1, Some(&Turn::Peers)),
-            Act::Poll(1, Some(&Turn::Broadcast(Outcome::Inserted))),
-            Act::Poll(1, Some(&Turn::Payload(5, Outcome::Inserted))),
+            Act::Poll(1, Some(&Turn::Broadcast((), Outcome::Inserted))),
+            Act::Poll(1, Some(&Turn::Payload(5, (), Outcome::Inserted))),
             Act::Poll(1, None),
-        ],
-    },
-    Row {
-        name: "payloads are counted on their sender and by their outcome",
-        nodes: 1,
-        sizes: (1024, 2),
-        acts: &[
-            Act::Track(1, &[5]),
-            Act::Run,
-            Act::Comes(1, 5, b'a'),
-            Act::Comes(1, 5, b'a'),
-            Act::Comes(1, 6, b'a'),
-            Act::Payload(1, 5, &[0xff]),
-            Act::Subscribe(1, b'b'),
-            // A message above the byte budget, with the digest of the message `b`.
-            Act::Payload(
-                1,
-                5,
-                &[
-                    0, 0, 0, 92, 0, 0, 0, 0, 0, 0, 0, 0, 0, 0, 0, 0, 0, 0, 0, 0, 0, 0, 0, 0, 0, 0,
-                    0, 0, 0, 0, 0, 0, 0, 0, 0, 0, 0, 0, 0, 0, 0, 0, 0, 0, 0, 0, 0, 0, 0, 0, 0, 0,
-                    0, 0, 0, 0, 0, 0, 0, 0, 0, 0, 0, 0, 0, 0, 0, 0, 0, 0, 0, 0, 0, 0, 0, 0, 0, 0,
-                    0, 0, 0, 0, 0, 0, 0, 0, 0, 0, 0, 0, 0, 0, 0, 0, 0, 0, 0, 0, 0, 1, b'b',
-                ],
-            ),
-            Act::Run,
-            Act::Gives(0, Given::Letter(0)),
-            Act::Finds(1, b'b', false),
-            Act::Counts(1, Metric::Peer(5), 3),
-            Act::Counts(1, Metric::Peer(6), 1),
-            Act::Counts(1, Metric::Receive(Status::Success), 1),
-            Act::Counts(1, Metric::Receive(Status::Dropped), 3),
-            Act::Counts(1, Metric::Receive(Status::Invalid), 1),
         ],
     },
     Row {
@@ -68,10 +35,10 @@ static ROWS: [Row; 13] = [
             Act::Comes(1, 6, b'b'),
             Act::Comes(1, 5, b'c'),
             Act::Poll(1, Some(&Turn::Invalid(6, CodecError::EndOfBuffer))),
-            Act::Poll(1, Some(&Turn::Payload(5, Outcome::Inserted))),
+            Act::Poll(1, Some(&Turn::Payload(5, (), Outcome::Inserted))),
             Act::Refuses(1, 1),
             Act::Poll(1, Some(&Turn::Refused(Some(6), Cause::Memory))),
-            Act::Poll(1, Some(&Turn::Payload(5, Outcome::Inserted))),
+            Act::Poll(1, Some(&Turn::Payload(5, (), Outcome::Inserted))),
             Act::Finds(1, b'b', false),
             Act::Counts(1, Metric::Peer(5), 2),
             Act::Counts(1, Metric::Peer(6), 1),
@@ -91,7 +58,7 @@ static ROWS: [Row; 13] = [
             Act::Poll(1, None),
             Act::Get(1, b'a'),
             Act::Poll(1, None),
-            Act::Poll(1, Some(&Turn::Payload(5, Outcome::Inserted))),
+            Act::Poll(1, Some(&Turn::Payload(5, (), Outcome::Inserted))),
             Act::Gives(0, Given::Waits),
             Act::Poll(1, Some(&Turn::Get)),
             Act::Gives(0, Given::Letter(b'a')),
@@ -142,7 +109,7 @@ static ROWS: [Row; 13] = [
             Act::Track(1, &[1]),
             Act::Run,
             Act::Broadcast(1, To::All, b'b'),
-            Act::Poll(1, Some(&Turn::Broadcast(Outcome::Inserted))),
+            Act::Poll(1, Some(&Turn::Broadcast((), Outcome::Inserted))),
             Act::Subscribe(1, b'b'),
             Act::Hang(0),
             Act::Poll(1, Some(&Turn::Subscribe)),
@@ -169,9 +136,9 @@ static ROWS: [Row; 13] = [
             Act::Poll(1, None),
             Act::Poll(1, None),
             Act::Gives(0, Given::Waits),
-            Act::Poll(1, Some(&Turn::Payload(5, Outcome::Inserted))),
-            Act::Poll(1, Some(&Turn::Broadcast(Outcome::Inserted))),
-            Act::Poll(1, Some(&Turn::Broadcast(Outcome::Duplicate))),
+            Act::Poll(1, Some(&Turn::Payload(5, (), Outcome::Inserted))),
+            Act::Poll(1, Some(&Turn::Broadcast((), Outcome::Inserted))),
+            Act::Poll(1, Some(&Turn::Broadcast((), Outcome::Duplicate))),
             Act::Poll(1, Some(&Turn::Get)),
             Act::Poll(1, Some(&Turn::Subscribe)),
             Act::Poll(1, None),
@@ -191,7 +158,7 @@ static ROWS: [Row; 13] = [
             Act::Comes(1, 5, b'b'),
             Act::Fails(1),
             Act::Poll(1, Some(&Turn::Get)),
-            Act::Poll(1, Some(&Turn::Payload(5, Outcome::Ineligible))),
+            Act::Poll(1, Some(&Turn::Payload(5, (), Outcome::Ineligible))),
             Act::Subscribe(1, b'c'),
             Act::Poll(1, Some(&Turn::Subscribe)),
             Act::Poll(1, Some(&Turn::Ended(EndCause::NetworkFailed))),
@@ -222,7 +189,7 @@ static ROWS: [Row; 13] = [
             Act::EndPeers(1),
             Act::Get(1, b'a'),
             Act::Poll(1, None),
-            Act::Poll(1, Some(&Turn::Payload(5, Outcome::Inserted))),
+            Act::Poll(1, Some(&Turn::Payload(5, (), Outcome::Inserted))),
             Act::Gives(0, Given::Letter(b'a')),
             Act::Poll(1, Some(&Turn::Ended(EndCause::PeersClosed))),
             Act::Gives(1, Given::Nothing),

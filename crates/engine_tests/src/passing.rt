@@ -1,8 +1,8 @@
 //! What a mailbox was given reaches the network and its own callers.
 use super::act::{Act, Row, all_go};
 use super::asked::Given;
+use memory_node::support::message::To;
 use std::test::Fail;
-use test_support::message::To;
 
 static ROWS: [Row; 1] = [Row {
     name: "broadcasts to others by another digest, and requests by it",

@@ -3,12 +3,12 @@ use broadcast_core::Set;
 use commonware_broadcast::buffered::Sender;
 use futures::task::Poll;
 use memory_network::{Mail, Network};
+use memory_node::support::message::{To, recipients};
+use memory_node::support::task::Task;
 use std::alloc::{AllocError, AllocGlobal};
 use std::random::RandomSource;
 use std::sync::{Arc, Wait};
 use std::test::Fail;
-use test_support::message::{To, recipients};
-use test_support::task::Task;
 
 /// Recipients, and which of the nodes 2, 3 and 4 are handed a payload of the node 1.
 struct Row(To, &'static [u64]);

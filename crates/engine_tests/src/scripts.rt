@@ -7,9 +7,9 @@ use commonware_broadcast::mocks::{
     RecordingOutlet, RecordingSender, Replied, Script, ScriptedRequests, Slow,
 };
 use futures::task::Poll;
+use memory_node::support::message::{To, digest, digested, payload, peers, recipients};
 use std::alloc::{AllocError, Global};
 use std::num::NonZeroUsize;
-use test_support::message::{To, digest, digested, payload, peers, recipients};
 
 /// The result of a poll of the peer sets.
 #[derive(Clone, Copy)]

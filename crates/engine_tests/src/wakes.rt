@@ -2,8 +2,8 @@
 use super::act::{Act, Row, all_go};
 use broadcast_core::Outcome;
 use commonware_broadcast::buffered::{EndCause, Turn};
+use memory_node::support::message::To;
 use std::test::Fail;
-use test_support::message::To;
 
 static ROWS: [Row; 7] = [
     Row {
@@ -25,12 +25,12 @@ static ROWS: [Row; 7] = [
             Act::Wakes(1, 0),
             Act::Comes(1, 5, b'a'),
             Act::Wakes(1, 1),
-            Act::Poll(1, Some(&Turn::Payload(5, Outcome::Inserted))),
+            Act::Poll(1, Some(&Turn::Payload(5, (), Outcome::Inserted))),
             Act::Poll(1, None),
             Act::Wakes(1, 0),
             Act::Broadcast(1, To::All, b'b'),
             Act::Wakes(1, 1),
-            Act::Poll(1, Some(&Turn::Broadcast(Outcome::Inserted))),
+            Act::Poll(1, Some(&Turn::Broadcast((), Outcome::Inserted))),
             Act::Poll(1, None),
             Act::Wakes(1, 0),
             Act::Get(1, b'a'),
@@ -193,7 +193,7 @@ static ROWS: [Row; 7] = [
             Act::Wakes(1, 0),
             Act::Holds(1, 0),
             Act::Wakes(1, 1),
-            Act::Poll(1, Some(&Turn::Payload(5, Outcome::Ineligible))),
+            Act::Poll(1, Some(&Turn::Payload(5, (), Outcome::Ineligible))),
             Act::Poll(1, Some(&Turn::Peers)),
             Act::Poll(1, Some(&Turn::Subscribe)),
             Act::Poll(1, Some(&Turn::Get)),

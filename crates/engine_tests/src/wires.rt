@@ -1,8 +1,8 @@
 //! A network in memory between nodes with the keys from 1.
 use super::network::{Inbound, Outbound};
 use broadcast_core::{Recipients, Sent};
+use memory_node::support::message::{To, sending};
 use std::alloc::{AllocError, Global};
-use test_support::message::{To, sending};
 
 /// The ends of each node, in the order of the keys.
 #[derive(Drop)]

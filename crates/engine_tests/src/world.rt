@@ -2,14 +2,14 @@
 use super::act::Act;
 use super::callers::Callers;
 use super::feeds::Feeds;
-use super::node::Node;
+use super::node::{Metric, Node};
 use super::nodes::Nodes;
 use super::wires::{Wires, place};
+use memory_node::support::message::payload;
 use std::alloc::{AllocError, AllocGlobal, Global};
 use std::num::NonZeroUsize;
 use std::random::RandomSource;
 use std::sync::Wait;
-use test_support::message::payload;
 
 /// The number of nodes, and the sizes of their mailboxes and lists.
 #[derive(Clone, Copy)]
@@ -115,6 +115,10 @@ fn goes_inside<R: Wait + Clone + Drop>(
         Act::Poll(key, turn) => nodes.takes(alloc, place(key), turn),
         Act::Wakes(key, wakes) => nodes.was_woken(place(key), wakes),
         Act::Counts(key, metric, number) => nodes.counted(place(key), metric, number),
+        Act::Totals(key, peers, received, subscribed, got, waiters) => {
+            nodes.counted(place(key), Metric::Waiters, waiters)
+                && nodes.has_totals(place(key), peers, received, subscribed, got)
+        }
         Act::Stop(key) => nodes.stop(place(key)),
         Act::CloseLast => nodes.close_last(),
         Act::DropLast => nodes.drop_last(),

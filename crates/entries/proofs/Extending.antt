@@ -1,5 +1,5 @@
 -- A chain that gets a digest in front, and one that loses its oldest.
-use Rattle.std.proofs.Common.{Bool, true, ◌≡◌, ◌+◌, ◌≤◌, ◌<◌, ℕ, List, [], ◌∷◌, length, Option, Some, None, refl, sym, ap, ◌∙◌, arith}
+use Rattle.std.proofs.Common.{Bool, true, ◌≡◌, ◌+◌, ◌≤◌, ℕ, List, [], ◌∷◌, length, Option, Some, None, refl, sym, ap, ◌∙◌, arith}
 use Rattle.std.specs.Prelude.{MatchOption}
 use Rattle.std.specs.Cmp.{IsEquivalence}
 use Rattle.std.specs.Map.{lookup, set_value}
@@ -93,12 +93,3 @@ module _ {K D : Type 0} {same : K → K → Bool} (laws : IsEquivalence same) wh
 
       pub extends-bytes : (stale : Option (Charged D)) → Trims size k l between next stale → next.bytes ≡ bytes_of (items_at same p (lists_of l fs))
       extends-bytes stale trims = sum_at laws l fs p next (extends stale trims).1 (written laws es fs p old next was is p ∙ is_at (same p p) (Some next) (lookup (same p) es) (laws.refl p))
-
-  -- the first digest of a key is within any size
-  pub begins-extends : (p : K) (place size : ℕ) (digest : Charged D) (old new : List (K × List (ℕ × Charged D))) → 0 < size → items_at same p old ≡ [] → Puts same p ((place, digest) ∷ []) old new
-      → Extends same p (place, digest) size None old new
-  begins-extends p place size digest old new some empty puts = record {
-    between = new;
-    put = rw empty puts;
-    cut = (rw (puts.lists p, laws.refl p) (omega (arith, some)), refl);
-  }

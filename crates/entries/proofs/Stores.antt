@@ -1,18 +1,19 @@
 -- What a change of one chain makes of all of them.
-use Rattle.std.proofs.Common.{suc, Result, Ok, Err, Bool, true, false, cond, ◌≡◌, ◌≢◌, ℕ, inl, inr, List, [], ◌∷◌, ◌++◌, map, length, Option, Some, None, refl, sym, ap, ◌∙◌}
+use Rattle.std.proofs.Common.{suc, Result, Ok, Err, Bool, true, false, cond, ◌≡◌, ℕ, inl, inr, List, [], ◌∷◌, ◌++◌, map, length, Option, Some, None, refl, sym, ap, subst, ◌∙◌}
 use Rattle.std.specs.Prelude.{is_some, unwrap_or, not, ◌==◌, ◌||◌, MatchOption, IfOk, OnErr}
 use Rattle.std.specs.Option.{option_map}
 use Rattle.std.specs.Cmp.{IsEquivalence}
-use Rattle.std.specs.Map.{lookup, set_value}
-use Rattle.std.proofs.lemmas.Map.{lookup-set_value}
-use Rattle.std.proofs.lemmas.Map.Made.{lookup-map_values}
+use Rattle.std.specs.List.{IsDistinct}
+use Rattle.std.specs.Map.{lookup, keys_of, set_value}
+use Rattle.std.proofs.lemmas.Map.{lookup-set_value, keys-set_value}
+use Rattle.std.proofs.lemmas.Map.Made.{lookup-map_values, keys_of-map_values}
 use Rattle.std.proofs.lemmas.Map.Steps.{set_value_same}
 use Rattle.entries.specs.declared.entry.Entry.{Entry}
 use Rattle.entries.specs.declared.entry.Chain.{Chain}
 use Rattle.entries.specs.Linked.{Node, Misses, IsApart, IsIn, IsAt, IsRun, IsLinked, IsChain, Frame, IsOn, HasNodes, IsOwned, SameValues, Promotes, Pushes, Pops, Frees}
 use Rattle.entries.specs.Store.{items_at, nodes, lists_of, has_place, elsewhere, moved, Puts, Evicts, Removes, IsStore, IsPlaceOf, IsNoPlaceOf}
 use Rattle.entries.proofs.Runs.{Misses-right, walk-run}
-use Rattle.std.proofs.lemmas.Bool.{cases_eq, eq-eqb, ne_eqb}
+use Rattle.std.proofs.lemmas.Bool.{eq-eqb, ne_eqb}
 
 pub by_test : {P : Type 0} (b : Bool) → (b ≡ true → P) → (b ≡ false → P) → P
 by_test true at_true at_false = at_true refl
@@ -113,6 +114,10 @@ module _ {K : Type 0} {same : K → K → Bool} (laws : IsEquivalence same) wher
   pub written : (es fs : List (K × Chain)) (p : K) (old next : Chain) → lookup (same p) es ≡ Some old → fs ≡ set_value (same p) es next → (q : K) → lookup (same q) fs ≡ cond (same p q) (Some next) (lookup (same q) es)
   written es fs p old next was is q = rw is (lookup-set_value laws (same p) (λ x y here. laws.congr p x y here) q next es (rw was refl))
 
+  -- a write keeps the keys
+  pub written_distinct : (es fs : List (K × Chain)) (p : K) (next : Chain) → fs ≡ set_value (same p) es next → IsDistinct same (keys_of es) → IsDistinct same (keys_of fs)
+  written_distinct es fs p next is distinct = subst (IsDistinct same) (sym (ap keys_of is ∙ keys-set_value (same p) es next)) distinct
+
   -- tests that agree find the same
   pub found_same : {X : Type 0} (es : List (K × X)) (p q : K) → same p q ≡ true → lookup (same p) es ≡ lookup (same q) es
   found_same es p q here = let one : same p ≡ same q = λ i x. laws.congr p q x here i in ap (λ (t : K → Bool). lookup t es) one
@@ -172,19 +177,32 @@ not_moved mine h place digest before ns after none run =
     misses before (n ∷ ns) p =
         ((λ same. let here : place ≡ n.0 = cc in let no : true ≡ false = sym p.0.owned ∙ none p.0.entry (ap h here ∙ p.0.there) in absurd (cc)), misses (Some n.0) ns p.1)
 
+-- a list is there where its chain is
+pub some_listed : {K D : Type 0} (same : K → K → Bool) (h : ℕ → Option (Entry K D)) (es : List (K × Chain)) (q : K) → is_some (lookup (same q) (lists_of h es)) ≡ is_some (lookup (same q) es)
+some_listed same h es q = ap is_some (lookup-map_values (nodes h) (same q) es) ∙ some_map (lookup (same q) es)
+  where
+    some_map : (o : Option Chain) → is_some (option_map (nodes h) o) ≡ is_some o
+    some_map None = refl
+    some_map (Some a) = refl
+
+kept_keys : {K D : Type 0} (same : K → K → Bool) (h k : ℕ → Option (Entry K D)) (es fs : List (K × Chain)) (p : K)
+    → ((q : K) → lookup (same q) fs ≡ cond (same p q) None (lookup (same q) es)) → (q : K) → same p q ≡ false → is_some (lookup (same q) (lists_of h es)) ≡ true
+    → is_some (lookup (same q) (lists_of k fs)) ≡ true
+kept_keys same h k es fs p at q apart there = some_listed same k fs q ∙ ap is_some (at q ∙ is_not_at (same p q) None (lookup (same q) es) apart) ∙ sym (some_listed same h es q) ∙ there
+
+-- no list is there twice where no chain is
+pub listed_distinct : {K D : Type 0} (same : K → K → Bool) (h : ℕ → Option (Entry K D)) (es : List (K × Chain)) → IsDistinct same (keys_of es) → IsDistinct same (keys_of (lists_of h es))
+listed_distinct same h es distinct = subst (IsDistinct same) (sym (keys_of-map_values (nodes h) es)) distinct
+
 left_keys : {K D : Type 0} {same : K → K → Bool} (laws : IsEquivalence same) (h k : ℕ → Option (Entry K D)) (es fs : List (K × Chain)) (p : K)
     → ((q : K) → lookup (same q) fs ≡ cond (same p q) None (lookup (same q) es)) → (q : K) → is_some (lookup (same q) (lists_of k fs)) ≡ true
     → (same p q ≡ false) × (is_some (lookup (same q) (lists_of h es)) ≡ true)
 left_keys {same = same} laws h k es fs p at q there = by_test (same p q)
     (λ here. let no : false ≡ true = sym (ap is_some (at q ∙ is_at (same p q) None (lookup (same q) es) here)) ∙ found in absurd (cc))
-    (λ apart. (apart, ap is_some (lookup-map_values (nodes h) (same q) es) ∙ some_map (nodes h) (lookup (same q) es) ∙ sym (ap is_some (at q ∙ is_not_at (same p q) None (lookup (same q) es) apart)) ∙ found))
+    (λ apart. (apart, some_listed same h es q ∙ sym (ap is_some (at q ∙ is_not_at (same p q) None (lookup (same q) es) apart)) ∙ found))
   where
-    some_map : {A B : Type 0} (f : A → B) (o : Option A) → is_some (option_map f o) ≡ is_some o
-    some_map f None = refl
-    some_map f (Some a) = refl
-
     found : is_some (lookup (same q) fs) ≡ true
-    found = sym (ap is_some (lookup-map_values (nodes k) (same q) fs) ∙ some_map (nodes k) (lookup (same q) fs)) ∙ there
+    found = sym (some_listed same k fs q) ∙ there
 
 module _ {K D : Type 0} {same : K → K → Bool} (laws : IsEquivalence same) where
   items_at-lists : (h : ℕ → Option (Entry K D)) (es : List (K × Chain)) (q : K) → items_at same q (lists_of h es) ≡ unwrap_or (option_map (nodes h) (lookup (same q) es)) []
@@ -202,6 +220,7 @@ module _ {K D : Type 0} {same : K → K → Bool} (laws : IsEquivalence same) wh
     pub at : (q : K) → lookup (same q) fs ≡ cond (same p q) (Some next) (lookup (same q) es)
     pub chain : IsChain (same p) k next ns
     pub frame : Frame (same p) h k
+    pub distinct : IsDistinct same (keys_of fs)
 
   -- the chain of another key
   pub other_chain : (h k : ℕ → Option (Entry K D)) (es : List (K × Chain)) (p q : K) (c : Chain) → IsStore same h es → Frame (same p) h k → same p q ≡ false → lookup (same q) es ≡ Some c → IsChain (same q) k c (nodes h c)
@@ -224,6 +243,7 @@ module _ {K D : Type 0} {same : K → K → Bool} (laws : IsEquivalence same) wh
     rooted = λ j e there. by_test (same p e.peer)
         (λ here. ap is_some (c.at e.peer ∙ is_at (same p e.peer) (Some next) (lookup (same e.peer) es) here))
         (λ apart. ap is_some (c.at e.peer ∙ is_not_at (same p e.peer) (Some next) (lookup (same e.peer) es) apart) ∙ store.rooted j e (c.frame.back j e there apart));
+    distinct = c.distinct;
   }
 
   -- the key's list is another, and no other
@@ -240,11 +260,15 @@ module _ {K D : Type 0} {same : K → K → Bool} (laws : IsEquivalence same) wh
         ∙ kept q apart (lookup (same q) es) refl
         ∙ sym (items_at-lists h es q)
         ∙ sym (is_not_at (same p q) ns (items_at same q (lists_of h es)) apart));
-    keys = λ q there. sym (
-        ap is_some (lookup-map_values (nodes k) (same q) fs) ∙ some_map (nodes k) (lookup (same q) fs) ∙ ap is_some (c.at q)
-        ∙ put (same p q) (lookup (same q) es) ∙ ap (λ b. same p q || b) (sym (some_map (nodes h) (lookup (same q) es)) ∙ ap is_some (sym (lookup-map_values (nodes h) (same q) es)))) ∙ there;
+    keys = λ q there. sym (exactly q) ∙ there;
+    stays = λ q there. exactly q ∙ ap (λ b. same p q || b) there ∙ or_true (same p q);
+    distinct = listed_distinct same k fs c.distinct;
   }
     where
+      or_true : (b : Bool) → (b || true) ≡ true
+      or_true true = refl
+      or_true false = refl
+
       kept : (q : K) → same p q ≡ false → (o : Option Chain) → lookup (same q) es ≡ o → unwrap_or (option_map (nodes k) o) [] ≡ unwrap_or (option_map (nodes h) o) []
       kept q apart None found = refl
       kept q apart (Some d) found = nodes-is (same q) k d (nodes h d) (other_chain h k es p q d store c.frame apart found).linked
@@ -256,6 +280,10 @@ module _ {K D : Type 0} {same : K → K → Bool} (laws : IsEquivalence same) wh
       put : (b : Bool) (o : Option Chain) → is_some (cond b (Some next) o) ≡ (b || is_some o)
       put true o = refl
       put false o = refl
+
+      exactly : (q : K) → is_some (lookup (same q) (lists_of k fs)) ≡ (same p q || is_some (lookup (same q) (lists_of h es)))
+      exactly q = ap is_some (lookup-map_values (nodes k) (same q) fs) ∙ some_map (nodes k) (lookup (same q) fs) ∙ ap is_some (c.at q)
+          ∙ put (same p q) (lookup (same q) es) ∙ ap (λ b. same p q || b) (sym (some_map (nodes h) (lookup (same q) es)) ∙ ap is_some (sym (lookup-map_values (nodes h) (same q) es)))
 
   -- the place of a peer is on its chain
   pub own_parts : (h : ℕ → Option (Entry K D)) (es : List (K × Chain)) (p : K) (c : Chain) (place : ℕ) → IsStore same h es → lookup (same p) es ≡ Some c → IsPlaceOf same h p place → Parts (nodes h c) place
@@ -277,7 +305,7 @@ module _ {K D : Type 0} {same : K → K → Bool} (laws : IsEquivalence same) wh
       let ps = own_parts h es p old place store was own in
       let c : IsChain (same p) h old (ps.front ++ (place, ps.digest) ∷ ps.back) = rw ps.is at (store.chains p old was) in
       let r = promotes.chains (same p) ps.front ps.digest ps.back c in
-      record { at = written laws es fs p old next was is; chain = r.0; frame = r.1 }
+      record { at = written laws es fs p old next was is; chain = r.0; frame = r.1; distinct = written_distinct laws es fs p next is store.distinct }
 
   pub renews : (h k : ℕ → Option (Entry K D)) (es fs : List (K × Chain)) (p : K) (old next : Chain) (place : ℕ) (digest : D) → IsStore same h es → lookup (same p) es ≡ Some old → IsPlaceOf same h p place
       → fs ≡ set_value (same p) es next → Promotes h k old next place digest
@@ -296,7 +324,7 @@ module _ {K D : Type 0} {same : K → K → Bool} (laws : IsEquivalence same) wh
       → IsStore same k fs × Evicts same p stale (lists_of h es) (lists_of k fs)
   evicts_one h k es fs p old next stale store was is pops =
       let r = pops (same p) (nodes h old) (store.chains p old was) in
-      let change : Changes h k es fs p next r.1 = record { at = written laws es fs p old next was is; chain = r.4; frame = r.5 } in (
+      let change : Changes h k es fs p next r.1 = record { at = written laws es fs p old next was is; chain = r.4; frame = r.5; distinct = written_distinct laws es fs p next is store.distinct } in (
         Changes-store h k es fs p next _ store change,
         record {
           place = r.0;
@@ -343,7 +371,7 @@ module _ {K D : Type 0} {same : K → K → Bool} (laws : IsEquivalence same) wh
       → IsStore same k fs × Puts same p ((place, digest) ∷ items_at same p (lists_of h es)) (lists_of h es) (lists_of k fs)
   adds h k es fs p owner old next digest place store was owned is pushes =
       let r = pushes.chains (same p) (nodes h old) owned (store.chains p old was) in
-      let change : Changes h k es fs p next ((place, digest) ∷ nodes h old) = record { at = written laws es fs p old next was is; chain = r.0; frame = r.1 } in
+      let change : Changes h k es fs p next ((place, digest) ∷ nodes h old) = record { at = written laws es fs p old next was is; chain = r.0; frame = r.1; distinct = written_distinct laws es fs p next is store.distinct } in
       (Changes-store h k es fs p next _ store change, rw (items_at-chain h es p old was) (Changes-puts h k es fs p next _ store change))
 
   -- what stays, stays for all lists
@@ -364,49 +392,11 @@ module _ {K D : Type 0} {same : K → K → Bool} (laws : IsEquivalence same) wh
   adds-or-stays h k es fs p owner old next digest v w (Err e) store was owned is pushes kept =
       let r = stays h k es fs p old next store was is kept.0 kept.1 in (r.0, tt, (r.1, kept.2))
 
-  -- the first digest of a key
-  pub begins : (h k : ℕ → Option (Entry K D)) (es fs : List (K × Chain)) (p : K) (next : Chain) (place : ℕ) (entry : Entry K D) → IsStore same h es → lookup (same p) es ≡ None
-      → ((q : K) → lookup (same q) fs ≡ cond (same p q) (Some next) (lookup (same q) es))
-      → next.newest ≡ Some place → next.oldest ≡ Some place → next.len ≡ 1
-      → h place ≡ None → k place ≡ Some entry → ((j : ℕ) → j ≢ place → k j ≡ h j)
-      → same p entry.peer ≡ true → entry.newer ≡ None → entry.older ≡ None
-      → IsStore same k fs × Puts same p ((place, entry.digest) ∷ []) (lists_of h es) (lists_of k fs)
-  begins h k es fs p next place entry store none at newest oldest len vacant there others owned newer older =
-      let change : Changes h k es fs p next ((place, entry.digest) ∷ []) = record {
-        at = at;
-        chain = record {
-          linked = record {
-            run = (record { entry = entry; there = there; owned = owned; digest = refl; newer = newer; older = older }, tt);
-            apart = (tt, tt);
-            newest = newest;
-            oldest = oldest;
-            len = len;
-          };
-          all = λ j e now mine. elim (cases_eq j place) [
-            | inl here ↦ inl here
-            | inr differs ↦ absurd (own_chain h es p j store (record { entry = e; there = sym (others j differs) ∙ now; owned = mine }) none)
-          ];
-        };
-        frame = record {
-          forth = λ j e was other. elim (cases_eq j place) [
-            | inl here ↦ let no : None ≡ Some e = sym vacant ∙ ap h (sym here) ∙ was in absurd (cc)
-            | inr differs ↦ others j differs ∙ was
-          ];
-          back = λ j e now other. elim (cases_eq j place) [
-            | inl here ↦ let one : Some entry ≡ Some e = sym there ∙ ap k (sym here) ∙ now in
-                let is : entry ≡ e = cc in
-                let no : true ≡ false = sym owned ∙ ap (λ (x : Entry K D). same p x.peer) is ∙ other in absurd (cc)
-            | inr differs ↦ sym (others j differs) ∙ now
-          ];
-        };
-      } in
-      (Changes-store h k es fs p next _ store change, Changes-puts h k es fs p next _ store change)
-
   -- a chain is gone with its places
   pub closes : (h k : ℕ → Option (Entry K D)) (es fs : List (K × Chain)) (p : K) (old : Chain) → IsStore same h es → lookup (same p) es ≡ Some old → Frees h k old
-      → ((q : K) → lookup (same q) fs ≡ cond (same p q) None (lookup (same q) es))
+      → ((q : K) → lookup (same q) fs ≡ cond (same p q) None (lookup (same q) es)) → IsDistinct same (keys_of fs)
       → IsStore same k fs × ((q : K) → items_at same q (lists_of k fs) ≡ cond (same p q) [] (items_at same q (lists_of h es)))
-  closes h k es fs p old store was frees at =
+  closes h k es fs p old store was frees at distinct =
       let frame = frees.frame (same p) (nodes h old) (store.chains p old was) in
       let gone = frees.gone (same p) (nodes h old) (store.chains p old was) in (
         record {
@@ -420,6 +410,7 @@ module _ {K D : Type 0} {same : K → K → Bool} (laws : IsEquivalence same) wh
           rooted = λ j e there.
               let apart = gone j e there in
               ap is_some (at e.peer ∙ is_not_at (same p e.peer) None (lookup (same e.peer) es) apart) ∙ store.rooted j e (frame.back j e there apart);
+          distinct = distinct;
         },
         λ q. by_test (same p q)
             (λ here. items_at-none k fs q (at q ∙ is_at (same p q) None (lookup (same q) es) here) ∙ sym (is_at (same p q) [] (items_at same q (lists_of h es)) here))
@@ -442,15 +433,15 @@ module _ {K D : Type 0} {same : K → K → Bool} (laws : IsEquivalence same) wh
       (λ apart. ap (λ (gs : List (K × Chain)). items_at same q (lists_of h gs)) is ∙ sym (is_not_at (same p q) [] (items_at same q (lists_of h es)) apart))
 
   pub removes : (h k : ℕ → Option (Entry K D)) (es fs : List (K × Chain)) (p : K) (old : Chain) → IsStore same h es → lookup (same p) es ≡ Some old → Frees h k old
-      → ((q : K) → lookup (same q) fs ≡ cond (same p q) None (lookup (same q) es))
+      → ((q : K) → lookup (same q) fs ≡ cond (same p q) None (lookup (same q) es)) → IsDistinct same (keys_of fs)
       → IsStore same k fs × Removes same p (lists_of h es) (lists_of k fs)
-  removes h k es fs p old store was frees at =
-      let r = closes h k es fs p old store was frees at in
-      (r.0, record { lists = r.1; keys = λ q there. left_keys laws h k es fs p at q there })
+  removes h k es fs p old store was frees at distinct =
+      let r = closes h k es fs p old store was frees at distinct in
+      (r.0, record { lists = r.1; keys = λ q there. left_keys laws h k es fs p at q there; stays = λ q apart there. kept_keys same h k es fs p at q apart there; distinct = listed_distinct same k fs distinct })
 
   pub removes_none : (h : ℕ → Option (Entry K D)) (es fs : List (K × Chain)) (p : K) → lookup (same p) es ≡ None → fs ≡ es
-      → ((q : K) → lookup (same q) fs ≡ cond (same p q) None (lookup (same q) es)) → Removes same p (lists_of h es) (lists_of h fs)
-  removes_none h es fs p none is at = record { lists = closes_none h es fs p none is; keys = λ q there. left_keys laws h h es fs p at q there }
+      → ((q : K) → lookup (same q) fs ≡ cond (same p q) None (lookup (same q) es)) → IsDistinct same (keys_of fs) → Removes same p (lists_of h es) (lists_of h fs)
+  removes_none h es fs p none is at distinct = record { lists = closes_none h es fs p none is; keys = λ q there. left_keys laws h h es fs p at q there; stays = λ q apart there. kept_keys same h h es fs p at q apart there; distinct = listed_distinct same h fs distinct }
 
   -- no node of the key stands at a place of others
   pub not_mine : (h : ℕ → Option (Entry K D)) (es : List (K × Chain)) (p : K) (place : ℕ) (digest : D) → IsStore same h es → IsNoPlaceOf same h p place
@@ -461,6 +452,8 @@ module _ {K D : Type 0} {same : K → K → Bool} (laws : IsEquivalence same) wh
         ∙ stays_at (lookup (same p) es) refl ∙ found_items here))
         (λ apart. sym (is_not_at (same p q) (moved place digest (items_at same p (lists_of h es))) (items_at same q (lists_of h es)) apart));
     keys = λ q there. ap (λ b. same p q || b) there ∙ or_true (same p q);
+    stays = λ q there. there;
+    distinct = listed_distinct same h es store.distinct;
   }
     where
       or_true : (b : Bool) → (b || true) ≡ true

@@ -10,9 +10,9 @@ use Rattle.entries.specs.declared.entry.Entry.{Entry}
 use Rattle.entries.specs.declared.entry.Chain.{Chain}
 use Rattle.entries.specs.Linked.{Node, IsLinked, IsChain, SameValues, Promotes, Pushes, Pops, Frees}
 use Rattle.std.proofs.lemmas.Map.Steps.{set_value_same}
-use Rattle.entries.specs.Store.{Puts, items_at, nodes, lists_of, bytes_of, values_of, IsStore, IsSummed, IsPlaceOf}
+use Rattle.entries.specs.Store.{items_at, nodes, lists_of, bytes_of, values_of, IsStore, IsSummed, IsPlaceOf}
 use Rattle.entries.proofs.Runs.{IsRun-split}
-use Rattle.entries.proofs.Stores.{Changes, nodes-is, written, items_at-chain, own_parts, renewed, by_test, is_at, is_not_at, other_chain}
+use Rattle.entries.proofs.Stores.{Changes, nodes-is, written, written_distinct, items_at-chain, own_parts, renewed, by_test, is_at, is_not_at, other_chain}
 
 -- a chain whose sum alone differs
 abbrev pub with_bytes : ℕ → Chain → Chain
@@ -48,7 +48,7 @@ module _ {D : Type 0} where
 
 module _ {K D : Type 0} {same : K → K → Bool} (laws : IsEquivalence same) where
   -- one chain was changed, and has its sum
-  Changes-summed : (h k : ℕ → Option (Entry K (Charged D))) (es fs : List (K × Chain)) (p : K) (next : Chain) (ns : List (Node (Charged D)))
+  pub Changes-summed : (h k : ℕ → Option (Entry K (Charged D))) (es fs : List (K × Chain)) (p : K) (next : Chain) (ns : List (Node (Charged D)))
       → IsStore same h es → IsSummed same h es → Changes laws h k es fs p next ns → next.bytes ≡ bytes_of ns → IsSummed same k fs
   Changes-summed h k es fs p next ns store summed c sum = record {
     sums = λ q d found. by_test (same p q)
@@ -107,7 +107,7 @@ module _ {K D : Type 0} {same : K → K → Bool} (laws : IsEquivalence same) wh
       → fs ≡ set_value (same p) es next → Pops h k old next (Some stale) → next.bytes ≡ old.bytes - stale.charge → IsSummed same k fs
   evicts-summed h k es fs p old next stale store summed was is pops sum =
       let r = pops (same p) (nodes h old) (store.chains p old was) in
-      let change : Changes laws h k es fs p next r.1 = record { at = written laws es fs p old next was is; chain = r.4; frame = r.5 } in
+      let change : Changes laws h k es fs p next r.1 = record { at = written laws es fs p old next was is; chain = r.4; frame = r.5; distinct = written_distinct laws es fs p next is store.distinct } in
       Changes-summed h k es fs p next r.1 store summed change
       (omega (arith, sum, summed.sums p old was, ap bytes_of r.2, bytes_of-append r.1 ((r.0, stale) ∷ []), bytes_of-cons (r.0, stale) []))
 
@@ -117,7 +117,7 @@ module _ {K D : Type 0} {same : K → K → Bool} (laws : IsEquivalence same) wh
   adds-summed h k es fs p owner old next digest place store summed was owned is pushes sum =
       let r = pushes.chains (same p) (nodes h old) owned (store.chains p old was) in
       let ns = (place, digest) ∷ nodes h old in
-      let change : Changes laws h k es fs p next ns = record { at = written laws es fs p old next was is; chain = r.0; frame = r.1 } in
+      let change : Changes laws h k es fs p next ns = record { at = written laws es fs p old next was is; chain = r.0; frame = r.1; distinct = written_distinct laws es fs p next is store.distinct } in
       let total : next.bytes ≡ bytes_of ns = omega (arith, sum, summed.sums p old was, bytes_of-cons (place, digest) (nodes h old)) in
       (Changes-summed h k es fs p next ns store summed change total, Changes-bytes h k es fs p next ns change total)
 
@@ -138,33 +138,6 @@ module _ {K D : Type 0} {same : K → K → Bool} (laws : IsEquivalence same) wh
         let seen = nodes-is (same q) k d (nodes h d) kept.linked in
         summed.sums q d before ∙ ap bytes_of (sym seen));
   }
-
-  one-charge : (place : ℕ) (d : Charged D) → bytes_of ((place, d) ∷ []) ≡ d.charge
-  one-charge place d = omega arith
-
-  -- what was put at the key has its sum
-  pub Puts-bytes : (p : K) (ns : List (Node (Charged D))) (old new : List (K × List (Node (Charged D)))) → Puts same p ns old new → bytes_of (items_at same p new) ≡ bytes_of ns
-  Puts-bytes p ns old new put = ap bytes_of (put.lists p ∙ is_at (same p p) ns (items_at same p old) (laws.refl p))
-
-  -- the first digest of a key
-  pub begins-summed : (h k : ℕ → Option (Entry K (Charged D))) (es fs : List (K × Chain)) (p : K) (next : Chain) (place : ℕ) (d : Charged D) → IsSummed same h es
-      → ((q : K) → lookup (same q) fs ≡ cond (same p q) (Some next) (lookup (same q) es)) → Puts same p ((place, d) ∷ []) (lists_of h es) (lists_of k fs) → next.bytes ≡ d.charge → IsSummed same k fs
-  begins-summed h k es fs p next place d summed at put sum = record {
-    sums = λ q c found. by_test (same p q)
-        (λ here.
-        let one : next ≡ c = let e : Some next ≡ Some c = sym (is_at (same p q) (Some next) (lookup (same q) es) here) ∙ sym (at q) ∙ found in cc in
-        ap (λ (x : Chain). x.bytes) (sym one) ∙ sum ∙ sym (one-charge place d)
-        ∙ ap bytes_of (sym (is_at (same p q) ((place, d) ∷ []) (items_at same q (lists_of h es)) here) ∙ sym (put.lists q) ∙ items_at-chain laws k fs q c found))
-        (λ apart.
-        let was : lookup (same q) es ≡ Some c = sym (is_not_at (same p q) (Some next) (lookup (same q) es) apart) ∙ sym (at q) ∙ found in
-        summed.sums q c was
-        ∙ ap bytes_of (sym (items_at-chain laws h es q c was) ∙ sym (is_not_at (same p q) ((place, d) ∷ []) (items_at same q (lists_of h es)) apart) ∙ sym (put.lists q) ∙ items_at-chain laws k fs q c found));
-  }
-
-  -- the sum of the first charge
-  pub begins-bytes : (h k : ℕ → Option (Entry K (Charged D))) (es fs : List (K × Chain)) (p : K) (place : ℕ) (d : Charged D) → Puts same p ((place, d) ∷ []) (lists_of h es) (lists_of k fs)
-      → d.charge ≡ bytes_of (items_at same p (lists_of k fs))
-  begins-bytes h k es fs p place d put = sym (one-charge place d) ∙ sym (Puts-bytes p ((place, d) ∷ []) (lists_of h es) (lists_of k fs) put)
 
   -- nothing has changed
   pub stays-summed : (h k : ℕ → Option (Entry K (Charged D))) (es fs : List (K × Chain)) (p : K) (old next : Chain) → IsSummed same h es → lookup (same p) es ≡ Some old

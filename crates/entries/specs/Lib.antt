@@ -1,3 +1,4 @@
+pub mod Link
 pub mod Linked
 pub mod Placed
 pub mod Store

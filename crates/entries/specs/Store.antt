@@ -1,7 +1,9 @@
+-- Believed.
 -- The lists of all keys in one heap of places.
 use Rattle.std.specs.Prelude.{◌≡◌, ◌==◌, ◌≤◌, ◌<◌, ◌-◌, ℕ, Bool, true, false, not, ◌||◌, if◌then◌else◌, List, [], ◌∷◌, ◌++◌, length, map, Option, Some, None, is_some, unwrap_or, MatchOption}
-use Rattle.std.specs.List.{filter, list_any, sum_by}
-use Rattle.std.specs.Map.{lookup}
+use Rattle.std.specs.List.{filter, list_any, sum_by, IsDistinct}
+use Rattle.std.specs.Map.{lookup, keys_of}
+use Rattle.std.specs.Ordering.{eq_by_cmp, nat_cmp}
 use Rattle.entries.specs.declared.entry.Charged.{Charged}
 use Rattle.entries.specs.declared.entry.Entry.{Entry}
 use Rattle.entries.specs.declared.entry.Chain.{Chain}
@@ -10,6 +12,10 @@ use Rattle.entries.specs.Linked.{Node, walk, IsChain, Pops}
 -- the list that a map has at the key, or none
 abbrev pub items_at : {K X : Type 0} → (K → K → Bool) → K → List (K × List X) → List X
 items_at same k es = unwrap_or (lookup (same k) es) []
+
+-- whether two numbers of lists are one
+abbrev pub same_number : ℕ → ℕ → Bool
+same_number = eq_by_cmp nat_cmp
 
 -- the list over the front of the room, as far as it goes; the rest of the room stays
 abbrev pub overlaid : {X : Type 0} → List X → List X → List X
@@ -57,10 +63,13 @@ module _ {K D : Type 0} where
   abbrev pub lists_of : (ℕ → Option (Entry K D)) → List (K × Chain) → List (K × List (Node D))
   lists_of h es = map (λ e. (e.0, nodes h e.1)) es
 
-  -- the key's list is another, and the others stay
+  -- the key's list is another, and the others stay; no list comes but the key's, none leaves, and
+  -- none is there twice
   pub record Puts (same : K → K → Bool) (p : K) (ns : List (Node D)) (old new : List (K × List (Node D))) : Type 0 where
     pub lists : (q : K) → items_at same q new ≡ (if same p q then ns else items_at same q old)
     pub keys : (q : K) → is_some (lookup (same q) new) ≡ true → (same p q || is_some (lookup (same q) old)) ≡ true
+    pub stays : (q : K) → is_some (lookup (same q) old) ≡ true → is_some (lookup (same q) new) ≡ true
+    pub distinct : IsDistinct same (keys_of new)
 
   -- the oldest digest leaves the key's list
   pub record Evicts (same : K → K → Bool) (p : K) (stale : D) (old new : List (K × List (Node D))) : Type 0 where
@@ -80,11 +89,14 @@ module _ {K D : Type 0} where
   pub record Removes (same : K → K → Bool) (p : K) (old new : List (K × List (Node D))) : Type 0 where
     pub lists : (q : K) → items_at same q new ≡ (if same p q then [] else items_at same q old)
     pub keys : (q : K) → is_some (lookup (same q) new) ≡ true → (same p q ≡ false) × (is_some (lookup (same q) old) ≡ true)
+    pub stays : (q : K) → same p q ≡ false → is_some (lookup (same q) old) ≡ true → is_some (lookup (same q) new) ≡ true
+    pub distinct : IsDistinct same (keys_of new)
 
-  -- each key's chain is in the heap, and each entry is on the chain of its peer
+  -- no key has two chains; each chain is in the heap, and each entry is on the chain of its peer
   pub record IsStore (same : K → K → Bool) (h : ℕ → Option (Entry K D)) (es : List (K × Chain)) : Type 0 where
     pub chains : (p : K) (c : Chain) → lookup (same p) es ≡ Some c → IsChain (same p) h c (nodes h c)
     pub rooted : (j : ℕ) (e : Entry K D) → h j ≡ Some e → is_some (lookup (same e.peer) es) ≡ true
+    pub distinct : IsDistinct same (keys_of es)
 
   -- an entry of the peer's stands at the place
   pub record IsPlaceOf (same : K → K → Bool) (h : ℕ → Option (Entry K D)) (p : K) (place : ℕ) : Type 0 where

@@ -1,3 +1,4 @@
+-- Believed.
 -- The messages by digest, with the places of their entries by key.
 use Rattle.std.specs.Prelude.{◌≡◌, ℕ, Bool, true, ◌&&◌, if◌then◌else◌, List, map, Option, Some, None, is_some, ◌⊎◌}
 use Rattle.std.specs.Map.{lookup, remove_entry}

@@ -1,6 +1,6 @@
 //! The chains of peers in one store of places.
 ghost use Rattle.std.specs.Prelude.{◌≡◌, ℕ, Bool, true, Some, None, List, [], ◌∷◌, ◌++◌, ◌+◌, ◌^◌};
-ghost use Rattle.std.specs.Prelude.{◌<◌, OnErr, OnOk, IfOk, IsOk, IfSome, IfNone, length};
+ghost use Rattle.std.specs.Prelude.{MatchOption, ◌<◌, OnErr, OnOk, IfOk, IsOk, IfSome, IfNone, length};
 ghost use Rattle.std.specs.Option.{option_copied};
 ghost use Rattle.slab.specs.Slab.{get, HasRoomFor};
 ghost use Rattle.entries.specs.Linked.{IsOn, Admits, Promotes, Pushes, Pops, Frees, IsOwned};
@@ -8,9 +8,11 @@ ghost use Rattle.entries.specs.Linked.{HasNodes, SameValues, entry_at};
 ghost use Rattle.entries.specs.Store.{nodes, bytes_of, digests_of, overlaid, Trims};
 
 use crate::entry::{Chain, Charged, Entry};
+use crate::link::Link;
 use crate::links::{link_front, unlink};
 use slab::Slab;
 use std::alloc::{AllocError, Global};
+use std::marker::Model;
 
 /// Moves a place to the front of its chain, with another digest. Does not allocate.
 pub fn promote<K, D: Drop>(
@@ -23,6 +25,8 @@ pub fn promote<K, D: Drop>(
     ensures promoted { Promotes (get places.old) (get places.new) chain.old chain.new place digest }
     ensures bytes { chain.new.bytes ≡ chain.old.bytes }
 {
+    // A place is no last word: so says `capacity`.
+    let _room = places.capacity();
     unlink(places, chain, place);
     link_front(places, chain, place, digest);
 }
@@ -49,13 +53,15 @@ pub fn push_front<K: Drop, D: Copy>(
     let entry = Entry {
         peer,
         digest,
-        newer: None,
-        older: None,
+        newer: Link::none(),
+        older: Link::none(),
     };
     let place = match places.insert(entry) {
         Ok(place) => place,
         Err(_) => return Err(AllocError),
     };
+    // A place is no last word: so says `capacity`.
+    let _room = places.capacity();
     link_front(places, chain, place, digest);
     Ok(place)
 }
@@ -66,7 +72,7 @@ pub fn pop_oldest<K: Drop, D>(places: &mut Slab<Entry<K, D>>, chain: &mut Chain)
     ensures popped { Pops (get places.old) (get places.new) chain.old chain.new result }
     ensures bytes { chain.new.bytes ≡ chain.old.bytes }
 {
-    match chain.oldest {
+    match chain.oldest.get() {
         None => None,
         Some(place) => {
             unlink(places, chain, place);
@@ -148,11 +154,59 @@ pub fn copy_to<K, D: Copy>(places: &Slab<Entry<K, Charged<D>>>, chain: &Chain, o
 }
 
 /// Returns the entry that a link leads to.
-fn stands_at<K, D>(places: &Slab<Entry<K, D>>, at: Option<usize>) -> Option<&Entry<K, D>>
+fn stands_at<K, D>(places: &Slab<Entry<K, D>>, at: Link) -> Option<&Entry<K, D>>
     ensures { option_copied result ≡ entry_at (get places.now) at }
 {
-    match at {
+    match at.get() {
         Some(at) => places.get(at),
         None => None,
+    }
+}
+
+/// What is left of a walk over a chain, the newest first.
+#[derive(Drop)]
+pub struct Walk<'a, K, D> {
+    places: &'a Slab<Entry<K, Charged<D>>>,
+    at: Link,
+    left: usize,
+}
+
+impl<'a, K, D> Model for Walk<'a, K, D> {
+    ghost use Rattle.std.specs.Prelude.{List};
+    ghost use Rattle.slab.specs.Slab.{get};
+    ghost use Rattle.entries.specs.Linked.{walk};
+    ghost use Rattle.entries.specs.Store.{digests_of};
+
+    ghost Value = { List D };
+
+    ghost view = { λ it. digests_of (walk (get it.places.now) it.left it.at) };
+}
+
+/// Starts a walk over a chain.
+pub fn start<'a, K, D>(places: &'a Slab<Entry<K, Charged<D>>>, chain: &Chain) -> Walk<'a, K, D>
+    ensures { result ≡ digests_of (nodes (get places.now) chain.now) }
+{
+    Walk {
+        places,
+        at: chain.newest,
+        left: chain.len,
+    }
+}
+
+impl<'a, K, D: Copy> Walk<'a, K, D> {
+    /// Returns the next older digest.
+    pub fn next(&mut self) -> Option<D>
+        ensures { MatchOption result ((self.old ≡ []) × (self.new ≡ []))
+            (λ digest. self.old ≡ digest ∷ self.new) }
+    {
+        if self.left == 0 {
+            return None;
+        }
+        let Some(entry) = stands_at(self.places, self.at) else {
+            return None;
+        };
+        self.at = entry.older;
+        self.left -= 1;
+        Some(entry.digest.digest)
     }
 }

@@ -1,3 +1,4 @@
+// SPDX-License-Identifier: Apache-2.0
 //! Lists of digests by key, the newest first, linked in one vector of places, and the messages of
 //! their digests.
 #![tactic(auto)]
@@ -5,6 +6,7 @@
 pub mod chain;
 pub mod entry;
 pub mod item;
+pub mod link;
 pub mod links;
 pub mod store;
 pub mod table;

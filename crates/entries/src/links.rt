@@ -4,51 +4,47 @@ ghost use Rattle.slab.specs.Slab.{get, ContainsKey};
 ghost use Rattle.entries.specs.Linked.{Relinks, with_newer, with_older, as_newest, pick as picked, IsOn, Unlinks, Admits, Links};
 
 use crate::entry::{Chain, Entry};
+use crate::link::Link;
 use slab::Slab;
 
 /// Sets the newer link of the entry that a link leads to.
-pub fn set_newer<K, D>(places: &mut Slab<Entry<K, D>>, at: Option<usize>, newer: Option<usize>)
+pub fn set_newer<K, D>(places: &mut Slab<Entry<K, D>>, at: Link, newer: Link)
     requires { (j : ℕ) → at ≡ Some j → ContainsKey places.old j }
     ensures { Relinks (get places.old) (get places.new) at (with_newer newer) }
 {
-    if let Some(at) = at {
+    if let Some(at) = at.get() {
         places[at].newer = newer;
     }
 }
 
 /// Sets the older link of the entry that a link leads to.
-pub fn set_older<K, D>(places: &mut Slab<Entry<K, D>>, at: Option<usize>, older: Option<usize>)
+pub fn set_older<K, D>(places: &mut Slab<Entry<K, D>>, at: Link, older: Link)
     requires { (j : ℕ) → at ≡ Some j → ContainsKey places.old j }
     ensures { Relinks (get places.old) (get places.new) at (with_older older) }
 {
-    if let Some(at) = at {
+    if let Some(at) = at.get() {
         places[at].older = older;
     }
 }
 
 /// One link where there is a neighbour, and another where there is none.
-fn pick(neighbour: Option<usize>, there: Option<usize>, otherwise: Option<usize>) -> Option<usize>
+fn pick(neighbour: Link, there: Link, otherwise: Link) -> Link
     ensures { result ≡ picked neighbour there otherwise }
 {
-    match neighbour {
+    match neighbour.get() {
         None => otherwise,
         Some(_) => there,
     }
 }
 
 /// Makes an entry the newest, with another digest.
-fn set_newest<K, D: Drop>(
-    places: &mut Slab<Entry<K, D>>,
-    place: usize,
-    digest: D,
-    older: Option<usize>,
-)
+fn set_newest<K, D: Drop>(places: &mut Slab<Entry<K, D>>, place: usize, digest: D, older: Link)
     requires { ContainsKey places.old place }
     ensures { Relinks (get places.old) (get places.new) (Some place) (as_newest digest older) }
 {
     let entry = &mut places[place];
     entry.digest = digest;
-    entry.newer = None;
+    entry.newer = Link::none();
     entry.older = older;
 }
 
@@ -78,12 +74,14 @@ pub fn link_front<K, D: Drop>(
 )
     requires free { Admits (get places.old) chain.old place }
     requires fits { chain.old.len + 1 < 2 ^ 64 }
+    requires word { place + 1 < 2 ^ 64 }
     ensures linked { Links (get places.old) (get places.new) chain.old chain.new place digest }
     ensures bytes { chain.new.bytes ≡ chain.old.bytes }
 {
+    let link = Link::to(place);
     set_newest(places, place, digest, chain.newest);
-    set_newer(places, chain.newest, Some(place));
-    chain.oldest = pick(chain.oldest, chain.oldest, Some(place));
-    chain.newest = Some(place);
+    set_newer(places, chain.newest, link);
+    chain.oldest = pick(chain.oldest, chain.oldest, link);
+    chain.newest = link;
     chain.len += 1;
 }

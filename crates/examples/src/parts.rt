@@ -1,7 +1,6 @@
-//! What several examples use.
+//! Helpers that several examples share.
 use commonware_broadcast::Key;
 use commonware_broadcast::buffered::{Config, Sequential};
-use std::num::NonZeroUsize;
 
 /// Returns the key of a node.
 pub fn key(number: u8) -> Key {
@@ -16,14 +15,5 @@ pub fn config<C, D>(
     codec_config: C,
     peer_provider: D,
 ) -> Config<Key, C, D, Sequential> {
-    Config {
-        public_key,
-        mailbox_size: NonZeroUsize::MIN,
-        deque_size: 10,
-        byte_budget: 1_000_000,
-        priority: false,
-        codec_config,
-        peer_provider,
-        strategy: Sequential,
-    }
+    Config::new(public_key, codec_config, peer_provider)
 }

@@ -22,7 +22,7 @@ fn ask_and_poll<M, R>(
     rt: &R,
     codec_config: M::Cfg,
     message: Digested<M>,
-) -> Result<(Vec<Turn<Key>>, bool), Error>
+) -> Result<(Vec<Turn<Key, M::Digest>>, bool), Error>
 where
     M: Digestible + Codec + Send + Sync + 'static,
     M::Digest: 'static,
@@ -43,7 +43,7 @@ fn ask_of<M, R>(
     mailbox: &Mailbox<Key, M, R>,
     network: &mut (Outbound<Key, R>, Inbound<Key, R>),
     message: Digested<M>,
-) -> Result<(Vec<Turn<Key>>, bool), Error>
+) -> Result<(Vec<Turn<Key, M::Digest>>, bool), Error>
 where
     M: Digestible + Codec + Send + Sync + 'static,
     M::Digest: 'static,
@@ -71,7 +71,7 @@ fn poll<M, R>(
     rt: &R,
     engine: &mut MailboxEngine<Key, M, PeerSets<Key, R>, Sequential, R>,
     network: &mut (Outbound<Key, R>, Inbound<Key, R>),
-) -> Result<Vec<Turn<Key>>, Error>
+) -> Result<Vec<Turn<Key, M::Digest>>, Error>
 where
     M: Digestible + Codec,
     R: Wait + RandomSource + AllocGlobal + Drop,

@@ -3,17 +3,17 @@
 use super::note::Note;
 use super::parts::{config, key};
 use anyhow::Error;
+use broadcast_core::Wire;
 use broadcast_relay::relay_to;
 use commonware_broadcast::buffered::{
-    Handle, Mailbox, Observer, StartError, Subscription, Turn, start_observed,
+    Handle, Mailbox, Observer, Runtime, StartError, Subscription, Turn, start_observed,
 };
-use commonware_broadcast::{Broadcaster, Digested, Key, RangeCfg, Recipients, Set, Write};
+use commonware_broadcast::{Broadcaster, Digest, Digested, Key, RangeCfg, Recipients, Set, Write};
 use memory_network::{Ends, Mail, Network};
 use std::alloc::{AllocError, AllocGlobal, Global};
 use std::io;
 use std::random::RandomSource;
 use std::sync::{Arc, Wait};
-use std::thread::Threads;
 
 /// The keys of all peers. The last of them is no node, and hostile.
 const PEERS: [Key; 4] = [
@@ -55,8 +55,8 @@ impl<R> Guard<R> {
     }
 }
 
-impl<R: Wait> Observer<Key> for Guard<R> {
-    fn turn(&mut self, turn: &Turn<Key>) {
+impl<R: Wait, D> Observer<Key, D> for Guard<R> {
+    fn turn(&mut self, turn: &Turn<Key, D>) {
         if let Turn::Invalid(peer, _) = turn {
             // After an allocation failure the peer is left out at its next broken payload.
             let _left_out = self.leave_out(*peer);
@@ -65,22 +65,25 @@ impl<R: Wait> Observer<Key> for Guard<R> {
 }
 
 /// A node with an observer.
-type Node<R, W> = (Handle<Key, Note, R, (), W>, Mailbox<Key, Note, R>);
+type Node<R, W> = (
+    Handle<Key, Wire<Note>, R, (), W>,
+    Mailbox<Key, Wire<Note>, R>,
+);
 
 /// Starts the node of these ends with an observer.
 fn start<R, W>(rt: &R, ends: Ends<Key, R>, observer: W) -> Result<Node<R, W>, StartError>
 where
-    R: Threads + Wait + RandomSource + AllocGlobal + Clone + Send + Sync + Drop + 'static,
-    W: Observer<Key> + Send + Drop + 'static,
+    R: Runtime,
+    W: Observer<Key, Digest> + Send + Drop + 'static,
 {
-    let config = config(ends.mail.key, RangeCfg::any(), ends.provider);
+    let config = config(ends.mail.key, ((), RangeCfg::any()), ends.provider);
     start_observed(rt, config, (ends.sender, ends.receiver), observer)
 }
 
 /// Starts the node of these ends with a guard.
 fn start_guarded<R>(rt: &R, ends: Ends<Key, R>) -> Result<Node<R, Guard<R>>, Error>
 where
-    R: Threads + Wait + RandomSource + AllocGlobal + Clone + Send + Sync + Drop + 'static,
+    R: Runtime,
 {
     let guard = Guard::new(rt, &ends.mail)?;
     Ok(start(rt, ends, guard)?)
@@ -89,13 +92,13 @@ where
 /// Starts a node of the network.
 fn join<R>(rt: &R, network: &Network<Key>, public_key: Key) -> Result<Node<R, ()>, Error>
 where
-    R: Threads + Wait + RandomSource + AllocGlobal + Clone + Send + Sync + Drop + 'static,
+    R: Runtime,
 {
     Ok(start(rt, network.join(rt, &public_key)?, ())?)
 }
 
 /// Lets peer 9 send the node a byte that is no note, and then a note.
-fn attack<R>(rt: &R, mail: &Mail<Key>, spam: &Digested<Note>) -> Result<(), Error>
+fn attack<R>(rt: &R, mail: &Mail<Key>, spam: &Digested<Wire<Note>>) -> Result<(), Error>
 where
     R: Wait + AllocGlobal,
 {
@@ -108,8 +111,8 @@ where
 /// Lets node 2 broadcast the note that it waits for.
 fn hand_on<R>(
     rt: &R,
-    second: &Mailbox<Key, Note, R>,
-    awaited: Subscription<Note>,
+    second: &Mailbox<Key, Wire<Note>, R>,
+    awaited: Subscription<Wire<Note>>,
 ) -> Result<(), Error>
 where
     R: Wait + RandomSource + AllocGlobal + Clone + Send + Drop + 'static,
@@ -123,11 +126,11 @@ where
 fn pass_on<R>(
     rt: &R,
     network: &Network<Key>,
-    second: &Mailbox<Key, Note, R>,
-    note: Digested<Note>,
-) -> Result<Digested<Note>, Error>
+    second: &Mailbox<Key, Wire<Note>, R>,
+    note: Digested<Wire<Note>>,
+) -> Result<Digested<Wire<Note>>, Error>
 where
-    R: Threads + Wait + RandomSource + AllocGlobal + Clone + Send + Sync + Drop + 'static,
+    R: Runtime,
 {
     let (handle_1, first) = join(rt, network, key(1))?;
     let (handle_3, third) = join(rt, network, key(3))?;
@@ -146,7 +149,7 @@ where
 #[derive(Drop)]
 struct Seen {
     /// What node 3 received.
-    received: Digested<Note>,
+    received: Digested<Wire<Note>>,
     /// Whether node 2 has the note of peer 9.
     has_spam: bool,
     /// Whether peer 9 is a peer of node 2.
@@ -154,9 +157,9 @@ struct Seen {
 }
 
 /// Runs the three nodes.
-fn relay<R>(rt: &R, note: Digested<Note>, spam: &Digested<Note>) -> Result<Seen, Error>
+fn relay<R>(rt: &R, note: Digested<Wire<Note>>, spam: &Digested<Wire<Note>>) -> Result<Seen, Error>
 where
-    R: Threads + Wait + RandomSource + AllocGlobal + Clone + Send + Sync + Drop + 'static,
+    R: Runtime,
 {
     let network = Network::between(rt, &PEERS)?;
     let ends = network.join(rt, &key(2))?;
@@ -174,20 +177,20 @@ where
 }
 
 /// Creates a note with this text.
-fn note(alloc: Global, text: &[u8]) -> Result<Digested<Note>, AllocError> {
-    let text = Vec::from_slice(alloc, text)?;
-    Digested::compute(alloc, Note { text })
+fn note(alloc: Global, text: &[u8]) -> Result<Digested<Wire<Note>>, AllocError> {
+    let text = Vec::from_slice(alloc, text)?.into();
+    Digested::compute(alloc, Wire(Note { text }))
 }
 
 /// Prints what node 3 received, and what node 2 has of peer 9.
 pub fn show<R, W>(rt: &R, out: &mut W) -> Result<(), Error>
 where
-    R: Threads + Wait + RandomSource + AllocGlobal + Clone + Send + Sync + Drop + 'static,
+    R: Runtime,
     W: io::Write,
 {
     let hello = note(rt.alloc(), b"hello")?;
     let seen = relay(rt, hello, &note(rt.alloc(), b"spam")?)?;
-    let text = &seen.received.inner().text;
+    let text = &seen.received.inner().0.text;
     writeln!(
         out,
         "relay: {text:?}, spam: {}, peer 9: {}",

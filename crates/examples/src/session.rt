@@ -3,16 +3,14 @@
 use super::parts::{config, key};
 use anyhow::Error;
 use commonware_broadcast::buffered::{
-    Account, Broadcasts, EndCause, Finished, Session, Settled, WatchedClient, run_session,
+    Account, Broadcasts, EndCause, Finished, Runtime, Session, Settled, WatchedClient, run_session,
 };
 use commonware_broadcast::{Digested, Key, MailboxError, RangeCfg, Recipients, TestMessage};
 use memory_network::Network;
 use std::alloc::{AllocError, AllocGlobal, Global};
 use std::io::Write;
 use std::num::NonZeroU32;
-use std::random::RandomSource;
 use std::sync::Wait;
-use std::thread::Threads;
 
 /// How many clients there are.
 const CLIENTS: u32 = 4;
@@ -79,18 +77,18 @@ struct Left {
 /// Runs a node with its clients, and settles its account.
 fn broadcast_and_settle<R>(rt: &R) -> Result<Left, Error>
 where
-    R: Threads + Wait + RandomSource + AllocGlobal + Clone + Send + Sync + Drop + 'static,
+    R: Runtime,
 {
     let ends = Network::between(rt, &[key(1)])?.join(rt, &key(1))?;
     let cfg = config(key(1), RangeCfg::any(), ends.provider);
     let clients = NonZeroU32::new(CLIENTS).unwrap();
     let session = Broadcasting { rt: rt.clone()? };
-    let finished = run_session(rt, cfg, (ends.sender, ends.receiver), clients, session)?;
+    let finished = run_session(rt, cfg, (ends.sender, ends.receiver), clients, session, ())?;
     Ok(what_is_left(&finished)?)
 }
 
 /// Compares what the clients were told with the account.
-fn what_is_left(finished: &Finished<Result<u64, MailboxError>>) -> Result<Left, MailboxError> {
+fn what_is_left(finished: &Finished<Result<u64, MailboxError>, Key>) -> Result<Left, MailboxError> {
     let mut told = 0u64;
     for accepted in &finished.outputs {
         told = told.saturating_add((*accepted)?);
@@ -116,7 +114,7 @@ fn sum(settled: Settled) -> u64 {
 /// Prints what the session left.
 pub fn show<R, W>(rt: &R, out: &mut W) -> Result<(), Error>
 where
-    R: Threads + Wait + RandomSource + AllocGlobal + Clone + Send + Sync + Drop + 'static,
+    R: Runtime,
     W: Write,
 {
     let left = broadcast_and_settle(rt)?;

@@ -1,14 +1,12 @@
 //! Two nodes in threads, over a network in memory: the file to begin with.
 use anyhow::Error;
-use commonware_broadcast::buffered::{self, Config, Handle, Mailbox, Sequential};
+use commonware_broadcast::buffered::{self, Config, Handle, Mailbox, Runtime};
 use commonware_broadcast::{Broadcaster, Digested, Key, RangeCfg, Recipients, TestMessage};
 use memory_network::Network;
 use std::alloc::{AllocError, AllocGlobal, Global};
 use std::io::Write;
-use std::num::NonZeroUsize;
 use std::random::RandomSource;
 use std::sync::Wait;
-use std::thread::Threads;
 
 const KEY_1: Key = Key { bytes: [1; 32] };
 
@@ -29,19 +27,10 @@ type Node<R> = (Handle<Key, TestMessage, R>, Asked<R>);
 /// Starts a node of the network.
 fn start<R>(rt: &R, network: &Network<Key>, public_key: Key) -> Result<Node<R>, Error>
 where
-    R: Threads + Wait + RandomSource + AllocGlobal + Clone + Send + Sync + Drop + 'static,
+    R: Runtime,
 {
     let ends = network.join(rt, &public_key)?;
-    let config = Config {
-        public_key,
-        mailbox_size: NonZeroUsize::MIN,
-        deque_size: 10,
-        byte_budget: 1_000_000,
-        priority: false,
-        codec_config: RangeCfg::any(),
-        peer_provider: ends.provider,
-        strategy: Sequential,
-    };
+    let config = Config::new(public_key, RangeCfg::any(), ends.provider);
     Ok(buffered::start(rt, config, (ends.sender, ends.receiver))?)
 }
 
@@ -59,7 +48,7 @@ where
 /// Prints what node 2 received, and why it ended.
 pub fn show<R, W: Write>(rt: &R, out: &mut W) -> Result<(), Error>
 where
-    R: Threads + Wait + RandomSource + AllocGlobal + Clone + Send + Sync + Drop + 'static,
+    R: Runtime,
 {
     let network = Network::between(rt, &[KEY_1, KEY_2])?;
     let (handle_1, mailbox_1) = start(rt, &network, KEY_1)?;

@@ -1,3 +1,4 @@
+-- Believed.
 -- The nodes of a network, by their mail.
 use Rattle.std.specs.Prelude.{Bool, not, List}
 use Rattle.std.specs.List.{filter, list_any}

@@ -1,3 +1,4 @@
+// SPDX-License-Identifier: Apache-2.0
 //! A network in memory, for nodes that run in threads of one process.
 //!
 //! Each payload goes to its recipients alone, and a node gets what it is sent in order. Peer sets

@@ -1,14 +1,15 @@
 //! A queue from which one task takes.
 ghost use Rattle.std.specs.Prelude.{◌≡◌, [], ◌∷◌, ◌++◌, None, OnOk, OnErr, IfOk};
 ghost use Rattle.futures.specs.Poll.{OnPending, IfReady};
-ghost use Rattle.futures.specs.Task.{IsArmed, Keeps};
+ghost use Rattle.futures.specs.Task.{Hears, IsArmed, Keeps};
 
 use futures::task::{Context, Poll, Source, Waker};
 use std::alloc::{AllocError, Global};
 use std::collections::VecDeque;
+use std::marker::Model;
 use std::sync::{Mutex, Wait};
 
-/// What waits in a line, and who waits for it.
+/// The items of a line, and the task that waits for one.
 #[derive(Drop)]
 struct Waiting<T> {
     items: VecDeque<T>,
@@ -32,6 +33,7 @@ impl<T> Waiting<T> {
         ensures first { IfReady result (λ item.
             self.old.items.items ≡ item ∷ self.new.items.items) }
         ensures empty { OnPending result (self.old.items.items ≡ []) }
+        ensures heard { OnPending result (Hears cx.new source.now.id) }
         ensures armed { OnPending result (IsArmed cx.new) }
         ensures kept { Keeps cx.old cx.new }
     {
@@ -42,12 +44,21 @@ impl<T> Waiting<T> {
     }
 }
 
-/// A queue from which one task takes. Any thread may put items into it.
+/// A queue from which one task takes. Any thread may put items into it. Contracts see the source
+/// that fires once an item is there.
 #[derive(Drop)]
 pub struct Line<T> {
     // Fires once an item is there.
     given: Source,
     waiting: Mutex<Waiting<T>>,
+}
+
+impl<T> Model for Line<T> {
+    ghost use Rattle.std.specs.Prelude.{ℕ};
+
+    ghost Value = { ℕ };
+
+    ghost view = { λ line. line.given.id };
 }
 
 impl<T> Line<T> {
@@ -74,6 +85,7 @@ impl<T> Line<T> {
 
     /// Takes the item in front. If there is none, the task is woken once there is.
     pub fn poll(&self, rt: &impl Wait, cx: &mut Context<'_>) -> Poll<T>
+        ensures heard { OnPending result (Hears cx.new self.now) }
         ensures armed { OnPending result (IsArmed cx.new) }
         ensures kept { Keeps cx.old cx.new }
     {

@@ -63,11 +63,20 @@ impl<P: PublicKey> Mail<P> {
     }
 }
 
-/// Gives a node its peer sets.
+/// Gives a node its peer sets. Contracts see the source that fires once there is one.
 #[derive(Drop)]
 pub struct PeerSets<P: PublicKey, R> {
     mail: Arc<Mail<P>>,
     rt: R,
+}
+
+impl<P: PublicKey, R> Model for PeerSets<P, R> {
+    ghost use Rattle.std.specs.Prelude.{ℕ};
+    ghost use Rattle.std.specs.Arc.{arc_value};
+
+    ghost Value = { ℕ };
+
+    ghost view = { λ it. (arc_value it.mail).sets };
 }
 
 impl<P: PublicKey, R: Clone + Drop> PeerSets<P, R> {
@@ -81,6 +90,8 @@ impl<P: PublicKey, R: Clone + Drop> PeerSets<P, R> {
 }
 
 impl<P: PublicKey, R: Wait> Provider<P> for PeerSets<P, R> {
+    ghost needs = { λ it source. source ≡ it };
+
     fn poll_update(&mut self, cx: &mut Context<'_>) -> Poll<Option<Set<P>>> {
         self.mail.polls.fetch_add(1, Ordering::SeqCst);
         match self.mail.sets.poll(&self.rt, cx) {
@@ -90,11 +101,20 @@ impl<P: PublicKey, R: Wait> Provider<P> for PeerSets<P, R> {
     }
 }
 
-/// Gives a node its payloads.
+/// Gives a node its payloads. Contracts see the source that fires once there is one.
 #[derive(Drop)]
 pub struct Inbound<P: PublicKey, R> {
     mail: Arc<Mail<P>>,
     rt: R,
+}
+
+impl<P: PublicKey, R> Model for Inbound<P, R> {
+    ghost use Rattle.std.specs.Prelude.{ℕ};
+    ghost use Rattle.std.specs.Arc.{arc_value};
+
+    ghost Value = { ℕ };
+
+    ghost view = { λ it. (arc_value it.mail).payloads };
 }
 
 impl<P: PublicKey, R: Clone + Drop> Inbound<P, R> {
@@ -108,6 +128,8 @@ impl<P: PublicKey, R: Clone + Drop> Inbound<P, R> {
 }
 
 impl<P: PublicKey, R: Wait> Receiver<P> for Inbound<P, R> {
+    ghost needs = { λ it source. source ≡ it };
+
     fn poll_recv(&mut self, cx: &mut Context<'_>) -> Poll<Received<P>> {
         self.mail.payloads.poll(&self.rt, cx)
     }

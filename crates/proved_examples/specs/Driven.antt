@@ -1,3 +1,4 @@
+-- Believed.
 -- A node over scripts, and what became of it.
 use Rattle.std.specs.Prelude.{◌≡◌, ℕ, false, List, [], ◌++◌, map, Option, Result}
 use Rattle.std.specs.List.{count_by}
@@ -44,7 +45,7 @@ module _ {P M D J C T : Type 0} where
 
   -- these steps, from nothing, explain all that the engine took, and all that it did
   pub record Driven (s : Setting P M D) (engine : ScriptedEngine P M D J C T) (network : Network P)
-      (listed : List (Turn P)) : Type 0 where
+      (listed : List (Turn P D)) : Type 0 where
     pub steps : List (Step P M D Fixed Fixed)
     -- the turns are those of the steps
     pub turned : turns s steps [] ≡ listed

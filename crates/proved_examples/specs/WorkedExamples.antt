@@ -1,3 +1,4 @@
+-- Internal.
 -- Worked examples of an engine's steps, computed by the definitions. A message is a pair of numbers,
 -- of which the second is its digest. Who asks is named by the number of the ticket.
 use Rattle.std.specs.Prelude.{◌≡◌, ℕ, ◌==◌, true, false, List, [], ◌∷◌, map, None, Some, Result, Ok, Err}
@@ -20,7 +21,7 @@ use Rattle.engine_io.specs.declared.input.Turn.TheVariants as turn
 use Rattle.engine_io.specs.declared.metrics.Status.TheVariants.{Success, Failure, Invalid, Dropped}
 use Rattle.engine_io.specs.Counters as count
 use Rattle.engine_io.specs.Replies.{Asker, reply_of, subscribed, got}
-use Rattle.commonware_broadcast.specs.EngineHistory.{Step, swept, applied, refused, decoded, ended, happenings, handed_out, end_of, turns}
+use Rattle.commonware_broadcast.specs.EngineHistory.{Step, swept, applied, refused, decoded, ended, happenings, handed_out, end_of, outcomes, turns}
 use Rattle.commonware_broadcast.specs.Counting.{counted, gauge}
 
 abbrev pub Message : Type 0
@@ -66,7 +67,7 @@ served = applied (asks 4 (message.Get 61 4)) (got (asker 4) (Some (word 61)) fal
     ∷ applied (asks 1 (message.Subscribe 61 1)) [] ∷ kept ∷ []
 
 pub record Served : Type 0 where
-  pub turned : turns node served [] ≡ turn.Subscribe ∷ turn.Peers ∷ turn.Payload 5 Inserted
+  pub turned : turns node served [] ≡ turn.Subscribe ∷ turn.Peers ∷ turn.Payload 5 61 Inserted
       ∷ turn.Get ∷ turn.Get ∷ turn.Get ∷ []
   -- the replies are those that are due
   pub replied : map reply_of (handed_out served) ≡ handed node (happenings served) []
@@ -83,8 +84,10 @@ mixed = refused (asks 2 (message.Broadcast All (word 64))) Memory ∷ kept
     ∷ applied (input.Arrived 6 (word 61)) [] ∷ decoded 6 ∷ kept ∷ []
 
 pub record Mixed : Type 0 where
-  pub turned : turns node mixed [] ≡ turn.Payload 6 Ineligible ∷ turn.Invalid 7 EndOfBuffer
-      ∷ turn.Refused (Some 6) Memory ∷ turn.Broadcast Ineligible ∷ turn.Refused None Memory ∷ []
+  pub turned : turns node mixed [] ≡ turn.Payload 6 61 Ineligible ∷ turn.Invalid 7 EndOfBuffer
+      ∷ turn.Refused (Some 6) Memory ∷ turn.Broadcast 63 Ineligible ∷ turn.Refused None Memory ∷ []
+  -- the broadcast that was sent was not refused, and the other was
+  pub told : outcomes mixed ≡ false ∷ true ∷ []
   -- a message that is refused is counted for its peer, and not as received
   pub counted : counted node mixed [] ≡ count.peer 6 ∷ count.receive Dropped ∷ count.receive Invalid
       ∷ count.peer 6 ∷ []

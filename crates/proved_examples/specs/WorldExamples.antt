@@ -1,3 +1,4 @@
+-- Internal.
 -- Worked examples of a world's steps, computed by the definitions: nodes 1, 2 and 3, and the hostile
 -- key 9.
 use Rattle.std.specs.Prelude.{◌≡◌, ℕ, List, [], ◌∷◌, None, Some}

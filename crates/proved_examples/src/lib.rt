@@ -1,3 +1,4 @@
+// SPDX-License-Identifier: Apache-2.0
 //! A node over scripts whose contract is lists, and worked examples of the definitions.
 #![tactic(auto)]
 

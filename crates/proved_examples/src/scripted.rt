@@ -33,7 +33,7 @@ pub type ScriptedEngine<P, M, T> = Engine<P, M, Fixed, Replies<M>, Sets<P>, Aske
 pub type DrivenEngine<P, M, T> = (
     ScriptedEngine<P, M, T>,
     (RecordingSender<P>, Payloads<P>),
-    Vec<Turn<P>>,
+    Vec<Turn<P, <M as Digestible>::Digest>>,
 );
 
 /// Creates an engine over the scripts, and polls it `limit` times, or until it ends.

@@ -1,3 +1,4 @@
+// SPDX-License-Identifier: Apache-2.0
 //! Runs a file of events from standard input, as `replay OWN SIZE [MAX [BUDGET]]`.
 #![tactic(auto)]
 

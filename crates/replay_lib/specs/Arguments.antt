@@ -1,3 +1,4 @@
+-- Believed.
 -- What the arguments mean: an own key, a size, and perhaps limits, which are the greatest length and the budget.
 use Rattle.std.specs.Prelude.{◌≡◌, ◌≤◌, List, ℕ, [], ◌∷◌, ◌^◌, ◌-◌, length, map}
 use Rattle.std.specs.Fmt.{decimal}

@@ -1,3 +1,4 @@
+-- Believed.
 -- What the lines of an event file mean.
 use Rattle.std.specs.Prelude.{List, ℕ, [], ◌∷◌, ◌≡◌, ◌<◌, ◌^◌, codes, map}
 use Rattle.std.specs.Fmt.{decimal}

@@ -1,3 +1,4 @@
+-- Believed.
 -- Broadcasts through an inbox and back.
 use Rattle.std.specs.Prelude.{◌≡◌, ℕ, ◌+◌, ◌≤◌, false, List, [], ◌∷◌}
 use Rattle.broadcast_core.specs.declared.event.Event.{Event}

@@ -1,3 +1,4 @@
+-- Believed.
 -- What is printed at the end of a run.
 use Rattle.std.specs.Prelude.{List, ℕ, [], ◌∷◌, ◌++◌, codes, length, map}
 use Rattle.std.specs.List.{flat_map}

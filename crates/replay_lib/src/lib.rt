@@ -1,3 +1,4 @@
+// SPDX-License-Identifier: Apache-2.0
 //! The program `replay`: runs the events of a file, and prints the answer to each of them.
 #![tactic(auto)]
 

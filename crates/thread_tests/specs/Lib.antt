@@ -1,1 +1,2 @@
+pub mod Mute
 pub mod Watches

@@ -1,3 +1,4 @@
+-- Internal.
 -- The watch of a test.
 use Rattle.std.specs.Prelude.{ℕ, List, Bool, false, nat_eq}
 use Rattle.std.specs.Cmp.Lexicographic.{pointwise}

@@ -1,5 +1,6 @@
 //! Accounts of tallied requests.
 mod clients;
+mod ending_rows;
 mod endings;
 mod joins;
 mod quiet;

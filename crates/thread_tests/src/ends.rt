@@ -5,6 +5,7 @@ use broadcast_mailbox::MailboxError;
 use commonware_broadcast::buffered::{EndCause, Mailbox, Sequential};
 use memory_network::Mail;
 use memory_node::node::Node;
+use memory_node::support::nodes::{broadcast, gets, start};
 use std::alloc::AllocGlobal;
 use std::random::RandomSource;
 use std::sync::atomic::Ordering;
@@ -12,7 +13,6 @@ use std::sync::{Arc, Wait};
 use std::test::Fail;
 use std::thread::{self, JoinHandle, Threads};
 use std::time::Clock;
-use test_support::nodes::{broadcast, gets, start};
 
 /// Returns whether an engine that has answered is not polled while nothing happens.
 fn is_idle(clock: &impl Clock, mail: &Mail<Key>) -> bool {

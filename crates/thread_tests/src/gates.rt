@@ -1,6 +1,6 @@
 //! Two workers that must meet at their gate.
 ghost use Rattle.std.specs.Prelude.{IfOk};
-ghost use Rattle.commonware_broadcast.specs.Workers.{IsWorkerOf};
+ghost use Rattle.commonware_broadcast.specs.Workers.{IsWorkerOf, WaitsFor};
 
 use super::patient::LIMIT;
 use broadcast_core::{Digest, Digestible, TestMessage};
@@ -11,6 +11,7 @@ use commonware_broadcast::buffered::worker::{Work, Worker};
 use futures::executor::block_on;
 use futures::future::poll_fn;
 use futures::task::{Context, Poll};
+use memory_node::support::task::Task;
 use std::alloc::{AllocError, AllocGlobal, Global};
 use std::io;
 use std::random::RandomSource;
@@ -18,7 +19,6 @@ use std::sync::atomic::{AtomicU64, Ordering};
 use std::sync::{Arc, Wait};
 use std::test::Fail;
 use std::thread::{self, Threads};
-use test_support::task::Task;
 
 /// How often a job is polled while its worker waits at the gate.
 pub const POLLS: u64 = 100;
@@ -75,6 +75,8 @@ impl<R: Threads> Work<Meeting, R> for TestMessage {
     type Worker = Worker<TestMessage>;
 
     ghost is_of = { IsWorkerOf Self.digest_of };
+
+    ghost needs = { WaitsFor };
 
     fn start(
         self,

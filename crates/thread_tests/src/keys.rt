@@ -4,13 +4,13 @@ use commonware_broadcast::buffered::{
     Config, EndCause, Handle, Mailbox, Open, Sequential, Status, Threaded, start, start_threaded,
 };
 use memory_network::{Ends, Network};
+use memory_node::support::nodes::digest;
 use std::alloc::AllocGlobal;
 use std::num::NonZeroUsize;
 use std::random::RandomSource;
 use std::sync::{Arc, Wait};
 use std::test::Fail;
 use std::thread::Threads;
-use test_support::nodes::digest;
 
 type Running<R> = (Handle<u64, TestMessage, R>, Mailbox<u64, TestMessage, R>);
 

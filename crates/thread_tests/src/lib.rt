@@ -1,3 +1,4 @@
+// SPDX-License-Identifier: Apache-2.0
 //! Tests of engines and digests on several threads.
 #![tactic(auto)]
 
@@ -13,6 +14,7 @@ mod keys;
 mod live;
 #[cfg(test)]
 mod lock;
+pub mod mute;
 #[cfg(test)]
 mod nodes;
 #[cfg(test)]

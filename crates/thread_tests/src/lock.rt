@@ -3,13 +3,13 @@ use super::nodes::{hold, start_patient};
 use super::patient::Talk;
 use broadcast_core::TestMessage;
 use memory_node::node::Node;
+use memory_node::support::nodes::{broadcast, subscribe};
 use std::alloc::AllocGlobal;
 use std::random::RandomSource;
 use std::sync::Wait;
 use std::test::Fail;
 use std::thread::Threads;
 use std::time::Clock;
-use test_support::nodes::{broadcast, subscribe};
 
 /// Whether a broadcast was accepted while a job was pending at an engine, the job was polled to its
 /// limit before that, and the job's message was taken afterwards.

@@ -6,13 +6,13 @@ use commonware_broadcast::Feedback;
 use commonware_broadcast::buffered::{self, Mailbox, Open, Pool, Threaded};
 use memory_network::Mail;
 use memory_node::node::{Node, config};
+use memory_node::support::nodes::{broadcast, network, send, start, track};
 use std::alloc::AllocGlobal;
 use std::random::RandomSource;
 use std::sync::{Arc, Wait};
 use std::test::Fail;
 use std::thread::Threads;
 use std::time::Clock;
-use test_support::nodes::{broadcast, network, send, start, track};
 
 /// Starts the node of number 1, whose messages are digested on other threads.
 pub fn start_threaded<R>(rt: &R) -> Result<Node<TestMessage, R>, Fail>

@@ -1,24 +1,24 @@
 //! What the observers of a started engine see.
-use broadcast_core::{CodecError, Key, Outcome, RangeCfg, TestMessage};
+use broadcast_core::{Cause, CodecError, Digest, Key, Outcome, RangeCfg, TestMessage};
 use commonware_broadcast::buffered::{
     EndCause, Lines, Mailbox, Observer, Recent, Sequential, Turn, start_observed,
 };
 use memory_network::{Mail, Network};
 use memory_node::keys::key_of;
 use memory_node::node::config;
+use memory_node::support::nodes::{digest, send};
 use std::alloc::{AllocError, AllocGlobal, Global};
 use std::io::{self, Write};
 use std::random::RandomSource;
 use std::sync::Wait;
 use std::test::Fail;
 use std::thread::Threads;
-use test_support::nodes::{digest, send};
 
 /// Lets a node with the observer take some inputs, and end. Returns the observer.
 fn observe<R, W>(rt: &R, observer: W) -> Result<W, Fail>
 where
     R: Threads + Wait + RandomSource + AllocGlobal + Clone + Send + Sync + Drop + 'static,
-    W: Observer<Key> + Send + Drop + 'static,
+    W: Observer<Key, Digest> + Send + Drop + 'static,
 {
     let network = Network::between(rt, &[key_of(1), key_of(5)])?;
     let ends = network.join(rt, &key_of(1))?;
@@ -43,12 +43,15 @@ where
     Ok(())
 }
 
+/// The SHA-256 digest of the byte 2.
+const DIGEST_OF_TWO: &str = "dbc1b4c900ffe48d575b5da5c638040125f65db0fe3e24494b76ea986457d986";
+
 /// The lines of these turns. The key of peer 5 is 32 bytes, of which the last is its number.
 fn lines(alloc: Global) -> Result<String, AllocError> {
     let peer = 5u64;
     format!(in alloc;
         "peers\nget\ninvalid payload of {peer:064x}: the bytes end too early\n\
-         payload of {peer:064x} inserted\nended: the network failed\n"
+         payload of {peer:064x}: {DIGEST_OF_TWO} inserted\nended: the network failed\n"
     )
 }
 
@@ -65,7 +68,7 @@ fn the_latest_turns_are_kept(rt: HostRuntime) -> Result<(), Fail> {
     let recent = observe(&rt, Recent::new(rt.alloc(), 3)?)?;
     let expected = [
         Turn::Invalid(key_of(5), CodecError::EndOfBuffer),
-        Turn::Payload(key_of(5), Outcome::Inserted),
+        Turn::Payload(key_of(5), digest(rt.alloc(), 2)?, Outcome::Inserted),
         Turn::Ended(EndCause::NetworkFailed),
     ];
     let mut turns = Vec::new(rt.alloc());
@@ -107,5 +110,84 @@ fn a_failed_write_is_kept_and_the_engine_runs_on(rt: HostRuntime) -> Result<(), 
     );
     assert_eq!(rt; lines.into_inner().writes, 2);
     assert_eq!(rt; recent.seen(), 5);
+    Ok(())
+}
+
+/// Each kind of turn, and its line.
+static LINES: [(Turn<u64, u8>, &str); 18] = [
+    (Turn::Peers, "peers"),
+    (
+        Turn::Broadcast(7, Outcome::Inserted),
+        "broadcast of 7 inserted",
+    ),
+    (
+        Turn::Broadcast(7, Outcome::Duplicate),
+        "broadcast of 7 duplicate",
+    ),
+    (
+        Turn::Broadcast(7, Outcome::Ineligible),
+        "broadcast of 7 ineligible",
+    ),
+    (
+        Turn::Broadcast(7, Outcome::Oversize),
+        "broadcast of 7 oversize",
+    ),
+    (Turn::Subscribe, "subscribe"),
+    (Turn::Get, "get"),
+    (
+        Turn::Payload(5, 7, Outcome::Inserted),
+        "payload of 5: 7 inserted",
+    ),
+    (
+        Turn::Payload(5, 7, Outcome::Duplicate),
+        "payload of 5: 7 duplicate",
+    ),
+    (
+        Turn::Payload(5, 7, Outcome::Oversize),
+        "payload of 5: 7 oversize",
+    ),
+    (
+        Turn::Invalid(5, CodecError::EndOfBuffer),
+        "invalid payload of 5: the bytes end too early",
+    ),
+    (
+        Turn::Refused(Some(5), Cause::Memory),
+        "refused payload of 5: out of memory",
+    ),
+    (Turn::Refused(None, Cause::Memory), "refused: out of memory"),
+    (
+        Turn::Refused(None, Cause::Unencodable),
+        "refused: no encoding",
+    ),
+    (Turn::Ended(EndCause::Stopped), "ended: stopped"),
+    (
+        Turn::Ended(EndCause::PeersClosed),
+        "ended: no more peer sets",
+    ),
+    (
+        Turn::Ended(EndCause::NetworkFailed),
+        "ended: the network failed",
+    ),
+    (
+        Turn::Ended(EndCause::WaitFailed),
+        "ended: no memory to wait with",
+    ),
+];
+
+fn lines_of_turns() -> &'static [(Turn<u64, u8>, &'static str)] {
+    &LINES
+}
+
+#[test]
+fn a_line_tells_which_turn_it_was(rt: HostRuntime) -> Result<(), Fail> {
+    for (turn, line) in lines_of_turns() {
+        let mut lines = Lines::new(Vec::new(rt.alloc()));
+        lines.turn(turn);
+        let written = lines.into_inner();
+        assert_eq!(rt;
+            written.as_slice(),
+            format!(in rt.alloc(); "{line}\n")?.as_bytes()
+        );
+    }
     Ok(())
 }

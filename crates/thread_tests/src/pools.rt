@@ -6,15 +6,15 @@ use broadcast_core::{Digestible, TestMessage};
 use commonware_broadcast::buffered::gate::Gate;
 use commonware_broadcast::buffered::{EndCause, Pool, Pooled, Status};
 use memory_node::node::Node;
+use memory_node::support::nodes::{broadcast, gets, send, subscribe, track};
+use memory_node::support::poor::{Poor, Supply};
+use memory_node::support::task::Task;
 use std::alloc::{AllocError, AllocGlobal};
 use std::random::RandomSource;
 use std::sync::{Arc, Wait};
 use std::test::Fail;
 use std::thread::{self, JoinHandle, Threads};
 use std::time::{Clock, Duration};
-use test_support::nodes::{broadcast, gets, send, subscribe, track};
-use test_support::poor::{Poor, Supply};
-use test_support::task::Task;
 
 /// The letters of the messages that a peer sends.
 const SENT: [u8; 6] = [2, 3, 4, 5, 6, 7];

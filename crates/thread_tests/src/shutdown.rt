@@ -6,13 +6,13 @@ use commonware_broadcast::Feedback;
 use commonware_broadcast::buffered::{EndCause, Mailbox, Sequential, Status, Subscription};
 use memory_network::Mail;
 use memory_node::node::Node;
+use memory_node::support::nodes::{broadcast, digest, gets, send, start, subscribe, track};
 use std::alloc::{AllocError, AllocGlobal};
 use std::random::RandomSource;
 use std::sync::Wait;
 use std::test::Fail;
 use std::thread::Threads;
 use std::time::Clock;
-use test_support::nodes::{broadcast, digest, gets, send, start, subscribe, track};
 
 /// What a stopped engine left: whether it closed its mailbox before a job that was pending gave up,
 /// its cause, whether the subscription that it held is canceled, and what its mailbox answers

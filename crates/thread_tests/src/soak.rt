@@ -7,6 +7,7 @@ use commonware_broadcast::buffered::{EndCause, Mailbox, Metrics, Status, Subscri
 use memory_network::Mail;
 use memory_node::keys::key_of;
 use memory_node::node::Node;
+use memory_node::support::nodes::{broadcast, gets, send, subscribe, track};
 use std::alloc::{AllocError, AllocGlobal};
 use std::random::RandomSource;
 use std::sync::atomic::{AtomicU64, Ordering};
@@ -14,7 +15,6 @@ use std::sync::{Arc, Wait};
 use std::test::Fail;
 use std::thread::{self, JoinHandle, Threads};
 use std::time::Clock;
-use test_support::nodes::{broadcast, gets, send, subscribe, track};
 
 /// The number of callers.
 const CALLERS: u64 = 8;

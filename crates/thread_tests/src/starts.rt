@@ -6,14 +6,14 @@ use commonware_broadcast::buffered::{EndCause, Handle, Mailbox, Sequential, Star
 use memory_network::Mail;
 use memory_node::keys::key_of;
 use memory_node::node::{Node, Prepared, Started};
+use memory_node::support::nodes::broadcast;
+use memory_node::support::poor::{Poor, Supply};
 use std::alloc::{AllocError, AllocGlobal};
 use std::random::RandomSource;
 use std::sync::{Arc, Wait};
 use std::test::Fail;
 use std::thread::Threads;
 use std::time::Clock;
-use test_support::nodes::broadcast;
-use test_support::poor::{Poor, Supply};
 
 /// How a start ends: its error, or the cause with which the engine ended.
 type Ending = Result<EndCause, StartError>;

@@ -1,3 +1,4 @@
+// SPDX-License-Identifier: Apache-2.0
 //! Takes the steps of a file from standard input, as `world SIZE NODES HOSTILE [BUDGET]`.
 #![tactic(auto)]
 

@@ -1,3 +1,4 @@
+-- Believed.
 -- What the arguments mean.
 use Rattle.std.specs.Prelude.{◌≡◌, ◌<◌, ◌⊎◌, ◌^◌, ◌-◌, List, ℕ, [], ◌∷◌, codes}
 use Rattle.std.specs.Fmt.{decimal}

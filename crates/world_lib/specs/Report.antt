@@ -1,3 +1,4 @@
+-- Believed.
 -- What is printed of one run of a world.
 use Rattle.std.specs.Prelude.{List, ℕ, [], ◌∷◌, ◌++◌, codes, map, Option, None, Some}
 use Rattle.std.specs.List.{flat_map}

@@ -1,3 +1,4 @@
+// SPDX-License-Identifier: Apache-2.0
 //! The program `world`: takes the steps of a file in a world of nodes, with and without its hostile
 //! ones, and prints their answers.
 #![tactic(auto)]

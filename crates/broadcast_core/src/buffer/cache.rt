@@ -1,52 +1,52 @@
 //! The lists of the peers, and each listed message once.
-ghost use Rattle.std.specs.Prelude.{◌≡◌, ◌≤◌, ◌<◌, ◌+◌, ◌^◌, ◌∷◌, false, true, not, length, take, [], None, IsSome};
-ghost use Rattle.std.specs.Prelude.{IfOk, IfSome, OnOk, OnErr, IsOk};
+ghost use Rattle.std.specs.Prelude.{◌≡◌, ◌≤◌, ◌∷◌, false, true, length, [], None};
+ghost use Rattle.std.specs.Prelude.{is_some, IfOk, IfSome, OnOk, OnErr, IsOk, MatchBool};
 ghost use Rattle.std.specs.Option.{option_copied};
-ghost use Rattle.std.specs.List.{IsDistinct};
+ghost use Rattle.std.specs.List.{IsDistinct, list_any};
 ghost use Rattle.std.specs.Map.{lookup, keys_of};
 ghost use Rattle.std.specs.Ordering.{eq_by_cmp};
-ghost use Rattle.entries.specs.Store.{overlaid, items_at as nodes_at, bytes_of as sum_of};
-ghost use Rattle.entries.specs.Table.{place_at, IsPlaced, IsSame, Leaves};
-ghost use Rattle.broadcast_core.specs.Content.{same_by, same_charged, without, at_charge, digests_of, bytes_of};
-ghost use Rattle.broadcast_core.specs.Content.{among, within, fronted, items_at};
+ghost use Rattle.entries.specs.Store.{overlaid};
+ghost use Rattle.broadcast_core.specs.Content.{same_by, same_charged, at_charge, digests_of, bytes_of};
+ghost use Rattle.broadcast_core.specs.Content.{among, fronted, items_at, outcome_of};
 ghost use Rattle.broadcast_core.specs.Stored.{has_digest};
-ghost use Rattle.broadcast_core.specs.Indexed.{Holds, Pushes};
 
+use crate::buffer::shelf::Shelf;
 use crate::digested::{Digested, Digestible};
 use crate::ordered::{PublicKey, Set};
-use entries::{Charged, Entries, Table};
+use crate::outcome::Outcome;
 use std::alloc::{AllocError, Global};
+use std::collections::BTreeMap;
 use std::marker::Model;
 
-/// The lists of the peers, and the messages of their digests.
+/// The lists of the peers, and the messages of their digests. A list goes by a number.
 #[derive(Drop)]
 pub struct Cache<P: PublicKey, M: Digestible> {
-    lists: Entries<P, M::Digest>,
-    table: Table<P, M::Digest, Digested<M>>,
+    numbers: BTreeMap<P, usize>,
+    shelf: Shelf<M>,
 }
 
 impl<P: PublicKey, M: Digestible> Model for Cache<P, M> {
     ghost use Rattle.broadcast_core.specs.Content.{same_by};
-    ghost use Rattle.broadcast_core.specs.Indexed.{IsIndexed, stored_of};
+    ghost use Rattle.broadcast_core.specs.Numbered.{IsNumbered, named_of};
     ghost use Rattle.broadcast_core.specs.Stored.{Stored};
 
     ghost Value = { Stored P M M.Digest };
 
-    ghost view = { λ it. stored_of it.lists.lists it.table };
+    ghost view = { λ it. named_of it.numbers.entries it.shelf };
 
-    ghost invariant = { λ it. IsIndexed (same_by P.cmp M.Digest.cmp) it.lists.lists it.table };
+    ghost invariant = { λ it. IsNumbered P.cmp M.Digest.cmp it.numbers.entries it.shelf };
 }
 
 impl<P: PublicKey, M: Digestible> Cache<P, M> {
-    ghost use Rattle.broadcast_core.specs.Stored.{Stores, Drops, Cuts};
+    ghost use Rattle.broadcast_core.specs.Stored.{Stores, Drops};
 
     /// Creates an empty cache. Does not allocate.
     pub fn new(alloc: Global) -> Self
         ensures { result ≡ record { lists = []; messages = [] } }
     {
         Cache {
-            lists: Entries::new(alloc),
-            table: Table::new(alloc),
+            numbers: BTreeMap::new(alloc),
+            shelf: Shelf::new(alloc),
         }
     }
 
@@ -57,7 +57,7 @@ impl<P: PublicKey, M: Digestible> Cache<P, M> {
         ensures named { IfSome result (λ message.
             eq_by_cmp M.Digest.cmp digest.now message.now.digest ≡ true) }
     {
-        self.table.get(digest)
+        self.shelf.get(digest)
     }
 
     /// Returns the number of messages.
@@ -65,137 +65,100 @@ impl<P: PublicKey, M: Digestible> Cache<P, M> {
         ensures len { result ≡ length self.now.messages }
         ensures distinct { IsDistinct (eq_by_cmp M.Digest.cmp) (keys_of self.now.messages) }
     {
-        self.table.len()
+        self.shelf.len()
     }
 
-    /// Puts the digest in front of the list of `peer`, with its charge, and drops the oldest
-    /// digests beyond the limits. Returns whether the digest is new there.
+    /// Puts the digest in front of the list of a primary key, with its charge, and drops the oldest
+    /// digests beyond the limits.
     pub fn take(
+        &mut self,
+        primary: &Set<P>,
+        peer: &P,
+        message: &Digested<M>,
+        charge: u64,
+        deque_size: usize,
+        byte_budget: u64,
+    ) -> Result<Outcome, AllocError>
+        requires size { length (items_at (eq_by_cmp P.cmp) peer.now self.old.lists) ≤ deque_size }
+        requires bytes { bytes_of (items_at (eq_by_cmp P.cmp) peer.now self.old.lists)
+            ≤ byte_budget }
+        requires primary_only { is_some (lookup (eq_by_cmp P.cmp peer.now) self.old.lists) ≡ true
+            → list_any (eq_by_cmp P.cmp peer.now) primary.now ≡ true }
+        ensures outcome { let same = same_by P.cmp M.Digest.cmp in
+            let cs = items_at same.key peer.now self.old.lists in
+            IfOk result (λ outcome. outcome ≡ outcome_of (list_any (same.key peer.now) primary.now)
+            true (has_digest same.digest message.now.digest cs)) }
+        ensures ok { let same = same_by P.cmp M.Digest.cmp in
+            let cs = items_at same.key peer.now self.old.lists in
+            let c = at_charge message.now.digest charge in
+            OnOk result (MatchBool (list_any (same.key peer.now) primary.now)
+            (Stores same peer.now message.now
+            (fronted same.digest deque_size byte_budget c cs) self.old self.new)
+            (self.new ≡ self.old)) }
+        ensures err { OnErr result (self.new ≡ self.old) }
+
+        // These do not allocate.
+        ensures succeeds_on_duplicate { among (eq_by_cmp M.Digest.cmp) message.now.digest
+            (digests_of (items_at (eq_by_cmp P.cmp) peer.now self.old.lists)) ≡ true → IsOk result }
+        ensures succeeds_on_ineligible { list_any (eq_by_cmp P.cmp peer.now) primary.now ≡ false
+            → IsOk result }
+        ensures succeeds_at_size_zero { deque_size ≡ 0 → IsOk result }
+    {
+        match self.numbers.get(peer) {
+            // A peer that has a list is primary, so the set is not searched.
+            Some(list) => self
+                .shelf
+                .take(*list, message, charge, deque_size, byte_budget),
+            None if primary.position(peer).is_none() => Ok(Outcome::Ineligible),
+            None if deque_size == 0 => Ok(Outcome::Inserted),
+            None => self.take_first(peer, message, charge, deque_size, byte_budget),
+        }
+    }
+
+    /// Puts the digest on the list of a peer that has none.
+    fn take_first(
         &mut self,
         peer: &P,
         message: &Digested<M>,
         charge: u64,
         deque_size: usize,
         byte_budget: u64,
-    ) -> Result<bool, AllocError>
-        requires size { length (items_at (eq_by_cmp P.cmp) peer.now self.old.lists) ≤ deque_size }
-        requires bytes { bytes_of (items_at (eq_by_cmp P.cmp) peer.now self.old.lists)
-            ≤ byte_budget }
-        ensures new { let same = same_by P.cmp M.Digest.cmp in
-            let cs = items_at same.key peer.now self.old.lists in
-            IfOk result (λ new. new ≡ not (has_digest same.digest message.now.digest cs)) }
+    ) -> Result<Outcome, AllocError>
+        requires absent { lookup (eq_by_cmp P.cmp peer.now) self.old.lists ≡ None }
+        ensures outcome { IfOk result (λ outcome. outcome ≡ outcome_of true true false) }
         ensures ok { let same = same_by P.cmp M.Digest.cmp in
-            let cs = items_at same.key peer.now self.old.lists in
             let c = at_charge message.now.digest charge in
             OnOk result (Stores same peer.now message.now
-            (fronted same.digest deque_size byte_budget c cs) self.old self.new) }
+            (fronted same.digest deque_size byte_budget c []) self.old self.new) }
         ensures err { OnErr result (self.new ≡ self.old) }
-
-        // These do not allocate.
-        ensures succeeds_on_duplicate { among (eq_by_cmp M.Digest.cmp) message.now.digest
-            (digests_of (items_at (eq_by_cmp P.cmp) peer.now self.old.lists)) ≡ true → IsOk result }
-        ensures succeeds_at_size_zero { deque_size ≡ 0 → IsOk result }
     {
-        let (is_new, bytes) = self.put(peer, message, charge, deque_size)?;
-        if bytes <= u128::from(byte_budget) {
-            return Ok(is_new);
+        let owner = peer.clone()?;
+        let list = self.shelf.open()?;
+        if let Err(_refused) = self.numbers.insert(owner, list) {
+            self.shelf.close(list);
+            return Err(AllocError);
         }
-        self.cut(peer, byte_budget);
-        Ok(is_new)
-    }
-
-    /// Puts the digest in front of the list of `peer`, which keeps at most `deque_size` digests.
-    /// Returns whether it is new there, and the sum of the charges on the list.
-    fn put(
-        &mut self,
-        peer: &P,
-        message: &Digested<M>,
-        charge: u64,
-        deque_size: usize,
-    ) -> Result<(bool, u128), AllocError>
-        requires size { length (items_at (eq_by_cmp P.cmp) peer.now self.old.lists) ≤ deque_size }
-        requires room { bytes_of (items_at (eq_by_cmp P.cmp) peer.now self.old.lists) < 2 ^ 64 }
-        ensures new { let same = same_by P.cmp M.Digest.cmp in
-            let cs = items_at same.key peer.now self.old.lists in
-            IfOk result (λ new. new.0 ≡ not (has_digest same.digest message.now.digest cs)) }
-        ensures bytes { IfOk result (λ new. new.1
-            ≡ bytes_of (items_at (eq_by_cmp P.cmp) peer.now self.new.lists)) }
-        ensures ok { let same = same_by P.cmp M.Digest.cmp in
-            let cs = items_at same.key peer.now self.old.lists in
-            let c = at_charge message.now.digest charge in
-            OnOk result (Stores same peer.now message.now
-            (take deque_size (c ∷ without (same_charged same.digest) c cs)) self.old self.new) }
-        ensures err { OnErr result (self.new ≡ self.old) }
-        ensures succeeds_on_duplicate { among (eq_by_cmp M.Digest.cmp) message.now.digest
-            (digests_of (items_at (eq_by_cmp P.cmp) peer.now self.old.lists)) ≡ true → IsOk result }
-        ensures succeeds_at_size_zero { deque_size ≡ 0 → IsOk result }
-    {
-        if deque_size == 0 {
-            // No two lists have one key: so says `len`.
-            let _lists = self.lists.len();
-            return Ok((true, 0));
+        match self
+            .shelf
+            .take(list, message, charge, deque_size, byte_budget)
+        {
+            Ok(outcome) => Ok(outcome),
+            Err(refused) => {
+                self.numbers.remove(peer);
+                self.shelf.close(list);
+                Err(refused)
+            }
         }
-        self.insert(peer, message, charge, deque_size)
-    }
-
-    /// Drops the oldest digests of `peer` until their charges sum to at most `byte_budget`.
-    fn cut(&mut self, peer: &P, byte_budget: u64)
-        ensures { Cuts (same_by P.cmp M.Digest.cmp) peer.now (within byte_budget
-            (items_at (eq_by_cmp P.cmp) peer.now self.old.lists)) self.old self.new }
-    {
-        while let Some(stale) = self.lists.evict_over(peer, byte_budget) {
-            self.table.remove(stale.digest, peer);
-        }
-        // No two lists have one key: so says `len`.
-        let _new = self.lists.len();
-    }
-
-    /// Puts the digest in front of the list of `peer`, which keeps at least one. Returns whether it
-    /// is new there, and the sum of the charges.
-    fn insert(
-        &mut self,
-        peer: &P,
-        message: &Digested<M>,
-        charge: u64,
-        size: usize,
-    ) -> Result<(bool, u128), AllocError>
-        requires size { length (items_at (eq_by_cmp P.cmp) peer.now self.old.lists) ≤ size }
-        requires some { 0 < size }
-        requires room { bytes_of (items_at (eq_by_cmp P.cmp) peer.now self.old.lists) < 2 ^ 64 }
-        ensures new { let same = same_by P.cmp M.Digest.cmp in
-            let cs = items_at same.key peer.now self.old.lists in
-            IfOk result (λ new. new.0 ≡ not (has_digest same.digest message.now.digest cs)) }
-        ensures bytes { IfOk result (λ new. new.1
-            ≡ bytes_of (items_at (eq_by_cmp P.cmp) peer.now self.new.lists)) }
-        ensures ok { let same = same_by P.cmp M.Digest.cmp in
-            let cs = items_at same.key peer.now self.old.lists in
-            let c = at_charge message.now.digest charge in
-            OnOk result (Stores same peer.now message.now
-            (take size (c ∷ without (same_charged same.digest) c cs)) self.old self.new) }
-        ensures err { OnErr result (self.new ≡ self.old) }
-        ensures succeeds_on_duplicate { among (eq_by_cmp M.Digest.cmp) message.now.digest
-            (digests_of (items_at (eq_by_cmp P.cmp) peer.now self.old.lists)) ≡ true → IsOk result }
-    {
-        let _old = self.lists.len();
-        let found = hold(&mut self.table, peer, message, self.lists.vacant())?;
-        let charged = Charged {
-            digest: message.digest(),
-            charge,
-        };
-        let bytes = match found {
-            Some(place) => self.lists.promote(peer, place, charged),
-            None => push(&mut self.lists, &mut self.table, peer, charged, size)?,
-        };
-        // No two lists have one key: so says `len`.
-        let _new = self.lists.len();
-        Ok((found.is_none(), bytes))
     }
 
     /// Returns the sum of the charges on the list of `peer`.
     pub fn bytes(&self, peer: &P) -> u128
         ensures { result ≡ bytes_of (items_at (eq_by_cmp P.cmp) peer.now self.now.lists) }
     {
-        self.lists.bytes(peer)
+        match self.numbers.get(peer) {
+            Some(list) => self.shelf.bytes(*list),
+            None => 0,
+        }
     }
 
     /// Returns the digests on the list of `peer`, newest first.
@@ -207,7 +170,10 @@ impl<P: PublicKey, M: Digestible> Cache<P, M> {
         ensures distinct { IsDistinct (same_charged (eq_by_cmp M.Digest.cmp))
             (items_at (eq_by_cmp P.cmp) peer.now self.now.lists) }
     {
-        self.lists.list(alloc, peer)
+        match self.numbers.get(peer) {
+            Some(list) => self.shelf.list(alloc, *list),
+            None => Ok(Vec::new(alloc)),
+        }
     }
 
     /// Copies the digests on the list of `peer` to the front of `out`, newest first, as many as
@@ -217,7 +183,10 @@ impl<P: PublicKey, M: Digestible> Cache<P, M> {
         ensures digests { out.new ≡ overlaid
             (digests_of (items_at (eq_by_cmp P.cmp) peer.now self.now.lists)) out.old }
     {
-        self.lists.list_into(peer, out)
+        match self.numbers.get(peer) {
+            Some(list) => self.shelf.list_into(*list, out),
+            None => 0,
+        }
     }
 
     /// Drops the lists of those peers of `was` that are not among `peers`.
@@ -232,79 +201,17 @@ impl<P: PublicKey, M: Digestible> Cache<P, M> {
                 self.remove(peer);
             }
         }
-        // No two lists have one key: so says `len`.
-        let _lists = self.lists.len();
+        // A message is there exactly if its digest is on a list: so says the shelf.
+        let _shelf = &self.shelf;
     }
 
     /// Drops the list of `peer`.
     fn remove(&mut self, peer: &P)
         ensures { Drops (same_by P.cmp M.Digest.cmp) (peer.now ∷ []) [] self.old self.new }
     {
-        while let Some(stale) = self.lists.evict(peer) {
-            self.table.remove(stale.digest, peer);
-        }
-        self.lists.remove(peer);
-        // No two lists have one key: so says `len`.
-        let _new = self.lists.len();
-    }
-}
-
-/// Returns the place of the digest on the list of `peer`, if it has one. Otherwise gives it this
-/// place, and caches the message.
-fn hold<P: PublicKey, M: Digestible>(
-    table: &mut Table<P, M::Digest, Digested<M>>,
-    peer: &P,
-    message: &Digested<M>,
-    place: usize,
-) -> Result<Option<usize>, AllocError>
-    ensures found { IfOk result (λ found. found ≡ place_at (eq_by_cmp M.Digest.cmp)
-        (eq_by_cmp P.cmp) table.old message.now.digest peer.now) }
-    ensures stays { IfOk result (λ found. IsSome found → table.new ≡ table.old) }
-    ensures held { IfOk result (λ found. found ≡ None → Holds (same_by P.cmp M.Digest.cmp)
-        M.Digest.cmp peer.now message.now place table.old table.new) }
-    ensures fails_for_new_places { OnErr result (place_at (eq_by_cmp M.Digest.cmp)
-        (eq_by_cmp P.cmp) table.old message.now.digest peer.now ≡ None) }
-    ensures err { OnErr result (IsSame (eq_by_cmp M.Digest.cmp)
-        (eq_by_cmp P.cmp) table.old table.new) }
-    ensures placed { IsPlaced (eq_by_cmp M.Digest.cmp) (eq_by_cmp P.cmp) table.new }
-{
-    table.insert(message.digest(), message, peer, place)
-}
-
-/// Puts a digest that is in the table in front of the list of `peer`, and takes the oldest out of
-/// both if the list has then more than `size`. Returns the sum of the charges on the list.
-///
-/// On an allocation failure the digest leaves the table, and the lists stay.
-fn push<P: PublicKey, M: Digestible>(
-    lists: &mut Entries<P, M::Digest>,
-    table: &mut Table<P, M::Digest, Digested<M>>,
-    peer: &P,
-    charged: Charged<M::Digest>,
-    size: usize,
-) -> Result<u128, AllocError>
-    requires some { 0 < size }
-    requires room { sum_of (nodes_at (eq_by_cmp P.cmp) peer.now lists.old.lists) + charged.charge
-        < 2 ^ 128 }
-    ensures bytes { IfOk result (λ bytes. bytes
-        ≡ sum_of (nodes_at (eq_by_cmp P.cmp) peer.now lists.new.lists)) }
-    ensures ok { OnOk result (Pushes (same_by P.cmp M.Digest.cmp) peer.now
-        (lists.old.vacant, charged) size lists.old.lists lists.new.lists table.old table.new) }
-    ensures stays { OnErr result (lists.new ≡ lists.old) }
-    ensures err { OnErr result (Leaves (eq_by_cmp M.Digest.cmp) (eq_by_cmp P.cmp) charged.digest
-        peer.now table.old table.new) }
-    ensures placed { IsPlaced (eq_by_cmp M.Digest.cmp) (eq_by_cmp P.cmp) table.old
-        → IsPlaced (eq_by_cmp M.Digest.cmp) (eq_by_cmp P.cmp) table.new }
-{
-    match lists.push(peer, charged, size) {
-        Ok((bytes, stale)) => {
-            if let Some(stale) = stale {
-                table.remove(stale.digest, peer);
-            }
-            Ok(bytes)
-        }
-        Err(refused) => {
-            table.remove(charged.digest, peer);
-            Err(refused)
+        match self.numbers.remove(peer) {
+            Some(list) => self.shelf.remove(list),
+            None => {}
         }
     }
 }

@@ -1,7 +1,8 @@
-//! What a core keeps beside its own key.
+//! The state of a core, but for its own key.
 ghost use Rattle.std.specs.Prelude.{◌≡◌, ◌≤◌, true, false, length, is_some, IfOk, OnOk, OnErr, IsOk, MatchBool};
 ghost use Rattle.std.specs.Option.{option_map};
 ghost use Rattle.std.specs.List.{list_any};
+ghost use Rattle.std.specs.Map.{lookup};
 ghost use Rattle.std.specs.Ordering.{eq_by_cmp};
 ghost use Rattle.broadcast_core.specs.Changes.{IsTaken};
 ghost use Rattle.broadcast_core.specs.Content.{same_by, affordable, among, at_charge, bytes_of, items_at, digests_of};
@@ -17,7 +18,7 @@ use crate::outcome::{Outcome, Taken};
 use std::alloc::AllocError;
 use std::marker::Model;
 
-/// What a core keeps beside its own key, so that the key is borrowed while the rest changes.
+/// The state of a core, but for its own key, which is borrowed while the rest changes.
 #[derive(Drop)]
 pub struct State<P: PublicKey, M: Digestible, W> {
     /// The most digests on a list.
@@ -83,6 +84,8 @@ fn store<P: PublicKey, M: Digestible + EncodeSize>(
 ) -> Result<Outcome, AllocError>
     requires size { length (items_at (eq_by_cmp P.cmp) peer.now cache.old.lists) ≤ deque_size }
     requires bytes { bytes_of (items_at (eq_by_cmp P.cmp) peer.now cache.old.lists) ≤ byte_budget }
+    requires primary_only { is_some (lookup (eq_by_cmp P.cmp peer.now) cache.old.lists) ≡ true
+        → list_any (eq_by_cmp P.cmp peer.now) primary.now ≡ true }
     ensures outcome { let same = same_by P.cmp M.Digest.cmp in
         let charge = option_map length (M.encoding message.now.message) in
         let cs = items_at same.key peer.now cache.old.lists in
@@ -104,16 +107,10 @@ fn store<P: PublicKey, M: Digestible + EncodeSize>(
         (option_map length (M.encoding message.now.message))) ≡ false → IsOk result }
     ensures succeeds_at_size_zero { deque_size ≡ 0 → IsOk result }
 {
-    if primary.position(peer).is_none() {
-        return Ok(Outcome::Ineligible);
-    }
-    let Some(charge) = charge_of(message, byte_budget) else {
-        return Ok(Outcome::Oversize);
-    };
-    if cache.take(peer, message, charge, deque_size, byte_budget)? {
-        Ok(Outcome::Inserted)
-    } else {
-        Ok(Outcome::Duplicate)
+    match charge_of(message, byte_budget) {
+        Some(charge) => cache.take(primary, peer, message, charge, deque_size, byte_budget),
+        None if primary.position(peer).is_none() => Ok(Outcome::Ineligible),
+        None => Ok(Outcome::Oversize),
     }
 }
 

@@ -6,7 +6,7 @@ ghost use Rattle.std.specs.declared.ops.Bound.TheVariants.{Unbounded};
 ghost use Rattle.std.specs.Map.{keys_of};
 ghost use Rattle.std.specs.Ordering.{eq_by_cmp};
 ghost use Rattle.broadcast_core.specs.Content.{items_at};
-ghost use Rattle.broadcast_core.specs.Waiters.{NoneEmpty, AreAwaited, waiting_in, is_gone, gone_from, first_with, DropsClosed, counted};
+ghost use Rattle.broadcast_core.specs.Waiters.{NoneEmpty, AreAwaited, waiting_in, is_gone, gone_from, first_with, DropsClosed, DropsClosedIf, counted};
 
 use crate::buffer::gone::Gone;
 use crate::items::Items;
@@ -147,6 +147,58 @@ impl<D: Ord + Copy, W: Drop> Waiters<D, W> {
         clamped(before - total(&self.by_digest))
     }
 
+    /// Drops the waiters of `digest` that are closed, asking each of them once. Returns how many.
+    /// Does not allocate.
+    pub fn cleanup_at(&mut self, digest: &D) -> u64
+    where
+        W: Closable,
+        ensures kept { let same = eq_by_cmp D.cmp in
+            (e : D) → DropsClosedIf (same digest.now e) W.may_answer
+            (items_at same e self.old) (items_at same e self.new) }
+        ensures removed { waiting_in self.new + result ≡ waiting_in self.old }
+        ensures distinct { IsDistinct (eq_by_cmp D.cmp) (keys_of self.old) }
+        ensures distinct_left { IsDistinct (eq_by_cmp D.cmp) (keys_of self.new) }
+    {
+        drop_closed_at(&mut self.by_digest, digest) as u64
+    }
+
+    /// Drops the waiters of the digests that are closed. Returns how many, saturating at
+    /// `u64::MAX`. Does not allocate.
+    pub fn cleanup_each(&mut self, digests: &[D]) -> u64
+    where
+        W: Closable,
+        ensures kept { let same = eq_by_cmp D.cmp in
+            (e : D) → DropsClosedIf (list_any (same e) digests.now) W.may_answer
+            (items_at same e self.old) (items_at same e self.new) }
+        ensures removed { (n : ℕ) × (waiting_in self.old ≡ waiting_in self.new + n)
+            × (result ≡ counted n) }
+        ensures distinct { IsDistinct (eq_by_cmp D.cmp) (keys_of self.old) }
+        ensures distinct_left { IsDistinct (eq_by_cmp D.cmp) (keys_of self.new) }
+    {
+        let _ = &self.by_digest;
+        let mut removed = 0u64;
+        for digest in digests {
+            removed = removed.saturating_add(self.cleanup_at(digest));
+        }
+        removed
+    }
+
+    /// Drops the waiters of `digest` whose tickets are in `gone`. Returns how many. Does not
+    /// allocate.
+    pub fn cleanup_of(&mut self, digest: &D, gone: &[u64]) -> u64
+    where
+        W: Ticketed,
+        ensures kept { let same = eq_by_cmp D.cmp in
+            (e : D) → items_at same e self.new
+            ≡ (if same digest.now e
+            then filter (λ w. not (is_gone W.ticket_of gone.now w)) (items_at same e self.old)
+            else items_at same e self.old) }
+        ensures removed { result ≡ count_by (is_gone W.ticket_of gone.now)
+            (items_at (eq_by_cmp D.cmp) digest.now self.old) }
+    {
+        drop_gone(&mut self.by_digest, digest, &Gone::new(gone)) as u64
+    }
+
     /// Drops all waiters. Does not allocate.
     pub fn clear(&mut self)
         ensures { self.new ≡ [] }
@@ -236,6 +288,38 @@ fn drop_gone<D: Ord + Copy, W: Ticketed + Drop>(
     before - left
 }
 
+/// Drops the waiters of `digest` that are closed. Returns how many.
+fn drop_closed_at<D: Ord + Copy, W: Closable + Drop>(
+    by_digest: &mut BTreeMap<D, Items<W>>,
+    digest: &D,
+) -> usize
+    requires { AreAwaited D.cmp by_digest.old.entries }
+    ensures awaited { AreAwaited D.cmp by_digest.new.entries }
+    ensures lists { let same = eq_by_cmp D.cmp in
+        (e : D) → DropsClosedIf (same digest.now e) W.may_answer
+        (items_at same e by_digest.old.entries) (items_at same e by_digest.new.entries) }
+    ensures removed { waiting_in by_digest.new.entries + result
+        ≡ waiting_in by_digest.old.entries }
+{
+    let Some(waiters) = by_digest.get_mut(digest) else {
+        return 0;
+    };
+    let before = waiters.len();
+    retain_open(waiters);
+    let left = waiters.len();
+    if left == 0 {
+        by_digest.remove(digest);
+    }
+    before - left
+}
+
+/// Drops the waiters that are closed.
+fn retain_open<W: Closable + Drop>(waiters: &mut Items<W>)
+    ensures { DropsClosed W.may_answer waiters.old waiters.new }
+{
+    waiters.retain(|waiter| !waiter.is_closed());
+}
+
 /// Drops the waiters whose ticket is in `gone`.
 fn retain_waiting<W: Ticketed + Drop>(waiters: &mut Items<W>, gone: &Gone<'_>)
     ensures { waiters.new ≡ filter (λ w. not (is_gone W.ticket_of gone.now w)) waiters.old }
@@ -248,6 +332,6 @@ fn drop_closed<W: Closable + Drop>(waiters: &mut Items<W>) -> bool
     ensures kept { DropsClosed W.may_answer waiters.old waiters.new }
     ensures left { result ≡ nat_lt 0 (length waiters.new) }
 {
-    waiters.retain(|waiter| !waiter.is_closed());
+    retain_open(waiters);
     waiters.len() > 0
 }

@@ -1,10 +1,11 @@
 //! One event of a run.
-ghost use Rattle.std.specs.Prelude.{◌≡◌, ℕ, []};
+ghost use Rattle.std.specs.Prelude.{◌≡◌, ℕ, [], true, false};
 ghost use Rattle.std.specs.Option.{option_to_list};
 ghost use Rattle.broadcast_core.specs.Codec.{whole};
 ghost use Rattle.broadcast_core.specs.Content.{same_by};
 ghost use Rattle.broadcast_core.specs.Setting.{Setting, setting};
 ghost use Rattle.broadcast_core.specs.HasRun.{Follows};
+ghost use Rattle.broadcast_core.specs.Log.{is_refused};
 ghost use Rattle.broadcast_core.specs.declared.event.Event.TheVariants as event;
 ghost use Rattle.broadcast_core.specs.declared.event.Answer.TheVariants as answer;
 
@@ -25,9 +26,10 @@ pub fn apply<P: PublicKey, M: Digestible + Codec>(
     cfg: &M::Cfg,
     event: Event<P, M>,
 ) -> (Answer<M>, Option<Sent<P>>)
-    ensures { let s = setting core.old.own core.old.deque_size core.old.byte_budget priority
+    ensures follows { let s = setting core.old.own core.old.deque_size core.old.byte_budget priority
         (same_by P.cmp M.Digest.cmp) M.digest_of M.encoding (whole (M.reading cfg.now)) in
         Follows s event core.old core.new result.0 (option_to_list result.1) }
+    ensures refused { is_refused result.0 ≡ true → core.new ≡ core.old }
 {
     match event {
         Event::Peers(peers) => {
@@ -52,10 +54,11 @@ fn broadcast<P: PublicKey, M: Digestible + Codec>(
     recipients: Recipients<P>,
     message: Digested<M>,
 ) -> (Answer<M>, Option<Sent<P>>)
-    ensures { (s : Setting P M M.Digest)
+    ensures follows { (s : Setting P M M.Digest)
         → s.same ≡ same_by P.cmp M.Digest.cmp → s.priority ≡ priority → s.encoding ≡ M.encoding
         → Follows s (event.Broadcast recipients message) core.old core.new
         result.0 (option_to_list result.1) }
+    ensures refused { is_refused result.0 ≡ true → core.new ≡ core.old }
 {
     let bytes = match message.encode(alloc) {
         Ok(bytes) => bytes,
@@ -87,11 +90,12 @@ pub fn payload<P: PublicKey, M: Digestible + Codec>(
     peer: &P,
     bytes: &[u8],
 ) -> Answer<M>
-    ensures { (s : Setting P M M.Digest)
+    ensures follows { (s : Setting P M M.Digest)
         → s.same ≡ same_by P.cmp M.Digest.cmp → s.encoding ≡ M.encoding
         → s.digest_of ≡ M.digest_of
         → s.reading ≡ whole (M.reading cfg.now)
         → Follows s (event.Payload peer.now bytes.now) core.old core.new result [] }
+    ensures refused { is_refused result ≡ true → core.new ≡ core.old }
 {
     let message: M = match decode_cfg(alloc, bytes, cfg) {
         Ok(message) => message,
@@ -127,8 +131,9 @@ pub fn subscribe<P: PublicKey, M: Digestible>(
     ticket: u64,
     digest: M::Digest,
 ) -> Answer<M>
-    ensures { (s : Setting P M M.Digest) → s.same ≡ same_by P.cmp M.Digest.cmp
+    ensures follows { (s : Setting P M M.Digest) → s.same ≡ same_by P.cmp M.Digest.cmp
         → Follows s (event.Subscribe ticket digest) core.old core.new result [] }
+    ensures refused { is_refused result ≡ true → core.new ≡ core.old }
 {
     match core.subscribe(digest, ticket) {
         Ok(Subscribed::Answered(_, message)) => Answer::Answered(message),
@@ -153,8 +158,9 @@ pub fn get<P: PublicKey, M: Digestible>(core: &Core<P, M, u64>, digest: &M::Dige
 
 /// Drops the waiters with these tickets, which are sorted first, so that they are searched faster.
 fn cleanup<P: PublicKey, M: Digestible>(core: &mut Core<P, M, u64>, gone: Items<u64>) -> Answer<M>
-    ensures { (s : Setting P M M.Digest) → s.same ≡ same_by P.cmp M.Digest.cmp
+    ensures follows { (s : Setting P M M.Digest) → s.same ≡ same_by P.cmp M.Digest.cmp
         → Follows s (event.Cleanup gone) core.old core.new result [] }
+    ensures never_refused { is_refused result ≡ false }
 {
     let mut gone = gone.into_vec();
     gone.sort_unstable();

@@ -1,6 +1,8 @@
-//! How callers reach a node: their messages, the inbox that queues them, and both of its ends.
+//! The mailbox of a node: the messages of callers, the inbox that queues them, and both ends.
+pub mod abandoned;
 pub mod account;
 mod attended;
+pub mod bell;
 pub mod books;
 mod dropped;
 pub mod get;
@@ -22,4 +24,5 @@ mod shared;
 mod skips;
 pub mod subscription;
 pub mod tally;
+mod told;
 pub mod watch;

@@ -1,15 +1,25 @@
 //! What a mailbox tells of subscriptions that were dropped.
+ghost use Rattle.std.specs.Prelude.{◌≡◌};
+ghost use Rattle.std.specs.NonZero.{non_zero_u32_get};
+
 use super::note::Note;
 use super::polls::{DIGEST, reply};
 use broadcast_core::{Closable, Digested};
-use broadcast_mailbox::buffered::{Get, Incoming, Ingress, Mailbox, Reply, Subscription, channel};
+use broadcast_mailbox::buffered::{
+    Account, All, Get, Incoming, Ingress, Mailbox, Reply, Subscription, channel, watched_channel,
+};
+use futures::Future;
 use futures::task::{Doorbell, Poll, Solo};
-use std::alloc::{AllocError, AllocGlobal};
-use std::num::NonZeroUsize;
+use std::alloc::AllocGlobal;
+use std::marker::Brand;
+use std::mem;
+use std::num::{NonZeroU32, NonZeroUsize};
 use std::random::RandomSource;
-use std::sync::Wait;
+use std::sync::ledger::Blank;
+use std::sync::{Arc, Mutex, Wait};
 use std::test::Fail;
-use std::thread::{self, JoinHandle, Threads, yield_now};
+use std::thread::{self, Threads, yield_now};
+use std::time::{Clock, Duration};
 
 /// A step of a caller, or of whoever takes its request.
 #[derive(Clone, Copy, Debug)]
@@ -22,6 +32,10 @@ enum Step {
     Reply,
     /// The caller looks whether its future is ready.
     Look,
+    /// The future is polled, as an executor does.
+    Poll,
+    /// The caller waits for its future until its limit passes.
+    Wait,
     /// The caller drops its future.
     Drop,
 }
@@ -29,7 +43,7 @@ enum Step {
 /// The steps, each with whether a drop is told after it.
 struct Row(&'static [(Step, bool)]);
 
-static ROWS: [Row; 7] = [
+static ROWS: [Row; 11] = [
     // It waits from the taking on, so its drop is told once more.
     Row(&[
         (Step::Subscribe, false),
@@ -54,6 +68,33 @@ static ROWS: [Row; 7] = [
         (Step::Look, false),
         (Step::Drop, false),
     ]),
+    Row(&[
+        (Step::Subscribe, false),
+        (Step::Take, false),
+        (Step::Poll, false),
+        (Step::Drop, true),
+    ]),
+    Row(&[
+        (Step::Subscribe, false),
+        (Step::Take, false),
+        (Step::Wait, false),
+        (Step::Drop, true),
+    ]),
+    Row(&[
+        (Step::Subscribe, false),
+        (Step::Poll, false),
+        (Step::Wait, false),
+        (Step::Drop, true),
+        (Step::Take, true),
+    ]),
+    Row(&[
+        (Step::Subscribe, false),
+        (Step::Take, false),
+        (Step::Poll, false),
+        (Step::Reply, false),
+        (Step::Poll, false),
+        (Step::Drop, false),
+    ]),
     Row(&[(Step::Get, false), (Step::Drop, false), (Step::Take, false)]),
     Row(&[(Step::Get, false), (Step::Take, false), (Step::Drop, false)]),
     Row(&[
@@ -73,17 +114,17 @@ fn rows() -> &'static [Row] {
 fn each_drop_of_what_may_wait_is_told_once(rt: HostRuntime) -> Result<(), Fail> {
     for (place, row) in rows().iter().enumerate() {
         let mut talk = Talk::new(&rt)?;
+        let mut told = Vec::new(rt.alloc());
         for (step, is_told) in row.0 {
             talk.make(&rt, *step)?;
+            assert!(rt; !talk.ingress.take_dropped(&mut told));
             assert_eq!(rt;
-                talk.ingress.take_dropped(),
-                *is_told,
+                told.as_slice(),
+                if *is_told { &[DIGEST][..] } else { &[][..] },
                 "row {place}: {step:?}"
             );
-            assert!(rt;
-                !talk.ingress.take_dropped(),
-                "row {place}: {step:?}, again"
-            );
+            assert!(rt; !talk.ingress.take_dropped(&mut told));
+            assert!(rt; told.is_empty(), "row {place}: {step:?}, again");
         }
     }
     Ok(())
@@ -107,7 +148,7 @@ struct Talk<R: Wait> {
     taken: Option<Incoming<u64, Note>>,
 }
 
-impl<R: Wait + RandomSource + AllocGlobal + Clone + Drop> Talk<R> {
+impl<R: Wait + Clock + RandomSource + AllocGlobal + Clone + Drop> Talk<R> {
     /// Creates a caller that has asked for nothing.
     fn new(rt: &R) -> Result<Self, Fail> {
         let (mailbox, ingress) = channel(rt.clone()?, rt.alloc(), NonZeroUsize::MIN)?;
@@ -128,6 +169,8 @@ impl<R: Wait + RandomSource + AllocGlobal + Clone + Drop> Talk<R> {
             Step::Take => self.take(),
             Step::Reply => self.reply(rt)?,
             Step::Look => self.look(),
+            Step::Poll => self.poll(),
+            Step::Wait => self.wait(rt),
             Step::Drop => self.asked = Asked::Nothing,
         }
         Ok(())
@@ -161,45 +204,161 @@ impl<R: Wait + RandomSource + AllocGlobal + Clone + Drop> Talk<R> {
             Asked::Nothing => {}
         }
     }
+
+    /// Polls the future of a subscribe.
+    fn poll(&mut self) {
+        let mut cx = self.task.begin();
+        if let Asked::Subscription(subscription) = &mut self.asked {
+            drop::<_>(subscription.poll(&mut cx));
+        }
+        let _: Poll<()> = cx.yield_now();
+        cx.park();
+    }
+
+    /// Waits for the future of a subscribe until the limit passes.
+    fn wait(&mut self, rt: &R) {
+        let asked = mem::replace(&mut self.asked, Asked::Nothing);
+        if let Asked::Subscription(subscription) = asked {
+            if let Err(subscription) = subscription.wait_timeout(rt, Duration::from_millis(1)) {
+                self.asked = Asked::Subscription(subscription);
+            }
+        }
+    }
 }
 
-/// Looks for a drop, at most this often.
-const LOOKS: u64 = 1_000_000;
-
 #[test]
-fn what_is_dropped_is_closed_once_that_is_told(rt: HostRuntime) -> Result<(), Fail> {
-    for round in 0..100 {
-        let is_closed = closes_first(&rt)?;
-        assert!(rt; is_closed, "round {round}");
-    }
+fn a_tallied_subscription_is_told_too(rt: HostRuntime) -> Result<(), Fail> {
+    assert_eq!(rt; tells_with_one_part(&rt)?, (0, 1));
     Ok(())
 }
 
-/// Drops a subscription on another thread. Returns whether its request is closed once the mailbox
-/// tells of the drop.
-fn closes_first<R>(rt: &R) -> Result<bool, Fail>
+/// The same as [`tells_tallied`], for a tally of one part.
+fn tells_with_one_part<R>(rt: &R) -> Result<(usize, usize), Fail>
 where
-    R: Threads + Wait + AllocGlobal + Clone + Drop,
+    R: Wait + AllocGlobal + Clone + Drop,
 {
-    let (mailbox, ingress) = channel::<u64, Note, R>(rt.clone()?, rt.alloc(), NonZeroUsize::MIN)?;
-    let subscription = mailbox.subscribe(DIGEST)?;
-    let (_, request) = ingress.take().ok_or("nothing waits")?;
-    let dropping = drop_elsewhere(rt, subscription)?;
-    for _ in 0..LOOKS {
-        if ingress.take_dropped() {
-            let is_closed = request.is_closed();
-            dropping.join(rt);
-            return Ok(is_closed);
+    let parts = NonZeroU32::MIN;
+    let accepted = Blank::new(parts.get() as u64);
+    tells_tallied::<R, Brand, Brand>(rt, parts, accepted, Blank::new(1))
+}
+
+/// Returns how many digests a mailbox with an account tells before a subscription is dropped, and
+/// after it.
+fn tells_tallied<R, A, K>(
+    rt: &R,
+    parts: NonZeroU32,
+    accepted: Blank,
+    taken: Blank,
+) -> Result<(usize, usize), Fail>
+where
+    R: Wait + AllocGlobal + Clone + Drop,
+    A: Account,
+    K: Account,
+    requires accepted { (accepted.name ≡ A.name) × (accepted.parts ≡ A.parts) }
+    requires parts { (A.all ≡ A.parts) × (A.parts ≡ non_zero_u32_get parts) }
+    requires taken { (taken.name ≡ K.name) × (taken.parts ≡ K.parts) }
+    requires one { (K.all ≡ K.parts) × (K.parts ≡ 1) }
+{
+    let (mailbox, mut ingress, mut tally) = watched_channel::<u64, Note, R, A, K, All>(
+        rt.clone()?,
+        rt.alloc(),
+        NonZeroUsize::MIN,
+        parts,
+        accepted,
+        taken,
+    )?;
+    let mut told = Vec::new(rt.alloc());
+    let subscription = mailbox.subscribe_as(&mut tally, DIGEST);
+    let _may_be_any = ingress.take_dropped(&mut told);
+    let before = told.len();
+    drop::<_>(subscription);
+    let _may_be_any = ingress.take_dropped(&mut told);
+    drop::<_>((mailbox, tally));
+    Ok((before, told.len()))
+}
+
+/// How many subscriptions are dropped beside a thread that looks.
+const ROUNDS: usize = 5_000;
+
+/// A thread looks this often before it lets others run.
+const LOOKS: u64 = 200;
+
+/// A thread lets others run this often before it gives up.
+const YIELDS: u64 = 1_000_000;
+
+/// Where a subscription is handed to the thread that drops it.
+type Hand = Mutex<Option<Subscription<Note>>>;
+
+#[test]
+fn what_is_dropped_is_closed_once_that_is_told(rt: HostRuntime) -> Result<(), Fail> {
+    assert_eq!(rt; open_when_told(&rt)?, 0);
+    Ok(())
+}
+
+/// Drops subscriptions on another thread, one after another. Returns how many requests were still
+/// open when the mailbox told of the drop.
+fn open_when_told<R>(rt: &R) -> Result<usize, Fail>
+where
+    R: Threads + Wait + AllocGlobal + Clone + Send + Sync + Drop + 'static,
+{
+    let hand: Arc<Hand> = Arc::new(rt.alloc(), Mutex::new(None))?;
+    let (own, other) = (rt.clone()?, Arc::try_clone(&hand)?);
+    let dropping = thread::spawn(rt, move || drop_each(&own, &other))?;
+    let (mailbox, mut ingress) = channel::<u64, Note, R>(
+        rt.clone()?,
+        rt.alloc(),
+        NonZeroUsize::MIN,
+    )?;
+    let mut told = Vec::new(rt.alloc());
+    let mut open = 0usize;
+    for _ in 0..ROUNDS {
+        let subscription = mailbox.subscribe(DIGEST)?;
+        let (_, request) = ingress.take().ok_or("nothing waits")?;
+        *hand.lock(rt) = Some(subscription);
+        if !is_told(&mut ingress, &mut told) {
+            return Err(Fail::from("a drop is not told"));
+        }
+        if !request.is_closed() {
+            open = open.saturating_add(1);
+        }
+    }
+    dropping.join(rt);
+    Ok(open)
+}
+
+/// Looks whether the mailbox tells of a drop, until it does.
+fn is_told<R>(ingress: &mut Ingress<Incoming<u64, Note>, R>, told: &mut Vec<u64>) -> bool {
+    for _ in 0..YIELDS {
+        for _ in 0..LOOKS {
+            if ingress.take_dropped(told) || !told.is_empty() {
+                return true;
+            }
         }
         yield_now();
     }
-    Ok(false)
+    false
 }
 
-/// Starts a thread that drops the subscription.
-fn drop_elsewhere<R: Threads>(
-    rt: &R,
-    subscription: Subscription<Note>,
-) -> Result<JoinHandle<()>, AllocError> {
-    Ok(thread::spawn(rt, move || drop::<_>(subscription))?)
+/// Drops each subscription that is handed over.
+fn drop_each<R: Wait>(rt: &R, hand: &Arc<Hand>) {
+    for _ in 0..ROUNDS {
+        let Some(subscription) = taken_from(rt, hand) else {
+            return;
+        };
+        drop::<_>(subscription);
+    }
+}
+
+/// Returns the subscription that is handed over next.
+fn taken_from<R: Wait>(rt: &R, hand: &Arc<Hand>) -> Option<Subscription<Note>> {
+    for _ in 0..YIELDS {
+        for _ in 0..LOOKS {
+            let subscription = hand.lock(rt).take();
+            if subscription.is_some() {
+                return subscription;
+            }
+        }
+        yield_now();
+    }
+    None
 }

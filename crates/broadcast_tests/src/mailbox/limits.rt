@@ -32,13 +32,13 @@ fn a_wait_ends_with_its_limit_or_its_reply(rt: HostRuntime) -> Result<(), Fail> 
 
 /// Waits for the future no longer than the limit. Returns the digest of the message that it gives,
 /// or the future if it is handed back.
-fn wait(asked: Asked, clock: &impl Clock, limit: Duration) -> Result<Option<u64>, Asked> {
+fn wait<R: Wait + Clock>(asked: Asked, rt: &R, limit: Duration) -> Result<Option<u64>, Asked> {
     match asked {
-        Asked::Subscribe(it) => match it.wait_timeout(clock, limit) {
+        Asked::Subscribe(it) => match it.wait_timeout(rt, limit) {
             Ok(output) => Ok(output.ok().map(|message| message.digest())),
             Err(it) => Err(Asked::Subscribe(it)),
         },
-        Asked::Get(it) => match it.wait_timeout(clock, limit) {
+        Asked::Get(it) => match it.wait_timeout(rt, limit) {
             Ok(output) => Ok(output.map(|message| message.digest())),
             Err(it) => Err(Asked::Get(it)),
         },

@@ -9,6 +9,9 @@ use std::num::NonZeroUsize;
 use std::random::RandomSource;
 use std::sync::Wait;
 use std::test::Fail;
+use std::thread;
+use std::thread::Threads;
+use std::time::{Clock, Duration};
 
 /// Returns the counts after all subscriptions and gets were dropped, and one request was taken.
 fn dropped<R: Wait + AllocGlobal + Clone + Drop>(rt: &R) -> Result<Counts, Fail> {
@@ -70,5 +73,28 @@ where
 #[test]
 fn a_closed_mailbox_answers_nothing(rt: HostRuntime) -> Result<(), Fail> {
     assert_eq!(rt; closed(&rt)?, (2, (true, true, Feedback::Closed)));
+    Ok(())
+}
+
+/// Closes a mailbox while a thread sleeps that waits for its reply. Returns whether the get and the
+/// subscription ended as canceled.
+fn woken<R>(rt: &R) -> Result<(bool, bool), Fail>
+where
+    R: Threads + Wait + Clock + AllocGlobal + Clone + Send + Sync + Drop + 'static,
+{
+    let size = NonZeroUsize::MIN;
+    let (mailbox, ingress) = channel::<u64, Note, R>(rt.clone()?, rt.alloc(), size)?;
+    let (get, subscription) = (mailbox.get(7)?, mailbox.subscribe(7)?);
+    let (own, other) = (rt.clone()?, rt.clone()?);
+    let first = thread::spawn(rt, move || get.wait(&own).is_none())?;
+    let second = thread::spawn(rt, move || subscription.wait(&other).is_err())?;
+    thread::sleep(rt, Duration::from_millis(50));
+    let _given_up = ingress.close();
+    Ok((first.join(rt), second.join(rt)))
+}
+
+#[test]
+fn a_close_wakes_who_waits(rt: HostRuntime) -> Result<(), Fail> {
+    assert_eq!(rt; woken(&rt)?, (true, true));
     Ok(())
 }

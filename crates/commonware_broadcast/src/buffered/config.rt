@@ -1,4 +1,8 @@
 //! The configuration of an engine.
+ghost use Rattle.std.specs.Prelude.{◌≡◌, false};
+ghost use Rattle.std.specs.NonZero.{non_zero_usize_get};
+
+use crate::buffered::strategy::Sequential;
 use std::num::NonZeroUsize;
 
 /// The configuration of an engine.
@@ -14,10 +18,60 @@ pub struct Config<P, MCfg, D, T> {
     pub byte_budget: u64,
     /// Whether messages are sent as priority.
     pub priority: bool,
-    /// What messages may be decoded.
+    /// What messages of peers may be decoded. Those that the node broadcasts may be others.
     pub codec_config: MCfg,
     /// Gives the primary peers.
     pub peer_provider: D,
     /// Digests messages.
     pub strategy: T,
+}
+
+impl<P, MCfg, D> Config<P, MCfg, D, Sequential> {
+    /// Creates a configuration whose ready list has 1,024 places. Of each peer at most 256 digests
+    /// are kept, which are charged at most 64 MiB. Messages are not sent as priority, and are
+    /// digested at once. Each of these is a field to set.
+    pub fn new(public_key: P, codec_config: MCfg, peer_provider: D) -> Self
+        ensures key { result.public_key ≡ public_key }
+        ensures codec { result.codec_config ≡ codec_config }
+        ensures provider { result.peer_provider ≡ peer_provider }
+        ensures mailbox { non_zero_usize_get result.mailbox_size ≡ 1024 }
+        ensures lists { (result.deque_size ≡ 256) × (result.byte_budget ≡ 67108864) }
+        ensures priority { result.priority ≡ false }
+    {
+        Config {
+            public_key,
+            mailbox_size: NonZeroUsize::new(1024).unwrap(),
+            deque_size: 256,
+            byte_budget: 64 * 1024 * 1024,
+            priority: false,
+            codec_config,
+            peer_provider,
+            strategy: Sequential,
+        }
+    }
+
+    /// Digests messages by this strategy.
+    pub fn with_strategy<T>(self, strategy: T) -> Config<P, MCfg, D, T>
+        ensures { result ≡ record {
+          public_key = self.public_key;
+          mailbox_size = self.mailbox_size;
+          deque_size = self.deque_size;
+          byte_budget = self.byte_budget;
+          priority = self.priority;
+          codec_config = self.codec_config;
+          peer_provider = self.peer_provider;
+          strategy = strategy;
+        } }
+    {
+        Config {
+            public_key: self.public_key,
+            mailbox_size: self.mailbox_size,
+            deque_size: self.deque_size,
+            byte_budget: self.byte_budget,
+            priority: self.priority,
+            codec_config: self.codec_config,
+            peer_provider: self.peer_provider,
+            strategy,
+        }
+    }
 }

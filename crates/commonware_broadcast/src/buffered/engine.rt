@@ -2,6 +2,7 @@
 mod apply;
 mod arrival;
 mod broadcast;
+mod closed;
 mod driver;
 mod handler;
 mod laws;
@@ -17,4 +18,5 @@ pub use driver::drive;
 pub use laws::new_engine_law;
 pub use report::Report;
 pub use state::Engine;
-pub use thread::{Ready, StartError, make_ready, run, spawn};
+pub(crate) use thread::spawn;
+pub use thread::{Ready, StartError, make_ready, run};

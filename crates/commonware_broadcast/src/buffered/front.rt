@@ -10,11 +10,10 @@ use crate::buffered::engine::Engine;
 use crate::buffered::strategy::Strategy;
 use broadcast_core::{Codec, Digestible, PublicKey};
 use broadcast_mailbox::buffered::{
-    Account, Books, Incoming, Ingress, Mailbox, Reply, Tally, Watch, WatchedMailbox, channel,
-    watched_channel,
+    Account, Answering, Books, Incoming, Ingress, Mailbox, Reply, Tally, Watch, WatchedMailbox,
+    channel, watched_channel,
 };
 use engine_io::Direct;
-use futures::channel::oneshot;
 use std::alloc::{AllocError, Global};
 use std::num::NonZeroU32;
 use std::sync::ledger::Blank;
@@ -24,7 +23,7 @@ use std::sync::ledger::Blank;
 pub type MailboxEngine<P, M, B, T, R, A = ()> = Engine<
     P,
     M,
-    oneshot::Sender<Reply<M>>,
+    Answering<Reply<M>>,
     Direct,
     B,
     Ingress<Incoming<P, M>, R, A>,
@@ -48,15 +47,7 @@ pub type WatchedNode<P, M, B, T, R, A, K, V> = (
     Tally<A>,
 );
 
-impl<P, M, B, R, T> Engine<
-    P,
-    M,
-    oneshot::Sender<Reply<M>>,
-    Direct,
-    B,
-    Ingress<Incoming<P, M>, R>,
-    T,
->
+impl<P, M, B, R, T> Engine<P, M, Answering<Reply<M>>, Direct, B, Ingress<Incoming<P, M>, R>, T>
 where
     P: PublicKey,
     M: Digestible + Codec,
@@ -85,7 +76,7 @@ where
 impl<P, M, B, R, T, A, K, V> Engine<
     P,
     M,
-    oneshot::Sender<Reply<M>>,
+    Answering<Reply<M>>,
     Direct,
     B,
     Ingress<Incoming<P, M>, R, Books<A, K, V, M::Digest>>,

@@ -1,6 +1,6 @@
-//! What a worker passes before it digests.
+//! The gate that a worker passes before it digests.
 
-/// What each worker of a strategy passes before it digests.
+/// A gate that each worker of a strategy passes before it digests.
 pub trait Gate {
     /// Passes the gate. It may wait until others pass.
     fn pass(&self);

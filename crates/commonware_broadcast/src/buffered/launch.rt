@@ -58,7 +58,7 @@ where
     N: Sender<P> + Send + Drop + 'static,
     V: Receiver<P> + Send + Drop + 'static,
     R: Threads + Wait + RandomSource + AllocGlobal + Clone + Send + Sync + Drop + 'static,
-    W: Observer<P> + Send + Drop + 'static,
+    W: Observer<P, M::Digest> + Send + Drop + 'static,
 {
     let Ok((engine, mailbox)) = new_engine(rt, cfg) else {
         return Err(StartError::Memory);

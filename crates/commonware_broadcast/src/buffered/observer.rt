@@ -1,23 +1,33 @@
-//! What sees the turns of a started engine.
+//! Observers of the turns of a started engine.
+ghost use Rattle.std.specs.Prelude.{⊤, List, [], ◌∷◌, ◌++◌};
+ghost use Rattle.engine_io.specs.declared.input.Turn.{Turn};
+
 pub mod lines;
 pub mod recent;
 
 use engine_io::Turn;
 
 /// Sees the turns of a started engine, in the thread of the engine.
-pub trait Observer<P> {
+pub trait Observer<P, D> {
+    /// Whether these may be the turns that it was handed, oldest first. By default any may be.
+    ghost seen: { Self → List (Turn P D) → Type 0 } = { λ _ _. ⊤ };
+
     /// Is handed each turn of the engine, in order. The last one is its end.
-    fn turn(&mut self, turn: &Turn<P>);
+    fn turn(&mut self, turn: &Turn<P, D>)
+        ensures { (turns : List (Turn P D)) → seen self.old turns
+            → seen self.new (turns ++ turn.now ∷ []) };
 }
 
 /// Sees nothing.
-impl<P> Observer<P> for () {
-    fn turn(&mut self, _turn: &Turn<P>) {}
+impl<P, D> Observer<P, D> for () {
+    fn turn(&mut self, _turn: &Turn<P, D>) {}
 }
 
 /// Lets both see each turn.
-impl<P, A: Observer<P>, B: Observer<P>> Observer<P> for (A, B) {
-    fn turn(&mut self, turn: &Turn<P>) {
+impl<P, D, A: Observer<P, D>, B: Observer<P, D>> Observer<P, D> for (A, B) {
+    ghost seen = { λ both turns. A.seen both.0 turns × B.seen both.1 turns };
+
+    fn turn(&mut self, turn: &Turn<P, D>) {
         self.0.turn(turn);
         self.1.turn(turn);
     }

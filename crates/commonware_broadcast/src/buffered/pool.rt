@@ -2,7 +2,7 @@
 ghost use Rattle.std.specs.Prelude.{◌≡◌, IfOk, IfSome};
 ghost use Rattle.std.specs.Arc.{arc_value};
 ghost use Rattle.futures.specs.Poll.{OnPending};
-ghost use Rattle.futures.specs.Task.{IsArmed, Keeps};
+ghost use Rattle.futures.specs.Task.{Hears, IsArmed, Keeps};
 
 use crate::buffered::worker::Work;
 use broadcast_core::{Digest, Digestible, TestMessage};
@@ -16,8 +16,8 @@ use std::sync::atomic::Ordering::SeqCst;
 use std::sync::{Arc, Mutex, Wait};
 use std::thread::{self, Parker, Threads};
 
-/// How often a thread looks for what another leaves before it sleeps, or its task is to be woken:
-/// for some microseconds, since a short message is digested sooner than a thread is woken.
+/// How often the thread of a pool looks for a task before it sleeps: for some microseconds, since
+/// the next one is given sooner than a thread is woken.
 const LOOKS: u32 = 100;
 
 /// The word of a place in which something was left.
@@ -37,37 +37,43 @@ impl<M: Digestible> Fits for Answer<M> {
 }
 
 /// Where a message is left with its own digest, and who waits for it. In a contract it is that
-/// message.
+/// message, with the source that fires once it is left.
 #[derive(Drop)]
 struct Slot<M: Digestible> {
     answer: Counted<Option<Answer<M>>>,
     // Fires once the message is left.
     digested: Source,
     waker: Mutex<Option<Waker>>,
+    // Who waits without a task sleeps here, until the message is left.
+    left: Parker,
 }
 
 impl<M: Digestible> Model for Slot<M> {
-    ghost Value = { M };
+    ghost use Rattle.commonware_broadcast.specs.Workers.{Pooling};
 
-    ghost view = { λ it. it.answer };
+    ghost Value = { Pooling M };
+
+    ghost view = { λ it. record { message = it.answer; source = it.digested.id } };
 }
 
 impl<M: Digestible> Slot<M> {
     /// Creates the slot of the message, which is not left there yet.
     fn new(message: &M) -> Self
-        ensures { result ≡ message.now }
+        ensures { result.message ≡ message.now }
     {
         Slot {
             answer: Counted::new(None, message),
             digested: Source::new(),
             waker: Mutex::new(None),
+            left: Parker::new(),
         }
     }
 
     /// Leaves the message of the slot there, and wakes who waits for it. If it was left before, it
     /// is dropped.
     fn leave(&self, rt: &impl Wait, answer: Answer<M>)
-        requires { (answer.message ≡ self.now) × (answer.digest ≡ M.digest_of self.now) }
+        requires { (answer.message ≡ self.now.message)
+            × (answer.digest ≡ M.digest_of self.now.message) }
     {
         let (found, claim) = self.answer.turn(0, TAKEN);
         if found == 0 {
@@ -78,12 +84,13 @@ impl<M: Digestible> Slot<M> {
         }
         let woken = self.waker.lock(rt).take();
         drop(woken);
+        self.left.unpark();
     }
 
     /// Takes the message of the slot, if it was left there.
     fn take(&self) -> Option<Answer<M>>
         ensures { IfSome result (λ it.
-            (it.message ≡ self.now) × (it.digest ≡ M.digest_of self.now)) }
+            (it.message ≡ self.now.message) × (it.digest ≡ M.digest_of self.now.message)) }
     {
         let (found, claim) = self.answer.turn(FILLED, FILLED + TAKEN);
         if found == FILLED {
@@ -100,14 +107,12 @@ impl<M: Digestible> Slot<M> {
 
     /// Returns whether the message was left. If not, the task is woken once it is.
     fn poll(&self, cx: &mut Context<'_>) -> Poll<()>
+        ensures heard { OnPending result (Hears cx.new self.now.source) }
         ensures armed { OnPending result (IsArmed cx.new) }
         ensures kept { Keeps cx.old cx.new }
     {
-        for _ in 0..LOOKS {
-            if self.is_digested() {
-                return Poll::Ready(());
-            }
-            spin_loop();
+        if self.is_digested() {
+            return Poll::Ready(());
         }
         let Some(mut waker) = self.waker.try_lock() else {
             return cx.yield_now();
@@ -126,7 +131,7 @@ impl<M: Digestible> Slot<M> {
 struct Task<M: Digestible> {
     message: M,
     slot: Arc<Slot<M>>,
-    ghost own: { arc_value slot ≡ message },
+    ghost own: { (arc_value slot).message ≡ message },
 }
 
 impl<M: Digestible> Fits for Task<M> {
@@ -144,7 +149,7 @@ impl<M: Digestible> Task<M> {
     }
 }
 
-/// What a pool and its thread tell each other.
+/// The state that a pool and its thread share.
 #[derive(Drop)]
 struct Signals {
     closed: AtomicBool,
@@ -268,7 +273,7 @@ where
 impl<M: Digestible, R: Wait + Drop> Pool<M, R> {
     /// Gives the message to the thread. While another one waits there, it is digested at once.
     pub fn digest(&self, alloc: Global, message: M) -> Result<Pooled<M>, AllocError>
-        ensures { IfOk result (λ job. job ≡ message) }
+        ensures { IfOk result (λ job. job.message ≡ message) }
     {
         let slot = Arc::new(alloc, Slot::new(&message))?;
         let task = Task {
@@ -282,7 +287,8 @@ impl<M: Digestible, R: Wait + Drop> Pool<M, R> {
     }
 }
 
-/// A message that a pool digests. In a contract it is that message.
+/// A message that a pool digests. In a contract it is that message, with the source that fires once
+/// it has.
 #[derive(Drop)]
 pub struct Pooled<M: Digestible> {
     slot: Arc<Slot<M>>,
@@ -290,8 +296,9 @@ pub struct Pooled<M: Digestible> {
 
 impl<M: Digestible> Model for Pooled<M> {
     ghost use Rattle.std.specs.Arc.{arc_value};
+    ghost use Rattle.commonware_broadcast.specs.Workers.{Pooling};
 
-    ghost Value = { M };
+    ghost Value = { Pooling M };
 
     ghost view = { λ it. arc_value it.slot };
 }
@@ -300,6 +307,7 @@ impl<M: Digestible> Pooled<M> {
     /// Returns whether the message is digested. If not, the task is woken once it is.
     pub fn poll(&mut self, cx: &mut Context<'_>) -> Poll<()>
         ensures stays { self.new ≡ self.old }
+        ensures heard { OnPending result (Hears cx.new self.new.source) }
         ensures armed { OnPending result (IsArmed cx.new) }
         ensures kept { Keeps cx.old cx.new }
     {
@@ -308,13 +316,13 @@ impl<M: Digestible> Pooled<M> {
 
     /// Waits until the message is digested. Returns it with its own digest.
     pub fn join<R: Wait>(self, rt: &R) -> (M, M::Digest)
-        ensures { (result.0 ≡ self) × (result.1 ≡ M.digest_of self) }
+        ensures { (result.0 ≡ self.message) × (result.1 ≡ M.digest_of self.message) }
     {
         for _ in rt.forever() {
             if let Some(Answer { message, digest }) = self.slot.take() {
                 return (message, digest);
             }
-            thread::yield_now();
+            self.slot.left.park(rt);
         }
         unreachable!()
     }
@@ -323,7 +331,9 @@ impl<M: Digestible> Pooled<M> {
 impl<R: Threads + Wait + Drop> Work<Pool<TestMessage, R>, R> for TestMessage {
     type Worker = Pooled<TestMessage>;
 
-    ghost is_of = { λ worker message. worker ≡ message };
+    ghost is_of = { λ worker message. worker.message ≡ message };
+
+    ghost needs = { λ worker source. source ≡ worker.source };
 
     fn start(
         self,
@@ -331,7 +341,7 @@ impl<R: Threads + Wait + Drop> Work<Pool<TestMessage, R>, R> for TestMessage {
         alloc: Global,
         pool: Arc<Pool<TestMessage, R>>,
     ) -> Result<Pooled<TestMessage>, AllocError>
-        ensures { IfOk result (λ worker. worker ≡ self) }
+        ensures { IfOk result (λ worker. worker.message ≡ self) }
     {
         pool.digest(alloc, self)
     }

@@ -1,8 +1,9 @@
 //! A node whose clients' requests are counted, from its start to the settlement.
-ghost use Rattle.std.specs.Prelude.{◌≡◌, length, IfOk};
+ghost use Rattle.std.specs.Prelude.{◌≡◌, ℕ, Bool, true, length, IfOk};
 ghost use Rattle.std.specs.NonZero.{non_zero_u32_get};
+ghost use Rattle.broadcast_mailbox.specs.Account.{TallyState};
 ghost use Rattle.broadcast_mailbox.specs.Watch.{BroadcastsOnly};
-ghost use Rattle.commonware_broadcast.specs.Sessions.{AddsUp};
+ghost use Rattle.commonware_broadcast.specs.Sessions.{Accepts, AddsUp};
 
 mod client;
 mod node;
@@ -10,11 +11,12 @@ mod threads;
 
 use crate::buffered::config::Config;
 use crate::buffered::engine::StartError;
+use crate::buffered::observer::Observer;
 use crate::buffered::strategy::Strategy;
 use broadcast_core::{Codec, Digestible, PublicKey};
 use broadcast_mailbox::buffered::{Account, Settled, Watch};
 pub use client::{Client, WatchedClient};
-use engine_io::{EndCause, Provider, Receiver, Sender};
+use engine_io::{EndCause, Metrics, Provider, Receiver, Sender};
 use node::run_with;
 use std::alloc::AllocGlobal;
 use std::marker::Brand;
@@ -24,13 +26,23 @@ use std::sync::Wait;
 use std::sync::ledger::Blank;
 use std::thread::Threads;
 
-/// What the clients of a node do, whose requests are counted.
+/// The output of a client of a session.
+pub trait Leaves {
+    /// Whether a client that counted this number of requests may leave it. By default it may.
+    ghost leaves: { Self → ℕ → Bool } = { λ _ _. true };
+}
+
+impl Leaves for () {}
+
+impl<T, E> Leaves for Result<T, E> {}
+
+/// The work of a node's clients, whose requests are counted.
 pub trait Session<P: PublicKey, M: Digestible, R: Wait> {
     /// Which of the clients' requests are counted.
     type Watch: Watch<M::Digest>;
 
     /// What a client leaves.
-    type Output: Drop;
+    type Output: Leaves + Drop;
 
     /// Does what the client of this number does. The clients have the numbers from 0, and each of
     /// them has a thread of its own.
@@ -38,12 +50,13 @@ pub trait Session<P: PublicKey, M: Digestible, R: Wait> {
         &self,
         number: u32,
         client: &mut WatchedClient<P, M, R, A, K, Self::Watch>,
-    ) -> Self::Output;
+    ) -> Self::Output
+        ensures { Self.Output.leaves result client.new.accepted ≡ true };
 }
 
-/// What a session leaves.
+/// The result of a session.
 #[derive(Debug, Drop)]
-pub struct Finished<O> {
+pub struct Finished<O, P: PublicKey, W = ()> {
     /// What the clients left, in the order of their numbers.
     pub outputs: Vec<O>,
     /// Why the engine ended.
@@ -52,21 +65,26 @@ pub struct Finished<O> {
     pub accepted: u64,
     /// What became of them.
     pub settled: Settled,
+    /// The counters of the engine.
+    pub metrics: Metrics<P>,
+    /// The observer, which was handed every turn.
+    pub observer: W,
 }
 
 /// Runs the session with a new engine, whose network this is, and with this many clients. The first
 /// client runs on the calling thread. The engine is asked to stop once all clients have returned,
-/// or before, by one of them.
+/// or before, by one of them. The observer is handed its turns; `()` sees nothing.
 ///
 /// Fails if something can't be allocated, or a thread can't be started. Then the clients that run
 /// find the mailbox closed, and all threads are joined.
-pub fn run_session<P, S, M, B, T, N, V, R>(
+pub fn run_session<P, S, M, B, T, N, V, R, W>(
     rt: &R,
     cfg: Config<P, M::Cfg, B, T>,
     network: (N, V),
     clients: NonZeroU32,
     session: S,
-) -> Result<Finished<S::Output>, StartError>
+    observer: W,
+) -> Result<Finished<S::Output, P, W>, StartError>
 where
     P: PublicKey + Send + 'static,
     S: Session<P, M, R> + Send + Sync + Drop + 'static,
@@ -81,6 +99,9 @@ where
     N: Sender<P> + Send + Drop + 'static,
     V: Receiver<P> + Send + Drop + 'static,
     R: Threads + Wait + RandomSource + AllocGlobal + Clone + Send + Sync + Drop + 'static,
+    W: Observer<P, M::Digest> + Send + Drop + 'static,
+    ensures accepted { IfOk result (λ finished.
+        Accepts S.Output.leaves finished.outputs.items finished.accepted) }
     ensures settled { IfOk result (λ finished. AddsUp finished.accepted finished.settled) }
     ensures broadcasts { IfOk result (λ finished.
         BroadcastsOnly S.Watch.watched → finished.settled.skipped ≡ 0) }
@@ -89,7 +110,7 @@ where
 {
     let accepted = Blank::new(clients.get() as u64);
     let taken = Blank::new(1);
-    run_with::<P, S, M, B, T, N, V, R, Brand, Brand>(
-        rt, cfg, network, clients, session, accepted, taken,
+    run_with::<P, S, M, B, T, N, V, R, W, Brand, Brand>(
+        rt, cfg, network, clients, session, observer, accepted, taken,
     )
 }

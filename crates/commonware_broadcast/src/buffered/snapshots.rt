@@ -4,10 +4,10 @@ ghost use Rattle.std.specs.Ordering.{eq_by_cmp};
 ghost use Rattle.futures.specs.Task.{IsArmed, Keeps};
 ghost use Rattle.engine_io.specs.Counters.{IsCopy};
 
+use crate::buffered::asleep::block_on_asleep;
 use broadcast_core::PublicKey;
 use engine_io::Metrics;
 use futures::channel::oneshot::{self, Canceled, Sender};
-use futures::executor::block_on;
 use futures::task::{Context, Poll, Source, Waker};
 use std::alloc::{AllocError, AllocGlobal, Global};
 use std::mem;
@@ -78,12 +78,14 @@ impl<P: PublicKey> Asking<P> {
 
 /// Where callers ask for the counters of a running engine.
 ///
-/// The thread of the engine has a task of its own for them, so they cost its polls nothing.
+/// The task of the engine looks at a flag before its polls, and is woken once somebody asks.
 #[derive(Drop)]
 pub struct Snapshots<P: PublicKey> {
     // Fires once somebody asks.
     asked: Source,
     asking: Mutex<Asking<P>>,
+    // Whether somebody asked since the callers were last taken.
+    is_asked: AtomicBool,
     has_ended: AtomicBool,
 }
 
@@ -93,6 +95,7 @@ impl<P: PublicKey> Snapshots<P> {
         Snapshots {
             asked: Source::new(),
             asking: Mutex::new(Asking::new(alloc)),
+            is_asked: AtomicBool::new(false),
             has_ended: AtomicBool::new(false),
         }
     }
@@ -111,7 +114,7 @@ impl<P: PublicKey> Snapshots<P> {
             return Err(MetricsError::Memory);
         };
         self.put(rt, sender)?;
-        match block_on(rt, receiver) {
+        match block_on_asleep(rt, receiver) {
             Ok(Ok(Ok(metrics))) => Ok(metrics),
             Ok(Err(Canceled)) => Err(MetricsError::Ended),
             Ok(Ok(Err(AllocError))) | Err(_) => Err(MetricsError::Memory),
@@ -128,9 +131,30 @@ impl<P: PublicKey> Snapshots<P> {
         let Ok(woken) = asking.add(caller) else {
             return Err(MetricsError::Memory);
         };
+        self.is_asked.store(true, Ordering::SeqCst);
         drop(asking);
         drop(woken);
         Ok(())
+    }
+
+    /// Lets the thread of the engine look for callers, and register, at its next poll.
+    pub(crate) fn look_again(&self) {
+        self.is_asked.store(true, Ordering::SeqCst);
+    }
+
+    /// Hands a copy of the counters to all who asked, if somebody did since the last time.
+    pub(crate) fn answer_asked(
+        &self,
+        rt: &impl Wait,
+        alloc: Global,
+        metrics: &Metrics<P>,
+        cx: &mut Context<'_>,
+    )
+        ensures { Keeps cx.old cx.new }
+    {
+        if self.is_asked.load(Ordering::SeqCst) {
+            self.answer(rt, alloc, metrics, cx);
+        }
     }
 
     /// Hands a copy of the counters to all who ask for them. The thread is woken once another one
@@ -145,6 +169,7 @@ impl<P: PublicKey> Snapshots<P> {
         ensures armed { IsArmed cx.new }
         ensures kept { Keeps cx.old cx.new }
     {
+        self.is_asked.store(false, Ordering::SeqCst);
         let callers = self.asking.lock(rt).take(alloc, &self.asked, cx);
         for caller in callers {
             let _is_sent = caller.send(copy_of(metrics));

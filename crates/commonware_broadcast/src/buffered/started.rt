@@ -7,9 +7,8 @@ use crate::buffered::strategy::Strategy;
 use crate::buffered::threaded::Threaded;
 use crate::buffered::worker::Work;
 use broadcast_core::{Codec, Digestible, PublicKey};
-use broadcast_mailbox::buffered::{Bookkeeping, Incoming, Ingress, Reply, Stopper};
+use broadcast_mailbox::buffered::{Answering, Bookkeeping, Incoming, Ingress, Reply, Stopper};
 use engine_io::{Direct, Metrics, Provider, Receiver, Sender};
-use futures::channel::oneshot;
 use std::alloc::{AllocError, AllocGlobal};
 use std::random::RandomSource;
 use std::sync::{Arc, Wait};
@@ -22,10 +21,10 @@ pub struct Handle<P: PublicKey, M: Digestible, R: Wait, A: Bookkeeping = (), W =
     thread: JoinHandle<MailboxReport<P, M, R, A, W>>,
 }
 
-/// What a started engine of a mailbox leaves.
+/// The report of a started engine that has a mailbox.
 pub type MailboxReport<P, M, R, A = (), W = ()> = Report<P, Ingress<Incoming<P, M>, R, A>, W>;
 
-/// What a handle reaches its engine by.
+/// The channel from a handle to its engine: it requests a stop, and asks for the counters.
 #[derive(Drop)]
 struct Control<P: PublicKey, M: Digestible, R, A: Bookkeeping> {
     stopper: Stopper<Incoming<P, M>, R, A>,
@@ -71,7 +70,7 @@ where
     }
 
     /// Returns a copy of the counters that the engine has now. Waits for its thread, but not for
-    /// any input, and does not let it poll.
+    /// any input. The engine may be polled once after it.
     pub fn metrics(&self, rt: &R) -> Result<Metrics<P>, MetricsError>
     where
         R: RandomSource + AllocGlobal,
@@ -151,7 +150,7 @@ where
         T::Job: Send + 'static,
         N: Sender<P> + Send + Drop + 'static,
         V: Receiver<P> + Send + Drop + 'static,
-        W: Observer<P> + Send + Drop + 'static,
+        W: Observer<P, M::Digest> + Send + Drop + 'static,
     {
         match self.prepare_observed(rt, network, observer) {
             Ok(Prepared { ready, control }) => {
@@ -174,7 +173,7 @@ pub struct Prepared<P: PublicKey, M: Digestible, B, C, T, N, V, R, A: Bookkeepin
 type ReadyEngine<P, M, B, C, T, N, V, R, A, W> = Ready<
     P,
     M,
-    oneshot::Sender<Reply<M>>,
+    Answering<Reply<M>>,
     Direct,
     B,
     Ingress<Incoming<P, M>, R, A>,
@@ -222,7 +221,7 @@ where
     where
         N: Sender<P> + Drop,
         V: Receiver<P> + Drop,
-        W: Observer<P> + Drop,
+        W: Observer<P, M::Digest> + Drop,
     {
         match Control::new(rt, self.requests()) {
             Ok((control, snapshots)) => {
@@ -257,7 +256,7 @@ where
     R: Threads + Wait + RandomSource + AllocGlobal + Clone + Send + Sync + Drop + 'static,
     A: Bookkeeping + Send + 'static,
     A::Taker: Send + 'static,
-    W: Observer<P> + Send + Drop + 'static,
+    W: Observer<P, M::Digest> + Send + Drop + 'static,
 {
     /// Starts the engine in a thread of its own, which starts those that digest its messages. Jobs
     /// of [`Threaded`] may not move to another thread, so `Engine::start` is not for them.

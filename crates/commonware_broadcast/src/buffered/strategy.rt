@@ -1,5 +1,7 @@
-//! How messages are digested.
-ghost use Rattle.std.specs.Prelude.{◌≡◌, ℕ, IfOk};
+//! Strategies that digest messages.
+ghost use Rattle.std.specs.Prelude.{◌≡◌, ℕ, Some, IfOk};
+ghost use Rattle.futures.specs.declared.task.Poll.TheVariants.{Ready};
+ghost use Rattle.commonware_broadcast.specs.Jobs.{HoldsDigested};
 ghost use Rattle.futures.specs.Poll.{IfReady, OnPending};
 ghost use Rattle.futures.specs.Task.{IsArmed, Keeps};
 ghost use Rattle.engine_io.specs.Heard.{HearsAll};
@@ -49,7 +51,11 @@ pub struct Done<M: Digestible> {
 impl<M: Digestible> Strategy<M> for Sequential {
     type Job = Done<M>;
 
-    fn start(&self, message: M) -> Result<Done<M>, AllocError> {
+    fn start(&self, message: M) -> Result<Done<M>, AllocError>
+        ensures of_message { IfOk result (λ job. HoldsDigested M.digest_of message job.message) }
+        ensures at_once { IfOk result (λ job.
+            job.message ≡ Some (message, M.digest_of message)) }
+    {
         let digest = message.digest();
         Ok(Done {
             message: Some((message, digest)),
@@ -63,7 +69,16 @@ impl<M: Digestible> Job<M> for Done<M> {
     ghost is_of = { λ job m. HoldsDigested M.digest_of m job.message };
 
     /// Returns the message. Later polls are pending.
-    fn poll(&mut self, cx: &mut Context<'_>) -> Poll<(M, M::Digest)> {
+    fn poll(&mut self, cx: &mut Context<'_>) -> Poll<(M, M::Digest)>
+        ensures stays { (m : M) → HoldsDigested M.digest_of m self.old.message
+            → HoldsDigested M.digest_of m self.new.message }
+        ensures digested { (m : M) → HoldsDigested M.digest_of m self.old.message
+            → IfReady result (λ out. (out.0 ≡ m) × (out.1 ≡ M.digest_of m)) }
+        ensures at_once { (out : M × M.Digest) → self.old.message ≡ Some out
+            → result ≡ Ready out }
+        ensures armed { OnPending result (IsArmed cx.new) }
+        ensures kept { Keeps cx.old cx.new }
+    {
         match self.message.take() {
             Some(message) => Poll::Ready(message),
             None => cx.yield_now(),

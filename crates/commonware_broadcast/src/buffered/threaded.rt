@@ -63,9 +63,11 @@ impl<M: Work<G, R>, G, R: Clone + Drop> Strategy<M> for Threaded<G, R> {
 }
 
 impl<M: Work<G, R>, G, R: Drop> Job<M> for Working<M, G, R> {
-    ghost use Rattle.commonware_broadcast.specs.Workers.{MayBeOf};
+    ghost use Rattle.commonware_broadcast.specs.Workers.{MayBeOf, MayWaitFor};
 
     ghost is_of = { λ job message. MayBeOf M.is_of job.worker message };
+
+    ghost needs = { λ job source. MayWaitFor M.needs job.worker source };
 
     /// Joins the worker once it is done, and returns its message. Later polls are pending.
     fn poll(&mut self, cx: &mut Context<'_>) -> Poll<(M, M::Digest)> {

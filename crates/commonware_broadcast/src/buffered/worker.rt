@@ -1,8 +1,9 @@
 //! Threads that digest one message each.
-ghost use Rattle.std.specs.Prelude.{◌≡◌, IfOk};
+ghost use Rattle.std.specs.Prelude.{◌≡◌, ℕ, IfOk};
 ghost use Rattle.futures.specs.Poll.{OnPending};
 ghost use Rattle.futures.specs.Task.{IsArmed, Keeps};
-ghost use Rattle.commonware_broadcast.specs.Workers.{IsWorkerOf};
+ghost use Rattle.engine_io.specs.Heard.{HearsAll};
+ghost use Rattle.commonware_broadcast.specs.Workers.{IsWorkerOf, WaitsFor};
 
 use crate::buffered::gate::{Gate, Open};
 use broadcast_core::{Digest, Digestible, TestMessage};
@@ -74,6 +75,7 @@ impl<M: Digestible> Worker<M> {
     pub fn poll(&mut self, cx: &mut Context<'_>) -> Poll<()>
         ensures stays { (message : M) → IsWorkerOf M.digest_of self.old message
             → IsWorkerOf M.digest_of self.new message }
+        ensures heard { OnPending result (HearsAll cx.new (WaitsFor self.new)) }
         ensures armed { OnPending result (IsArmed cx.new) }
         ensures kept { Keeps cx.old cx.new }
     {
@@ -121,6 +123,9 @@ pub trait Work<G, R>: Digestible {
     /// Whether this may be the message of the worker.
     ghost is_of: { Self.Worker → Self → Type 0 };
 
+    /// Holds of each source that wakes who waits for the worker.
+    ghost needs: { Self.Worker → ℕ → Type 0 };
+
     /// Starts to digest the message once the gate is passed.
     fn start(self, rt: &R, alloc: Global, gate: Arc<G>) -> Result<Self::Worker, AllocError>
         ensures { IfOk result (λ worker. is_of worker self) };
@@ -128,6 +133,7 @@ pub trait Work<G, R>: Digestible {
     /// Returns whether the message is digested. If not, the task is woken once it is.
     fn poll(worker: &mut Self::Worker, cx: &mut Context<'_>) -> Poll<()>
         ensures stays { (message : Self) → is_of worker.old message → is_of worker.new message }
+        ensures heard { OnPending result (HearsAll cx.new (needs worker.new)) }
         ensures armed { OnPending result (IsArmed cx.new) }
         ensures kept { Keeps cx.old cx.new };
 
@@ -141,6 +147,8 @@ impl<R: Threads> Work<Open, R> for TestMessage {
     type Worker = Worker<TestMessage>;
 
     ghost is_of = { IsWorkerOf Self.digest_of };
+
+    ghost needs = { WaitsFor };
 
     fn start(
         self,

@@ -79,6 +79,11 @@ impl<T: Awaits> Requests<T> for ScriptedRequests<T> {
         self.script.poll(cx)
     }
 
+    fn end(&mut self, _refused: bool)
+        ensures tells { (requests : List (Asked T)) → HasGiven given self.old.script requests
+            → HasGiven given self.new.script requests }
+    {}
+
     /// Records that the requests are closed.
     fn close(&mut self)
         ensures closes { self.new.closed ≡ true }

@@ -4,9 +4,10 @@ use crate::patient::{LIMIT, pause};
 use broadcast_core::{Digest, Recipients, TestMessage};
 use broadcast_mailbox::MailboxError;
 use commonware_broadcast::buffered::{
-    Account, All, Broadcasts, EndCause, Finished, Kind, Sequential, Session, Watch, WatchedClient,
-    run_session,
+    Account, All, Broadcasts, EndCause, Finished, Kind, Leaves, Sequential, Session, Watch,
+    WatchedClient, run_session,
 };
+use memory_node::support::message::{digest, digested};
 use std::alloc::{AllocGlobal, Global};
 use std::marker::PhantomData;
 use std::num::NonZeroU32;
@@ -15,7 +16,6 @@ use std::sync::Wait;
 use std::test::Fail;
 use std::thread::Threads;
 use std::time::Clock;
-use test_support::message::{digest, digested};
 
 /// How many clients make requests. The next one stops the engine.
 const ASKING: u32 = 4;
@@ -53,8 +53,21 @@ struct Asking<R, V> {
 /// How many of its broadcasts a client was told are accepted.
 pub type Told = Result<u64, MailboxError>;
 
-/// What a client leaves: its number, and what it was told.
-type Left = (u32, Told);
+/// What a client leaves.
+#[derive(Drop)]
+struct Left {
+    number: u32,
+    told: Told,
+    /// How many of its requests were counted.
+    counted: u64,
+}
+
+impl Leaves for Left {
+    ghost use Rattle.std.specs.Prelude.{◌==◌};
+    ghost use Rattle.broadcast_mailbox.specs.Account.{capped};
+
+    ghost leaves = { λ left number. left.counted == capped number };
+}
 
 impl<R, V> Session<u64, TestMessage, R> for Asking<R, V>
 where
@@ -70,10 +83,15 @@ where
         number: u32,
         client: &mut WatchedClient<u64, TestMessage, R, A, K, V>,
     ) -> Left {
-        if number < ASKING {
-            (number, ask_often(self.rt.alloc(), client))
+        let told = if number < ASKING {
+            ask_often(self.rt.alloc(), client)
         } else {
-            (number, ask_and_stop(&self.rt, client))
+            ask_and_stop(&self.rt, client)
+        };
+        Left {
+            number,
+            told,
+            counted: client.accepted(),
         }
     }
 }
@@ -157,7 +175,7 @@ where
 
 /// Runs a session. Returns how many broadcasts its clients were told are accepted, and what else it
 /// leaves.
-fn run<V, R>(rt: &R) -> Result<(u64, Finished<Left>), Fail>
+fn run<V, R>(rt: &R) -> Result<(u64, Finished<Left, u64>), Fail>
 where
     V: Watch<Digest> + Send + Sync + 'static,
     R: Threads + Wait + Clock + RandomSource + AllocGlobal + Clone + Send + Sync + Drop + 'static,
@@ -169,24 +187,40 @@ where
     let sets = Sets::new(rt.alloc(), Gives::Nothing)?;
     let wire = Wire::new(rt.alloc(), Gives::Nothing)?;
     let clients = NonZeroU32::new(ASKING + 1).unwrap();
-    let finished = run_session(rt, config(sets, Sequential), (Void, wire), clients, session)?;
+    let finished = run_session(
+        rt,
+        config(sets, Sequential),
+        (Void, wire),
+        clients,
+        session,
+        (),
+    )?;
     Ok((told_by_all(&finished)?, finished))
 }
 
 /// Returns how many broadcasts all clients were told are accepted.
-fn told_by_all(finished: &Finished<Left>) -> Told {
+fn told_by_all(finished: &Finished<Left, u64>) -> Told {
     let mut all = 0u64;
-    for (_, told) in &finished.outputs {
-        all = all.saturating_add((*told)?);
+    for left in &finished.outputs {
+        all = all.saturating_add(left.told?);
     }
     Ok(all)
+}
+
+/// Returns how many requests of all clients were counted.
+fn counted_by_all(finished: &Finished<Left, u64>) -> u64 {
+    let mut all = 0u64;
+    for left in &finished.outputs {
+        all = all.saturating_add(left.counted);
+    }
+    all
 }
 
 /// Returns whether the clients had the numbers from 0, and left their outputs in this order.
 fn are_in_order(outputs: &[Left]) -> bool {
     let mut next = 0u32;
-    for (number, _) in outputs {
-        if *number != next {
+    for left in outputs {
+        if left.number != next {
             return false;
         }
         next = next.saturating_add(1);
@@ -196,7 +230,7 @@ fn are_in_order(outputs: &[Left]) -> bool {
 
 /// Returns whether a session ended by the stop, and as many requests were counted as were applied,
 /// refused, skipped or given up, but not none.
-fn adds_up(finished: &Finished<Left>) -> bool {
+fn adds_up(finished: &Finished<Left, u64>) -> bool {
     let it = finished.settled;
     let ends = [it.applied, it.refused, it.skipped, it.given_up];
     let mut sum = 0u64;
@@ -210,6 +244,7 @@ fn adds_up(finished: &Finished<Left>) -> bool {
 fn all_requests_of_four_threads_are_accounted_for(rt: HostRuntime) -> Result<(), Fail> {
     let (told, finished) = run::<All, HostRuntime>(&rt)?;
     assert!(rt; adds_up(&finished) && are_in_order(&finished.outputs));
+    assert_eq!(rt; finished.accepted, counted_by_all(&finished));
     // The client that stops the engine also makes a subscribe and two gets, and waits for the last.
     assert!(rt; finished.accepted >= told.saturating_add(3));
     // Its broadcast and its last get are applied; a request without a caller may be skipped.

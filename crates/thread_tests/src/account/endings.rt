@@ -2,15 +2,18 @@
 ghost use Rattle.std.specs.Prelude.{◌≡◌, ◌<◌, ◌^◌};
 ghost use Rattle.std.specs.NonZero.{non_zero_u32_get};
 
-use super::quiet::{Gives, Sets, Void, Wire, config};
+use super::ending_rows::{Ending, Row, rows};
+use super::quiet::{Sets, Void, Wire, config};
+use crate::mute::Mute;
 use broadcast_core::{Codec, Digested, Digestible, Recipients};
-use broadcast_mailbox::MailboxError;
+use broadcast_mailbox::{Feedback, MailboxError};
 use commonware_broadcast::buffered::{
-    Account, All, Books, Config, EndCause, Engine, Get, MailboxReport, Settled, Status, Strategy,
-    Tally, WatchedEngine, WatchedMailbox, WatchedNode, drive,
+    Account, All, Books, Config, Engine, Get, MailboxReport, Settled, Status, Strategy,
+    Subscription, Tally, WatchedEngine, WatchedMailbox, WatchedNode, drive,
 };
 use commonware_broadcast::mocks::Slow;
 use futures::task::{Doorbell, Poll, Solo};
+use memory_node::support::message::digested;
 use std::alloc::AllocGlobal;
 use std::marker::Brand;
 use std::num::NonZeroU32;
@@ -19,111 +22,9 @@ use std::sync::Wait;
 use std::sync::ledger::Blank;
 use std::test::Fail;
 use std::thread::Threads;
-use test_support::message::digested;
 
 /// The network of an engine.
 type Network = (Void, Wire);
-
-/// What an engine does before its account is settled, and what must come of it.
-struct Row {
-    name: &'static str,
-    gives: Gives,
-    /// How often it is polled before its start.
-    polls: usize,
-    /// Whether it is asked to stop after its start.
-    stops: bool,
-    /// Whether the account is first settled with a part of the tally alone.
-    lacks_part: bool,
-    ending: Ending,
-}
-
-/// Why an engine ended, how many payloads it took, and what became of the requests.
-#[derive(Clone, Copy, Debug, PartialEq, Eq)]
-struct Ending {
-    cause: EndCause,
-    taken: u64,
-    settled: Settled,
-}
-
-/// The account if the get and the broadcast were applied.
-const APPLIED: Settled = Settled {
-    applied: 2,
-    refused: 0,
-    skipped: 1,
-    given_up: 0,
-};
-
-static ROWS: [Row; 5] = [
-    Row {
-        name: "a stop with no request left",
-        gives: Gives::Nothing,
-        polls: 2,
-        stops: true,
-        lacks_part: false,
-        ending: Ending {
-            cause: EndCause::Stopped,
-            taken: 0,
-            settled: APPLIED,
-        },
-    },
-    Row {
-        name: "the end of the peer sets with a request left",
-        gives: Gives::EndOfSets,
-        polls: 1,
-        stops: false,
-        lacks_part: false,
-        ending: Ending {
-            cause: EndCause::PeersClosed,
-            taken: 0,
-            settled: Settled {
-                applied: 1,
-                refused: 0,
-                skipped: 1,
-                given_up: 1,
-            },
-        },
-    },
-    Row {
-        name: "a part of the tally is missing at first",
-        gives: Gives::Nothing,
-        polls: 2,
-        stops: true,
-        lacks_part: true,
-        ending: Ending {
-            cause: EndCause::Stopped,
-            taken: 0,
-            settled: APPLIED,
-        },
-    },
-    Row {
-        name: "a failure of the network",
-        gives: Gives::Failure,
-        polls: 2,
-        stops: false,
-        lacks_part: false,
-        ending: Ending {
-            cause: EndCause::NetworkFailed,
-            taken: 0,
-            settled: APPLIED,
-        },
-    },
-    Row {
-        name: "a job that is pending at the start is finished",
-        gives: Gives::Payload,
-        polls: 4,
-        stops: true,
-        lacks_part: false,
-        ending: Ending {
-            cause: EndCause::Stopped,
-            taken: 1,
-            settled: APPLIED,
-        },
-    },
-];
-
-fn rows() -> &'static [Row] {
-    &ROWS
-}
 
 /// Lets the engine of the row end.
 fn ending_of<R>(rt: &R, row: &Row) -> Result<Ending, Fail>
@@ -134,6 +35,10 @@ where
     let wire = Wire::new(rt.alloc(), row.gives)?;
     // The job of the payload is still pending after the polls before the start.
     let cfg = config(sets, Slow { polls: 9 });
+    if row.is_mute {
+        let message = Digested::compute(rt.alloc(), Mute(7))?;
+        return end(rt, row, cfg, (Void, wire), message);
+    }
     end(
         rt,
         row,
@@ -200,7 +105,7 @@ where
         taken,
     )?;
     let (engine, mailbox, tally) = node;
-    let asked = ask(&mailbox, tally, message);
+    let asked = ask(&mailbox, tally, message, row.is_mute);
     drop::<_>(mailbox);
     let report = run(rt, row, engine, network);
     finish(report?, asked?, row.lacks_part)
@@ -209,11 +114,13 @@ where
 /// What is left of the requests: the future of the get, and two parts of the tally.
 type Asked<M, A> = (Get<M>, Tally<A>, Tally<A>);
 
-/// Makes a get, a subscribe whose caller hangs up, and a broadcast, with a part of the tally.
+/// Makes a get, a subscribe whose caller hangs up, and a broadcast, with a part of the tally. The
+/// ready list has one place, so the broadcast is told to slow down, unless it comes first.
 fn ask<M, R, A, K>(
     mailbox: &WatchedMailbox<u64, M, R, A, K, All>,
     tally: Tally<A>,
     message: Digested<M>,
+    comes_first: bool,
 ) -> Result<Asked<M, A>, MailboxError>
 where
     M: Digestible,
@@ -225,11 +132,54 @@ where
         return Err(MailboxError::Exhausted);
     };
     let digest = message.digest();
-    let get = mailbox.get_as(&mut second, digest)?;
-    let subscription = mailbox.subscribe_as(&mut second, digest)?;
-    let _feedback = mailbox.broadcast_as(&mut second, Recipients::All, message)?;
+    if comes_first {
+        broadcast(mailbox, &mut second, message, Feedback::Ok)?;
+        let (get, subscription) = ask_twice(mailbox, &mut second, digest)?;
+        drop::<_>(subscription);
+        return Ok((get, first, second));
+    }
+    let (get, subscription) = ask_twice(mailbox, &mut second, digest)?;
+    broadcast(mailbox, &mut second, message, Feedback::Backoff)?;
     drop::<_>(subscription);
     Ok((get, first, second))
+}
+
+/// Makes a get and a subscribe.
+fn ask_twice<M, R, A, K>(
+    mailbox: &WatchedMailbox<u64, M, R, A, K, All>,
+    tally: &mut Tally<A>,
+    digest: M::Digest,
+) -> Result<(Get<M>, Subscription<M>), MailboxError>
+where
+    M: Digestible,
+    R: Wait,
+    A: Account,
+    K: Account,
+{
+    let get = mailbox.get_as(tally, digest)?;
+    let subscription = mailbox.subscribe_as(tally, digest)?;
+    Ok((get, subscription))
+}
+
+/// Makes a broadcast. Fails if something else is told of it.
+fn broadcast<M, R, A, K>(
+    mailbox: &WatchedMailbox<u64, M, R, A, K, All>,
+    tally: &mut Tally<A>,
+    message: Digested<M>,
+    wanted: Feedback,
+) -> Result<(), MailboxError>
+where
+    M: Digestible,
+    R: Wait,
+    A: Account,
+    K: Account,
+{
+    let told = mailbox.broadcast_as(tally, Recipients::All, message)?;
+    if told == wanted {
+        Ok(())
+    } else {
+        Err(MailboxError::Exhausted)
+    }
 }
 
 /// What an engine leaves that counts requests.

@@ -6,6 +6,7 @@ use broadcast_core::TestMessage;
 use commonware_broadcast::buffered::{
     Account, All, Sequential, Session, WatchedClient, run_session,
 };
+use memory_node::support::poor::{Poor, Supply};
 use std::alloc::AllocGlobal;
 use std::num::NonZeroU32;
 use std::random::RandomSource;
@@ -14,7 +15,6 @@ use std::sync::{Arc, Wait};
 use std::test::Fail;
 use std::thread::Threads;
 use std::time::Clock;
-use test_support::poor::{Poor, Supply};
 
 /// How many clients there are.
 const CLIENTS: u32 = 4;
@@ -102,6 +102,7 @@ where
         (Void, wire),
         clients,
         session,
+        (),
     );
     Ok(finished.is_ok())
 }

@@ -4,9 +4,9 @@ ghost use Rattle.std.specs.Prelude.{⊤};
 use broadcast_core::{Items, RangeCfg, Recipients, Set};
 use commonware_broadcast::buffered::{Config, NetworkFailed, Provider, Receiver, Sender};
 use futures::task::{Context, Poll, Source, Waker};
+use memory_node::support::message::{payload, peers};
 use std::alloc::{AllocError, Global};
 use std::num::NonZeroUsize;
-use test_support::message::{payload, peers};
 
 /// The key of the only peer.
 const PEER: u64 = 5;

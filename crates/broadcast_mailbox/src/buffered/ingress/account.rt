@@ -1,5 +1,5 @@
-//! What a mailbox counts of the requests that are made through tallies.
-ghost use Rattle.std.specs.Prelude.{◌≡◌, ◌≤◌, ◌<◌, ◌+◌, ◌^◌, ℕ};
+//! The counts of the requests that are made through tallies.
+ghost use Rattle.std.specs.Prelude.{◌≡◌, ◌≤◌, ◌<◌, ◌+◌, ◌^◌, ◌&&◌, ◌||◌, ℕ, Bool, false};
 ghost use Rattle.broadcast_mailbox.specs.Account.{one_if};
 
 use std::marker::Brand;
@@ -30,13 +30,21 @@ pub trait Bookkeeping: Drop {
     /// How many counted requests were taken.
     ghost taken: { Self.Taker → ℕ };
 
+    /// How many of them were refused.
+    ghost refusals: { Self.Taker → ℕ };
+
+    /// Whether the one that was taken last is neither applied nor refused yet.
+    ghost undecided: { Self.Taker → Bool };
+
     /// Counts a request that is taken, if it is a counted one, and counted ones that are skipped.
     fn take(&mut self, taker: &mut Self::Taker, counted: bool, skipped: u64)
         requires waited { one_if counted + skipped ≤ waiting self.old }
         requires few { (waiting self.old ≤ accepted self.old) × (accepted self.old < 2 ^ 64) }
         ensures waiting { waiting self.new + one_if counted + skipped ≡ waiting self.old }
         ensures accepted { accepted self.new ≡ accepted self.old }
-        ensures taken { taken taker.new ≡ taken taker.old + one_if counted };
+        ensures taken { taken taker.new ≡ taken taker.old + one_if counted }
+        ensures refusals { refusals taker.new ≡ refusals taker.old }
+        ensures undecided { undecided taker.new ≡ (counted || undecided taker.old) };
 
     /// Counts the requests that wait as given up.
     fn give_up(&mut self)
@@ -47,7 +55,10 @@ pub trait Bookkeeping: Drop {
     /// Counts the request that was taken last as refused, or else as applied, if it is a counted
     /// one that was not counted so before.
     fn end(taker: &mut Self::Taker, refused: bool)
-        ensures { taken taker.new ≡ taken taker.old };
+        ensures taken { taken taker.new ≡ taken taker.old }
+        ensures refusals { refusals taker.new
+            ≡ refusals taker.old + one_if (undecided taker.old && refused) }
+        ensures closed { undecided taker.new ≡ false };
 }
 
 impl Bookkeeping for () {
@@ -58,6 +69,10 @@ impl Bookkeeping for () {
     ghost waiting = { λ _. 0 };
 
     ghost taken = { λ _. 0 };
+
+    ghost refusals = { λ _. 0 };
+
+    ghost undecided = { λ _. false };
 
     fn take(&mut self, _taker: &mut (), _counted: bool, _skipped: u64) {}
 

@@ -122,6 +122,7 @@ impl<T: Closable + Drop, A: Bookkeeping> Attended<T, A> {
     ) -> Poll<Request<T>>
         ensures step { Gives T.may_answer self.old.inbox (ready result) self.new.inbox }
         ensures taken { A.taken taker.new ≡ A.taken taker.old + counted_of (ready result) }
+        ensures refused { A.refusals taker.new ≡ A.refusals taker.old }
         ensures heard { OnPending result (Hears cx.new source.now.id) }
         ensures armed { OnPending result (IsArmed cx.new) }
         ensures kept { Keeps cx.old cx.new }
@@ -174,8 +175,11 @@ where
         tally: &mut Tally<A>,
     ) -> (Result<Queued, MailboxError>, Woken)
         requires { counted ≡ true → (digest : D) × (V.watched kind digest ≡ true) }
+        ensures step { Enqueues T.may_answer self.old.inbox message counted result.0
+            self.new.inbox }
         ensures tallied { tally.new ≡ tallied counted (is_accepted result.0) tally.old }
         ensures wakes { result.1 ≡ (self.old.queued, None) }
+        ensures stays { self.new.stopped ≡ self.old.stopped }
     {
         let woken = self.queued.take();
         let queued = self.inbox.enqueue_as(message, counted);
@@ -190,6 +194,7 @@ where
         ensures accepted { tally.old.accepted ≡ result.0.applied + result.0.refused
             + result.0.skipped + result.0.given_up }
         ensures taken { result.0.applied + result.0.refused ≡ taker.old.share.amount }
+        ensures refused { result.0.refused ≡ taker.old.refused }
         ensures broadcasts { BroadcastsOnly V.watched → result.0.skipped ≡ 0 }
     {
         let (_given_up, woken) = self.close();

@@ -1,5 +1,5 @@
 //! The account of a mailbox.
-ghost use Rattle.std.specs.Prelude.{◌≡◌, ◌<◌, ◌≤◌, ◌+◌, ◌^◌, ◌&&◌, true, false};
+ghost use Rattle.std.specs.Prelude.{◌≡◌, ◌<◌, ◌≤◌, ◌+◌, ◌^◌, ◌&&◌, if◌then◌else◌, not, true, false};
 ghost use Rattle.broadcast_mailbox.specs.declared.buffered.ingress.watch.Kind.{Kind};
 ghost use Rattle.broadcast_mailbox.specs.Account.{TallyState, one_if, is_accepted, is_queued, tallied};
 ghost use Rattle.broadcast_mailbox.specs.Watch.{BroadcastsOnly};
@@ -65,6 +65,10 @@ impl<K: Account> Taker<K> {
 
     /// Counts the request that was taken last, if its end is not known yet.
     fn end(&mut self, refused: bool)
+        ensures applied { self.new.applied
+            ≡ self.old.applied + one_if (self.old.is_open && not refused) }
+        ensures refused { self.new.refused
+            ≡ self.old.refused + one_if (self.old.is_open && refused) }
         ensures closed { self.new.is_open ≡ false }
         ensures same { self.new.share ≡ self.old.share }
     {
@@ -91,6 +95,8 @@ impl<K: Account> Taker<K> {
         requires { book.old.total + 1 < 2 ^ 64 }
         ensures total { book.new.total ≡ book.old.total + 1 }
         ensures amount { self.new.share.amount ≡ self.old.share.amount + 1 }
+        ensures refused { self.new.refused ≡ self.old.refused }
+        ensures open { self.new.is_open ≡ true }
     {
         self.end(false);
         let Taker {
@@ -110,6 +116,7 @@ impl<K: Account> Taker<K> {
         ensures taken { self.old.share.amount ≡ book.old.total }
         ensures same { (self.new.share.amount ≡ self.old.share.amount)
             × (book.new.total ≡ book.old.total) }
+        ensures same_refused { self.new.refused ≡ self.old.refused }
     {
         let Taker {
             share,
@@ -122,7 +129,8 @@ impl<K: Account> Taker<K> {
 
     /// Returns how many were applied, and how many refused.
     fn ends(&mut self) -> (u64, u64)
-        ensures { result.0 + result.1 ≡ self.old.share.amount }
+        ensures all { result.0 + result.1 ≡ self.old.share.amount }
+        ensures refused { result.1 ≡ self.old.refused }
     {
         self.end(false);
         (self.applied, self.refused)
@@ -231,6 +239,10 @@ impl<A: Account, K: Account, V: Watch<D>, D> Books<A, K, V, D> {
         ensures waiting { self.new.waiting + number ≡ self.old.waiting }
         ensures accepted { self.new.accepted.total ≡ self.old.accepted.total }
         ensures taken { self.new.taken.total ≡ self.old.taken.total }
+        ensures skipped { self.new.skipped
+            ≡ self.old.skipped + (if self.old.others then number else 0) }
+        ensures given_up { self.new.given_up
+            ≡ self.old.given_up + (if self.old.others then 0 else number) }
     {
         let Books {
             accepted: _,
@@ -257,6 +269,9 @@ impl<A: Account, K: Account, V: Watch<D>, D> Books<A, K, V, D> {
         ensures accepted { tally.old.accepted
             ≡ result.applied + result.refused + result.skipped + result.given_up }
         ensures taken { result.applied + result.refused ≡ taker.old.share.amount }
+        ensures refused { result.refused ≡ taker.old.refused }
+        ensures skipped { result.skipped ≡ self.old.skipped }
+        ensures given_up { result.given_up ≡ self.old.given_up }
         ensures same { (self.new.waiting ≡ self.old.waiting)
             × (self.new.accepted.total ≡ self.old.accepted.total) }
         ensures broadcasts { BroadcastsOnly V.watched → result.skipped ≡ 0 }
@@ -290,6 +305,10 @@ impl<A: Account, K: Account, V: Watch<D>, D> Bookkeeping for Books<A, K, V, D> {
     ghost waiting = { λ books. books.waiting };
 
     ghost taken = { λ taking. taking.share.amount };
+
+    ghost refusals = { λ taking. taking.refused };
+
+    ghost undecided = { λ taking. taking.is_open };
 
     fn take(&mut self, taker: &mut Taker<K>, counted: bool, skipped: u64) {
         self.skip(skipped);

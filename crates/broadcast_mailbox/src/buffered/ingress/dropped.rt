@@ -1,30 +1,77 @@
-//! Whether a subscription was dropped.
+//! Of which digests subscriptions were dropped.
 
+use crate::buffered::ingress::abandoned::Abandoned;
+use crate::buffered::ingress::told::Told;
+use std::alloc::Global;
+use std::hint::spin_loop;
+use std::sync::Mutex;
 use std::sync::atomic::{AtomicBool, Ordering};
 
-/// Whether a subscription was dropped since that was last asked. The ends of a mailbox share it
-/// with its subscriptions.
+/// How often the lock is tried.
+const TRIES: u32 = 64;
+
+/// Of which digests subscriptions were dropped since that was last asked. The ends of a mailbox
+/// share it with its subscriptions.
+///
+/// No thread waits for its lock, which is held for a few instructions only. A drop that does not
+/// get it tells that the digest may be any.
 #[derive(Drop)]
-pub(super) struct Dropped {
-    is_marked: AtomicBool,
+pub(super) struct Dropped<D> {
+    // Whether there may be digests in `told`. Set under its lock.
+    has_told: AtomicBool,
+    // Whether a digest may be missing there.
+    may_be_any: AtomicBool,
+    told: Mutex<Told<D>>,
 }
 
-impl Dropped {
-    /// Creates the mark of a mailbox of which no subscription was dropped.
-    pub(super) fn new() -> Self {
+impl<D> Dropped<D> {
+    /// Creates the list of a mailbox of which no subscription was dropped.
+    pub(super) fn new(alloc: Global) -> Self {
         Dropped {
-            is_marked: AtomicBool::new(false),
+            has_told: AtomicBool::new(false),
+            may_be_any: AtomicBool::new(false),
+            told: Mutex::new(Told::new(alloc)),
+        }
+    }
+}
+
+impl<D: Drop> Dropped<D> {
+    /// Tells that one of this digest was dropped. Whoever takes the digests asks the channels
+    /// afterwards, and finds this one closed.
+    pub(super) fn tell(&self, abandoned: Abandoned<D>) {
+        if !self.keep(abandoned.into_digest()) {
+            self.may_be_any.store(true, Ordering::SeqCst);
         }
     }
 
-    /// Marks that one was dropped. Its channel must be closed by then, since whoever takes the mark
-    /// asks the channels afterwards.
-    pub(super) fn mark(&self) {
-        self.is_marked.store(true, Ordering::Release);
+    /// Keeps the digest, if the lock can be had. Returns whether it could.
+    fn keep(&self, digest: D) -> bool {
+        for _ in 0..TRIES {
+            if let Some(mut told) = self.told.try_lock() {
+                told.add(digest);
+                self.has_told.store(true, Ordering::SeqCst);
+                return true;
+            }
+            spin_loop();
+        }
+        drop::<_>(digest);
+        false
     }
 
-    /// Returns whether one was dropped since the last call.
-    pub(super) fn take(&self) -> bool {
-        self.is_marked.swap(false, Ordering::AcqRel)
+    /// Puts the digests of which one was dropped since the last call in place of those in `taken`.
+    /// Returns whether it may have been one of another digest too.
+    pub(super) fn take(&self, taken: &mut Vec<D>) -> bool {
+        taken.clear();
+        let may_be_any = self.may_be_any.swap(false, Ordering::SeqCst);
+        if !self.has_told.swap(false, Ordering::SeqCst) {
+            return may_be_any;
+        }
+        for _ in 0..TRIES {
+            if let Some(mut told) = self.told.try_lock() {
+                return told.take(taken) || may_be_any;
+            }
+            spin_loop();
+        }
+        true
     }
 }

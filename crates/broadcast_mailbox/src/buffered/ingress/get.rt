@@ -1,22 +1,22 @@
 //! The future of a get.
-ghost use Rattle.std.specs.Prelude.{◌≡◌, IfSome, IfOk, IfErr};
-ghost use Rattle.broadcast_mailbox.specs.Waited.{get_waited};
-ghost use Rattle.futures.specs.Channel.{canceled_source};
-ghost use Rattle.futures.specs.Poll.{IfReady};
+ghost use Rattle.std.specs.Prelude.{◌≡◌, Ok, None, true, IfSome, IfOk, IfErr};
+ghost use Rattle.broadcast_mailbox.specs.Account.{is_accepted};
+ghost use Rattle.futures.specs.Poll.{IfReady, OnPending};
+ghost use Rattle.futures.specs.declared.task.Poll.TheVariants.{Ready};
 ghost use Rattle.broadcast_mailbox.specs.Asked.{GoesBy, get_returns};
 
+use crate::buffered::ingress::bell::{Answering, answered};
 use crate::buffered::ingress::limit::Limit;
+use crate::buffered::ingress::queued::Queued;
 use crate::buffered::ingress::reply::{Reply, Returns, try_receive};
 use broadcast_core::{Digested, Digestible};
 use futures::Future;
-use futures::channel::oneshot::{self, Canceled, Receiver, Sender};
-use futures::executor::block_on;
+use futures::channel::oneshot::{Canceled, Receiver};
 use futures::task::{Context, Poll};
-use std::alloc::{AllocError, AllocGlobal, Global};
-use std::io;
+use std::alloc::{AllocError, Global};
 use std::marker::Model;
-use std::random::RandomSource;
-use std::sync::Wait;
+use std::sync::{Arc, Wait};
+use std::thread::Parker;
 use std::time::{Clock, Duration};
 
 /// A future for the cached message of a digest. Dropping it cancels the request.
@@ -27,6 +27,11 @@ use std::time::{Clock, Duration};
 pub struct Get<M: Digestible> {
     digest: M::Digest,
     receiver: Receiver<Option<Reply<M>>>,
+    bell: Arc<Parker>,
+    // Whether the mailbox accepted the request.
+    accepted: bool,
+    // Whether the channel has given its result.
+    is_done: bool,
 }
 
 impl<M: Digestible> Model for Get<M> {
@@ -35,7 +40,12 @@ impl<M: Digestible> Model for Get<M> {
 
     ghost Value = { Asked M.Digest };
 
-    ghost view = { λ g. record { digest = g.digest; source = completed_source g.receiver } };
+    ghost view = { λ g. record {
+      digest = g.digest;
+      source = completed_source g.receiver;
+      accepted = g.accepted;
+      done = g.is_done;
+    } };
 }
 
 impl<M: Digestible> Get<M> {
@@ -43,33 +53,60 @@ impl<M: Digestible> Get<M> {
     pub(super) fn open(
         alloc: Global,
         digest: M::Digest,
-    ) -> Result<(Sender<Option<Reply<M>>>, Self), AllocError>
+    ) -> Result<(Answering<Option<Reply<M>>>, Self), AllocError>
         ensures digest { IfOk result (λ ends. ends.1.digest ≡ digest) }
-        ensures same_channel { IfOk result (λ ends. ends.1.source ≡ canceled_source ends.0) }
+        ensures same_channel { IfOk result (λ ends. ends.1.source ≡ ends.0) }
     {
-        let Ok((responder, receiver)) = oneshot::channel(alloc) else {
+        let Ok((responder, receiver, bell)) = answered(alloc) else {
             return Err(AllocError);
         };
-        Ok((responder, Get { digest, receiver }))
+        let get = Get {
+            digest,
+            receiver,
+            bell,
+            accepted: false,
+            is_done: false,
+        };
+        Ok((responder, get))
     }
 
-    /// Blocks the calling thread until the reply is there, and returns what the future gives.
-    ///
-    /// Returns `None` also if there is no memory to wait with; then the request is cancelled.
-    pub fn wait<R: Wait + RandomSource + AllocGlobal>(self, rt: &R) -> Option<Digested<M>>
+    // Keeps whether the request was accepted.
+    pub(super) fn set_accepted(&mut self, queued: Queued)
+        ensures { self.new ≡ record self.old { accepted = is_accepted (Ok queued) } }
+    {
+        self.accepted = queued.is_accepted();
+    }
+
+    /// Returns whether the mailbox accepted the request. If not, it was closed.
+    pub fn was_accepted(&self) -> bool
+        ensures { result ≡ self.now.accepted }
+    {
+        self.accepted
+    }
+
+    /// Blocks the calling thread until the reply is there, and returns what the future gives. The
+    /// thread sleeps at once, and needs no memory.
+    pub fn wait<R: Wait>(self, rt: &R) -> Option<Digested<M>>
         ensures { IfSome result (λ message. GoesBy M.Digest.cmp self.digest message) }
     {
-        waited(block_on(rt, self))
+        let mut get = self;
+        for _ in rt.forever() {
+            if let Poll::Ready(outcome) = get.try_wait() {
+                return outcome;
+            }
+            get.bell.park(rt);
+        }
+        unreachable!()
     }
 
     /// Waits for the reply for no longer than `limit`, and returns what the future gives, or an
     /// `Err` with the future if the reply is not there by then.
     ///
-    /// It looks once a millisecond, needs no memory, and returns the `Err` also if the clock can't
-    /// be read.
-    pub fn wait_timeout(
+    /// The thread sleeps at once until the reply is there or the time is over, and needs no memory.
+    /// Returns the `Err` also if the clock can't be read.
+    pub fn wait_timeout<R: Wait + Clock>(
         self,
-        clock: &impl Clock,
+        rt: &R,
         limit: Duration,
     ) -> Result<Option<Digested<M>>, Self>
         ensures gives { IfOk result (λ outcome.
@@ -77,14 +114,15 @@ impl<M: Digestible> Get<M> {
         ensures same_after_limit { IfErr result (λ get. get ≡ self) }
     {
         let mut get = self;
-        let limit = Limit::new(clock, limit);
+        let limit = Limit::new(rt, limit);
         for _ in 0..u64::MAX {
             if let Poll::Ready(outcome) = get.try_wait() {
                 return Ok(outcome);
             }
-            if !limit.pause(clock) {
+            let Some(left) = limit.left(rt) else {
                 break;
-            }
+            };
+            get.bell.park_timeout(rt, left);
         }
         Err(get)
     }
@@ -94,20 +132,15 @@ impl<M: Digestible> Get<M> {
     pub fn try_wait(&mut self) -> Poll<Option<Digested<M>>>
         ensures gives { IfReady result (λ outcome.
             IfSome outcome (λ message. GoesBy M.Digest.cmp self.old.digest message)) }
-        ensures same { self.new ≡ self.old }
+        ensures none_if_done { self.old.done ≡ true → result ≡ Ready None }
+        ensures done { IfReady result (λ outcome. self.new ≡ record self.old { done = true }) }
+        ensures same { OnPending result (self.new ≡ self.old) }
     {
+        if self.is_done {
+            return Poll::Ready(None);
+        }
         let received = try_receive(&mut self.receiver);
         self.returned(received)
-    }
-}
-
-// Returns the output of the future, or `None` if it could not be waited for.
-fn waited<M: Digestible>(blocked: io::Result<Option<Digested<M>>>) -> Option<Digested<M>>
-    ensures { result ≡ get_waited blocked }
-{
-    match blocked {
-        Ok(outcome) => outcome,
-        Err(_) => None,
     }
 }
 
@@ -120,6 +153,9 @@ impl<M: Digestible> Future for Get<M> {
         IfSome outcome (λ message. GoesBy M.Digest.cmp g.digest message) };
 
     fn poll(&mut self, cx: &mut Context<'_>) -> Poll<Option<Digested<M>>> {
+        if self.is_done {
+            return Poll::Ready(None);
+        }
         let polled = self.receiver.poll(cx);
         self.returned(polled)
     }
@@ -132,15 +168,20 @@ impl<M: Digestible> Returns for Get<M> {
 
     ghost returns = { λ future polled. get_returns M.Digest.cmp future.digest polled };
 
+    ghost ended = { λ future. record future { done = true } };
+
     fn returned(
-        &self,
+        &mut self,
         polled: Poll<Result<Option<Reply<M>>, Canceled>>,
     ) -> Poll<Option<Digested<M>>>
-        ensures { result ≡ get_returns M.Digest.cmp self.now.digest polled }
+        ensures value { result ≡ get_returns M.Digest.cmp self.old.digest polled }
+        ensures done { IfReady result (λ output. self.new ≡ record self.old { done = true }) }
+        ensures same { OnPending result (self.new ≡ self.old) }
     {
         match polled {
             Poll::Pending => Poll::Pending,
             Poll::Ready(Ok(Some(reply))) => {
+                self.is_done = true;
                 let Reply { digest, message } = reply;
                 if self.digest.cmp(&digest).is_eq() {
                     Poll::Ready(Some(message))
@@ -148,7 +189,10 @@ impl<M: Digestible> Returns for Get<M> {
                     Poll::Ready(None)
                 }
             }
-            Poll::Ready(Ok(None)) | Poll::Ready(Err(_)) => Poll::Ready(None),
+            Poll::Ready(Ok(None)) | Poll::Ready(Err(_)) => {
+                self.is_done = true;
+                Poll::Ready(None)
+            }
         }
     }
 }

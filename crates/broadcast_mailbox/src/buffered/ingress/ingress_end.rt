@@ -1,16 +1,16 @@
 //! The end of a mailbox from which its requests are taken, and what asks for a stop there.
-ghost use Rattle.std.specs.Prelude.{◌≡◌, ◌+◌, ◌↔◌, true, false, is_err, IfOk, IfErr};
+ghost use Rattle.std.specs.Prelude.{◌≡◌, ◌+◌, ◌↔◌, ◌&&◌, true, false, is_err, IfOk, IfErr};
 ghost use Rattle.futures.specs.Poll.{OnPending};
 ghost use Rattle.std.specs.Arc.{arc_value};
 ghost use Rattle.futures.specs.Task.{Hears, IsArmed, Keeps};
-ghost use Rattle.broadcast_mailbox.specs.Account.{counted_of};
+ghost use Rattle.broadcast_mailbox.specs.Account.{counted_of, one_if};
 ghost use Rattle.broadcast_mailbox.specs.Attended.{ready};
 ghost use Rattle.broadcast_mailbox.specs.Ends.{IngressEnd, MailboxEnd, SharedInbox};
 ghost use Rattle.broadcast_mailbox.specs.Watch.{BroadcastsOnly};
 
 use crate::buffered::ingress::account::{Account, Bookkeeping};
 use crate::buffered::ingress::books::Books;
-use crate::buffered::ingress::message::Awaits;
+use crate::buffered::ingress::message::{Awaits, Named};
 use crate::buffered::ingress::queued::Counts;
 use crate::buffered::ingress::request::Request;
 use crate::buffered::ingress::settled::Settled;
@@ -27,22 +27,27 @@ use std::sync::{Arc, Wait};
 ///
 /// A call takes the lock of the inbox once, and makes one call of the inbox under it.
 #[derive(Drop)]
-pub struct Ingress<T, R, A: Bookkeeping = ()> {
+pub struct Ingress<T: Named, R, A: Bookkeeping = ()> {
     inbox: Arc<Shared<T, A>>,
     taker: A::Taker,
     rt: R,
 }
 
-impl<T, R, A: Bookkeeping> Model for Ingress<T, R, A> {
+impl<T: Named, R, A: Bookkeeping> Model for Ingress<T, R, A> {
     ghost use Rattle.std.specs.Arc.{arc_value};
     ghost use Rattle.broadcast_mailbox.specs.Ends.{IngressEnd};
 
     ghost Value = { IngressEnd };
 
-    ghost view = { λ it. record { inbox = arc_value it.inbox; taken = A.taken it.taker } };
+    ghost view = { λ it. record {
+      inbox = arc_value it.inbox;
+      taken = A.taken it.taker;
+      refused = A.refusals it.taker;
+      undecided = A.undecided it.taker;
+    } };
 }
 
-impl<T, R, A: Bookkeeping> Ingress<T, R, A> {
+impl<T: Named, R, A: Bookkeeping> Ingress<T, R, A> {
     // Creates the end that takes from the inbox.
     pub(super) fn new(rt: R, inbox: Arc<Shared<T, A>>, taker: A::Taker) -> Self
         ensures { result.inbox ≡ arc_value inbox }
@@ -53,19 +58,28 @@ impl<T, R, A: Bookkeeping> Ingress<T, R, A> {
     /// Counts the request that was taken last as refused, or else as applied, if it is a counted
     /// one.
     pub fn end(&mut self, refused: bool)
-        ensures { self.new ≡ self.old }
+        ensures refused { self.new.refused
+            ≡ self.old.refused + one_if (self.old.undecided && refused) }
+        ensures closed { self.new.undecided ≡ false }
+        ensures same { (self.new.inbox ≡ self.old.inbox) × (self.new.taken ≡ self.old.taken) }
     {
         A::end(&mut self.taker, refused);
     }
 
-    /// Returns whether a subscription was dropped since the last call. One that was dropped before
-    /// `poll_request` took its request counts again from then on.
-    pub fn take_dropped(&self) -> bool {
-        self.inbox.take_dropped()
+    /// Puts the digests of which a subscription was dropped since the last call in place of those
+    /// in `taken`, each once. Returns whether it may have been one of another digest too. One that
+    /// was dropped before its request was taken counts again from then on.
+    pub fn take_dropped(&mut self, taken: &mut Vec<T::Digest>) -> bool
+        ensures { self.new ≡ self.old }
+    {
+        let may_be_any = self.inbox.take_dropped(taken);
+        taken.sort_unstable();
+        taken.dedup();
+        may_be_any
     }
 }
 
-impl<T, R: Clone, A: Bookkeeping> Ingress<T, R, A> {
+impl<T: Named, R: Clone, A: Bookkeeping> Ingress<T, R, A> {
     /// Returns a stopper of whoever takes the requests, or an allocation failure.
     pub fn stopper(&self) -> Result<Stopper<T, R, A>, AllocError>
         ensures same_inbox { IfOk result (λ stopper. stopper.inbox ≡ self.now.inbox) }
@@ -74,7 +88,7 @@ impl<T, R: Clone, A: Bookkeeping> Ingress<T, R, A> {
     }
 }
 
-impl<T, R: Wait, A: Bookkeeping> Ingress<T, R, A> {
+impl<T: Named, R: Wait, A: Bookkeeping> Ingress<T, R, A> {
     /// Asks whoever takes the requests to stop. Requests are still queued and taken.
     pub fn request_stop(&self) {
         self.inbox.request_stop(&self.rt);
@@ -109,6 +123,7 @@ impl<T: Closable + Awaits + Drop, R: Wait, A: Bookkeeping> Ingress<T, R, A> {
     /// the task is woken once one is queued.
     pub fn poll_request(&mut self, cx: &mut Context<'_>) -> Poll<Request<T>>
         ensures taken { self.new.taken ≡ self.old.taken + counted_of (ready result) }
+        ensures refused { self.new.refused ≡ self.old.refused }
         ensures same_inbox { self.new.inbox ≡ self.old.inbox }
         ensures heard { OnPending result (Hears cx.new self.new.inbox.queued) }
         ensures armed { OnPending result (IsArmed cx.new) }
@@ -116,10 +131,7 @@ impl<T: Closable + Awaits + Drop, R: Wait, A: Bookkeeping> Ingress<T, R, A> {
     {
         let polled = self.inbox.poll_next(&self.rt, &mut self.taker, cx);
         if let Poll::Ready(request) = &polled {
-            // Its drop may have been told before it was taken, and it waits from now on.
-            if request.message.is_abandoned() {
-                self.inbox.mark_dropped();
-            }
+            self.tell_if_abandoned(&request.message);
         }
         polled
     }
@@ -130,27 +142,31 @@ impl<T: Closable + Awaits + Drop, R: Wait, A: Bookkeeping> Ingress<T, R, A> {
     }
 }
 
-impl<T: Closable + Drop, R: Wait> Ingress<T, R> {
+impl<T: Closable + Awaits + Drop, R: Wait> Ingress<T, R> {
     /// Removes the oldest request and returns it with its ticket, or `None` if none waits.
     pub fn take(&self) -> Option<(u64, T)> {
         let mut nobody = ();
-        self.inbox.take(&self.rt, &mut nobody)
+        let taken = self.inbox.take(&self.rt, &mut nobody);
+        if let Some((_, message)) = &taken {
+            self.tell_if_abandoned(message);
+        }
+        taken
     }
+}
 
-    /// Removes and returns the oldest request. If none waits, the task is woken once one is queued.
-    pub fn poll_next(&self, cx: &mut Context<'_>) -> Poll<Request<T>>
-        ensures heard { OnPending result (Hears cx.new self.now.inbox.queued) }
-        ensures armed { OnPending result (IsArmed cx.new) }
-        ensures kept { Keeps cx.old cx.new }
-    {
-        let mut nobody = ();
-        self.inbox.poll_next(&self.rt, &mut nobody, cx)
+impl<T: Awaits, R, A: Bookkeeping> Ingress<T, R, A> {
+    // Tells the digest of a request whose caller no longer waits. Its drop may have been told
+    // before it was taken, and it waits from now on.
+    fn tell_if_abandoned(&self, message: &T) {
+        if let Some(abandoned) = message.abandoned() {
+            self.inbox.dropped().tell(abandoned);
+        }
     }
 }
 
 impl<T, R, A, K, V, D> Ingress<T, R, Books<A, K, V, D>>
 where
-    T: Closable + Drop,
+    T: Closable + Named + Drop,
     R: Wait + Drop,
     A: Account,
     K: Account,
@@ -165,6 +181,7 @@ where
             + settled.refused + settled.skipped + settled.given_up) }
         ensures taken { IfOk result (λ settled.
             settled.applied + settled.refused ≡ self.taken) }
+        ensures refused { IfOk result (λ settled. settled.refused ≡ self.refused) }
         ensures broadcasts { IfOk result (λ settled.
             BroadcastsOnly V.watched → settled.skipped ≡ 0) }
         ensures unchanged_on_error { IfErr result (λ both. (both.0 ≡ self) × (both.1 ≡ tally)) }
@@ -188,12 +205,12 @@ where
 
 /// Asks whoever takes the requests of a mailbox to stop. It may be used on any thread.
 #[derive(Drop)]
-pub struct Stopper<T, R, A: Bookkeeping = ()> {
+pub struct Stopper<T: Named, R, A: Bookkeeping = ()> {
     inbox: Arc<Shared<T, A>>,
     rt: R,
 }
 
-impl<T, R, A: Bookkeeping> Model for Stopper<T, R, A> {
+impl<T: Named, R, A: Bookkeeping> Model for Stopper<T, R, A> {
     ghost use Rattle.std.specs.Arc.{arc_value};
     ghost use Rattle.broadcast_mailbox.specs.Ends.{MailboxEnd};
 
@@ -202,7 +219,7 @@ impl<T, R, A: Bookkeeping> Model for Stopper<T, R, A> {
     ghost view = { λ it. record { inbox = arc_value it.inbox } };
 }
 
-impl<T, R, A: Bookkeeping> Stopper<T, R, A> {
+impl<T: Named, R, A: Bookkeeping> Stopper<T, R, A> {
     // Creates a stopper of whoever takes from the inbox.
     pub(super) fn new(rt: R, inbox: Arc<Shared<T, A>>) -> Self
         ensures { result.inbox ≡ arc_value inbox }
@@ -211,7 +228,7 @@ impl<T, R, A: Bookkeeping> Stopper<T, R, A> {
     }
 }
 
-impl<T, R: Wait, A: Bookkeeping> Stopper<T, R, A> {
+impl<T: Named, R: Wait, A: Bookkeeping> Stopper<T, R, A> {
     /// Asks whoever takes the requests to stop, and wakes it. Does not allocate.
     pub fn request_stop(&self) {
         self.inbox.request_stop(&self.rt);

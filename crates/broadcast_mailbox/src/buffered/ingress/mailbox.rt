@@ -1,10 +1,11 @@
 //! The mailbox through which callers on any thread reach a node.
 ghost use Rattle.std.specs.Prelude.{◌≡◌, IfOk, OnErr, ⊤};
 ghost use Rattle.std.specs.NonZero.{non_zero_u32_get};
-ghost use Rattle.broadcast_mailbox.specs.Account.{MayCount, TallyState, is_taken_up, tallied};
+ghost use Rattle.broadcast_mailbox.specs.Account.{TallyState, is_taken_up, tallied};
 ghost use Rattle.broadcast_mailbox.specs.Ends.{IngressEnd, MailboxEnd};
 
 use crate::buffered::ingress::account::{Account, Bookkeeping};
+use crate::buffered::ingress::bell::Answering;
 use crate::buffered::ingress::books::Books;
 use crate::buffered::ingress::get::Get;
 use crate::buffered::ingress::ingress_end::Ingress;
@@ -17,7 +18,6 @@ use crate::buffered::ingress::tally::Tally;
 use crate::buffered::ingress::watch::{Kind, Watch};
 use crate::{Broadcaster, Feedback, MailboxError};
 use broadcast_core::{Digested, Digestible, EncodeSize, PublicKey, Recipients, Write};
-use futures::channel::oneshot;
 use std::alloc::{AllocError, Global};
 use std::marker::Model;
 use std::num::{NonZeroU32, NonZeroUsize};
@@ -25,12 +25,7 @@ use std::sync::ledger::Blank;
 use std::sync::{Arc, Wait};
 
 /// A message of a mailbox's caller, whose reply goes through a channel.
-pub type Incoming<P, M> = Message<
-    P,
-    M,
-    oneshot::Sender<Reply<M>>,
-    oneshot::Sender<Option<Reply<M>>>,
->;
+pub type Incoming<P, M> = Message<P, M, Answering<Reply<M>>, Answering<Option<Reply<M>>>>;
 
 /// Creates a mailbox whose ready list has `mailbox_size` places, and the ingress that takes what
 /// is queued through it.
@@ -168,13 +163,17 @@ where
     pub fn subscribe(&self, digest: M::Digest) -> Result<Subscription<M>, MailboxError>
         ensures { IfOk result (λ subscription. subscription.digest ≡ digest) }
     {
-        let mark = self.inbox.dropped();
-        let Ok((responder, subscription)) = Subscription::open(self.alloc, digest, mark) else {
+        let dropped = self.inbox.dropped();
+        let Ok((responder, mut subscription)) = Subscription::open(self.alloc, digest, dropped)
+        else {
             return Err(MailboxError::Memory);
         };
         let request = Message::subscribe(digest, responder);
         match self.inbox.enqueue(&self.rt, request) {
-            Ok(_) => Ok(subscription),
+            Ok(queued) => {
+                subscription.set_accepted(queued);
+                Ok(subscription)
+            }
             Err(error) => {
                 drop::<_>(subscription);
                 Err(error)
@@ -188,12 +187,15 @@ where
     pub fn get(&self, digest: M::Digest) -> Result<Get<M>, MailboxError>
         ensures { IfOk result (λ get. get.digest ≡ digest) }
     {
-        let Ok((responder, get)) = Get::open(self.alloc, digest) else {
+        let Ok((responder, mut get)) = Get::open(self.alloc, digest) else {
             return Err(MailboxError::Memory);
         };
         let request = Message::get(digest, responder);
         match self.inbox.enqueue(&self.rt, request) {
-            Ok(_) => Ok(get),
+            Ok(queued) => {
+                get.set_accepted(queued);
+                Ok(get)
+            }
             Err(error) => {
                 drop::<_>(get);
                 Err(error)
@@ -235,18 +237,22 @@ where
         digest: M::Digest,
     ) -> Result<Subscription<M>, MailboxError>
         ensures digest { IfOk result (λ subscription. subscription.digest ≡ digest) }
-        ensures counts { IfOk result (λ _.
-            MayCount (V.watched Kind.Subscribe digest) tally.old tally.new) }
+        ensures counts { IfOk result (λ subscription.
+            tally.new ≡ tallied (V.watched Kind.Subscribe digest) subscription.accepted tally.old) }
         ensures unchanged_on_error { OnErr result (tally.new ≡ tally.old) }
     {
-        let mark = self.inbox.dropped();
-        let Ok((responder, subscription)) = Subscription::open(self.alloc, digest, mark) else {
+        let dropped = self.inbox.dropped();
+        let Ok((responder, mut subscription)) = Subscription::open(self.alloc, digest, dropped)
+        else {
             return Err(MailboxError::Memory);
         };
         let counted = V::matches(Kind::Subscribe, &digest);
         let request = Message::subscribe(digest, responder);
         match self.inbox.enqueue_as(&self.rt, request, counted, tally) {
-            Ok(_) => Ok(subscription),
+            Ok(queued) => {
+                subscription.set_accepted(queued);
+                Ok(subscription)
+            }
             Err(error) => {
                 drop::<_>(subscription);
                 Err(error)
@@ -258,17 +264,20 @@ where
     /// watch matches it; after a close, none is accepted.
     pub fn get_as(&self, tally: &mut Tally<A>, digest: M::Digest) -> Result<Get<M>, MailboxError>
         ensures digest { IfOk result (λ get. get.digest ≡ digest) }
-        ensures counts { IfOk result (λ _.
-            MayCount (V.watched Kind.Get digest) tally.old tally.new) }
+        ensures counts { IfOk result (λ get.
+            tally.new ≡ tallied (V.watched Kind.Get digest) get.accepted tally.old) }
         ensures unchanged_on_error { OnErr result (tally.new ≡ tally.old) }
     {
-        let Ok((responder, get)) = Get::open(self.alloc, digest) else {
+        let Ok((responder, mut get)) = Get::open(self.alloc, digest) else {
             return Err(MailboxError::Memory);
         };
         let counted = V::matches(Kind::Get, &digest);
         let request = Message::get(digest, responder);
         match self.inbox.enqueue_as(&self.rt, request, counted, tally) {
-            Ok(_) => Ok(get),
+            Ok(queued) => {
+                get.set_accepted(queued);
+                Ok(get)
+            }
             Err(error) => {
                 drop::<_>(get);
                 Err(error)

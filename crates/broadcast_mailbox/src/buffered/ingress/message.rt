@@ -1,7 +1,9 @@
 //! The messages of a mailbox's callers.
-ghost use Rattle.std.specs.Prelude.{◌≡◌, false};
+ghost use Rattle.std.specs.Prelude.{◌≡◌, false, List, None};
+ghost use Rattle.std.specs.Ordering.{eq_by_cmp};
 ghost use Rattle.broadcast_mailbox.specs.Watch.{kind_of};
 
+use crate::buffered::ingress::abandoned::Abandoned;
 use crate::buffered::ingress::overflow::Policy;
 use crate::buffered::ingress::pending::Pending;
 use crate::buffered::ingress::reply::Reply;
@@ -96,14 +98,27 @@ where
     }
 }
 
+/// A request that names a digest.
+pub trait Named {
+    /// The digest.
+    type Digest: Ord + Drop;
+}
+
+impl<P, M: Digestible, S, G> Named for Message<P, M, S, G> {
+    type Digest = M::Digest;
+}
+
 /// A request that may have to wait for its reply.
-pub trait Awaits {
+pub trait Awaits: Named {
     /// Whether it may be found open while it waits. What never waits may.
     ghost may_stay: { Self → Type 0 };
 
-    /// Returns whether it would wait for its reply, and its caller no longer does.
-    fn is_abandoned(&self) -> bool
-        ensures { result ≡ false → may_stay self.now };
+    /// Whether it waits for one of these digests. What never waits does.
+    ghost is_among: { List Self.Digest → Self → Type 0 };
+
+    /// Returns the digest that it would wait for, if its caller no longer does.
+    fn abandoned(&self) -> Option<Abandoned<Self::Digest>>
+        ensures { result ≡ None → may_stay self.now };
 }
 
 /// Only a subscribe waits.
@@ -112,14 +127,16 @@ where
     M: Digestible,
     S: Responder<Reply<M>>,
 {
-    ghost use Rattle.broadcast_mailbox.specs.Message.{message_may_stay};
+    ghost use Rattle.broadcast_mailbox.specs.Message.{message_may_stay, message_is_among};
 
     ghost may_stay = { message_may_stay (λ responder. S.may_answer responder false) };
 
-    fn is_abandoned(&self) -> bool {
+    ghost is_among = { message_is_among (eq_by_cmp M.Digest.cmp) };
+
+    fn abandoned(&self) -> Option<Abandoned<M::Digest>> {
         match self {
-            Message::Subscribe { responder, .. } => responder.is_closed(),
-            Message::Broadcast { .. } | Message::Get { .. } => false,
+            Message::Subscribe { digest, responder } => Abandoned::found(responder, *digest),
+            Message::Broadcast { .. } | Message::Get { .. } => None,
         }
     }
 }

@@ -1,4 +1,4 @@
-//! Where messages go that find no room, and how they come back in order.
+//! The overflow of a mailbox, which keeps the messages that find no room, in order.
 ghost use Rattle.std.specs.Prelude.{◌≡◌, ◌↔◌, IsTrue, List, []};
 ghost use Rattle.broadcast_mailbox.specs.Overflow.{Handles, Drains};
 
@@ -24,9 +24,9 @@ pub trait Overflow<T: Closable> {
             skipped (kept self.new) last };
 }
 
-/// What becomes of a message that finds no room.
+/// Handles the messages that find no room.
 pub trait Policy: Closable + Drop {
-    /// Where such messages are kept.
+    /// The overflow, which keeps such messages.
     type Overflow: Overflow<Self>;
 
     /// Appends the message to the overflow, or drops it if it is closed. Only an open message

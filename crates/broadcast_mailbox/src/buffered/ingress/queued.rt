@@ -1,10 +1,11 @@
-//! What a mailbox answers, and what it counts.
-ghost use Rattle.std.specs.Prelude.{◌≡◌};
+//! The result of an enqueue, and the counts of a mailbox.
+ghost use Rattle.std.specs.Prelude.{◌≡◌, Ok};
+ghost use Rattle.broadcast_mailbox.specs.Account.{is_accepted};
 ghost use Rattle.broadcast_mailbox.specs.Queued.{feedback_of, answer_of};
 
 use crate::{Feedback, MailboxError};
 
-/// What became of a message, with the ticket that it drew.
+/// The result of an enqueue, with the ticket that the message drew.
 #[derive(Clone, Copy, Debug, PartialEq, Eq)]
 pub enum Queued {
     /// The message is in the ready list.
@@ -29,6 +30,16 @@ impl Queued {
         }
     }
 
+    /// Returns whether the message drew a ticket.
+    pub fn is_accepted(self) -> bool
+        ensures { result ≡ is_accepted (Ok self) }
+    {
+        match self {
+            Queued::Ready(_) | Queued::Overflow(_) | Queued::Skipped(_) => true,
+            Queued::Closed => false,
+        }
+    }
+
     // Returns what a broadcast returns if the inbox answered `queued`. An error stays as it is.
     pub(super) fn answer(queued: Result<Queued, MailboxError>) -> Result<Feedback, MailboxError>
         ensures { result ≡ answer_of queued }
@@ -37,7 +48,7 @@ impl Queued {
     }
 }
 
-/// How many requests a mailbox accepted, and what became of them.
+/// The number of requests that a mailbox accepted, and of each of their outcomes.
 #[derive(Clone, Copy, Debug, PartialEq, Eq)]
 pub struct Counts {
     /// How many drew a ticket.

@@ -1,6 +1,7 @@
 //! The reply to a request, and what a future makes of it.
 ghost use Rattle.std.specs.Prelude.{◌≡◌, Result};
 ghost use Rattle.futures.specs.Channel.{completed_source};
+ghost use Rattle.futures.specs.Poll.{IfReady, OnPending};
 ghost use Rattle.futures.specs.declared.task.Poll.{Poll};
 ghost use Rattle.futures.specs.declared.channel.oneshot.Canceled.{Canceled};
 ghost use Rattle.std.specs.Ordering.{on, eq_of_both};
@@ -95,9 +96,15 @@ pub(super) trait Returns {
     /// What a poll returns, by what the channel returned.
     ghost returns: { Self → Poll (Result Self.Reply Canceled) → Poll Self.Output };
 
-    /// Returns what a poll returns if the channel returned `polled`.
-    fn returned(&self, polled: Poll<Result<Self::Reply, Canceled>>) -> Poll<Self::Output>
-        ensures { result ≡ returns self.now polled };
+    /// The future once it has given its result.
+    ghost ended: { Self → Self };
+
+    /// Returns what a poll returns if the channel returned `polled`, and keeps whether that was its
+    /// result.
+    fn returned(&mut self, polled: Poll<Result<Self::Reply, Canceled>>) -> Poll<Self::Output>
+        ensures value { result ≡ returns self.old polled }
+        ensures done { IfReady result (λ output. self.new ≡ ended self.old) }
+        ensures same { OnPending result (self.new ≡ self.old) };
 }
 
 /// Returns what a poll of the channel would return, and registers nobody.

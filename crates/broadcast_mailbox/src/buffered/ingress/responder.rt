@@ -1,4 +1,4 @@
-//! Where replies go.
+//! The responders that replies are sent to.
 ghost use Rattle.std.specs.Prelude.{◌≡◌, Bool, not, ⊤};
 
 use futures::channel::oneshot;

@@ -1,6 +1,6 @@
-//! What became of the tallied requests.
+//! The outcomes of the tallied requests.
 
-/// What became of the tallied requests that the watch matches.
+/// The outcomes of the tallied requests that the watch matches.
 #[derive(Clone, Copy, Debug, PartialEq, Eq)]
 pub struct Settled {
     /// How many were applied.

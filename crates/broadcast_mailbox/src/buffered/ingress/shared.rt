@@ -15,7 +15,7 @@ use crate::buffered::ingress::attended::Attended;
 use crate::buffered::ingress::books::{Books, Taker};
 use crate::buffered::ingress::dropped::Dropped;
 use crate::buffered::ingress::inbox::Inbox;
-use crate::buffered::ingress::message::Message;
+use crate::buffered::ingress::message::{Message, Named};
 use crate::buffered::ingress::queued::{Counts, Queued};
 use crate::buffered::ingress::reply::Reply;
 use crate::buffered::ingress::request::Request;
@@ -35,16 +35,16 @@ use std::sync::{Arc, Mutex, Wait};
 /// A call takes the lock once, and makes one call of the inbox under it. The task that takes the
 /// requests is woken after the lock is let go.
 #[derive(Drop)]
-pub(super) struct Shared<T, A: Bookkeeping> {
+pub(super) struct Shared<T: Named, A: Bookkeeping> {
     // Fires once a request is queued.
     queued: Source,
     // Fires once a stop is requested.
     stopped: Source,
-    dropped: Arc<Dropped>,
+    dropped: Arc<Dropped<T::Digest>>,
     state: Mutex<Attended<T, A>>,
 }
 
-impl<T, A: Bookkeeping> Model for Shared<T, A> {
+impl<T: Named, A: Bookkeeping> Model for Shared<T, A> {
     ghost use Rattle.broadcast_mailbox.specs.Ends.{SharedInbox};
 
     ghost Value = { SharedInbox };
@@ -52,9 +52,9 @@ impl<T, A: Bookkeeping> Model for Shared<T, A> {
     ghost view = { λ it. record { queued = it.queued.id; stopped = it.stopped.id } };
 }
 
-impl<T, A: Bookkeeping> Shared<T, A> {
-    // Puts the inbox behind a lock, beside the mark of its subscriptions.
-    fn new(inbox: Inbox<T>, account: A, dropped: Arc<Dropped>) -> Self
+impl<T: Named, A: Bookkeeping> Shared<T, A> {
+    // Puts the inbox behind a lock, beside what is told of its subscriptions.
+    fn new(inbox: Inbox<T>, account: A, dropped: Arc<Dropped<T::Digest>>) -> Self
         requires nothing_waits { waiting inbox.queue ≡ [] }
         requires nothing_counted { (A.waiting account ≡ 0) × (A.accepted account ≡ 0) }
     {
@@ -66,19 +66,15 @@ impl<T, A: Bookkeeping> Shared<T, A> {
         }
     }
 
-    /// Returns the mark that a subscription makes once it is dropped.
-    pub(super) fn dropped(&self) -> &Arc<Dropped> {
+    /// Returns where a subscription tells that it is dropped.
+    pub(super) fn dropped(&self) -> &Arc<Dropped<T::Digest>> {
         &self.dropped
     }
 
-    /// Marks that a subscription was dropped, whose channel is closed.
-    pub(super) fn mark_dropped(&self) {
-        self.dropped.mark();
-    }
-
-    /// Returns whether a subscription was dropped since the last call.
-    pub(super) fn take_dropped(&self) -> bool {
-        self.dropped.take()
+    /// Puts the digests of which a subscription was dropped since the last call in place of those
+    /// in `taken`. Returns whether it may have been one of another digest too.
+    pub(super) fn take_dropped(&self, taken: &mut Vec<T::Digest>) -> bool {
+        self.dropped.take(taken)
     }
 
     /// Requests a stop.
@@ -110,7 +106,7 @@ impl<T, A: Bookkeeping> Shared<T, A> {
     }
 }
 
-impl<T: Drop, A: Bookkeeping> Shared<T, A> {
+impl<T: Named + Drop, A: Bookkeeping> Shared<T, A> {
     /// Shares a new inbox whose ready list has `mailbox_size` places.
     pub(super) fn create(
         alloc: Global,
@@ -119,7 +115,7 @@ impl<T: Drop, A: Bookkeeping> Shared<T, A> {
     ) -> Result<Arc<Self>, AllocError>
         requires { (A.waiting account ≡ 0) × (A.accepted account ≡ 0) }
     {
-        let Ok(dropped) = Arc::new(alloc, Dropped::new()) else {
+        let Ok(dropped) = Arc::new(alloc, Dropped::new(alloc)) else {
             drop::<_>(account);
             return Err(AllocError);
         };
@@ -147,7 +143,7 @@ impl<T: Drop, A: Bookkeeping> Shared<T, A> {
     }
 }
 
-impl<T: Closable + Drop, A: Bookkeeping> Shared<T, A> {
+impl<T: Closable + Named + Drop, A: Bookkeeping> Shared<T, A> {
     /// Queues a message.
     pub(super) fn enqueue(&self, rt: &impl Wait, message: T) -> Result<Queued, MailboxError> {
         let (queued, woken) = self.state.lock(rt).enqueue(message);
@@ -163,6 +159,7 @@ impl<T: Closable + Drop, A: Bookkeeping> Shared<T, A> {
         cx: &mut Context<'_>,
     ) -> Poll<Request<T>>
         ensures taken { A.taken taker.new ≡ A.taken taker.old + counted_of (ready result) }
+        ensures refused { A.refusals taker.new ≡ A.refusals taker.old }
         ensures heard { OnPending result (Hears cx.new self.now.queued) }
         ensures armed { OnPending result (IsArmed cx.new) }
         ensures kept { Keeps cx.old cx.new }
@@ -211,7 +208,7 @@ where
 
 impl<T, A, K, V, D> Shared<T, Books<A, K, V, D>>
 where
-    T: Closable + Drop,
+    T: Closable + Named + Drop,
     A: Account,
     K: Account,
     V: Watch<D>,
@@ -248,6 +245,7 @@ where
         ensures accepted { tally.old.accepted
             ≡ result.applied + result.refused + result.skipped + result.given_up }
         ensures taken { result.applied + result.refused ≡ taker.old.share.amount }
+        ensures refused { result.refused ≡ taker.old.refused }
         ensures broadcasts { BroadcastsOnly V.watched → result.skipped ≡ 0 }
     {
         let (settled, woken) = self.state.lock(rt).settle(taker, tally);

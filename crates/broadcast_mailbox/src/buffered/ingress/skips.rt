@@ -1,9 +1,9 @@
-//! How many requests were skipped.
+//! The numbers of skipped requests.
 ghost use Rattle.std.specs.Prelude.{◌≡◌, ◌+◌, ◌^◌, ◌<◌, ◌≤◌};
 ghost use Rattle.broadcast_mailbox.specs.Account.{one_if};
 ghost use Rattle.broadcast_mailbox.specs.Skips.{no_skips};
 
-/// How many closed requests were dropped in place of being taken.
+/// The number of closed requests that were dropped instead of taken.
 #[derive(Clone, Copy, Debug, PartialEq, Eq)]
 pub(super) struct Skips {
     /// All of them.

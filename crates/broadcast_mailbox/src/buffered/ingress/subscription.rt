@@ -1,23 +1,24 @@
 //! The future of a subscribe.
-ghost use Rattle.std.specs.Prelude.{◌≡◌, IfOk, IfErr};
-ghost use Rattle.broadcast_mailbox.specs.Waited.{subscription_waited};
-ghost use Rattle.futures.specs.Channel.{canceled_source};
-ghost use Rattle.futures.specs.Poll.{IfReady};
+ghost use Rattle.std.specs.Prelude.{◌≡◌, Ok, Err, true, IfOk, IfErr};
+ghost use Rattle.broadcast_mailbox.specs.Account.{is_accepted};
+ghost use Rattle.futures.specs.Poll.{IfReady, OnPending};
+ghost use Rattle.futures.specs.declared.task.Poll.TheVariants.{Ready};
 ghost use Rattle.broadcast_mailbox.specs.Asked.{GoesBy, subscription_returns};
 
+use crate::buffered::ingress::abandoned::Abandoned;
+use crate::buffered::ingress::bell::{Answering, answered};
 use crate::buffered::ingress::dropped::Dropped;
 use crate::buffered::ingress::limit::Limit;
+use crate::buffered::ingress::queued::Queued;
 use crate::buffered::ingress::reply::{Reply, Returns, try_receive};
 use broadcast_core::{Digested, Digestible};
 use futures::Future;
-use futures::channel::oneshot::{self, Canceled, Receiver, Sender};
-use futures::executor::block_on;
+use futures::channel::oneshot::{Canceled, Receiver};
 use futures::task::{Context, Poll};
-use std::alloc::{AllocError, AllocGlobal, Global};
-use std::io;
+use std::alloc::{AllocError, Global};
 use std::marker::Model;
-use std::random::RandomSource;
 use std::sync::{Arc, Wait};
+use std::thread::Parker;
 use std::time::{Clock, Duration};
 
 /// A future for the message of a digest. Dropping it cancels the request.
@@ -26,23 +27,28 @@ use std::time::{Clock, Duration};
 pub struct Subscription<M: Digestible> {
     digest: M::Digest,
     receiver: Receiver<Reply<M>>,
+    bell: Arc<Parker>,
+    // Whether the mailbox accepted the request.
+    accepted: bool,
     // Whether the channel has given its result.
     is_done: bool,
-    dropped: Arc<Dropped>,
+    dropped: Arc<Dropped<M::Digest>>,
 }
 
 /// Closes the channel, and then tells the mailbox, unless the channel has given its result.
 impl<M: Digestible> Drop for Subscription<M> {
     fn drop(self) {
         let Self {
-            digest: _,
+            digest,
             receiver,
+            bell: _,
+            accepted: _,
             is_done,
             dropped,
         } = self;
-        drop(receiver);
+        let abandoned = Abandoned::close(receiver, digest);
         if !is_done {
-            dropped.mark();
+            dropped.tell(abandoned);
         }
     }
 }
@@ -53,53 +59,80 @@ impl<M: Digestible> Model for Subscription<M> {
 
     ghost Value = { Asked M.Digest };
 
-    ghost view = { λ s. record { digest = s.digest; source = completed_source s.receiver } };
+    ghost view = { λ s. record {
+      digest = s.digest;
+      source = completed_source s.receiver;
+      accepted = s.accepted;
+      done = s.is_done;
+    } };
 }
 
 impl<M: Digestible> Subscription<M> {
-    // Creates the future of a subscribe to `digest`, whose drop is marked there. Returns also where
+    // Creates the future of a subscribe to `digest`, whose drop is told there. Returns also where
     // its reply goes.
     pub(super) fn open(
         alloc: Global,
         digest: M::Digest,
-        dropped: &Arc<Dropped>,
-    ) -> Result<(Sender<Reply<M>>, Self), AllocError>
+        dropped: &Arc<Dropped<M::Digest>>,
+    ) -> Result<(Answering<Reply<M>>, Self), AllocError>
         ensures digest { IfOk result (λ ends. ends.1.digest ≡ digest) }
-        ensures same_channel { IfOk result (λ ends. ends.1.source ≡ canceled_source ends.0) }
+        ensures same_channel { IfOk result (λ ends. ends.1.source ≡ ends.0) }
     {
         let Ok(dropped) = Arc::try_clone(dropped) else {
             return Err(AllocError);
         };
-        let Ok((responder, receiver)) = oneshot::channel(alloc) else {
+        let Ok((responder, receiver, bell)) = answered(alloc) else {
             drop(dropped);
             return Err(AllocError);
         };
         let subscription = Subscription {
             digest,
             receiver,
+            bell,
+            accepted: false,
             is_done: false,
             dropped,
         };
         Ok((responder, subscription))
     }
 
+    // Keeps whether the request was accepted.
+    pub(super) fn set_accepted(&mut self, queued: Queued)
+        ensures { self.new ≡ record self.old { accepted = is_accepted (Ok queued) } }
+    {
+        self.accepted = queued.is_accepted();
+    }
+
+    /// Returns whether the mailbox accepted the request. If not, it was closed.
+    pub fn was_accepted(&self) -> bool
+        ensures { result ≡ self.now.accepted }
+    {
+        self.accepted
+    }
+
     /// Blocks the calling thread until the message is there, and returns what the future gives.
-    ///
-    /// It ends as canceled also if there is no memory to wait with.
-    pub fn wait<R: Wait + RandomSource + AllocGlobal>(self, rt: &R) -> Result<Digested<M>, Canceled>
+    /// The thread sleeps at once, and needs no memory.
+    pub fn wait<R: Wait>(self, rt: &R) -> Result<Digested<M>, Canceled>
         ensures { IfOk result (λ message. GoesBy M.Digest.cmp self.digest message) }
     {
-        waited(block_on(rt, self))
+        let mut subscription = self;
+        for _ in rt.forever() {
+            if let Poll::Ready(outcome) = subscription.try_wait() {
+                return outcome;
+            }
+            subscription.bell.park(rt);
+        }
+        unreachable!()
     }
 
     /// Waits for the message for no longer than `limit`, and returns what the future gives, or an
     /// `Err` with the future if the message is not there by then.
     ///
-    /// It looks once a millisecond, needs no memory, and returns the `Err` also if the clock can't
-    /// be read.
-    pub fn wait_timeout(
+    /// The thread sleeps at once until the message is there or the time is over, and needs no
+    /// memory. Returns the `Err` also if the clock can't be read.
+    pub fn wait_timeout<R: Wait + Clock>(
         self,
-        clock: &impl Clock,
+        rt: &R,
         limit: Duration,
     ) -> Result<Result<Digested<M>, Canceled>, Self>
         ensures gives { IfOk result (λ outcome.
@@ -107,14 +140,15 @@ impl<M: Digestible> Subscription<M> {
         ensures same_after_limit { IfErr result (λ subscription. subscription ≡ self) }
     {
         let mut subscription = self;
-        let limit = Limit::new(clock, limit);
+        let limit = Limit::new(rt, limit);
         for _ in 0..u64::MAX {
             if let Poll::Ready(outcome) = subscription.try_wait() {
                 return Ok(outcome);
             }
-            if !limit.pause(clock) {
+            let Some(left) = limit.left(rt) else {
                 break;
-            }
+            };
+            subscription.bell.park_timeout(rt, left);
         }
         Err(subscription)
     }
@@ -124,23 +158,15 @@ impl<M: Digestible> Subscription<M> {
     pub fn try_wait(&mut self) -> Poll<Result<Digested<M>, Canceled>>
         ensures gives { IfReady result (λ outcome.
             IfOk outcome (λ message. GoesBy M.Digest.cmp self.old.digest message)) }
-        ensures same { self.new ≡ self.old }
+        ensures canceled_if_done { self.old.done ≡ true → result ≡ Ready (Err (record {})) }
+        ensures done { IfReady result (λ outcome. self.new ≡ record self.old { done = true }) }
+        ensures same { OnPending result (self.new ≡ self.old) }
     {
+        if self.is_done {
+            return Poll::Ready(Err(Canceled));
+        }
         let received = try_receive(&mut self.receiver);
-        self.is_done = received.is_ready();
         self.returned(received)
-    }
-}
-
-// Returns the output of the future, or that it is canceled if it could not be waited for.
-fn waited<M: Digestible>(
-    blocked: io::Result<Result<Digested<M>, Canceled>>,
-) -> Result<Digested<M>, Canceled>
-    ensures { result ≡ subscription_waited blocked }
-{
-    match blocked {
-        Ok(outcome) => outcome,
-        Err(_) => Err(Canceled),
     }
 }
 
@@ -152,8 +178,10 @@ impl<M: Digestible> Future for Subscription<M> {
     ghost gives = { λ s outcome. IfOk outcome (λ message. GoesBy M.Digest.cmp s.digest message) };
 
     fn poll(&mut self, cx: &mut Context<'_>) -> Poll<Result<Digested<M>, Canceled>> {
+        if self.is_done {
+            return Poll::Ready(Err(Canceled));
+        }
         let polled = self.receiver.poll(cx);
-        self.is_done = polled.is_ready();
         self.returned(polled)
     }
 }
@@ -165,15 +193,20 @@ impl<M: Digestible> Returns for Subscription<M> {
 
     ghost returns = { λ future polled. subscription_returns M.Digest.cmp future.digest polled };
 
+    ghost ended = { λ future. record future { done = true } };
+
     fn returned(
-        &self,
+        &mut self,
         polled: Poll<Result<Reply<M>, Canceled>>,
     ) -> Poll<Result<Digested<M>, Canceled>>
-        ensures { result ≡ subscription_returns M.Digest.cmp self.now.digest polled }
+        ensures value { result ≡ subscription_returns M.Digest.cmp self.old.digest polled }
+        ensures done { IfReady result (λ output. self.new ≡ record self.old { done = true }) }
+        ensures same { OnPending result (self.new ≡ self.old) }
     {
         match polled {
             Poll::Pending => Poll::Pending,
             Poll::Ready(Ok(reply)) => {
+                self.is_done = true;
                 let Reply { digest, message } = reply;
                 if self.digest.cmp(&digest).is_eq() {
                     Poll::Ready(Ok(message))
@@ -181,7 +214,10 @@ impl<M: Digestible> Returns for Subscription<M> {
                     Poll::Ready(Err(Canceled))
                 }
             }
-            Poll::Ready(Err(canceled)) => Poll::Ready(Err(canceled)),
+            Poll::Ready(Err(canceled)) => {
+                self.is_done = true;
+                Poll::Ready(Err(canceled))
+            }
         }
     }
 }

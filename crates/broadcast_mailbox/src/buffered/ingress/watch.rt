@@ -3,7 +3,7 @@ ghost use Rattle.std.specs.Prelude.{◌≡◌, Bool, true};
 ghost use Rattle.broadcast_mailbox.specs.declared.buffered.ingress.watch.Kind.{Kind};
 ghost use Rattle.broadcast_mailbox.specs.Watch.{is_broadcast};
 
-/// What a request asks for.
+/// The kind of a request.
 #[derive(Clone, Copy, Debug, PartialEq, Eq)]
 pub enum Kind {
     /// To broadcast a message.

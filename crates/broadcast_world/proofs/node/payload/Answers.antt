@@ -10,4 +10,4 @@ pub returns : goal.returns
 returns g c = λ w n p ranged equal.
     let total = g.met.P.Ord.total in
     NodeFollows-from g.P.Ord.cmp total w n (event_payload p c.args.peer.now equal c.args.bytes.now) _ _ _ []
-    (c.payload.ensures (at g.P.Ord.cmp w c.args.core.now.own) refl refl refl (ap (λ r. whole (read_message r)) ranged))
+    (c.payload.ensures.follows (at g.P.Ord.cmp w c.args.core.now.own) refl refl refl (ap (λ r. whole (read_message r)) ranged))

@@ -7,4 +7,4 @@ use Rattle.broadcast_world.proofs.node.subscribe.Goals as goal
 pub returns : goal.returns
 returns g c = λ w n.
     let total = g.met.P.Ord.total in
-    NodeFollows-from g.P.Ord.cmp total w n (event_subscribe c.args.ticket c.args.digest.now) _ _ _ [] (c.subscribe.ensures (at g.P.Ord.cmp w c.args.core.now.own) refl)
+    NodeFollows-from g.P.Ord.cmp total w n (event_subscribe c.args.ticket c.args.digest.now) _ _ _ [] (c.subscribe.ensures.follows (at g.P.Ord.cmp w c.args.core.now.own) refl)

@@ -12,6 +12,7 @@ ghost use Rattle.engine_io.specs.Replies.{Asker};
 ghost use Rattle.commonware_broadcast.specs.Order.{of_network};
 ghost use Rattle.engine_io.specs.Inputs.{payloads_in};
 ghost use Rattle.commonware_broadcast.specs.AppliesSteps.{Applies, sinks};
+ghost use Rattle.commonware_broadcast.specs.Interfaces.{by_responder};
 
 use crate::buffered::engine::broadcast::handle_broadcast;
 use crate::buffered::engine::handler::{
@@ -30,7 +31,7 @@ pub(super) fn apply<P, M, S, G, O, N>(
     alloc: Global,
     priority: bool,
     input: Input<P, M, S, G>,
-) -> Turn<P>
+) -> Turn<P, M::Digest>
 where
     P: PublicKey,
     M: Digestible + EncodeSize,
@@ -41,7 +42,7 @@ where
     ensures applied { (s : Setting P M M.Digest) → s.same ≡ same_by P.cmp M.Digest.cmp
         → s.encoding ≡ M.encoding → s.priority ≡ priority
         → (past : History P M M.Digest (Asker S) (Asker G)) → HasContent s past node.old.core
-        → Applies s (sinks (λ w b. S.may_answer w.responder b) O.told N.told) past input
+        → Applies s (sinks (by_responder S.may_answer) O.told N.told) past input
         result (node.old, sender.old) (node.new, sender.new) }
     ensures tells_no_end { end_told result ≡ None }
     ensures of_peers { (ps : List P) → input ≡ Peers ps → result ≡ turn.Peers }
@@ -65,7 +66,7 @@ fn apply_request<P, M, S, G, O, N>(
     alloc: Global,
     priority: bool,
     request: Request<Message<P, M, S, G>>,
-) -> Turn<P>
+) -> Turn<P, M::Digest>
 where
     P: PublicKey,
     M: Digestible + EncodeSize,
@@ -76,7 +77,7 @@ where
     ensures applied { (s : Setting P M M.Digest) → s.same ≡ same_by P.cmp M.Digest.cmp
         → s.encoding ≡ M.encoding → s.priority ≡ priority
         → (past : History P M M.Digest (Asker S) (Asker G)) → HasContent s past node.old.core
-        → Applies s (sinks (λ w b. S.may_answer w.responder b) O.told N.told) past
+        → Applies s (sinks (by_responder S.may_answer) O.told N.told) past
         (input.Request request) result (node.old, sender.old) (node.new, sender.new) }
     ensures tells_no_end { end_told result ≡ None }
     ensures of_request { of_network result ≡ false }

@@ -2,7 +2,6 @@
 ghost use Rattle.std.specs.Prelude.{◌≡◌, List, None, Some, Ok};
 ghost use Rattle.futures.specs.Poll.{IfReady, OnPending};
 ghost use Rattle.futures.specs.Task.{IsArmed, Keeps};
-ghost use Rattle.broadcast_core.specs.Codec.{whole};
 ghost use Rattle.broadcast_core.specs.Content.{same_by};
 ghost use Rattle.broadcast_core.specs.Setting.{Setting};
 ghost use Rattle.broadcast_core.specs.Happening.{History};
@@ -14,8 +13,8 @@ ghost use Rattle.engine_io.specs.Replies.{Asker};
 ghost use Rattle.commonware_broadcast.specs.AppliesSteps.{Handles, replying};
 ghost use Rattle.commonware_broadcast.specs.Arrives.{AlwaysArrives, payload_of, message_of};
 ghost use Rattle.commonware_broadcast.specs.EngineHistory.{end_told};
-ghost use Rattle.commonware_broadcast.specs.Interfaces.{format, parties};
 ghost use Rattle.commonware_broadcast.specs.Order.{end_in};
+ghost use Rattle.commonware_broadcast.specs.Interfaces.{by_responder, format_of, parties_of};
 
 use crate::buffered::engine::handler::{handle_arrival, handle_invalid};
 use crate::buffered::engine::node::Node;
@@ -38,15 +37,14 @@ impl<P: PublicKey, M: Digestible + Codec, S, O, B, Q, T: Strategy<M>> Engine<P, 
         cx: &mut Context<'_>,
         peer: P,
         bytes: &[u8],
-    ) -> Poll<Turn<P>>
+    ) -> Poll<Turn<P, M::Digest>>
     where
         S: Responder<Reply<M>> + Drop,
         O: Outlet<S, G, Reply<M>, Option<Reply<M>>>,
         requires idle { self.old.job ≡ None }
         ensures arrives { AlwaysArrives
-            (format (same_by P.cmp M.Digest.cmp) M.encoding M.digest_of
-            (λ cfg. whole (M.reading cfg)))
-            (parties (λ w b. S.may_answer w.responder b) T.Job.is_of O.Outlet)
+            (format_of P.cmp M.Digest.cmp M.encoding M.digest_of M.reading)
+            (parties_of S.may_answer T.Job.is_of O.Outlet)
             (λ s. payload_of peer (s.reading bytes.now)) self.old self.new result }
         ensures idle_if_ready { IfReady result (λ turn. self.new.job ≡ None) }
         ensures held_if_pending { OnPending result (self.new.job ≡ None → ⊥) }
@@ -74,15 +72,14 @@ impl<P: PublicKey, M: Digestible + Codec, S, O, B, Q, T: Strategy<M>> Engine<P, 
         cx: &mut Context<'_>,
         peer: P,
         message: M,
-    ) -> Poll<Turn<P>>
+    ) -> Poll<Turn<P, M::Digest>>
     where
         S: Responder<Reply<M>> + Drop,
         O: Outlet<S, G, Reply<M>, Option<Reply<M>>>,
         requires idle { self.old.job ≡ None }
         ensures arrives { AlwaysArrives
-            (format (same_by P.cmp M.Digest.cmp) M.encoding M.digest_of
-            (λ cfg. whole (M.reading cfg)))
-            (parties (λ w b. S.may_answer w.responder b) T.Job.is_of O.Outlet)
+            (format_of P.cmp M.Digest.cmp M.encoding M.digest_of M.reading)
+            (parties_of S.may_answer T.Job.is_of O.Outlet)
             (λ s. payload_of peer (Ok message)) self.old self.new result }
         ensures idle_if_ready { IfReady result (λ turn. self.new.job ≡ None) }
         ensures held_if_pending { OnPending result (self.new.job ≡ None → ⊥) }
@@ -112,15 +109,14 @@ impl<P: PublicKey, M: Digestible + Codec, S, O, B, Q, T: Strategy<M>> Engine<P, 
         cx: &mut Context<'_>,
         peer: P,
         mut job: T::Job,
-    ) -> Poll<Turn<P>>
+    ) -> Poll<Turn<P, M::Digest>>
     where
         S: Responder<Reply<M>> + Drop,
         O: Outlet<S, G, Reply<M>, Option<Reply<M>>>,
         requires idle { self.old.job ≡ None }
         ensures arrives { (m : M) → T.Job.is_of job m → AlwaysArrives
-            (format (same_by P.cmp M.Digest.cmp) M.encoding M.digest_of
-            (λ cfg. whole (M.reading cfg)))
-            (parties (λ w b. S.may_answer w.responder b) T.Job.is_of O.Outlet)
+            (format_of P.cmp M.Digest.cmp M.encoding M.digest_of M.reading)
+            (parties_of S.may_answer T.Job.is_of O.Outlet)
             (λ s. message_of peer m) self.old self.new result }
         ensures idle_if_ready { IfReady result (λ turn. self.new.job ≡ None) }
         ensures held_if_pending { OnPending result (self.new.job ≡ None → ⊥) }
@@ -146,7 +142,11 @@ impl<P: PublicKey, M: Digestible + Codec, S, O, B, Q, T: Strategy<M>> Engine<P, 
 }
 
 /// Counts a payload of `peer` that is no message, or refuses one for which there is no memory.
-fn refuse<P, M, S, G, O>(node: &mut Node<P, M, S, O>, peer: P, error: CodecError) -> Turn<P>
+fn refuse<P, M, S, G, O>(
+    node: &mut Node<P, M, S, O>,
+    peer: P,
+    error: CodecError,
+) -> Turn<P, M::Digest>
 where
     P: PublicKey,
     M: Digestible,
@@ -157,7 +157,7 @@ where
     ensures invalid { (error ≡ CodecError.Memory → ⊥)
         → (s : Setting P M M.Digest) → s.same ≡ same_by P.cmp M.Digest.cmp
         → (past : History P M M.Digest (Asker S) (Asker G)) → HasContent s past node.old.core
-        → Handles s (replying (λ w b. S.may_answer w.responder b) O.told) past
+        → Handles s (replying (by_responder S.may_answer) O.told) past
         (input.Invalid peer error) result node.old node.new }
     ensures tells_no_end { end_told result ≡ None }
 {
@@ -174,7 +174,7 @@ fn arrive<P, M, S, G, O>(
     peer: P,
     message: M,
     digest: M::Digest,
-) -> Turn<P>
+) -> Turn<P, M::Digest>
 where
     P: PublicKey,
     M: Digestible + EncodeSize,
@@ -183,7 +183,7 @@ where
     ensures handled { (s : Setting P M M.Digest) → s.same ≡ same_by P.cmp M.Digest.cmp
         → s.encoding ≡ M.encoding
         → (past : History P M M.Digest (Asker S) (Asker G)) → HasContent s past node.old.core
-        → Handles s (replying (λ w b. S.may_answer w.responder b) O.told) past
+        → Handles s (replying (by_responder S.may_answer) O.told) past
         (input.Arrived peer (record { message = message; digest = digest }))
         result node.old node.new }
     ensures tells_no_end { end_told result ≡ None }

@@ -9,6 +9,7 @@ ghost use Rattle.commonware_broadcast.specs.EngineHistory.{end_told};
 ghost use Rattle.engine_io.specs.Replies.{Asker};
 ghost use Rattle.commonware_broadcast.specs.Order.{of_network};
 ghost use Rattle.commonware_broadcast.specs.AppliesSteps.{Applies, requested, sinks};
+ghost use Rattle.commonware_broadcast.specs.Interfaces.{by_responder};
 
 use crate::buffered::engine::node::Node;
 use crate::buffered::engine::take::take_own;
@@ -26,7 +27,7 @@ pub(super) fn handle_broadcast<P, M, S, G, O, N>(
     priority: bool,
     recipients: Recipients<P>,
     message: Digested<M>,
-) -> Turn<P>
+) -> Turn<P, M::Digest>
 where
     P: PublicKey,
     M: Digestible + EncodeSize,
@@ -37,7 +38,7 @@ where
         → s.encoding ≡ M.encoding → s.priority ≡ priority
         → (past : History P M M.Digest (Asker S) (Asker G)) → HasContent s past node.old.core
         → (ticket : ℕ) (counted : Bool)
-        → Applies s (sinks (λ w b. S.may_answer w.responder b) O.told N.told) past
+        → Applies s (sinks (by_responder S.may_answer) O.told N.told) past
         (requested ticket counted (request.Broadcast recipients message))
         result (node.old, sender.old) (node.new, sender.new) }
     ensures tells_no_end { end_told result ≡ None }
@@ -50,7 +51,7 @@ where
     match take_own(node, alloc, &message) {
         Ok(outcome) => {
             sender.send(recipients, bytes, priority);
-            Turn::Broadcast(outcome)
+            Turn::Broadcast(message.digest(), outcome)
         }
         Err(_) => Turn::Refused(None, Cause::Memory),
     }

@@ -2,13 +2,11 @@
 ghost use Rattle.std.specs.Prelude.{◌≡◌, ◌<◌, ◌≤◌, Some, None, [], ◌∷◌, length, IfOk, OnErr};
 ghost use Rattle.std.specs.List.{All};
 ghost use Rattle.futures.specs.Task.{IsArmed, Keeps};
-ghost use Rattle.broadcast_core.specs.Codec.{whole};
-ghost use Rattle.broadcast_core.specs.Content.{same_by};
 ghost use Rattle.engine_io.specs.declared.input.Turn.TheVariants as turn;
 ghost use Rattle.engine_io.specs.declared.input.EndCause.{EndCause};
-ghost use Rattle.commonware_broadcast.specs.Interfaces.{format, parties, interfaces};
 ghost use Rattle.commonware_broadcast.specs.Polls.{Drives};
 ghost use Rattle.commonware_broadcast.specs.TakesSteps.{AlwaysTakes, TellsEnd};
+ghost use Rattle.commonware_broadcast.specs.Interfaces.{format_of, over};
 
 use crate::buffered::engine::state::Engine;
 use crate::buffered::strategy::Strategy;
@@ -27,7 +25,7 @@ pub fn drive<P, M, S, G, O, B, Q, T, N, R>(
     cx: &mut Context<'_>,
     network: &mut (N, R),
     limit: usize,
-) -> Result<Vec<Turn<P>>, AllocError>
+) -> Result<Vec<Turn<P, M::Digest>>, AllocError>
 where
     P: PublicKey,
     M: Digestible + Codec,
@@ -40,14 +38,12 @@ where
     N: Sender<P>,
     R: Receiver<P>,
     ensures took { IfOk result (λ turns. AlwaysTakes
-        (format (same_by P.cmp M.Digest.cmp) M.encoding M.digest_of (λ cfg. whole (M.reading cfg)))
-        (interfaces (parties (λ w b. S.may_answer w.responder b) T.Job.is_of O.Outlet)
-        N.Sender R.Receiver B.Provider Q.Requests)
+        (format_of P.cmp M.Digest.cmp M.encoding M.digest_of M.reading)
+        (over S.may_answer T.Job.is_of O.Outlet N.Sender R.Receiver B.Provider Q.Requests)
         (engine.old, network.old) (engine.new, network.new) turns.items) }
     ensures drives { IfOk result (λ turns. Drives
-        (format (same_by P.cmp M.Digest.cmp) M.encoding M.digest_of (λ cfg. whole (M.reading cfg)))
-        (interfaces (parties (λ w b. S.may_answer w.responder b) T.Job.is_of O.Outlet)
-        N.Sender R.Receiver B.Provider Q.Requests)
+        (format_of P.cmp M.Digest.cmp M.encoding M.digest_of M.reading)
+        (over S.may_answer T.Job.is_of O.Outlet N.Sender R.Receiver B.Provider Q.Requests)
         limit (engine.old, network.old) (engine.new, network.new) turns.items) }
     ensures at_most_limit { IfOk result (λ turns. length turns.items ≤ limit) }
     ensures ends_with_last_turn { IfOk result (λ turns.

@@ -12,7 +12,9 @@ ghost use Rattle.engine_io.specs.Replies.{Asker, Replied, Replies};
 ghost use Rattle.commonware_broadcast.specs.EngineHistory.{applied, swept, ended, end_told};
 ghost use Rattle.commonware_broadcast.specs.CountingCalls.{count_outcome};
 ghost use Rattle.commonware_broadcast.specs.AppliesSteps.{AppliesStep, Handles, requested, replying};
+ghost use Rattle.commonware_broadcast.specs.Interfaces.{by_responder};
 
+use crate::buffered::engine::closed::Closed;
 use crate::buffered::engine::node::Node;
 use crate::buffered::engine::take::take;
 use broadcast_core::{
@@ -31,7 +33,7 @@ where
     O: Outlet<S, G, Reply<M>, Option<Reply<M>>>,
     ensures { (s : Setting P M M.Digest) → s.same ≡ same_by P.cmp M.Digest.cmp
         → (past : History P M M.Digest (Asker S) (Asker G)) → HasContent s past node.old.core
-        → AppliesStep s (λ w b. S.may_answer w.responder b) O.told past
+        → AppliesStep s (by_responder S.may_answer) O.told past
         (applied (input.Peers peers) []) node.old node.new }
 {
     node.core.update_primary_peers(peers);
@@ -43,7 +45,7 @@ pub(super) fn handle_arrival<P, M, S, G, O>(
     alloc: Global,
     peer: P,
     message: Digested<M>,
-) -> Turn<P>
+) -> Turn<P, M::Digest>
 where
     P: PublicKey,
     M: Digestible + EncodeSize,
@@ -52,14 +54,14 @@ where
     ensures handled { (s : Setting P M M.Digest) → s.same ≡ same_by P.cmp M.Digest.cmp
         → s.encoding ≡ M.encoding
         → (past : History P M M.Digest (Asker S) (Asker G)) → HasContent s past node.old.core
-        → Handles s (replying (λ w b. S.may_answer w.responder b) O.told) past
+        → Handles s (replying (by_responder S.may_answer) O.told) past
         (input.Arrived peer message) result node.old node.new }
     ensures tells_no_end { end_told result ≡ None }
 {
     match take(node, alloc, &peer, &message) {
         Ok(outcome) => {
             count_received(&mut node.metrics, outcome);
-            Turn::Payload(peer, outcome)
+            Turn::Payload(peer, message.digest(), outcome)
         }
         Err(_) => Turn::Refused(Some(peer), Cause::Memory),
     }
@@ -70,7 +72,7 @@ pub(super) fn handle_invalid<P, M, S, G, O>(
     node: &mut Node<P, M, S, O>,
     peer: P,
     error: CodecError,
-) -> Turn<P>
+) -> Turn<P, M::Digest>
 where
     P: PublicKey,
     M: Digestible,
@@ -78,7 +80,7 @@ where
     O: Outlet<S, G, Reply<M>, Option<Reply<M>>>,
     ensures handled { (s : Setting P M M.Digest) → s.same ≡ same_by P.cmp M.Digest.cmp
         → (past : History P M M.Digest (Asker S) (Asker G)) → HasContent s past node.old.core
-        → Handles s (replying (λ w b. S.may_answer w.responder b) O.told) past
+        → Handles s (replying (by_responder S.may_answer) O.told) past
         (input.Invalid peer error) result node.old node.new }
     ensures tells_no_end { end_told result ≡ None }
 {
@@ -102,7 +104,7 @@ where
     ensures steps { OnOk result ((replies : Replies S G M M.Digest)
         × ((s : Setting P M M.Digest) → s.same ≡ same_by P.cmp M.Digest.cmp
         → (past : History P M M.Digest (Asker S) (Asker G)) → HasContent s past node.old.core
-        → (counted : Bool) → AppliesStep s (λ w b. S.may_answer w.responder b) O.told past
+        → (counted : Bool) → AppliesStep s (by_responder S.may_answer) O.told past
         (applied (requested ticket counted (request.Subscribe digest responder)) replies)
         node.old node.new)) }
     ensures unchanged_on_error { OnErr result (node.new ≡ node.old) }
@@ -134,7 +136,7 @@ where
     ensures steps { OnOk result ((replies : Replies S G M M.Digest)
         × ((s : Setting P M M.Digest) → s.same ≡ same_by P.cmp M.Digest.cmp
         → (past : History P M M.Digest (Asker S) (Asker G)) → HasContent s past node.old.core
-        → (counted : Bool) → AppliesStep s (λ w b. S.may_answer w.responder b) O.told past
+        → (counted : Bool) → AppliesStep s (by_responder S.may_answer) O.told past
         (applied (requested ticket counted (request.Get digest responder)) replies)
         node.old node.new)) }
     ensures unchanged_on_error { OnErr result (node.new ≡ node.old) }
@@ -169,41 +171,54 @@ fn count_received<P: PublicKey>(metrics: &mut Metrics<P>, outcome: Outcome)
 }
 
 /// Drops the waiters that answer closed, counts them, and sets the gauge. Does not allocate.
-pub(super) fn cleanup_waiters<P, M, S, G, O, Q>(node: &mut Node<P, M, S, O>, requests: &Q)
+pub(super) fn cleanup_waiters<P, M, S, G, O, Q>(
+    node: &mut Node<P, M, S, O>,
+    requests: &mut Q,
+    closed: &mut Closed<M>,
+)
 where
     P: PublicKey,
     M: Digestible,
     S: Responder<Reply<M>> + Drop,
     O: Outlet<S, G, Reply<M>, Option<Reply<M>>>,
     Q: Requests<Message<P, M, S, G>>,
-    ensures { (s : Setting P M M.Digest) → s.same ≡ same_by P.cmp M.Digest.cmp
+    ensures swept { (s : Setting P M M.Digest) → s.same ≡ same_by P.cmp M.Digest.cmp
         → (past : History P M M.Digest (Asker S) (Asker G)) → HasContent s past node.old.core
         → (test : ℕ → Asker S → Bool)
-        × AppliesStep s (λ w b. S.may_answer w.responder b) O.told past (swept test)
+        × AppliesStep s (by_responder S.may_answer) O.told past (swept test)
         node.old node.new }
+    ensures same { requests.new ≡ requests.old }
 {
-    let dropped = drop_closed(&mut node.core, requests);
+    let dropped = drop_closed(&mut node.core, requests, closed);
     node.metrics.count_subscribe(Status::Dropped, dropped);
     node.metrics.set_waiters(node.core.awaited() as u64);
+    closed.forget(&node.core);
 }
 
-/// Drops the waiters that answer closed, and returns how many. Asks none if the requests tell that
-/// none has closed.
-fn drop_closed<P, M, S, G, Q>(core: &mut Core<P, M, Waiter<M, S>>, requests: &Q) -> u64
+/// Drops the waiters that answer closed, and returns how many. Asks those of the digests that the
+/// requests name, and of those of which they tell nothing. Asks each one if either can't tell.
+fn drop_closed<P, M, S, G, Q>(
+    core: &mut Core<P, M, Waiter<M, S>>,
+    requests: &mut Q,
+    closed: &mut Closed<M>,
+) -> u64
 where
     P: PublicKey,
     M: Digestible,
     S: Responder<Reply<M>> + Drop,
     Q: Requests<Message<P, M, S, G>>,
-    ensures { (s : Setting P M M.Digest) → s.same ≡ same_by P.cmp M.Digest.cmp
+    ensures cleaned { (s : Setting P M M.Digest) → s.same ≡ same_by P.cmp M.Digest.cmp
         → (past : History P M M.Digest (Asker S) (Asker G)) → HasContent s past core.old
-        → HasCleaned s (λ w b. S.may_answer w.responder b) past core.new result }
+        → HasCleaned s (by_responder S.may_answer) past core.new result }
+    ensures same { requests.new ≡ requests.old }
 {
-    if requests.may_have_closed() {
-        core.cleanup_by()
-    } else {
-        0
+    if requests.take_closed(&mut closed.digests) {
+        return core.cleanup_by();
     }
+    if closed.add_applied() {
+        return core.cleanup_by();
+    }
+    core.cleanup_each(closed.digests.as_slice())
 }
 
 /// Drops all waiters, and counts none. Does not allocate.
@@ -216,7 +231,7 @@ where
     ensures ended { (s : Setting P M M.Digest) → s.same ≡ same_by P.cmp M.Digest.cmp
         → (past : History P M M.Digest (Asker S) (Asker G)) → HasContent s past node.old.core
         → (cause : EndCause)
-        → AppliesStep s (λ w b. S.may_answer w.responder b) O.told past (ended cause)
+        → AppliesStep s (by_responder S.may_answer) O.told past (ended cause)
         node.old node.new }
     ensures counts_none { node.new.metrics ≡ node.old.metrics }
 {

@@ -1,4 +1,4 @@
-//! What the inputs of an engine change.
+//! The part of an engine that its inputs change.
 ghost use Rattle.std.specs.Prelude.{◌≡◌};
 
 use broadcast_core::{Core, Digestible, PublicKey};

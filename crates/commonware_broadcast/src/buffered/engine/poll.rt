@@ -1,27 +1,27 @@
 //! A poll of an engine.
-ghost use Rattle.std.specs.Prelude.{◌≡◌, ◌⊎◌, ℕ, None};
+ghost use Rattle.std.specs.Prelude.{◌≡◌, ◌⊎◌, ◌++◌, ℕ, Bool, List, None};
 ghost use Rattle.futures.specs.Poll.{IfReady, OnPending};
 ghost use Rattle.futures.specs.Task.{IsArmed, Keeps};
 ghost use Rattle.futures.specs.declared.task.Poll.TheVariants.{Ready};
-ghost use Rattle.broadcast_core.specs.Codec.{whole};
-ghost use Rattle.broadcast_core.specs.Content.{same_by};
 ghost use Rattle.engine_io.specs.declared.input.Turn.TheVariants as turn;
 ghost use Rattle.engine_io.specs.declared.input.EndCause.{EndCause};
 ghost use Rattle.engine_io.specs.Causes.{HasCause};
 ghost use Rattle.engine_io.specs.Heard.{HearsAll, HearsJob};
+ghost use Rattle.engine_io.specs.Refused.{outcome_of};
 ghost use Rattle.engine_io.specs.Sources.{given};
-ghost use Rattle.commonware_broadcast.specs.Interfaces.{format, parties, interfaces};
+ghost use Rattle.broadcast_mailbox.specs.declared.buffered.ingress.request.Request.{Request};
 ghost use Rattle.commonware_broadcast.specs.Order.{UnlessPeers, IfNetwork, end_in};
 ghost use Rattle.commonware_broadcast.specs.Polls.{IsPoll};
-ghost use Rattle.commonware_broadcast.specs.TakesSteps.{AlwaysTakes, AlwaysCleans};
+ghost use Rattle.commonware_broadcast.specs.TakesSteps.{AlwaysTakesOnly, AlwaysCleans};
 ghost use Rattle.commonware_broadcast.specs.Waits.{Waits};
+ghost use Rattle.commonware_broadcast.specs.Interfaces.{format_of, over};
 
 use crate::buffered::engine::apply::apply;
 use crate::buffered::engine::handler::cleanup_waiters;
 use crate::buffered::engine::state::Engine;
 use crate::buffered::strategy::Strategy;
 use broadcast_core::{Codec, Digestible, PublicKey};
-use broadcast_mailbox::buffered::{Message, Reply, Responder};
+use broadcast_mailbox::buffered::{Awaits, Message, Reply, Responder};
 use engine_io::{
     EndCause, First, Outlet, Provider, Receiver, Requests, Sender, Turn, comes_first, next_input,
 };
@@ -38,7 +38,7 @@ impl<P: PublicKey, M: Digestible + Codec, S, O, B, Q, T: Strategy<M>> Engine<P, 
         alloc: Global,
         cx: &mut Context<'_>,
         network: &mut (N, R),
-    ) -> Poll<Turn<P>>
+    ) -> Poll<Turn<P, M::Digest>>
     where
         S: Responder<Reply<M>> + Drop,
         G: Drop,
@@ -48,10 +48,8 @@ impl<P: PublicKey, M: Digestible + Codec, S, O, B, Q, T: Strategy<M>> Engine<P, 
         B: Provider<P>,
         Q: Requests<Message<P, M, S, G>>,
         ensures polled { IsPoll
-            (format (same_by P.cmp M.Digest.cmp) M.encoding M.digest_of
-            (λ cfg. whole (M.reading cfg)))
-            (interfaces (parties (λ w b. S.may_answer w.responder b) T.Job.is_of O.Outlet)
-            N.Sender R.Receiver B.Provider Q.Requests)
+            (format_of P.cmp M.Digest.cmp M.encoding M.digest_of M.reading)
+            (over S.may_answer T.Job.is_of O.Outlet N.Sender R.Receiver B.Provider Q.Requests)
             (self.old, network.old) (self.new, network.new) result }
         ensures waits { OnPending result (Waits T.Job.needs R.Receiver B.Provider Q.Requests
             cx.new self.old.job (self.new, network.new)) }
@@ -77,7 +75,7 @@ impl<P: PublicKey, M: Digestible + Codec, S, O, B, Q, T: Strategy<M>> Engine<P, 
         alloc: Global,
         cx: &mut Context<'_>,
         network: &mut (N, R),
-    ) -> Poll<Turn<P>>
+    ) -> Poll<Turn<P, M::Digest>>
     where
         S: Responder<Reply<M>> + Drop,
         G: Drop,
@@ -89,10 +87,8 @@ impl<P: PublicKey, M: Digestible + Codec, S, O, B, Q, T: Strategy<M>> Engine<P, 
         requires unended { self.old.end ≡ None }
         requires idle { self.old.job ≡ None }
         ensures took { AlwaysCleans
-            (format (same_by P.cmp M.Digest.cmp) M.encoding M.digest_of
-            (λ cfg. whole (M.reading cfg)))
-            (interfaces (parties (λ w b. S.may_answer w.responder b) T.Job.is_of O.Outlet)
-            N.Sender R.Receiver B.Provider Q.Requests)
+            (format_of P.cmp M.Digest.cmp M.encoding M.digest_of M.reading)
+            (over S.may_answer T.Job.is_of O.Outlet N.Sender R.Receiver B.Provider Q.Requests)
             (self.old, network.old) (self.new, network.new) (given result) }
         ensures ends { self.new.end ≡ end_in result }
         ensures has_cause { (cause : EndCause) → result ≡ Ready (turn.Ended cause)
@@ -140,7 +136,7 @@ impl<P: PublicKey, M: Digestible + Codec, S, O, B, Q, T: Strategy<M>> Engine<P, 
         alloc: Global,
         cx: &mut Context<'_>,
         network: &mut (N, R),
-    ) -> Poll<Turn<P>>
+    ) -> Poll<Turn<P, M::Digest>>
     where
         S: Responder<Reply<M>> + Drop,
         G: Drop,
@@ -152,10 +148,8 @@ impl<P: PublicKey, M: Digestible + Codec, S, O, B, Q, T: Strategy<M>> Engine<P, 
         requires unended { self.old.end ≡ None }
         requires idle { self.old.job ≡ None }
         ensures took { AlwaysCleans
-            (format (same_by P.cmp M.Digest.cmp) M.encoding M.digest_of
-            (λ cfg. whole (M.reading cfg)))
-            (interfaces (parties (λ w b. S.may_answer w.responder b) T.Job.is_of O.Outlet)
-            N.Sender R.Receiver B.Provider Q.Requests)
+            (format_of P.cmp M.Digest.cmp M.encoding M.digest_of M.reading)
+            (over S.may_answer T.Job.is_of O.Outlet N.Sender R.Receiver B.Provider Q.Requests)
             (self.old, network.old) (self.new, network.new) (given result) }
         ensures ends { self.new.end ≡ end_in result }
         ensures has_cause { (cause : EndCause) → result ≡ Ready (turn.Ended cause)
@@ -182,11 +176,12 @@ impl<P: PublicKey, M: Digestible + Codec, S, O, B, Q, T: Strategy<M>> Engine<P, 
           end = self.new.end;
         } }
     {
-        cleanup_waiters(&mut self.node, &self.requests);
+        cleanup_waiters(&mut self.node, &mut self.requests, &mut self.closed);
         match next_input(&mut self.provider, &mut self.requests, cx) {
             Poll::Ready(Ok(input)) => {
+                let is_request = input.is_request();
                 let turn = apply(&mut self.node, &mut network.0, alloc, self.priority, input);
-                self.requests.end(turn.is_refused());
+                tell_outcome(&mut self.requests, is_request, turn.is_refused());
                 Poll::Ready(turn)
             }
             Poll::Ready(Err(cause)) => {
@@ -203,7 +198,7 @@ impl<P: PublicKey, M: Digestible + Codec, S, O, B, Q, T: Strategy<M>> Engine<P, 
         alloc: Global,
         cx: &mut Context<'_>,
         network: &mut (N, R),
-    ) -> Poll<Turn<P>>
+    ) -> Poll<Turn<P, M::Digest>>
     where
         S: Responder<Reply<M>> + Drop,
         G: Drop,
@@ -214,11 +209,9 @@ impl<P: PublicKey, M: Digestible + Codec, S, O, B, Q, T: Strategy<M>> Engine<P, 
         Q: Requests<Message<P, M, S, G>>,
         requires unended { self.old.end ≡ None }
         requires idle { self.old.job ≡ None }
-        ensures took { AlwaysTakes
-            (format (same_by P.cmp M.Digest.cmp) M.encoding M.digest_of
-            (λ cfg. whole (M.reading cfg)))
-            (interfaces (parties (λ w b. S.may_answer w.responder b) T.Job.is_of O.Outlet)
-            N.Sender R.Receiver B.Provider Q.Requests)
+        ensures took { AlwaysTakesOnly
+            (format_of P.cmp M.Digest.cmp M.encoding M.digest_of M.reading)
+            (over S.may_answer T.Job.is_of O.Outlet N.Sender R.Receiver B.Provider Q.Requests)
             (self.old, network.old) (self.new, network.new) (given result) }
         ensures ends { self.new.end ≡ end_in result }
         ensures has_cause { (cause : EndCause) → result ≡ Ready (turn.Ended cause)
@@ -254,5 +247,17 @@ impl<P: PublicKey, M: Digestible + Codec, S, O, B, Q, T: Strategy<M>> Engine<P, 
                 self.receive::<G>(alloc, cx, peer, bytes.as_slice())
             }
         }
+    }
+}
+
+/// Tells the requests whether the input was refused, if it was one of theirs.
+fn tell_outcome<T: Awaits, Q: Requests<T>>(requests: &mut Q, is_request: bool, refused: bool)
+    ensures tells { (given : List (Request T)) → Q.told requests.old given
+        → Q.told requests.new given }
+    ensures ended { (outcomes : List Bool) → Q.ended requests.old outcomes
+        → Q.ended requests.new (outcomes ++ outcome_of is_request refused) }
+{
+    if is_request {
+        requests.end(refused);
     }
 }

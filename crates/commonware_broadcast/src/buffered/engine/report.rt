@@ -1,7 +1,8 @@
-//! What a started engine leaves.
+//! The report of a started engine.
 ghost use Rattle.std.specs.Prelude.{◌≡◌, ◌+◌, ◌↔◌, false, is_err, IfOk, IfErr};
 ghost use Rattle.broadcast_mailbox.specs.Watch.{BroadcastsOnly};
 
+use crate::buffered::asleep::CannotWait;
 use broadcast_core::{Digestible, PublicKey};
 use broadcast_mailbox::buffered::{
     Account, Books, Ingress, Message, Reply, Responder, Settled, Tally, Watch,
@@ -9,10 +10,11 @@ use broadcast_mailbox::buffered::{
 use engine_io::{EndCause, Metrics};
 use std::sync::Wait;
 
-/// What a started engine leaves.
+/// The report of a started engine.
 #[derive(Drop)]
 pub struct Report<P: PublicKey, Q, W = ()> {
     pub(super) cause: EndCause,
+    pub(super) failure: Option<CannotWait>,
     pub(super) metrics: Metrics<P>,
     pub(super) requests: Q,
     pub(super) observer: W,
@@ -24,6 +26,14 @@ impl<P: PublicKey, Q, W> Report<P, Q, W> {
         ensures { result ≡ self.now.cause }
     {
         self.cause
+    }
+
+    /// Returns why the thread of the engine could not wait, if it could not. Then the cause is
+    /// `WaitFailed`, and the engine took no poll.
+    pub fn failure(&self) -> Option<CannotWait>
+        ensures { result ≡ self.now.failure }
+    {
+        self.failure
     }
 
     /// Returns the counters.
@@ -48,6 +58,7 @@ impl<P: PublicKey, Q, W> Report<P, Q, W> {
     {
         let Report {
             cause: _,
+            failure: _,
             metrics,
             requests,
             observer,
@@ -82,24 +93,49 @@ where
             + settled.refused + settled.skipped + settled.given_up) }
         ensures taken { IfOk result (λ settled.
             settled.applied + settled.refused ≡ self.requests.taken) }
+        ensures refused { IfOk result (λ settled. settled.refused ≡ self.requests.refused) }
         ensures broadcasts { IfOk result (λ settled.
             BroadcastsOnly V.watched → settled.skipped ≡ 0) }
         ensures unchanged_on_error { IfErr result (λ both. (both.0 ≡ self) × (both.1 ≡ tally)) }
     {
+        match self.into_settled(tally) {
+            Ok((settled, metrics, observer)) => {
+                drop::<_>((metrics, observer));
+                Ok(settled)
+            }
+            Err(both) => Err(both),
+        }
+    }
+
+    /// Tells what became of the counted requests, as `settle` does, with the counters and the
+    /// observer.
+    pub fn into_settled(self, tally: Tally<A>) -> Result<(Settled, Metrics<P>, W), (Self, Tally<A>)>
+        requires accounts { (A.all ≡ A.parts) × (K.all ≡ K.parts) }
+        ensures whole { (is_err result ≡ false) ↔ (tally.parts ≡ A.parts) }
+        ensures accepted { IfOk result (λ left. tally.accepted ≡ left.0.applied
+            + left.0.refused + left.0.skipped + left.0.given_up) }
+        ensures taken { IfOk result (λ left.
+            left.0.applied + left.0.refused ≡ self.requests.taken) }
+        ensures refused { IfOk result (λ left. left.0.refused ≡ self.requests.refused) }
+        ensures broadcasts { IfOk result (λ left.
+            BroadcastsOnly V.watched → left.0.skipped ≡ 0) }
+        ensures metrics { IfOk result (λ left. left.1 ≡ self.metrics) }
+        ensures observer { IfOk result (λ left. left.2 ≡ self.observer) }
+        ensures unchanged_on_error { IfErr result (λ both. (both.0 ≡ self) × (both.1 ≡ tally)) }
+    {
         let Report {
             cause,
+            failure,
             metrics,
             requests,
             observer,
         } = self;
         match requests.settle(tally) {
-            Ok(settled) => {
-                drop::<_>((metrics, observer));
-                Ok(settled)
-            }
+            Ok(settled) => Ok((settled, metrics, observer)),
             Err((requests, tally)) => {
                 let report = Report {
                     cause,
+                    failure,
                     metrics,
                     requests,
                     observer,

@@ -1,5 +1,5 @@
 //! The engine: its polls, and its end.
-ghost use Rattle.std.specs.Prelude.{◌≡◌, List, Option, Some, None, []};
+ghost use Rattle.std.specs.Prelude.{◌≡◌, Bool, List, Option, Some, None, [], true};
 ghost use Rattle.broadcast_core.specs.Content.{same_by};
 ghost use Rattle.broadcast_core.specs.Setting.{Setting};
 ghost use Rattle.broadcast_core.specs.Happening.{History};
@@ -11,9 +11,11 @@ ghost use Rattle.broadcast_mailbox.specs.declared.buffered.ingress.request.Reque
 ghost use Rattle.commonware_broadcast.specs.EngineHistory.{end_told, ended};
 ghost use Rattle.commonware_broadcast.specs.AppliesSteps.{Applies, AppliesStep, sinks};
 ghost use Rattle.commonware_broadcast.specs.Fresh.{fresh};
+ghost use Rattle.commonware_broadcast.specs.Interfaces.{by_responder};
 
 use crate::buffered::config::Config;
 use crate::buffered::engine::apply::apply;
+use crate::buffered::engine::closed::Closed;
 use crate::buffered::engine::handler::drop_waiters;
 use crate::buffered::engine::node::Node;
 use crate::buffered::strategy::Strategy;
@@ -34,6 +36,7 @@ pub struct Engine<P: PublicKey, M: Digestible + Codec, S, O, B, Q, T: Strategy<M
     pub(super) priority: bool,
     pub(super) codec_config: M::Cfg,
     pub(super) strategy: T,
+    pub(super) closed: Closed<M>,
 }
 
 impl<P: PublicKey, M: Digestible + Codec, S, O, B, Q, T: Strategy<M>> Model
@@ -84,6 +87,7 @@ impl<P: PublicKey, M: Digestible + Codec, S, O, B, Q, T: Strategy<M>> Engine<P, 
             priority,
             codec_config,
             strategy,
+            closed: Closed::new(alloc),
         }
     }
 
@@ -117,13 +121,16 @@ impl<P: PublicKey, M: Digestible + Codec, S, O, B, Q, T: Strategy<M>> Engine<P, 
 
     /// Applies one input. After an end the input is dropped, and the turn is that end.
     ///
+    /// The requests tell nothing of a subscribe that waits then. So each poll asks those who wait
+    /// for its digest, until nobody does.
+    ///
     /// `Input::Invalid` is for a payload that is no message, so not for `CodecError::Memory`.
     pub fn apply<G, N>(
         &mut self,
         alloc: Global,
         input: Input<P, M, S, G>,
         sender: &mut N,
-    ) -> Turn<P>
+    ) -> Turn<P, M::Digest>
     where
         S: Responder<Reply<M>> + Drop,
         G: Drop,
@@ -134,7 +141,7 @@ impl<P: PublicKey, M: Digestible + Codec, S, O, B, Q, T: Strategy<M>> Engine<P, 
             → s.encoding ≡ M.encoding → s.priority ≡ self.old.priority
             → (past : History P M M.Digest (Asker S) (Asker G))
             → HasContent s past self.old.node.core
-            → Applies s (sinks (λ w b. S.may_answer w.responder b) O.told N.told) past input result
+            → Applies s (sinks (by_responder S.may_answer) O.told N.told) past input result
             (self.old.node, sender.old) (self.new.node, sender.new) }
         ensures same_after_end { (cause : EndCause) → self.old.end ≡ Some cause
             → (result ≡ turn.Ended cause) × (self.new ≡ self.old) × (sender.new ≡ sender.old) }
@@ -146,7 +153,12 @@ impl<P: PublicKey, M: Digestible + Codec, S, O, B, Q, T: Strategy<M>> Engine<P, 
                 drop::<_>(input);
                 Turn::Ended(cause)
             }
-            None => apply(&mut self.node, sender, alloc, self.priority, input),
+            None => {
+                let digest = awaited(&input);
+                let turn = apply(&mut self.node, sender, alloc, self.priority, input);
+                self.closed.keep(&self.node.core, digest);
+                turn
+            }
         }
     }
 
@@ -174,11 +186,13 @@ impl<P: PublicKey, M: Digestible + Codec, S, O, B, Q, T: Strategy<M>> Engine<P, 
         ensures ended { (s : Setting P M M.Digest) → s.same ≡ same_by P.cmp M.Digest.cmp
             → (past : History P M M.Digest (Asker S) (Asker G))
             → HasContent s past self.old.node.core
-            → AppliesStep s (λ w b. S.may_answer w.responder b) O.told past (ended cause)
+            → AppliesStep s (by_responder S.may_answer) O.told past (ended cause)
             self.old.node self.new.node }
         ensures counts_none { self.new.node.metrics ≡ self.old.node.metrics }
         ensures tells { (given : List (Request (Message P M S G M.Digest)))
             → Q.told self.old.requests given → Q.told self.new.requests given }
+        ensures tells_outcomes { (outcomes : List Bool)
+            → Q.ended self.old.requests outcomes → Q.ended self.new.requests outcomes }
         ensures closes { Q.closed self.new.requests }
         ensures keeps_all_else { self.new ≡ record self.old {
           node = self.new.node;
@@ -191,5 +205,16 @@ impl<P: PublicKey, M: Digestible + Codec, S, O, B, Q, T: Strategy<M>> Engine<P, 
         drop_waiters(&mut self.node);
         self.job = None;
         self.end = Some(cause);
+    }
+}
+
+/// Returns the digest of a subscribe.
+fn awaited<P: PublicKey, M: Digestible, S, G>(input: &Input<P, M, S, G>) -> Option<M::Digest> {
+    match input {
+        Input::Request(request) => match &request.message {
+            Message::Subscribe { digest, .. } => Some(*digest),
+            Message::Broadcast { .. } | Message::Get { .. } => None,
+        },
+        Input::Peers(_) | Input::Arrived(..) | Input::Invalid(..) => None,
     }
 }

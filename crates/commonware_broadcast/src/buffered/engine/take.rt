@@ -1,4 +1,4 @@
-//! Messages are taken, and served to who waits for them.
+//! Puts a message into the cache and serves its waiters.
 ghost use Rattle.std.specs.Prelude.{◌≡◌, List, Option, length, IfOk, OnErr};
 ghost use Rattle.std.specs.Option.{option_map};
 ghost use Rattle.broadcast_core.specs.Carried.{Carried};

@@ -1,20 +1,22 @@
 //! An engine that runs in a thread of its own: what moves there, and what the thread does.
-ghost use Rattle.std.specs.Prelude.{◌≡◌, Some, None, IfOk, OnOk};
-ghost use Rattle.broadcast_core.specs.Codec.{whole};
-ghost use Rattle.broadcast_core.specs.Content.{same_by};
-ghost use Rattle.commonware_broadcast.specs.Interfaces.{format, parties, interfaces};
+ghost use Rattle.std.specs.Prelude.{◌≡◌, List, [], ◌∷◌, ◌++◌, Some, None, IfOk, OnOk};
+ghost use Rattle.engine_io.specs.declared.input.Turn.{Turn};
+ghost use Rattle.engine_io.specs.declared.input.Turn.TheVariants as turn;
 ghost use Rattle.commonware_broadcast.specs.Parts.{joined, ready_engine};
-ghost use Rattle.commonware_broadcast.specs.Polls.{TakesPolls, MakesReady, Runs};
+ghost use Rattle.commonware_broadcast.specs.Polls.{MakesReady, ShowsPolls, ShowsRun};
+ghost use Rattle.commonware_broadcast.specs.Interfaces.{format_of, over};
 
+use crate::buffered::asleep::CannotWait;
+use crate::buffered::engine::closed::Closed;
 use crate::buffered::engine::node::Node;
 use crate::buffered::engine::report::Report;
-use crate::buffered::engine::running::run_turns;
+use crate::buffered::engine::running::{run_to_end, run_turns};
 use crate::buffered::engine::state::Engine;
 use crate::buffered::observer::Observer;
 use crate::buffered::snapshots::Snapshots;
 use crate::buffered::strategy::Strategy;
 use broadcast_core::{Codec, Digestible, PublicKey};
-use broadcast_mailbox::buffered::{Bookkeeping, Message, Reply, Responder, Stopper};
+use broadcast_mailbox::buffered::{Bookkeeping, Message, Named, Reply, Responder, Stopper};
 use engine_io::{EndCause, Metrics, Outlet, Provider, Receiver, Requests, Sender, Turn};
 use std::alloc::AllocGlobal;
 use std::random::RandomSource;
@@ -67,17 +69,16 @@ where
     N: Sender<P> + Drop,
     V: Receiver<P> + Drop,
     R: Wait + RandomSource + AllocGlobal + Clone + Drop,
-    W: Observer<P> + Drop,
+    W: Observer<P, M::Digest> + Drop,
     ensures { IfOk result (λ ready. MakesReady
-        (format (same_by P.cmp M.Digest.cmp) M.encoding M.digest_of (λ cfg. whole (M.reading cfg)))
-        (interfaces (parties (λ w b. S.may_answer w.responder b) T.Job.is_of O.Outlet)
-        N.Sender V.Receiver B.Provider Q.Requests)
+        (format_of P.cmp M.Digest.cmp M.encoding M.digest_of M.reading)
+        (over S.may_answer T.Job.is_of O.Outlet N.Sender V.Receiver B.Provider Q.Requests)
         (engine, network) (ready_engine ready, ready.network)) }
 {
     let mut engine = engine;
     let mut network = network;
     let mut observer = observer;
-    match settle::<P, M, S, G, O, B, Q, T, N, V, R, W>(
+    match finish_job::<P, M, S, G, O, B, Q, T, N, V, R, W>(
         rt,
         &mut engine,
         &mut network,
@@ -101,7 +102,7 @@ where
 
 /// Finishes the job, and returns the handle of the engine's thread. After an error the engine has
 /// ended.
-fn settle<P, M, S, G, O, B, Q, T, N, V, R, W>(
+fn finish_job<P, M, S, G, O, B, Q, T, N, V, R, W>(
     rt: &R,
     engine: &mut Engine<P, M, S, O, B, Q, T>,
     network: &mut (N, V),
@@ -120,12 +121,11 @@ where
     N: Sender<P>,
     V: Receiver<P>,
     R: Wait + RandomSource + AllocGlobal + Clone,
-    W: Observer<P>,
-    ensures took { OnOk result (TakesPolls
-        (format (same_by P.cmp M.Digest.cmp) M.encoding M.digest_of (λ cfg. whole (M.reading cfg)))
-        (interfaces (parties (λ w b. S.may_answer w.responder b) T.Job.is_of O.Outlet)
-        N.Sender V.Receiver B.Provider Q.Requests)
-        (engine.old, network.old) (engine.new, network.new)) }
+    W: Observer<P, M::Digest>,
+    ensures took { OnOk result (ShowsPolls
+        (format_of P.cmp M.Digest.cmp M.encoding M.digest_of M.reading)
+        (over S.may_answer T.Job.is_of O.Outlet N.Sender V.Receiver B.Provider Q.Requests)
+        W.seen (engine.old, network.old) (engine.new, network.new) observer.old observer.new) }
     ensures settled { OnOk result (engine.new.end ≡ None → engine.new.job ≡ None) }
 {
     let ran = run_turns::<P, M, S, G, O, B, Q, T, N, V, R, W>(
@@ -158,12 +158,12 @@ where
     N: Sender<P> + Drop,
     V: Receiver<P> + Drop,
     R: Wait + RandomSource + AllocGlobal + Drop,
-    W: Observer<P>,
-    ensures runs { Runs
-        (format (same_by P.cmp M.Digest.cmp) M.encoding M.digest_of (λ cfg. whole (M.reading cfg)))
-        (interfaces (parties (λ w b. S.may_answer w.responder b) T.Job.is_of O.Outlet)
-        N.Sender V.Receiver B.Provider Q.Requests)
-        (ready_engine ready, ready.network) result.cause result.metrics }
+    W: Observer<P, M::Digest> + Drop,
+    ensures runs { ShowsRun
+        (format_of P.cmp M.Digest.cmp M.encoding M.digest_of M.reading)
+        (over S.may_answer T.Job.is_of O.Outlet N.Sender V.Receiver B.Provider Q.Requests)
+        W.seen (ready_engine ready, ready.network) result.cause result.failure result.metrics
+        ready.observer result.observer (turn.Ended result.cause ∷ []) }
 {
     let Ready {
         parts,
@@ -172,73 +172,100 @@ where
         snapshots,
         rt,
     } = ready;
-    let mut engine = Engine::from_parts(parts);
-    let mut network = network;
-    let mut observer = observer;
-    let cause = run_until_end::<P, M, S, G, O, B, Q, T, N, V, R, W>(
+    let (engine, mut observer, cause, failure) = run_until_end::<
+        P,
+        M,
+        S,
+        G,
+        O,
+        B,
+        Q,
+        T,
+        N,
+        V,
+        R,
+        W,
+    >(
         &rt,
-        &mut engine,
-        &mut network,
-        &mut observer,
+        Engine::from_parts(parts),
+        network,
+        observer,
         &snapshots,
     );
     tell_end(&rt, cause, &mut observer, &snapshots);
-    drop::<_>((network, snapshots, rt));
+    drop::<_>((snapshots, rt));
     let (metrics, requests) = engine.into_metrics();
     Report {
         cause,
+        failure,
         metrics,
         requests,
         observer,
     }
 }
 
-/// Runs the engine until it ends, and returns why. If its thread can't wait, it is given up.
+/// Runs the engine until it ends, and returns it with its observer, and why. If its thread can't
+/// wait, it is given up. The observer was handed the turns, but not the end.
 fn run_until_end<P, M, S, G, O, B, Q, T, N, V, R, W>(
     rt: &R,
-    engine: &mut Engine<P, M, S, O, B, Q, T>,
-    network: &mut (N, V),
-    observer: &mut W,
+    engine: Engine<P, M, S, O, B, Q, T>,
+    network: (N, V),
+    observer: W,
     snapshots: &Snapshots<P>,
-) -> EndCause
+) -> (Engine<P, M, S, O, B, Q, T>, W, EndCause, Option<CannotWait>)
 where
     P: PublicKey,
     M: Digestible + Codec,
+    M::Cfg: Drop,
     S: Responder<Reply<M>> + Drop,
     G: Drop,
-    O: Outlet<S, G, Reply<M>, Option<Reply<M>>>,
-    B: Provider<P>,
-    Q: Requests<Message<P, M, S, G>>,
-    T: Strategy<M>,
-    N: Sender<P>,
-    V: Receiver<P>,
+    O: Outlet<S, G, Reply<M>, Option<Reply<M>>> + Drop,
+    B: Provider<P> + Drop,
+    Q: Requests<Message<P, M, S, G>> + Drop,
+    T: Strategy<M> + Drop,
+    N: Sender<P> + Drop,
+    V: Receiver<P> + Drop,
     R: Wait + RandomSource + AllocGlobal,
-    W: Observer<P>,
-    ensures runs { Runs
-        (format (same_by P.cmp M.Digest.cmp) M.encoding M.digest_of (λ cfg. whole (M.reading cfg)))
-        (interfaces (parties (λ w b. S.may_answer w.responder b) T.Job.is_of O.Outlet)
-        N.Sender V.Receiver B.Provider Q.Requests)
-        (engine.old, network.old) result engine.new.node.metrics }
-    ensures ends { engine.new.end ≡ Some result }
+    W: Observer<P, M::Digest> + Drop,
+    ensures runs { ShowsRun
+        (format_of P.cmp M.Digest.cmp M.encoding M.digest_of M.reading)
+        (over S.may_answer T.Job.is_of O.Outlet N.Sender V.Receiver B.Provider Q.Requests)
+        W.seen (engine, network) result.2 result.3 result.0.node.metrics observer result.1 [] }
+    ensures ends { result.0.end ≡ Some result.2 }
 {
-    let ran = run_turns::<P, M, S, G, O, B, Q, T, N, V, R, W>(
-        rt, engine, network, observer, snapshots, false,
-    );
-    match ran {
-        Ok(Some(cause)) => cause,
-        _ => {
+    let (((mut engine, network), observer), ended) = run_to_end::<
+        P,
+        M,
+        S,
+        G,
+        O,
+        B,
+        Q,
+        T,
+        N,
+        V,
+        R,
+        W,
+    >(rt, engine, network, observer, snapshots);
+    drop::<_>(network);
+    match ended {
+        Ok(cause) => (engine, observer, cause, None),
+        Err(failure) => {
             engine.end::<G>(EndCause::WaitFailed);
-            EndCause::WaitFailed
+            (engine, observer, EndCause::WaitFailed, Some(failure))
         }
     }
 }
 
 /// Tells the end of an engine to its observer, and to those who ask for its counters.
-fn tell_end<P, R, W>(rt: &R, cause: EndCause, observer: &mut W, snapshots: &Snapshots<P>)
+fn tell_end<P, D, R, W>(rt: &R, cause: EndCause, observer: &mut W, snapshots: &Snapshots<P>)
 where
     P: PublicKey,
+    D: Drop,
     R: Wait + AllocGlobal,
-    W: Observer<P>,
+    W: Observer<P, D>,
+    ensures { (turns : List (Turn P D)) → W.seen observer.old turns
+        → W.seen observer.new (turns ++ turn.Ended cause ∷ []) }
 {
     observer.turn(&Turn::Ended(cause));
     snapshots.end(rt, rt.alloc());
@@ -246,7 +273,7 @@ where
 
 /// Starts a thread that does `work`, the run of an engine whose mailbox has this stopper. If no
 /// thread can be started, the engine is stopped and ends at once, on the calling thread.
-pub fn spawn<A, F, I, R, B>(
+pub(crate) fn spawn<A, F, I, R, B>(
     rt: &R,
     work: F,
     stopper: &Stopper<I, R, B>,
@@ -254,6 +281,7 @@ pub fn spawn<A, F, I, R, B>(
 where
     A: Send + Drop + 'static,
     F: FnOnce() -> A + Send + 'static,
+    I: Named,
     R: Threads + Wait,
     B: Bookkeeping,
     requires { F.pre work }
@@ -280,6 +308,7 @@ pub(crate) struct Parts<P: PublicKey, M: Digestible, S, O, B, Q, C, T> {
     pub(super) priority: bool,
     pub(super) codec_config: C,
     pub(super) strategy: T,
+    pub(super) closed: Closed<M>,
 }
 
 impl<P: PublicKey, M: Digestible + Codec, S, O, B, Q, T: Strategy<M>> Engine<P, M, S, O, B, Q, T> {
@@ -296,6 +325,7 @@ impl<P: PublicKey, M: Digestible + Codec, S, O, B, Q, T: Strategy<M>> Engine<P, 
             priority,
             codec_config,
             strategy,
+            closed,
         } = self;
         drop::<_>(job);
         Parts {
@@ -306,6 +336,7 @@ impl<P: PublicKey, M: Digestible + Codec, S, O, B, Q, T: Strategy<M>> Engine<P, 
             priority,
             codec_config,
             strategy,
+            closed,
         }
     }
 
@@ -321,6 +352,7 @@ impl<P: PublicKey, M: Digestible + Codec, S, O, B, Q, T: Strategy<M>> Engine<P, 
             priority,
             codec_config,
             strategy,
+            closed,
         } = parts;
         Engine {
             node,
@@ -331,6 +363,7 @@ impl<P: PublicKey, M: Digestible + Codec, S, O, B, Q, T: Strategy<M>> Engine<P, 
             priority,
             codec_config,
             strategy,
+            closed,
         }
     }
 
@@ -353,8 +386,9 @@ impl<P: PublicKey, M: Digestible + Codec, S, O, B, Q, T: Strategy<M>> Engine<P, 
             priority: _,
             codec_config,
             strategy,
+            closed,
         } = self.into_parts();
-        drop::<_>((provider, codec_config, strategy));
+        drop::<_>((provider, codec_config, strategy, closed));
         (node.into_metrics(), requests)
     }
 }

@@ -7,8 +7,8 @@ use engine_io::{EndCause, Turn};
 use std::fmt;
 use std::io::{self, Write};
 
-/// Writes a line for each turn, until a write fails. A line names the peer of a payload by its
-/// `Debug` text.
+/// Writes a line for each turn, until a write fails. A line names the peer of a payload and the
+/// digest of a message by their `Debug` texts.
 #[derive(Drop)]
 pub struct Lines<W> {
     out: W,
@@ -39,8 +39,8 @@ impl<W> Lines<W> {
     }
 }
 
-impl<P: fmt::Debug, W: Write> Observer<P> for Lines<W> {
-    fn turn(&mut self, turn: &Turn<P>) {
+impl<P: fmt::Debug, D: fmt::Debug, W: Write> Observer<P, D> for Lines<W> {
+    fn turn(&mut self, turn: &Turn<P, D>) {
         if self.error.is_some() {
             return;
         }
@@ -53,17 +53,23 @@ impl<P: fmt::Debug, W: Write> Observer<P> for Lines<W> {
 
 /// A turn as a line of text.
 #[derive(Drop)]
-struct Line<'a, P>(&'a Turn<P>);
+struct Line<'a, P, D>(&'a Turn<P, D>);
 
-impl<P: fmt::Debug> fmt::Display for Line<'_, P> {
+impl<P: fmt::Debug, D: fmt::Debug> fmt::Display for Line<'_, P, D> {
     fn fmt<W: fmt::Write>(&self, f: &mut fmt::Formatter<W>) -> fmt::Result {
         match self.0 {
             Turn::Peers => f.write_str("peers"),
-            Turn::Broadcast(outcome) => write_two(f, "broadcast", outcome_word(*outcome)),
+            Turn::Broadcast(digest, outcome) => {
+                write!(f, "broadcast of {digest:?} {}", outcome_word(*outcome))
+            }
             Turn::Subscribe => f.write_str("subscribe"),
             Turn::Get => f.write_str("get"),
-            Turn::Payload(peer, outcome) => {
-                write!(f, "payload of {peer:?} {}", outcome_word(*outcome))
+            Turn::Payload(peer, digest, outcome) => {
+                write!(
+                    f,
+                    "payload of {peer:?}: {digest:?} {}",
+                    outcome_word(*outcome)
+                )
             }
             Turn::Invalid(peer, error) => write!(f, "invalid payload of {peer:?}: {error}"),
             Turn::Refused(Some(peer), cause) => {

@@ -10,15 +10,15 @@ use std::collections::VecDeque;
 
 /// Keeps the latest turns. One that can't be copied is counted alone.
 #[derive(Drop)]
-pub struct Recent<P: PublicKey> {
-    turns: VecDeque<Turn<P>>,
+pub struct Recent<P: PublicKey, D: Copy> {
+    turns: VecDeque<Turn<P, D>>,
     limit: usize,
     seen: u64,
     ghost within_limit: { deque_len turns ≤ limit },
     ghost has_room: { limit ≤ deque_capacity turns },
 }
 
-impl<P: PublicKey> Recent<P> {
+impl<P: PublicKey, D: Copy> Recent<P, D> {
     /// Creates an observer that keeps at most `limit` turns, or an allocation failure.
     pub fn new(alloc: Global, limit: usize) -> Result<Self, AllocError>
         ensures empty { IfOk result (λ recent. recent.turns.items ≡ []) }
@@ -32,7 +32,7 @@ impl<P: PublicKey> Recent<P> {
     }
 
     /// Returns the turns that are kept, oldest first.
-    pub fn turns(&self) -> &VecDeque<Turn<P>>
+    pub fn turns(&self) -> &VecDeque<Turn<P, D>>
         ensures { result.now ≡ self.now.turns }
     {
         &self.turns
@@ -46,7 +46,7 @@ impl<P: PublicKey> Recent<P> {
     }
 
     /// Keeps the turn in place of the oldest one, if there is no place left.
-    fn keep(&mut self, turn: Turn<P>)
+    fn keep(&mut self, turn: Turn<P, D>)
         ensures latest { let turns = self.old.turns.items ++ turn ∷ [] in
             self.new.turns.items ≡ drop (length turns - self.old.limit) turns }
         ensures same_limit { self.new.limit ≡ self.old.limit }
@@ -61,8 +61,8 @@ impl<P: PublicKey> Recent<P> {
     }
 }
 
-impl<P: PublicKey> Observer<P> for Recent<P> {
-    fn turn(&mut self, turn: &Turn<P>) {
+impl<P: PublicKey, D: Copy> Observer<P, D> for Recent<P, D> {
+    fn turn(&mut self, turn: &Turn<P, D>) {
         self.seen = self.seen.saturating_add(1);
         if let Ok(turn) = turn.clone() {
             self.keep(turn);

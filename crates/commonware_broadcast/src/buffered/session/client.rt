@@ -1,6 +1,6 @@
 //! A client of a session.
 ghost use Rattle.std.specs.Prelude.{◌≡◌, IfOk, OnErr};
-ghost use Rattle.broadcast_mailbox.specs.Account.{TallyState, MayCount, capped, is_taken_up, tallied};
+ghost use Rattle.broadcast_mailbox.specs.Account.{TallyState, capped, is_taken_up, tallied};
 ghost use Rattle.broadcast_mailbox.specs.declared.buffered.ingress.watch.Kind.TheVariants as kind;
 
 use broadcast_core::{Digested, Digestible, PublicKey, Recipients};
@@ -88,8 +88,8 @@ where
     /// Requests the message of `digest`, at once or when it arrives, as `Mailbox::subscribe` does.
     pub fn subscribe(&mut self, digest: M::Digest) -> Result<Subscription<M>, MailboxError>
         ensures digest { IfOk result (λ subscription. subscription.digest ≡ digest) }
-        ensures counts { IfOk result (λ _.
-            MayCount (V.watched kind.Subscribe digest) self.old self.new) }
+        ensures counts { IfOk result (λ subscription.
+            self.new ≡ tallied (V.watched kind.Subscribe digest) subscription.accepted self.old) }
         ensures unchanged_on_error { OnErr result (self.new ≡ self.old) }
     {
         self.ends.mailbox.subscribe_as(&mut self.tally, digest)
@@ -98,7 +98,8 @@ where
     /// Requests the message of `digest` if it is cached, as `Mailbox::get` does.
     pub fn get(&mut self, digest: M::Digest) -> Result<Get<M>, MailboxError>
         ensures digest { IfOk result (λ get. get.digest ≡ digest) }
-        ensures counts { IfOk result (λ _. MayCount (V.watched kind.Get digest) self.old self.new) }
+        ensures counts { IfOk result (λ get.
+            self.new ≡ tallied (V.watched kind.Get digest) get.accepted self.old) }
         ensures unchanged_on_error { OnErr result (self.new ≡ self.old) }
     {
         self.ends.mailbox.get_as(&mut self.tally, digest)

@@ -1,9 +1,9 @@
 //! The node of a session, from its start to the settlement of its account.
 ghost use Rattle.std.specs.Prelude.{◌≡◌, ◌+◌, ◌≤◌, [], length, vec_len, vec_capacity, IfOk};
 ghost use Rattle.std.specs.NonZero.{non_zero_u32_get};
-ghost use Rattle.broadcast_mailbox.specs.Account.{TallyState};
+ghost use Rattle.broadcast_mailbox.specs.Account.{TallyState, capped};
 ghost use Rattle.broadcast_mailbox.specs.Watch.{BroadcastsOnly};
-ghost use Rattle.commonware_broadcast.specs.Sessions.{AddsUp};
+ghost use Rattle.commonware_broadcast.specs.Sessions.{Accepts, AddsUp};
 
 use super::client::{Client, Ends, WatchedEnds};
 use super::threads::{abandon, join_clients, run_client, start_others};
@@ -11,6 +11,7 @@ use super::{Finished, Session};
 use crate::buffered::config::Config;
 use crate::buffered::engine::{Engine, StartError};
 use crate::buffered::front::{WatchedEngine, WatchedNode};
+use crate::buffered::observer::Observer;
 use crate::buffered::started::{Handle, MailboxReport};
 use crate::buffered::strategy::Strategy;
 use broadcast_core::{Codec, Digestible, PublicKey};
@@ -26,15 +27,16 @@ use std::sync::{Arc, Wait};
 use std::thread::Threads;
 
 /// Runs the session, whose account has these ledgers.
-pub(super) fn run_with<P, S, M, B, T, N, V, R, A, K>(
+pub(super) fn run_with<P, S, M, B, T, N, V, R, W, A, K>(
     rt: &R,
     cfg: Config<P, M::Cfg, B, T>,
     network: (N, V),
     clients: NonZeroU32,
     session: S,
+    observer: W,
     accepted: Blank,
     taken: Blank,
-) -> Result<Finished<S::Output>, StartError>
+) -> Result<Finished<S::Output, P, W>, StartError>
 where
     P: PublicKey + Send + 'static,
     S: Session<P, M, R> + Send + Sync + Drop + 'static,
@@ -49,12 +51,15 @@ where
     N: Sender<P> + Send + Drop + 'static,
     V: Receiver<P> + Send + Drop + 'static,
     R: Threads + Wait + RandomSource + AllocGlobal + Clone + Send + Sync + Drop + 'static,
+    W: Observer<P, M::Digest> + Send + Drop + 'static,
     A: Account + Send + Sync + 'static,
     K: Account + Send + Sync + 'static,
     requires accepted { (accepted.name ≡ A.name) × (accepted.parts ≡ A.parts) }
     requires parts { (A.all ≡ A.parts) × (A.parts ≡ non_zero_u32_get clients) }
     requires taken { (taken.name ≡ K.name) × (taken.parts ≡ K.parts) }
     requires one { (K.all ≡ K.parts) × (K.parts ≡ 1) }
+    ensures accepted { IfOk result (λ finished.
+        Accepts S.Output.leaves finished.outputs.items finished.accepted) }
     ensures settled { IfOk result (λ finished. AddsUp finished.accepted finished.settled) }
     ensures broadcasts { IfOk result (λ finished.
         BroadcastsOnly S.Watch.watched → finished.settled.skipped ≡ 0) }
@@ -62,16 +67,18 @@ where
         length finished.outputs.items ≡ non_zero_u32_get clients) }
 {
     let Ok((session, outputs)) = reserve(rt.alloc(), session, clients.get()) else {
-        drop::<_>((cfg, network));
+        drop::<_>((cfg, network, observer));
         return Err(StartError::Memory);
     };
     let Ok(made) = make::<P, M, B, T, R, A, K, S::Watch>(rt, cfg, clients, accepted, taken) else {
-        drop::<_>((network, session, outputs));
+        drop::<_>((network, session, outputs, observer));
         return Err(StartError::Memory);
     };
     let (engine, ends, tally) = made;
-    match engine.start(rt, network) {
-        Ok(handle) => play::<P, S, M, R, A, K>(rt, handle, ends, session, outputs, tally, clients),
+    match engine.start_observed(rt, network, observer) {
+        Ok(handle) => {
+            play::<P, S, M, R, W, A, K>(rt, handle, ends, session, outputs, tally, clients)
+        }
         Err(error) => {
             drop::<_>((ends, session, outputs, tally));
             Err(error)
@@ -166,15 +173,15 @@ where
 
 /// Lets the clients use the started engine, and settles their account. If a client can't be
 /// started, the others and the engine end.
-fn play<P, S, M, R, A, K>(
+fn play<P, S, M, R, W, A, K>(
     rt: &R,
-    handle: Handle<P, M, R, Books<A, K, S::Watch, M::Digest>>,
+    handle: Handle<P, M, R, Books<A, K, S::Watch, M::Digest>, W>,
     ends: WatchedEnds<P, M, R, A, K, S::Watch>,
     session: Arc<S>,
     outputs: Vec<S::Output>,
     tally: Tally<A>,
     clients: NonZeroU32,
-) -> Result<Finished<S::Output>, StartError>
+) -> Result<Finished<S::Output, P, W>, StartError>
 where
     P: PublicKey + Send + 'static,
     S: Session<P, M, R> + Send + Sync + Drop + 'static,
@@ -183,12 +190,15 @@ where
     M: Digestible + Send + Sync + 'static,
     M::Digest: Send + 'static,
     R: Threads + Wait + AllocGlobal + Clone + Send + Sync + Drop + 'static,
+    W: Drop,
     A: Account + Send + Sync + 'static,
     K: Account + Send + Sync + 'static,
     requires accounts { (A.all ≡ A.parts) × (K.all ≡ K.parts) }
     requires parts { (A.parts ≡ non_zero_u32_get clients) × (tally.parts ≡ A.parts) }
     requires room { vec_len outputs + non_zero_u32_get clients ≤ vec_capacity outputs }
     requires empty { outputs.items ≡ [] }
+    ensures accepted { IfOk result (λ finished.
+        Accepts S.Output.leaves finished.outputs.items finished.accepted) }
     ensures settled { IfOk result (λ finished. AddsUp finished.accepted finished.settled) }
     ensures broadcasts { IfOk result (λ finished.
         BroadcastsOnly S.Watch.watched → finished.settled.skipped ≡ 0) }
@@ -203,7 +213,7 @@ where
             let first = run_client::<P, S, M, R, A, K>(session, 0, Client::new(ends, tally));
             let (tally, outputs) = join_clients(rt, first, threads, outputs);
             handle.stop();
-            Ok(finish::<P, M, R, A, K, S::Watch, S::Output>(handle.join(rt), tally, outputs))
+            Ok(finish::<P, M, R, A, K, S::Watch, S::Output, W>(handle.join(rt), tally, outputs))
         }
         Err(error) => {
             handle.stop();
@@ -216,31 +226,37 @@ where
 }
 
 /// Settles the account.
-fn finish<P, M, R, A, K, W, O>(
-    report: MailboxReport<P, M, R, Books<A, K, W, M::Digest>>,
+fn finish<P, M, R, A, K, V, O, W>(
+    report: MailboxReport<P, M, R, Books<A, K, V, M::Digest>, W>,
     tally: Tally<A>,
     outputs: Vec<O>,
-) -> Finished<O>
+) -> Finished<O, P, W>
 where
     P: PublicKey,
     M: Digestible,
     R: Wait + Drop,
     A: Account,
     K: Account,
-    W: Watch<M::Digest>,
+    V: Watch<M::Digest>,
+    W: Drop,
     requires accounts { (A.all ≡ A.parts) × (K.all ≡ K.parts) }
     requires whole { tally.parts ≡ A.parts }
+    ensures accepted { result.accepted ≡ capped tally.accepted }
     ensures settled { AddsUp result.accepted result.settled }
-    ensures broadcasts { BroadcastsOnly W.watched → result.settled.skipped ≡ 0 }
+    ensures broadcasts { BroadcastsOnly V.watched → result.settled.skipped ≡ 0 }
     ensures outputs { result.outputs ≡ outputs }
+    ensures metrics { result.metrics ≡ report.metrics }
+    ensures observer { result.observer ≡ report.observer }
 {
     let cause = report.cause();
     let accepted = tally.accepted();
-    let settled = report.settle(tally).unwrap();
+    let (settled, metrics, observer) = report.into_settled(tally).unwrap();
     Finished {
         outputs,
         cause,
         accepted,
         settled,
+        metrics,
+        observer,
     }
 }

@@ -1,9 +1,10 @@
 //! The threads of the clients of a session.
-ghost use Rattle.std.specs.Prelude.{◌≡◌, ◌+◌, ◌<◌, ◌≤◌, ◌^◌, [], length, vec_len, vec_capacity, IfOk};
+ghost use Rattle.std.specs.Prelude.{◌≡◌, true, ◌+◌, ◌<◌, ◌≤◌, ◌^◌, [], length, vec_len, vec_capacity, IfOk};
 ghost use Rattle.broadcast_mailbox.specs.Account.{TallyState};
+ghost use Rattle.commonware_broadcast.specs.Sessions.{CountTo};
 
-use super::Session;
 use super::client::{Client, WatchedClient, WatchedEnds};
+use super::{Leaves, Session};
 use crate::buffered::engine::StartError;
 use broadcast_core::{Digestible, PublicKey};
 use broadcast_mailbox::buffered::{Account, Tally};
@@ -11,12 +12,13 @@ use std::alloc::{AllocError, AllocGlobal};
 use std::sync::{Arc, Wait};
 use std::thread::{self, JoinHandle, Threads};
 
-/// What is left of the thread of a client.
+/// The result of a client's thread.
 #[derive(Drop)]
-pub(super) struct Left<A: Account, O> {
+pub(super) struct Left<A: Account, O: Leaves> {
     tally: Tally<A>,
     output: O,
     ghost one_part: { tally.parts ≡ 1 },
+    ghost left: { O.leaves output tally.accepted ≡ true },
 }
 
 /// Starts the threads of the clients with the numbers from 1, of which there are `others`. Each
@@ -146,11 +148,12 @@ pub(super) fn join_clients<A, O, R>(
 ) -> (Tally<A>, Vec<O>)
 where
     A: Account,
-    O: Drop,
+    O: Leaves + Drop,
     R: Threads,
     requires parts { A.parts < 2 ^ 64 }
     requires room { vec_len outputs + (length threads.items + 1) ≤ vec_capacity outputs }
     requires empty { outputs.items ≡ [] }
+    ensures left { CountTo O.leaves result.1.items result.0.accepted }
     ensures parts { result.0.parts ≡ length threads.items + 1 }
     ensures outputs { length result.1.items ≡ length threads.items + 1 }
 {
@@ -173,7 +176,7 @@ where
 pub(super) fn abandon<A, O, R>(rt: &R, threads: Vec<JoinHandle<Left<A, O>>>)
 where
     A: Account,
-    O: Drop,
+    O: Leaves + Drop,
     R: Threads,
 {
     for thread in threads {

@@ -1,20 +1,20 @@
-use Rattle.std.proofs.Common.{◌∙◌}
+use Rattle.std.proofs.Common.{sym, ◌∙◌}
 use Rattle.slab.specs.Slab.{get}
 use Rattle.entries.proofs.Linking.{is_there}
 use Rattle.entries.proofs.Chains.{on_oldest, on_there, pops, pops_none}
 use Rattle.entries.proofs.chain.pop_oldest.Goals as goal
 
 pub unlink-requires : goal.unlink-requires
-unlink-requires g c = on_oldest (get c.args.places.now) _ _ c.in-Some.is c.requires
+unlink-requires g c = on_oldest (get c.args.places.now) c.args.chain.now c.in-Some.place (sym c.get.ensures ∙ c.in-Some.is) c.requires
 
 pub remove-digest-requires : goal.remove-digest-requires
 remove-digest-requires g c =
-    let there = on_there (get c.args.places.now) _ _ (on_oldest (get c.args.places.now) _ _ c.in-Some.is c.requires) in
+    let there = on_there (get c.args.places.now) c.args.chain.now _ (on_oldest (get c.args.places.now) c.args.chain.now c.in-Some.place (sym c.get.ensures ∙ c.in-Some.is) c.requires) in
     is_there (get c.unlink.new.places) c.in-Some.place there.entry (c.unlink.ensures.unlinked.kept ∙ there.there)
 
 pub returns-in-None-clause-popped : goal.returns-in-None-clause-popped
-returns-in-None-clause-popped g c = pops_none (get c.args.places.now) _ c.in-None.is
+returns-in-None-clause-popped g c = pops_none (get c.args.places.now) c.args.chain.now (sym c.get.ensures ∙ c.in-None.is)
 
 pub returns-in-Some-clause-popped : goal.returns-in-Some-clause-popped
 returns-in-Some-clause-popped g c =
-    pops (get c.args.places.now) (get c.unlink.new.places) (get c.remove-digest.new.self) _ _ _ c.remove-digest.result c.in-Some.is c.unlink.ensures.unlinked c.remove-digest.ensures.value c.remove-digest.ensures.updates.changed c.remove-digest.ensures.updates.others
+    pops (get c.args.places.now) (get c.unlink.new.places) (get c.remove-digest.new.self) c.args.chain.now c.unlink.new.chain c.in-Some.place c.remove-digest.result (sym c.get.ensures ∙ c.in-Some.is) c.unlink.ensures.unlinked c.remove-digest.ensures.value c.remove-digest.ensures.updates.changed c.remove-digest.ensures.updates.others

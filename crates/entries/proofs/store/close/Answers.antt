@@ -1,25 +1,25 @@
-use Rattle.std.proofs.Common.{sym}
-use Rattle.std.specs.Cmp.{eq_by_cmp_equiv}
-use Rattle.slab.specs.Slab.{get}
+use Rattle.std.proofs.Common.{None, sym, ap, ◌∙◌}
+use Rattle.slab.specs.Slab.{get, entries}
+use Rattle.entries.proofs.Slots.{number_laws, distinct_slots, found_slot, updated_slot}
 use Rattle.entries.proofs.Stores.{has_nodes, removes, removes_none}
 use Rattle.entries.proofs.Sums.{closes-summed}
 use Rattle.entries.proofs.store.close.Goals as goal
 
 pub free-requires : goal.free-requires
-free-requires g c = has_nodes (eq_by_cmp_equiv g.met.K.Ord.total) (get c.args.places.now) c.args.chains.now.entries c.args.peer.now _ c.requires.store (sym c.in-Some.ensures.value)
+free-requires g c = has_nodes number_laws (get c.args.places.now) (entries c.args.chains.now) c.args.list _ c.requires.store (found_slot c.args.chains.now c.args.list ∙ sym c.in-Some.ensures.value)
 
 pub returns-in-Some-clause-store : goal.returns-in-Some-clause-store
 returns-in-Some-clause-store g c =
-    (removes (eq_by_cmp_equiv g.met.K.Ord.total) (get c.args.places.now) (get c.free.new.places) c.args.chains.now.entries c.remove.new.self.entries c.args.peer.now _ c.requires.store (sym c.in-Some.ensures.value) c.free.ensures c.remove.ensures.updates.0).0
+    (removes number_laws (get c.args.places.now) (get c.free.new.places) (entries c.args.chains.now) (entries c.try_remove.new.self) c.args.list _ c.requires.store (found_slot c.args.chains.now c.args.list ∙ sym c.in-Some.ensures.value) c.free.ensures (updated_slot c.args.chains.now c.try_remove.new.self c.args.list None c.try_remove.ensures.updates) (distinct_slots c.try_remove.new.self)).0
 
 pub returns-in-Some-clause-lists : goal.returns-in-Some-clause-lists
 returns-in-Some-clause-lists g c =
-    (removes (eq_by_cmp_equiv g.met.K.Ord.total) (get c.args.places.now) (get c.free.new.places) c.args.chains.now.entries c.remove.new.self.entries c.args.peer.now _ c.requires.store (sym c.in-Some.ensures.value) c.free.ensures c.remove.ensures.updates.0).1
+    (removes number_laws (get c.args.places.now) (get c.free.new.places) (entries c.args.chains.now) (entries c.try_remove.new.self) c.args.list _ c.requires.store (found_slot c.args.chains.now c.args.list ∙ sym c.in-Some.ensures.value) c.free.ensures (updated_slot c.args.chains.now c.try_remove.new.self c.args.list None c.try_remove.ensures.updates) (distinct_slots c.try_remove.new.self)).1
 
 pub returns-in-None-clause-lists : goal.returns-in-None-clause-lists
 returns-in-None-clause-lists g c =
-    removes_none (eq_by_cmp_equiv g.met.K.Ord.total) (get c.args.places.now) c.args.chains.now.entries c.remove.new.self.entries c.args.peer.now (sym c.in-None.ensures.value) c.in-None.ensures.unchanged c.remove.ensures.updates.0
+    removes_none number_laws (get c.args.places.now) (entries c.args.chains.now) (entries c.try_remove.new.self) c.args.list (found_slot c.args.chains.now c.args.list ∙ sym c.in-None.ensures.value) (ap entries c.in-None.ensures.absent) (updated_slot c.args.chains.now c.try_remove.new.self c.args.list None c.try_remove.ensures.updates) (distinct_slots c.try_remove.new.self)
 
 pub returns-in-Some-clause-summed : goal.returns-in-Some-clause-summed
 returns-in-Some-clause-summed g c =
-    closes-summed (eq_by_cmp_equiv g.met.K.Ord.total) (get c.args.places.now) (get c.free.new.places) c.args.chains.now.entries c.remove.new.self.entries c.args.peer.now _ c.requires.store c.requires.summed (sym c.in-Some.ensures.value) c.free.ensures c.remove.ensures.updates.0
+    closes-summed number_laws (get c.args.places.now) (get c.free.new.places) (entries c.args.chains.now) (entries c.try_remove.new.self) c.args.list _ c.requires.store c.requires.summed (found_slot c.args.chains.now c.args.list ∙ sym c.in-Some.ensures.value) c.free.ensures (updated_slot c.args.chains.now c.try_remove.new.self c.args.list None c.try_remove.ensures.updates)

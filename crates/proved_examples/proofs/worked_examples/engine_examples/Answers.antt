@@ -5,7 +5,7 @@ pub returns-clause-served : goal.returns-clause-served
 returns-clause-served c = record { turned = refl; replied = refl; counted = refl }
 
 pub returns-clause-mixed : goal.returns-clause-mixed
-returns-clause-mixed c = record { turned = refl; counted = refl; sent = refl }
+returns-clause-mixed c = record { turned = refl; told = refl; counted = refl; sent = refl }
 
 pub returns-clause-hung_up : goal.returns-clause-hung_up
 returns-clause-hung_up c = record { before = refl; after = refl; counted = refl; nobody_waits = refl }

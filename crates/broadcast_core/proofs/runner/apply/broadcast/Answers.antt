@@ -12,8 +12,8 @@ use Rattle.broadcast_core.proofs.Lawful.{same_by-lawful}
 use Rattle.broadcast_core.proofs.Applying.{Applies-taken}
 use Rattle.broadcast_core.proofs.runner.apply.broadcast.Goals as goal
 
-pub returns-in-Ok-take_own : goal.returns-in-Ok-take_own
-returns-in-Ok-take_own g c = λ s is pr enc past has.
+pub returns-in-Ok-take_own-clause-follows : goal.returns-in-Ok-take_own-clause-follows
+returns-in-Ok-take_own-clause-follows g c = λ s is pr enc past has.
     let lawful = same_by-lawful g.met.P.Ord.total (g.met.M.Digest.Ord g.world.𝓛 g.world.𝓜 g.world.𝓡 (λ s x. x, λ x. x, λ x. x, λ x. x)).total in
     let same = same_by g.P.Ord.cmp g.M.Digest.Ord.cmp in
     let m = c.args.message in

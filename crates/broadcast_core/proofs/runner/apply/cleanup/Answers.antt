@@ -11,8 +11,8 @@ use Rattle.broadcast_core.proofs.Lawful.{same_by-lawful}
 use Rattle.broadcast_core.proofs.Applying.{Applies-cleanup}
 use Rattle.broadcast_core.proofs.runner.apply.cleanup.Goals as goal
 
-pub returns : goal.returns
-returns g c = λ s is past has.
+pub returns-clause-follows : goal.returns-clause-follows
+returns-clause-follows g c = λ s is past has.
     let lawful = same_by-lawful g.met.P.Ord.total (g.met.M.Digest.Ord g.world.𝓛 g.world.𝓜 g.world.𝓡 (λ s x. x, λ x. x, λ x. x, λ x. x)).total in
     let same = same_by g.P.Ord.cmp g.M.Digest.Ord.cmp in
     let sorted = c.deref.result.now in

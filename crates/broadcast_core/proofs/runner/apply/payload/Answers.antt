@@ -8,8 +8,8 @@ use Rattle.broadcast_core.proofs.Lawful.{same_by-lawful}
 use Rattle.broadcast_core.proofs.Applying.{Applies-taken, Applies-refused, Applies-invalid, not_memory}
 use Rattle.broadcast_core.proofs.runner.apply.payload.Goals as goal
 
-pub returns-in-Err : goal.returns-in-Err
-returns-in-Err g c = λ s is enc dg rd past has.
+pub returns-in-Err-clause-follows : goal.returns-in-Err-clause-follows
+returns-in-Err-clause-follows g c = λ s is enc dg rd past has.
     let lawful = same_by-lawful g.met.P.Ord.total (g.met.M.Digest.Ord g.world.𝓛 g.world.𝓜 g.world.𝓡 (λ s x. x, λ x. x, λ x. x, λ x. x)).total in
     elim c.in-Err.ensures [
       | inl h ↦
@@ -23,8 +23,8 @@ returns-in-Err g c = λ s is enc dg rd past has.
           rw (c.refused.ensures.memory memory) (Applies-refused is lawful has (Payload c.args.peer.now c.args.bytes.now) refl reads)
     ]
 
-pub returns-in-Ok-take : goal.returns-in-Ok-take
-returns-in-Ok-take g c = λ s is enc dg rd past has.
+pub returns-in-Ok-take-clause-follows : goal.returns-in-Ok-take-clause-follows
+returns-in-Ok-take-clause-follows g c = λ s is enc dg rd past has.
     let lawful = same_by-lawful g.met.P.Ord.total (g.met.M.Digest.Ord g.world.𝓛 g.world.𝓜 g.world.𝓡 (λ s x. x, λ x. x, λ x. x, λ x. x)).total in
     let r = c.in-Ok-take.ensures in
     let carried : c.in-Ok-compute.message ≡ own_digested s c.in-Ok.message = c.in-Ok-compute.ensures ∙ ap (λ f. record { message = c.in-Ok.message; digest = f c.in-Ok.message }) (sym dg) in

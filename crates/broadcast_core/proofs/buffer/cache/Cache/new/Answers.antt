@@ -1,17 +1,5 @@
-use Rattle.std.proofs.Common.{refl, []}
-use Rattle.std.specs.List.{IsDistinct}
-use Rattle.broadcast_core.specs.Content.{Same, same_by}
-use Rattle.broadcast_core.specs.Indexed.{IsIndexed}
+use Rattle.broadcast_core.proofs.Numbering.{IsNumbered-empty}
 use Rattle.broadcast_core.proofs.buffer.cache.Cache.new.Goals as goal
 
-empty : {P M D : Type 0} (same : Same P D) → IsIndexed {M = M} same [] []
-unfolding IsDistinct
-empty same = record {
-  finds = λ d p. refl;
-  distinct = λ p. tt;
-  named = λ d x h. cc;
-  placed = λ d h. cc;
-}
-
 pub invariant_of-result : goal.invariant_of-result
-invariant_of-result g c = rw (c.new.ensures, c.new-2.ensures) (empty (same_by g.P.Ord.cmp g.M.Digest.Ord.cmp))
+invariant_of-result g c = rw (c.new.ensures.empty, c.new-2.ensures) (IsNumbered-empty g.P.Ord.cmp g.M.Digest.Ord.cmp)

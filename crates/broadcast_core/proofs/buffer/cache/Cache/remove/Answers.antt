@@ -1,44 +1,25 @@
-use Rattle.std.proofs.Common.{[], ◌∷◌}
+use Rattle.std.proofs.Common.{sym}
+use Rattle.std.specs.Map.{keys_of}
 use Rattle.std.specs.Cmp.{eq_by_cmp_equiv}
-use Rattle.broadcast_core.specs.Content.{same_by}
-use Rattle.broadcast_core.specs.Indexed.{stored_of}
-use Rattle.broadcast_core.proofs.Placing.{distinct-digests}
-use Rattle.broadcast_core.proofs.Dropping.{Clearing-start, Clearing-step, Clearing-shorter, Clearing-end, Drops-made}
+use Rattle.std.proofs.lemmas.Map.Keys.{IsDistinct-from_sorted}
+use Rattle.broadcast_core.proofs.Numbering.{IsNumbered-dropped, Drops-named, Drops-nothing}
 use Rattle.broadcast_core.proofs.buffer.cache.Cache.remove.Goals as goal
-
-pub loop-stale-init : goal.loop-stale-init
-loop-stale-init g c = Clearing-start (same_by g.P.Ord.cmp g.M.Digest.Ord.cmp) c.args.peer.now c.self.inside.lists.lists c.self.inside.table c.self.invariant
-
-pub loop-stale-preserved : goal.loop-stale-preserved
-loop-stale-preserved g c =
-    let same = same_by g.P.Ord.cmp g.M.Digest.Ord.cmp in
-    let key_laws = eq_by_cmp_equiv g.met.P.Ord.total in
-    let laws = eq_by_cmp_equiv (g.met.M.Digest.Ord g.world.𝓛 g.world.𝓜 g.world.𝓡 (λ s x. x, λ x. x, λ x. x, λ x. x)).total in
-    Clearing-step same key_laws laws c.args.peer.now c.self.inside.lists.lists c.loop-stale.self-inside.lists.lists c.evict.new.self.lists c.self.inside.table c.loop-stale.self-inside.table c.remove.new.self c.loop-stale.invariant
-    c.in-Some.stale c.in-Some.ensures c.remove.ensures.left c.remove.ensures.placed
-
-pub loop-stale-smaller : goal.loop-stale-smaller
-loop-stale-smaller g c =
-    let same = same_by g.P.Ord.cmp g.M.Digest.Ord.cmp in
-    let key_laws = eq_by_cmp_equiv g.met.P.Ord.total in
-    let laws = eq_by_cmp_equiv (g.met.M.Digest.Ord g.world.𝓛 g.world.𝓜 g.world.𝓡 (λ s x. x, λ x. x, λ x. x, λ x. x)).total in
-    Clearing-shorter same key_laws laws c.args.peer.now c.self.inside.lists.lists c.loop-stale.self-inside.lists.lists c.evict.new.self.lists c.self.inside.table c.loop-stale.self-inside.table c.remove.new.self c.loop-stale.invariant
-    c.in-Some.stale c.in-Some.ensures
 
 pub invariant_of-self : goal.invariant_of-self
 invariant_of-self g c =
-    let same = same_by g.P.Ord.cmp g.M.Digest.Ord.cmp in
-    let key_laws = eq_by_cmp_equiv g.met.P.Ord.total in
-    let laws = eq_by_cmp_equiv (g.met.M.Digest.Ord g.world.𝓛 g.world.𝓜 g.world.𝓡 (λ s x. x, λ x. x, λ x. x, λ x. x)).total in
-    (Clearing-end same key_laws laws c.args.peer.now c.self.inside.lists.lists c.loop-stale.self-inside.lists.lists c.evict.new.self.lists c.self.inside.table c.loop-stale.self-inside.table c.loop-stale.self-inside.table c.loop-stale.invariant
-    c.remove-2.new.self.lists c.in_default.ensures.0 c.in_default.ensures.1 c.remove-2.ensures).0
+    let laws = eq_by_cmp_equiv g.met.P.Ord.total in
+    let distinct = IsDistinct-from_sorted g.P.Ord.cmp (keys_of c.remove.new.self.entries) c.remove.ensures.ordered in
+    IsNumbered-dropped g.P.Ord.cmp g.M.Digest.Ord.cmp laws c.self.inside.numbers.entries c.remove.new.self.entries c.args.peer.now c.self.inside.shelf c.self.invariant c.in-Some.ensures.updates.0 distinct
+    c.in-Some.list (sym c.in-Some.ensures.value) c.remove-in-Some.new.self c.remove-in-Some.ensures
 
-pub returns : goal.returns
-returns g c =
-    let same = same_by g.P.Ord.cmp g.M.Digest.Ord.cmp in
-    let key_laws = eq_by_cmp_equiv g.met.P.Ord.total in
-    let laws = eq_by_cmp_equiv (g.met.M.Digest.Ord g.world.𝓛 g.world.𝓜 g.world.𝓡 (λ s x. x, λ x. x, λ x. x, λ x. x)).total in
-    let cleared = Clearing-end same key_laws laws c.args.peer.now c.self.inside.lists.lists c.loop-stale.self-inside.lists.lists c.evict.new.self.lists c.self.inside.table c.loop-stale.self-inside.table c.loop-stale.self-inside.table c.loop-stale.invariant
-    c.remove-2.new.self.lists c.in_default.ensures.0 c.in_default.ensures.1 c.remove-2.ensures in
-    let distinct = distinct-digests same.key c.remove-2.new.self.lists c.len-new.ensures.distinct in
-    rw (← c.self.view_is) (Drops-made same key_laws laws (c.args.peer.now ∷ []) [] (stored_of c.self.inside.lists.lists c.self.inside.table) c.remove-2.new.self.lists c.loop-stale.self-inside.table cleared.0 distinct cleared.1)
+pub returns-in-Some : goal.returns-in-Some
+returns-in-Some g c =
+    let laws = eq_by_cmp_equiv g.met.P.Ord.total in
+    let distinct = IsDistinct-from_sorted g.P.Ord.cmp (keys_of c.remove.new.self.entries) c.remove.ensures.ordered in
+    rw (← c.self.view_is) (Drops-named g.P.Ord.cmp g.M.Digest.Ord.cmp laws c.self.inside.numbers.entries c.remove.new.self.entries c.args.peer.now c.self.inside.shelf c.self.invariant c.in-Some.ensures.updates.0 distinct
+    c.in-Some.list (sym c.in-Some.ensures.value) c.remove-in-Some.new.self c.remove-in-Some.ensures)
+
+pub returns-in-None : goal.returns-in-None
+returns-in-None g c =
+    let laws = eq_by_cmp_equiv g.met.P.Ord.total in
+    rw (← c.self.view_is, c.in-None.ensures.unchanged) (Drops-nothing g.P.Ord.cmp g.M.Digest.Ord.cmp laws c.self.inside.numbers.entries c.args.peer.now c.self.inside.shelf c.self.invariant (sym c.in-None.ensures.value))

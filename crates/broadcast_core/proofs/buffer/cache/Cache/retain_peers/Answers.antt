@@ -2,7 +2,8 @@ use Rattle.std.proofs.Common.{◌≡◌, ◌+◌, [], ◌∷◌, ◌++◌, take,
 use Rattle.std.specs.Cmp.{eq_by_cmp_equiv}
 use Rattle.std.proofs.lemmas.List.{take_all, take_more}
 use Rattle.broadcast_core.specs.Content.{same_by}
-use Rattle.broadcast_core.proofs.Placing.{distinct-digests}
+use Rattle.broadcast_core.specs.Numbered.{named_of}
+use Rattle.broadcast_core.proofs.Numbering.{cached_named, distinct_peers}
 use Rattle.broadcast_core.proofs.Dropping.{Dropping, Dropping-leaves, Dropping-stays, Drops-made}
 use Rattle.broadcast_core.proofs.buffer.cache.Cache.retain_peers.Goals as goal
 use Rattle.broadcast_core.proofs.buffer.cache.Cache.retain_peers.Goals.{then-not-is_there, else-not-is_there}
@@ -30,6 +31,6 @@ returns g c =
     let laws = eq_by_cmp_equiv (g.met.M.Digest.Ord g.world.𝓛 g.world.𝓜 g.world.𝓡 (λ s x. x, λ x. x, λ x. x, λ x. x)).total in
     let all = take_all c.loop-peer.peer-index c.args.was.now (omega arith) in
     let dropping = subst (λ ps. Dropping same ps c.args.peers.now c.args.self.now c.loop-peer.self) all c.loop-peer.invariant in
-    rw (← c.self.view_is) (Drops-made same key_laws laws c.args.was.now c.args.peers.now c.args.self.now c.self.inside.lists.lists c.self.inside.table
-    c.self.invariant (distinct-digests same.key c.self.inside.lists.lists c.len-lists.ensures.distinct)
+    rw (← c.self.view_is) (Drops-made same key_laws laws c.args.was.now c.args.peers.now c.args.self.now (named_of c.self.inside.numbers.entries c.self.inside.shelf)
+    (cached_named g.P.Ord.cmp g.M.Digest.Ord.cmp key_laws c.self.inside.numbers.entries c.self.inside.shelf c.self.invariant) (distinct_peers g.P.Ord.cmp g.M.Digest.Ord.cmp key_laws c.self.inside.numbers.entries c.self.inside.shelf c.self.invariant)
     (subst (λ s. Dropping same c.args.was.now c.args.peers.now c.args.self.now s) (sym c.self.view_is) dropping))

@@ -1,19 +1,83 @@
-use Rattle.std.proofs.Common.{arith}
+use Rattle.std.proofs.Common.{OnOk, ◌≡◌, true, false, [], sym, ap, subst, ◌∙◌}
+use Rattle.std.specs.Prelude.{is_some, not}
 use Rattle.std.specs.Cmp.{eq_by_cmp_equiv}
-use Rattle.broadcast_core.specs.Content.{same_by}
-use Rattle.broadcast_core.proofs.Shortening.{Stores-fits, Stores-cut}
+use Rattle.std.specs.Ordering.{eq_by_cmp}
+use Rattle.entries.specs.Store.{same_number}
+use Rattle.broadcast_core.specs.Content.{same_by, at_charge, fronted, items_at}
+use Rattle.broadcast_core.specs.Numbered.{named_of}
+use Rattle.broadcast_core.specs.Stored.{Stores}
+use Rattle.broadcast_core.proofs.Numbering.{named_there, named_nowhere, some_named, named_none, front-nothing, IsNumbered-taken, Stores-taken, Stores-nothing}
 use Rattle.broadcast_core.proofs.buffer.cache.Cache.take.Goals as goal
 
-pub returns-clause-ok : goal.returns-clause-ok
-returns-clause-ok g c =
-    let same = same_by g.P.Ord.cmp g.M.Digest.Ord.cmp in
-    let key_laws = eq_by_cmp_equiv g.met.P.Ord.total in
-    let _laws = eq_by_cmp_equiv (g.met.M.Digest.Ord g.world.𝓛 g.world.𝓜 g.world.𝓡 (λ s x. x, λ x. x, λ x. x, λ x. x)).total in
-    Stores-cut same key_laws c.args.peer.now c.args.message.now _ c.args.byte_budget c.args.self.now c.put.new.self c.cut.new.self c.in_ok-is_new.ensures.ok c.cut.ensures
+pub take-requires-clause-there : goal.take-requires-clause-there
+take-requires-clause-there g c κs within = c.self.invariant.there c.args.peer.now c.in-Some.list.now (sym c.in-Some.ensures.value)
 
-pub returns-then-bytes-from-clause-ok : goal.returns-then-bytes-from-clause-ok
-returns-then-bytes-from-clause-ok g c =
+pub take-requires-clause-size : goal.take-requires-clause-size
+take-requires-clause-size g c κs within = rw (← c.self.view_is, named_there (eq_by_cmp g.P.Ord.cmp) c.self.inside.numbers.entries c.self.inside.shelf.lists c.args.peer.now c.in-Some.list.now (sym c.in-Some.ensures.value)) at c.requires.size
+
+pub take-requires-clause-bytes : goal.take-requires-clause-bytes
+take-requires-clause-bytes g c κs within = rw (← c.self.view_is, named_there (eq_by_cmp g.P.Ord.cmp) c.self.inside.numbers.entries c.self.inside.shelf.lists c.args.peer.now c.in-Some.list.now (sym c.in-Some.ensures.value)) at c.requires.bytes
+
+pub invariant_of-self : goal.invariant_of-self
+invariant_of-self g c =
+    let laws = eq_by_cmp_equiv g.met.P.Ord.total in
+    let cs = fronted (eq_by_cmp g.M.Digest.Ord.cmp) c.args.deque_size c.args.byte_budget (at_charge c.args.message.now.digest c.args.charge) (items_at same_number c.in-Some.list.now c.self.inside.shelf.lists) in
+    IsNumbered-taken g.P.Ord.cmp g.M.Digest.Ord.cmp laws c.self.inside.numbers.entries c.args.peer.now c.in-Some.list.now (sym c.in-Some.ensures.value) c.self.inside.shelf c.take.new.self c.self.invariant
+    c.args.message.now cs c.take.result c.take.ensures.ok c.take.ensures.err
+
+pub take_first-requires-clause-absent : goal.take_first-requires-clause-absent
+take_first-requires-clause-absent g c κs within = rw (← c.self.view_is) (named_none (eq_by_cmp g.P.Ord.cmp) c.self.inside.numbers.entries c.self.inside.shelf.lists c.args.peer.now (sym c.in-None-3.ensures.value))
+
+-- a peer that has a list is primary
+pub returns-in-Some-clause-outcome : goal.returns-in-Some-clause-outcome
+returns-in-Some-clause-outcome g c =
+    let prim = c.requires.primary_only (rw (← c.self.view_is) (some_named (eq_by_cmp g.P.Ord.cmp) c.self.inside.numbers.entries c.self.inside.shelf.lists c.args.peer.now ∙ ap is_some (sym c.in-Some.ensures.value))) in
+    rw (prim, ← c.self.view_is, named_there (eq_by_cmp g.P.Ord.cmp) c.self.inside.numbers.entries c.self.inside.shelf.lists c.args.peer.now c.in-Some.list.now (sym c.in-Some.ensures.value)) c.take.ensures.outcome
+
+pub returns-in-Some-clause-ok : goal.returns-in-Some-clause-ok
+returns-in-Some-clause-ok g c =
+    let laws = eq_by_cmp_equiv g.met.P.Ord.total in
     let same = same_by g.P.Ord.cmp g.M.Digest.Ord.cmp in
-    let key_laws = eq_by_cmp_equiv g.met.P.Ord.total in
-    Stores-fits same key_laws c.args.peer.now c.args.message.now _ c.args.byte_budget c.args.self.now c.put.new.self c.put.new.self c.in_ok-is_new.ensures.ok
-    (omega (arith, c.in_ok-is_new.ensures.bytes, c.if-bytes-from.true, c.from.ensures))
+    let front = fronted same.digest c.args.deque_size c.args.byte_budget (at_charge c.args.message.now.digest c.args.charge) in
+    let named = named_of c.self.inside.numbers.entries in
+    let prim = c.requires.primary_only (rw (← c.self.view_is) (some_named (eq_by_cmp g.P.Ord.cmp) c.self.inside.numbers.entries c.self.inside.shelf.lists c.args.peer.now ∙ ap is_some (sym c.in-Some.ensures.value))) in
+    rw (prim, ← c.self.view_is) (subst (λ cs. OnOk c.take.result (Stores same c.args.peer.now c.args.message.now (front cs) (named c.self.inside.shelf) (named c.take.new.self)))
+    (sym (named_there (eq_by_cmp g.P.Ord.cmp) c.self.inside.numbers.entries c.self.inside.shelf.lists c.args.peer.now c.in-Some.list.now (sym c.in-Some.ensures.value)))
+    (Stores-taken g.P.Ord.cmp g.M.Digest.Ord.cmp laws c.self.inside.numbers.entries c.args.peer.now c.in-Some.list.now (sym c.in-Some.ensures.value) c.self.inside.shelf c.take.new.self c.self.invariant
+    c.args.message.now (front (items_at same_number c.in-Some.list.now c.self.inside.shelf.lists)) c.take.result c.take.ensures.ok))
+
+pub returns-in-Some-clause-succeeds_on_duplicate : goal.returns-in-Some-clause-succeeds_on_duplicate
+returns-in-Some-clause-succeeds_on_duplicate g c = rw (← c.self.view_is, named_there (eq_by_cmp g.P.Ord.cmp) c.self.inside.numbers.entries c.self.inside.shelf.lists c.args.peer.now c.in-Some.list.now (sym c.in-Some.ensures.value)) c.take.ensures.succeeds_on_duplicate
+
+pub returns-in-None-2-clause-ok : goal.returns-in-None-2-clause-ok
+returns-in-None-2-clause-ok g c =
+    let laws = eq_by_cmp_equiv g.met.P.Ord.total in
+    let same = same_by g.P.Ord.cmp g.M.Digest.Ord.cmp in
+    let now = named_of c.self.inside.numbers.entries c.self.inside.shelf in
+    let prim = sym c.position.ensures.some ∙ c.is_none.ensures ∙ ap not c.if-is_none.false in
+    rw (prim, ← c.self.view_is) (subst (λ cs. Stores same c.args.peer.now c.args.message.now cs now now)
+    (sym (front-nothing same.digest c.args.deque_size c.args.byte_budget (at_charge c.args.message.now.digest c.args.charge) (items_at same.key c.args.peer.now now.lists) c.if-deque_size-eq0.true))
+    (Stores-nothing g.P.Ord.cmp g.M.Digest.Ord.cmp laws c.self.inside.numbers.entries c.args.peer.now c.self.inside.shelf c.args.message.now c.self.invariant (sym c.in-None-2.ensures.value)))
+
+pub returns-in-Some-clause-succeeds_on_ineligible : goal.returns-in-Some-clause-succeeds_on_ineligible
+returns-in-Some-clause-succeeds_on_ineligible g c = λ no.
+    let prim = c.requires.primary_only (rw (← c.self.view_is) (some_named (eq_by_cmp g.P.Ord.cmp) c.self.inside.numbers.entries c.self.inside.shelf.lists c.args.peer.now ∙ ap is_some (sym c.in-Some.ensures.value))) in
+    let never : true ≡ false = sym prim ∙ no in absurd (cc)
+
+pub returns-in-None-3-clause-outcome : goal.returns-in-None-3-clause-outcome
+returns-in-None-3-clause-outcome g c =
+    let prim = sym c.position.ensures.some ∙ c.is_none.ensures ∙ ap not c.if-is_none.false in
+    rw (prim, ← c.self.view_is, named_nowhere (eq_by_cmp g.P.Ord.cmp) c.self.inside.numbers.entries c.self.inside.shelf.lists c.args.peer.now (sym c.in-None-3.ensures.value)) c.take_first.ensures.outcome
+
+pub returns-in-None-3-clause-ok : goal.returns-in-None-3-clause-ok
+returns-in-None-3-clause-ok g c =
+    let same = same_by g.P.Ord.cmp g.M.Digest.Ord.cmp in
+    let front = fronted same.digest c.args.deque_size c.args.byte_budget (at_charge c.args.message.now.digest c.args.charge) in
+    let empty = subst (λ s. items_at same.key c.args.peer.now s.lists ≡ []) c.self.view_is
+    (named_nowhere (eq_by_cmp g.P.Ord.cmp) c.self.inside.numbers.entries c.self.inside.shelf.lists c.args.peer.now (sym c.in-None-3.ensures.value)) in
+    let prim = sym c.position.ensures.some ∙ c.is_none.ensures ∙ ap not c.if-is_none.false in
+    rw prim (subst (λ cs. OnOk c.take_first.result (Stores same c.args.peer.now c.args.message.now (front cs) c.args.self.now c.take_first.new.self)) (sym empty) c.take_first.ensures.ok)
+
+pub returns-in-None-3-clause-succeeds_on_duplicate : goal.returns-in-None-3-clause-succeeds_on_duplicate
+returns-in-None-3-clause-succeeds_on_duplicate g c =
+    rw (← c.self.view_is, named_nowhere (eq_by_cmp g.P.Ord.cmp) c.self.inside.numbers.entries c.self.inside.shelf.lists c.args.peer.now (sym c.in-None-3.ensures.value)) (λ no. absurd (cc))

@@ -11,7 +11,7 @@ use Rattle.futures.specs.declared.task.Poll.TheVariants.{Ready, Pending}
 use Rattle.std.specs.List.{All}
 use Rattle.std.proofs.lemmas.List.Elements.{All-push}
 use Rattle.commonware_broadcast.proofs.Polls.{Polls-more}
-use Rattle.commonware_broadcast.proofs.Driving.{AlwaysTakes-more, IsPoll-takes, Polls-take, none_unless, none_is, some_is, no_end}
+use Rattle.commonware_broadcast.proofs.Driving.{AlwaysTakes-more, IsPoll-takes, Polls-take, none_unless, none_is, none_listed, some_is, no_end}
 use Rattle.commonware_broadcast.proofs.buffered.engine.driver.drive.Goals as goal
 
 pub loop-poll-init : goal.loop-poll-init
@@ -100,6 +100,16 @@ returns-then-is_some-clause-ends_with_last_turn g c = λ _.
     let told : c.in-Ready.turn ≡ Ended end.0 = (let e : Ready c.in-Ready.turn ≡ Ready (Ended end.0) = sym c.in-Ready.is ∙ c.poll.ensures.polled.tells_its_end end.0 end.1 in cc) in
     subst (λ e. TellsEnd e c.push_reserved.new.self.items) (sym end.1)
     (c.loop-poll.turns.items, c.push_reserved.ensures.items ∙ ap (λ t. c.loop-poll.turns.items ++ t ∷ []) told, c.loop-poll.invariant.none_ends)
+
+pub returns-then-is_some-clause-same_after_end : goal.returns-then-is_some-clause-same_after_end
+returns-then-is_some-clause-same_after_end g c = λ cause ended.
+    let at = c.loop-poll.invariant in
+    let still = at.still cause ended in
+    let before : c.loop-poll.engine.end ≡ Some cause = ap (λ k. k.end) still.1 ∙ ended in
+    let same = c.poll.ensures.polled.same_after_end cause before in
+    let told : c.in-Ready.turn ≡ Ended cause = (let e : Ready c.in-Ready.turn ≡ Ready (Ended cause) = sym c.in-Ready.is ∙ same.0 in cc) in
+    let none : c.loop-poll.turns.items ≡ [] = none_listed c.loop-poll.turns.items (omega (arith, at.few, still.0)) in
+    (same.1 ∙ still.1, same.2 ∙ still.2, λ _. c.push_reserved.ensures.items ∙ ap (λ l. l ++ c.in-Ready.turn ∷ []) none ∙ ap (λ t. t ∷ []) told)
 
 pub returns-then-is_some-clause-drives : goal.returns-then-is_some-clause-drives
 returns-then-is_some-clause-drives g c = let at = c.loop-poll.invariant in record {

@@ -1,4 +1,4 @@
-use Rattle.std.proofs.Common.{[], ◌∷◌, sym, ap}
+use Rattle.std.proofs.Common.{[], ◌∷◌, sym, ap, ◌∙◌}
 use Rattle.broadcast_core.proofs.Lawful.{same_by-lawful}
 use Rattle.broadcast_core.specs.declared.event.Cause.TheVariants.{Memory}
 use Rattle.engine_io.specs.declared.input.Input.TheVariants.{Arrived}
@@ -13,8 +13,8 @@ returns-in-Ok-clause-handled g c = λ s e encodes past has.
     let serves = c.in-Ok.ensures.serves in
     let step = AppliesStep-arrival e lawful (λ w b. g.S.Responder.may_answer w.responder b) g.O.Outlet.told past c.args.node.now has encodes c.args.peer c.args.message c.take.new.node c.count_received.new.metrics
     c.in-Ok.outcome serves c.in-Ok.ensures.outcome c.count_received.ensures in
-    Handles-applied s (λ w b. g.S.Responder.may_answer w.responder b) g.O.Outlet.told past (Arrived c.args.peer c.args.message) serves.replies (turn.Payload c.args.peer c.in-Ok.outcome)
-    c.args.node.now (record c.take.new.node { metrics = c.count_received.new.metrics }) step.1 (ap (λ o. turn.Payload c.args.peer o ∷ []) (sym step.0))
+    Handles-applied s (λ w b. g.S.Responder.may_answer w.responder b) g.O.Outlet.told past (Arrived c.args.peer c.args.message) serves.replies (turn.Payload c.args.peer c.digest.result c.in-Ok.outcome)
+    c.args.node.now (record c.take.new.node { metrics = c.count_received.new.metrics }) step.1 (ap (λ o. turn.Payload c.args.peer c.args.message.digest o ∷ []) (sym step.0) ∙ ap (λ d. turn.Payload c.args.peer d c.in-Ok.outcome ∷ []) (sym c.digest.ensures))
 
 pub returns-clause-handled : goal.returns-clause-handled
 returns-clause-handled g c = λ s e encodes past has.

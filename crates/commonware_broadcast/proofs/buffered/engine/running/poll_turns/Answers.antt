@@ -1,23 +1,38 @@
+use Rattle.std.proofs.Common.{◌≡◌, ◌∙◌, refl, sym, ap, subst, append-nil, Some, [], ◌∷◌, ◌++◌}
+use Rattle.futures.specs.declared.task.Poll.TheVariants.{Ready, Pending}
 use Rattle.broadcast_core.specs.Codec.{whole}
 use Rattle.broadcast_core.specs.Content.{same_by}
+use Rattle.engine_io.specs.Sources.{given}
 use Rattle.commonware_broadcast.specs.Interfaces.{format, parties, interfaces}
-use Rattle.commonware_broadcast.proofs.Polls.{TakesPolls-one}
+use Rattle.commonware_broadcast.specs.Polls.{unended}
+use Rattle.commonware_broadcast.proofs.Polls.{ShowsPolls-none, ShowsPolls-one, unended-open, unended-end}
 use Rattle.commonware_broadcast.proofs.buffered.engine.running.poll_turns.Goals as goal
 
-pub returns-in-Ready-Ended-clause-took : goal.returns-in-Ready-Ended-clause-took
-returns-in-Ready-Ended-clause-took g c = TakesPolls-one (format (same_by g.P.Ord.cmp g.M.Digest.Ord.cmp) g.M.Write.encoding g.M.Digestible.digest_of (λ cfg. whole (g.M.Read.reading cfg)))
+pub loop-init : goal.loop-init
+loop-init g c = record {
+  took = ShowsPolls-none (format (same_by g.P.Ord.cmp g.M.Digest.Ord.cmp) g.M.Write.encoding g.M.Digestible.digest_of (λ cfg. whole (g.M.Read.reading cfg)))
+      (interfaces (parties (λ w b. g.S.Responder.may_answer w.responder b) g.T.Job.Job.is_of g.O.Outlet) g.N.Sender g.V.Receiver g.B.Provider g.Q.Requests)
+      g.W.Observer.seen (c.args.engine.now, c.args.network.now) c.args.observer.now;
+  kept = λ fact h. h;
+}
+
+pub returns-in-Some-clause-took : goal.returns-in-Some-clause-took
+returns-in-Some-clause-took g c = ShowsPolls-one (format (same_by g.P.Ord.cmp g.M.Digest.Ord.cmp) g.M.Write.encoding g.M.Digestible.digest_of (λ cfg. whole (g.M.Read.reading cfg)))
     (interfaces (parties (λ w b. g.S.Responder.may_answer w.responder b) g.T.Job.Job.is_of g.O.Outlet) g.N.Sender g.V.Receiver g.B.Provider g.Q.Requests)
-    (c.args.engine.now, c.args.network.now) (c.loop.engine, c.loop.network) (c.poll.new.self, c.poll.new.network) c.poll.result c.loop.invariant.took c.poll.ensures.polled
+    g.W.Observer.seen (c.args.engine.now, c.args.network.now) (c.loop.engine, c.loop.network) (c.poll.new.self, c.poll.new.network) c.args.observer.now c.loop.observer c.loop.observer c.poll.result c.loop.invariant.took c.poll.ensures.polled
+    (λ turns h. subst (λ l. g.W.Observer.seen c.loop.observer (turns ++ l)) (sym (ap (λ r. unended (given r)) c.in-Ready.is ∙ unended-end c.in-Ready.turn c.in-Some.cause (sym c.end_told.ensures ∙ c.in-Some.is))) (subst (g.W.Observer.seen c.loop.observer) (sym (append-nil turns)) h))
 
 pub returns-in-Pending-clause-took : goal.returns-in-Pending-clause-took
-returns-in-Pending-clause-took g c = TakesPolls-one (format (same_by g.P.Ord.cmp g.M.Digest.Ord.cmp) g.M.Write.encoding g.M.Digestible.digest_of (λ cfg. whole (g.M.Read.reading cfg)))
+returns-in-Pending-clause-took g c = ShowsPolls-one (format (same_by g.P.Ord.cmp g.M.Digest.Ord.cmp) g.M.Write.encoding g.M.Digestible.digest_of (λ cfg. whole (g.M.Read.reading cfg)))
     (interfaces (parties (λ w b. g.S.Responder.may_answer w.responder b) g.T.Job.Job.is_of g.O.Outlet) g.N.Sender g.V.Receiver g.B.Provider g.Q.Requests)
-    (c.args.engine.now, c.args.network.now) (c.loop.engine, c.loop.network) (c.poll.new.self, c.poll.new.network) c.poll.result c.loop.invariant.took c.poll.ensures.polled
+    g.W.Observer.seen (c.args.engine.now, c.args.network.now) (c.loop.engine, c.loop.network) (c.poll.new.self, c.poll.new.network) c.args.observer.now c.loop.observer c.loop.observer c.poll.result c.loop.invariant.took c.poll.ensures.polled
+    (λ turns h. subst (λ l. g.W.Observer.seen c.loop.observer (turns ++ l)) (sym (ap (λ r. unended (given r)) c.in-Pending.is)) (subst (g.W.Observer.seen c.loop.observer) (sym (append-nil turns)) h))
 
 pub loop-preserved : goal.loop-preserved
 loop-preserved g c = record {
-  took = TakesPolls-one (format (same_by g.P.Ord.cmp g.M.Digest.Ord.cmp) g.M.Write.encoding g.M.Digestible.digest_of (λ cfg. whole (g.M.Read.reading cfg)))
+  took = ShowsPolls-one (format (same_by g.P.Ord.cmp g.M.Digest.Ord.cmp) g.M.Write.encoding g.M.Digestible.digest_of (λ cfg. whole (g.M.Read.reading cfg)))
       (interfaces (parties (λ w b. g.S.Responder.may_answer w.responder b) g.T.Job.Job.is_of g.O.Outlet) g.N.Sender g.V.Receiver g.B.Provider g.Q.Requests)
-      (c.args.engine.now, c.args.network.now) (c.loop.engine, c.loop.network) (c.poll.new.self, c.poll.new.network) c.poll.result c.loop.invariant.took c.poll.ensures.polled;
+      g.W.Observer.seen (c.args.engine.now, c.args.network.now) (c.loop.engine, c.loop.network) (c.poll.new.self, c.poll.new.network) c.args.observer.now c.loop.observer c.turn.new.self c.poll.result c.loop.invariant.took c.poll.ensures.polled
+      (λ turns h. subst (λ l. g.W.Observer.seen c.turn.new.self (turns ++ l)) (sym (ap (λ r. unended (given r)) c.in-Ready.is ∙ unended-open c.in-Ready.turn (sym c.end_told.ensures ∙ c.in-None.is))) (c.turn.ensures turns h));
   kept = λ fact h. c.poll.ensures.kept fact (c.loop.invariant.kept fact h);
 }

@@ -3,8 +3,8 @@ use Rattle.commonware_broadcast.proofs.buffered.engine.thread.make_ready.Goals a
 
 pub returns-in-Ok : goal.returns-in-Ok
 returns-in-Ok g c = record {
-  last = c.settle.new.engine;
-  took = c.in-Ok.ensures.took;
+  last = c.finish_job.new.engine;
+  took = c.in-Ok.ensures.took.took;
   idle = c.in-Ok.ensures.settled;
-  without_job = joined-idle c.settle.new.engine c.into_parts.result c.settle.new.engine.job c.into_parts.ensures;
+  without_job = joined-idle c.finish_job.new.engine c.into_parts.result c.finish_job.new.engine.job c.into_parts.ensures;
 }

@@ -1,18 +1,25 @@
-use Rattle.std.proofs.Common.{rules, inl, inr, refl}
+use Rattle.std.proofs.Common.{◌≡◌, Some, IfOk, IfErr, refl, sym, ap, subst, append-nil, ◌++◌}
+use Rattle.commonware_broadcast.specs.Polls.{unended}
 use Rattle.commonware_broadcast.proofs.buffered.engine.thread.run_until_end.Goals as goal
 
-pub returns-in-Ok-Some-clause-runs : goal.returns-in-Ok-Some-clause-runs
-returns-in-Ok-Some-clause-runs g c = record {
-  last = (c.run_turns-ran.new.engine, c.run_turns-ran.new.network);
-  took = c.run_turns-ran.ensures.took;
-  counters = refl;
-  caused = inl (search rules);
+pub returns-in-Ok-clause-runs : goal.returns-in-Ok-clause-runs
+returns-in-Ok-clause-runs g c = let did = c.run_to_end-engine.ensures.took in record {
+  ran = record {
+    last = _;
+    took = did.took;
+    counters = refl;
+    caused = subst (λ r. IfOk r (λ cause. c.run_to_end-engine.result.0.0.0.end ≡ Some cause)) c.in-Ok.is c.run_to_end-engine.ensures.ended;
+  };
+  shown = λ turns h. subst (g.W.Observer.seen c.run_to_end-engine.result.0.1) (sym (append-nil (turns ++ unended did.took.turns))) (did.shown turns h);
 }
 
-pub returns-in_default-clause-runs : goal.returns-in_default-clause-runs
-returns-in_default-clause-runs g c = record {
-  last = (c.run_turns-ran.new.engine, c.run_turns-ran.new.network);
-  took = c.run_turns-ran.ensures.took;
-  counters = c.end.ensures.counts_none;
-  caused = inr refl;
+pub returns-in-Err-clause-runs : goal.returns-in-Err-clause-runs
+returns-in-Err-clause-runs g c = let did = c.run_to_end-engine.ensures.took in record {
+  ran = record {
+    last = _;
+    took = did.took;
+    counters = c.end.ensures.counts_none;
+    caused = (refl, ap (λ m. m.0) (subst (λ r. IfErr r (λ failure. c.run_to_end-engine.result.0 ≡ ((c.args.engine, c.args.network), c.args.observer))) c.in-Err.is c.run_to_end-engine.ensures.unchanged_on_error));
+  };
+  shown = λ turns h. subst (g.W.Observer.seen c.run_to_end-engine.result.0.1) (sym (append-nil (turns ++ unended did.took.turns))) (did.shown turns h);
 }

@@ -32,7 +32,8 @@ returns-in-Stop-clause-polled g c = rw (← c.self.view_is) (
     IsPoll-open (format (same_by g.P.Ord.cmp g.M.Digest.Ord.cmp) g.M.Write.encoding g.M.Digestible.digest_of (λ cfg. whole (g.M.Read.reading cfg))) (interfaces (parties (λ w b. g.S.Responder.may_answer w.responder b) g.T.Job.Job.is_of g.O.Outlet) g.N.Sender g.R.Receiver g.B.Provider g.Q.Requests) _ _ (Ready (turn.Ended Stopped)) c.in_default.is (ap (λ e. e.end) over)
     (λ s is past has before held. PollsOnce-stopped s (interfaces (parties (λ w b. g.S.Responder.may_answer w.responder b) g.T.Job.Job.is_of g.O.Outlet) g.N.Sender g.R.Receiver g.B.Provider g.Q.Requests) past before _ _
     (AppliesSteps-one s (λ w b. g.S.Responder.may_answer w.responder b) g.O.Outlet.told past (ended Stopped) c.self.inside.node c.end.new.self.node (c.end.ensures.ended s is.same past has) tt)
-    (ap (λ e. e.end) over) (ap (λ e. e.job) over) (ap (λ e. e.provider) over) refl (λ told h. c.end.ensures.tells told (c.comes_first.ensures.tells told h)))
+    (ap (λ e. e.end) over) (ap (λ e. e.job) over) (ap (λ e. e.provider) over) refl (λ told h. c.end.ensures.tells told (c.comes_first.ensures.tells told h))
+    (λ told h. c.end.ensures.tells_outcomes told (c.comes_first.ensures.ended told h)))
     (record {
       stop_first = λ stops. refl;
       has_cause = λ cause is. subst (λ k. HasCause k (g.Q.Requests.may_stop c.self.inside.requests) (g.B.Provider.may_end c.self.inside.provider) (g.R.Receiver.may_fail c.args.network.now.1))
@@ -57,7 +58,8 @@ returns-in-Job-clause-polled g c = rw (← c.self.view_is) (
     (λ s is past has before held. PollsOnce-job s (interfaces (parties (λ w b. g.S.Responder.may_answer w.responder b) g.T.Job.Job.is_of g.O.Outlet) g.N.Sender g.R.Receiver g.B.Provider g.Q.Requests) past before _ _ _ c.in-Job.peer c.in-Job.job c.poll_job.result had.0 has
     (Holds-open g.T.Job.Job.is_of c.self.inside.end c.self.inside.job before c.in_default.is held) (λ m of_job. c.poll_job.ensures.arrives m of_job s is past has)
     refl (ap (λ e. e.end) keeps ∙ c.in_default.is) (ap (λ e. e.provider) keeps)
-    (λ told h. subst (λ q. g.Q.Requests.told q told) (sym (ap (λ e. e.requests) keeps)) (c.comes_first.ensures.tells told h)) refl)
+    (λ told h. subst (λ q. g.Q.Requests.told q told) (sym (ap (λ e. e.requests) keeps)) (c.comes_first.ensures.tells told h))
+    (λ told h. subst (λ q. g.Q.Requests.ended q told) (sym (ap (λ e. e.requests) keeps)) (c.comes_first.ensures.ended told h)) refl)
     (record {
       stop_first = λ stops. absurd (let no : Job c.in-Job.peer c.in-Job.job ≡ Stop = c.in-Job.ensures.stop_first stops in cc);
       has_cause = λ cause is. not_ended c.poll_job.result cause c.poll_job.ensures.tells_no_end is;
@@ -80,7 +82,7 @@ returns-in-Sources-clause-polled g c = rw (← c.self.view_is) (
     IsPoll-open (format (same_by g.P.Ord.cmp g.M.Digest.Ord.cmp) g.M.Write.encoding g.M.Digestible.digest_of (λ cfg. whole (g.M.Read.reading cfg))) (interfaces (parties (λ w b. g.S.Responder.may_answer w.responder b) g.T.Job.Job.is_of g.O.Outlet) g.N.Sender g.R.Receiver g.B.Provider g.Q.Requests) _ _ c.poll_sources.result c.in_default.is did.ends
     (λ s is past has before held. PollsOnce-sources s (interfaces (parties (λ w b. g.S.Responder.may_answer w.responder b) g.T.Job.Job.is_of g.O.Outlet) g.N.Sender g.R.Receiver g.B.Provider g.Q.Requests) past before _ _ _ c.poll_sources.result none.0
     (did.took s is past has before (subst (λ j. Holds g.T.Job.Job.is_of c.self.inside.end j before) (none.0 ∙ sym none.1) held))
-    refl refl refl c.comes_first.ensures.tells refl)
+    refl refl refl c.comes_first.ensures.tells c.comes_first.ensures.ended refl)
     (record {
       stop_first = λ stops. absurd (let no : Sources ≡ Stop = c.in-Sources.ensures.stop_first stops in cc);
       has_cause = λ cause is. HasCause-weaker ⊥ (g.B.Provider.may_end c.self.inside.provider) (g.R.Receiver.may_fail c.args.network.now.1)

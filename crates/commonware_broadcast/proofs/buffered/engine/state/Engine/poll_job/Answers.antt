@@ -18,7 +18,7 @@ returns-in-Ready-clause-arrives g c = λ m of_job. rw (← c.self.view_is) (λ s
     let first : c.in-Ready.message ≡ m = c.in-Ready.message-is ∙ d.0 in
     let second : c.in-Ready.digest ≡ s.digest_of m = c.in-Ready.digest-is ∙ d.1 ∙ ap (λ f. f m) (sym is.digest_of) in
     Arrives-handled s (parties (λ w b. g.S.Responder.may_answer w.responder b) g.T.Job.Job.is_of g.O.Outlet) past (message_of c.args.peer m) _ _ [] c.self.inside.node (input.Arrived c.args.peer (own_digested s m)) c.arrive.result
-    (AppliesSteps-none s (λ w b. g.S.Responder.may_answer w.responder b) g.O.Outlet.told past c.self.inside.node has) refl refl refl refl (record { no_sets = refl; no_requests = refl; all = refl })
+    (AppliesSteps-none s (λ w b. g.S.Responder.may_answer w.responder b) g.O.Outlet.told past c.self.inside.node has) refl refl refl refl refl (record { no_sets = refl; no_requests = refl; all = refl })
     (subst (λ x. Handles s (replying (λ w b. g.S.Responder.may_answer w.responder b) g.O.Outlet.told) past (input.Arrived c.args.peer x) c.arrive.result c.self.inside.node c.arrive.new.node)
     (ap (λ x. record { message = x; digest = c.in-Ready.digest }) first ∙ ap (λ y. record { message = m; digest = y }) second)
     (c.arrive.ensures.handled s is.same is.encoding past has)) (ap (λ e. e.job) c.self.view_is ∙ c.requires.idle))

@@ -26,7 +26,7 @@ returns-in-Err-clause-arrives g c = rw (← c.self.view_is) (λ s is past has.
           λ h. not_memory (length c.args.bytes.now) (g.M.Read.reading c.self.inside.codec_config c.args.bytes.now) (λ why. g.met.M.Read.refusals c.self.inside.codec_config c.args.bytes.now why) (sym at ∙ ap Err h) in
           Arrives-read s (parties (λ w b. g.S.Responder.may_answer w.responder b) g.T.Job.Job.is_of g.O.Outlet) past c.args.peer _ _ _ _ _ read
           (Arrives-handled s (parties (λ w b. g.S.Responder.may_answer w.responder b) g.T.Job.Job.is_of g.O.Outlet) past (payload_of c.args.peer (Err c.in-Err.error)) _ _ [] c.self.inside.node (input.Invalid c.args.peer c.in-Err.error) c.refuse.result
-          (AppliesSteps-none s (λ w b. g.S.Responder.may_answer w.responder b) g.O.Outlet.told past c.self.inside.node has) refl refl refl refl (record { no_sets = refl; no_requests = refl; all = refl })
+          (AppliesSteps-none s (λ w b. g.S.Responder.may_answer w.responder b) g.O.Outlet.told past c.self.inside.node has) refl refl refl refl refl (record { no_sets = refl; no_requests = refl; all = refl })
           (c.refuse.ensures.invalid other s is.same past has) idle)
       | inr lacks ↦
           let memory : c.in-Err.error ≡ CodecError.Memory = (let h = lacks.0 in cc) in

@@ -28,6 +28,6 @@ returns-in-Err-clause-arrives g c = rw (← c.self.view_is) (λ s is past has.
     Arrives-handled s (parties (λ w b. g.S.Responder.may_answer w.responder b) g.T.Job.Job.is_of g.O.Outlet) past (payload_of c.args.peer (Ok c.args.message)) _ _ (decoded c.args.peer ∷ []) mid
     (input.Arrived c.args.peer (own_digested s c.args.message)) (turn.Refused (Some c.args.peer) Memory)
     (decoding s (parties (λ w b. g.S.Responder.may_answer w.responder b) g.T.Job.Job.is_of g.O.Outlet) past is.same c.args.peer c.self.inside.node c.count_peer.new.self has c.in-Ok.ensures.counts_one c.count_peer.ensures.totals_stay)
-    refl refl refl refl (record { no_sets = refl; no_requests = refl; all = refl })
+    refl refl refl refl refl (record { no_sets = refl; no_requests = refl; all = refl })
     (Handles-refused s (λ w b. g.S.Responder.may_answer w.responder b) g.O.Outlet.told past (input.Arrived c.args.peer (own_digested s c.args.message)) Memory mid mid has refl tt)
     (ap (λ e. e.job) c.self.view_is ∙ c.requires.idle))

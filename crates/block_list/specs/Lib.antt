@@ -1,0 +1,2 @@
+pub mod ListOf
+pub mod ListLaws

@@ -1,0 +1,91 @@
+use Rattle.std.proofs.Common.{◌≡◌, ℕ, Bool, true, cond, List, Some, None, sym, ap, subst, ◌∙◌}
+use Rattle.std.specs.List.{IsDistinct}
+use Rattle.std.specs.List.Sorted.{IsStrictlySortedBy}
+use Rattle.std.specs.Map.{lookup, keys_of, remove_entry}
+use Rattle.std.specs.BTreeMap.{insert_entry, is_at}
+use Rattle.std.specs.Ordering.{eq_by_cmp}
+use Rattle.std.specs.Cmp.{eq_by_cmp_equiv, IsEquivalence, IsTotalOrder}
+use Rattle.std.specs.declared.cmp.Ordering.{Ordering}
+use Rattle.std.proofs.lemmas.Map.Keys.{IsDistinct-from_sorted}
+use Rattle.entries.specs.declared.entry.Charged.{Charged}
+use Rattle.broadcast_core.specs.Carried.{Carried}
+use Rattle.broadcast_core.specs.Content.{at_charge, fronted, same_by, same_listed}
+use Rattle.broadcast_core.specs.Stored.{Stored, Stores}
+use Rattle.broadcast_core.specs.Numbered.{named_of, IsNumbered, Opens, Closes}
+use Rattle.broadcast_core.proofs.Entries.{remove_entry-insert_entry}
+use Rattle.broadcast_core.proofs.Numbering.{none_named, found_first, opened_first, IsNumbered-opened, IsNumbered-stores, IsNumbered-undone, named-undone, Stores-first}
+use Rattle.broadcast_core.proofs.buffer.cache.Cache.take_first.Goals as goal
+
+module _ {P M D : Type 0} {cmp : P → P → Ordering} (digest : D → D → Ordering) (order : IsTotalOrder cmp) (numbers : List (P × ℕ)) (p owner : P) (n : ℕ) (s o : Stored ℕ M D)
+    (ok : IsNumbered cmp digest numbers s) (none : lookup (eq_by_cmp cmp p) numbers ≡ None) (opens : Opens n s o) (one : eq_by_cmp cmp p owner ≡ true) where
+  laws : IsEquivalence (eq_by_cmp cmp)
+  laws = eq_by_cmp_equiv order
+
+  module _ (more : List (P × ℕ)) (sorted : IsStrictlySortedBy cmp (keys_of more)) (put : (q : P) → lookup (eq_by_cmp cmp q) more ≡ cond (eq_by_cmp cmp owner q) (Some n) (lookup (eq_by_cmp cmp q) numbers)) where
+    at : (q : P) → lookup (eq_by_cmp cmp q) more ≡ cond (eq_by_cmp cmp p q) (Some n) (lookup (eq_by_cmp cmp q) numbers)
+    at q = put q ∙ ap (λ b. cond b (Some n) (lookup (eq_by_cmp cmp q) numbers)) (sym (laws.congr p owner q one))
+
+    distinct : IsDistinct (eq_by_cmp cmp) (keys_of more)
+    distinct = IsDistinct-from_sorted cmp (keys_of more) sorted
+
+    opened : IsNumbered cmp digest more o
+    opened = IsNumbered-opened cmp digest laws numbers p n s o ok none opens more at distinct
+
+    taken : (x : Carried M D) (cs : List (Charged D)) (t : Stored ℕ M D) → Stores (same_listed digest) n x cs o t → IsNumbered cmp digest more t
+    taken x cs t stores = IsNumbered-stores cmp digest laws more p n (found_first cmp digest laws numbers p n s o ok none opens more at distinct) o t opened x cs stores
+
+    stored : (x : Carried M D) (cs : List (Charged D)) (t : Stored ℕ M D) → Stores (same_listed digest) n x cs o t → Stores (same_by cmp digest) p x cs (named_of numbers s) (named_of more t)
+    stored x cs t stores = Stores-first cmp digest laws numbers p n s o ok none opens more at distinct x cs t stores
+
+  -- what is put in under an equal key is taken out again
+  undone : (more less : List (P × ℕ)) → more ≡ insert_entry cmp numbers owner n → less ≡ remove_entry (is_at (cmp p)) more → less ≡ numbers
+  undone more less put left =
+      let test : is_at (cmp p) ≡ is_at (cmp owner) = λ i x. laws.congr p owner x one i in
+      left ∙ ap (remove_entry (is_at (cmp p))) put ∙ ap (λ (t : P → Bool). remove_entry t (insert_entry cmp numbers owner n)) test
+      ∙ remove_entry-insert_entry order owner n numbers (ap (λ (t : P → Bool). lookup t numbers) (sym test) ∙ none)
+
+pub invariant_of-self-in-Err : goal.invariant_of-self-in-Err
+invariant_of-self-in-Err g c =
+    let laws = eq_by_cmp_equiv g.met.P.Ord.total in
+    let none = none_named (eq_by_cmp g.P.Ord.cmp) c.self.inside.numbers.entries c.self.inside.shelf.lists c.args.peer.now (rw (← c.self.view_is) at c.requires.absent) in
+    rw c.in-Err.ensures.err (IsNumbered-undone g.P.Ord.cmp g.M.Digest.Ord.cmp laws c.self.inside.numbers.entries c.args.peer.now c.in_ok-list.list c.self.inside.shelf c.open.new.self c.self.invariant none c.in_ok-list.ensures.ok
+    c.close.new.self c.close.ensures)
+
+pub invariant_of-self-in-Ok : goal.invariant_of-self-in-Ok
+invariant_of-self-in-Ok g c =
+    let none = none_named (eq_by_cmp g.P.Ord.cmp) c.self.inside.numbers.entries c.self.inside.shelf.lists c.args.peer.now (rw (← c.self.view_is) at c.requires.absent) in
+    let one = g.met.P.PublicKey.copies c.args.peer.now c.in_ok-owner.owner c.in_ok-owner.ensures.cases in
+    taken g.M.Digest.Ord.cmp g.met.P.Ord.total c.self.inside.numbers.entries c.args.peer.now c.in_ok-owner.owner c.in_ok-list.list c.self.inside.shelf c.open.new.self c.self.invariant none c.in_ok-list.ensures.ok one
+    c.insert.new.self.entries c.insert.ensures.ordered c.in_default.ensures.updates.0 c.args.message.now _ c.take.new.self c.in-Ok.ensures.ok
+
+pub invariant_of-self-in-Err-take : goal.invariant_of-self-in-Err-take
+invariant_of-self-in-Err-take g c =
+    let laws = eq_by_cmp_equiv g.met.P.Ord.total in
+    let none = none_named (eq_by_cmp g.P.Ord.cmp) c.self.inside.numbers.entries c.self.inside.shelf.lists c.args.peer.now (rw (← c.self.view_is) at c.requires.absent) in
+    let one = g.met.P.PublicKey.copies c.args.peer.now c.in_ok-owner.owner c.in_ok-owner.ensures.cases in
+    let closes = subst (λ t. Closes c.in_ok-list.list t c.close-in-Err-take.new.self) c.in-Err-take.ensures.err c.close-in-Err-take.ensures in
+    let same = undone g.M.Digest.Ord.cmp g.met.P.Ord.total c.self.inside.numbers.entries c.args.peer.now c.in_ok-owner.owner c.in_ok-list.list c.self.inside.shelf c.open.new.self c.self.invariant none c.in_ok-list.ensures.ok one
+    c.insert.new.self.entries c.remove.new.self.entries c.in_default.ensures.entries c.remove.ensures.entries in
+    rw same (IsNumbered-undone g.P.Ord.cmp g.M.Digest.Ord.cmp laws c.self.inside.numbers.entries c.args.peer.now c.in_ok-list.list c.self.inside.shelf c.open.new.self c.self.invariant none c.in_ok-list.ensures.ok
+    c.close-in-Err-take.new.self closes)
+
+pub returns-in-Ok-clause-ok : goal.returns-in-Ok-clause-ok
+returns-in-Ok-clause-ok g c =
+    let none = none_named (eq_by_cmp g.P.Ord.cmp) c.self.inside.numbers.entries c.self.inside.shelf.lists c.args.peer.now (rw (← c.self.view_is) at c.requires.absent) in
+    let one = g.met.P.PublicKey.copies c.args.peer.now c.in_ok-owner.owner c.in_ok-owner.ensures.cases in
+    let front = fronted (eq_by_cmp g.M.Digest.Ord.cmp) c.args.deque_size c.args.byte_budget (at_charge c.args.message.now.digest c.args.charge) in
+    let stores = subst (λ cs. Stores (same_listed g.M.Digest.Ord.cmp) c.in_ok-list.list c.args.message.now (front cs) c.open.new.self c.take.new.self)
+    (opened_first g.P.Ord.cmp g.M.Digest.Ord.cmp (eq_by_cmp_equiv g.met.P.Ord.total) c.self.inside.numbers.entries c.args.peer.now c.in_ok-list.list c.self.inside.shelf c.open.new.self c.self.invariant none c.in_ok-list.ensures.ok) c.in-Ok.ensures.ok in
+    rw (← c.self.view_is) (stored g.M.Digest.Ord.cmp g.met.P.Ord.total c.self.inside.numbers.entries c.args.peer.now c.in_ok-owner.owner c.in_ok-list.list c.self.inside.shelf c.open.new.self c.self.invariant none c.in_ok-list.ensures.ok one
+    c.insert.new.self.entries c.insert.ensures.ordered c.in_default.ensures.updates.0 c.args.message.now _ c.take.new.self stores)
+
+pub returns-in-Err-take-clause-err : goal.returns-in-Err-take-clause-err
+returns-in-Err-take-clause-err g c =
+    let laws = eq_by_cmp_equiv g.met.P.Ord.total in
+    let none = none_named (eq_by_cmp g.P.Ord.cmp) c.self.inside.numbers.entries c.self.inside.shelf.lists c.args.peer.now (rw (← c.self.view_is) at c.requires.absent) in
+    let one = g.met.P.PublicKey.copies c.args.peer.now c.in_ok-owner.owner c.in_ok-owner.ensures.cases in
+    let closes = subst (λ t. Closes c.in_ok-list.list t c.close-in-Err-take.new.self) c.in-Err-take.ensures.err c.close-in-Err-take.ensures in
+    let same = undone g.M.Digest.Ord.cmp g.met.P.Ord.total c.self.inside.numbers.entries c.args.peer.now c.in_ok-owner.owner c.in_ok-list.list c.self.inside.shelf c.open.new.self c.self.invariant none c.in_ok-list.ensures.ok one
+    c.insert.new.self.entries c.remove.new.self.entries c.in_default.ensures.entries c.remove.ensures.entries in
+    rw same (named-undone g.P.Ord.cmp g.M.Digest.Ord.cmp laws c.self.inside.numbers.entries c.args.peer.now c.in_ok-list.list c.self.inside.shelf c.open.new.self c.self.invariant none c.in_ok-list.ensures.ok
+    c.close-in-Err-take.new.self closes ∙ c.self.view_is)

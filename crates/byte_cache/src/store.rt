@@ -1,0 +1,153 @@
+//! A cache whose messages are handles.
+ghost use Rattle.std.specs.Prelude.{◌≡◌, ◌==◌, List, [], IfOk, OnErr, OnOk, is_some, true, false, None, Ok};
+ghost use Rattle.std.specs.Option.{option_map};
+ghost use Rattle.std.specs.List.{count_by};
+ghost use Rattle.broadcast_core.specs.Content.{same_by, has_primary, message_at, waiting_at};
+ghost use Rattle.broadcast_core.specs.Changes.{TakesPeers, Cleans, CleansAt, Awaits};
+ghost use Rattle.broadcast_core.specs.Waiters.{is_gone, gone_from, counted};
+ghost use Rattle.byte_cache.specs.Held.{HaveSameNames, TakesHandle, handle_at, is_new};
+
+use crate::held::Held;
+use crate::name::Name;
+use broadcast_core::{Core, Digest, Digested, Items, Outcome, Set, Subscribed};
+use std::alloc::{AllocError, Global};
+
+/// A cache of messages that are kept elsewhere, by handles. A waiter is a ticket.
+///
+/// After an `Err`, which is an allocation failure, nothing has changed.
+#[derive(Drop)]
+pub struct Store {
+    /// The lists, the messages and the waiters.
+    pub core: Core<Name, Held, u64>,
+    /// The tickets that the last taking served, in the order of their subscribes.
+    pub served: Items<u64>,
+}
+
+impl Store {
+    /// Creates an empty store for the node `own` that keeps at most `deque_size` digests a peer,
+    /// which are charged at most `byte_budget` bytes together.
+    pub fn new(alloc: Global, own: Name, deque_size: usize, byte_budget: u64) -> Self
+        ensures core { result.core ≡ record {
+          own = own;
+          deque_size = deque_size;
+          byte_budget = byte_budget;
+          primary = [];
+          lists = [];
+          cached = [];
+          waiters = [];
+        } }
+        ensures served { result.served ≡ [] }
+    {
+        Store {
+            core: Core::new(alloc, own, deque_size, byte_budget),
+            served: Items::new(alloc),
+        }
+    }
+
+    /// Makes `names` the primary keys. They may come in any order, and repeat.
+    pub fn update_primary_peers(&mut self, alloc: Global, names: &[Name]) -> Result<(), AllocError>
+        ensures taken { let same = same_by ⟦<Name as Ord>⟧.cmp ⟦<Digest as Ord>⟧.cmp in
+            OnOk result ((set : List Name) × HaveSameNames same set names.now
+            × TakesPeers same set self.old.core self.new.core) }
+        ensures served { self.new.served ≡ self.old.served }
+        ensures refused { OnErr result (self.new ≡ self.old) }
+    {
+        let peers = Set::from_iter_dedup(Vec::from_slice(alloc, names)?)?;
+        self.core.update_primary_peers(peers);
+        Ok(())
+    }
+
+    /// Takes the message of the handle under the key `peer`, by the digest, at this charge. Returns
+    /// the outcome, and whether the handle is now that of a cached message and the outcome is
+    /// `Inserted`.
+    pub fn take(
+        &mut self,
+        alloc: Global,
+        peer: &Name,
+        digest: Digest,
+        charge: usize,
+        handle: u64,
+    ) -> Result<(Outcome, bool), AllocError>
+        ensures taken { let same = same_by ⟦<Name as Ord>⟧.cmp ⟦<Digest as Ord>⟧.cmp in
+            IfOk result (λ taken. TakesHandle same peer.now digest charge handle
+            self.old self.new taken.0) }
+        ensures kept { let same = same_by ⟦<Name as Ord>⟧.cmp ⟦<Digest as Ord>⟧.cmp in
+            IfOk result (λ taken. taken.1
+            ≡ is_new taken.0 handle (handle_at same self.new.core digest)) }
+        ensures refused { OnErr result (self.new ≡ self.old) }
+    {
+        let held = Held {
+            handle,
+            charge,
+            digest,
+        };
+        let message = Digested::precomputed(alloc, held, digest)?;
+        let taken = self.core.take(peer, &message)?;
+        self.served = taken.served;
+        let kept = match taken.outcome {
+            Outcome::Inserted => self.handle(&digest) == Some(handle),
+            _ => false,
+        };
+        Ok((taken.outcome, kept))
+    }
+
+    /// Returns the handle of the cached message of the digest.
+    pub fn handle(&self, digest: &Digest) -> Option<u64>
+        ensures { let same = same_by ⟦<Name as Ord>⟧.cmp ⟦<Digest as Ord>⟧.cmp in
+            result ≡ handle_at same self.now.core digest.now }
+    {
+        match self.core.get(digest) {
+            Some(message) => Some(message.inner().handle),
+            None => None,
+        }
+    }
+
+    /// Lets the ticket wait for the digest, unless its message is cached. Returns whether it waits.
+    pub fn subscribe(&mut self, ticket: u64, digest: Digest) -> Result<bool, AllocError>
+        ensures answered { let same = same_by ⟦<Name as Ord>⟧.cmp ⟦<Digest as Ord>⟧.cmp in
+            IfOk result (λ waits. waits ≡ false
+            → (is_some (message_at same self.old.core digest) ≡ true) × (self.new ≡ self.old)) }
+        ensures waits { let same = same_by ⟦<Name as Ord>⟧.cmp ⟦<Digest as Ord>⟧.cmp in
+            IfOk result (λ waits. waits ≡ true → (message_at same self.old.core digest ≡ None)
+            × Awaits same digest ticket self.old.core self.new.core
+            × (self.new.served ≡ self.old.served)) }
+        ensures refused { OnErr result (self.new ≡ self.old) }
+    {
+        match self.core.subscribe(digest, ticket) {
+            Ok(Subscribed::Waiting) => Ok(true),
+            Ok(Subscribed::Answered(_, _)) => Ok(false),
+            Err(_) => Err(AllocError),
+        }
+    }
+
+    /// Returns whether the key is primary.
+    pub fn is_primary(&self, peer: &Name) -> bool
+        ensures { let same = same_by ⟦<Name as Ord>⟧.cmp ⟦<Digest as Ord>⟧.cmp in
+            result ≡ has_primary same self.now.core peer.now }
+    {
+        self.core.primary().position(peer).is_some()
+    }
+
+    /// Drops the waiters with these tickets. Returns how many, saturating at `u64::MAX`.
+    pub fn cleanup(&mut self, tickets: &[u64]) -> u64
+        ensures removed { result
+            ≡ counted (gone_from (λ t. t) tickets.now self.old.core.waiters) }
+        ensures dropped { let same = same_by ⟦<Name as Ord>⟧.cmp ⟦<Digest as Ord>⟧.cmp in
+            Cleans same (is_gone (λ t. t) tickets.now) self.old.core self.new.core }
+        ensures served { self.new.served ≡ self.old.served }
+    {
+        self.core.cleanup(tickets)
+    }
+
+    /// Drops the waiters of `digest` with these tickets, and looks at no other. Returns how many.
+    pub fn cleanup_of(&mut self, digest: &Digest, tickets: &[u64]) -> u64
+        ensures removed { let same = same_by ⟦<Name as Ord>⟧.cmp ⟦<Digest as Ord>⟧.cmp in
+            result ≡ count_by (is_gone (λ t. t) tickets.now)
+            (waiting_at same self.old.core digest.now) }
+        ensures dropped { let same = same_by ⟦<Name as Ord>⟧.cmp ⟦<Digest as Ord>⟧.cmp in
+            CleansAt same digest.now (is_gone (λ t. t) tickets.now) self.old.core self.new.core }
+        ensures served { self.new.served ≡ self.old.served }
+    {
+        self.core.cleanup_of(digest, tickets)
+    }
+}

@@ -1,0 +1,73 @@
+//! Which waiters the next cleanup asks.
+ghost use Rattle.std.specs.Prelude.{◌≡◌, ◌++◌, false};
+
+use broadcast_core::{Core, Digestible, PublicKey};
+use std::alloc::Global;
+
+/// Which waiters the next cleanup asks. The model of an engine does not show it, since it decides
+/// only who is asked.
+#[derive(Drop)]
+pub(super) struct Closed<M: Digestible> {
+    /// The digests that the requests named last. Their memory is used again.
+    pub(super) digests: Vec<M::Digest>,
+    // The digests of subscribes that the requests did not give, sorted, while somebody waits for
+    // them. The requests tell nothing of these.
+    applied: Vec<M::Digest>,
+    // Whether there was no memory for one of those.
+    asks_each: bool,
+}
+
+impl<M: Digestible> Closed<M> {
+    /// Creates that of an engine without waiters. Does not allocate.
+    pub(super) fn new(alloc: Global) -> Self {
+        Closed {
+            digests: Vec::new(alloc),
+            applied: Vec::new(alloc),
+            asks_each: false,
+        }
+    }
+
+    /// Names the digests of which the requests tell nothing, too. Returns whether any other digest
+    /// may be one of these, since there was no memory for it.
+    pub(super) fn add_applied(&mut self) -> bool
+        ensures { result ≡ false
+            → self.new.digests.items ≡ self.old.digests.items ++ self.old.applied.items }
+    {
+        if self
+            .digests
+            .extend_from_slice(self.applied.as_slice())
+            .is_err()
+        {
+            return true;
+        }
+        self.asks_each
+    }
+
+    /// Keeps the digest of a subscribe that the requests did not give, if somebody waits for it.
+    pub(super) fn keep<P: PublicKey, W: Drop>(
+        &mut self,
+        core: &Core<P, M, W>,
+        digest: Option<M::Digest>,
+    ) {
+        if let Some(digest) = digest {
+            if core.waiting(&digest) > 0 {
+                self.insert(digest);
+            }
+        }
+    }
+
+    /// Inserts the digest among those of which the requests tell nothing.
+    fn insert(&mut self, digest: M::Digest) {
+        if let Err(place) = self.applied.binary_search(&digest) {
+            if self.applied.insert(place, digest).is_err() {
+                self.asks_each = true;
+            }
+        }
+    }
+
+    /// Forgets the digests that have no waiters any more.
+    pub(super) fn forget<P: PublicKey, W: Drop>(&mut self, core: &Core<P, M, W>) {
+        self.applied.retain(|digest| core.waiting(digest) > 0);
+        self.asks_each = self.asks_each && core.awaited() > 0;
+    }
+}

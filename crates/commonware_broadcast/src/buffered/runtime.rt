@@ -1,0 +1,22 @@
+//! What a started node needs of its runtime.
+use std::alloc::AllocGlobal;
+use std::random::RandomSource;
+use std::sync::Wait;
+use std::thread::Threads;
+
+/// What a node that is started needs of its runtime: threads, the right to wait, random bytes and
+/// an allocator. Each type that has these is one.
+pub trait Runtime: Threads
+    + Wait
+    + RandomSource
+    + AllocGlobal
+    + Clone
+    + Send
+    + Sync
+    + Drop
+    + 'static {}
+
+impl<R> Runtime for R
+where
+    R: Threads + Wait + RandomSource + AllocGlobal + Clone + Send + Sync + Drop + 'static,
+{}

@@ -1,0 +1,328 @@
+//! Whom a poll of an engine asks whether they still wait.
+use broadcast_core::{Codec, Digest, Digestible, Items, RangeCfg, Set, TestMessage};
+use commonware_broadcast::buffered::{
+    Config, Direct, Engine, Fixed, Input, Message, NetworkFailed, Reply, Request, Requests,
+    Responder, Sequential, drive,
+};
+use commonware_broadcast::mocks::{RecordingSender, Script};
+use futures::task::{Context, Doorbell, Poll, Solo};
+use std::alloc::{AllocError, Global};
+use std::cell::Cell;
+use std::num::NonZeroUsize;
+use std::rc::Rc;
+use std::test::Fail;
+
+/// What happens to a node.
+#[derive(Clone, Copy)]
+enum Step {
+    /// Its source gives a subscribe to the digest of this letter.
+    Subscribe(u8),
+    /// The same is applied by hand.
+    Apply(u8),
+    /// The caller of this place waits no more.
+    Leave(usize),
+    /// Its source names the digest of this letter.
+    Name(u8),
+    /// It is polled, and asks the callers of these places, each once, and no other.
+    Poll(&'static [usize]),
+}
+
+static ROWS: [&[Step]; 6] = [
+    // Nothing closed.
+    &[
+        Step::Subscribe(b'a'),
+        Step::Poll(&[]),
+        Step::Subscribe(b'b'),
+        Step::Poll(&[]),
+        Step::Poll(&[]),
+    ],
+    // One of two awaited digests is named.
+    &[
+        Step::Subscribe(b'a'),
+        Step::Poll(&[]),
+        Step::Subscribe(b'b'),
+        Step::Poll(&[]),
+        Step::Subscribe(b'a'),
+        Step::Poll(&[]),
+        Step::Leave(0),
+        Step::Name(b'a'),
+        Step::Poll(&[0, 2]),
+        Step::Poll(&[]),
+        Step::Name(b'a'),
+        Step::Poll(&[2]),
+    ],
+    // The digest that is named has no waiter.
+    &[
+        Step::Subscribe(b'a'),
+        Step::Poll(&[]),
+        Step::Name(b'b'),
+        Step::Poll(&[]),
+    ],
+    // One that the source did not give is asked at each poll, with those who wait for its digest.
+    &[
+        Step::Subscribe(b'a'),
+        Step::Poll(&[]),
+        Step::Subscribe(b'b'),
+        Step::Poll(&[]),
+        Step::Apply(b'b'),
+        Step::Poll(&[1, 2]),
+        Step::Poll(&[1, 2]),
+        Step::Name(b'a'),
+        Step::Poll(&[0, 1, 2]),
+    ],
+    // Until that digest has no waiter.
+    &[
+        Step::Subscribe(b'a'),
+        Step::Poll(&[]),
+        Step::Apply(b'b'),
+        Step::Poll(&[1]),
+        Step::Leave(1),
+        Step::Poll(&[1]),
+        Step::Subscribe(b'b'),
+        Step::Poll(&[]),
+        Step::Poll(&[]),
+    ],
+    // Two that the source did not give.
+    &[
+        Step::Apply(b'a'),
+        Step::Apply(b'b'),
+        Step::Poll(&[0, 1]),
+        Step::Leave(0),
+        Step::Poll(&[0, 1]),
+        Step::Poll(&[1]),
+    ],
+];
+
+fn rows() -> &'static [&'static [Step]] {
+    &ROWS
+}
+
+#[test]
+fn a_poll_asks_only_whom_it_must(rt: HostRuntime) -> Result<(), Fail> {
+    for (place, steps) in rows().iter().enumerate() {
+        let task = Solo::new(&rt, Doorbell::spinning())?;
+        let other = goes::<TestMessage>(rt.alloc(), &task, RangeCfg::any(), steps)?;
+        assert_eq!(rt; other, None, "row {place}");
+    }
+    Ok(())
+}
+
+/// A caller of a subscribe.
+#[derive(Drop)]
+struct Caller {
+    /// Whether it waits no more.
+    gone: Cell<bool>,
+    /// How often that was asked since the last poll.
+    asked: Cell<usize>,
+}
+
+/// The responder of a caller, which counts how often it is asked.
+#[derive(Drop)]
+struct Counting {
+    caller: Rc<Caller>,
+}
+
+/// A caller is seen by no contract, so either call may return either result.
+impl<M: Digestible> Responder<Reply<M>> for Counting {
+    ghost use Rattle.std.specs.Prelude.{⊤};
+
+    ghost may_answer = { λ _ _. ⊤ };
+
+    ghost may_deliver = { λ _ _. ⊤ };
+
+    fn is_closed(&self) -> bool {
+        let asked = &self.caller.asked;
+        asked.set(asked.get().saturating_add(1));
+        self.caller.gone.get()
+    }
+
+    fn send(self, _value: Reply<M>) -> bool {
+        true
+    }
+}
+
+/// A request of a node.
+type Wanted<M> = Message<u64, M, Counting, Fixed>;
+
+/// Gives one request at a time, and names the digest that it is told.
+#[derive(Drop)]
+struct Telling<M: Digestible> {
+    request: Cell<Option<Wanted<M>>>,
+    named: Cell<Option<M::Digest>>,
+}
+
+impl<M: Digestible> Requests<Wanted<M>> for Telling<M> {
+    ghost use Rattle.std.specs.Prelude.{⊤};
+
+    ghost told = { λ _ _. ⊤ };
+
+    fn stopped(&mut self, cx: &mut Context<'_>) -> bool {
+        let _: Poll<()> = cx.yield_now();
+        false
+    }
+
+    fn poll_next(&mut self, cx: &mut Context<'_>) -> Poll<Request<Wanted<M>>> {
+        match self.request.replace(None) {
+            Some(message) => Poll::Ready(Request {
+                ticket: 0,
+                message,
+                counted: false,
+            }),
+            None => cx.yield_now(),
+        }
+    }
+
+    fn take_closed(&mut self, digests: &mut Vec<M::Digest>) -> bool {
+        digests.clear();
+        match self.named.replace(None) {
+            Some(digest) => digests.push(digest).is_err(),
+            None => false,
+        }
+    }
+
+    fn end(&mut self, _refused: bool) {}
+
+    fn close(&mut self) {}
+}
+
+/// What an engine sends to, and what it receives from.
+type Network = (
+    RecordingSender<u64>,
+    Script<Result<(u64, Items<u8>), NetworkFailed>>,
+);
+
+/// An engine over such a source, with its callers.
+#[derive(Drop)]
+struct Node<M: Digestible + Codec>
+where
+    M::Cfg: Drop,
+{
+    engine: Engine<u64, M, Counting, Direct, Script<Option<Set<u64>>>, Telling<M>, Sequential>,
+    network: Network,
+    callers: Vec<Rc<Caller>>,
+}
+
+/// Makes the steps, and returns the place of the first at which others are asked.
+fn goes<M>(
+    alloc: Global,
+    task: &Solo,
+    codec_config: M::Cfg,
+    steps: &[Step],
+) -> Result<Option<usize>, AllocError>
+where
+    M: Digestible<Digest = Digest> + Codec,
+    M::Cfg: Drop,
+{
+    let mut node = Node::<M>::new(alloc, codec_config);
+    for (place, step) in steps.iter().enumerate() {
+        if !node.goes(alloc, task, *step)? {
+            return Ok(Some(place));
+        }
+    }
+    Ok(None)
+}
+
+impl<M> Node<M>
+where
+    M: Digestible<Digest = Digest> + Codec,
+    M::Cfg: Drop,
+{
+    /// Creates a node without callers.
+    fn new(alloc: Global, codec_config: M::Cfg) -> Self {
+        let requests = Telling {
+            request: Cell::new(None),
+            named: Cell::new(None),
+        };
+        let cfg = Config {
+            public_key: 1,
+            mailbox_size: NonZeroUsize::MIN,
+            deque_size: 10,
+            byte_budget: u64::MAX,
+            priority: false,
+            codec_config,
+            peer_provider: Script::new(Vec::new(alloc)),
+            strategy: Sequential,
+        };
+        Node {
+            engine: Engine::over(alloc, cfg, requests, Direct),
+            network: (RecordingSender::new(alloc), Script::new(Vec::new(alloc))),
+            callers: Vec::new(alloc),
+        }
+    }
+
+    /// Makes the step. Returns whether the callers are asked that are to be.
+    fn goes(&mut self, alloc: Global, task: &Solo, step: Step) -> Result<bool, AllocError> {
+        match step {
+            Step::Subscribe(letter) => {
+                let message = self.subscribe(alloc, letter)?;
+                self.engine.requests().request.set(Some(message));
+            }
+            Step::Apply(letter) => {
+                let message = self.subscribe(alloc, letter)?;
+                self.apply(alloc, message);
+            }
+            Step::Leave(place) => {
+                if let Some(caller) = self.callers.get(place) {
+                    caller.gone.set(true);
+                }
+            }
+            Step::Name(letter) => self.engine.requests().named.set(Some(digest(letter))),
+            Step::Poll(places) => {
+                self.poll(alloc, task)?;
+                return Ok(self.has_asked(places));
+            }
+        }
+        Ok(true)
+    }
+
+    /// Creates the subscribe of a caller.
+    fn subscribe(&mut self, alloc: Global, letter: u8) -> Result<Wanted<M>, AllocError> {
+        let caller = Rc::new(
+            alloc,
+            Caller {
+                gone: Cell::new(false),
+                asked: Cell::new(0),
+            },
+        )?;
+        self.callers.push(caller.clone()?)?;
+        Ok(Message::subscribe(digest(letter), Counting { caller }))
+    }
+
+    /// Applies a request by hand.
+    fn apply(&mut self, alloc: Global, message: Wanted<M>) {
+        let request = Request {
+            ticket: 0,
+            message,
+            counted: false,
+        };
+        let _turn = self
+            .engine
+            .apply(alloc, Input::Request(request), &mut self.network.0);
+    }
+
+    /// Polls the engine once.
+    fn poll(&mut self, alloc: Global, task: &Solo) -> Result<(), AllocError> {
+        let mut cx = task.begin();
+        let turns = drive(alloc, &mut self.engine, &mut cx, &mut self.network, 1);
+        // A task that is parked must have asked for another poll.
+        let _: Poll<()> = cx.yield_now();
+        cx.park();
+        drop::<_>(turns?);
+        Ok(())
+    }
+
+    /// Returns whether the callers of these places were asked once since the last call, and no
+    /// other.
+    fn has_asked(&self, places: &[usize]) -> bool {
+        self.callers.iter().enumerate().all(|(place, caller)| {
+            caller.asked.replace(0) == usize::from(places.contains(&place))
+        })
+    }
+}
+
+/// Returns a digest of the letter.
+fn digest(letter: u8) -> Digest {
+    Digest {
+        bytes: [letter; 32],
+    }
+}

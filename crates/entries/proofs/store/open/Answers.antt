@@ -1,0 +1,26 @@
+use Rattle.std.proofs.Common.{Some, refl, ap, ◌∙◌}
+use Rattle.std.specs.Prelude.{is_some}
+use Rattle.slab.specs.Slab.{get, entries}
+use Rattle.entries.specs.Store.{same_number}
+use Rattle.entries.proofs.Slots.{number_laws, distinct_slots, found_slot, updated_slot}
+use Rattle.entries.proofs.Opening.{none_listed, opens}
+use Rattle.entries.proofs.Stores.{some_listed}
+use Rattle.entries.proofs.store.open.Goals as goal
+
+pub returns-in-Ok-clause-store : goal.returns-in-Ok-clause-store
+returns-in-Ok-clause-store g c =
+    (opens number_laws (get c.args.places.now) (entries c.args.chains.now) (entries c.insert.new.self) c.in-Ok.list _ c.requires.store c.requires.summed (found_slot c.args.chains.now c.in-Ok.list ∙ c.in-Ok.ensures.was_vacant) (updated_slot c.args.chains.now c.insert.new.self c.in-Ok.list (Some _) c.in-Ok.ensures.updates) c.none-nowhere.ensures c.none-nowhere.ensures refl refl (distinct_slots c.insert.new.self)).0
+
+pub returns-in-Ok-clause-summed : goal.returns-in-Ok-clause-summed
+returns-in-Ok-clause-summed g c =
+    (opens number_laws (get c.args.places.now) (entries c.args.chains.now) (entries c.insert.new.self) c.in-Ok.list _ c.requires.store c.requires.summed (found_slot c.args.chains.now c.in-Ok.list ∙ c.in-Ok.ensures.was_vacant) (updated_slot c.args.chains.now c.insert.new.self c.in-Ok.list (Some _) c.in-Ok.ensures.updates) c.none-nowhere.ensures c.none-nowhere.ensures refl refl (distinct_slots c.insert.new.self)).1
+
+pub returns-in-Ok-clause-ok : goal.returns-in-Ok-clause-ok
+returns-in-Ok-clause-ok g c =
+    (opens number_laws (get c.args.places.now) (entries c.args.chains.now) (entries c.insert.new.self) c.in-Ok.list _ c.requires.store c.requires.summed (found_slot c.args.chains.now c.in-Ok.list ∙ c.in-Ok.ensures.was_vacant) (updated_slot c.args.chains.now c.insert.new.self c.in-Ok.list (Some _) c.in-Ok.ensures.updates) c.none-nowhere.ensures c.none-nowhere.ensures refl refl (distinct_slots c.insert.new.self)).2
+
+pub returns-in-Ok-clause-fresh : goal.returns-in-Ok-clause-fresh
+returns-in-Ok-clause-fresh g c = none_listed same_number (get c.args.places.now) (entries c.args.chains.now) c.in-Ok.list (found_slot c.args.chains.now c.in-Ok.list ∙ c.in-Ok.ensures.was_vacant)
+
+pub returns-in-Ok-clause-there : goal.returns-in-Ok-clause-there
+returns-in-Ok-clause-there g c = some_listed same_number (get c.args.places.now) (entries c.insert.new.self) c.in-Ok.list ∙ ap is_some (found_slot c.insert.new.self c.in-Ok.list ∙ c.in-Ok.ensures.updates.changed)

@@ -1,0 +1,74 @@
+//! A store of messages over a core, and answers to a list of events. Both are proved to give only
+//! what was taken before, under the digest that was asked for.
+ghost use Rattle.std.specs.Prelude.{◌≡◌, ℕ, false, IfOk, IfSome};
+ghost use Rattle.broadcast_core.specs.Codec.{whole};
+ghost use Rattle.broadcast_core.specs.Content.{same_by};
+ghost use Rattle.broadcast_core.specs.Setting.{Setting, setting};
+ghost use Rattle.broadcast_core.specs.Happening.{History};
+ghost use Rattle.broadcast_core.specs.HasContent.{HasContent};
+ghost use Rattle.broadcast_core.specs.Log.{log_of};
+ghost use Rattle.broadcast_core.specs.TakenLaw.{IsFrom, FoundWasTaken};
+
+use super::two_nodes::message;
+use anyhow::Error;
+use broadcast_core::{
+    Codec, Core, Digested, Digestible, Event, PublicKey, RangeCfg, Run, Set, TestMessage,
+    answer_law, cache_law, run, same_law,
+};
+use std::alloc::{AllocError, Global};
+use std::io;
+
+/// A store that keeps the newest messages of each peer.
+#[derive(Drop)]
+pub struct Store<P: PublicKey, M: Digestible> {
+    /// The messages, by the peers that sent them.
+    pub core: Core<P, M, u64>,
+}
+
+impl<P: PublicKey, M: Digestible> Store<P, M> {
+    /// Returns the message of the digest, if the store has it. After whatever history, it was taken
+    /// before, under that digest.
+    pub fn find(&self, digest: &M::Digest) -> Option<&Digested<M>>
+        ensures { (s : Setting P M M.Digest) (past : History P M M.Digest ℕ ℕ)
+            → s.same ≡ same_by P.cmp M.Digest.cmp → HasContent s past self.now.core
+            → IfSome result (λ found. IsFrom s digest.now past found.now) }
+    {
+        same_law::<P, M::Digest>();
+        cache_law::<P, M, u64, u64>();
+        self.core.get(digest)
+    }
+}
+
+/// Runs the events. Each message that an answer finds was taken by an earlier event, under the
+/// digest that was asked for.
+fn answers<P: PublicKey, M: Digestible + Codec>(
+    alloc: Global,
+    own: P,
+    cfg: &M::Cfg,
+    events: Vec<Event<P, M>>,
+) -> Result<Run<P, M>, AllocError>
+    ensures { let s = setting own 10 1000 false (same_by P.cmp M.Digest.cmp) M.digest_of
+        M.encoding (whole (M.reading cfg.now)) in
+        IfOk result (λ run. FoundWasTaken s (log_of events.items run.answers)) }
+{
+    same_law::<P, M::Digest>();
+    answer_law::<P, M, u64, u64>();
+    run(alloc, own, 10, 1000, false, cfg, events)
+}
+
+/// Prints what a get is answered, and whether the store then finds the message.
+pub fn show<W: io::Write>(alloc: Global, out: &mut W) -> Result<(), Error> {
+    let message: Digested<TestMessage> = message(alloc, b"hello")?;
+    let digest = message.digest();
+    let primary = Set::from_iter_dedup(vec![in alloc; 1]?)?;
+    let asked = vec![in alloc;
+        Event::Peers(primary),
+        Event::Broadcast(broadcast_core::Recipients::All, message),
+        Event::Get(7, digest),
+    ]?;
+    let run = answers(alloc, 1, &RangeCfg::any(), asked)?;
+    let store = Store { core: run.core };
+    let found = store.find(&digest).is_some();
+    writeln!(out, "store: {} answers, {found}", run.answers.len())?;
+    Ok(())
+}

@@ -1,0 +1,178 @@
+//! Messages a second and latencies through an engine, over the proved cache and over the plain one, in turns.
+
+use broadcast_engine::{
+    Config, Digested, Engine, Id, Mailbox, Message, Provider, Receiver, Recipients, Sender,
+    Sequential, Store, plain::Plain,
+};
+use broadcast_node::Cache;
+use bytes::Bytes;
+use sha2::{Digest, Sha256};
+use std::num::NonZeroUsize;
+use std::time::{Duration, Instant};
+use tokio::sync::mpsc::{self, UnboundedReceiver, UnboundedSender, unbounded_channel};
+
+type Key = [u8; 32];
+
+const PEERS: u8 = 16;
+const DEQUE: usize = 100;
+const BUDGET: u64 = 64 << 20;
+const ROUNDS: usize = 7;
+
+struct Blob(Bytes);
+
+impl Message for Blob {
+    type Digest = Key;
+    type Config = usize;
+    type Error = &'static str;
+
+    fn encode(&self) -> Bytes {
+        self.0.clone()
+    }
+
+    fn decode(bytes: Bytes, max: &usize) -> Result<Blob, &'static str> {
+        if bytes.len() > *max { Err("too long") } else { Ok(Blob(bytes)) }
+    }
+
+    fn digest(&self) -> Key {
+        Sha256::digest(&self.0).into()
+    }
+}
+
+struct Peers(Option<UnboundedReceiver<Vec<Key>>>);
+
+impl Provider for Peers {
+    type PublicKey = Key;
+
+    async fn subscribe(&mut self) -> UnboundedReceiver<Vec<Key>> {
+        self.0.take().unwrap()
+    }
+}
+
+struct Nowhere;
+
+impl Sender for Nowhere {
+    type PublicKey = Key;
+
+    fn send(&mut self, _: Recipients<Key>, message: Bytes, _: bool) {
+        std::hint::black_box(message);
+    }
+}
+
+struct Channel(mpsc::Receiver<(Key, Bytes)>);
+
+impl Receiver for Channel {
+    type PublicKey = Key;
+    type Error = ();
+
+    async fn recv(&mut self) -> Result<(Key, Bytes), ()> {
+        self.0.recv().await.ok_or(())
+    }
+}
+
+struct Run {
+    mailbox: Mailbox<Key, Blob>,
+    network: mpsc::Sender<(Key, Bytes)>,
+    _peers: UnboundedSender<Vec<Key>>,
+}
+
+fn start<S: Store>(store: S) -> Run {
+    let (to_peers, peers) = unbounded_channel();
+    to_peers.send((0..PEERS).map(|it| [it; 32]).collect()).unwrap();
+    let config = Config {
+        public_key: [0; 32],
+        mailbox_size: NonZeroUsize::new(1_024).unwrap(),
+        deque_size: DEQUE,
+        byte_budget: BUDGET,
+        priority: false,
+        codec_config: 1 << 20,
+        peer_provider: Peers(Some(peers)),
+        strategy: Sequential,
+    };
+    let (engine, mailbox) = Engine::<_, Blob, _, _, S>::with_store(config, store);
+    let (network, receiver) = mpsc::channel(1_024);
+    drop(engine.start((Nowhere, Channel(receiver))));
+    Run { mailbox, network, _peers: to_peers }
+}
+
+fn blob(number: u64, len: usize) -> Bytes {
+    let mut bytes = vec![7; len];
+    bytes[..8].copy_from_slice(&number.to_be_bytes());
+    bytes.into()
+}
+
+/// Payloads a second, of which none was there before.
+async fn received(run: &Run, blobs: &[Bytes]) -> f64 {
+    let last: Key = Sha256::digest(blobs.last().unwrap()).into();
+    let done = run.mailbox.subscribe(last.id());
+    let begin = Instant::now();
+    for (number, blob) in blobs.iter().enumerate() {
+        run.network.send(([number as u8 % PEERS; 32], blob.clone())).await.unwrap();
+    }
+    assert!(done.await.is_ok());
+    blobs.len() as f64 / begin.elapsed().as_secs_f64()
+}
+
+fn percentiles(mut times: Vec<Duration>) -> (f64, f64) {
+    times.sort();
+    let at = |part: f64| times[(times.len() as f64 * part) as usize].as_nanos() as f64 / 1e3;
+    (at(0.5), at(0.99))
+}
+
+/// From a payload's sending to the answer of a subscription, and a get of what is cached, in microseconds.
+async fn latencies(run: &Run, blobs: &[Bytes]) -> [(f64, f64); 2] {
+    let (mut arrivals, mut gets) = (Vec::new(), Vec::new());
+    for (number, blob) in blobs.iter().take(20_000).enumerate() {
+        let digest: Key = Sha256::digest(blob).into();
+        let waits = run.mailbox.subscribe(digest);
+        tokio::task::yield_now().await;
+        let begin = Instant::now();
+        run.network.send(([number as u8 % PEERS; 32], blob.clone())).await.unwrap();
+        assert!(waits.await.is_ok());
+        arrivals.push(begin.elapsed());
+        let begin = Instant::now();
+        assert!(run.mailbox.get(digest).await.is_some());
+        gets.push(begin.elapsed());
+    }
+    [percentiles(arrivals), percentiles(gets)]
+}
+
+/// Own broadcasts a second.
+async fn broadcast(run: &Run, blobs: &[Bytes]) -> f64 {
+    let messages: Vec<Digested<Blob>> = blobs.iter().map(|it| Blob(it.clone()).into()).collect();
+    let begin = Instant::now();
+    for message in &messages {
+        assert!(run.mailbox.broadcast(Recipients::All, message.clone()).accepted());
+    }
+    run.mailbox.get([9; 32]).await;
+    messages.len() as f64 / begin.elapsed().as_secs_f64()
+}
+
+#[tokio::main(flavor = "current_thread")]
+async fn main() {
+    println!("bytes | cache | received/s | broadcast/s | arrival p50 p99 us | get p50 p99 us");
+    for (len, count) in [(100, 100_000), (1_000, 50_000), (10_000, 10_000)] {
+        let blobs: Vec<Bytes> = (0..count).map(|it| blob(it, len)).collect();
+        let mut best = [[(0.0, 0.0, [(f64::MAX, f64::MAX); 2]); 1]; 2];
+        for _ in 0..ROUNDS {
+            for (which, best) in best.iter_mut().enumerate() {
+                let make = || match which {
+                    0 => start(Cache::new([0; 32].into(), DEQUE, BUDGET).unwrap()),
+                    _ => start(Plain::new(DEQUE, BUDGET)),
+                };
+                let best = &mut best[0];
+                best.0 = received(&make(), &blobs).await.max(best.0);
+                best.1 = broadcast(&make(), &blobs).await.max(best.1);
+                for (best, new) in best.2.iter_mut().zip(latencies(&make(), &blobs).await) {
+                    *best = (best.0.min(new.0), best.1.min(new.1));
+                }
+            }
+        }
+        for (name, [(received, broadcast, [arrival, get])]) in ["proved", "plain"].iter().zip(best)
+        {
+            println!(
+                "{len} | {name} | {received:.0} | {broadcast:.0} | {:.1} {:.1} | {:.2} {:.2}",
+                arrival.0, arrival.1, get.0, get.1
+            );
+        }
+    }
+}

@@ -1,0 +1,107 @@
+//! Broadcasts messages to, and caches messages from, untrusted peers: the interface of
+//! `commonware_broadcast::buffered` over the verified cache of [`broadcast_node`], on tokio.
+//!
+//! ```
+//! use broadcast_engine::{Config, Digested, Engine, Message, Recipients, Sequential};
+//! use bytes::Bytes;
+//! use std::num::NonZeroUsize;
+//! # use broadcast_engine::{Provider, Receiver, Sender};
+//! # use tokio::sync::mpsc::{UnboundedReceiver, unbounded_channel};
+//! #
+//! # struct Peers;
+//! # impl Provider for Peers {
+//! #     type PublicKey = [u8; 32];
+//! #     async fn subscribe(&mut self) -> UnboundedReceiver<Vec<[u8; 32]>> {
+//! #         let (sender, receiver) = unbounded_channel();
+//! #         sender.send(vec![[1; 32], [2; 32]]).unwrap();
+//! #         std::mem::forget(sender);
+//! #         receiver
+//! #     }
+//! # }
+//! # struct Nowhere;
+//! # impl Sender for Nowhere {
+//! #     type PublicKey = [u8; 32];
+//! #     fn send(&mut self, _: Recipients<[u8; 32]>, _: Bytes, _: bool) {}
+//! # }
+//! # struct Silence;
+//! # impl Receiver for Silence {
+//! #     type PublicKey = [u8; 32];
+//! #     type Error = ();
+//! #     async fn recv(&mut self) -> Result<([u8; 32], Bytes), ()> {
+//! #         std::future::pending().await
+//! #     }
+//! # }
+//!
+//! /// A message whose digest is its first 32 bytes.
+//! struct Block(Bytes);
+//!
+//! impl Message for Block {
+//!     type Digest = [u8; 32];
+//!     type Config = ();
+//!     type Error = &'static str;
+//!
+//!     fn encode(&self) -> Bytes {
+//!         self.0.clone()
+//!     }
+//!
+//!     fn decode(bytes: Bytes, _: &()) -> Result<Block, &'static str> {
+//!         if bytes.len() < 32 { Err("a block has at least 32 bytes") } else { Ok(Block(bytes)) }
+//!     }
+//!
+//!     fn digest(&self) -> [u8; 32] {
+//!         self.0[..32].try_into().unwrap()
+//!     }
+//! }
+//!
+//! # #[tokio::main(flavor = "current_thread")]
+//! # async fn main() {
+//! # let (peer_provider, sender, receiver) = (Peers, Nowhere, Silence);
+//! let (engine, mailbox) = Engine::new(Config {
+//!     public_key: [1; 32],
+//!     mailbox_size: NonZeroUsize::new(1_024).unwrap(),
+//!     deque_size: 100,
+//!     byte_budget: 1 << 20,
+//!     priority: false,
+//!     codec_config: (),
+//!     peer_provider,
+//!     strategy: Sequential,
+//! });
+//! let _handle = engine.start((sender, receiver));
+//!
+//! let message = Digested::new(Block(Bytes::from_static(&[7; 40])));
+//! let digest = message.digest();
+//! let subscription = mailbox.subscribe(digest); // dropping it cancels it
+//! assert!(mailbox.broadcast(Recipients::All, message).accepted());
+//! assert_eq!(subscription.await.unwrap().digest(), digest);
+//! assert!(mailbox.get(digest).await.is_some());
+//! assert!(mailbox.get([9; 32]).await.is_none());
+//! # }
+//! ```
+//!
+//! The program brings a [`Message`], a [`Provider`] of peer sets, and a network of a [`Sender`] and a
+//! [`Receiver`], which must know beyond doubt who sent a message. The verified cache decides which messages are
+//! kept, for whom and until when; this crate keeps the decoded message of each digest beside it, and is tested.
+
+mod config;
+mod decoded;
+mod engine;
+mod inbox;
+mod mailbox;
+mod message;
+mod metrics;
+mod network;
+pub mod plain;
+mod store;
+mod strategy;
+mod waiting;
+
+pub use broadcast_node::{Counts, Error, Outcome};
+pub use config::Config;
+pub use engine::{End, Engine, Handle, JoinError};
+pub use inbox::Feedback;
+pub use mailbox::{Canceled, Mailbox, Subscription};
+pub use message::{Digested, Id, Message};
+pub use metrics::Metrics;
+pub use network::{Provider, Receiver, Recipients, Sender};
+pub use store::Store;
+pub use strategy::{Blocking, Sequential, Strategy};

@@ -1,0 +1,385 @@
+//! The node: it is handed what happened, and returns what is to be replied and sent.
+
+mod books;
+mod wire;
+
+pub use books::Counters;
+pub use wire::Invalid;
+
+use crate::raw;
+use crate::{Cache, Counts, Digest, Error, Held, Key, Outcome, Subscribed, Ticket};
+use books::Books;
+use std::fmt;
+
+/// What bounds a node.
+///
+/// ```
+/// let mut limits = broadcast_node::Limits::default();
+/// limits.max_len = 4096;
+/// ```
+#[derive(Clone, Copy, Debug, PartialEq, Eq, Hash)]
+#[non_exhaustive]
+pub struct Limits {
+    /// The most digests that are listed for a peer.
+    pub deque_size: usize,
+    /// The most bytes that the list of a peer is charged: for each message its length and 4 more.
+    pub byte_budget: u64,
+    /// The most bytes of a message, one's own or that of a peer.
+    pub max_len: usize,
+}
+
+impl Default for Limits {
+    /// 256 digests and 16 MiB a peer, messages of at most 1 MiB.
+    fn default() -> Limits {
+        Limits { deque_size: 256, byte_budget: 16 << 20, max_len: 1 << 20 }
+    }
+}
+
+/// The peers that a message is for.
+#[derive(Clone, Debug, Default, PartialEq, Eq, Hash)]
+pub enum Recipients {
+    /// Every peer.
+    #[default]
+    All,
+    /// These peers.
+    Some(Vec<Key>),
+    /// One peer.
+    One(Key),
+}
+
+/// Bytes that are to be sent.
+#[derive(Clone, Debug, PartialEq, Eq, Hash)]
+#[non_exhaustive]
+pub struct Packet<B> {
+    /// Whom they are for.
+    pub recipients: Recipients,
+    /// The encoding of a message, which [`Node::payload`] of another node reads.
+    pub payload: B,
+}
+
+/// The result of a broadcast.
+#[derive(Debug)]
+#[non_exhaustive]
+pub struct Broadcast<'a, B> {
+    /// What is to be sent.
+    pub packet: Packet<B>,
+    /// The digest of the message.
+    pub digest: Digest,
+    /// What happened to the own list.
+    pub outcome: Outcome,
+    /// The tickets that are replied to with the message.
+    pub served: &'a [Ticket],
+}
+
+/// The result of a payload.
+#[derive(Debug)]
+#[non_exhaustive]
+pub enum Received<'a, B> {
+    /// The message was taken.
+    Taken(Message<'a, B>),
+    /// The message can't be on a list, and as nobody waits for any, it was neither digested nor taken. It is
+    /// counted as it would be.
+    Ignored(Outcome),
+    /// The payload does not decode.
+    Invalid(Invalid),
+}
+
+/// A message that was taken from a payload.
+#[derive(Debug)]
+#[non_exhaustive]
+pub struct Message<'a, B> {
+    /// The digest.
+    pub digest: Digest,
+    /// What happened to the list of the peer.
+    pub outcome: Outcome,
+    /// The tickets that are replied to with the message.
+    pub served: &'a [Ticket],
+    payload: Held<'a, B>,
+}
+
+impl<B: AsRef<[u8]>> Message<'_, B> {
+    /// Returns the bytes of the message.
+    pub fn bytes(&self) -> &[u8] {
+        wire::message_of((*self.payload).as_ref())
+    }
+
+    /// Returns the payload that the message came in, which can be handed on as it is.
+    pub fn payload(&self) -> &B {
+        &self.payload
+    }
+}
+
+/// A node without input and output: a cache that encodes, decodes and digests messages.
+///
+/// A message is a list of bytes. It is kept in the payload `B` that it came in, so it is not copied: `B` may be
+/// `Vec<u8>`, `Arc<[u8]>` or `bytes::Bytes`, of which the last two are shared with the packets of broadcasts.
+///
+/// ```
+/// use broadcast_node::{Key, Limits, Node, Outcome, Received, Recipients, Subscribed};
+/// use std::sync::Arc;
+///
+/// # fn main() -> Result<(), broadcast_node::Error> {
+/// let (here, there) = (Key::from([1; 32]), Key::from([2; 32]));
+/// let mut sender = Node::<Arc<[u8]>>::new(here, Limits::default())?;
+/// let mut receiver = Node::<Arc<[u8]>>::new(there, Limits::default())?;
+/// sender.update_primary_peers(&[here, there])?;
+/// receiver.update_primary_peers(&[here, there])?;
+///
+/// let sent = sender.broadcast(Recipients::All, b"hello")?;
+/// let (digest, payload) = (sent.digest, sent.packet.payload);
+///
+/// let Subscribed::Waiting(ticket) = receiver.subscribe(&digest)? else { panic!("it is cached") };
+/// let Received::Taken(message) = receiver.payload(&here, payload)? else { panic!("it is invalid") };
+/// assert_eq!(message.outcome, Outcome::Inserted);
+/// assert_eq!(message.served, [ticket]); // .. are replied to with the message:
+/// assert_eq!(message.bytes(), b"hello");
+/// assert_eq!(receiver.get(&digest), Some(&b"hello"[..]));
+///
+/// let garbage: Arc<[u8]> = Arc::from(&b"garbage"[..]);
+/// assert!(matches!(receiver.payload(&here, garbage)?, Received::Invalid(_)));
+/// assert_eq!(receiver.counters(&here).invalid, 1);
+/// # Ok(())
+/// # }
+/// ```
+pub struct Node<B> {
+    cache: Cache<B>,
+    limits: Limits,
+    books: Books,
+}
+
+impl<B: AsRef<[u8]>> Node<B> {
+    /// Creates a node with the key `own` and an empty cache. No peer is primary yet.
+    ///
+    /// # Errors
+    ///
+    /// [`Error::Memory`], and [`Error::Version`] if the linked library is not the one of this crate.
+    pub fn new(own: Key, limits: Limits) -> Result<Node<B>, Error> {
+        let cache = Cache::new(own, limits.deque_size, limits.byte_budget)?;
+        Ok(Node { cache, limits, books: Books::default() })
+    }
+
+    /// Returns the own key.
+    pub fn own(&self) -> &Key {
+        self.cache.own()
+    }
+
+    /// Makes `keys` the primary ones, in any order and with repeats. Drops the lists of all others, and the
+    /// messages that are on no list any more.
+    ///
+    /// # Errors
+    ///
+    /// [`Error::Memory`].
+    pub fn update_primary_peers(&mut self, keys: &[Key]) -> Result<(), Error> {
+        let books = self.books.for_keys(keys)?;
+        self.cache.update_primary_peers(keys)?;
+        self.books = books;
+        Ok(())
+    }
+
+    /// Returns whether the key is primary.
+    pub fn is_primary(&self, key: &Key) -> bool {
+        self.cache.is_primary(key)
+    }
+
+    /// Takes a message under the own key and the SHA-256 of its bytes, and returns the packet that carries
+    /// it.
+    ///
+    /// The payload is made of a `Vec<u8>` and cloned as `B` does that. Only `Bytes` copies nothing then; `Arc<[u8]>`
+    /// and `Vec<u8>` copy once, and an allocation failure of such a copy aborts.
+    ///
+    /// # Errors
+    ///
+    /// [`Error::TooLong`], and [`Error::Memory`].
+    pub fn broadcast(&mut self, to: Recipients, message: &[u8]) -> Result<Broadcast<'_, B>, Error>
+    where
+        B: From<Vec<u8>> + Clone,
+    {
+        let payload = wire::encode(message, self.limits.max_len)?;
+        self.send(to, Digest::sha256(message), payload)
+    }
+
+    /// Does the same under a digest that is handed in. [`Node::payload_as`] of another node takes it under
+    /// that digest too.
+    ///
+    /// # Errors
+    ///
+    /// [`Error::TooLong`], and [`Error::Memory`].
+    pub fn broadcast_as(
+        &mut self,
+        to: Recipients,
+        digest: &Digest,
+        message: &[u8],
+    ) -> Result<Broadcast<'_, B>, Error>
+    where
+        B: From<Vec<u8>> + Clone,
+    {
+        let payload = wire::encode(message, self.limits.max_len)?;
+        self.send(to, *digest, payload)
+    }
+
+    fn send(
+        &mut self,
+        recipients: Recipients,
+        digest: Digest,
+        payload: Vec<u8>,
+    ) -> Result<Broadcast<'_, B>, Error>
+    where
+        B: From<Vec<u8>> + Clone,
+    {
+        let charge = payload.len();
+        let payload = B::from(payload);
+        let taken = self.cache.take_own(&digest, charge, payload.clone())?;
+        let packet = Packet { recipients, payload };
+        Ok(Broadcast { packet, digest, outcome: taken.outcome, served: taken.served })
+    }
+
+    /// Decodes the bytes that the peer sent, and takes the message under its key and the SHA-256 of its
+    /// bytes.
+    ///
+    /// # Errors
+    ///
+    /// [`Error::Memory`]. The payload is dropped then, and not counted.
+    pub fn payload(&mut self, peer: &Key, payload: B) -> Result<Received<'_, B>, Error> {
+        self.payload_with(peer, payload, Digest::sha256)
+    }
+
+    /// Does the same under a digest that is handed in.
+    ///
+    /// # Errors
+    ///
+    /// [`Error::Memory`]. The payload is dropped then, and not counted.
+    ///
+    /// ```
+    /// use broadcast_node::{Digest, Key, Limits, Node};
+    ///
+    /// # fn main() -> Result<(), broadcast_node::Error> {
+    /// let key = Key::from([1; 32]);
+    /// let mut node = Node::<Vec<u8>>::new(key, Limits::default())?;
+    /// node.update_primary_peers(&[key])?;
+    /// let height = Digest::from([0; 32]);
+    /// node.payload_as(&key, &height, b"\0\0\0\x05block".to_vec())?;
+    /// assert_eq!(node.get(&height), Some(&b"block"[..]));
+    /// # Ok(())
+    /// # }
+    /// ```
+    pub fn payload_as(
+        &mut self,
+        peer: &Key,
+        digest: &Digest,
+        payload: B,
+    ) -> Result<Received<'_, B>, Error> {
+        self.payload_with(peer, payload, |_| *digest)
+    }
+
+    /// Does the same under the digest that `digest` returns for the bytes of the message: that of a faster SHA-256,
+    /// or one that messages have by themselves. It is not called for a message that is ignored.
+    ///
+    /// # Errors
+    ///
+    /// [`Error::Memory`]. The payload is dropped then, and not counted.
+    pub fn payload_with(
+        &mut self,
+        peer: &Key,
+        payload: B,
+        digest: impl FnOnce(&[u8]) -> Digest,
+    ) -> Result<Received<'_, B>, Error> {
+        let message = match wire::decode(payload.as_ref(), self.limits.max_len) {
+            Ok(message) => message,
+            Err(reason) => {
+                self.books.count(peer, raw::INVALID);
+                return Ok(Received::Invalid(reason));
+            }
+        };
+        if let Some(outcome) = self.ignores(peer, payload.as_ref().len()) {
+            self.books.count(peer, outcome.code());
+            return Ok(Received::Ignored(outcome));
+        }
+        let (digest, charge) = (digest(message), payload.as_ref().len());
+        let counters = self.books.of_mut(peer);
+        let taken = self.cache.receive(peer, &digest, charge, payload, counters)?;
+        let (outcome, served) = (taken.outcome, taken.served);
+        Ok(Received::Taken(Message { digest, outcome, served, payload: taken.message }))
+    }
+
+    /// Returns the outcome of a message that is neither kept nor awaited, whatever its digest is.
+    fn ignores(&self, peer: &Key, charge: usize) -> Option<Outcome> {
+        if self.cache.waiting() > 0 {
+            return None;
+        }
+        if !self.cache.is_primary(peer) {
+            return Some(Outcome::Ineligible);
+        }
+        (charge as u64 > self.limits.byte_budget).then_some(Outcome::Oversize)
+    }
+
+    /// Returns the cached message of the digest, or a ticket that waits for it.
+    ///
+    /// # Errors
+    ///
+    /// [`Error::Memory`].
+    pub fn subscribe(&mut self, digest: &Digest) -> Result<Subscribed<'_, [u8]>, Error> {
+        Ok(match self.cache.subscribe(digest)? {
+            Subscribed::Cached(payload) => Subscribed::Cached(wire::message_of(payload.as_ref())),
+            Subscribed::Waiting(ticket) => Subscribed::Waiting(ticket),
+        })
+    }
+
+    /// Returns the bytes of the cached message of the digest.
+    pub fn get(&self, digest: &Digest) -> Option<&[u8]> {
+        self.get_payload(digest).map(|payload| wire::message_of(payload.as_ref()))
+    }
+
+    /// Returns the payload of the cached message of the digest: its encoding, which can be sent as it is.
+    pub fn get_payload(&self, digest: &Digest) -> Option<&B> {
+        self.cache.get(digest)
+    }
+
+    /// Returns whether a message of the digest is cached.
+    pub fn contains(&self, digest: &Digest) -> bool {
+        self.cache.contains(digest)
+    }
+
+    /// Returns the digests on the list of `peer`, newest first.
+    ///
+    /// # Errors
+    ///
+    /// [`Error::Memory`].
+    pub fn list(&self, peer: &Key) -> Result<Vec<Digest>, Error> {
+        self.cache.list(peer)
+    }
+
+    /// Drops the waiters with these tickets. Returns how many they were.
+    pub fn cleanup(&mut self, tickets: &[Ticket]) -> u64 {
+        self.cache.cleanup(tickets)
+    }
+
+    /// Drops the waiter with this ticket, if it waits for the digest, as [`Cache::cancel`] does. Returns whether it
+    /// did.
+    pub fn cancel(&mut self, digest: &Digest, ticket: Ticket) -> bool {
+        self.cache.cancel(digest, ticket)
+    }
+
+    /// Returns what the payloads of the primary key `peer` were, since it last became primary.
+    pub fn counters(&self, peer: &Key) -> Counters {
+        self.books.of(peer)
+    }
+
+    /// Returns the sum over all payloads of keys that were not primary, and of keys that are not any more.
+    pub fn other_counters(&self) -> Counters {
+        self.books.others()
+    }
+
+    /// Returns how many messages are cached, how many digests are awaited, and how many tickets wait.
+    pub fn counts(&self) -> Counts {
+        self.cache.counts()
+    }
+}
+
+impl<B> fmt::Debug for Node<B> {
+    fn fmt(&self, f: &mut fmt::Formatter<'_>) -> fmt::Result {
+        f.debug_struct("Node")
+            .field("cache", &self.cache)
+            .field("limits", &self.limits)
+            .finish_non_exhaustive()
+    }
+}

@@ -1,0 +1,123 @@
+//! The functions of the static library as `ffi/broadcast_c.h` declares them, the owner of a store, and
+//! the functions by which the library asks for memory. All unsafe code of this crate is here.
+
+mod heap;
+mod store;
+
+pub use store::OwnedStore;
+
+use crate::{Counters, Digest, Key, Ticket};
+use std::ffi::c_void;
+use std::ptr::null_mut;
+
+/// The version of the library's functions that this crate was written for.
+pub const VERSION: u32 = 4;
+
+pub const OK: u32 = 0;
+pub const MEMORY: u32 = 1;
+pub const NONE: u32 = 3;
+pub const SHORT: u32 = 4;
+pub const WAITS: u32 = 5;
+
+pub const INSERTED: u32 = 0;
+pub const DUPLICATE: u32 = 1;
+pub const INELIGIBLE: u32 = 2;
+pub const OVERSIZE: u32 = 3;
+pub const INVALID: u32 = 4;
+
+/// The handle of a store. It owns what `at` leads to if it is `full`, and nothing else.
+#[repr(C)]
+pub struct StoreHandle {
+    at: *mut c_void,
+    full: bool,
+}
+
+impl StoreHandle {
+    const EMPTY: StoreHandle = StoreHandle { at: null_mut(), full: false };
+}
+
+#[repr(C)]
+#[derive(Default)]
+pub struct Stored {
+    pub outcome: u32,
+    pub kept: bool,
+    pub served: usize,
+    pub cached: usize,
+}
+
+#[repr(C)]
+#[derive(Default)]
+pub struct Counts {
+    pub cached: usize,
+    pub awaited: usize,
+}
+
+unsafe extern "C" {
+    pub safe fn broadcast_c_version() -> u32;
+    pub safe fn broadcast_counters_count(counters: &mut Counters, what: u32);
+    pub safe fn broadcast_counters_add(counters: &mut Counters, more: &Counters);
+    fn broadcast_sha256(bytes: *const u8, len: usize, out: &mut Digest);
+    fn broadcast_store_new(
+        store: &mut StoreHandle,
+        own: &Key,
+        deque_size: usize,
+        byte_budget: u64,
+    ) -> u32;
+    fn broadcast_store_free(store: &mut StoreHandle);
+    fn broadcast_store_peers(store: &mut StoreHandle, names: *const Key, len: usize) -> u32;
+    fn broadcast_store_take(
+        store: &mut StoreHandle,
+        peer: &Key,
+        digest: &Digest,
+        charge: usize,
+        handle: u64,
+        out: &mut Stored,
+    ) -> u32;
+    fn broadcast_store_receive(
+        store: &mut StoreHandle,
+        peer: &Key,
+        digest: &Digest,
+        charge: usize,
+        handle: u64,
+        counters: &mut Counters,
+        out: &mut Stored,
+    ) -> u32;
+    fn broadcast_store_served(
+        store: &mut StoreHandle,
+        out: *mut Ticket,
+        len: usize,
+        needed: &mut usize,
+    ) -> u32;
+    fn broadcast_store_get(store: &mut StoreHandle, digest: &Digest, handle: &mut u64) -> u32;
+    fn broadcast_store_subscribe(store: &mut StoreHandle, ticket: u64, digest: &Digest) -> u32;
+    fn broadcast_store_cleanup(
+        store: &mut StoreHandle,
+        tickets: *const Ticket,
+        len: usize,
+        removed: &mut u64,
+    ) -> u32;
+    fn broadcast_store_cleanup_of(
+        store: &mut StoreHandle,
+        digest: &Digest,
+        tickets: *const Ticket,
+        len: usize,
+        removed: &mut u64,
+    ) -> u32;
+    fn broadcast_store_is_primary(store: &mut StoreHandle, peer: &Key, out: &mut bool) -> u32;
+    fn broadcast_store_list(
+        store: &mut StoreHandle,
+        peer: &Key,
+        out: *mut Digest,
+        len: usize,
+        needed: &mut usize,
+    ) -> u32;
+    fn broadcast_store_count(store: &mut StoreHandle, out: &mut Counts) -> u32;
+}
+
+/// Computes the SHA-256 of the bytes.
+pub fn sha256(bytes: &[u8]) -> Digest {
+    let mut out = Digest::default();
+    // SAFETY: the pointer and the length are those of a slice that is borrowed for the call.
+    unsafe { broadcast_sha256(bytes.as_ptr(), bytes.len(), &mut out) };
+    out
+}

@@ -1,0 +1,97 @@
+//! The three functions by which the library asks for memory, over the global allocator of the program.
+//!
+//! The library frees a block by its address alone, so in front of each block stands its size.
+
+use std::alloc::{Layout, alloc, dealloc, realloc};
+use std::ptr::NonNull;
+
+/// The room in front of a block, which is also the alignment of each: the library asks for at most 16.
+const HEAD: usize = 16;
+
+/// Whether there is memory, and where.
+#[repr(C)]
+pub struct Tried {
+    ok: bool,
+    p: *mut u8,
+}
+
+impl Tried {
+    const FAILED: Tried = Tried { ok: false, p: NonNull::dangling().as_ptr() };
+
+    /// Notes the size of the block behind the head at `at`, and tells where it is.
+    ///
+    /// # Safety
+    ///
+    /// `at` is null, or a new block of `layout`, whose size is that of the head or more.
+    unsafe fn of(at: *mut u8, layout: Layout) -> Tried {
+        if at.is_null() {
+            return Tried::FAILED;
+        }
+        // SAFETY: the head is in the block, which is aligned for a `usize`.
+        unsafe {
+            at.cast::<usize>().write(layout.size());
+            Tried { ok: true, p: at.add(HEAD) }
+        }
+    }
+}
+
+/// The layout of a block of `n` bytes with its head.
+fn layout(n: usize) -> Option<Layout> {
+    Layout::from_size_align(n.checked_add(HEAD)?, HEAD).ok()
+}
+
+/// # Safety
+///
+/// `p` is what one of these functions returned.
+unsafe fn head(p: *mut u8) -> (*mut u8, Layout) {
+    // SAFETY: the block has a head, in which its size stands.
+    unsafe {
+        let at = p.sub(HEAD);
+        (at, Layout::from_size_align_unchecked(at.cast::<usize>().read(), HEAD))
+    }
+}
+
+/// Returns a block of `n` bytes. Alignments are at most 16.
+#[unsafe(no_mangle)]
+extern "C" fn rattle_alloc(n: usize, _align: usize) -> Tried {
+    match layout(n) {
+        // SAFETY: the layout is not empty.
+        Some(layout) => unsafe { Tried::of(alloc(layout), layout) },
+        None => Tried::FAILED,
+    }
+}
+
+/// Makes the block one of `n` bytes, or leaves it as it was.
+///
+/// # Safety
+///
+/// `p` is what one of these functions returned, and was not freed.
+#[unsafe(no_mangle)]
+unsafe extern "C" fn rattle_realloc(p: *mut u8, _kept: usize, n: usize, _align: usize) -> Tried {
+    let Some(new) = layout(n) else { return Tried::FAILED };
+    // SAFETY: the block is one of these, and the new layout is not empty.
+    unsafe {
+        let (at, old) = head(p);
+        Tried::of(realloc(at, old, new.size()), new)
+    }
+}
+
+/// Frees the block.
+///
+/// # Safety
+///
+/// `p` is what one of these functions returned, and was not freed.
+#[unsafe(no_mangle)]
+unsafe extern "C" fn rattle_dealloc(p: *mut u8) {
+    // SAFETY: the block is one of these.
+    unsafe {
+        let (at, layout) = head(p);
+        dealloc(at, layout);
+    }
+}
+
+/// The addresses of the three. Whoever makes a store names them, so that a linker takes these functions
+/// and not those of an archive that has its own.
+pub fn addresses() -> [*const (); 3] {
+    [rattle_alloc as *const (), rattle_realloc as *const (), rattle_dealloc as *const ()]
+}

@@ -1,0 +1,190 @@
+//! Each allocation is refused in turn, those of the library too: nothing aborts, and a call that fails has
+//! changed nothing.
+
+use broadcast_node::{Cache, Digest, Error, Key, Limits, Node, Received, Recipients, Subscribed};
+use std::alloc::{GlobalAlloc, Layout, System};
+use std::cell::Cell;
+use std::fmt::Debug;
+use std::ptr::null_mut;
+
+/// The allocator of this test, which refuses one allocation of a thread.
+struct Refusing;
+
+thread_local! {
+    /// How many allocations pass before the one that is refused.
+    static LEFT: Cell<Option<usize>> = const { Cell::new(None) };
+}
+
+fn is_refused() -> bool {
+    let left = LEFT.get();
+    LEFT.set(left.and_then(|it| it.checked_sub(1)));
+    left == Some(0)
+}
+
+// SAFETY: this is the system's allocator, but for allocations that are refused.
+unsafe impl GlobalAlloc for Refusing {
+    unsafe fn alloc(&self, layout: Layout) -> *mut u8 {
+        match is_refused() {
+            true => null_mut(),
+            // SAFETY: as asked of the caller.
+            false => unsafe { System.alloc(layout) },
+        }
+    }
+
+    unsafe fn dealloc(&self, at: *mut u8, layout: Layout) {
+        // SAFETY: as asked of the caller.
+        unsafe { System.dealloc(at, layout) }
+    }
+}
+
+#[global_allocator]
+static ALLOCATOR: Refusing = Refusing;
+
+/// Makes the call with the allocation refused, and returns whether there was one to refuse.
+fn refusing<T>(place: usize, call: impl FnOnce() -> T) -> (T, bool) {
+    LEFT.set(Some(place));
+    let result = call();
+    let was_refused = LEFT.replace(None).is_none();
+    (result, was_refused)
+}
+
+/// Makes the call with each of its allocations refused. A refused call has changed nothing, so the same call
+/// succeeds then. Returns how many allocations it makes.
+fn refuse_each<S, T: PartialEq + Debug>(
+    make: fn() -> S,
+    call: fn(&mut S) -> Result<T, Error>,
+) -> usize {
+    let expected = call(&mut make()).unwrap();
+    let mut place = 0;
+    loop {
+        let mut state = make();
+        match refusing(place, || call(&mut state)) {
+            (Ok(result), false) => {
+                assert_eq!(result, expected);
+                return place;
+            }
+            (Err(Error::Memory), true) => assert_eq!(call(&mut state).as_ref(), Ok(&expected)),
+            other => panic!("{other:?}"),
+        }
+        place += 1;
+    }
+}
+
+fn own() -> Key {
+    Key::from([1; 32])
+}
+
+fn peer() -> Key {
+    Key::from([2; 48])
+}
+
+fn digest(n: u8) -> Digest {
+    Digest::from([n; 32])
+}
+
+/// A cache for which three tickets wait, and which has a message.
+fn cache() -> Cache<&'static str> {
+    let mut cache = Cache::new(own(), 10, 1_000).unwrap();
+    cache.update_primary_peers(&[own(), peer()]).unwrap();
+    for _ in 0..3 {
+        cache.subscribe(&digest(7)).unwrap();
+    }
+    cache.take_own(&digest(8), 6, "cached").unwrap();
+    cache
+}
+
+/// Takes a message. Returns how many were served.
+fn take(cache: &mut Cache<&'static str>, name: u8) -> Result<usize, Error> {
+    cache.take(&peer(), &digest(name), 7, "message").map(|taken| taken.served.len())
+}
+
+#[test]
+fn a_cache_loses_no_taking() {
+    let made = refuse_each(|| (), |()| Cache::<()>::new(own(), 10, 1_000).map(drop));
+    assert_eq!(made, 1, "the library's");
+    assert!(refuse_each(cache, |it| take(it, 7)) > 0);
+    assert!(refuse_each(cache, |it| take(it, 8)) > 0);
+    assert!(refuse_each(cache, |it| take(it, 9)) > 0);
+    assert_eq!(refuse_each(cache, |it| it.list(&own())), 1);
+    assert_eq!(refuse_each(cache, |it| Ok(it.get(&digest(8)).copied())), 0);
+    assert_eq!(refuse_each(cache, |it| Ok(it.cleanup(&[]))), 0);
+    let mut waiting = cache();
+    let Ok(Subscribed::Waiting(ticket)) = waiting.subscribe(&digest(9)) else {
+        panic!("it is cached")
+    };
+    let cancelled = refusing(0, || waiting.cancel(&digest(9), ticket));
+    assert_eq!(cancelled, (true, false), "it asks for no memory");
+    let waits = |it: &mut Cache<_>| it.subscribe(&digest(9)).map(drop);
+    assert!(refuse_each(cache, waits) > 0);
+    let answered = |it: &mut Cache<_>| match it.subscribe(&digest(8))? {
+        Subscribed::Cached(message) => Ok(*message),
+        other => panic!("{other:?}"),
+    };
+    refuse_each(cache, answered);
+    refuse_each(cache, |it| it.update_primary_peers(&[peer(), own(), peer()]));
+}
+
+/// A node for which three tickets wait, and which has a message.
+fn node() -> Node<Vec<u8>> {
+    let mut node = Node::new(own(), Limits::default()).unwrap();
+    node.update_primary_peers(&[own(), peer()]).unwrap();
+    for _ in 0..3 {
+        node.subscribe(&digest(7)).unwrap();
+    }
+    node.payload_as(&own(), &digest(8), b"\0\0\0\x06cached".to_vec()).unwrap();
+    node
+}
+
+const ABC: &[u8] = b"\0\0\0\x03abc";
+
+/// Hands a payload that exists already to the node. Returns how many were served.
+fn payload(node: &mut Node<Vec<u8>>, name: u8, payload: Vec<u8>) -> Result<Option<usize>, Error> {
+    Ok(match node.payload_as(&peer(), &digest(name), payload)? {
+        Received::Taken(message) => Some(message.served.len()),
+        _ => None,
+    })
+}
+
+#[test]
+fn a_node_loses_no_payload() {
+    let mut place = 0;
+    loop {
+        let (mut state, bytes) = (node(), ABC.to_vec());
+        let (taken, was_refused) = refusing(place, || payload(&mut state, 7, bytes));
+        match taken {
+            Err(Error::Memory) => {
+                assert_eq!(state.counters(&peer()).inserted, 0, "it is not counted");
+                assert_eq!(payload(&mut state, 7, ABC.to_vec()), Ok(Some(3)));
+            }
+            other => assert_eq!(other, Ok(Some(3))),
+        }
+        assert_eq!(state.counters(&peer()).inserted, 1);
+        if !was_refused {
+            break;
+        }
+        place += 1;
+    }
+    assert!(place > 0);
+    refuse_each(node, |it| it.update_primary_peers(&[peer()]));
+}
+
+/// The clone of a payload can fail by an abort, so this node has payloads that are cloned without memory.
+#[test]
+fn a_node_loses_no_broadcast() {
+    #[derive(Clone)]
+    struct Shared;
+    impl From<Vec<u8>> for Shared {
+        fn from(_: Vec<u8>) -> Shared {
+            Shared
+        }
+    }
+    impl AsRef<[u8]> for Shared {
+        fn as_ref(&self) -> &[u8] {
+            ABC
+        }
+    }
+    let make = || Node::<Shared>::new(own(), Limits::default()).unwrap();
+    let sends =
+        |it: &mut Node<Shared>| it.broadcast(Recipients::All, b"abc").map(|sent| sent.outcome);
+    assert!(refuse_each(make, sends) > 1, "the payload, and the library's");
+}

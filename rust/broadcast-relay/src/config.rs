@@ -1,0 +1,216 @@
+//! The configuration, a TOML file.
+
+use crate::identity::{PeerId, from_hex, to_hex};
+use crate::message::MAX_MESSAGE;
+use serde::{Deserialize, Deserializer, de::Error};
+use std::fs;
+use std::io;
+use std::net::SocketAddr;
+use std::path::{Path, PathBuf};
+
+#[derive(Clone, Debug, Deserialize, PartialEq)]
+#[serde(deny_unknown_fields)]
+pub struct Config {
+    /// The file with the own key, of `keygen`.
+    pub key: PathBuf,
+    /// Where this relay listens.
+    pub listen: SocketAddr,
+    /// Where others reach it, if that is another address: `broadcast-relay entry` prints it.
+    pub advertise: Option<String>,
+    /// Where it serves `/metrics` and `/healthz`.
+    pub metrics: Option<SocketAddr>,
+    /// The folder of the journal.
+    pub journal: Option<PathBuf>,
+    /// Whether each line of the standard input is broadcast.
+    #[serde(default)]
+    pub input: bool,
+    /// Whether messages of peers are printed to the standard output.
+    #[serde(default = "yes")]
+    pub output: bool,
+    #[serde(default)]
+    pub limits: Limits,
+    #[serde(default, rename = "peer")]
+    pub peers: Vec<PeerConfig>,
+}
+
+#[derive(Clone, Debug, Deserialize, PartialEq)]
+#[serde(deny_unknown_fields)]
+pub struct PeerConfig {
+    pub name: String,
+    #[serde(deserialize_with = "key")]
+    pub key: PeerId,
+    /// Where it listens, as a host and a port. Without it the peer has to dial.
+    pub address: Option<String>,
+}
+
+#[derive(Clone, Debug, Deserialize, PartialEq)]
+#[serde(deny_unknown_fields, default)]
+pub struct Limits {
+    /// The most messages, and the most bytes of them, that are kept of each author.
+    pub messages_per_peer: usize,
+    pub bytes_per_peer: u64,
+    /// The most bytes that wait to be sent to each peer.
+    pub queue_bytes: usize,
+    /// How fast the messages of an author are taken.
+    pub author_messages_per_second: u32,
+    pub author_bytes_per_second: u64,
+    pub author_signatures_per_second: u32,
+    /// How fast an author still sends if some peer does not follow.
+    pub least_rate: u32,
+    /// How old, and how far in the future, the stamp of a message may be.
+    pub oldest_seconds: u64,
+    pub future_seconds: u64,
+    /// The most connections that have proved no key, in all and of one address.
+    pub handshakes: usize,
+    pub handshakes_per_address: usize,
+}
+
+impl Default for Limits {
+    fn default() -> Limits {
+        Limits {
+            messages_per_peer: 1_024,
+            bytes_per_peer: 16 << 20,
+            queue_bytes: 4 << 20,
+            author_messages_per_second: 10_000,
+            author_bytes_per_second: 8 << 20,
+            author_signatures_per_second: 1_000,
+            least_rate: 500,
+            oldest_seconds: 86_400,
+            future_seconds: 60,
+            handshakes: 512,
+            handshakes_per_address: 64,
+        }
+    }
+}
+
+fn yes() -> bool {
+    true
+}
+
+fn key<'de, D: Deserializer<'de>>(from: D) -> Result<PeerId, D::Error> {
+    let text = String::deserialize(from)?;
+    from_hex(&text).ok_or_else(|| D::Error::custom("a key has 64 hexadecimal digits"))
+}
+
+fn invalid(why: String) -> io::Error {
+    io::Error::new(io::ErrorKind::InvalidData, why)
+}
+
+impl Config {
+    /// Reads the file and checks it. Paths in it are relative to its folder.
+    pub fn load(file: &Path) -> io::Result<Config> {
+        let named = |why: String| invalid(format!("{}: {why}", file.display()));
+        let text = fs::read_to_string(file).map_err(|it| named(it.to_string()))?;
+        let mut config: Config = toml::from_str(&text).map_err(|it| named(it.to_string()))?;
+        let folder = file.parent().unwrap_or(Path::new(""));
+        config.key = folder.join(&config.key);
+        config.journal = config.journal.map(|it| folder.join(it));
+        config.check().map_err(named)?;
+        Ok(config)
+    }
+
+    fn check(&self) -> Result<(), String> {
+        for (place, peer) in self.peers.iter().enumerate() {
+            let before = &self.peers[..place];
+            if before.iter().any(|it| it.key == peer.key || it.name == peer.name) {
+                return Err(format!("the peer {} is named twice", peer.name));
+            }
+            if peer.address.as_ref().is_some_and(|it| !it.contains(':')) {
+                return Err(format!("the address of {} has no port", peer.name));
+            }
+            if peer.name.is_empty() || peer.name.contains(char::is_whitespace) {
+                return Err(format!("{:?} is no name: it has spaces or nothing", peer.name));
+            }
+        }
+        let limits = &self.limits;
+        let needed = [
+            ("messages_per_peer", limits.messages_per_peer as u64, 1),
+            ("bytes_per_peer", limits.bytes_per_peer, 1 << 20),
+            ("queue_bytes", limits.queue_bytes as u64, 1 << 20),
+            ("author_messages_per_second", limits.author_messages_per_second.into(), 1),
+            ("author_bytes_per_second", limits.author_bytes_per_second, MAX_MESSAGE as u64),
+            ("author_signatures_per_second", limits.author_signatures_per_second.into(), 1),
+            ("least_rate", limits.least_rate.into(), 1),
+            ("handshakes_per_address", limits.handshakes_per_address as u64, 1),
+            ("handshakes", limits.handshakes as u64, limits.handshakes_per_address as u64),
+        ];
+        match needed.iter().find(|(_, value, least)| value < least) {
+            Some((name, value, least)) => Err(format!("{name} is {value}, and at least {least}")),
+            None => Ok(()),
+        }
+    }
+
+    /// A bound on the resident memory, in bytes, for as long as no peer is added.
+    ///
+    /// An engine keeps at most twice what is cached. An author has lines that wait for the output, and stamps; a peer a queue, a
+    /// frame that is read, what TLS keeps, and announcements that wait.
+    pub fn memory_bound(&self) -> u64 {
+        let (peers, limits) = (self.peers.len() as u64, &self.limits);
+        let author =
+            2 * (limits.bytes_per_peer + 512 * limits.messages_per_peer as u64) + (4 << 20);
+        let peer = limits.queue_bytes as u64 + (4 << 20);
+        let handshakes = limits.handshakes as u64 * (96 << 10);
+        (48 << 20) + (peers + 1) * author + peers * peer + handshakes
+    }
+
+    /// How many descriptors are open at most.
+    pub fn descriptors(&self) -> usize {
+        // Handshakes, and connections that wait for one; of each peer a connection, one that replaces it, one that is dialed,
+        // and a file.
+        64 + 2 * self.limits.handshakes + 4 * self.peers.len()
+    }
+
+    /// What other relays write into their configurations to name this one.
+    pub fn entry(&self, id: &PeerId, name: &str) -> String {
+        let address = self.advertise.clone().unwrap_or_else(|| self.listen.to_string());
+        format!("[[peer]]\nname = \"{name}\"\nkey = \"{}\"\naddress = \"{address}\"\n", to_hex(id))
+    }
+}
+
+#[cfg(test)]
+mod tests {
+    use super::*;
+
+    fn parsed(text: &str) -> Result<Config, String> {
+        let config: Config = toml::from_str(text).map_err(|it| it.to_string())?;
+        config.check().map(|()| config)
+    }
+
+    #[test]
+    fn the_example_has_each_limit_as_it_is_by_default() {
+        let text = include_str!("../relay.example.toml");
+        let config = parsed(text).unwrap();
+        assert_eq!(config.limits, Limits::default());
+        let limits = format!("{:?}", config.limits);
+        let names: Vec<_> = limits.split(' ').filter_map(|it| it.strip_suffix(':')).collect();
+        assert!(names.iter().all(|it| text.contains(&format!("\n{it} = "))), "{names:?}");
+        assert!(config.output && config.peers.len() == 2);
+    }
+
+    #[test]
+    fn a_wrong_configuration_is_refused_with_a_reason() {
+        let good = "key = \"k\"\nlisten = \"[::1]:7001\"\n";
+        let peer = |name: &str, key: &str, rest: &str| {
+            format!("[[peer]]\nname = \"{name}\"\nkey = \"{}\"\n{rest}\n", key.repeat(64))
+        };
+        assert_eq!(parsed(good).unwrap().limits, Limits::default());
+        let config = parsed(&format!("{good}{}", peer("b", "a", "address = \"h:1\""))).unwrap();
+        assert_eq!(config.peers[0].key, [0xaa; 32]);
+        for (rest, why) in [
+            (peer("b", "a", "") + &peer("c", "a", ""), "twice"),
+            (peer("b", "a", "") + &peer("b", "c", ""), "twice"),
+            (peer("b", "x", ""), "hexadecimal"),
+            (peer("b c", "a", ""), "no name"),
+            (peer("b", "a", "address = \"h\""), "no port"),
+            (peer("b", "a", "port = 1"), "unknown field"),
+            ("[limits]\nbytes_per_peer = 10".into(), "at least"),
+            ("[limits]\nhandshakes = 3".into(), "at least"),
+            ("[limits]\nhandshake = 3".into(), "unknown field"),
+        ] {
+            let said = parsed(&format!("{good}{rest}")).unwrap_err();
+            assert!(said.contains(why), "{said}");
+        }
+        assert!(parsed("listen = \"[::1]:7001\"").unwrap_err().contains("key"));
+        assert!(parsed("key = \"k\"\nlisten = \"localhost\"").is_err());
+    }
+}

@@ -1,0 +1,69 @@
+//! Broadcasts the lines of the standard input.
+
+use crate::batch::MAX_BATCH;
+use crate::hub::Hub;
+use crate::message::MAX_TEXT;
+use std::io::{self, BufRead, Read};
+use std::thread;
+use std::time::Duration;
+use tokio::sync::mpsc::{self, Receiver, error::TryRecvError};
+use tokio::time::{Instant, sleep_until};
+use tracing::{info, warn};
+
+/// How many lines wait. Whoever writes more has to wait too.
+const WAITING: usize = 64;
+/// The most bytes of a batch that is signed at once, and how often one is signed at most: what is written meanwhile is
+/// signed together.
+const MAX_BYTES: usize = 256 << 10;
+const PACE: Duration = Duration::from_millis(2);
+
+/// Starts to read lines in a thread of its own.
+pub fn start() -> io::Result<Receiver<Vec<u8>>> {
+    let (sender, lines) = mpsc::channel(WAITING);
+    thread::Builder::new().name("input".into()).spawn(move || {
+        let mut input = io::stdin().lock();
+        loop {
+            let mut line = Vec::new();
+            // A longer line is cut into several.
+            match input.by_ref().take(MAX_TEXT as u64).read_until(b'\n', &mut line) {
+                Ok(0) | Err(_) => return,
+                Ok(_) => {}
+            }
+            while line.last().is_some_and(|it| matches!(it, b'\n' | b'\r')) {
+                line.pop();
+            }
+            if !line.is_empty() && sender.blocking_send(line).is_err() {
+                return;
+            }
+        }
+    })?;
+    Ok(lines)
+}
+
+/// Publishes all lines, those that have come meanwhile together. Returns at the end of the input. Dropping the future loses no
+/// line: none is taken before it may be published.
+pub async fn publish(hub: &Hub, lines: &mut Receiver<Vec<u8>>) {
+    while let Some(line) = next(hub, lines).await {
+        let next = Instant::now() + PACE;
+        let (mut bytes, mut batch) = (line.len(), vec![line]);
+        while batch.len() < MAX_BATCH && bytes < MAX_BYTES {
+            match lines.try_recv() {
+                Ok(line) => {
+                    bytes += line.len();
+                    batch.push(line);
+                }
+                Err(TryRecvError::Empty | TryRecvError::Disconnected) => break,
+            }
+        }
+        if let Err(why) = hub.publish(batch).await {
+            warn!(%why, "lines were not broadcast");
+        }
+        sleep_until(next).await;
+    }
+    info!("the input has ended");
+}
+
+async fn next(hub: &Hub, lines: &mut Receiver<Vec<u8>>) -> Option<Vec<u8>> {
+    hub.may_publish().await;
+    lines.recv().await
+}

@@ -1,0 +1,112 @@
+//! A gossip relay over mutual TLS, on the verified broadcast cache.
+//!
+//! Messages are signed by their authors. A relay sends its own to all its peers, and tells them of those of others; whoever
+//! lacks one subscribes to it and asks for it. After a connect both sides tell what is on their lists, so a peer that was
+//! away gets what is still there.
+
+mod author;
+mod batch;
+mod config;
+mod fetch;
+mod http;
+mod hub;
+mod identity;
+mod input;
+mod journal;
+mod listen;
+mod message;
+mod metrics;
+mod output;
+mod peer;
+mod places;
+mod queue;
+mod rate;
+mod relay;
+mod resolve;
+mod seen;
+mod session;
+mod setup;
+mod tls;
+mod window;
+mod wire;
+
+use clap::{Parser, Subcommand};
+use config::Config;
+use identity::{Identity, keygen, to_hex};
+use std::io;
+use std::path::PathBuf;
+use std::process::ExitCode;
+use std::sync::{Mutex, MutexGuard, PoisonError};
+
+/// A gossip relay over mutual TLS, on the verified broadcast cache.
+#[derive(Parser)]
+#[command(version)]
+struct Arguments {
+    #[command(subcommand)]
+    command: Command,
+}
+
+#[derive(Subcommand)]
+enum Command {
+    /// Run a relay until SIGTERM or SIGINT. SIGHUP reads the peers of the configuration again.
+    ///
+    /// Each message of a peer is printed once, as `AUTHOR STAMP TEXT`. RUST_LOG sets what is logged to standard error.
+    Run {
+        config: PathBuf,
+        /// Check the configuration, say what memory and descriptors it takes, and end.
+        #[arg(long)]
+        check_config: bool,
+    },
+    /// Make a folder with a key and a configuration.
+    Init {
+        folder: PathBuf,
+        /// Where the relay listens.
+        #[arg(long)]
+        listen: std::net::SocketAddr,
+        /// The folder of another relay on this machine: each becomes a peer of the other.
+        #[arg(long)]
+        with: Vec<PathBuf>,
+    },
+    /// Make a key in a new file, and print it as peers name it.
+    Keygen { file: PathBuf },
+    /// Print a key as peers name it.
+    Key { file: PathBuf },
+    /// Print what the configurations of other relays need to name this one.
+    Entry { config: PathBuf, name: String },
+    /// Print the messages of a journal, as `AUTHOR STAMP TEXT`.
+    Log { journal: PathBuf },
+}
+
+fn main() -> ExitCode {
+    match run(Arguments::parse().command) {
+        Ok(()) => ExitCode::SUCCESS,
+        Err(why) => {
+            eprintln!("broadcast-relay: {why}");
+            ExitCode::FAILURE
+        }
+    }
+}
+
+fn run(command: Command) -> io::Result<()> {
+    match command {
+        Command::Run { config, check_config: false } => relay::run(&config),
+        Command::Run { config, check_config: true } => setup::check(&config),
+        Command::Init { folder, listen, with } => setup::init(&folder, listen, &with),
+        Command::Keygen { file } => keygen(&file).map(|it| println!("{}", to_hex(&it.id))),
+        Command::Key { file } => Identity::load(&file).map(|it| println!("{}", to_hex(&it.id))),
+        Command::Entry { config, name } => {
+            let config = Config::load(&config)?;
+            let id = Identity::load(&config.key)?.id;
+            print!("{}", config.entry(&id, &name));
+            Ok(())
+        }
+        Command::Log { journal } => journal::read(&journal, |it| {
+            println!("{} {} {}", to_hex(&it.author), it.stamp, output::shown(it.text()));
+        }),
+    }
+}
+
+/// Locks a mutex, also if a task that held it has panicked.
+fn lock<T>(mutex: &Mutex<T>) -> MutexGuard<'_, T> {
+    mutex.lock().unwrap_or_else(PoisonError::into_inner)
+}

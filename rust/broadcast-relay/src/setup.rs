@@ -1,0 +1,75 @@
+//! Makes and checks configurations.
+
+use crate::config::Config;
+use crate::identity::{Identity, keygen};
+use std::fs::{self, OpenOptions};
+use std::io::{self, Write};
+use std::net::SocketAddr;
+use std::path::{Path, PathBuf};
+
+/// The names of the files in a folder that `init` makes.
+const KEY: &str = "key.pem";
+const CONFIG: &str = "relay.toml";
+
+/// Makes a key and a configuration in a folder, and names it and others to each other.
+pub fn init(folder: &Path, listen: SocketAddr, with: &[PathBuf]) -> io::Result<()> {
+    let others =
+        with.iter().map(|it| Config::load(&it.join(CONFIG))).collect::<Result<Vec<_>, _>>()?;
+    fs::create_dir_all(folder)?;
+    let identity = keygen(&folder.join(KEY))?;
+    let mut text = format!(
+        "key = \"{KEY}\"\nlisten = \"{listen}\"\n# metrics = \"127.0.0.1:9101\"\njournal = \"journal\"\ninput = true\n"
+    );
+    for (other, config) in with.iter().zip(&others) {
+        text += "\n";
+        text += &config.entry(&Identity::load(&config.key)?.id, &name(other)?);
+    }
+    let path = folder.join(CONFIG);
+    OpenOptions::new().write(true).create_new(true).open(&path)?.write_all(text.as_bytes())?;
+    let entry = Config::load(&path)?.entry(&identity.id, &name(folder)?);
+    for other in with {
+        let mut file = OpenOptions::new().append(true).open(other.join(CONFIG))?;
+        file.write_all(format!("\n{entry}").as_bytes())?;
+    }
+    print!("{entry}");
+    Ok(())
+}
+
+fn name(folder: &Path) -> io::Result<String> {
+    let name = fs::canonicalize(folder)?;
+    let name = name.file_name().and_then(|it| it.to_str());
+    name.map(str::to_owned).ok_or_else(|| io::Error::other("the folder has no name"))
+}
+
+/// Checks a configuration, and says what it takes.
+pub fn check(file: &Path) -> io::Result<()> {
+    let config = Config::load(file)?;
+    let id = Identity::load(&config.key)?.id;
+    if config.peers.iter().any(|it| it.key == id) {
+        return Err(io::Error::other("the own key is among the peers"));
+    }
+    println!("{} peers", config.peers.len());
+    println!("memory: at most {} MiB", config.memory_bound() >> 20);
+    println!("descriptors: at most {}", config.descriptors());
+    Ok(())
+}
+
+/// Takes as many places for handshakes as the limit on descriptors leaves, so that none is ever lacking for a peer.
+pub fn fit(config: &mut Config) -> io::Result<()> {
+    let limits = fs::read_to_string("/proc/self/limits").unwrap_or_default();
+    let line = limits.lines().find_map(|it| it.strip_prefix("Max open files"));
+    let soft = line.and_then(|it| it.split_whitespace().next()).and_then(|it| it.parse().ok());
+    let Some(soft): Option<usize> = soft else { return Ok(()) };
+    let spared = config.descriptors().saturating_sub(soft).div_ceil(2);
+    if spared == 0 {
+        return Ok(());
+    }
+    let left = config.limits.handshakes.saturating_sub(spared);
+    if left < 4 {
+        return Err(io::Error::other(format!("{soft} descriptors are too few for these peers")));
+    }
+    tracing::warn!(soft, left, "few descriptors, so few places for handshakes");
+    config.limits.handshakes = left;
+    config.limits.handshakes_per_address = config.limits.handshakes_per_address.min(left / 2);
+    Ok(())
+}

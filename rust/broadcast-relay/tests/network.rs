@@ -1,0 +1,298 @@
+//! Five relays under load and attack: each honest message arrives everywhere, once, and soon.
+
+mod support;
+
+use std::collections::{HashMap, HashSet};
+use std::env;
+use std::io::Write;
+use std::net::SocketAddr;
+use std::process::{Child, Command, Stdio};
+use std::thread::{sleep, spawn};
+use std::time::{Duration, Instant};
+use support::hostile::{Hostile, frame, have, now};
+use support::lab::Lab;
+use support::load::Beside;
+use support::strangers::{Habit, Strangers};
+use support::{Key, Relay, folder, keygen, wait_for};
+
+const RELAYS: usize = 5;
+const KILLED: usize = 2;
+/// The ticks of a round, and those in which the killed relay is away. A soak has many rounds.
+const ROUND: usize = 600;
+const AWAY: std::ops::Range<usize> = 200..300;
+const TICK: Duration = Duration::from_millis(20);
+const TRICKLE: usize = 64;
+const SILENT: usize = 200;
+const HOSTILE: usize = 60;
+const P99: Duration = Duration::from_millis(100);
+const SOON: Duration = Duration::from_secs(1);
+const LIMITS: &str =
+    "[limits]\nbytes_per_peer = 4194304\nhandshakes = 128\nhandshakes_per_address = 16";
+
+/// Becomes a process with no greater claim to the processors than any other.
+const ORDINARY: &str = "echo 0 2> /dev/null > /proc/self/autogroup; exec nice -n 10 \"$@\"";
+
+/// The attackers are a process of their own, with less claim to the processors than relays have: else it, and not what it sends,
+/// would slow the relays down. (Sixty threads that only compute did so, to a p99 of half a second.) It is this test.
+struct Attackers(Child);
+
+impl Attackers {
+    fn start(relays: &[Relay], key: &Key) -> Attackers {
+        let to: Vec<String> = relays.iter().map(|it| it.address.to_string()).collect();
+        let process = Command::new("setsid")
+            .args(["sh", "-c", ORDINARY, "sh"])
+            .arg(env::current_exe().unwrap())
+            .args(["attackers", "--exact", "--ignored", "--nocapture"])
+            .env("ATTACK", to.join(","))
+            .env("ATTACK_KEY", &key.file)
+            .stdout(Stdio::null())
+            .spawn();
+        Attackers(process.unwrap())
+    }
+
+    /// The processes that the test has started: these, and relays.
+    fn processes(&self, relays: &[Relay]) -> Vec<u32> {
+        relays.iter().map(Relay::id).chain([self.0.id()]).collect()
+    }
+}
+
+impl Drop for Attackers {
+    fn drop(&mut self) {
+        let _ = self.0.kill();
+        let _ = self.0.wait();
+    }
+}
+
+#[test]
+#[ignore = "it is started by the test of five relays"]
+fn attackers() {
+    let Ok(to) = env::var("ATTACK") else { return };
+    let to: Vec<SocketAddr> = to.split(',').map(|it| it.parse().unwrap()).collect();
+    let file = env::var("ATTACK_KEY").unwrap();
+    for number in 0..HOSTILE {
+        let (file, to) = (file.clone().into(), to[number % to.len()]);
+        spawn(move || flood(&Hostile::new(&Key { file, text: String::new() }), to, number));
+    }
+    // Should the test be killed, they end all the same.
+    sleep(TICK * ticks() as u32 + Duration::from_secs(300));
+}
+
+/// Sends to a relay at full speed, and connects again whenever it is thrown out.
+fn flood(hostile: &Hostile, to: SocketAddr, number: usize) -> ! {
+    let mut noise = vec![0; 60_000];
+    openssl::rand::rand_bytes(&mut noise).unwrap();
+    for round in number.. {
+        let Some(mut stream) = hostile.connect(to) else {
+            sleep(Duration::from_millis(10));
+            continue;
+        };
+        let end = Instant::now() + Duration::from_millis(500);
+        while Instant::now() < end {
+            let stamp = now();
+            noise[..8].copy_from_slice(&stamp.to_be_bytes());
+            let bytes = match round % 6 {
+                // No frame, a wrong message, messages that nobody has and that nobody wants.
+                0 => noise.clone(),
+                1 => frame(1, &noise),
+                2 => frame(2, &have(&hostile.id, stamp, &noise[..32], 100).repeat(400)),
+                3 => frame(3, &noise[..32 * 400]),
+                // Large fresh messages of its own, and small ones.
+                4 => frame(1, &hostile.message(stamp, &noise[..59_000])),
+                _ => frame(1, &hostile.message(stamp, &noise[..100])),
+            };
+            if stream.write_all(&bytes).is_err() {
+                break;
+            }
+        }
+    }
+    unreachable!()
+}
+
+fn strangers(lab: &Lab, relays: &[Relay]) -> Strangers {
+    let to = |it: usize| relays[it % RELAYS].address;
+    let trickling = (0..TRICKLE).map(|it| (Habit::Trickles, lab.stranger(it), to(it)));
+    let silent = (0..SILENT).map(|it| (Habit::IsSilent, lab.stranger(it / 8), to(it)));
+    Strangers::start(trickling.chain(silent).collect())
+}
+
+/// How many ticks lines are typed: a round, or as long as a soak is asked to take.
+fn ticks() -> usize {
+    let seconds = env::var("SOAK_SECONDS").ok().and_then(|it| it.parse::<usize>().ok());
+    seconds.map_or(ROUND, |it| it * 1_000 / TICK.as_millis() as usize)
+}
+
+/// What was typed into each relay, and when.
+struct Typed {
+    lines: Vec<Vec<(String, Instant)>>,
+    /// What the killed relay had journaled by then, and does not print again.
+    journaled: HashSet<String>,
+}
+
+impl Typed {
+    fn new() -> Typed {
+        Typed { lines: vec![Vec::new(); RELAYS], journaled: HashSet::new() }
+    }
+
+    fn write(&mut self, relays: &mut [Relay], number: usize, tick: usize) {
+        let line = format!("{number}-{tick} {}", "x".repeat(tick % ROUND));
+        self.lines[number].push((line.clone(), Instant::now()));
+        relays[number].write(&line);
+    }
+
+    /// Notes what the killed relay has journaled, and forgets what was typed into it just before, and not taken.
+    fn lose(&mut self, killed: &Relay) {
+        self.journaled.extend(killed.journal().into_keys().map(|it| it.1));
+        let mut newest = 0;
+        let all = self.lines[KILLED].len();
+        self.lines[KILLED].retain(|it| {
+            newest += 1;
+            newest + 100 < all || self.journaled.contains(&it.0)
+        });
+    }
+
+    /// Of the messages of the others, those that a relay has neither printed nor journaled.
+    fn lacking(&self, relays: &[Relay], number: usize) -> usize {
+        let printed = relays[number].printed();
+        let mut has: HashSet<String> = printed.into_iter().map(|it| it.text).collect();
+        has.extend(relays[number].journal().into_keys().map(|it| it.1));
+        if number == KILLED {
+            has.extend(self.journaled.iter().cloned());
+        }
+        let others = (0..RELAYS).filter(|it| *it != number);
+        others.flat_map(|it| &self.lines[it]).filter(|it| !has.contains(&it.0)).count()
+    }
+
+    fn of_others(&self, number: usize) -> usize {
+        (0..RELAYS).filter(|it| *it != number).map(|it| self.lines[it].len()).sum()
+    }
+
+    /// How long messages took between relays that were never killed, in rising order.
+    fn latencies(&self, relays: &[Relay]) -> Vec<Duration> {
+        let sent: HashMap<&str, Instant> =
+            self.lines.iter().flatten().map(|it| (it.0.as_str(), it.1)).collect();
+        let lives = |name: &str| name.starts_with('r') && name != relays[KILLED].name;
+        let mut took: Vec<Duration> = relays
+            .iter()
+            .filter(|it| lives(&it.name))
+            .flat_map(Relay::printed)
+            .filter(|it| lives(&it.author))
+            .map(|it| it.at.saturating_duration_since(sent[it.text.as_str()]))
+            .collect();
+        took.sort();
+        took
+    }
+}
+
+/// Starts the killed relay, and returns how long it takes until it is connected to all others.
+fn come_back(killed: &mut Relay) -> Duration {
+    let start = Instant::now();
+    killed.start();
+    wait_for("the killed relay is back", Duration::from_secs(20), || {
+        (0..RELAYS).all(|it| it == KILLED || killed.is_connected(&format!("r{it}")))
+    });
+    start.elapsed()
+}
+
+/// Types a line into each relay each tick; one is killed in between. Returns besides the most memory that a relay had.
+fn load(relays: &mut [Relay], attackers: &Attackers, beside: &Beside) -> (Typed, u64) {
+    let (mut typed, mut memory) = (Typed::new(), 0);
+    let start = Instant::now();
+    for tick in 0..ticks() {
+        if tick % ROUND == AWAY.start {
+            memory = memory.max(relays[KILLED].memory("VmHWM"));
+            relays[KILLED].kill();
+            typed.lose(&relays[KILLED]);
+        }
+        if tick % ROUND == AWAY.end {
+            let took = come_back(&mut relays[KILLED]);
+            println!("the killed relay was connected to all others {took:?} after its start");
+            beside.judge("the dial", took, SOON, &attackers.processes(relays));
+        }
+        for number in (0..RELAYS).filter(|it| *it != KILLED || !AWAY.contains(&(tick % ROUND))) {
+            typed.write(relays, number, tick);
+        }
+        sleep((start + TICK * tick as u32).saturating_duration_since(Instant::now()));
+    }
+    (typed, memory)
+}
+
+/// Waits until each relay has all messages of the others.
+fn arrive(relays: &[Relay], typed: &Typed) {
+    let start = Instant::now();
+    loop {
+        let lacking: Vec<usize> = (0..RELAYS).map(|it| typed.lacking(relays, it)).collect();
+        if lacking.iter().all(|it| *it == 0) {
+            let all: usize = typed.lines.iter().map(Vec::len).sum();
+            println!("{all} messages were everywhere {:?} after the last", start.elapsed());
+            return;
+        }
+        if start.elapsed() > Duration::from_secs(30) {
+            for relay in relays {
+                println!("--- {}\n{}\n{}", relay.name, relay.log(), relay.http("/metrics"));
+            }
+            panic!("lacking: {lacking:?}");
+        }
+        sleep(Duration::from_millis(200));
+    }
+}
+
+/// Ends all relays, and looks whether each has printed each message once.
+fn end(relays: &mut [Relay], typed: &Typed) {
+    let keys: HashSet<String> = relays.iter().map(|it| it.key.text.clone()).collect();
+    for (number, relay) in relays.iter_mut().enumerate() {
+        assert!(relay.terminate(), "{} did not end at SIGTERM", relay.name);
+        let counted = relay.counted();
+        let honest: Vec<_> = counted.iter().filter(|it| it.0.0.starts_with('r')).collect();
+        assert!(honest.iter().all(|it| *it.1 == 1), "{}: a line was printed twice", relay.name);
+        let journal = relay.journal();
+        let mut honest_ones = journal.iter().filter(|it| keys.contains(&it.0.0));
+        assert!(honest_ones.all(|it| *it.1 == 1), "{}: one came twice", relay.name);
+        // What a killed relay had journaled and not printed is not printed again.
+        if number != KILLED {
+            assert_eq!(honest.len(), typed.of_others(number), "{}", relay.name);
+        }
+    }
+}
+
+#[test]
+fn each_honest_message_arrives_everywhere_once_and_soon() {
+    Lab::run("each_honest_message_arrives_everywhere_once_and_soon", RELAYS, |lab| {
+        let folder = folder("network");
+        let key = keygen(&folder, "hostile");
+        let others = [("hostile", &key)];
+        let mut relays = Relay::wired(lab, &folder, RELAYS, &others, LIMITS, |_, _| true);
+        relays.iter_mut().for_each(Relay::start);
+        wait_for("all are connected", Duration::from_secs(5), || {
+            relays.iter().all(|it| {
+                (0..RELAYS).all(|other| {
+                    it.name == format!("r{other}") || it.is_connected(&format!("r{other}"))
+                })
+            })
+        });
+        let strangers = strangers(lab, &relays);
+        let attackers = Attackers::start(&relays, &key);
+        sleep(Duration::from_secs(1));
+        let beside = Beside::start(&attackers.processes(&relays));
+        let (typed, memory) = load(&mut relays, &attackers, &beside);
+        arrive(&relays, &typed);
+        let memory = relays.iter().map(|it| it.memory("VmHWM")).max().unwrap().max(memory);
+        let took = typed.latencies(&relays);
+        let at = |part: f64| took[(took.len() as f64 * part) as usize];
+        let metric = |it: &str| relays.iter().map(|relay| relay.metric(it)).collect::<Vec<_>>();
+        let bound = relays[0].memory_bound();
+        println!(
+            "p50 {:?}, p99 {:?}, p99.9 {:?}; memory {} MiB of {}; the hostile peer had {:?} messages taken and was thrown out {:?} times",
+            at(0.5),
+            at(0.99),
+            at(0.999),
+            memory >> 20,
+            bound >> 20,
+            metric("relay_delivered_total{author=\"hostile\"}"),
+            metric("relay_invalid_total{peer=\"hostile\"}"),
+        );
+        beside.judge("p99", at(0.99), P99, &attackers.processes(&relays));
+        drop((strangers, attackers));
+        assert!(memory < bound);
+        end(&mut relays, &typed);
+    });
+}

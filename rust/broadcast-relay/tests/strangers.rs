@@ -1,0 +1,137 @@
+//! Strangers take no peer's place: from other addresses, from the peer's own, and with few descriptors.
+
+mod support;
+
+use std::process::Stdio;
+use std::thread::sleep;
+use std::time::{Duration, Instant};
+use support::hostile::Hostile;
+use support::lab::Lab;
+use support::load::Beside;
+use support::strangers::{Habit, Strangers};
+use support::{Relay, folder, keygen, wait_for};
+
+/// How soon a dial of an honest peer must succeed.
+const SOON: Duration = Duration::from_secs(1);
+/// How long strangers are there before the peer dials: longer than one handshake may take, so a place that is free then is not
+/// one that was never taken.
+const SETTLED: Duration = Duration::from_millis(3_500);
+const FEW_PLACES: &str = "[limits]\nhandshakes = 64\nhandshakes_per_address = 8";
+
+/// Two relays, of which the second alone dials.
+fn pair(lab: &Lab, name: &str, limits: &str) -> Vec<Relay> {
+    Relay::wired(lab, &folder(name), 2, &[], limits, |from, _| from == 1)
+}
+
+/// Starts the second relay, and returns how long it takes until its first message is printed by the first.
+fn first_message(relays: &mut [Relay]) -> Duration {
+    let start = Instant::now();
+    relays[1].start();
+    relays[1].write("honest");
+    let patience = Duration::from_secs(20);
+    wait_for("the message", patience, || relays[0].has_printed("r1", "honest"));
+    start.elapsed()
+}
+
+fn told(relay: &Relay) {
+    let of = |it: &str| relay.metric(&format!("relay_{it}"));
+    println!(
+        "pushed out {}, turned away {}, strangers {}",
+        of("pushed_out_total"),
+        of("turned_away_total"),
+        of("strangers_total")
+    );
+}
+
+#[test]
+fn a_peer_gets_in_past_strangers_of_many_addresses() {
+    Lab::run("a_peer_gets_in_past_strangers_of_many_addresses", 2, |lab| {
+        let mut relays = pair(lab, "many-addresses", FEW_PLACES);
+        relays[0].start();
+        let to = relays[0].address;
+        // 64 that trickle and 200 that are silent, of 32 addresses: more than there are places.
+        let habit = |it| if it < 64 { Habit::Trickles } else { Habit::IsSilent };
+        let strangers = (0..264).map(|it| (habit(it), lab.stranger(it), to)).collect();
+        let strangers = Strangers::start(strangers);
+        sleep(SETTLED);
+        let took = first_message(&mut relays);
+        println!("past 264 strangers of 32 addresses in {took:?}");
+        told(&relays[0]);
+        assert!(relays[0].metric("relay_pushed_out_total") > 0.0, "the places were never full");
+        assert!(took < SOON, "{took:?}");
+        drop(strangers);
+    });
+}
+
+#[test]
+fn a_peer_gets_in_past_strangers_of_its_own_address() {
+    let mut relays = pair(&Lab::loopback(), "own-address", FEW_PLACES);
+    relays[0].start();
+    let to = relays[0].address;
+    let strangers = (0..64).map(|_| (Habit::Trickles, to.ip(), to)).collect();
+    let strangers = Strangers::start(strangers);
+    sleep(SETTLED);
+    let took = first_message(&mut relays);
+    println!("past 64 strangers of the same address in {took:?}");
+    told(&relays[0]);
+    assert!(relays[0].metric("relay_pushed_out_total") > 0.0, "the places were never full");
+    assert!(took < SOON, "{took:?}");
+    drop(strangers);
+}
+
+#[test]
+fn a_connected_peer_comes_back_past_strangers() {
+    let lab = Lab::loopback();
+    let mut relays = pair(&lab, "comes-back", FEW_PLACES);
+    relays[0].start();
+    assert!(first_message(&mut relays) < SOON);
+    let to = relays[0].address;
+    let strangers = (0..64).map(|it| (Habit::IsSilent, lab.stranger(it), to)).collect();
+    let strangers = Strangers::start(strangers);
+    sleep(Duration::from_secs(1));
+    relays[1].kill();
+    relays[1].start();
+    relays[1].write("again");
+    let took = wait_for("it is back", SOON, || relays[0].has_printed("r1", "again"));
+    println!("back in {took:?}");
+    drop(strangers);
+}
+
+#[test]
+fn refused_descriptors_and_threads_do_not_make_a_relay_deaf() {
+    let lab = Lab::loopback();
+    let mut relays = pair(&lab, "refused", "");
+    // No more than 128 descriptors, where it wants a thousand; and from its start on no thread more.
+    relays[0].prefix = ["prlimit", "--nofile=128:128"].map(str::to_owned).to_vec();
+    relays[0].start();
+    assert!(relays[0].log().contains("few descriptors"));
+    let threads = std::process::Command::new("prlimit")
+        .args(["--pid", &relays[0].id().to_string(), "--nproc=1:1"])
+        .stderr(Stdio::inherit())
+        .status();
+    assert!(threads.unwrap().success());
+    let to = relays[0].address;
+    let strangers = (0..200).map(|it| (Habit::IsSilent, lab.stranger(it), to)).collect();
+    let strangers = Strangers::start(strangers);
+    let beside = Beside::start(&[relays[0].id()]);
+    sleep(SETTLED);
+    let took = first_message(&mut relays);
+    println!("past 200 strangers with 128 descriptors in {took:?}");
+    let processes: Vec<u32> = relays.iter().map(Relay::id).collect();
+    beside.judge("the first message", took, SOON, &processes);
+    drop(strangers);
+    assert!(relays[0].is_running() && relays[0].terminate());
+}
+
+#[test]
+fn a_key_that_is_not_listed_is_refused() {
+    let folder = folder("unlisted");
+    let (listed, stranger) = (keygen(&folder, "listed"), keygen(&folder, "stranger"));
+    let mut relays = Relay::network(&Lab::loopback(), &folder, 1, &[("listed", &listed)]);
+    relays[0].start();
+    let is_closed = |key| Hostile::new(key).send(relays[0].address, &[], Duration::from_secs(1));
+    assert!(!is_closed(&listed));
+    assert!(is_closed(&stranger));
+    assert!(relays[0].metric("relay_strangers_total") >= 1.0);
+    assert!(!relays[0].http("/metrics").contains(&stranger.text));
+}

@@ -1,0 +1,103 @@
+//! A listed peer that speaks TLS, and what else it likes.
+
+use super::Key;
+use openssl::asn1::Asn1Time;
+use openssl::hash::MessageDigest;
+use openssl::pkey::{PKey, Private};
+use openssl::sha::sha256;
+use openssl::sign::Signer;
+use openssl::ssl::{Ssl, SslContext, SslMethod, SslStream, SslVerifyMode};
+use openssl::x509::{X509, X509NameBuilder};
+use std::fs;
+use std::io::{ErrorKind, Read, Write};
+use std::net::{SocketAddr, TcpStream};
+use std::time::{Duration, Instant, SystemTime, UNIX_EPOCH};
+
+pub struct Hostile {
+    context: SslContext,
+    key: PKey<Private>,
+    pub id: [u8; 32],
+}
+
+/// Nanoseconds since 1970.
+pub fn now() -> u64 {
+    SystemTime::now().duration_since(UNIX_EPOCH).unwrap().as_nanos() as u64
+}
+
+pub fn frame(kind: u8, body: &[u8]) -> Vec<u8> {
+    [&(body.len() as u32 + 1).to_be_bytes()[..], &[kind], body].concat()
+}
+
+/// The frame that tells of a message.
+pub fn have(author: &[u8], stamp: u64, digest: &[u8], len: u32) -> Vec<u8> {
+    [author, &stamp.to_be_bytes(), digest, &len.to_be_bytes()].concat()
+}
+
+impl Hostile {
+    pub fn new(key: &Key) -> Hostile {
+        let key = PKey::private_key_from_pem(&fs::read(&key.file).unwrap()).unwrap();
+        let mut name = X509NameBuilder::new().unwrap();
+        name.append_entry_by_text("CN", "hostile").unwrap();
+        let name = name.build();
+        let mut builder = X509::builder().unwrap();
+        builder.set_version(2).unwrap();
+        builder.set_subject_name(&name).unwrap();
+        builder.set_issuer_name(&name).unwrap();
+        builder.set_not_before(&Asn1Time::days_from_now(0).unwrap()).unwrap();
+        builder.set_not_after(&Asn1Time::days_from_now(9).unwrap()).unwrap();
+        builder.set_pubkey(&key).unwrap();
+        builder.sign(&key, MessageDigest::null()).unwrap();
+        let mut context = SslContext::builder(SslMethod::tls()).unwrap();
+        context.set_verify(SslVerifyMode::NONE);
+        context.set_certificate(&builder.build()).unwrap();
+        context.set_private_key(&key).unwrap();
+        let id = sha256(&key.raw_public_key().unwrap());
+        Hostile { context: context.build(), key, id }
+    }
+
+    pub fn connect(&self, to: SocketAddr) -> Option<SslStream<TcpStream>> {
+        let stream = TcpStream::connect_timeout(&to, Duration::from_secs(2)).ok()?;
+        stream.set_write_timeout(Some(Duration::from_secs(1))).ok()?;
+        stream.set_read_timeout(Some(Duration::from_secs(1))).ok()?;
+        Ssl::new(&self.context).ok()?.connect(stream).ok()
+    }
+
+    /// The digest of a message of its own.
+    pub fn digest(&self, stamp: u64, text: &[u8]) -> [u8; 32] {
+        let public = self.key.raw_public_key().unwrap();
+        let at = stamp.to_be_bytes();
+        sha256(&[b"broadcast-relay message 2", &public[..], &at, text].concat())
+    }
+
+    /// The bytes of a message of its own, rightly signed.
+    pub fn message(&self, stamp: u64, text: &[u8]) -> Vec<u8> {
+        let public = self.key.raw_public_key().unwrap();
+        let mut signer = Signer::new_without_digest(&self.key).unwrap();
+        let signature = signer.sign_oneshot_to_vec(&self.digest(stamp, text)).unwrap();
+        [&signature, &public[..], &stamp.to_be_bytes(), &[0, 0], text].concat()
+    }
+
+    /// Sends bytes over a connection of its own, and reads until the relay closes it, or for a while. Returns whether the
+    /// relay has closed it.
+    pub fn send(&self, to: SocketAddr, bytes: &[u8], patience: Duration) -> bool {
+        let Some(mut stream) = self.connect(to) else { return true };
+        if stream.write_all(bytes).is_err() {
+            return true;
+        }
+        is_closed(&mut stream, patience)
+    }
+}
+
+/// Reads until the relay closes the connection, or for a while. Returns whether the relay has closed it.
+pub fn is_closed(stream: &mut SslStream<TcpStream>, patience: Duration) -> bool {
+    let end = Instant::now() + patience;
+    while Instant::now() < end {
+        match stream.read(&mut [0; 4_096]) {
+            Ok(0) => return true,
+            Ok(_) => {}
+            Err(why) if why.kind() == ErrorKind::WouldBlock => {}
+            Err(_) => return true,
+        }
+    }
+    false
+}

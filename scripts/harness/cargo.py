@@ -1,0 +1,51 @@
+"""Runs cargo without a network: its crates are those of Debian's packages, as a directory source."""
+
+import os
+import shutil
+from pathlib import Path
+
+from harness.common import TOP, call
+
+DEBIAN = Path("/usr/share/cargo/registry")
+CONFIG = ("--config", Path(__file__).with_name("debian.toml")) if DEBIAN.exists() else ()
+# The packages that the crates of `rust` are built with.
+CRATES = (
+    "bytes clap hyper openssl prometheus rand serde serde-json sha2 tokio tokio-openssl toml tracing tracing-subscriber"
+)
+PACKAGES = [*(f"librust-{it}-dev" for it in CRATES.split()), "libssl-dev", "pkg-config"]
+# Begins a command with a greater claim to the processors than others have, if that is allowed.
+FIRST = ["setsid", "-w", "sh", "-c", 'echo -15 2> /dev/null > /proc/self/autogroup; exec nice -n -10 "$@"', "sh"]
+
+
+def cargo(command, words, env, limit, cwd=TOP / "rust", before=()):
+    """Calls cargo, which asks no network. Returns whether it succeeded, and what it printed."""
+    offline = () if command == "fmt" else ("--offline", *CONFIG)
+    return call([*before, "cargo", command, *offline, *words], limit, cwd=cwd, env=env)
+
+
+def without_toolchain(**more):
+    """The environment of who has no toolchain: no folder of programs has `rt`."""
+    folders = os.environ["PATH"].split(os.pathsep)
+    path = os.pathsep.join(it for it in folders if not (Path(it) / "rt").exists())
+    others = {name: value for name, value in os.environ.items() if name != "BROADCAST_C_LIB"}
+    return {**others, "PATH": path, **more}
+
+
+def packages_lacking():
+    """The packages that are not installed, as dpkg tells; without dpkg, none."""
+    if not shutil.which("dpkg-query"):
+        return []
+    _, said = call(["dpkg-query", "-W", "-f", "${Package} ${db:Status-Status}\n", *PACKAGES])
+    return [it for it in PACKAGES if f"{it} installed" not in said.splitlines()]
+
+
+def lacking():
+    """What cargo lacks, in words, or `None`. Packages that are not there are installed, if that is allowed."""
+    if not shutil.which("cargo"):
+        return "cargo is not found"
+    wanted = packages_lacking()
+    if wanted and os.geteuid() == 0 and shutil.which("apt-get"):
+        for asked in (["update"], ["install", "-y", *wanted]):
+            call(["apt-get", "-q", *asked])
+        wanted = packages_lacking()
+    return f"not installed: {' '.join(wanted)}" if wanted else None

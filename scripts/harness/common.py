@@ -1,0 +1,46 @@
+"""What the commands share: the top of the repository, what passed and failed, and calls of other commands."""
+
+import subprocess
+from pathlib import Path
+
+TOP = Path(__file__).resolve().parents[2]
+
+
+class Tally:
+    """How much of what a command looks at passed and failed."""
+
+    def __init__(self, command):
+        self.command, self.passed, self.failed = command, 0, 0
+
+    def add(self, passed, failed):
+        self.passed += passed
+        self.failed += failed
+
+    def look(self, fault):
+        """Counts one check, and prints what is wrong with it, if anything is."""
+        if fault:
+            print(fault, flush=True)
+        self.add(not fault, bool(fault))
+
+    def end(self):
+        """Prints the last line of the command. Returns its exit status."""
+        print(f"{self.command}: {self.passed} passed, {self.failed} failed")
+        return 1 if self.failed else 0
+
+
+def call(words, limit=None, **how):
+    """Calls a command. Returns whether it ended well, and all that it printed."""
+    how = {"stdin": subprocess.DEVNULL, "stdout": subprocess.PIPE, "stderr": subprocess.STDOUT, **how}
+    try:
+        ran = subprocess.run(words, timeout=limit, **how)
+    except OSError as fault:
+        return False, str(fault)
+    except subprocess.TimeoutExpired as late:
+        return False, f"{(late.output or b'').decode(errors='replace')}\nit took more than {limit} s"
+    return ran.returncode == 0, ran.stdout.decode(errors="replace")
+
+
+def tracked():
+    """The files of the repository, by their names: those that git has or would take."""
+    listed = subprocess.check_output(["git", "ls-files", "-co", "--exclude-standard"], cwd=TOP, text=True)
+    return sorted(it for it in listed.splitlines() if (TOP / it).is_file())

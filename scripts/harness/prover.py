@@ -1,0 +1,113 @@
+"""Wrong bodies that the prover must refuse: those of a crate in one check, over the libraries that are built below it.
+
+Where several change one function, the later ones wait for another check. A mutant is refused if its function is not
+proved for a goal of its own: not only since it calls one that is not proved, and not only since its proof cites a name
+that is gone.
+"""
+
+import re
+import shutil
+import tempfile
+from pathlib import Path
+
+from harness.common import TOP, call
+from harness.libraries import kit, words
+
+PARTS = ("src", "specs", "proofs")
+FN = re.compile(r"( *)(?:pub(?:\(\w+\))? )?(?:(?:unsafe|const|final|extern \"C\") )*fn (\w+)")
+IMPL = re.compile(r"impl\b")
+# What the prover says of a proof whose names are gone, which shows nothing of a contract.
+LOST = re.compile(r"has no field|is not in scope|has no `|was not admitted")
+# What stands for no function's body.
+OUTSIDE = re.compile(r"\s*(///|//!|use |ghost use |#\[|(pub )?fn )")
+
+
+def type_of(text):
+    """How the prover names a type or trait: with its arguments, if they are more than parameters."""
+    name, arguments = re.match(r"(?:\w+::)*(\w+)(.*)", text.strip()).groups()
+    return "+".join([name, *re.findall(r"\w+", arguments)]) if re.search("[<:]", arguments[1:]) else name
+
+
+def owner_of(header):
+    """How the prover names what an `impl` is for."""
+    depth, at = 0, len("impl")
+    while at < len(header) and (depth or header[at] in "<"):
+        depth += {"<": 1, ">": -1}.get(header[at], 0)
+        at += 1
+    before, has_trait, after = header[at:].partition(" for ")
+    return type_of(after) + type_of(before) if has_trait else type_of(before)
+
+
+def function_at(file, text, old):
+    """The name of the function in which this text stands, below its crate, as the prover has it."""
+    lines, place = text.split("\n"), text.count("\n", 0, text.index(old))
+    at = max(i for i in range(place + 1) if FN.match(lines[i]))
+    indent, name = FN.match(lines[at]).groups()
+    path = [it for it in Path(file).with_suffix("").parts[3:] if it not in ("lib", "main")]
+    if indent:
+        start = max(i for i in range(at) if IMPL.match(lines[i]))
+        path.append(owner_of(" ".join(lines[start:at]).partition(" {")[0].partition(" where ")[0]))
+    return "::".join([*path, name])
+
+
+def functions_of(mutant):
+    """The names of the functions whose bodies the mutant changes."""
+    texts = {file: (TOP / file).read_text() for file, _, _ in mutant.changes}
+    return {function_at(file, texts[file], old) for file, old, _ in mutant.changes if not OUTSIDE.match(old)}
+
+
+def checks_of(mutants):
+    """The mutants in as few checks as may be, each a list of mutants with the functions that they change."""
+    checks = []
+    for it in mutants:
+        changed = functions_of(it)
+        of_others = ([name for _, names in check for name in names] for check in checks)
+        free = next((check for check, names in zip(checks, of_others) if changed.isdisjoint(names)), None)
+        if free is None:
+            checks.append(free := [])
+        free.append((it, changed))
+    return checks
+
+
+def check(crate, changed):
+    """Checks a copy of a crate with these mutants, of which it checks the functions. Returns what the prover says."""
+    command = [kit() / "bin" / "rattle", "check", *words(crate), "--jobs", "1"]
+    command += ["--logic-built", kit() / "logic_built"]
+    command += [word for _, names in changed for name in names for word in ("--only", name)]
+    with tempfile.TemporaryDirectory(prefix="mutants-") as room:
+        for part in PARTS:
+            if (TOP / "crates" / crate / part).is_dir():
+                shutil.copytree(TOP / "crates" / crate / part, Path(room, part))
+        for mutant, _ in changed:
+            for file, old, new in mutant.changes:
+                path = Path(room, *Path(file).parts[2:])
+                path.write_text(path.read_text().replace(old, new, 1))
+        return call(command, cwd=room)[1]
+
+
+def refusal(crate, name, said):
+    """Whether the prover refuses the function by a goal of its own, and what it shows."""
+    line = re.search(rf"^fn {re.escape(crate)}::{re.escape(name)}: (.*)$", said, re.M)
+    if not line:
+        return False, f"{name} was not checked"
+    if line[1].startswith("proved"):
+        return False, f"{name} is proved"
+    if "did not prove" in line[1].partition("; it calls")[0]:
+        return True, name
+    proof = re.escape(f"./proofs/{name.replace('::', '/')}/")
+    errors = re.findall(rf"^{proof}[^\n]*: error.*$", said, re.M)
+    if not errors:
+        return False, f"{name} only calls what is not proved"
+    if all(LOST.search(it) for it in errors):
+        return False, f"{name} is refused only since its proof cites a name that is gone"
+    return True, name
+
+
+def tried(crate, mutants):
+    """Tries the mutants of a crate. Yields for each whether it is refused, what that shows, and what the prover said."""
+    for changed in checks_of(mutants):
+        said = check(crate, changed)
+        for mutant, names in changed:
+            refusals = [refusal(crate, name, said) for name in names]
+            telling = [shown for is_refused, shown in refusals if is_refused]
+            yield mutant, bool(telling), "; ".join(telling or (shown for _, shown in refusals)), said
