@@ -18,6 +18,8 @@ use tokio::sync::{Mutex as AsyncMutex, Notify};
 /// How long a peer that broke the rules is refused at first, and at most.
 const BAN: Duration = Duration::from_secs(1);
 const MAX_BAN: Duration = Duration::from_secs(60);
+/// After a ban ended so long ago, the next is again like the first.
+const FORGIVEN: Duration = Duration::from_secs(600);
 /// A connection of which nothing was heard for so long may always be replaced.
 const QUIET: Duration = Duration::from_secs(3);
 
@@ -150,10 +152,17 @@ impl Peer {
 
     /// Refuses the peer for a while, the longer the more often. Returns for how long.
     pub fn ban(&self) -> Duration {
+        self.ban_at(Instant::now())
+    }
+
+    fn ban_at(&self, now: Instant) -> Duration {
         let mut state = lock(&self.state);
+        if state.banned.is_some_and(|it| now.saturating_duration_since(it) > FORGIVEN) {
+            state.strikes = 0;
+        }
         let ban = MAX_BAN.min(BAN * 2_u32.pow(state.strikes.min(6)));
         state.strikes = state.strikes.saturating_add(1);
-        state.banned = Some(Instant::now() + ban);
+        state.banned = Some(now + ban);
         ban
     }
 }
@@ -250,5 +259,14 @@ mod tests {
         assert_eq!((peer.ban(), peer.ban()), (BAN, 2 * BAN));
         assert_eq!(peer.attach(&[1; 32], true).err(), Some(Refused::Banned));
         (0..100).for_each(|_| assert!(peer.ban() <= MAX_BAN));
+    }
+
+    #[test]
+    fn a_ban_of_long_ago_is_forgiven() {
+        let (peer, now) = (peer(), Instant::now());
+        assert_eq!((peer.ban_at(now), peer.ban_at(now)), (BAN, 2 * BAN));
+        // The second ended after two seconds.
+        assert_eq!(peer.ban_at(now + 2 * BAN + FORGIVEN), 4 * BAN);
+        assert_eq!(peer.ban_at(now + 7 * BAN + 2 * FORGIVEN), BAN);
     }
 }

@@ -26,6 +26,8 @@ const SILENT: usize = 200;
 const HOSTILE: usize = 60;
 const P99: Duration = Duration::from_millis(100);
 const SOON: Duration = Duration::from_secs(1);
+/// How long a test waits for what must come, whatever else the machine does.
+const PATIENCE: Duration = Duration::from_secs(30);
 const LIMITS: &str =
     "[limits]\nbytes_per_peer = 4194304\nhandshakes = 128\nhandshakes_per_address = 16";
 
@@ -187,7 +189,7 @@ impl Typed {
 fn come_back(killed: &mut Relay) -> Duration {
     let start = Instant::now();
     killed.start();
-    wait_for("the killed relay is back", Duration::from_secs(20), || {
+    wait_for("the killed relay is back", PATIENCE, || {
         (0..RELAYS).all(|it| it == KILLED || killed.is_connected(&format!("r{it}")))
     });
     start.elapsed()
@@ -226,7 +228,7 @@ fn arrive(relays: &[Relay], typed: &Typed) {
             println!("{all} messages were everywhere {:?} after the last", start.elapsed());
             return;
         }
-        if start.elapsed() > Duration::from_secs(30) {
+        if start.elapsed() > PATIENCE {
             for relay in relays {
                 println!("--- {}\n{}\n{}", relay.name, relay.log(), relay.http("/metrics"));
             }
@@ -262,7 +264,7 @@ fn each_honest_message_arrives_everywhere_once_and_soon() {
         let others = [("hostile", &key)];
         let mut relays = Relay::wired(lab, &folder, RELAYS, &others, LIMITS, |_, _| true);
         relays.iter_mut().for_each(Relay::start);
-        wait_for("all are connected", Duration::from_secs(5), || {
+        wait_for("all are connected", PATIENCE, || {
             relays.iter().all(|it| {
                 (0..RELAYS).all(|other| {
                     it.name == format!("r{other}") || it.is_connected(&format!("r{other}"))

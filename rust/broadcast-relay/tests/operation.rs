@@ -10,7 +10,8 @@ use support::hostile::Hostile;
 use support::lab::Lab;
 use support::{RELAY, Relay, folder, keygen, wait_for};
 
-const SOON: Duration = Duration::from_secs(5);
+/// How long a test waits for what must come, whatever else the machine does.
+const PATIENCE: Duration = Duration::from_secs(30);
 
 fn pair(name: &str) -> Vec<Relay> {
     Relay::network(&Lab::loopback(), &folder(name), 2, &[])
@@ -21,10 +22,10 @@ fn of_many_lines_at_once_none_is_lost() {
     for (name, count, filler) in [("many-short", 20_000, 0), ("many-long", 3_000, 10_000)] {
         let mut relays = pair(name);
         relays.iter_mut().for_each(Relay::start);
-        wait_for("connected", SOON, || relays[0].is_connected("r1"));
+        wait_for("connected", PATIENCE, || relays[0].is_connected("r1"));
         let start = Instant::now();
         (0..count).for_each(|it| relays[0].write(&format!("{it} {}", "x".repeat(filler))));
-        wait_for("all lines", Duration::from_secs(20), || relays[1].printed().len() >= count);
+        wait_for("all lines", PATIENCE, || relays[1].printed().len() >= count);
         println!("{name}: {count} lines in {:?}", start.elapsed());
         let printed = relays[1].printed();
         let number = |text: &str| text.split(' ').next().and_then(|it| it.parse::<usize>().ok());
@@ -37,19 +38,19 @@ fn of_many_lines_at_once_none_is_lost() {
 fn what_was_read_is_sent_before_the_end() {
     let mut relays = pair("drains");
     relays.iter_mut().for_each(Relay::start);
-    wait_for("connected", SOON, || relays[0].is_connected("r1"));
+    wait_for("connected", PATIENCE, || relays[0].is_connected("r1"));
     // More than an author may send at once, so at the end lines wait that were read.
     (0..300).for_each(|it| relays[0].write(&format!("{it} {}", "x".repeat(10_000))));
     assert!(relays[0].terminate());
     let published = relays[0].journal().len();
     // All but what was in the pipe.
     assert!(published >= 285, "{published} lines of 300");
-    wait_for("all that was published", SOON, || relays[1].printed().len() == published);
+    wait_for("all that was published", PATIENCE, || relays[1].printed().len() == published);
     let log = relays[0].log();
     for word in ["listening", "connected", "SIGTERM", "relay_published_total", "ended"] {
         assert!(log.contains(word), "no {word} in\n{log}");
     }
-    wait_for("the other sees it", SOON, || relays[1].log().contains("away"));
+    wait_for("the other sees it", PATIENCE, || relays[1].log().contains("away"));
 }
 
 #[test]
@@ -57,7 +58,7 @@ fn no_input_and_no_output_end_nothing() {
     let mut relays = pair("no-ends");
     relays[0].start_with(Stdio::null(), Stdio::null());
     relays[1].start();
-    wait_for("connected", SOON, || relays[0].is_connected("r1"));
+    wait_for("connected", PATIENCE, || relays[0].is_connected("r1"));
     relays[1].close_input();
     sleep(Duration::from_millis(300));
     assert!(relays.iter_mut().all(|it| it.is_running()));
@@ -75,10 +76,11 @@ fn an_output_that_nobody_reads_stops_nothing() {
     relays[1].start_with(Stdio::null(), Stdio::piped());
     relays[0].start();
     relays[2].start();
-    wait_for("connected", SOON, || relays[1].is_connected("r0") && relays[1].is_connected("r2"));
+    wait_for("connected", PATIENCE, || {
+        relays[1].is_connected("r0") && relays[1].is_connected("r2")
+    });
     (0..2_000).for_each(|it| relays[0].write(&format!("{it} {}", "x".repeat(1_000))));
-    let patience = Duration::from_secs(30);
-    wait_for("all lines", patience, || relays[2].printed().len() == 2_000);
+    wait_for("all lines", PATIENCE, || relays[2].printed().len() == 2_000);
 }
 
 #[test]
@@ -87,33 +89,33 @@ fn a_hangup_changes_the_peers() {
     let key = keygen(&folder, "third");
     let mut relays = Relay::network(&Lab::loopback(), &folder, 2, &[]);
     relays.iter_mut().for_each(Relay::start);
-    wait_for("connected", SOON, || relays[0].is_connected("r1"));
+    wait_for("connected", PATIENCE, || relays[0].is_connected("r1"));
     let before = fs::read_to_string(relays[0].config()).unwrap();
     let third = Hostile::new(&key);
-    assert!(third.send(relays[0].address, &[], Duration::from_secs(1)));
+    assert!(third.send(relays[0].address, &[], PATIENCE));
 
     // A peer is added, and one is removed.
     let without = before.split("[[peer]]").next().unwrap().to_owned();
     let added = format!("{without}[[peer]]\nname = \"third\"\nkey = \"{}\"\n", key.text);
     fs::write(relays[0].config(), added).unwrap();
     relays[0].signal("-HUP");
-    wait_for("reloaded", SOON, || relays[0].log().contains("reloaded"));
+    wait_for("reloaded", PATIENCE, || relays[0].log().contains("reloaded"));
     assert!(!third.send(relays[0].address, &[], Duration::from_secs(1)));
-    wait_for("removed", SOON, || !relays[0].is_connected("r1"));
+    wait_for("removed", PATIENCE, || !relays[0].is_connected("r1"));
     sleep(Duration::from_millis(500));
     assert!(!relays[0].is_connected("r1") && !relays[1].is_connected("r0"));
 
     // A wrong configuration changes nothing.
     fs::write(relays[0].config(), "nonsense").unwrap();
     relays[0].signal("-HUP");
-    wait_for("not reloaded", SOON, || relays[0].log().contains("not reloaded"));
+    wait_for("not reloaded", PATIENCE, || relays[0].log().contains("not reloaded"));
     assert!(!third.send(relays[0].address, &[], Duration::from_secs(1)));
 
     // The peer comes back, and gets what was said meanwhile.
     relays[0].write("meanwhile");
     fs::write(relays[0].config(), before).unwrap();
     relays[0].signal("-HUP");
-    wait_for("back", SOON, || relays[1].has_printed("r0", "meanwhile"));
+    wait_for("back", PATIENCE, || relays[1].has_printed("r0", "meanwhile"));
     assert!(relays.iter_mut().all(Relay::terminate));
 }
 

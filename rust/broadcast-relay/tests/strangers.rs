@@ -11,8 +11,10 @@ use support::load::Beside;
 use support::strangers::{Habit, Strangers};
 use support::{Relay, folder, keygen, wait_for};
 
-/// How soon a dial of an honest peer must succeed.
+/// How soon a dial of an honest peer must succeed, on a machine that has no other work.
 const SOON: Duration = Duration::from_secs(1);
+/// How long a test waits for it, whatever else the machine does.
+const PATIENCE: Duration = Duration::from_secs(30);
 /// How long strangers are there before the peer dials: longer than one handshake may take, so a place that is free then is not
 /// one that was never taken.
 const SETTLED: Duration = Duration::from_millis(3_500);
@@ -28,9 +30,13 @@ fn first_message(relays: &mut [Relay]) -> Duration {
     let start = Instant::now();
     relays[1].start();
     relays[1].write("honest");
-    let patience = Duration::from_secs(20);
-    wait_for("the message", patience, || relays[0].has_printed("r1", "honest"));
+    wait_for("the message", PATIENCE, || relays[0].has_printed("r1", "honest"));
     start.elapsed()
+}
+
+fn judge(beside: &Beside, took: Duration, relays: &[Relay]) {
+    let processes: Vec<u32> = relays.iter().map(Relay::id).collect();
+    beside.judge("the message", took, SOON, &processes);
 }
 
 fn told(relay: &Relay) {
@@ -53,12 +59,13 @@ fn a_peer_gets_in_past_strangers_of_many_addresses() {
         let habit = |it| if it < 64 { Habit::Trickles } else { Habit::IsSilent };
         let strangers = (0..264).map(|it| (habit(it), lab.stranger(it), to)).collect();
         let strangers = Strangers::start(strangers);
+        let beside = Beside::start(&[relays[0].id()]);
         sleep(SETTLED);
         let took = first_message(&mut relays);
         println!("past 264 strangers of 32 addresses in {took:?}");
         told(&relays[0]);
         assert!(relays[0].metric("relay_pushed_out_total") > 0.0, "the places were never full");
-        assert!(took < SOON, "{took:?}");
+        judge(&beside, took, &relays);
         drop(strangers);
     });
 }
@@ -70,12 +77,13 @@ fn a_peer_gets_in_past_strangers_of_its_own_address() {
     let to = relays[0].address;
     let strangers = (0..64).map(|_| (Habit::Trickles, to.ip(), to)).collect();
     let strangers = Strangers::start(strangers);
+    let beside = Beside::start(&[relays[0].id()]);
     sleep(SETTLED);
     let took = first_message(&mut relays);
     println!("past 64 strangers of the same address in {took:?}");
     told(&relays[0]);
     assert!(relays[0].metric("relay_pushed_out_total") > 0.0, "the places were never full");
-    assert!(took < SOON, "{took:?}");
+    judge(&beside, took, &relays);
     drop(strangers);
 }
 
@@ -84,16 +92,18 @@ fn a_connected_peer_comes_back_past_strangers() {
     let lab = Lab::loopback();
     let mut relays = pair(&lab, "comes-back", FEW_PLACES);
     relays[0].start();
-    assert!(first_message(&mut relays) < SOON);
+    first_message(&mut relays);
     let to = relays[0].address;
     let strangers = (0..64).map(|it| (Habit::IsSilent, lab.stranger(it), to)).collect();
     let strangers = Strangers::start(strangers);
     sleep(Duration::from_secs(1));
     relays[1].kill();
+    let beside = Beside::start(&[relays[0].id()]);
     relays[1].start();
     relays[1].write("again");
-    let took = wait_for("it is back", SOON, || relays[0].has_printed("r1", "again"));
+    let took = wait_for("it is back", PATIENCE, || relays[0].has_printed("r1", "again"));
     println!("back in {took:?}");
+    judge(&beside, took, &relays);
     drop(strangers);
 }
 
@@ -117,8 +127,7 @@ fn refused_descriptors_and_threads_do_not_make_a_relay_deaf() {
     sleep(SETTLED);
     let took = first_message(&mut relays);
     println!("past 200 strangers with 128 descriptors in {took:?}");
-    let processes: Vec<u32> = relays.iter().map(Relay::id).collect();
-    beside.judge("the first message", took, SOON, &processes);
+    judge(&beside, took, &relays);
     drop(strangers);
     assert!(relays[0].is_running() && relays[0].terminate());
 }
@@ -129,9 +138,10 @@ fn a_key_that_is_not_listed_is_refused() {
     let (listed, stranger) = (keygen(&folder, "listed"), keygen(&folder, "stranger"));
     let mut relays = Relay::network(&Lab::loopback(), &folder, 1, &[("listed", &listed)]);
     relays[0].start();
-    let is_closed = |key| Hostile::new(key).send(relays[0].address, &[], Duration::from_secs(1));
-    assert!(!is_closed(&listed));
-    assert!(is_closed(&stranger));
-    assert!(relays[0].metric("relay_strangers_total") >= 1.0);
+    let is_closed = |key, patience| Hostile::new(key).send(relays[0].address, &[], patience);
+    assert!(!is_closed(&listed, Duration::from_secs(1)));
+    assert!(is_closed(&stranger, PATIENCE));
+    let counter = "relay_strangers_total";
+    wait_for(counter, PATIENCE, || relays[0].metric(counter) >= 1.0);
     assert!(!relays[0].http("/metrics").contains(&stranger.text));
 }

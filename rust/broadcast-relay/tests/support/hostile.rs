@@ -13,6 +13,10 @@ use std::io::{ErrorKind, Read, Write};
 use std::net::{SocketAddr, TcpStream};
 use std::time::{Duration, Instant, SystemTime, UNIX_EPOCH};
 
+/// How long it waits for a handshake, and for a turn of it to read or write.
+const HANDSHAKE: Duration = Duration::from_secs(5);
+const TURN: Duration = Duration::from_secs(1);
+
 pub struct Hostile {
     context: SslContext,
     key: PKey<Private>,
@@ -56,10 +60,13 @@ impl Hostile {
     }
 
     pub fn connect(&self, to: SocketAddr) -> Option<SslStream<TcpStream>> {
-        let stream = TcpStream::connect_timeout(&to, Duration::from_secs(2)).ok()?;
-        stream.set_write_timeout(Some(Duration::from_secs(1))).ok()?;
-        stream.set_read_timeout(Some(Duration::from_secs(1))).ok()?;
-        Ssl::new(&self.context).ok()?.connect(stream).ok()
+        let stream = TcpStream::connect_timeout(&to, HANDSHAKE).ok()?;
+        stream.set_write_timeout(Some(HANDSHAKE)).ok()?;
+        stream.set_read_timeout(Some(HANDSHAKE)).ok()?;
+        let stream = Ssl::new(&self.context).ok()?.connect(stream).ok()?;
+        stream.get_ref().set_write_timeout(Some(TURN)).ok()?;
+        stream.get_ref().set_read_timeout(Some(TURN)).ok()?;
+        Some(stream)
     }
 
     /// The digest of a message of its own.
