@@ -152,8 +152,8 @@ fn a_wrong_configuration_is_told() {
         let (status, _, said) = run(&["run", "--check-config", "wrong.toml"]);
         assert!(status == Some(1) && said.contains(why), "{said}");
     }
-    let taken = std::net::TcpListener::bind("127.0.0.1:0").unwrap().local_addr().unwrap();
-    let _listener = std::net::TcpListener::bind(taken).unwrap();
+    let listener = std::net::TcpListener::bind("127.0.0.1:0").unwrap();
+    let taken = listener.local_addr().unwrap();
     fs::write(folder.join("taken.toml"), format!("key = \"a/key.pem\"\nlisten = \"{taken}\""))
         .unwrap();
     let (status, _, said) = run(&["run", "taken.toml"]);

@@ -13,7 +13,8 @@ use std::fs::{self, File};
 use std::io::{BufRead, BufReader, Read, Write};
 use std::net::{IpAddr, SocketAddr, TcpListener, TcpStream};
 use std::path::{Path, PathBuf};
-use std::process::{Child, ChildStdin, Command, Stdio};
+use std::process::{self, Child, ChildStdin, Command, Stdio};
+use std::sync::atomic::{AtomicU32, Ordering};
 use std::sync::{Arc, Mutex};
 use std::thread::{sleep, spawn};
 use std::time::{Duration, Instant};
@@ -73,8 +74,17 @@ pub struct Relay {
     printed: Arc<Mutex<Vec<Printed>>>,
 }
 
+/// A port that is free, and below those that the system gives to whoever connects: a stranger would take one of these before
+/// its relay listens.
 fn free_port(address: IpAddr) -> u16 {
-    TcpListener::bind((address, 0)).unwrap().local_addr().unwrap().port()
+    static NEXT: AtomicU32 = AtomicU32::new(0);
+    loop {
+        let number = process::id() * 100 + NEXT.fetch_add(1, Ordering::Relaxed);
+        let port = 10_000 + (number % 20_000) as u16;
+        if TcpListener::bind((address, port)).is_ok() {
+            return port;
+        }
+    }
 }
 
 impl Relay {
@@ -193,7 +203,7 @@ impl Relay {
     }
 
     fn wait_until_it_listens(&self) {
-        wait_for(&format!("{} listens", self.name), Duration::from_secs(20), || {
+        wait_for(&format!("{} listens", self.name), Duration::from_secs(30), || {
             TcpStream::connect(self.metrics).is_ok()
         });
     }
