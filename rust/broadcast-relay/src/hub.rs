@@ -187,10 +187,14 @@ impl Hub {
             let _ = self.mailbox.broadcast(Recipients::All, message);
         }
         if let Some(digest) = last {
-            // When this is answered the batch has been sent.
-            self.mailbox.get(digest).await;
+            self.sent(digest).await;
         }
         Ok(())
+    }
+
+    /// Waits until what was broadcast is queued for the peers: the engine takes its requests in turn, this get too.
+    pub async fn sent(&self, digest: [u8; 32]) {
+        self.mailbox.get(digest).await;
     }
 
     fn draw_stamp(&self) -> u64 {

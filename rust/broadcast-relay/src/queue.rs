@@ -19,6 +19,8 @@ struct State {
     bytes: usize,
     /// A frame was dropped, so the peer has missed something.
     is_behind: bool,
+    /// Nothing more is queued: the connection ends once all of it is written.
+    is_finishing: bool,
     is_closed: bool,
 }
 
@@ -51,7 +53,8 @@ impl Queue {
 
     fn push_to(&self, frame: Bytes, lane: impl Fn(&mut State) -> &mut VecDeque<Bytes>) -> bool {
         let mut state = self.lock();
-        let fits = !state.is_closed && state.bytes + frame.len() <= self.most;
+        let is_open = !state.is_closed && !state.is_finishing;
+        let fits = is_open && state.bytes + frame.len() <= self.most;
         if fits {
             state.bytes += frame.len();
             lane(&mut state).push_back(frame);
@@ -86,11 +89,14 @@ impl Queue {
         self.until(|it| it.bytes == 0 && std::mem::take(&mut it.is_behind)).await;
     }
 
-    /// Waits for bytes to write.
-    pub async fn next(&self) -> Vec<u8> {
+    /// Waits for bytes to write. Returns `None` once it has finished.
+    pub async fn next(&self) -> Option<Vec<u8>> {
         loop {
             if let Some(batch) = self.pop() {
-                return batch;
+                return Some(batch);
+            }
+            if self.lock().is_finishing {
+                return None;
             }
             self.filled.notified().await;
         }
@@ -116,9 +122,10 @@ impl Queue {
         self.drained.notify_waiters();
     }
 
-    /// How many bytes wait.
-    pub fn bytes(&self) -> usize {
-        self.lock().bytes
+    /// Takes nothing more, so that it has finished once all is written.
+    pub fn finish(&self) {
+        self.lock().is_finishing = true;
+        self.filled.notify_one();
     }
 
     /// Waits until it is closed.
@@ -141,11 +148,20 @@ mod tests {
         let queue = Queue::new(100);
         assert!(queue.push(vec![1; 60].into()) && !queue.push(vec![2; 60].into()));
         assert!(queue.push_answer(vec![3; 20].into()) && queue.push(vec![4; 20].into()));
-        assert_eq!(queue.bytes(), 100);
-        assert_eq!(queue.next().await, [vec![1; 60], vec![4; 20], vec![3; 20]].concat());
+        let all = [vec![1; 60], vec![4; 20], vec![3; 20]].concat();
+        assert_eq!(queue.next().await, Some(all));
         queue.behind().await;
         queue.room().await;
         queue.close();
         assert!(!queue.push(vec![4].into()));
+    }
+
+    #[tokio::test]
+    async fn what_is_queued_is_written_before_it_has_finished() {
+        let queue = Queue::new(100);
+        assert!(queue.push(vec![1; 60].into()));
+        queue.finish();
+        assert!(!queue.push(vec![2].into()));
+        assert_eq!((queue.next().await, queue.next().await), (Some(vec![1; 60]), None));
     }
 }

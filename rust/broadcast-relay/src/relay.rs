@@ -25,7 +25,7 @@ use tokio::sync::mpsc::{self, UnboundedReceiver, unbounded_channel};
 use tokio::time::{sleep, timeout};
 use tracing::{error, info, warn};
 
-/// How long an end may wait for what is queued.
+/// How long an end may wait until all is printed, and each peer has read what was queued for it.
 const DRAIN: Duration = Duration::from_secs(3);
 const MAILBOX_SIZE: NonZeroUsize = NonZeroUsize::new(1_024).unwrap();
 
@@ -76,7 +76,7 @@ async fn serve(file: &Path, config: Config) -> io::Result<()> {
     Ok(())
 }
 
-/// Publishes what was read, and waits until all is sent and printed, for a while.
+/// Publishes what was read, and waits until each peer has read all and closed, and all is printed, for a while.
 async fn drain(hub: &Hub, lines: Option<mpsc::Receiver<Vec<u8>>>) {
     let all = async {
         if let Some(mut lines) = lines {
@@ -86,11 +86,15 @@ async fn drain(hub: &Hub, lines: Option<mpsc::Receiver<Vec<u8>>>) {
                 hub.may_publish().await;
             }
         }
-        while !hub.is_printed() || hub.sessions().iter().any(|it| it.queue.bytes() > 0) {
+        hub.sent([0; 32]).await;
+        let sessions = hub.sessions();
+        sessions.iter().for_each(|it| it.queue.finish());
+        for session in &sessions {
+            session.queue.closed().await;
+        }
+        while !hub.is_printed() {
             sleep(Duration::from_millis(5)).await;
         }
-        // What is no longer queued is being written.
-        sleep(Duration::from_millis(50)).await;
     };
     if timeout(DRAIN, all).await.is_err() {
         warn!("not all was sent or printed");

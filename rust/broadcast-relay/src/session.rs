@@ -10,6 +10,7 @@ use crate::tls::Stream;
 use crate::wire::{Frame, read_frame};
 use broadcast_engine::Message;
 use bytes::Bytes;
+use std::future::pending;
 use std::io::{self, ErrorKind};
 use std::sync::Arc;
 use std::time::Duration;
@@ -47,10 +48,15 @@ pub async fn run(hub: Arc<Hub>, session: Arc<Session>, stream: Stream) {
     hub.detach(&session, why.kind() == ErrorKind::InvalidData, &why.to_string());
 }
 
+/// Writes what is queued, and beats. Once that has finished it lets the peer read all of it and close: a connection that is
+/// closed while bytes of the peer are unread is reset, and what is on its way is lost.
 async fn write(session: &Session, mut to: impl AsyncWrite + Unpin) -> io::Result<()> {
     loop {
         let bytes = timeout(BEAT, session.queue.next()).await;
-        let bytes = bytes.unwrap_or_else(|_| Frame::Beat.encode().into());
+        let Some(bytes) = bytes.unwrap_or_else(|_| Some(Frame::Beat.encode().into())) else {
+            timeout(SILENCE, to.shutdown()).await??;
+            return pending().await;
+        };
         timeout(SILENCE, async {
             to.write_all(&bytes).await?;
             to.flush().await

@@ -3,10 +3,11 @@
 mod support;
 
 use std::fs;
+use std::io::{Read, Write};
 use std::process::{Command, Stdio};
-use std::thread::sleep;
+use std::thread::{sleep, spawn};
 use std::time::{Duration, Instant};
-use support::hostile::Hostile;
+use support::hostile::{Hostile, frame, frames};
 use support::lab::Lab;
 use support::{RELAY, Relay, folder, keygen, wait_for};
 
@@ -25,7 +26,7 @@ fn of_many_lines_at_once_none_is_lost() {
         wait_for("connected", PATIENCE, || relays[0].is_connected("r1"));
         let start = Instant::now();
         (0..count).for_each(|it| relays[0].write(&format!("{it} {}", "x".repeat(filler))));
-        wait_for("all lines", PATIENCE, || relays[1].printed().len() >= count);
+        wait_for("all lines", 4 * PATIENCE, || relays[1].printed().len() >= count);
         println!("{name}: {count} lines in {:?}", start.elapsed());
         let printed = relays[1].printed();
         let number = |text: &str| text.split(' ').next().and_then(|it| it.parse::<usize>().ok());
@@ -51,6 +52,30 @@ fn what_was_read_is_sent_before_the_end() {
         assert!(log.contains(word), "no {word} in\n{log}");
     }
     wait_for("the other sees it", PATIENCE, || relays[1].log().contains("away"));
+}
+
+#[test]
+fn a_slow_peer_reads_all_before_the_end() {
+    let folder = folder("slow");
+    let key = keygen(&folder, "slow");
+    let mut relays = Relay::network(&Lab::loopback(), &folder, 1, &[("slow", &key)]);
+    let relay = &mut relays[0];
+    relay.start();
+    let mut stream = Hostile::new(&key).connect(relay.address).unwrap();
+    wait_for("connected", PATIENCE, || relay.is_connected("slow"));
+    // More than is on its way to a peer that does not read, and more than is read of one at once: a connection that is closed
+    // while bytes of the peer are unread is reset, and what is on its way is lost.
+    (0..100).for_each(|it| relay.write(&format!("{it} {}", "x".repeat(10_000))));
+    wait_for("published", PATIENCE, || relay.metric("relay_published_total") == 100.0);
+    stream.write_all(&frame(0, &[]).repeat(50_000)).unwrap();
+    let reader = spawn(move || {
+        sleep(Duration::from_millis(500));
+        let mut read = Vec::new();
+        stream.read_to_end(&mut read).map(|_| read)
+    });
+    assert!(relay.terminate());
+    let read = reader.join().unwrap().expect("the connection was reset");
+    assert_eq!(frames(&read).filter(|it| it[0] == 1).count(), 100);
 }
 
 #[test]

@@ -32,6 +32,17 @@ pub fn frame(kind: u8, body: &[u8]) -> Vec<u8> {
     [&(body.len() as u32 + 1).to_be_bytes()[..], &[kind], body].concat()
 }
 
+/// The kinds and bodies of whole frames.
+pub fn frames(bytes: &[u8]) -> impl Iterator<Item = &[u8]> {
+    let mut rest = bytes;
+    std::iter::from_fn(move || {
+        let (len, behind) = rest.split_first_chunk()?;
+        let (one, others) = behind.split_at_checked(u32::from_be_bytes(*len) as usize)?;
+        rest = others;
+        Some(one)
+    })
+}
+
 /// The frame that tells of a message.
 pub fn have(author: &[u8], stamp: u64, digest: &[u8], len: u32) -> Vec<u8> {
     [author, &stamp.to_be_bytes(), digest, &len.to_be_bytes()].concat()
