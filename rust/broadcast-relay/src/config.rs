@@ -74,7 +74,7 @@ impl Default for Limits {
             author_messages_per_second: 10_000,
             author_bytes_per_second: 8 << 20,
             author_signatures_per_second: 1_000,
-            least_rate: 500,
+            least_rate: 100,
             oldest_seconds: 86_400,
             future_seconds: 60,
             handshakes: 512,

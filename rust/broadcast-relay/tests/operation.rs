@@ -18,6 +18,11 @@ fn pair(name: &str) -> Vec<Relay> {
     Relay::network(&Lab::loopback(), &folder(name), 2, &[])
 }
 
+/// How many lines of the first relay another took. Of those it drops what its output does not read in time.
+fn delivered(relay: &Relay) -> usize {
+    relay.metric("relay_delivered_total{author=\"r0\"}") as usize
+}
+
 #[test]
 fn of_many_lines_at_once_none_is_lost() {
     for (name, count, filler) in [("many-short", 20_000, 0), ("many-long", 3_000, 10_000)] {
@@ -26,11 +31,12 @@ fn of_many_lines_at_once_none_is_lost() {
         wait_for("connected", PATIENCE, || relays[0].is_connected("r1"));
         let start = Instant::now();
         (0..count).for_each(|it| relays[0].write(&format!("{it} {}", "x".repeat(filler))));
-        wait_for("all lines", 4 * PATIENCE, || relays[1].printed().len() >= count);
+        wait_for("all lines", 4 * PATIENCE, || delivered(&relays[1]) == count);
         println!("{name}: {count} lines in {:?}", start.elapsed());
-        let printed = relays[1].printed();
-        let number = |text: &str| text.split(' ').next().and_then(|it| it.parse::<usize>().ok());
-        assert!(printed.iter().enumerate().all(|(at, it)| number(&it.text) == Some(at)));
+        // In any order: what a peer that falls behind missed comes later.
+        let dropped = || relays[1].metric("relay_output_dropped_total") as usize;
+        wait_for("the output", PATIENCE, || relays[1].printed().len() + dropped() == count);
+        assert!(relays[1].counted().values().all(|it| *it == 1));
         assert!(relays.iter_mut().all(Relay::terminate));
     }
 }
@@ -105,7 +111,7 @@ fn an_output_that_nobody_reads_stops_nothing() {
         relays[1].is_connected("r0") && relays[1].is_connected("r2")
     });
     (0..2_000).for_each(|it| relays[0].write(&format!("{it} {}", "x".repeat(1_000))));
-    wait_for("all lines", PATIENCE, || relays[2].printed().len() == 2_000);
+    wait_for("all lines", 4 * PATIENCE, || delivered(&relays[2]) == 2_000);
 }
 
 #[test]
@@ -128,7 +134,9 @@ fn a_hangup_changes_the_peers() {
     assert!(!third.send(relays[0].address, &[], Duration::from_secs(1)));
     wait_for("removed", PATIENCE, || !relays[0].is_connected("r1"));
     sleep(Duration::from_millis(500));
-    assert!(!relays[0].is_connected("r1") && !relays[1].is_connected("r0"));
+    assert!(!relays[0].is_connected("r1"));
+    // Who dials is connected for a moment each time, until it hears that it is refused.
+    wait_for("removed there", PATIENCE, || !relays[1].is_connected("r0"));
 
     // A wrong configuration changes nothing.
     fs::write(relays[0].config(), "nonsense").unwrap();
