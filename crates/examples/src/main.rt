@@ -6,6 +6,7 @@
 
 mod block;
 mod cache;
+mod chain;
 mod mailbox;
 mod note;
 mod parts;
@@ -37,6 +38,7 @@ Runs all examples, or the one of this name, and prints a line of each:
   block      a block of a chain, as a message
   store      a store over a cache, and answers that are proved to have been taken
   relay      three nodes, one of which relays
+  chain      a chain of four nodes, one of which is hostile
   relayed    what a relay hands over
   session    clients whose requests are counted
   polled     an engine that is polled
@@ -52,6 +54,7 @@ enum Example {
     Block,
     Store,
     Relay,
+    Chain,
     Relayed,
     Session,
     Polled,
@@ -59,13 +62,14 @@ enum Example {
 }
 
 /// All examples with their names, in the order in which they run.
-const EXAMPLES: [(&str, Example); 10] = [
+const EXAMPLES: [(&str, Example); 11] = [
     ("two_nodes", Example::TwoNodes),
     ("cache", Example::Cache),
     ("note", Example::Note),
     ("block", Example::Block),
     ("store", Example::Store),
     ("relay", Example::Relay),
+    ("chain", Example::Chain),
     ("relayed", Example::Relayed),
     ("session", Example::Session),
     ("polled", Example::Polled),
@@ -133,6 +137,7 @@ where
         Example::Block => block::show(rt.alloc(), out),
         Example::Store => store::show(rt.alloc(), out),
         Example::Relay => relay::show(rt, out),
+        Example::Chain => chain::show(rt, out),
         Example::Relayed => relayed::show(rt, out),
         Example::Session => session::show(rt, out),
         Example::Polled => polled::show(rt, out),
