@@ -141,15 +141,12 @@ impl Typed {
         relays[number].write(&line);
     }
 
-    /// Notes what the killed relay has journaled, and forgets what was typed into it just before, and not taken.
+    /// Notes what the killed relay has journaled, and forgets what was typed into it after the newest line of these.
     fn lose(&mut self, killed: &Relay) {
         self.journaled.extend(killed.journal().into_keys().map(|it| it.1));
-        let mut newest = 0;
-        let all = self.lines[KILLED].len();
-        self.lines[KILLED].retain(|it| {
-            newest += 1;
-            newest + 100 < all || self.journaled.contains(&it.0)
-        });
+        let lines = &mut self.lines[KILLED];
+        let newest = lines.iter().rposition(|it| self.journaled.contains(&it.0));
+        lines.truncate(newest.map_or(0, |it| it + 1));
     }
 
     /// Of the messages of the others, those that a relay has neither printed nor journaled.
