@@ -1,18 +1,20 @@
 -- What is read is spelled so, and what is spelled so is read.
-use Rattle.std.proofs.Common.{◌≡◌, ℕ, ◌+◌, ◌-◌, ◌<◌, ◌≤◌, true, cond, ltb, List, ◌++◌, length, get_or, take, drop, Some, Result, Ok, Err, refl, sym, ap, subst, ◌∙◌, append_assoc, arith, ◌⊎◌, inl, inr, ⊎_elim}
+use Rattle.std.proofs.Common.{◌≡◌, ℕ, ◌+◌, ◌-◌, ◌<◌, ◌≤◌, cond, ltb, List, ◌++◌, length, get_or, take, drop, Result, Ok, Err, refl, sym, ap, subst, ◌∙◌, append_assoc, arith, ◌⊎◌, inl, inr, ⊎_elim}
 use Rattle.std.specs.Prelude.{IfOk, IfErr}
-use Rattle.std.proofs.lemmas.Bool.{cases_lt, ltb-false, lt-ltb, and_from}
-use Rattle.std.proofs.lemmas.List.{take_at, take-append-drop, length-append, length-take, get_or-drop, get_or-take, get_or_past}
+use Rattle.std.proofs.lemmas.Bool.{cases_lt, ltb-false, ltb-true, lt-ltb}
+use Rattle.std.proofs.lemmas.List.{drop_at, take-append-drop, length-append, length-take, get_or-drop, get_or-take, get_or_past}
 use Rattle.std.proofs.lemmas.Nat.{be_bytes_4}
 use Rattle.byteorder.specs.Endian.{big_bytes, big_number}
 use Rattle.byteorder.specs.Numbers.{big_from-lt}
 use Rattle.broadcast_core.specs.declared.codec.CodecError.{CodecError}
 use Rattle.broadcast_core.specs.declared.codec.CodecError.TheVariants.{EndOfBuffer, InvalidLength}
 use Rattle.broadcast_core.specs.declared.codec.RangeCfg.{RangeCfg}
-use Rattle.broadcast_core.specs.ByteList.{◌>>=◌, contains, has_spelling, spelled, Stands, read_length, read_bytes, read_list}
+use Rattle.broadcast_core.specs.ByteList.{◌>>=◌, contains, spelled, Stands, read_length, read_bytes, read_list}
 use Rattle.broadcast_core.specs.Codec.{GivesOrLacks, layout_of}
-use Rattle.broadcast_core.specs.TestMessage.{Parts, Begins, IsRefused, encoding_of, read_message}
-use Rattle.broadcast_core.specs.CodecLaws.{bind_ok, bind_err, ok_is, guard_ok, chosen_ok, list_refused, encoded_parts, message_again}
+use Rattle.broadcast_core.specs.Blocks.{mapped, read_byte_list}
+use Rattle.broadcast_core.specs.BlockLaws.{with_used, byte_list_err, reads_each, both_ok, both_err, mapped_ok, mapped_err}
+use Rattle.broadcast_core.specs.TestMessage.{Parts, Begins, IsRefused, parts_of, read_lists, read_message}
+use Rattle.broadcast_core.specs.CodecLaws.{bind_ok, ok_is, guard_ok, chosen_ok, list_refused, list_again}
 
 abbrev pub IsBytes : List ℕ → Type 0
 IsBytes bytes = (i : ℕ) → get_or bytes i 0 < 256
@@ -63,42 +65,60 @@ list_takes range bytes list rest fits e =
       rest_fits = subst IsBytes (ap (drop a.0.0) after-is ∙ rest-is) (IsBytes-drop a.0.0 (drop 4 bytes) (IsBytes-drop 4 bytes fits));
     }
 
--- what has spellings has an encoding
-encoding_is : (m : Parts) → has_spelling m.commitment ≡ true → has_spelling m.content ≡ true → encoding_of m ≡ Some (spelled m.commitment ++ spelled m.content)
-encoding_is m short0 short1 = rw (and_from _ _ short0 short1) refl
+-- a list that stands in front: how many bytes it takes, what follows, and what is read
+module _ {range : RangeCfg} {bytes list rest : List ℕ} (stands : Stands range bytes list rest) where
+  used_by : length (spelled list) + length rest ≡ length bytes
+  used_by = sym (length-append (spelled list) rest) ∙ ap length (sym stands.parts)
+
+  left_by : drop (length (spelled list)) bytes ≡ rest
+  left_by = ap (drop (length (spelled list))) stands.parts ∙ drop_at (spelled list) rest (length (spelled list)) refl
+
+  block_again : read_byte_list range bytes ≡ Ok (list, length (spelled list))
+  block_again =
+      let read : read_list range bytes ≡ Ok (list, rest) = ap (read_list range) stands.parts ∙ list_again range list rest (ltb-true _ _ stands.short) ∙ rw stands.ranged refl in
+      let used : length bytes - length rest ≡ length (spelled list) = omega (arith, used_by) in
+      ap (λ (r : Result (List ℕ × List ℕ) CodecError). r >>= with_used bytes) read ∙ ap (λ (n : ℕ). Ok (list, n)) used
+
+-- what a block took from the front
+record Took (range : RangeCfg) (bytes list : List ℕ) (n : ℕ) : Type 0 where
+  rest : List ℕ
+  takes : Takes range bytes list rest
+  used : length (spelled list) ≡ n
+  left : drop n bytes ≡ rest
+
+block_took : (range : RangeCfg) (bytes : List ℕ) (r : List ℕ × ℕ) → IsBytes bytes → read_byte_list range bytes ≡ Ok r → Took range bytes r.0 r.1
+block_took range bytes r fits h =
+    let a = bind_ok (read_list range bytes) (with_used bytes) r h in
+    let takes = list_takes range bytes a.0.0 a.0.1 fits a.1 in
+    let used : length (spelled a.0.0) ≡ length bytes - length a.0.1 = omega (arith, used_by takes.stands) in
+    subst (λ (r : List ℕ × ℕ). Took range bytes r.0 r.1) (ap (λ (n : ℕ). (a.0.0, n)) used ∙ ok_is _ r a.2)
+    (record { rest = a.0.1; takes = takes; used = refl; left = left_by takes.stands })
 
 -- what is read is spelled so, each byte of it
 message_found : (range : RangeCfg) (bytes : List ℕ) (m : Parts) (n : ℕ) → IsBytes bytes → read_message range bytes ≡ Ok (m, n) → Begins range bytes m n
 unfolding read_message
 message_found range bytes m n fits e =
-    let g : List ℕ → List ℕ × List ℕ → Result (Parts × ℕ) CodecError = λ x y. Ok (record { commitment = x; content = y.0 }, length bytes - length y.1) in
-    let a = bind_ok (read_list range bytes) (λ x. read_list range x.1 >>= g x.0) (m, n) e in
-    let b = bind_ok (read_list range a.0.1) (g a.0.0) (m, n) a.2 in
-    let which = ok_is _ _ b.2 in
-    let made : Parts = record { commitment = a.0.0; content = b.0.0 } in
-    let first = list_takes range bytes a.0.0 a.0.1 fits a.1 in
-    let second = list_takes range a.0.1 b.0.0 b.0.1 first.rest_fits b.1 in
-    let whole = spelled a.0.0 ++ spelled b.0.0 in
-    let parts : bytes ≡ whole ++ b.0.1 = first.stands.parts ∙ ap (λ (r : List ℕ). spelled a.0.0 ++ r) second.stands.parts ∙ sym (append_assoc (spelled a.0.0) (spelled b.0.0) b.0.1) in
-    let total : length bytes ≡ length whole + length b.0.1 = ap length parts ∙ length-append whole b.0.1 in
-    let used : length bytes - length b.0.1 ≡ length whole = omega (arith, total) in
-    let taken : take (length bytes - length b.0.1) bytes ≡ whole = (λ i. take (used i) (parts i)) ∙ take_at whole b.0.1 (length whole) refl in
-    subst (λ (r : Parts × ℕ). Begins range bytes r.0 r.1) which
+    let lists = mapped_ok parts_of (read_lists range bytes) m n e in
+    let r = reads_each (read_byte_list range) (read_byte_list range) bytes lists.0 n lists.1 in
+    let one = block_took range bytes r.a fits r.reads_a in
+    let two = block_took range one.rest r.b one.takes.rest_fits (ap (read_byte_list range) (sym one.left) ∙ r.reads_b) in
+    subst (λ (w : Parts). Begins range bytes w n) (ap parts_of r.values ∙ lists.2)
     (record {
-      within = omega arith;
-      encoded = encoding_is made first.stands.short second.stands.short ∙ ap Some (sym taken);
-      commitment_in = first.stands.ranged;
-      content_in = second.stands.ranged;
+      between = one.rest;
+      rest = two.rest;
+      commitment = one.takes.stands;
+      content = two.takes.stands;
+      used = omega (arith, used_by one.takes.stands, used_by two.takes.stands, one.used, two.used, r.used);
     })
 
 -- what is spelled so is read
 message_only : (range : RangeCfg) (bytes : List ℕ) (m : Parts) (n : ℕ) → Begins range bytes m n → read_message range bytes ≡ Ok (m, n)
+unfolding read_message
 message_only range bytes m n begins =
-    let parts = encoded_parts m (take n bytes) begins.encoded in
-    let whole = spelled m.commitment ++ spelled m.content in
-    let split : bytes ≡ whole ++ drop n bytes = sym (take-append-drop n bytes) ∙ ap (λ (r : List ℕ). r ++ drop n bytes) (sym parts.2) in
-    let used : length whole ≡ n = ap length parts.2 ∙ omega (arith, length-take n bytes, begins.within) in
-    ap (read_message range) split ∙ message_again range m (drop n bytes) parts.0 parts.1 begins.commitment_in begins.content_in ∙ ap (λ (k : ℕ). Ok (m, k)) used
+    let second = ap (read_byte_list range) (left_by begins.commitment) ∙ block_again begins.content in
+    let used : length (spelled m.commitment) + length (spelled m.content) ≡ n = omega (arith, used_by begins.commitment, used_by begins.content, begins.used) in
+    ap (mapped parts_of) (both_ok (read_byte_list range) (read_byte_list range) bytes (m.commitment, length (spelled m.commitment)) (m.content, length (spelled m.content)) (block_again begins.commitment) second)
+    ∙ ap (λ (k : ℕ). Ok (m, k)) used
 
 -- ---- what is refused is so for what stands there
 
@@ -106,17 +126,24 @@ message_only range bytes m n begins =
 message_refused : (range : RangeCfg) (bytes : List ℕ) (e : CodecError) → IsBytes bytes → read_message range bytes ≡ Err e → IsRefused range bytes e
 unfolding read_message
 message_refused range bytes e fits h =
-    let g : List ℕ → List ℕ × List ℕ → Result (Parts × ℕ) CodecError = λ c d. Ok (record { commitment = c; content = d.0 }, length bytes - length d.1) in
-    let f : List ℕ × List ℕ → Result (Parts × ℕ) CodecError = λ c. read_list range c.1 >>= g c.0 in
     ⊎_elim
-    (λ first. record { remains = bytes; behind = inl refl; why = list_refused range bytes e first })
-    (λ (s : (c : List ℕ × List ℕ) × (read_list range bytes ≡ Ok c) × (f c ≡ Err e)). ⊎_elim
-    (λ second. record { remains = s.0.1; behind = inr (s.0.0, (list_takes range bytes s.0.0 s.0.1 fits s.1).stands); why = list_refused range s.0.1 e second })
-    (λ (t : (d : List ℕ × List ℕ) × (read_list range s.0.1 ≡ Ok d) × (g s.0.0 d ≡ Err e)). absurd (let no = t.2 in cc))
-    (bind_err (read_list range s.0.1) (g s.0.0) e s.2))
-    (bind_err (read_list range bytes) f e h)
+    (λ first. record { remains = bytes; behind = inl refl; why = list_refused range bytes e (byte_list_err range bytes e first) })
+    (λ (s : (a : List ℕ × ℕ) × (read_byte_list range bytes ≡ Ok a) × (read_byte_list range (drop a.1 bytes) ≡ Err e)).
+    let took = block_took range bytes s.0 fits s.1 in
+    let second = ap (read_byte_list range) (sym took.left) ∙ s.2 in
+    record { remains = took.rest; behind = inr (s.0.0, took.takes.stands); why = list_refused range took.rest e (byte_list_err range took.rest e second) })
+    (both_err (read_byte_list range) (read_byte_list range) bytes e (mapped_err parts_of (read_lists range bytes) e h))
 
 -- ---- the same of what the methods answer
+
+layout_mapped : (r : Result ((List ℕ × List ℕ) × ℕ) CodecError) → layout_of r ≡ layout_of (mapped parts_of r)
+layout_mapped (Ok r) = refl
+layout_mapped (Err e) = refl
+
+-- the layout of a message is that of its two lists
+pub layout_is : (range : RangeCfg) (bytes : List ℕ) → layout_of (read_lists range bytes) ≡ layout_of (read_message range bytes)
+unfolding read_message
+layout_is range bytes = layout_mapped (read_lists range bytes)
 
 pub layout_found : (range : RangeCfg) (bytes : List ℕ) (r : Result ℕ CodecError) (read : Result (Parts × ℕ) CodecError) → IsBytes bytes → read_message range bytes ≡ read → r ≡ layout_of read → IfOk r (λ n. (m : Parts) × Begins range bytes m n)
 layout_found range bytes (Ok n) (Ok x) fits e h =

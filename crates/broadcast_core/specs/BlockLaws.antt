@@ -1,6 +1,6 @@
 -- Internal.
 -- Lemmas, not definitions: the laws of the blocks, which their impls cite.
-use Rattle.std.proofs.Common.{◌≡◌, ℕ, ◌+◌, ◌-◌, ◌^◌, ◌≤◌, Bool, true, false, cond, ltb, eqb, List, [], ◌∷◌, ◌++◌, length, take, drop, Option, Some, None, Result, Ok, Err, refl, sym, ap, subst, ◌∙◌, append_assoc, arith, inl, inr, ⊎_elim}
+use Rattle.std.proofs.Common.{◌≡◌, ℕ, ◌+◌, ◌-◌, ◌^◌, ◌≤◌, Bool, true, false, cond, ltb, eqb, List, [], ◌∷◌, ◌++◌, length, take, drop, Option, Some, None, Result, Ok, Err, refl, sym, ap, subst, ◌∙◌, append_assoc, arith, ◌⊎◌, inl, inr, ⊎_elim}
 use Rattle.std.proofs.lemmas.Bool.{ltb-true, ltb-false, eqb-true}
 use Rattle.std.proofs.lemmas.List.{take_at, drop_at, length-append, length-drop}
 use Rattle.byteorder.specs.Endian.{big_bytes, big_number}
@@ -67,7 +67,7 @@ array_reads_back k v w encoded rest n has read =
 
 -- ---- lists of bytes
 
-abbrev with_used : List ℕ → List ℕ × List ℕ → Result (List ℕ × ℕ) CodecError
+abbrev pub with_used : List ℕ → List ℕ × List ℕ → Result (List ℕ × ℕ) CodecError
 with_used bytes list = Ok (list.0, length bytes - length list.1)
 
 pub byte_list_within : (range : RangeCfg) → IsWithin (read_byte_list range)
@@ -77,13 +77,17 @@ byte_list_within range bytes v n h =
     let used : length bytes - length r.0.1 ≡ n = ap (λ (p : List ℕ × ℕ). p.1) is in
     omega arith
 
-pub byte_list_refusals : (range : RangeCfg) → RefusesBy (read_byte_list range)
-byte_list_refusals range bytes e h =
+pub byte_list_err : (range : RangeCfg) (bytes : List ℕ) (e : CodecError)
+    → read_byte_list range bytes ≡ Err e → read_list range bytes ≡ Err e
+byte_list_err range bytes e h =
     ⊎_elim
-    (λ first. list_refusals range bytes e first)
+    (λ first. first)
     (λ (s : (list : List ℕ × List ℕ) × (read_list range bytes ≡ Ok list)
     × (with_used bytes list ≡ Err e)). absurd (let never = s.2 in cc))
     (bind_err (read_list range bytes) (with_used bytes) e h)
+
+pub byte_list_refusals : (range : RangeCfg) → RefusesBy (read_byte_list range)
+byte_list_refusals range bytes e h = list_refusals range bytes e (byte_list_err range bytes e h)
 
 pub byte_list_reads_back : (range : RangeCfg) → ReadsBack byte_list_encoding (read_byte_list range)
 byte_list_reads_back range v w encoded rest n has read =
@@ -118,15 +122,15 @@ module _ {A B : Type 0} (first : List ℕ → Result (A × ℕ) CodecError)
   after bytes a = second (drop a.1 bytes) >>= pair_of a
 
   -- what was read of each
-  record Reads (bytes : List ℕ) (v : A × B) (n : ℕ) : Type 0 where
-    a : A × ℕ
-    b : B × ℕ
-    reads_a : first bytes ≡ Ok a
-    reads_b : second (drop a.1 bytes) ≡ Ok b
-    values : (a.0, b.0) ≡ v
-    used : a.1 + b.1 ≡ n
+  pub record Reads (bytes : List ℕ) (v : A × B) (n : ℕ) : Type 0 where
+    pub a : A × ℕ
+    pub b : B × ℕ
+    pub reads_a : first bytes ≡ Ok a
+    pub reads_b : second (drop a.1 bytes) ≡ Ok b
+    pub values : (a.0, b.0) ≡ v
+    pub used : a.1 + b.1 ≡ n
 
-  reads_each : (bytes : List ℕ) (v : A × B) (n : ℕ) → read_both first second bytes ≡ Ok (v, n)
+  pub reads_each : (bytes : List ℕ) (v : A × B) (n : ℕ) → read_both first second bytes ≡ Ok (v, n)
       → Reads bytes v n
   reads_each bytes v n h =
       let r = bind_ok (first bytes) (after bytes) (v, n) h in
@@ -141,6 +145,13 @@ module _ {A B : Type 0} (first : List ℕ → Result (A × ℕ) CodecError)
         used = ap (λ (p : (A × B) × ℕ). p.1) is;
       }
 
+  pub both_ok : (bytes : List ℕ) (a : A × ℕ) (b : B × ℕ) → first bytes ≡ Ok a
+      → second (drop a.1 bytes) ≡ Ok b
+      → read_both first second bytes ≡ Ok ((a.0, b.0), a.1 + b.1)
+  both_ok bytes a b one two =
+      ap (λ (r : Result (A × ℕ) CodecError). r >>= after bytes) one
+      ∙ ap (λ (r : Result (B × ℕ) CodecError). r >>= pair_of a) two
+
   pub both_within : IsWithin first → IsWithin second → IsWithin (read_both first second)
   both_within in_first in_second bytes v n h =
       let r = reads_each bytes v n h in
@@ -148,16 +159,27 @@ module _ {A B : Type 0} (first : List ℕ → Result (A × ℕ) CodecError)
       let two = in_second (drop r.a.1 bytes) r.b.0 r.b.1 r.reads_b in
       omega (arith, length-drop r.a.1 bytes, r.used)
 
-  pub both_refusals : RefusesBy first → RefusesBy second → RefusesBy (read_both first second)
-  both_refusals by_first by_second bytes e h =
+  -- a refusal is that of the first, or of the second behind it
+  pub both_err : (bytes : List ℕ) (e : CodecError) → read_both first second bytes ≡ Err e
+      → (first bytes ≡ Err e)
+      ⊎ ((a : A × ℕ) × (first bytes ≡ Ok a) × (second (drop a.1 bytes) ≡ Err e))
+  both_err bytes e h =
       ⊎_elim
-      (λ one. by_first bytes e one)
+      (λ one. inl one)
       (λ (s : (a : A × ℕ) × (first bytes ≡ Ok a) × (after bytes a ≡ Err e)). ⊎_elim
-      (λ two. by_second (drop s.0.1 bytes) e two)
+      (λ two. inr (s.0, s.1, two))
       (λ (t : (b : B × ℕ) × (second (drop s.0.1 bytes) ≡ Ok b) × (pair_of s.0 b ≡ Err e)).
       absurd (let never = t.2 in cc))
       (bind_err (second (drop s.0.1 bytes)) (pair_of s.0) e s.2))
       (bind_err (first bytes) (after bytes) e h)
+
+  pub both_refusals : RefusesBy first → RefusesBy second → RefusesBy (read_both first second)
+  both_refusals by_first by_second bytes e h =
+      ⊎_elim
+      (λ one. by_first bytes e one)
+      (λ (s : (a : A × ℕ) × (first bytes ≡ Ok a) × (second (drop a.1 bytes) ≡ Err e)).
+      by_second (drop s.0.1 bytes) e s.2)
+      (both_err bytes e h)
 
   pub both_reads_back : (enc_a : A → Option (List ℕ)) (enc_b : B → Option (List ℕ))
       → ReadsBack enc_a first → ReadsBack enc_b second
@@ -191,7 +213,7 @@ module _ {A B : Type 0} (f : A → B) where
       (x.0, ap (λ (k : ℕ). Ok (x.0, k)) used, ap (λ (p : B × ℕ). p.0) is)
   mapped_ok (Err e) y n h = absurd cc
 
-  mapped_err : (r : Result (A × ℕ) CodecError) (e : CodecError) → mapped f r ≡ Err e → r ≡ Err e
+  pub mapped_err : (r : Result (A × ℕ) CodecError) (e : CodecError) → mapped f r ≡ Err e → r ≡ Err e
   mapped_err (Ok x) e h = absurd cc
   mapped_err (Err d) e h = cc
 

@@ -1,17 +1,15 @@
 -- Internal.
--- Lemmas, not definitions: the laws of `Read` and `Codec` for test messages. They stand here since
--- the impls cite them as their ghost laws, which may name this folder alone.
-use Rattle.std.proofs.Common.{◌≡◌, ℕ, ◌-◌, ◌^◌, ◌<◌, ◌≤◌, Bool, true, false, cond, ltb, ◌&&◌, List, ◌++◌, length, take, drop, Some, None, Result, Ok, Err, refl, sym, ap, subst, ◌∙◌, append_assoc, arith, ◌⊎◌, inl, inr, ⊎_elim}
-use Rattle.std.proofs.lemmas.Bool.{ltb-true, ltb-false, le-ltb, and_parts}
+-- Lemmas, not definitions: the steps of reading, and how a list of bytes is read. They stand here
+-- since laws of impls rest on them, which may name this folder alone.
+use Rattle.std.proofs.Common.{◌≡◌, ℕ, ◌^◌, ◌<◌, ◌≤◌, Bool, true, false, cond, ltb, List, ◌++◌, length, take, drop, Result, Ok, Err, refl, sym, ap, subst, ◌∙◌, append_assoc, arith, ◌⊎◌, inl, inr, ⊎_elim}
+use Rattle.std.proofs.lemmas.Bool.{ltb-true, ltb-false, le-ltb}
 use Rattle.std.proofs.lemmas.List.{take_at, drop_at, length-append, length-drop}
 use Rattle.byteorder.specs.Endian.{big_bytes, big_number}
 use Rattle.byteorder.specs.Numbers.{big_number-reads_back, length-bytes_high_first}
 use Rattle.broadcast_core.specs.declared.codec.CodecError.{CodecError}
-use Rattle.broadcast_core.specs.declared.codec.CodecError.TheVariants.{EndOfBuffer, InvalidLength, Invalid, ExtraData, Unencodable, Memory}
+use Rattle.broadcast_core.specs.declared.codec.CodecError.TheVariants.{EndOfBuffer, InvalidLength}
 use Rattle.broadcast_core.specs.declared.codec.RangeCfg.{RangeCfg}
-use Rattle.broadcast_core.specs.ByteList.{◌>>=◌, contains, has_spelling, spelled, NoneStands, read_length, read_bytes, read_list}
-use Rattle.broadcast_core.specs.Codec.{IsRefusal}
-use Rattle.broadcast_core.specs.TestMessage.{Parts, encoding_of, read_message}
+use Rattle.broadcast_core.specs.ByteList.{◌>>=◌, contains, spelled, NoneStands, read_length, read_bytes, read_list}
 
 -- ---- steps
 
@@ -90,45 +88,6 @@ list_refused range bytes e h =
     (chosen_err (contains range s.0.0) (InvalidLength s.0.0) e (read_bytes s.0.0 s.0.1) s.2))
     (bind_err (read_length bytes) f e h)
 
-none_refuses : (range : RangeCfg) (bytes : List ℕ) (e : CodecError) → NoneStands range bytes e
-    → IsRefusal e
-none_refuses range bytes EndOfBuffer why = tt
-none_refuses range bytes (InvalidLength n) why = tt
-none_refuses range bytes (Invalid reason) why = absurd why
-none_refuses range bytes (ExtraData n) why = absurd why
-none_refuses range bytes Unencodable why = absurd why
-none_refuses range bytes Memory why = absurd why
-
--- bytes are refused by these kinds alone
-pub message_refusals : (range : RangeCfg) (bytes : List ℕ) (e : CodecError)
-    → read_message range bytes ≡ Err e → IsRefusal e
-unfolding read_message
-message_refusals range bytes e h =
-    let g : List ℕ → List ℕ × List ℕ → Result (Parts × ℕ) CodecError =
-    λ c d. Ok (record { commitment = c; content = d.0 }, length bytes - length d.1) in
-    let f : List ℕ × List ℕ → Result (Parts × ℕ) CodecError = λ c. read_list range c.1 >>= g c.0 in
-    ⊎_elim
-    (λ first. none_refuses range bytes e (list_refused range bytes e first))
-    (λ (s : (c : List ℕ × List ℕ) × (read_list range bytes ≡ Ok c) × (f c ≡ Err e)). ⊎_elim
-    (λ second. none_refuses range s.0.1 e (list_refused range s.0.1 e second))
-    (λ (t : (d : List ℕ × List ℕ) × (read_list range s.0.1 ≡ Ok d) × (g s.0.0 d ≡ Err e)).
-    absurd (let no = t.2 in cc))
-    (bind_err (read_list range s.0.1) (g s.0.0) e s.2))
-    (bind_err (read_list range bytes) f e h)
-
--- ---- a message takes no more bytes than there are
-
-pub message_within : (range : RangeCfg) (bytes : List ℕ) (m : Parts) (n : ℕ)
-    → read_message range bytes ≡ Ok (m, n) → n ≤ length bytes
-unfolding read_message
-message_within range bytes m n h =
-    let g : List ℕ → List ℕ × List ℕ → Result (Parts × ℕ) CodecError =
-    λ c d. Ok (record { commitment = c; content = d.0 }, length bytes - length d.1) in
-    let a = bind_ok (read_list range bytes) (λ c. read_list range c.1 >>= g c.0) (m, n) h in
-    let b = bind_ok (read_list range a.0.1) (g a.0.0) (m, n) a.2 in
-    let used = ap (λ (r : Parts × ℕ). r.1) (ok_is _ _ b.2) in
-    omega (arith, used)
-
 -- ---- what is spelled so is read
 
 number_again : (k n : ℕ) (rest : List ℕ) → n < 256 ^ k
@@ -160,86 +119,3 @@ list_again range xs rest lt =
     ∙ ap (λ (r : Result (ℕ × List ℕ) CodecError). r >>= f) (number_again 4 n (xs ++ rest) lt)
     ∙ ap (λ (r : Result (List ℕ × List ℕ) CodecError).
     cond (contains range n) r (Err (InvalidLength n))) (bytes_again xs rest)
-
--- what has an encoding has this one
-pub encoded_parts : (m : Parts) (e : List ℕ) → encoding_of m ≡ Some e
-    → (length m.commitment < 2 ^ 32) × (length m.content < 2 ^ 32)
-    × (spelled m.commitment ++ spelled m.content ≡ e)
-encoded_parts m e h =
-    let both =
-    chosen_some (has_spelling m.commitment && has_spelling m.content)
-    (spelled m.commitment ++ spelled m.content) e h in
-    let each = and_parts _ _ both.0 in
-    (ltb-true _ _ each.0, ltb-true _ _ each.1, both.1)
-  where
-    chosen_some : {A : Type 0} (b : Bool) (x y : A) → cond b (Some x) None ≡ Some y
-        → (b ≡ true) × (x ≡ y)
-    chosen_some true x y e = (refl, cc)
-    chosen_some false x y e = absurd cc
-
--- the two spellings, followed by any rest
-pub message_again : (range : RangeCfg) (m : Parts) (rest : List ℕ) → length m.commitment < 2 ^ 32
-    → length m.content < 2 ^ 32 → contains range (length m.commitment) ≡ true
-    → contains range (length m.content) ≡ true
-    → read_message range ((spelled m.commitment ++ spelled m.content) ++ rest)
-    ≡ Ok (m, length (spelled m.commitment ++ spelled m.content))
-unfolding read_message
-message_again range m rest short0 short1 in0 in1 =
-    let c = spelled m.commitment in
-    let d = spelled m.content in
-    let bytes = (c ++ d) ++ rest in
-    let g : List ℕ → List ℕ × List ℕ → Result (Parts × ℕ) CodecError =
-    λ x y. Ok (record { commitment = x; content = y.0 }, length bytes - length y.1) in
-    let first : read_list range bytes ≡ Ok (m.commitment, d ++ rest) =
-    ap (read_list range) (append_assoc c d rest) ∙ list_again range m.commitment (d ++ rest) short0
-    ∙ rw in0 refl in
-    let second : read_list range (d ++ rest) ≡ Ok (m.content, rest) =
-    list_again range m.content rest short1 ∙ rw in1 refl in
-    let used : length bytes - length rest ≡ length (c ++ d) =
-    omega (arith, length-append (c ++ d) rest) in
-    ap (λ (r : Result (List ℕ × List ℕ) CodecError).
-    r >>= (λ x. read_list range x.1 >>= g x.0)) first
-    ∙ ap (λ (r : Result (List ℕ × List ℕ) CodecError). r >>= g m.commitment) second
-    ∙ ap (λ (n : ℕ). Ok (m, n)) used
-
--- a spelling is read only where its lengths are in the range
-spelled_in_range : (range : RangeCfg) (m : Parts) (rest : List ℕ) (r : Parts × ℕ)
-    → length m.commitment < 2 ^ 32 → length m.content < 2 ^ 32
-    → read_message range ((spelled m.commitment ++ spelled m.content) ++ rest) ≡ Ok r
-    → (contains range (length m.commitment) ≡ true) × (contains range (length m.content) ≡ true)
-unfolding read_message
-spelled_in_range range m rest r short0 short1 h =
-    let c = spelled m.commitment in
-    let d = spelled m.content in
-    let bytes = (c ++ d) ++ rest in
-    let g : List ℕ → List ℕ × List ℕ → Result (Parts × ℕ) CodecError =
-    λ x y. Ok (record { commitment = x; content = y.0 }, length bytes - length y.1) in
-    let a = bind_ok (read_list range bytes) (λ x. read_list range x.1 >>= g x.0) r h in
-    let here : Result (List ℕ × List ℕ) CodecError = Ok (m.commitment, d ++ rest) in
-    let first =
-    chosen_ok (contains range (length m.commitment)) (InvalidLength (length m.commitment)) here a.0
-    (sym (ap (read_list range) (append_assoc c d rest)
-    ∙ list_again range m.commitment (d ++ rest) short0) ∙ a.1) in
-    let b = bind_ok (read_list range a.0.1) (g a.0.0) r a.2 in
-    let after = ap (λ (x : List ℕ × List ℕ). x.1) (ok_is (m.commitment, d ++ rest) a.0 first.1) in
-    let next : Result (List ℕ × List ℕ) CodecError = Ok (m.content, rest) in
-    let second =
-    chosen_ok (contains range (length m.content)) (InvalidLength (length m.content)) next b.0
-    (sym (list_again range m.content rest short1) ∙ ap (read_list range) after ∙ b.1) in
-    (first.0, second.0)
-
--- what an encoding, followed by any bytes, reads as
-pub message_reads_back : (range : RangeCfg) (m w : Parts) (encoded rest : List ℕ) (n : ℕ)
-    → encoding_of m ≡ Some encoded → read_message range (encoded ++ rest) ≡ Ok (w, n)
-    → (w ≡ m) × (n ≡ length encoded)
-message_reads_back range m w encoded rest n has read =
-    let parts = encoded_parts m encoded has in
-    let whole = spelled m.commitment ++ spelled m.content in
-    let same : read_message range (whole ++ rest) ≡ Ok (w, n) =
-    ap (λ (bytes : List ℕ). read_message range (bytes ++ rest)) parts.2 ∙ read in
-    let ins = spelled_in_range range m rest (w, n) parts.0 parts.1 same in
-    let again = sym (message_again range m rest parts.0 parts.1 ins.0 ins.1) ∙ same in
-    let which : (m, length whole) ≡ (w, n) = cc again in (
-      ap (λ (r : Parts × ℕ). r.0) (sym which),
-      sym (ap (λ (r : Parts × ℕ). r.1) which) ∙ ap length parts.2,
-    )

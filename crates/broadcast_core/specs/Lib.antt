@@ -8,6 +8,7 @@ pub mod BlockLaws
 pub mod Tagged
 pub mod TaggedLaws
 pub mod TestMessage
+pub mod MessageLaws
 pub mod Content
 pub mod Setting
 pub mod Happening

@@ -1,7 +1,8 @@
 -- Believed.
 -- What a test message is, and how it is spelled and read.
-use Rattle.std.specs.Prelude.{◌≡◌, ℕ, ◌-◌, ◌≤◌, ◌&&◌, ◌⊎◌, if◌then◌else◌, IsTrue, List, ◌++◌, length, take, Option, None, Some, Result, Ok}
-use Rattle.broadcast_core.specs.ByteList.{◌>>=◌, contains, has_spelling, spelled, Stands, NoneStands, read_list}
+use Rattle.std.specs.Prelude.{◌≡◌, ℕ, ◌+◌, ◌⊎◌, List, length, Option, Result}
+use Rattle.broadcast_core.specs.Blocks.{byte_list_encoding, joined, mapped, read_both, read_byte_list}
+use Rattle.broadcast_core.specs.ByteList.{Stands, NoneStands}
 use Rattle.broadcast_core.specs.declared.codec.CodecError.{CodecError}
 use Rattle.broadcast_core.specs.declared.codec.RangeCfg.{RangeCfg}
 
@@ -10,24 +11,28 @@ pub record Parts : Type 0 where
   pub commitment : List ℕ
   pub content : List ℕ
 
+abbrev pub parts_of : List ℕ × List ℕ → Parts
+parts_of lists = record { commitment = lists.0; content = lists.1 }
+
 -- the spelling of the commitment, then of the content, if each has one
 abbrev pub encoding_of : Parts → Option (List ℕ)
-encoding_of m = if has_spelling m.commitment && has_spelling m.content
-    then Some (spelled m.commitment ++ spelled m.content) else None
+encoding_of m = joined (byte_list_encoding m.commitment) (byte_list_encoding m.content)
+
+-- the two byte lists in front, which both have a length in the range
+abbrev pub read_lists : RangeCfg → List ℕ → Result ((List ℕ × List ℕ) × ℕ) CodecError
+read_lists range = read_both (read_byte_list range) (read_byte_list range)
 
 -- the message in front and the number of its bytes, or the first refusal
 unfoldable pub read_message : RangeCfg → List ℕ → Result (Parts × ℕ) CodecError
-read_message range bytes = do
-  commitment ← read_list range bytes
-  content ← read_list range commitment.1
-  Ok (record { commitment = commitment.0; content = content.0 }, length bytes - length content.1)
+read_message range bytes = mapped parts_of (read_lists range bytes)
 
--- the first n bytes are the message's encoding, and both of its lengths are in the range
+-- the first n bytes are the spellings of both lists, whose lengths are in the range
 pub record Begins (range : RangeCfg) (bytes : List ℕ) (m : Parts) (n : ℕ) : Type 0 where
-  pub within : n ≤ length bytes
-  pub encoded : encoding_of m ≡ Some (take n bytes)
-  pub commitment_in : IsTrue (contains range (length m.commitment))
-  pub content_in : IsTrue (contains range (length m.content))
+  pub between : List ℕ
+  pub rest : List ℕ
+  pub commitment : Stands range bytes m.commitment between
+  pub content : Stands range between m.content rest
+  pub used : n + length rest ≡ length bytes
 
 -- why the bytes begin with no message: what remains begins with no spelling of a list, once the
 -- first list's spelling, if it stands there, is taken off

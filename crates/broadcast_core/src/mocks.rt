@@ -1,14 +1,15 @@
 //! A message for tests.
-ghost use Rattle.std.specs.Prelude.{◌≡◌, ◌⊎◌, ℕ, Option, Some, None, Result, Ok, IfOk, IfErr};
+ghost use Rattle.std.specs.Prelude.{◌≡◌, ◌⊎◌, ℕ, Option, None, Result, Ok, IfOk, IfErr};
 ghost use Rattle.std.specs.Str.{bytes_eq};
 ghost use Rattle.std.specs.Ordering.{on, eq_of_both};
 ghost use Rattle.std.specs.Cmp.Rules.{comparing};
 ghost use Rattle.std.proofs.Common.{rules};
 ghost use Rattle.sha2.specs.Sha256.{sha256};
-ghost use Rattle.broadcast_core.specs.Codec.{layout_of, Gives, GivesOrLacks};
+ghost use Rattle.broadcast_core.specs.Codec.{layout_of, GivesOrLacks};
 ghost use Rattle.broadcast_core.specs.TestMessage.{Parts, encoding_of, read_message, Begins, IsRefused};
-ghost use Rattle.broadcast_core.specs.CodecLaws.{message_within, message_refusals, message_reads_back};
+ghost use Rattle.broadcast_core.specs.MessageLaws.{message_within, message_refusals, message_reads_back};
 
+use crate::codec::blocks::ByteList;
 use crate::codec::{Codec, CodecError, EncodeSize, RangeCfg, Read, Write, byte_list};
 use crate::digest::Digest;
 use crate::digested::Digestible;
@@ -107,8 +108,7 @@ impl EncodeSize for TestMessage {
     /// Returns the length of the encoding, or `None` if a list has more than 4,294,967,295 bytes.
     fn encode_size(&self) -> Option<usize> {
         let commitment = byte_list::encode_size(&self.commitment)?;
-        let content = byte_list::encode_size(&self.content)?;
-        Some(commitment + content)
+        commitment.checked_add(byte_list::encode_size(&self.content)?)
     }
 }
 
@@ -128,7 +128,7 @@ impl Read for TestMessage {
         // The exact result.
         ensures exact { result ≡ layout_of (read_message cfg.now buf.now) }
     {
-        parts_at(buf, cfg).map(|(_, _, used)| used)
+        <(ByteList, ByteList)>::layout(buf, &(*cfg, *cfg))
     }
 
     /// Reads the message at the front, and returns it with the number of bytes that it takes.
@@ -144,7 +144,8 @@ impl Read for TestMessage {
         // The exact result.
         ensures exact { GivesOrLacks result (read_message cfg.now buf.now) }
     {
-        copied_at(alloc, buf, cfg)
+        let read = <(ByteList, ByteList)>::read_cfg(alloc, buf, &(*cfg, *cfg));
+        read.map(|(lists, used)| (TestMessage::new(lists.0.bytes, lists.1.bytes), used))
     }
 
     ghost within = { message_within };
@@ -154,29 +155,4 @@ impl Read for TestMessage {
 
 impl Codec for TestMessage {
     ghost reads_back = { message_reads_back };
-}
-
-/// Returns the two byte lists at the front, and the number of bytes that they take.
-#[tactic(auto, unfolding(crate::specs::TestMessage::read_message))]
-fn parts_at<'a>(buf: &'a [u8], range: &RangeCfg) -> Result<(&'a [u8], &'a [u8], usize), CodecError>
-    ensures { Gives (λ x. (record { commitment = x.0.now; content = x.1.now }, x.2)) result
-        (read_message range.now buf.now) }
-{
-    let (commitment, rest) = byte_list::read_cfg(buf, range)?;
-    let (content, rest) = byte_list::read_cfg(rest, range)?;
-    Ok((commitment, content, buf.len() - rest.len()))
-}
-
-/// Reads the message at the front. Allocates only once both lists are found.
-fn copied_at(
-    alloc: Global,
-    buf: &[u8],
-    range: &RangeCfg,
-) -> Result<(TestMessage, usize), CodecError>
-    ensures { GivesOrLacks result (read_message range.now buf.now) }
-{
-    let (commitment, content, used) = parts_at(buf, range)?;
-    let commitment = Vec::from_slice(alloc, commitment)?;
-    let content = Vec::from_slice(alloc, content)?;
-    Ok((TestMessage::new(commitment, content), used))
 }

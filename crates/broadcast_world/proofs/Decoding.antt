@@ -3,7 +3,7 @@ use Rattle.std.proofs.Common.{◌≡◌, ℕ, true, List, [], length, Some, Resu
 use Rattle.std.specs.Prelude.{◌==◌}
 use Rattle.std.proofs.lemmas.Bool.{eq-eqb}
 use Rattle.broadcast_core.specs.Codec.{all_taken, layout_of, whole}
-use Rattle.broadcast_core.specs.CodecLaws.{message_reads_back}
+use Rattle.broadcast_core.specs.MessageLaws.{message_reads_back}
 use Rattle.broadcast_core.specs.TestMessage.{Parts, encoding_of, read_message}
 use Rattle.broadcast_core.specs.declared.codec.CodecError.{CodecError}
 use Rattle.broadcast_core.specs.declared.codec.RangeCfg.{RangeCfg}

@@ -9,7 +9,7 @@ use Rattle.std.specs.declared.cmp.Ordering.{Ordering}
 use Rattle.broadcast_core.proofs.Distinct.{by_test, or_right, list_any-append}
 use Rattle.broadcast_core.specs.Carried.{Carried}
 use Rattle.broadcast_core.specs.Codec.{all_taken, whole}
-use Rattle.broadcast_core.specs.CodecLaws.{message_reads_back}
+use Rattle.broadcast_core.specs.MessageLaws.{message_reads_back}
 use Rattle.broadcast_core.specs.Content.{first_places, among, list_at, digests_of}
 use Rattle.broadcast_core.specs.Happening.{Happening, peers, broadcast, arrival, subscribe, get, cleanup, taken}
 use Rattle.broadcast_core.proofs.Listed.{list-from, charged-digest}

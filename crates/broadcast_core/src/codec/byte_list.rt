@@ -1,9 +1,9 @@
 //! The encoding of a list of bytes: its length in four bytes, big-endian, and then its bytes.
 //!
-//! A message type writes and reads its lists one after the other. Its `encode_size` adds up
-//! [`encode_size`], its `write` reserves that many bytes and then calls [`write_reserved`] for each
-//! list, and its `layout` and `read_cfg` call [`read_cfg`] on the bytes that are left. The laws of
-//! its `Codec` follow from the lemmas of `specs/ByteListLaws`. No call of this module allocates.
+//! A message type whose lists are vectors writes them one after the other. Its `encode_size` adds
+//! up [`encode_size`], and its `write` reserves that many bytes and then calls [`write_reserved`]
+//! for each list. It is read as a tuple of [`ByteList`](super::blocks::ByteList) is, whose laws its
+//! own follow from. No call of this module allocates.
 ghost use Rattle.std.specs.Prelude.{◌≡◌, ◌+◌, ◌≤◌, ◌++◌, IsTrue, if◌then◌else◌, length, Option, Some, None, IfOk, vec_len, vec_capacity};
 ghost use Rattle.broadcast_core.specs.ByteList.{has_spelling, spelled, read_list};
 ghost use Rattle.broadcast_core.specs.Codec.{Gives};
