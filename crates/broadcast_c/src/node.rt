@@ -1,10 +1,10 @@
 //! The functions of a node.
 ghost use Rattle.std.specs.Prelude.{◌≡◌, ◌↔◌, ℕ, List, [], length, is_some, None, OnOk, OnErr, IfErr, MatchOption};
 ghost use Rattle.sha2.specs.Sha256.{sha256};
+ghost use Rattle.broadcast_core.specs.Blocks.{byte_list_encoding};
 ghost use Rattle.broadcast_core.specs.Content.{same_by};
 ghost use Rattle.broadcast_core.specs.declared.event.Answer.TheVariants as answer;
 ghost use Rattle.broadcast_core.specs.declared.event.Event.TheVariants as event;
-ghost use Rattle.byte_cache.specs.Blob.{encoding_of};
 ghost use Rattle.byte_cache.specs.Changes.{HasApplied, HaveSameKeys, MayRefuse, message_of, recipients_of, served_of};
 ghost use Rattle.broadcast_c.specs.Codes.{cause_code};
 ghost use Rattle.broadcast_c.specs.Told.{BothHold, Fails, Finds, IsFilled, IsLeft, IsPacket, Refuses, TellsAnswer, is_all};
@@ -100,7 +100,7 @@ pub extern "C" fn broadcast_node_broadcast(
         × TellsAnswer new out.new) }
     ensures fails { ¬ (result ≡ OK) → Refuses node.old.value node.new.value result }
     ensures too_long { MatchOption node.old.value (result ≡ EMPTY)
-        (λ _. (result ≡ TOO_LONG) ↔ (encoding_of bytes.now ≡ None)) }
+        (λ _. (result ≡ TOO_LONG) ↔ (byte_list_encoding bytes.now ≡ None)) }
 {
     let Some(mut held) = node.take(alloc) else {
         return EMPTY;
@@ -127,7 +127,7 @@ pub extern "C" fn broadcast_node_broadcast_as(
         × TellsAnswer new out.new) }
     ensures fails { ¬ (result ≡ OK) → Refuses node.old.value node.new.value result }
     ensures too_long { MatchOption node.old.value (result ≡ EMPTY)
-        (λ _. (result ≡ TOO_LONG) ↔ (encoding_of bytes.now ≡ None)) }
+        (λ _. (result ≡ TOO_LONG) ↔ (byte_list_encoding bytes.now ≡ None)) }
 {
     let Some(mut held) = node.take(alloc) else {
         return EMPTY;

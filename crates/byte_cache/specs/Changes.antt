@@ -4,6 +4,7 @@ use Rattle.std.specs.Prelude.{◌≡◌, ℕ, Bool, false, if◌then◌else◌, 
 use Rattle.std.specs.List.{list_any}
 use Rattle.std.specs.Option.{option_to_list}
 use Rattle.sha2.specs.Sha256.{sha256}
+use Rattle.broadcast_core.specs.Blocks.{byte_list_encoding, read_byte_list}
 use Rattle.broadcast_core.specs.Carried.{Carried}
 use Rattle.broadcast_core.specs.Codec.{whole}
 use Rattle.broadcast_core.specs.Content.{Same}
@@ -18,7 +19,7 @@ use Rattle.broadcast_core.specs.declared.ordered.Key.{Key}
 use Rattle.broadcast_core.specs.declared.ordered.Recipients.{Recipients}
 use Rattle.broadcast_core.specs.declared.ordered.Recipients.TheVariants as recipients
 use Rattle.broadcast_core.specs.declared.outcome.Outcome.{Outcome}
-use Rattle.byte_cache.specs.Blob.{charge_of, encoding_of, read_blob}
+use Rattle.byte_cache.specs.Blob.{charge_of}
 use Rattle.byte_cache.specs.declared.cache.Cache.{Cache}
 use Rattle.byte_cache.specs.declared.node.Node.{Node}
 
@@ -37,7 +38,7 @@ TakesBytes same peer digest bytes old new outcome =
 abbrev pub setting_of : Same Key (List ℕ) → Node → Setting Key (List ℕ) (List ℕ)
 setting_of same node =
     setting node.core.own node.core.deque_size node.core.byte_budget false same
-    sha256 encoding_of (whole (read_blob node.lengths))
+    sha256 byte_list_encoding (whole (read_byte_list node.lengths))
 
 -- the node has applied the event: its answer and its packet follow from its history
 pub record HasApplied (same : Same Key (List ℕ)) (event : Event Key (List ℕ) (List ℕ))

@@ -1,10 +1,11 @@
 //! Messages that are bytes.
 ghost use Rattle.std.specs.Prelude.{◌≡◌, IfOk};
 ghost use Rattle.sha2.specs.Sha256.{sha256};
-ghost use Rattle.byte_cache.specs.Blob.{encoding_of, read_blob, blob_within, blob_refusals, blob_reads_back};
+ghost use Rattle.broadcast_core.specs.Blocks.{byte_list_encoding, read_byte_list};
+ghost use Rattle.broadcast_core.specs.BlockLaws.{byte_list_within, byte_list_refusals, byte_list_reads_back};
 
 use broadcast_core::{
-    Codec, CodecError, Digest, Digestible, EncodeSize, RangeCfg, Read, Write, byte_list,
+    ByteList, Codec, CodecError, Digest, Digestible, EncodeSize, RangeCfg, Read, Write, byte_list,
 };
 use std::alloc::{AllocError, Global};
 use std::marker::Model;
@@ -54,7 +55,7 @@ impl Digestible for Blob {
 }
 
 impl Write for Blob {
-    ghost encoding = { encoding_of };
+    ghost encoding = { byte_list_encoding };
 
     /// Appends the length in four bytes, highest first, and then the bytes. More than 4,294,967,295
     /// bytes have no encoding.
@@ -77,26 +78,24 @@ impl Read for Blob {
     /// The lengths that a message may have.
     type Cfg = RangeCfg;
 
-    ghost reading = { read_blob };
+    ghost reading = { read_byte_list };
 
     /// Returns the number of bytes that the message at the front takes.
     fn layout(buf: &[u8], cfg: &RangeCfg) -> Result<usize, CodecError> {
-        let (_, rest) = byte_list::read_cfg(buf, cfg)?;
-        Ok(buf.len() - rest.len())
+        ByteList::layout(buf, cfg)
     }
 
     /// Reads the message at the front, and returns it with the number of bytes that it takes.
     fn read_cfg(alloc: Global, buf: &[u8], cfg: &RangeCfg) -> Result<(Self, usize), CodecError> {
-        let (bytes, rest) = byte_list::read_cfg(buf, cfg)?;
-        let blob = Blob::copied(alloc, bytes)?;
-        Ok((blob, buf.len() - rest.len()))
+        let (list, used) = ByteList::read_cfg(alloc, buf, cfg)?;
+        Ok((Blob { bytes: list.bytes }, used))
     }
 
-    ghost within = { blob_within };
+    ghost within = { byte_list_within };
 
-    ghost refusals = { blob_refusals };
+    ghost refusals = { byte_list_refusals };
 }
 
 impl Codec for Blob {
-    ghost reads_back = { blob_reads_back };
+    ghost reads_back = { byte_list_reads_back };
 }

@@ -2,11 +2,11 @@
 ghost use Rattle.std.specs.Prelude.{◌≡◌, ◌↔◌, List, [], IfOk, OnErr, OnOk, None, Err, false};
 ghost use Rattle.std.specs.Option.{option_copied};
 ghost use Rattle.sha2.specs.Sha256.{sha256};
+ghost use Rattle.broadcast_core.specs.Blocks.{byte_list_encoding};
 ghost use Rattle.broadcast_core.specs.Content.{same_by};
 ghost use Rattle.broadcast_core.specs.Log.{is_refused};
 ghost use Rattle.broadcast_core.specs.declared.event.Event.TheVariants as event;
 ghost use Rattle.broadcast_core.specs.declared.event.Answer.TheVariants as answer;
-ghost use Rattle.byte_cache.specs.Blob.{encoding_of};
 
 use crate::blob::Blob;
 use broadcast_core::runner::apply::{apply, payload};
@@ -103,7 +103,8 @@ impl Node {
             OnOk result (HasApplied same (event.Broadcast (recipients_of all keys.now)
             (record { message = bytes.now; digest = sha256 bytes.now })) self.old self.new) }
         ensures refused { OnErr result (self.new ≡ self.old) }
-        ensures too_long { (result ≡ Err Cause.Unencodable) ↔ (encoding_of bytes.now ≡ None) }
+        ensures too_long { (result ≡ Err Cause.Unencodable)
+            ↔ (byte_list_encoding bytes.now ≡ None) }
     {
         if byte_list::encode_size(bytes).is_none() {
             return Err(Cause::Unencodable);
@@ -127,7 +128,8 @@ impl Node {
             OnOk result (HasApplied same (event.Broadcast (recipients_of all keys.now)
             (record { message = bytes.now; digest = digest })) self.old self.new) }
         ensures refused { OnErr result (self.new ≡ self.old) }
-        ensures too_long { (result ≡ Err Cause.Unencodable) ↔ (encoding_of bytes.now ≡ None) }
+        ensures too_long { (result ≡ Err Cause.Unencodable)
+            ↔ (byte_list_encoding bytes.now ≡ None) }
     {
         if byte_list::encode_size(bytes).is_none() {
             return Err(Cause::Unencodable);
