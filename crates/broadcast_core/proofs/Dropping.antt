@@ -54,6 +54,13 @@ fewer_from : {X : Type 0} (b : Bool) (now new : Option X) → new ≡ cond b now
 fewer_from true now new is y h = sym is ∙ h
 fewer_from false now new is y h = let no : None ≡ Some y = sym is ∙ h in cc
 
+-- a list whose oldest leaves is shorter
+pub evicts-shorter : {K D : Type 0} {key : K → K → Bool} (laws : IsEquivalence key) (p : K) (stale : D) (now next : List (K × List (Node D))) → Evicts key p stale now next
+    → length (items_at key p next) < length (items_at key p now)
+evicts-shorter {key = key} laws p stale now next evicts =
+    let rest : items_at key p next ≡ evicts.rest = evicts.put.lists p ∙ cond_true (key p p) evicts.rest (items_at key p now) (laws.refl p) in
+    omega (arith, ap length rest, ap length evicts.last, length-append evicts.rest ((evicts.place, stale) ∷ []))
+
 module _ {P M D : Type 0} (same : Same P D) where
   -- what is kept while the keys of a set are looked at
   pub record Dropping (seen peers : List P) (old new : Stored P M D) : Type 0 where
@@ -131,11 +138,6 @@ module _ {P M D : Type 0} (same : Same P D) where
       stays = λ q there. evicts.put.stays q (c.stays q there);
       fewer = λ d y h. c.fewer d y (leaves.fewer d y h);
     }
-
-    pub Clearing-shorter : (stale : Charged D) → Evicts same.key p stale now next → length (items_at same.key p next) < length (items_at same.key p now)
-    Clearing-shorter stale evicts =
-        let rest : items_at same.key p next ≡ evicts.rest = evicts.put.lists p ∙ cond_true (same.key p p) evicts.rest (items_at same.key p now) (key_laws.refl p) in
-        omega (arith, ap length rest, ap length evicts.last, length-append evicts.rest ((evicts.place, stale) ∷ []))
 
     pub Clearing-end : (gone : List (P × List (Node (Charged D)))) → items_at same.key p now ≡ [] → next ≡ now → Removes same.key p next gone
         → IsIndexed same gone mid × Dropping same (p ∷ []) [] (stored_of first old) (stored_of gone mid)

@@ -12,13 +12,13 @@ use Rattle.std.proofs.lemmas.List.{take_all, nil_from_length}
 use Rattle.entries.specs.declared.entry.Charged.{Charged}
 use Rattle.entries.specs.Linked.{Node, IsApart}
 use Rattle.entries.specs.Placed.{Placed}
-use Rattle.entries.specs.Store.{values_of, items_at, moved, Puts, Evicts}
+use Rattle.entries.specs.Store.{values_of, items_at, moved, Puts, Evicts, Extends}
 use Rattle.entries.specs.Table.{messages_of, place_in, place_at, IsPlaced, Leaves}
 use Rattle.entries.proofs.Stores.{found_same}
 use Rattle.entries.proofs.Tables.{lookup-messages}
 use Rattle.broadcast_core.specs.Carried.{Carried}
 use Rattle.broadcast_core.specs.Content.{Same, same_charged, among, without}
-use Rattle.broadcast_core.specs.Indexed.{digest_lists, IsIndexed, stored_of, Origin, Holds, Pushes}
+use Rattle.broadcast_core.specs.Indexed.{digest_lists, IsIndexed, stored_of, Origin, Holds}
 use Rattle.broadcast_core.specs.Stored.{Stores}
 use Rattle.broadcast_core.proofs.Distinct.{by_test, or_right, length-moved, without-absent}
 use Rattle.broadcast_core.proofs.Entries.{remove_entry-insert_entry}
@@ -52,9 +52,16 @@ Puts-again {key = key} laws p ns ms old mid new first last = record {
   distinct = last.distinct;
 }
 
+-- the node goes in front of the key's list, and what leaves that list leaves the table
+pub record Pushed {P M D : Type 0} (same : Same P D) (p : P) (n : Node (Charged D)) (size : ℕ) (old new : List (P × List (Node (Charged D))))
+    (old_items new_items : List (D × Placed P (Carried M D))) : Type 0 where
+  pub stale : Option (Charged D)
+  pub extends : Extends same.key p n size stale old new
+  pub leaves : MatchOption stale (new_items ≡ old_items) (λ c. Leaves same.digest same.key c.digest p old_items new_items)
+
 -- no list is there twice after a push
 pub pushed_distinct : {P M D : Type 0} (same : Same P D) (p : P) (n : Node (Charged D)) (size : ℕ) (old new : List (P × List (Node (Charged D)))) (old_items new_items : List (D × Placed P (Carried M D)))
-    → Pushes same p n size old new old_items new_items → IsDistinct same.key (keys_of new)
+    → Pushed same p n size old new old_items new_items → IsDistinct same.key (keys_of new)
 pushed_distinct {D = D} same p n size old new old_items new_items pushes = by pushes.stale pushes.extends.cut
   where
     by : (stale : Option (Charged D)) → MatchOption stale ((length (items_at same.key p pushes.extends.between) ≤ size) × (new ≡ pushes.extends.between))
@@ -62,7 +69,7 @@ pushed_distinct {D = D} same p n size old new old_items new_items pushes = by pu
     by None cut = subst (λ l. IsDistinct same.key (keys_of l)) (sym cut.1) pushes.extends.put.distinct
     by (Some d) cut = cut.1.put.distinct
 
-abbrev by_order : {P D : Type 0} → (P → P → Bool) → (D → D → Ordering) → Same P D
+abbrev pub by_order : {P D : Type 0} → (P → P → Bool) → (D → D → Ordering) → Same P D
 by_order key R = record { key = key; digest = eq_by_cmp R }
 
 has_item : {P X : Type 0} (o : Option (Placed P X)) → is_some (option_map (λ it. it.message) o) ≡ true → is_some o ≡ true
@@ -140,7 +147,7 @@ module _ {P M D : Type 0} (same : Same P D) (key_laws : IsEquivalence same.key) 
 
       -- a digest that is not on the list
       pub Stores-pushed : (R : D → D → Ordering) (i : ℕ) (mid new_items : List (D × Placed P (Carried M D))) → Holds same R p x i items mid → IsPlaced same.digest same.key mid → IsPlaced same.digest same.key new_items → length ns ≤ size
-          → Pushes same p (i, c) size lists new_lists mid new_items → IsIndexed same new_lists new_items × Stores same p x cs (stored_of lists items) (stored_of new_lists new_items)
+          → Pushed same p (i, c) size lists new_lists mid new_items → IsIndexed same new_lists new_items × Stores same p x cs (stored_of lists items) (stored_of new_lists new_items)
       Stores-pushed R i mid new_items holds mid_placed placed fits pushes = cut pushes.stale pushes.extends.cut pushes.leaves
         where
           between : List (P × List (Node (Charged D)))

@@ -10,7 +10,9 @@ use Rattle.entries.specs.declared.entry.Charged.{Charged}
 use Rattle.entries.specs.Linked.{Node}
 use Rattle.entries.specs.Placed.{Placed}
 use Rattle.entries.specs.Store.{items_at}
-use Rattle.entries.specs.Table.{messages_of, place_at, Joins}
+use Rattle.std.specs.Ordering.{eq_by_cmp}
+use Rattle.entries.specs.declared.table.Found.{Found}
+use Rattle.entries.specs.Table.{messages_of, place_at, Joins, Tabled, name_at, GoesBy}
 use Rattle.entries.proofs.Stores.{found_same}
 use Rattle.entries.proofs.Tables.{lookup-messages}
 use Rattle.broadcast_core.specs.Carried.{Carried}
@@ -29,6 +31,10 @@ none_is (Some x) h = cc
 some_message : {P X : Type 0} (o : Option (Placed P X)) → is_some (option_map (λ i. i.message) o) ≡ is_some o
 some_message None = refl
 some_message (Some item) = refl
+
+-- a message is cached where the table has its item
+pub cached-there : {P D X : Type 0} (test : D → Bool) (items : List (D × Placed P X)) → is_some (lookup test (messages_of items)) ≡ is_some (lookup test items)
+cached-there test items = ap is_some (lookup-messages test items) ∙ some_message (lookup test items)
 
 pub no_duplicate : {Q : Type 0} (b : Bool) (o : Option ℕ) → b ≡ is_some o → o ≡ None → b ≡ true → Q
 no_duplicate b o is none has = let no : false ≡ true = sym (is ∙ ap is_some none) ∙ has in absurd (cc)
@@ -76,7 +82,13 @@ module _ {P M D : Type 0} (same : Same P D) (key_laws : IsEquivalence same.key) 
       by_some (Some v) at_none at_some = at_some refl
 
   pub holds_if_new : {E : Type 0} (is_clone : Carried M D → Carried M D → Type 0) (R : D → D → Ordering) (p : P) (x : Carried M D) (place : ℕ) (old new : List (D × Placed P (Carried M D)))
-      → ((copy : Carried M D) → is_clone x copy → copy ≡ x) → (r : Result (Option ℕ) E) → IfOk r (λ found. found ≡ None → Joins same.digest same.key R is_clone x.digest x p place old new)
-      → IfOk r (λ found. found ≡ None → Holds same R p x place old new)
+      → ((copy : Carried M D) → is_clone x copy → copy ≡ x) → (r : Result Found E) → IfOk r (λ found. found.place ≡ None → Joins same.digest same.key R is_clone x.digest x p place old new)
+      → IfOk r (λ found. found.place ≡ None → Holds same R p x place old new)
   holds_if_new is_clone R p x place old new copies (Ok found) joins = λ none. Holds-joined is_clone R p x place old new copies (joins none)
   holds_if_new is_clone R p x place old new copies (Err e) joins = tt
+
+-- an item that goes by a digest has that digest for its name, where digests that are not told apart are one
+pub item-named : {E D T : Type 0} (cmp : D → D → Ordering) (name : T → D) (d : D) (t : Tabled D T) → ((a b : D) → eq_by_cmp cmp a b ≡ true → a ≡ b) → (r : Result Found E)
+    → IfOk r (λ found. GoesBy cmp name d t found.item) → IfOk r (λ found. name_at name t found.item ≡ Some d)
+item-named cmp name d t exact (Ok found) goes = goes.named ∙ ap Some (sym (exact d goes.its goes.equal))
+item-named cmp name d t exact (Err e) goes = tt

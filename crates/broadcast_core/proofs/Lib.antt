@@ -11,11 +11,14 @@ pub mod Taking
 pub mod Placing
 pub mod Numbering
 pub mod Indexing
+pub mod Naming
 pub mod Caching
 pub mod Filling
 pub mod Holding
 pub mod Dropping
 pub mod Shortening
+pub mod Leaving
+pub mod Shelving
 pub mod CachedCount
 pub mod Cutting
 pub mod Staying

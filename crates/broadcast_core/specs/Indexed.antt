@@ -6,8 +6,8 @@ use Rattle.std.specs.Map.{lookup, keys_of}
 use Rattle.entries.specs.declared.entry.Charged.{Charged}
 use Rattle.entries.specs.Linked.{Node}
 use Rattle.entries.specs.Placed.{Placed}
-use Rattle.entries.specs.Store.{values_of, items_at, Extends}
-use Rattle.entries.specs.Table.{messages_of, place_at, IsPlaced, SetsPlace, Leaves}
+use Rattle.entries.specs.Store.{same_number, values_of, items_at, Extends}
+use Rattle.entries.specs.Table.{messages_of, place_at, IsPlaced, SetsPlace, Tabled, name_at, items_of, Takes}
 use Rattle.broadcast_core.specs.Carried.{Carried}
 use Rattle.std.specs.BTreeMap.{insert_entry}
 use Rattle.std.specs.declared.cmp.Ordering.{Ordering}
@@ -18,6 +18,31 @@ use Rattle.broadcast_core.specs.Stored.{Stored}
 abbrev pub place_of : {D : Type 0} → (D → D → Bool) → D → List (Node D) → Option ℕ
 place_of same d [] = None
 place_of same d (n ∷ ns) = if same d n.1 then Some n.0 else place_of same d ns
+
+module _ {D : Type 0} where
+  -- the node under the name of its item, before the others; without a name it is left out
+  abbrev pub named_front : Option D → Node (Charged ℕ) → List (Node (Charged D)) → List (Node (Charged D))
+  named_front None n ns = ns
+  named_front (Some d) n ns = (n.0, record { digest = d; charge = n.1.charge }) ∷ ns
+
+  module _ (names : ℕ → Option D) where
+    -- the nodes of items, each under the name of its item
+    abbrev pub named_nodes : List (Node (Charged ℕ)) → List (Node (Charged D))
+    named_nodes [] = []
+    named_nodes (n ∷ ns) = named_front (names n.1.digest) n (named_nodes ns)
+
+    -- the lists of items, each item by its name
+    abbrev pub named_lists : {P : Type 0} → List (P × List (Node (Charged ℕ))) → List (P × List (Node (Charged D)))
+    named_lists lists = map (λ e. (e.0, named_nodes e.1)) lists
+
+    -- each item has a name
+    abbrev pub AreNamed : List (Node (Charged ℕ)) → Type 0
+    AreNamed [] = Unit {0}
+    AreNamed (n ∷ ns) = (is_some (names n.1.digest) ≡ true) × AreNamed ns
+
+    -- each item of each list has a name
+    abbrev pub AllNamed : {P : Type 0} → (P → P → Bool) → List (P × List (Node (Charged ℕ))) → Type 0
+    AllNamed {P} key lists = (p : P) → AreNamed (items_at key p lists)
 
 -- the lists of digests
 abbrev pub digest_lists : {P D : Type 0} → List (P × List (Node D)) → List (P × List D)
@@ -34,6 +59,16 @@ pub record IsIndexed {P M D : Type 0} (same : Same P D) (lists : List (P × List
       → same.digest d x.digest ≡ true
   pub placed : IsPlaced same.digest same.key items
   pub apart : IsDistinct same.key (keys_of lists)
+
+-- the lists of items agree with the table, each item by its name, and each item has one
+pub record IsShelved {P M D : Type 0} (same : Same P D) (names : ℕ → Option D)
+    (lists : List (P × List (Node (Charged ℕ)))) (items : List (D × Placed P (Carried M D))) : Type 0 where
+  pub indexed : IsIndexed same (named_lists names lists) items
+  pub named : AllNamed names same.key lists
+
+-- the name of each item of a table of messages
+abbrev pub names_of : {M D : Type 0} → Tabled D (Carried M D) → ℕ → Option D
+names_of table = name_at (λ m. m.digest) table
 
 -- the content of lists of places and a table
 abbrev pub stored_of : {P M D : Type 0} → List (P × List (Node (Charged D)))
@@ -61,10 +96,14 @@ module _ {P M D : Type 0} (same : Same P D) where
     pub cached : is_some (lookup (same.digest x.digest) (messages_of new)) ≡ true
     pub origin : Origin x (messages_of old) (messages_of new)
 
-  -- the node goes in front of the key's list, and what leaves that list leaves the table
-  pub record Pushes (p : P) (n : Node (Charged D)) (size : ℕ) (old new : List (P × List (Node (Charged D))))
-      (old_items new_items : List (D × Placed P (Carried M D))) : Type 0 where
-    pub stale : Option (Charged D)
-    pub extends : Extends same.key p n size stale old new
-    pub leaves : MatchOption stale (new_items ≡ old_items)
-        (λ c. Leaves same.digest same.key c.digest p old_items new_items)
+-- the content of lists of items and their table
+abbrev pub shelved_of : {M D : Type 0} → List (ℕ × List (Node (Charged ℕ))) → Tabled D (Carried M D) → Stored ℕ M D
+shelved_of lists table = stored_of (named_lists (names_of table) lists) (items_of table)
+
+-- the node goes in front of the list, and what leaves the list leaves its item
+pub record Pushes {M D : Type 0} (cmp : D → D → Ordering) (list : ℕ) (n : Node (Charged ℕ)) (size : ℕ)
+    (old new : List (ℕ × List (Node (Charged ℕ)))) (old_table new_table : Tabled D (Carried M D)) : Type 0 where
+  pub stale : Option (Charged ℕ)
+  pub extends : Extends same_number list n size stale old new
+  pub leaves : MatchOption stale (new_table ≡ old_table)
+      (λ c. Takes cmp (λ m. m.digest) c.digest list old_table new_table)

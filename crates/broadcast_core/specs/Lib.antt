@@ -1,4 +1,5 @@
 pub mod Carried
+pub mod Exact
 pub mod ByteList
 pub mod Codec
 pub mod CodecLaws

@@ -1,12 +1,13 @@
 //! Messages with their digests.
 ghost use Rattle.std.specs.Prelude.{◌≡◌, true, Some, None, is_some, IfOk, Err};
 ghost use Rattle.std.specs.Arc.{arc_value};
-ghost use Rattle.std.specs.Ordering.{on, eq_of_both};
+ghost use Rattle.std.specs.Ordering.{eq_by_cmp, on, eq_of_both};
 ghost use Rattle.std.specs.Cmp.Rules.{comparing};
 ghost use Rattle.std.proofs.Common.{rules};
 
 use crate::codec::{CodecError, EncodeSize, Write};
 use crate::event::Cause;
+use entries::Named;
 use std::alloc::{AllocError, Global};
 use std::hash::Hash;
 use std::marker::Model;
@@ -23,6 +24,9 @@ pub trait Digestible: Drop {
     /// Computes the own digest. Does not allocate.
     fn digest(&self) -> Self::Digest
         ensures { result ≡ digest_of self.now };
+
+    /// Digests that the order does not tell apart are one value.
+    ghost exact: { (a b : Self.Digest) → eq_by_cmp Self.Digest.cmp a b ≡ true → a ≡ b };
 }
 
 /// A message, shared between its copies, with the digest that it goes by.
@@ -111,6 +115,17 @@ impl<M: Digestible + Write> Digested<M> {
             Err(CodecError::Unencodable) => Err(Cause::Unencodable),
             Err(_) => Err(Cause::Memory),
         }
+    }
+}
+
+impl<M: Digestible> Named for Digested<M> {
+    type Name = M::Digest;
+
+    ghost name_of = { λ it. it.digest };
+
+    /// Returns the digest that the message goes by.
+    fn name(&self) -> M::Digest {
+        self.digest
     }
 }
 

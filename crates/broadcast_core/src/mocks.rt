@@ -7,6 +7,7 @@ ghost use Rattle.std.proofs.Common.{rules};
 ghost use Rattle.sha2.specs.Sha256.{sha256};
 ghost use Rattle.broadcast_core.specs.Codec.{layout_of, GivesOrLacks};
 ghost use Rattle.broadcast_core.specs.TestMessage.{Parts, encoding_of, read_message, Begins, IsRefused};
+ghost use Rattle.broadcast_core.specs.Exact.{exact_bytes};
 ghost use Rattle.broadcast_core.specs.MessageLaws.{message_within, message_refusals, message_reads_back};
 
 use crate::codec::blocks::ByteList;
@@ -87,6 +88,8 @@ impl Digestible for TestMessage {
     fn digest(&self) -> Digest {
         Digest::sha256(&self.content)
     }
+
+    ghost exact = { exact_bytes };
 }
 
 impl Write for TestMessage {

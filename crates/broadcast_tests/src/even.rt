@@ -1,5 +1,6 @@
 //! A message that has no encoding for some values.
 ghost use Rattle.broadcast_tests.specs.Even.{encoding_of, even_at, even_within, even_refusals, even_reads_back};
+ghost use Rattle.broadcast_core.specs.Exact.{exact_number};
 
 use broadcast_core::{Codec, CodecError, Digestible, EncodeSize, Read, Write};
 use std::alloc::Global;
@@ -65,4 +66,6 @@ impl Digestible for Even {
     fn digest(&self) -> u8 {
         self.0
     }
+
+    ghost exact = { exact_number };
 }

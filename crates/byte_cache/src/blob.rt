@@ -3,6 +3,7 @@ ghost use Rattle.std.specs.Prelude.{◌≡◌, IfOk};
 ghost use Rattle.sha2.specs.Sha256.{sha256};
 ghost use Rattle.broadcast_core.specs.Blocks.{byte_list_encoding, read_byte_list};
 ghost use Rattle.broadcast_core.specs.BlockLaws.{byte_list_within, byte_list_refusals, byte_list_reads_back};
+ghost use Rattle.broadcast_core.specs.Exact.{exact_bytes};
 
 use broadcast_core::{
     ByteList, Codec, CodecError, Digest, Digestible, EncodeSize, RangeCfg, Read, Write, byte_list,
@@ -52,6 +53,8 @@ impl Digestible for Blob {
     fn digest(&self) -> Digest {
         Digest::sha256(&self.bytes)
     }
+
+    ghost exact = { exact_bytes };
 }
 
 impl Write for Blob {

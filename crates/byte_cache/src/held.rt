@@ -1,5 +1,6 @@
 //! Messages that are kept elsewhere.
 ghost use Rattle.std.specs.Prelude.{◌≡◌, Some, replicate};
+ghost use Rattle.broadcast_core.specs.Exact.{exact_bytes};
 
 use broadcast_core::{CodecError, Digest, Digestible, EncodeSize, Write};
 
@@ -22,6 +23,8 @@ impl Digestible for Held {
     fn digest(&self) -> Digest {
         self.digest
     }
+
+    ghost exact = { exact_bytes };
 }
 
 /// The bytes are not here: in their place there are as many zeros as the message is charged.

@@ -11,5 +11,7 @@ pub mod Sums
 pub mod Walking
 pub mod Words
 pub mod Tables
+pub mod Tabled
+pub mod Joining
 pub mod Opening
-mod Overlaying
+pub mod Overlaying

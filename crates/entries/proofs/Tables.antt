@@ -1,6 +1,6 @@
 -- What changes at one digest make of a table.
-use Rattle.std.proofs.Common.{Bool, true, false, cond, ◌&&◌, ◌≡◌, ℕ, List, [], ◌∷◌, length, Option, Some, None, refl, sym, ap, ◌∙◌, subst, inl, inr, Result, Ok, Err}
-use Rattle.std.specs.Prelude.{is_some, IsSome, IfOk, OnErr}
+use Rattle.std.proofs.Common.{Bool, true, false, cond, ◌&&◌, ◌≡◌, ℕ, List, [], ◌∷◌, Option, Some, None, refl, sym, ap, ◌∙◌, subst, inl, inr}
+use Rattle.std.specs.Prelude.{is_some, IsSome}
 use Rattle.std.specs.Cmp.{IsEquivalence, IsTotalOrder, eq_by_cmp_equiv}
 use Rattle.std.specs.List.Sorted.{IsStrictlySortedBy}
 use Rattle.std.specs.Ordering.{match_ordering, eq_by_cmp, is_eq}
@@ -10,14 +10,14 @@ use Rattle.std.proofs.lemmas.Map.Keys.{sorted_tail}
 use Rattle.std.proofs.lemmas.Map.Entries.{none_below_head}
 use Rattle.std.specs.Option.{option_map}
 use Rattle.std.proofs.lemmas.Map.Made.{lookup-map_values, keys_of-map_values}
-use Rattle.std.specs.Map.{lookup, keys_of, remove_entry, set_value}
+use Rattle.std.specs.Map.{lookup, keys_of, remove_entry}
 use Rattle.std.specs.declared.cmp.Ordering.{Ordering}
 use Rattle.std.specs.declared.cmp.Ordering.TheVariants.{Less, Equal, Greater}
 use Rattle.entries.specs.Placed.{Placed}
-use Rattle.entries.specs.Table.{messages_of, place_in, place_at, IsPlaced, IsSame, SetsPlace, Joins, Leaves}
+use Rattle.entries.specs.Table.{messages_of, place_in, place_at, IsPlaced, SetsPlace, Joins, Leaves}
 use Rattle.entries.proofs.Stores.{found_same}
 
-by_test : {P : Type 0} (b : Bool) → (b ≡ true → P) → (b ≡ false → P) → P
+pub by_test : {P : Type 0} (b : Bool) → (b ≡ true → P) → (b ≡ false → P) → P
 by_test true at_true at_false = at_true refl
 by_test false at_true at_false = at_false refl
 
@@ -29,22 +29,9 @@ at_other : {X : Type 0} (a b : Bool) (w o : Option X) → a ≡ false → cond (
 at_other true b w o e = cc
 at_other false b w o e = refl
 
-pub empty_list : {X : Type 0} (xs : List X) → length xs ≡ 0 → xs ≡ []
-empty_list [] e = refl
-empty_list (x ∷ xs) e = absurd cc
-
 module _ {K D T : Type 0} where
   pub lookup-messages : (test : D → Bool) (items : List (D × Placed K T)) → lookup test (messages_of items) ≡ option_map (λ i. i.message) (lookup test items)
   lookup-messages test items = lookup-map_values (λ i. i.message) test items
-
-  -- a write that keeps the message keeps all messages
-  pub messages_written : (test : D → Bool) (items : List (D × Placed K T)) (was now : Placed K T) → lookup test items ≡ Some was → now.message ≡ was.message → messages_of (set_value test items now) ≡ messages_of items
-  messages_written test [] was now there same = refl
-  messages_written test (e ∷ es) was now there same = by_test (test e.0)
-      (λ t. let one : e.1 ≡ was = (let h : Some e.1 ≡ Some was = sym (ap (λ b. cond b (Some e.1) (lookup test es)) t) ∙ there in cc) in
-      rw t (ap (λ m. (e.0, m) ∷ messages_of es) (same ∙ ap (λ (x : Placed K T). x.message) (sym one))))
-      (λ t. let rest : lookup test es ≡ Some was = sym (ap (λ b. cond b (Some e.1) (lookup test es)) t) ∙ there in
-      rw t (ap (λ l. (e.0, e.1.message) ∷ l) (messages_written test es was now rest same)))
 
   -- what is taken out, is taken out of the messages
   pub messages_removed : (test : D → Bool) (items : List (D × Placed K T)) → messages_of (remove_entry test items) ≡ remove_entry test (messages_of items)
@@ -115,19 +102,7 @@ module _ {K D T : Type 0} {digest : D → D → Bool} (key : K → K → Bool) (
       let new : lookup (digest e) gs ≡ lookup (digest e) es = left e ∙ ap (λ b. cond b None (lookup (digest e) es)) apart in
       ap (place_in digest key q) new ∙ sym (at_other (digest d e) (key p q) None (place_at digest key es e q) apart))
 
-  -- nothing is there to leave
-  pub places_none : lookup (digest d) es ≡ None → SetsPlace digest key d p None es es
-  places_none none e q = by_test (digest d e)
-      (λ here.
-      let old : lookup (digest e) es ≡ None = sym (found_same equal es d e here) ∙ none in
-      ap (place_in digest key q) old ∙ same_none (key p q) (place_in digest key q (lookup (digest e) es)) (ap (place_in digest key q) old) ∙ sym (at_both (digest d e) (key p q) None (place_at digest key es e q) here))
-      (λ apart. sym (at_other (digest d e) (key p q) None (place_at digest key es e q) apart))
-    where
-      same_none : (b : Bool) (o : Option ℕ) → o ≡ None → None ≡ cond b None o
-      same_none true o h = refl
-      same_none false o h = sym h
-
-by_order : {G : Type 0} (r s : Ordering) → s ≡ r → (s ≡ Less → G) → (s ≡ Equal → G) → (s ≡ Greater → G) → G
+pub by_order : {G : Type 0} (r s : Ordering) → s ≡ r → (s ≡ Less → G) → (s ≡ Equal → G) → (s ≡ Greater → G) → G
 by_order Less s e l m n = l e
 by_order Equal s e l m n = m e
 by_order Greater s e l m n = n e
@@ -153,12 +128,6 @@ one_place p i (e ∷ es) is none = cc
 some_left : {K : Type 0} (test : K → Bool) (i : ℕ) (places : List (K × ℕ)) → lookup test places ≡ Some i → places ≡ [] → ⊥
 some_left test i [] found none = cc
 some_left test i (e ∷ es) found none = cc
-
--- what a message has that has a place
-has_some : {K D T : Type 0} (digest : D → D → Bool) (key : K → K → Bool) (es : List (D × Placed K T)) (d : D) (was : Placed K T) → IsPlaced digest key es → lookup (digest d) es ≡ Some was → was.places ≡ [] → ⊥
-has_some digest key es d was placed there =
-    let f = placed d (ap is_some there) in
-    some_left (key f.0) f.1 was.places (sym (ap (place_in digest key f.0) there) ∙ f.2)
 
 -- places that are not empty have a key
 first_place : {K : Type 0} {key : K → K → Bool} (laws : IsEquivalence key) (places : List (K × ℕ)) → (places ≡ [] → ⊥) → (p : K) × (i : ℕ) × (lookup (key p) places ≡ Some i)
@@ -187,87 +156,76 @@ placed_left digest key es gs d placed left e there = by_test (digest d e)
 
 module _ {K D T : Type 0} {R : D → D → Ordering} {key : K → K → Bool} (o : IsTotalOrder R) (laws : IsEquivalence key) where
   -- a message that is cached gets a place, if it has none of the key
-  pub joined : {E : Type 0} (is_clone : T → T → Type 0) (es fs gs : List (D × Placed K T)) (d : D) (x : T) (p : K) (i : ℕ) (was now : Placed K T) (r : Result (Option ℕ) E)
+  pub joined : (is_clone : T → T → Type 0) (es fs : List (D × Placed K T)) (d : D) (x : T) (p : K) (i : ℕ) (was now : Placed K T) (f : Option ℕ)
       → IsPlaced (eq_by_cmp R) key es → IsStrictlySortedBy R (keys_of es) → lookup (eq_by_cmp R d) es ≡ Some was
-      → fs ≡ gs → gs ≡ insert_entry R es d now → ((e : D) → lookup (eq_by_cmp R e) gs ≡ cond (eq_by_cmp R d e) (Some now) (lookup (eq_by_cmp R e) es)) → now.message ≡ was.message
-      → IfOk r (λ f. IsSome f → now ≡ was) → IfOk r (λ f. f ≡ None → (q : K) → lookup (key q) now.places ≡ cond (key p q) (Some i) (lookup (key q) was.places)) → OnErr r (now ≡ was)
-      → IsPlaced (eq_by_cmp R) key fs × IfOk r (λ f. IsSome f → fs ≡ es) × IfOk r (λ f. f ≡ None → Joins (eq_by_cmp R) key R is_clone d x p i es fs) × OnErr r (IsSame (eq_by_cmp R) key es fs)
-  joined is_clone es fs gs d x p i was now (Ok (Some j)) placed sorted there moved is written same stays places kept =
-      let all : fs ≡ es = moved ∙ is ∙ ap (insert_entry R es d) (stays refl) ∙ insert_entry-same o d was es sorted there in (
+      → fs ≡ insert_entry R es d now → ((e : D) → lookup (eq_by_cmp R e) fs ≡ cond (eq_by_cmp R d e) (Some now) (lookup (eq_by_cmp R e) es)) → now.message ≡ was.message
+      → (IsSome f → now ≡ was) → (f ≡ None → (q : K) → lookup (key q) now.places ≡ cond (key p q) (Some i) (lookup (key q) was.places))
+      → IsPlaced (eq_by_cmp R) key fs × (f ≡ None → Joins (eq_by_cmp R) key R is_clone d x p i es fs)
+  joined is_clone es fs d x p i was now (Some j) placed sorted there is written same stays places =
+      let all : fs ≡ es = is ∙ ap (insert_entry R es d) (stays refl) ∙ insert_entry-same o d was es sorted there in (
         rw all placed,
-        λ _. all,
         λ none. absurd (cc),
-        tt,
       )
-  joined is_clone es fs gs d x p i was now (Ok None) placed sorted there moved is written same stays places kept = rw moved (
-    placed_written laws (eq_by_cmp_equiv o) es gs d now placed written (some_left (key p) i now.places (places refl p ∙ ap (λ b. cond b (Some i) (lookup (key p) was.places)) (laws.refl p))),
-    λ none. absurd (cc),
+  joined is_clone es fs d x p i was now None placed sorted there is written same stays places = (
+    placed_written laws (eq_by_cmp_equiv o) es fs d now placed written (some_left (key p) i now.places (places refl p ∙ ap (λ b. cond b (Some i) (lookup (key p) was.places)) (laws.refl p))),
     λ _. record {
-      places = places_written key (eq_by_cmp_equiv o) es d p gs was now (Some i) there written (places refl);
+      places = places_written key (eq_by_cmp_equiv o) es d p fs was now (Some i) there written (places refl);
       stays = λ _. ap messages_of is ∙ messages_inserted R es d now
           ∙ insert_entry-same o d now.message (messages_of es) (subst (IsStrictlySortedBy R) (sym (keys_of-map_values (λ it. it.message) es)) sorted)
           (lookup-messages (eq_by_cmp R d) es ∙ ap (option_map (λ it. it.message)) there ∙ ap Some (sym same));
       cached = λ none. absurd (let no : None ≡ Some was = sym none ∙ there in cc);
     },
-    tt,
   )
-  joined is_clone es fs gs d x p i was now (Err e) placed sorted there moved is written same stays places kept =
-      let all : fs ≡ es = moved ∙ is ∙ ap (insert_entry R es d) kept ∙ insert_entry-same o d was es sorted there in (
-        rw all placed,
-        tt,
-        tt,
-        record { messages = ap messages_of all; places = λ e q. ap (λ l. place_at (eq_by_cmp R) key l e q) all },
-      )
 
   -- a message that is not cached is put in with a place
-  pub cached : (is_clone : T → T → Type 0) (es fs gs : List (D × Placed K T)) (d : D) (x : T) (p owner : K) (i : ℕ) (now : Placed K T)
+  pub cached : (is_clone : T → T → Type 0) (es fs : List (D × Placed K T)) (d : D) (x : T) (p : K) (i : ℕ) (now : Placed K T)
       → IsPlaced (eq_by_cmp R) key es → lookup (eq_by_cmp R d) es ≡ None
-      → fs ≡ gs → gs ≡ insert_entry R es d now → ((e : D) → lookup (eq_by_cmp R e) gs ≡ cond (eq_by_cmp R d e) (Some now) (lookup (eq_by_cmp R e) es))
-      → is_clone x now.message → key p owner ≡ true → now.places ≡ (owner, i) ∷ []
+      → fs ≡ insert_entry R es d now → ((e : D) → lookup (eq_by_cmp R e) fs ≡ cond (eq_by_cmp R d e) (Some now) (lookup (eq_by_cmp R e) es))
+      → is_clone x now.message → now.places ≡ (p, i) ∷ []
       → IsPlaced (eq_by_cmp R) key fs × Joins (eq_by_cmp R) key R is_clone d x p i es fs
-  cached is_clone es fs gs d x p owner i now placed none moved is written cloned equal places =
+  cached is_clone es fs d x p i now placed none is written cloned places =
       let one : (q : K) → lookup (key q) now.places ≡ cond (key p q) (Some i) None = λ q.
-      ap (lookup (key q)) places ∙ ap (λ b. cond b (Some i) None) (laws.symm q owner ∙ sym (laws.congr p owner q equal)) in rw moved (
-        placed_written laws (eq_by_cmp_equiv o) es gs d now placed written (one_place owner i now.places places),
+      ap (lookup (key q)) places ∙ ap (λ b. cond b (Some i) None) (laws.symm q p) in (
+        placed_written laws (eq_by_cmp_equiv o) es fs d now placed written (one_place p i now.places places),
         record {
-          places = places_inserted key (eq_by_cmp_equiv o) es d p gs now i none written one;
+          places = places_inserted key (eq_by_cmp_equiv o) es d p fs now i none written one;
           stays = λ there. absurd (let no : false ≡ true = sym (ap is_some none) ∙ there in cc);
           cached = λ _. record {
             copy = now.message;
             cloned = cloned;
             entries = ap messages_of is ∙ messages_inserted R es d now;
-            finds = λ e. lookup-messages (eq_by_cmp R e) gs ∙ ap (option_map (λ it. it.message)) (written e)
+            finds = λ e. lookup-messages (eq_by_cmp R e) fs ∙ ap (option_map (λ it. it.message)) (written e)
                 ∙ put_message (eq_by_cmp R d e) now now.message (lookup (eq_by_cmp R e) es) refl
                 ∙ ap (λ b. cond (eq_by_cmp R d e) (Some now.message) b) (sym (lookup-messages (eq_by_cmp R e) es));
           };
         },
       )
 
-  module _ (es fs gs : List (D × Placed K T)) (d : D) (p : K) (was now : Placed K T) (placed : IsPlaced (eq_by_cmp R) key es) (there : lookup (eq_by_cmp R d) es ≡ Some was) (moved : fs ≡ gs)
+  module _ (es fs : List (D × Placed K T)) (d : D) (p : K) (was now : Placed K T) (placed : IsPlaced (eq_by_cmp R) key es) (there : lookup (eq_by_cmp R d) es ≡ Some was)
       (removed : (q : K) → lookup (key q) now.places ≡ cond (key p q) None (lookup (key q) was.places)) where
     -- a message loses a place that is not its last
-    pub left : IsStrictlySortedBy R (keys_of es) → gs ≡ insert_entry R es d now → ((e : D) → lookup (eq_by_cmp R e) gs ≡ cond (eq_by_cmp R d e) (Some now) (lookup (eq_by_cmp R e) es)) → now.message ≡ was.message
+    pub left : IsStrictlySortedBy R (keys_of es) → fs ≡ insert_entry R es d now → ((e : D) → lookup (eq_by_cmp R e) fs ≡ cond (eq_by_cmp R d e) (Some now) (lookup (eq_by_cmp R e) es)) → now.message ≡ was.message
         → (now.places ≡ [] → ⊥) → Leaves (eq_by_cmp R) key d p es fs × IsPlaced (eq_by_cmp R) key fs
     left sorted is written same some =
-        let messages : messages_of gs ≡ messages_of es = ap messages_of is ∙ messages_inserted R es d now
+        let messages : messages_of fs ≡ messages_of es = ap messages_of is ∙ messages_inserted R es d now
         ∙ insert_entry-same o d now.message (messages_of es) (subst (IsStrictlySortedBy R) (sym (keys_of-map_values (λ it. it.message) es)) sorted)
-        (lookup-messages (eq_by_cmp R d) es ∙ ap (option_map (λ it. it.message)) there ∙ ap Some (sym same)) in rw moved (
+        (lookup-messages (eq_by_cmp R d) es ∙ ap (option_map (λ it. it.message)) there ∙ ap Some (sym same)) in (
           record {
-            places = places_written key (eq_by_cmp_equiv o) es d p gs was now None there written removed;
+            places = places_written key (eq_by_cmp_equiv o) es d p fs was now None there written removed;
             messages = inl messages;
             fewer = λ e x found. ap (lookup (eq_by_cmp R e)) (sym messages) ∙ found;
           },
-          placed_written laws (eq_by_cmp_equiv o) es gs d now placed written some,
+          placed_written laws (eq_by_cmp_equiv o) es fs d now placed written some,
         )
 
     -- a message leaves with its last place
-    pub left_last : gs ≡ remove_entry (eq_by_cmp R d) es → ((e : D) → lookup (eq_by_cmp R e) gs ≡ cond (eq_by_cmp R d e) None (lookup (eq_by_cmp R e) es)) → now.places ≡ []
+    pub left_last : fs ≡ remove_entry (eq_by_cmp R d) es → ((e : D) → lookup (eq_by_cmp R e) fs ≡ cond (eq_by_cmp R d e) None (lookup (eq_by_cmp R e) es)) → now.places ≡ []
         → Leaves (eq_by_cmp R) key d p es fs × IsPlaced (eq_by_cmp R) key fs
-    left_last is gone empty = rw moved (
+    left_last is gone empty = (
       record {
-        places = places_left key (eq_by_cmp_equiv o) es d p gs was now there removed empty gone;
+        places = places_left key (eq_by_cmp_equiv o) es d p fs was now there removed empty gone;
         messages = inr (ap messages_of is ∙ messages_removed (eq_by_cmp R d) es, gone d ∙ ap (λ b. cond b None (lookup (eq_by_cmp R d) es)) ((eq_by_cmp_equiv o).refl d));
-        fewer = fewer_left (eq_by_cmp R) es gs d gone;
+        fewer = fewer_left (eq_by_cmp R) es fs d gone;
       },
-      placed_left (eq_by_cmp R) key es gs d placed gone,
+      placed_left (eq_by_cmp R) key es fs d placed gone,
     )

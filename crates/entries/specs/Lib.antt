@@ -1,5 +1,6 @@
 pub mod Link
 pub mod Linked
 pub mod Placed
+pub mod Slots
 pub mod Store
 pub mod Table

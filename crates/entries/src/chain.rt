@@ -109,50 +109,6 @@ pub fn free<K: Drop, D: Drop>(places: &mut Slab<Entry<K, D>>, mut chain: Chain)
     while let Some(_) = pop_oldest(places, &mut chain) {}
 }
 
-/// Returns the digests of a chain, the newest first.
-pub fn collect<K, D: Copy>(
-    alloc: Global,
-    places: &Slab<Entry<K, Charged<D>>>,
-    chain: &Chain,
-) -> Result<Vec<D>, AllocError>
-    requires { chain.now.len ≡ length (nodes (get places.now) chain.now) }
-    ensures digests { IfOk result (λ digests. digests.items ≡ digests_of (nodes
-        (get places.now) chain.now)) }
-    ensures succeeds_on_empty { nodes (get places.now) chain.now ≡ [] → IsOk result }
-{
-    if chain.len == 0 {
-        return Ok(Vec::new(alloc));
-    }
-    let mut digests = Vec::with_capacity(alloc, chain.len)?;
-    let mut at = chain.newest;
-    let mut left = chain.len;
-    while left > 0 {
-        left -= 1;
-        if let Some(entry) = stands_at(places, at) {
-            digests.push(entry.digest.digest)?;
-            at = entry.older;
-        }
-    }
-    Ok(digests)
-}
-
-/// Copies the digests of a chain to the front of `out`, the newest first, as many as there are
-/// places for.
-pub fn copy_to<K, D: Copy>(places: &Slab<Entry<K, Charged<D>>>, chain: &Chain, out: &mut [D])
-    ensures { out.new ≡ overlaid (digests_of (nodes (get places.now) chain.now)) out.old }
-{
-    let mut at = chain.newest;
-    let mut i = 0;
-    while i < chain.len && i < out.len() {
-        let Some(entry) = stands_at(places, at) else {
-            return;
-        };
-        out[i] = entry.digest.digest;
-        at = entry.older;
-        i += 1;
-    }
-}
-
 /// Returns the entry that a link leads to.
 fn stands_at<K, D>(places: &Slab<Entry<K, D>>, at: Link) -> Option<&Entry<K, D>>
     ensures { option_copied result ≡ entry_at (get places.now) at }
@@ -190,6 +146,17 @@ pub fn start<'a, K, D>(places: &'a Slab<Entry<K, Charged<D>>>, chain: &Chain) ->
         places,
         at: chain.newest,
         left: chain.len,
+    }
+}
+
+/// Returns a walk with nothing left.
+pub fn at_end<'a, K, D>(places: &'a Slab<Entry<K, Charged<D>>>) -> Walk<'a, K, D>
+    ensures { result ≡ [] }
+{
+    Walk {
+        places,
+        at: Link::none(),
+        left: 0,
     }
 }
 

@@ -13,4 +13,4 @@ pub mod table;
 
 pub use entry::Charged;
 pub use store::Entries;
-pub use table::Table;
+pub use table::{Found, Named, Table};

@@ -9,7 +9,7 @@ ghost use Rattle.entries.specs.Store.{IsStore, IsPlaceOf, IsNoPlaceOf, Puts, Evi
 ghost use Rattle.entries.specs.Store.{Removes, nodes, lists_of, items_at, moved, digests_of, bytes_of, overlaid};
 ghost use Rattle.entries.specs.Store.{IsSummed, same_number};
 
-use crate::chain;
+use crate::chain::{self, Walk};
 use crate::entry::{Chain, Charged, Entry};
 use crate::link::Link;
 use slab::Slab;
@@ -155,33 +155,23 @@ impl<D: Copy> Entries<D> {
         close(&mut self.places, &mut self.chains, list);
     }
 
-    /// Returns the digests of the list, the newest first. No digests are returned without an
-    /// allocation.
-    pub fn list(&self, alloc: Global, list: usize) -> Result<Vec<D>, AllocError>
-        ensures digests { IfOk result (λ digests. digests.items
-            ≡ digests_of (items_at same_number list self.now.lists)) }
-        ensures succeeds_on_empty { items_at same_number list self.now.lists ≡ []
-            → IsOk result }
+    /// Returns how many digests the list has.
+    pub fn count(&self, list: usize) -> usize
+        ensures { result ≡ length (items_at same_number list self.now.lists) }
     {
         match self.chains.get(list) {
-            Some(chain) => chain::collect(alloc, &self.places, chain),
-            None => Ok(Vec::new(alloc)),
+            Some(chain) => chain.len,
+            None => 0,
         }
     }
 
-    /// Copies the digests of the list to the front of `out`, the newest first, as many as there are
-    /// places for. Returns how many digests there are. Does not allocate.
-    pub fn list_into(&self, list: usize, out: &mut [D]) -> usize
-        ensures len { result ≡ length (items_at same_number list self.now.lists) }
-        ensures digests { out.new ≡ overlaid
-            (digests_of (items_at same_number list self.now.lists)) out.old }
+    /// Starts a walk over the digests of the list, the newest first. Does not allocate.
+    pub fn walk(&self, list: usize) -> Walk<'_, usize, D>
+        ensures { result ≡ digests_of (items_at same_number list self.now.lists) }
     {
         match self.chains.get(list) {
-            Some(chain) => {
-                chain::copy_to(&self.places, chain, out);
-                chain.len
-            }
-            None => 0,
+            Some(chain) => chain::start(&self.places, chain),
+            None => chain::at_end(&self.places),
         }
     }
 }

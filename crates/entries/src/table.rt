@@ -1,139 +1,183 @@
-//! The messages by digest.
+// SPDX-License-Identifier: Apache-2.0
+//! The messages by name, each in an item that goes by a number.
 ghost use Rattle.std.specs.Prelude.{◌≡◌, true, false, length, is_some, IsSome, Some, None, [], IfOk, OnErr};
+ghost use Rattle.std.specs.Prelude.{MatchOption};
 ghost use Rattle.std.specs.Option.{option_copied, option_map};
 ghost use Rattle.std.specs.List.{IsDistinct};
 ghost use Rattle.std.specs.Map.{lookup, keys_of};
 ghost use Rattle.std.specs.Ordering.{eq_by_cmp};
-ghost use Rattle.entries.specs.Table.{messages_of, place_at, IsPlaced, IsSame, Joins};
-ghost use Rattle.entries.specs.Table.{Leaves};
+ghost use Rattle.slab.specs.Slab.{get};
+ghost use Rattle.entries.specs.Store.{same_number};
+ghost use Rattle.entries.specs.Table.{place_at, Joins, Leaves, item_at, name_at, items_of};
+ghost use Rattle.entries.specs.Table.{GoesBy, IsTabled, KeepsNames, Takes};
+ghost use Rattle.entries.specs.Slots.{JoinsItem, AddsItem, LeavesItem, Inserts};
 
 use crate::item::Item;
+use slab::Slab;
 use std::alloc::{AllocError, Global};
 use std::collections::BTreeMap;
 use std::collections::btree_map::Entry;
 use std::marker::Model;
 
-/// Each message, and by key the place of its entry. A message has a place.
+/// What goes by a name.
+pub trait Named: Drop {
+    /// The name. Of those with equal names a table keeps the first.
+    type Name: Copy + Ord;
+
+    /// The own name.
+    ghost name_of: { Self → Self.Name };
+
+    /// Returns the own name. Does not allocate.
+    fn name(&self) -> Self::Name
+        ensures { result ≡ name_of self.now };
+}
+
+/// Where a message stands.
+#[derive(Clone, Copy)]
+pub struct Found {
+    /// The number of its item.
+    pub item: usize,
+    /// The place of its entry on the list, if it had one.
+    pub place: Option<usize>,
+    /// Whether a message of its name was there.
+    pub was_there: bool,
+}
+
+/// Each message once, under a number, and by list the place of its entry. A message has a place.
 #[derive(Drop)]
-pub struct Table<K: Ord + Drop, D: Ord + Drop, T: Drop> {
+pub struct Table<T: Named> {
     alloc: Global,
-    items: BTreeMap<D, Item<K, T>>,
+    items: Slab<Item<usize, T>>,
+    index: BTreeMap<T::Name, usize>,
 }
 
-impl<K: Ord + Drop, D: Ord + Drop, T: Drop> Model for Table<K, D, T> {
-    ghost use Rattle.std.specs.Prelude.{List};
-    ghost use Rattle.std.specs.Ordering.{eq_by_cmp};
-    ghost use Rattle.entries.specs.Placed.{Placed};
-    ghost use Rattle.entries.specs.Table.{IsPlaced};
+impl<T: Named> Model for Table<T> {
+    ghost use Rattle.entries.specs.Table.{Tabled, IsTabled};
 
-    ghost Value = { List (D × Placed K T) };
+    ghost Value = { Tabled T.Name T };
 
-    ghost view = { λ it. it.items.entries };
+    ghost view = { λ it. record { index = it.index.entries; slots = it.items.slots } };
 
-    ghost invariant = { λ it. IsPlaced (eq_by_cmp D.cmp) (eq_by_cmp K.cmp) it.items.entries };
+    ghost invariant = { λ it. IsTabled T.Name.cmp T.name_of
+        (record { index = it.index.entries; slots = it.items.slots }) };
 }
 
-impl<K: Ord + Clone + Drop, D: Ord + Drop, T: Clone + Drop> Table<K, D, T> {
+impl<T: Named + Clone> Table<T> {
     /// Creates an empty table. Does not allocate.
     pub fn new(alloc: Global) -> Self
-        ensures { result ≡ [] }
+        ensures { result ≡ record { index = []; slots = [] } }
     {
         Table {
             alloc,
-            items: BTreeMap::new(alloc),
+            items: Slab::new(alloc),
+            index: BTreeMap::new(alloc),
         }
     }
 
     /// Returns the number of messages.
     pub fn len(&self) -> usize
-        ensures len { result ≡ length self.now }
-        ensures distinct { IsDistinct (eq_by_cmp D.cmp) (keys_of self.now) }
+        ensures len { result ≡ length (items_of self.now) }
+        ensures distinct { IsDistinct (eq_by_cmp T.Name.cmp) (keys_of (items_of self.now)) }
+        ensures tabled { IsTabled T.Name.cmp T.name_of self.now }
     {
-        self.items.len()
+        self.index.len()
     }
 
-    /// Returns the message of `digest`.
-    pub fn get(&self, digest: &D) -> Option<&T>
-        ensures { option_copied result
-            ≡ option_map (λ item. item.message) (lookup (eq_by_cmp D.cmp digest.now) self.now) }
+    /// Returns the message of `name`.
+    pub fn get(&self, name: &T::Name) -> Option<&T>
+        ensures { option_copied result ≡ option_map (λ item. item.message)
+            (lookup (eq_by_cmp T.Name.cmp name.now) (items_of self.now)) }
     {
-        match self.items.get(digest) {
-            Some(item) => Some(item.message()),
+        match self.index.get(name) {
+            Some(item) => self.at(*item),
             None => None,
         }
     }
 
-    /// Returns the place of `peer` for `digest`, if it has one. Otherwise gives it this place, and
-    /// caches the message if the digest has none.
+    /// Returns the message of an item.
+    pub fn at(&self, item: usize) -> Option<&T>
+        ensures { option_copied result
+            ≡ option_map (λ found. found.message) (item_at self.now item) }
+    {
+        match self.items.get(item) {
+            Some(found) => Some(found.message()),
+            None => None,
+        }
+    }
+
+    /// Returns the place of the list for the message, if it has one. Otherwise gives it this place,
+    /// and caches a copy of the message if none of its name is there.
     ///
     /// A place that is there is returned without an allocation. On an allocation failure nothing
     /// changes.
-    pub fn insert(
-        &mut self,
-        digest: D,
-        message: &T,
-        peer: &K,
-        place: usize,
-    ) -> Result<Option<usize>, AllocError>
-        requires { (key copy : K) → K.is_clone key copy → eq_by_cmp K.cmp key copy ≡ true }
-        ensures found { IfOk result (λ found. found
-            ≡ place_at (eq_by_cmp D.cmp) (eq_by_cmp K.cmp) self.old digest peer.now) }
-        ensures stays { IfOk result (λ found. IsSome found → self.new ≡ self.old) }
-        ensures joined { IfOk result (λ found. found ≡ None
-            → Joins (eq_by_cmp D.cmp) (eq_by_cmp K.cmp) D.cmp T.is_clone digest message.now
-            peer.now place self.old self.new) }
-        ensures fails_for_new_places { OnErr result
-            (place_at (eq_by_cmp D.cmp) (eq_by_cmp K.cmp) self.old digest peer.now ≡ None) }
-        ensures err { OnErr result (IsSame (eq_by_cmp D.cmp) (eq_by_cmp K.cmp) self.old self.new) }
-        ensures placed { IsPlaced (eq_by_cmp D.cmp) (eq_by_cmp K.cmp) self.new }
+    pub fn insert(&mut self, message: &T, list: usize, place: usize) -> Result<Found, AllocError>
+        requires copies { (x y : T) → T.is_clone x y → y ≡ x }
+        ensures place { IfOk result (λ found. found.place ≡ place_at (eq_by_cmp T.Name.cmp)
+            same_number (items_of self.old) (T.name_of message.now) list) }
+        ensures there { IfOk result (λ found. found.was_there ≡ is_some (lookup
+            (eq_by_cmp T.Name.cmp (T.name_of message.now)) (items_of self.old))) }
+        ensures item { IfOk result (λ found. GoesBy T.Name.cmp T.name_of
+            (T.name_of message.now) self.new found.item) }
+        ensures stays { IfOk result (λ found. IsSome found.place → self.new ≡ self.old) }
+        ensures joined { IfOk result (λ found. found.place ≡ None
+            → Joins (eq_by_cmp T.Name.cmp) same_number T.Name.cmp T.is_clone
+            (T.name_of message.now) message.now list place (items_of self.old)
+            (items_of self.new)) }
+        ensures names { KeepsNames T.name_of self.old self.new }
+        ensures fails_for_new_places { OnErr result (place_at (eq_by_cmp T.Name.cmp)
+            same_number (items_of self.old) (T.name_of message.now) list ≡ None) }
+        ensures err { OnErr result (self.new ≡ self.old) }
+        ensures tabled { IsTabled T.Name.cmp T.name_of self.new }
     {
-        insert(self.alloc, &mut self.items, digest, message, peer, place)
+        insert(
+            self.alloc,
+            &mut self.items,
+            &mut self.index,
+            message,
+            list,
+            place,
+        )
     }
 
-    /// Removes the place of `peer` from the message of `digest`, and the message with its last
-    /// place. Does not allocate if the digest has a message.
-    pub fn remove(&mut self, digest: D, peer: &K)
-        ensures left { Leaves (eq_by_cmp D.cmp) (eq_by_cmp K.cmp) digest peer.now
-            self.old self.new }
-        ensures placed { IsPlaced (eq_by_cmp D.cmp) (eq_by_cmp K.cmp) self.new }
+    /// Removes the place of the list from an item, and the message with its last place. Does not
+    /// allocate.
+    pub fn remove(&mut self, item: usize, list: usize)
+        ensures { Takes T.Name.cmp T.name_of item list self.old self.new }
     {
-        leave(&mut self.items, digest, peer);
+        remove(&mut self.items, &mut self.index, item, list);
     }
 }
 
-/// Returns the place of a key, or gives it one.
-fn insert<K: Ord + Clone + Drop, D: Ord + Drop, T: Clone + Drop>(
+/// Returns the place of the list for the message, or gives it one.
+fn insert<T: Named + Clone>(
     alloc: Global,
-    items: &mut BTreeMap<D, Item<K, T>>,
-    digest: D,
+    items: &mut Slab<Item<usize, T>>,
+    index: &mut BTreeMap<T::Name, usize>,
     message: &T,
-    peer: &K,
+    list: usize,
     place: usize,
-) -> Result<Option<usize>, AllocError>
-    requires placed { IsPlaced (eq_by_cmp D.cmp) (eq_by_cmp K.cmp) items.old.entries }
-    requires copies { (key copy : K) → K.is_clone key copy → eq_by_cmp K.cmp key copy ≡ true }
-    ensures placed { IsPlaced (eq_by_cmp D.cmp) (eq_by_cmp K.cmp) items.new.entries }
-    ensures found { IfOk result (λ found. found
-        ≡ place_at (eq_by_cmp D.cmp) (eq_by_cmp K.cmp) items.old.entries digest peer.now) }
-    ensures stays { IfOk result (λ found. IsSome found → items.new.entries ≡ items.old.entries) }
-    ensures joined { IfOk result (λ found. found ≡ None
-        → Joins (eq_by_cmp D.cmp) (eq_by_cmp K.cmp) D.cmp T.is_clone digest message.now
-        peer.now place items.old.entries items.new.entries) }
-    ensures fails_for_new_places { OnErr result
-        (place_at (eq_by_cmp D.cmp) (eq_by_cmp K.cmp) items.old.entries digest peer.now ≡ None) }
-    ensures err { OnErr result (IsSame (eq_by_cmp D.cmp) (eq_by_cmp K.cmp) items.old.entries
-        items.new.entries) }
+) -> Result<Found, AllocError>
+    requires copies { (x y : T) → T.is_clone x y → y ≡ x }
+    requires tabled { IsTabled T.Name.cmp T.name_of
+        (record { index = index.old.entries; slots = items.old.slots }) }
+    ensures { Inserts T.Name.cmp T.name_of T.is_clone message.now list place result
+        (record { index = index.old.entries; slots = items.old.slots })
+        (record { index = index.new.entries; slots = items.new.slots }) }
 {
-    match items.entry(digest) {
+    match index.entry(message.name()) {
         Ok(entry) => match entry {
-            Entry::Occupied(found) => found.into_mut().join(peer, place),
-            Entry::Vacant(vacant) => match Item::new(alloc, message, peer, place) {
+            Entry::Occupied(found) => join(items, *found.into_mut(), list, place),
+            Entry::Vacant(vacant) => match add(alloc, items, message, list, place) {
                 Ok(item) => {
                     vacant.insert(item);
-                    Ok(None)
+                    Ok(Found {
+                        item,
+                        place: None,
+                        was_there: false,
+                    })
                 }
                 Err(refused) => {
-                    // Gives back the room for a message.
+                    // Gives back the room for a name.
                     if let Err(_stays) = Entry::Vacant(vacant).or_try_insert_with(|| Err(
                         refused,
                     )) {}
@@ -145,29 +189,76 @@ fn insert<K: Ord + Clone + Drop, D: Ord + Drop, T: Clone + Drop>(
     }
 }
 
-/// Removes a place, and the message with its last place.
-fn leave<K: Ord + Drop, D: Ord + Drop, T: Drop>(
-    items: &mut BTreeMap<D, Item<K, T>>,
-    digest: D,
-    peer: &K,
-)
-    requires { IsPlaced (eq_by_cmp D.cmp) (eq_by_cmp K.cmp) items.old.entries }
-    ensures left { Leaves (eq_by_cmp D.cmp)
-        (eq_by_cmp K.cmp) digest peer.now items.old.entries items.new.entries }
-    ensures placed { IsPlaced (eq_by_cmp D.cmp) (eq_by_cmp K.cmp) items.new.entries }
+/// Returns the place of the list in an item, or gives it one.
+fn join<T: Drop>(
+    items: &mut Slab<Item<usize, T>>,
+    item: usize,
+    list: usize,
+    place: usize,
+) -> Result<Found, AllocError>
+    requires { is_some (get items.old item) ≡ true }
+    ensures { JoinsItem item list place result items.old.slots items.new.slots }
 {
-    match items.entry(digest) {
-        Ok(entry) => match entry {
-            Entry::Occupied(mut found) => {
-                if found.get_mut().remove(peer) {
-                    found.remove();
-                }
-            }
-            Entry::Vacant(vacant) => {
-                // Gives back the room for a message.
-                if let Err(_stays) = Entry::Vacant(vacant).or_try_insert_with(|| Err(AllocError)) {}
-            }
+    match items.get_mut(item) {
+        Some(found) => match found.join(&list, place) {
+            Ok(place) => Ok(Found {
+                item,
+                place,
+                was_there: true,
+            }),
+            Err(refused) => Err(refused),
         },
-        Err(_refused) => {}
+        None => unreachable!(),
+    }
+}
+
+/// Puts in an item with one place.
+fn add<T: Clone + Drop>(
+    alloc: Global,
+    items: &mut Slab<Item<usize, T>>,
+    message: &T,
+    list: usize,
+    place: usize,
+) -> Result<usize, AllocError>
+    ensures ok { IfOk result (λ item. AddsItem T.is_clone message.now item list place
+        items.old.slots items.new.slots) }
+    ensures err { OnErr result (items.new.slots ≡ items.old.slots) }
+{
+    items.reserve(1)?;
+    let item = Item::new(alloc, message, &list, place)?;
+    Ok(items.insert_reserved(item))
+}
+
+/// Removes the place of the list from an item, and the message with its last place.
+fn remove<T: Named>(
+    items: &mut Slab<Item<usize, T>>,
+    index: &mut BTreeMap<T::Name, usize>,
+    item: usize,
+    list: usize,
+)
+    requires { IsTabled T.Name.cmp T.name_of
+        (record { index = index.old.entries; slots = items.old.slots }) }
+    ensures { Takes T.Name.cmp T.name_of item list
+        (record { index = index.old.entries; slots = items.old.slots })
+        (record { index = index.new.entries; slots = items.new.slots }) }
+{
+    // The names ascend: so says `len`.
+    let _names = index.len();
+    if leave(items, item, list) {
+        if let Some(found) = items.try_remove(item) {
+            index.remove(&found.message().name());
+        }
+    }
+}
+
+/// Removes the place of the list from an item. Returns whether there is one, with no place left.
+fn leave<T: Drop>(items: &mut Slab<Item<usize, T>>, item: usize, list: usize) -> bool
+    ensures { MatchOption (get items.old item)
+        ((result ≡ false) × (items.new.slots ≡ items.old.slots))
+        (λ was. LeavesItem item list was result items.old.slots items.new.slots) }
+{
+    match items.get_mut(item) {
+        Some(found) => found.remove(&list),
+        None => false,
     }
 }

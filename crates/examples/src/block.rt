@@ -2,6 +2,7 @@
 ghost use Rattle.std.specs.Prelude.{◌++◌, [], refl};
 ghost use Rattle.sha2.specs.Sha256.{sha256};
 ghost use Rattle.std.specs.Int.{bytes_high_first};
+ghost use Rattle.broadcast_core.specs.Exact.{exact_bytes};
 
 use anyhow::Error;
 use broadcast_core::{
@@ -31,6 +32,8 @@ impl Digestible for Block {
         let height = self.height.to_be_bytes();
         Digest::sha256_of(&[&self.parent.bytes, &height, &self.payload.bytes])
     }
+
+    ghost exact = { exact_bytes };
 }
 
 impl Record for Block {

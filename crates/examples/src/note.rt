@@ -1,6 +1,7 @@
 //! A message type of one's own.
 ghost use Rattle.std.specs.Prelude.{◌≡◌, IfOk, refl};
 ghost use Rattle.sha2.specs.Sha256.{sha256};
+ghost use Rattle.broadcast_core.specs.Exact.{exact_bytes};
 
 use anyhow::Error;
 use broadcast_core::{
@@ -25,6 +26,8 @@ impl Digestible for Note {
     fn digest(&self) -> Digest {
         Digest::sha256(&self.text.bytes)
     }
+
+    ghost exact = { exact_bytes };
 }
 
 impl Record for Note {

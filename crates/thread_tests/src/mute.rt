@@ -1,5 +1,6 @@
 //! A message without an encoding.
 ghost use Rattle.thread_tests.specs.Mute.{no_encoding, never_read, mute_within, mute_refusals, mute_reads_back};
+ghost use Rattle.broadcast_core.specs.Exact.{exact_number};
 
 use broadcast_core::{Codec, CodecError, Digestible, EncodeSize, RangeCfg, Read, Write};
 use std::alloc::Global;
@@ -52,4 +53,6 @@ impl Digestible for Mute {
     fn digest(&self) -> u8 {
         self.0
     }
+
+    ghost exact = { exact_number };
 }

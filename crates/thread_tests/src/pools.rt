@@ -1,4 +1,6 @@
 //! Pools: one that digests for a started engine, and ones whose thread is held while it digests.
+ghost use Rattle.broadcast_core.specs.Exact.{exact_number};
+
 use super::gates::{Meeting, POLLS};
 use super::nodes::start_pooled;
 use super::patient::{LIMIT, pause};
@@ -118,6 +120,8 @@ impl Digestible for Held {
         self.gate.pass();
         self.number
     }
+
+    ghost exact = { exact_number };
 }
 
 /// A pool whose thread digests a message that waits at the gate.

@@ -69,7 +69,7 @@ impl<P: PublicKey, M: Digestible> Cache<P, M> {
     }
 
     /// Puts the digest in front of the list of a primary key, with its charge, and drops the oldest
-    /// digests beyond the limits.
+    /// digests beyond the limits. Returns also whether its message is known to have been cached.
     pub fn take(
         &mut self,
         primary: &Set<P>,
@@ -78,7 +78,7 @@ impl<P: PublicKey, M: Digestible> Cache<P, M> {
         charge: u64,
         deque_size: usize,
         byte_budget: u64,
-    ) -> Result<Outcome, AllocError>
+    ) -> Result<(Outcome, bool), AllocError>
         requires size { length (items_at (eq_by_cmp P.cmp) peer.now self.old.lists) ≤ deque_size }
         requires bytes { bytes_of (items_at (eq_by_cmp P.cmp) peer.now self.old.lists)
             ≤ byte_budget }
@@ -86,8 +86,10 @@ impl<P: PublicKey, M: Digestible> Cache<P, M> {
             → list_any (eq_by_cmp P.cmp peer.now) primary.now ≡ true }
         ensures outcome { let same = same_by P.cmp M.Digest.cmp in
             let cs = items_at same.key peer.now self.old.lists in
-            IfOk result (λ outcome. outcome ≡ outcome_of (list_any (same.key peer.now) primary.now)
+            IfOk result (λ taken. taken.0 ≡ outcome_of (list_any (same.key peer.now) primary.now)
             true (has_digest same.digest message.now.digest cs)) }
+        ensures cached { IfOk result (λ taken. taken.1 ≡ true → is_some (lookup
+            (eq_by_cmp M.Digest.cmp message.now.digest) self.old.messages) ≡ true) }
         ensures ok { let same = same_by P.cmp M.Digest.cmp in
             let cs = items_at same.key peer.now self.old.lists in
             let c = at_charge message.now.digest charge in
@@ -109,8 +111,8 @@ impl<P: PublicKey, M: Digestible> Cache<P, M> {
             Some(list) => self
                 .shelf
                 .take(*list, message, charge, deque_size, byte_budget),
-            None if primary.position(peer).is_none() => Ok(Outcome::Ineligible),
-            None if deque_size == 0 => Ok(Outcome::Inserted),
+            None if primary.position(peer).is_none() => Ok((Outcome::Ineligible, false)),
+            None if deque_size == 0 => Ok((Outcome::Inserted, false)),
             None => self.take_first(peer, message, charge, deque_size, byte_budget),
         }
     }
@@ -123,9 +125,11 @@ impl<P: PublicKey, M: Digestible> Cache<P, M> {
         charge: u64,
         deque_size: usize,
         byte_budget: u64,
-    ) -> Result<Outcome, AllocError>
+    ) -> Result<(Outcome, bool), AllocError>
         requires absent { lookup (eq_by_cmp P.cmp peer.now) self.old.lists ≡ None }
-        ensures outcome { IfOk result (λ outcome. outcome ≡ outcome_of true true false) }
+        ensures outcome { IfOk result (λ taken. taken.0 ≡ outcome_of true true false) }
+        ensures cached { IfOk result (λ taken. taken.1 ≡ true → is_some (lookup
+            (eq_by_cmp M.Digest.cmp message.now.digest) self.old.messages) ≡ true) }
         ensures ok { let same = same_by P.cmp M.Digest.cmp in
             let c = at_charge message.now.digest charge in
             OnOk result (Stores same peer.now message.now
@@ -142,7 +146,7 @@ impl<P: PublicKey, M: Digestible> Cache<P, M> {
             .shelf
             .take(list, message, charge, deque_size, byte_budget)
         {
-            Ok(outcome) => Ok(outcome),
+            Ok(taken) => Ok(taken),
             Err(refused) => {
                 self.numbers.remove(peer);
                 self.shelf.close(list);

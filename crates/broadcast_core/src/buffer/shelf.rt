@@ -6,36 +6,39 @@ ghost use Rattle.std.specs.List.{IsDistinct};
 ghost use Rattle.std.specs.Map.{lookup, keys_of};
 ghost use Rattle.std.specs.Ordering.{eq_by_cmp};
 ghost use Rattle.entries.specs.Store.{same_number, overlaid, items_at as nodes_at, bytes_of as sum_of};
-ghost use Rattle.entries.specs.Table.{place_at, IsPlaced, IsSame, Leaves};
+ghost use Rattle.entries.specs.Table.{place_at, items_of, IsTabled, KeepsNames, Takes};
 ghost use Rattle.broadcast_core.specs.Content.{same_listed, same_charged, without, at_charge, digests_of, bytes_of};
 ghost use Rattle.broadcast_core.specs.Content.{among, within, fronted, items_at, outcome_of};
 ghost use Rattle.broadcast_core.specs.Stored.{has_digest};
-ghost use Rattle.broadcast_core.specs.Indexed.{Holds, Pushes};
+ghost use Rattle.broadcast_core.specs.Indexed.{names_of, Holds, Pushes};
 
 use crate::digested::{Digested, Digestible};
 use crate::outcome::Outcome;
-use entries::{Charged, Entries, Table};
+use entries::{Charged, Entries, Found, Table};
 use std::alloc::{AllocError, Global};
 use std::marker::Model;
 
-/// Lists that go by numbers, and the messages of their digests.
+/// Lists that go by numbers, and the messages of their digests. An entry of a list has the number
+/// of its message's item in place of the digest.
 #[derive(Drop)]
 pub struct Shelf<M: Digestible> {
-    lists: Entries<M::Digest>,
-    table: Table<usize, M::Digest, Digested<M>>,
+    lists: Entries<usize>,
+    table: Table<Digested<M>>,
 }
 
 impl<M: Digestible> Model for Shelf<M> {
     ghost use Rattle.std.specs.Prelude.{ℕ};
     ghost use Rattle.broadcast_core.specs.Content.{same_listed};
-    ghost use Rattle.broadcast_core.specs.Indexed.{IsIndexed, stored_of};
+    ghost use Rattle.broadcast_core.specs.Indexed.{IsShelved, names_of, shelved_of};
+    ghost use Rattle.entries.specs.Table.{items_of};
     ghost use Rattle.broadcast_core.specs.Stored.{Stored};
 
     ghost Value = { Stored ℕ M M.Digest };
 
-    ghost view = { λ it. stored_of it.lists.lists it.table };
+    ghost view = { λ it. shelved_of it.lists.lists it.table };
 
-    ghost invariant = { λ it. IsIndexed (same_listed M.Digest.cmp) it.lists.lists it.table };
+    ghost invariant = { λ it. IsShelved (same_listed M.Digest.cmp) (names_of it.table)
+        it.lists.lists (items_of it.table) };
 }
 
 impl<M: Digestible> Shelf<M> {
@@ -88,7 +91,7 @@ impl<M: Digestible> Shelf<M> {
     }
 
     /// Puts the digest in front of the list, with its charge, and drops the oldest digests beyond
-    /// the limits.
+    /// the limits. Returns also whether its message is known to have been cached.
     pub fn take(
         &mut self,
         list: usize,
@@ -96,15 +99,17 @@ impl<M: Digestible> Shelf<M> {
         charge: u64,
         deque_size: usize,
         byte_budget: u64,
-    ) -> Result<Outcome, AllocError>
+    ) -> Result<(Outcome, bool), AllocError>
         requires there { is_some (lookup (same_number list) self.old.lists) ≡ true }
         requires size { length (items_at same_number list self.old.lists) ≤ deque_size }
         requires bytes { bytes_of (items_at same_number list self.old.lists)
             ≤ byte_budget }
         ensures outcome { let same = same_listed M.Digest.cmp in
             let cs = items_at same.key list self.old.lists in
-            IfOk result (λ outcome. outcome
+            IfOk result (λ taken. taken.0
             ≡ outcome_of true true (has_digest same.digest message.now.digest cs)) }
+        ensures cached { IfOk result (λ taken. taken.1 ≡ true → is_some (lookup
+            (eq_by_cmp M.Digest.cmp message.now.digest) self.old.messages) ≡ true) }
         ensures ok { let same = same_listed M.Digest.cmp in
             let cs = items_at same.key list self.old.lists in
             let c = at_charge message.now.digest charge in
@@ -117,47 +122,17 @@ impl<M: Digestible> Shelf<M> {
             (digests_of (items_at same_number list self.old.lists)) ≡ true → IsOk result }
         ensures succeeds_at_size_zero { deque_size ≡ 0 → IsOk result }
     {
-        let (is_new, bytes) = self.put(list, message, charge, deque_size)?;
-        if bytes <= u128::from(byte_budget) {
-            return Ok(outcome(is_new));
-        }
-        self.cut(list, byte_budget);
-        Ok(outcome(is_new))
-    }
-
-    /// Puts the digest in front of the list, which keeps at most `deque_size` digests.
-    /// Returns whether it is new there, and the sum of the charges on the list.
-    fn put(
-        &mut self,
-        list: usize,
-        message: &Digested<M>,
-        charge: u64,
-        deque_size: usize,
-    ) -> Result<(bool, u128), AllocError>
-        requires there { is_some (lookup (same_number list) self.old.lists) ≡ true }
-        requires size { length (items_at same_number list self.old.lists) ≤ deque_size }
-        requires room { bytes_of (items_at same_number list self.old.lists) < 2 ^ 64 }
-        ensures new { let same = same_listed M.Digest.cmp in
-            let cs = items_at same.key list self.old.lists in
-            IfOk result (λ new. new.0 ≡ not (has_digest same.digest message.now.digest cs)) }
-        ensures bytes { IfOk result (λ new. new.1
-            ≡ bytes_of (items_at same_number list self.new.lists)) }
-        ensures ok { let same = same_listed M.Digest.cmp in
-            let cs = items_at same.key list self.old.lists in
-            let c = at_charge message.now.digest charge in
-            OnOk result (Stores same list message.now
-            (take deque_size (c ∷ without (same_charged same.digest) c cs)) self.old self.new) }
-        ensures err { OnErr result (self.new ≡ self.old) }
-        ensures succeeds_on_duplicate { among (eq_by_cmp M.Digest.cmp) message.now.digest
-            (digests_of (items_at same_number list self.old.lists)) ≡ true → IsOk result }
-        ensures succeeds_at_size_zero { deque_size ≡ 0 → IsOk result }
-    {
         if deque_size == 0 {
             // Shows the proof the invariant.
             let _lists = &self.lists;
-            return Ok((true, 0));
+            return Ok((Outcome::Inserted, false));
         }
-        self.insert(list, message, charge, deque_size)
+        let (is_new, was_cached, bytes) = self.insert(list, message, charge, deque_size)?;
+        if bytes <= u128::from(byte_budget) {
+            return Ok((outcome(is_new), was_cached));
+        }
+        self.cut(list, byte_budget);
+        Ok((outcome(is_new), was_cached))
     }
 
     /// Drops the oldest digests of the list until their charges sum to at most `byte_budget`.
@@ -166,19 +141,19 @@ impl<M: Digestible> Shelf<M> {
             (items_at same_number list self.old.lists)) self.old self.new }
     {
         while let Some(stale) = self.lists.evict_over(list, byte_budget) {
-            self.table.remove(stale.digest, &list);
+            self.table.remove(stale.digest, list);
         }
     }
 
     /// Puts the digest in front of the list, which keeps at least one. Returns whether it
-    /// is new there, and the sum of the charges.
+    /// is new there, whether its message was cached, and the sum of the charges.
     fn insert(
         &mut self,
         list: usize,
         message: &Digested<M>,
         charge: u64,
         size: usize,
-    ) -> Result<(bool, u128), AllocError>
+    ) -> Result<(bool, bool, u128), AllocError>
         requires there { is_some (lookup (same_number list) self.old.lists) ≡ true }
         requires size { length (items_at same_number list self.old.lists) ≤ size }
         requires some { 0 < size }
@@ -186,7 +161,9 @@ impl<M: Digestible> Shelf<M> {
         ensures new { let same = same_listed M.Digest.cmp in
             let cs = items_at same.key list self.old.lists in
             IfOk result (λ new. new.0 ≡ not (has_digest same.digest message.now.digest cs)) }
-        ensures bytes { IfOk result (λ new. new.1
+        ensures cached { IfOk result (λ new. new.1 ≡ is_some (lookup
+            (eq_by_cmp M.Digest.cmp message.now.digest) self.old.messages)) }
+        ensures bytes { IfOk result (λ new. new.2
             ≡ bytes_of (items_at same_number list self.new.lists)) }
         ensures ok { let same = same_listed M.Digest.cmp in
             let cs = items_at same.key list self.old.lists in
@@ -199,16 +176,16 @@ impl<M: Digestible> Shelf<M> {
     {
         let found = hold(&mut self.table, list, message, self.lists.vacant())?;
         let charged = Charged {
-            digest: message.digest(),
+            digest: found.item,
             charge,
         };
-        let bytes = match found {
+        let bytes = match found.place {
             Some(place) => self.lists.promote(list, place, charged),
             None => push(&mut self.lists, &mut self.table, list, charged, size)?,
         };
         // Both arms leave the invariant here.
         let _lists = &self.lists;
-        Ok((found.is_none(), bytes))
+        Ok((found.place.is_none(), found.was_there, bytes))
     }
 
     /// Returns the sum of the charges on the list.
@@ -227,7 +204,18 @@ impl<M: Digestible> Shelf<M> {
         ensures distinct { IsDistinct (same_charged (eq_by_cmp M.Digest.cmp))
             (items_at same_number list self.now.lists) }
     {
-        self.lists.list(alloc, list)
+        let len = self.lists.count(list);
+        if len == 0 {
+            return Ok(Vec::new(alloc));
+        }
+        let mut digests = Vec::with_capacity(alloc, len)?;
+        let mut items = self.lists.walk(list);
+        while let Some(item) = items.next() {
+            if let Some(message) = self.table.at(item) {
+                digests.push(message.digest())?;
+            }
+        }
+        Ok(digests)
     }
 
     /// Copies the digests on the list to the front of `out`, newest first, as many as
@@ -237,7 +225,18 @@ impl<M: Digestible> Shelf<M> {
         ensures digests { out.new ≡ overlaid
             (digests_of (items_at same_number list self.now.lists)) out.old }
     {
-        self.lists.list_into(list, out)
+        let mut items = self.lists.walk(list);
+        let mut i = 0;
+        while i < out.len() {
+            let Some(item) = items.next() else {
+                break;
+            };
+            if let Some(message) = self.table.at(item) {
+                out[i] = message.digest();
+                i += 1;
+            }
+        }
+        self.lists.count(list)
     }
 
     /// Drops the list.
@@ -245,7 +244,7 @@ impl<M: Digestible> Shelf<M> {
         ensures { Drops (same_listed M.Digest.cmp) (list ∷ []) [] self.old self.new }
     {
         while let Some(stale) = self.lists.evict(list) {
-            self.table.remove(stale.digest, &list);
+            self.table.remove(stale.digest, list);
         }
         self.lists.remove(list);
     }
@@ -262,62 +261,67 @@ fn outcome(is_new: bool) -> Outcome
     }
 }
 
-/// Returns the place of the digest on the list, if it has one. Otherwise gives it this
-/// place, and caches the message.
+/// Returns where the message stands: its item, and its place on the list if it has one. Otherwise
+/// gives it this place, and caches the message if its digest has none.
 fn hold<M: Digestible>(
-    table: &mut Table<usize, M::Digest, Digested<M>>,
+    table: &mut Table<Digested<M>>,
     list: usize,
     message: &Digested<M>,
     place: usize,
-) -> Result<Option<usize>, AllocError>
-    ensures found { IfOk result (λ found. found ≡ place_at (eq_by_cmp M.Digest.cmp)
-        same_number table.old message.now.digest list) }
-    ensures stays { IfOk result (λ found. IsSome found → table.new ≡ table.old) }
-    ensures held { IfOk result (λ found. found ≡ None → Holds (same_listed M.Digest.cmp)
-        M.Digest.cmp list message.now place table.old table.new) }
+) -> Result<Found, AllocError>
+    ensures found { IfOk result (λ found. found.place ≡ place_at (eq_by_cmp M.Digest.cmp)
+        same_number (items_of table.old) message.now.digest list) }
+    ensures there { IfOk result (λ found. found.was_there ≡ is_some (lookup
+        (eq_by_cmp M.Digest.cmp message.now.digest) (items_of table.old))) }
+    ensures item { IfOk result (λ found.
+        names_of table.new found.item ≡ Some message.now.digest) }
+    ensures stays { IfOk result (λ found. IsSome found.place → table.new ≡ table.old) }
+    ensures held { IfOk result (λ found. found.place ≡ None
+        → Holds (same_listed M.Digest.cmp) M.Digest.cmp list message.now place
+        (items_of table.old) (items_of table.new)) }
+    ensures names { KeepsNames (λ m. m.digest) table.old table.new }
     ensures fails_for_new_places { OnErr result (place_at (eq_by_cmp M.Digest.cmp)
-        same_number table.old message.now.digest list ≡ None) }
-    ensures err { OnErr result (IsSame (eq_by_cmp M.Digest.cmp)
-        same_number table.old table.new) }
-    ensures placed { IsPlaced (eq_by_cmp M.Digest.cmp) same_number table.new }
+        same_number (items_of table.old) message.now.digest list ≡ None) }
+    ensures err { OnErr result (table.new ≡ table.old) }
+    ensures tabled { IsTabled M.Digest.cmp (λ m. m.digest) table.new }
 {
-    table.insert(message.digest(), message, &list, place)
+    table.insert(message, list, place)
 }
 
-/// Puts a digest that is in the table in front of the list, and takes the oldest out of
-/// both if the list has then more than `size`. Returns the sum of the charges on the list.
+/// Puts an item of the table in front of the list, and takes the oldest out of both if the list
+/// has then more than `size`. Returns the sum of the charges on the list.
 ///
-/// On an allocation failure the digest leaves the table, and the lists stay.
+/// On an allocation failure the list leaves the item, and the lists stay.
 fn push<M: Digestible>(
-    lists: &mut Entries<M::Digest>,
-    table: &mut Table<usize, M::Digest, Digested<M>>,
+    lists: &mut Entries<usize>,
+    table: &mut Table<Digested<M>>,
     list: usize,
-    charged: Charged<M::Digest>,
+    charged: Charged<usize>,
     size: usize,
 ) -> Result<u128, AllocError>
     requires there { is_some (lookup (same_number list) lists.old.lists) ≡ true }
     requires some { 0 < size }
     requires room { sum_of (nodes_at same_number list lists.old.lists) + charged.charge
         < 2 ^ 128 }
+    requires tabled { IsTabled M.Digest.cmp (λ m. m.digest) table.old }
     ensures bytes { IfOk result (λ bytes. bytes
         ≡ sum_of (nodes_at same_number list lists.new.lists)) }
-    ensures ok { OnOk result (Pushes (same_listed M.Digest.cmp) list
-        (lists.old.vacant, charged) size lists.old.lists lists.new.lists table.old table.new) }
+    ensures ok { OnOk result (Pushes M.Digest.cmp list (lists.old.vacant, charged) size
+        lists.old.lists lists.new.lists table.old table.new) }
     ensures stays { OnErr result (lists.new ≡ lists.old) }
-    ensures err { OnErr result (Leaves (eq_by_cmp M.Digest.cmp) same_number charged.digest
-        list table.old table.new) }
-    ensures placed { IsPlaced (eq_by_cmp M.Digest.cmp) same_number table.old
-        → IsPlaced (eq_by_cmp M.Digest.cmp) same_number table.new }
+    ensures err { OnErr result (Takes M.Digest.cmp (λ m. m.digest) charged.digest list
+        table.old table.new) }
+    ensures tabled { IsTabled M.Digest.cmp (λ m. m.digest) table.new }
 {
     match lists.push(list, charged, size) {
         Ok((bytes, stale)) => {
             if let Some(stale) = stale {
-                table.remove(stale.digest, &list);
+                table.remove(stale.digest, list);
             }
             Ok(bytes)
         }
         Err(refused) => {
-            table.remove(charged.digest, &list);
+            table.remove(charged.digest, list);
             Err(refused)
         }
     }

@@ -60,7 +60,7 @@ impl<P: PublicKey, M: Digestible, W: Drop> State<P, M, W> {
             (option_map length (M.encoding message.now.message))
             (with_own own self.old) (with_own own self.new) result }
     {
-        let outcome = store(
+        let (outcome, was_cached) = store(
             &self.primary,
             &mut self.cache,
             self.deque_size,
@@ -68,12 +68,14 @@ impl<P: PublicKey, M: Digestible, W: Drop> State<P, M, W> {
             peer,
             message,
         )?;
-        let served = self.waiters.take(&message.digest());
+        // A cached digest has no waiters.
+        let served = self.waiters.take(&message.digest(), was_cached);
         Ok(Taken { outcome, served })
     }
 }
 
 /// Puts the digest in front of the list of a primary key, if its charge is within the budget.
+/// Returns also whether its message is known to have been cached.
 fn store<P: PublicKey, M: Digestible + EncodeSize>(
     primary: &Set<P>,
     cache: &mut Cache<P, M>,
@@ -81,7 +83,7 @@ fn store<P: PublicKey, M: Digestible + EncodeSize>(
     byte_budget: u64,
     peer: &P,
     message: &Digested<M>,
-) -> Result<Outcome, AllocError>
+) -> Result<(Outcome, bool), AllocError>
     requires size { length (items_at (eq_by_cmp P.cmp) peer.now cache.old.lists) ≤ deque_size }
     requires bytes { bytes_of (items_at (eq_by_cmp P.cmp) peer.now cache.old.lists) ≤ byte_budget }
     requires primary_only { is_some (lookup (eq_by_cmp P.cmp peer.now) cache.old.lists) ≡ true
@@ -89,9 +91,11 @@ fn store<P: PublicKey, M: Digestible + EncodeSize>(
     ensures outcome { let same = same_by P.cmp M.Digest.cmp in
         let charge = option_map length (M.encoding message.now.message) in
         let cs = items_at same.key peer.now cache.old.lists in
-        IfOk result (λ outcome. outcome ≡ outcome_of (list_any (same.key peer.now) primary.now)
+        IfOk result (λ taken. taken.0 ≡ outcome_of (list_any (same.key peer.now) primary.now)
         (is_some (affordable byte_budget message.now.digest charge))
         (has_digest same.digest message.now.digest cs)) }
+    ensures cached { IfOk result (λ taken. taken.1 ≡ true → is_some (lookup
+        (eq_by_cmp M.Digest.cmp message.now.digest) cache.old.messages) ≡ true) }
     ensures ok { let same = same_by P.cmp M.Digest.cmp in
         let charge = option_map length (M.encoding message.now.message) in
         OnOk result (MatchBool (list_any (same.key peer.now) primary.now)
@@ -109,8 +113,8 @@ fn store<P: PublicKey, M: Digestible + EncodeSize>(
 {
     match charge_of(message, byte_budget) {
         Some(charge) => cache.take(primary, peer, message, charge, deque_size, byte_budget),
-        None if primary.position(peer).is_none() => Ok(Outcome::Ineligible),
-        None => Ok(Outcome::Oversize),
+        None if primary.position(peer).is_none() => Ok((Outcome::Ineligible, false)),
+        None => Ok((Outcome::Oversize, false)),
     }
 }
 

@@ -1,5 +1,5 @@
 //! The waiters, by digest.
-ghost use Rattle.std.specs.Prelude.{◌≡◌, ℕ, ◌+◌, ◌++◌, [], ◌∷◌, not, nat_lt, length, if◌then◌else◌, OnOk, IfErr};
+ghost use Rattle.std.specs.Prelude.{◌≡◌, true, ℕ, ◌+◌, ◌++◌, [], ◌∷◌, not, nat_lt, length, if◌then◌else◌, OnOk, IfErr};
 ghost use Rattle.std.specs.List.{filter, count_by, list_any, IsDistinct};
 ghost use Rattle.std.specs.BTreeMap.Range.{entries_between};
 ghost use Rattle.std.specs.declared.ops.Bound.TheVariants.{Unbounded};
@@ -93,13 +93,18 @@ impl<D: Ord + Copy, W: Drop> Waiters<D, W> {
         }
     }
 
-    /// Removes the waiters of `digest` and returns them. Does not allocate.
-    pub fn take(&mut self, digest: &D) -> Items<W>
+    /// Removes the waiters of `digest` and returns them. Does not allocate. Does not search if the
+    /// caller knows that there are none.
+    pub fn take(&mut self, digest: &D, has_none: bool) -> Items<W>
+        requires { has_none ≡ true → items_at (eq_by_cmp D.cmp) digest.now self.old ≡ [] }
         ensures served { result ≡ items_at (eq_by_cmp D.cmp) digest.now self.old }
         ensures left { let same = eq_by_cmp D.cmp in
             (e : D) → items_at same e self.new
             ≡ (if same digest.now e then [] else items_at same e self.old) }
     {
+        if has_none {
+            return Items::new(self.alloc);
+        }
         match self.by_digest.remove(digest) {
             Some(waiters) => waiters,
             None => Items::new(self.alloc),

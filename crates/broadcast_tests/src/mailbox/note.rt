@@ -1,5 +1,6 @@
 //! A message of one byte, and requests over it.
 ghost use Rattle.std.specs.Prelude.{◌∷◌, [], Some, ⊤};
+ghost use Rattle.broadcast_core.specs.Exact.{exact_number};
 
 use broadcast_core::{CodecError, Digested, Digestible, EncodeSize, Recipients, Write};
 use broadcast_mailbox::buffered::{Message, Responder};
@@ -19,6 +20,8 @@ impl Digestible for Note {
     fn digest(&self) -> u64 {
         u64::from(self.0)
     }
+
+    ghost exact = { exact_number };
 }
 
 impl Write for Note {

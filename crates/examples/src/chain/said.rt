@@ -2,6 +2,7 @@
 ghost use Rattle.std.specs.Prelude.{◌++◌, refl};
 ghost use Rattle.sha2.specs.Sha256.{sha256};
 ghost use Rattle.examples.specs.Said.{content};
+ghost use Rattle.broadcast_core.specs.Exact.{exact_bytes};
 
 use broadcast_core::{
     ByteList, CodecError, Digest, Digested, Digestible, EncodeSize, Key, Record, Wire, Write,
@@ -43,6 +44,8 @@ impl Digestible for Said {
             None => Digest::sha256_of(&[&self.maker.bytes, &self.of.bytes]),
         }
     }
+
+    ghost exact = { exact_bytes };
 }
 
 impl Record for Said {

@@ -60,6 +60,8 @@ impl<T: Digestible> Digestible for Wire<T> {
     fn digest(&self) -> T::Digest {
         self.0.digest()
     }
+
+    ghost exact = { T.exact };
 }
 
 impl<T: Record> Write for Wire<T> {

@@ -1,35 +1,35 @@
-use Rattle.std.proofs.Common.{rules, sym, ap, ◌∙◌}
+use Rattle.std.proofs.Common.{rules, refl, sym, ap, ◌∙◌}
 use Rattle.std.specs.BTreeMap.Entry.{map_with_value, entry_value}
-use Rattle.std.specs.Cmp.{eq_by_cmp_equiv}
-use Rattle.entries.proofs.Tables.{joined, cached}
+use Rattle.entries.proofs.Tabled.{leads-there}
+use Rattle.entries.proofs.Joining.{joins-again, adds-new, refuses}
 use Rattle.entries.proofs.table.insert.Goals as goal
 
-pub returns-in-Occupied-clause-placed : goal.returns-in-Occupied-clause-placed
-returns-in-Occupied-clause-placed g c = let u = c.in-Ok.ensures.update in let n = c.join.new.self in
-    (joined g.met.D.Ord.total (eq_by_cmp_equiv g.met.K.Ord.total) g.T.Clone.is_clone c.args.items.now.entries _ (map_with_value c.in-Ok.entry n).entries c.args.digest c.args.message.now c.args.peer.now c.args.place c.into_mut.result.now n c.join.result
-    c.requires.placed c.entry.ensures.ordered (sym c.in-Ok.ensures.value ∙ ap entry_value c.in-Occupied.is ∙ c.into_mut.ensures.value) (search rules) (u.1 n) (u.0 n).0 c.join.ensures.message c.join.ensures.stays c.join.ensures.places c.join.ensures.err).0
+pub join-requires : goal.join-requires
+join-requires g c =
+    leads-there g.met.T.Name.Ord.total (record { index = c.args.index.now.entries; slots = c.args.items.now.slots }) c.requires.tabled c.name.result c.into_mut.result.now
+    (sym c.in-Ok.ensures.value ∙ ap entry_value c.in-Occupied.is ∙ c.into_mut.ensures.value)
 
-pub returns-in-Occupied-clause-stays : goal.returns-in-Occupied-clause-stays
-returns-in-Occupied-clause-stays g c = let u = c.in-Ok.ensures.update in let n = c.join.new.self in
-    (joined g.met.D.Ord.total (eq_by_cmp_equiv g.met.K.Ord.total) g.T.Clone.is_clone c.args.items.now.entries _ (map_with_value c.in-Ok.entry n).entries c.args.digest c.args.message.now c.args.peer.now c.args.place c.into_mut.result.now n c.join.result
-    c.requires.placed c.entry.ensures.ordered (sym c.in-Ok.ensures.value ∙ ap entry_value c.in-Occupied.is ∙ c.into_mut.ensures.value) (search rules) (u.1 n) (u.0 n).0 c.join.ensures.message c.join.ensures.stays c.join.ensures.places c.join.ensures.err).1
+pub returns-in-Occupied : goal.returns-in-Occupied
+returns-in-Occupied g c =
+    let n = c.into_mut.result.now in
+    joins-again g.met.T.Name.Ord.total (record { index = c.args.index.now.entries; slots = c.args.items.now.slots }) c.requires.tabled c.entry.ensures.ordered
+    _ (map_with_value c.in-Ok.entry n).entries (search rules) g.T.Clone.is_clone c.name.result c.args.message.now c.name.ensures n c.args.list c.args.place (c.in-Ok.ensures.update.1 n)
+    c.join.result (sym c.in-Ok.ensures.value ∙ ap entry_value c.in-Occupied.is ∙ c.into_mut.ensures.value) c.join.ensures
 
-pub returns-in-Occupied-clause-joined : goal.returns-in-Occupied-clause-joined
-returns-in-Occupied-clause-joined g c = let u = c.in-Ok.ensures.update in let n = c.join.new.self in
-    (joined g.met.D.Ord.total (eq_by_cmp_equiv g.met.K.Ord.total) g.T.Clone.is_clone c.args.items.now.entries _ (map_with_value c.in-Ok.entry n).entries c.args.digest c.args.message.now c.args.peer.now c.args.place c.into_mut.result.now n c.join.result
-    c.requires.placed c.entry.ensures.ordered (sym c.in-Ok.ensures.value ∙ ap entry_value c.in-Occupied.is ∙ c.into_mut.ensures.value) (search rules) (u.1 n) (u.0 n).0 c.join.ensures.message c.join.ensures.stays c.join.ensures.places c.join.ensures.err).2
+pub returns-in-Ok-add : goal.returns-in-Ok-add
+returns-in-Ok-add g c =
+    let n = c.in-Ok-add.item in
+    let u = c.in-Ok.ensures.update in
+    adds-new g.met.T.Name.Ord.total (record { index = c.args.index.now.entries; slots = c.args.items.now.slots }) c.requires.tabled c.entry.ensures.ordered
+    _ (map_with_value c.in-Ok.entry n).entries (search rules) g.T.Clone.is_clone c.name.result c.args.message.now c.name.ensures n c.args.list c.args.place (u.1 n)
+    (rw c.in-Vacant.is at c.in-Ok.ensures.found) (u.0 n).0 c.in-Ok-add.ensures.ok c.requires.copies
 
-pub returns-in-Occupied-clause-err : goal.returns-in-Occupied-clause-err
-returns-in-Occupied-clause-err g c = let u = c.in-Ok.ensures.update in let n = c.join.new.self in
-    (joined g.met.D.Ord.total (eq_by_cmp_equiv g.met.K.Ord.total) g.T.Clone.is_clone c.args.items.now.entries _ (map_with_value c.in-Ok.entry n).entries c.args.digest c.args.message.now c.args.peer.now c.args.place c.into_mut.result.now n c.join.result
-    c.requires.placed c.entry.ensures.ordered (sym c.in-Ok.ensures.value ∙ ap entry_value c.in-Occupied.is ∙ c.into_mut.ensures.value) (search rules) (u.1 n) (u.0 n).0 c.join.ensures.message c.join.ensures.stays c.join.ensures.places c.join.ensures.err).3
+pub returns-in-Err-or_try_insert_with : goal.returns-in-Err-or_try_insert_with
+returns-in-Err-or_try_insert_with g c =
+    refuses g.met.T.Name.Ord.total (record { index = c.args.index.now.entries; slots = c.args.items.now.slots }) c.requires.tabled c.entry.ensures.ordered
+    _ (search rules) g.T.Clone.is_clone c.args.message.now c.args.list c.args.place _ c.in-Err-add.ensures.err (rw c.name.ensures at (rw c.in-Vacant.is at c.in-Ok.ensures.found))
 
-pub returns-in-Ok-new-clause-placed : goal.returns-in-Ok-new-clause-placed
-returns-in-Ok-new-clause-placed g c = let u = c.in-Ok.ensures.update in let n = c.in-Ok-new.item in let o = c.in-Ok-new.ensures.places in
-    (cached g.met.D.Ord.total (eq_by_cmp_equiv g.met.K.Ord.total) g.T.Clone.is_clone c.args.items.now.entries _ (map_with_value c.in-Ok.entry n).entries c.args.digest c.args.message.now c.args.peer.now o.0 c.args.place n
-    c.requires.placed (rw c.in-Vacant.is at c.in-Ok.ensures.found) (search rules) (u.1 n) (u.0 n).0 c.in-Ok-new.ensures.message (c.requires.copies c.args.peer.now o.0 o.1) o.2).0
-
-pub returns-in-Ok-new-clause-joined : goal.returns-in-Ok-new-clause-joined
-returns-in-Ok-new-clause-joined g c = λ none. let u = c.in-Ok.ensures.update in let n = c.in-Ok-new.item in let o = c.in-Ok-new.ensures.places in
-    (cached g.met.D.Ord.total (eq_by_cmp_equiv g.met.K.Ord.total) g.T.Clone.is_clone c.args.items.now.entries _ (map_with_value c.in-Ok.entry n).entries c.args.digest c.args.message.now c.args.peer.now o.0 c.args.place n
-    c.requires.placed (rw c.in-Vacant.is at c.in-Ok.ensures.found) (search rules) (u.1 n) (u.0 n).0 c.in-Ok-new.ensures.message (c.requires.copies c.args.peer.now o.0 o.1) o.2).1
+pub returns-in-Err : goal.returns-in-Err
+returns-in-Err g c =
+    refuses g.met.T.Name.Ord.total (record { index = c.args.index.now.entries; slots = c.args.items.now.slots }) c.requires.tabled c.entry.ensures.ordered
+    _ (search rules) g.T.Clone.is_clone c.args.message.now c.args.list c.args.place _ refl (rw c.name.ensures at c.in-Err.ensures.absent)

@@ -1,38 +1,47 @@
+use Rattle.std.proofs.Common.{ap, subst, sym, ◌≤◌}
 use Rattle.entries.proofs.Slots.{number_laws}
 use Rattle.std.specs.Cmp.{eq_by_cmp_equiv}
+use Rattle.entries.specs.Store.{same_number}
+use Rattle.entries.specs.Table.{items_of}
 use Rattle.broadcast_core.specs.Content.{same_listed}
+use Rattle.broadcast_core.specs.Indexed.{names_of, named_lists}
 use Rattle.broadcast_core.proofs.Placing.{distinct-digests}
-use Rattle.broadcast_core.proofs.Dropping.{Clearing-shorter}
-use Rattle.broadcast_core.proofs.Shortening.{Shortening-start, Shortening-step, Cuts-made}
+use Rattle.broadcast_core.proofs.Dropping.{evicts-shorter}
+use Rattle.broadcast_core.proofs.Shortening.{Shortening-start, Cuts-made}
+use Rattle.broadcast_core.proofs.Naming.{bytes_at-named}
+use Rattle.broadcast_core.proofs.Leaving.{quits-item, Shortening-item}
 use Rattle.broadcast_core.proofs.buffer.shelf.Shelf.cut.Goals as goal
 
 pub loop-stale-init : goal.loop-stale-init
-loop-stale-init g c = Shortening-start (same_listed g.M.Digest.Ord.cmp) c.args.list c.args.byte_budget c.self.inside.lists.lists c.self.inside.table c.self.invariant
+loop-stale-init g c = (
+  Shortening-start (same_listed g.M.Digest.Ord.cmp) c.args.list c.args.byte_budget (named_lists (names_of c.self.inside.table) c.self.inside.lists.lists) (items_of c.self.inside.table) c.self.invariant.indexed,
+  c.self.invariant.named,
+)
 
 pub loop-stale-preserved : goal.loop-stale-preserved
 loop-stale-preserved g c =
     let same = same_listed g.M.Digest.Ord.cmp in
     let key_laws = number_laws in
     let laws = eq_by_cmp_equiv (g.met.M.Digest.Ord g.world.𝓛 g.world.𝓜 g.world.𝓡 (λ s x. x, λ x. x, λ x. x, λ x. x)).total in
-    Shortening-step same key_laws laws c.args.list c.args.byte_budget c.self.inside.lists.lists c.loop-stale.self-inside.lists.lists c.evict_over.new.self.lists c.self.inside.table c.loop-stale.self-inside.table c.remove.new.self c.loop-stale.invariant
-    c.in-Some.stale c.in-Some.ensures.0 c.in-Some.ensures.1 c.remove.ensures.left c.remove.ensures.placed
+    let mid = c.loop-stale.self-inside.table in
+    Shortening-item same key_laws laws c.args.list (named_lists (names_of c.self.inside.table) c.self.inside.lists.lists) c.loop-stale.self-inside.lists.lists c.evict_over.new.self.lists (names_of mid) (names_of c.remove.new.self)
+    (items_of c.self.inside.table) (items_of mid) (items_of c.remove.new.self) c.loop-stale.invariant.1 c.in-Some.stale c.in-Some.ensures.1
+    (quits-item g.M.Digest.Ord.cmp c.in-Some.stale.digest c.args.list mid c.remove.new.self c.remove.ensures) c.args.byte_budget c.loop-stale.invariant.0 c.in-Some.ensures.0
 
 pub loop-stale-smaller : goal.loop-stale-smaller
-loop-stale-smaller g c =
-    let same = same_listed g.M.Digest.Ord.cmp in
-    let key_laws = number_laws in
-    let laws = eq_by_cmp_equiv (g.met.M.Digest.Ord g.world.𝓛 g.world.𝓜 g.world.𝓡 (λ s x. x, λ x. x, λ x. x, λ x. x)).total in
-    Clearing-shorter same key_laws laws c.args.list c.self.inside.lists.lists c.loop-stale.self-inside.lists.lists c.evict_over.new.self.lists c.self.inside.table c.loop-stale.self-inside.table c.remove.new.self c.loop-stale.invariant.clearing
-    c.in-Some.stale c.in-Some.ensures.1
+loop-stale-smaller g c = evicts-shorter number_laws c.args.list c.in-Some.stale c.loop-stale.self-inside.lists.lists c.evict_over.new.self.lists c.in-Some.ensures.1
 
 pub invariant_of-self : goal.invariant_of-self
-invariant_of-self g c = rw c.in_default.ensures.1 c.loop-stale.invariant.clearing.indexed
+invariant_of-self g c = rw c.in_default.ensures.1 (record { indexed = c.loop-stale.invariant.0.clearing.indexed; named = c.loop-stale.invariant.1 })
 
 pub returns : goal.returns
 returns g c =
     let same = same_listed g.M.Digest.Ord.cmp in
     let key_laws = number_laws in
     let laws = eq_by_cmp_equiv (g.met.M.Digest.Ord g.world.𝓛 g.world.𝓜 g.world.𝓡 (λ s x. x, λ x. x, λ x. x, λ x. x)).total in
-    let distinct = distinct-digests same.key c.loop-stale.self-inside.lists.lists c.loop-stale.invariant.clearing.indexed.apart in
-    rw (← c.self.view_is) (Cuts-made same key_laws laws c.args.list c.args.byte_budget c.self.inside.lists.lists c.loop-stale.self-inside.lists.lists c.evict_over.new.self.lists c.self.inside.table c.loop-stale.self-inside.table c.loop-stale.self-inside.table c.loop-stale.invariant
-    c.in_default.ensures.0 c.in_default.ensures.1 distinct)
+    let names = names_of c.loop-stale.self-inside.table in
+    let lists = c.loop-stale.self-inside.lists.lists in
+    let distinct = distinct-digests same.key (named_lists names lists) c.loop-stale.invariant.0.clearing.indexed.apart in
+    let fits = subst (λ n. n ≤ c.args.byte_budget) (sym (bytes_at-named names same_number c.args.list lists c.loop-stale.invariant.1)) c.in_default.ensures.0 in
+    rw (← c.self.view_is) (Cuts-made same key_laws laws c.args.list c.args.byte_budget (named_lists (names_of c.self.inside.table) c.self.inside.lists.lists) (named_lists names lists) (named_lists names c.evict_over.new.self.lists)
+    (items_of c.self.inside.table) (items_of c.loop-stale.self-inside.table) (items_of c.loop-stale.self-inside.table) c.loop-stale.invariant.0 fits (ap (named_lists names) c.in_default.ensures.1) distinct)

@@ -1,47 +1,65 @@
 use Rattle.entries.proofs.Slots.{number_laws}
-use Rattle.std.proofs.Common.{[], ◌∷◌}
+use Rattle.std.proofs.Common.{[], ◌∷◌, sym, ap, ◌∙◌}
 use Rattle.std.specs.Cmp.{eq_by_cmp_equiv}
+use Rattle.entries.specs.Store.{same_number}
+use Rattle.entries.specs.Table.{items_of}
 use Rattle.broadcast_core.specs.Content.{same_listed}
-use Rattle.broadcast_core.specs.Indexed.{stored_of}
+use Rattle.broadcast_core.specs.Indexed.{names_of, named_nodes, named_lists, stored_of}
 use Rattle.broadcast_core.proofs.Placing.{distinct-digests}
 use Rattle.broadcast_core.proofs.Caching.{stored-cached}
-use Rattle.broadcast_core.proofs.Dropping.{Clearing-start, Clearing-step, Clearing-shorter, Clearing-end, Drops-made}
+use Rattle.broadcast_core.proofs.Dropping.{Clearing-start, evicts-shorter, Clearing-end, Drops-made}
+use Rattle.broadcast_core.proofs.Naming.{items_at-named, Removes-named, AllNamed-removes}
+use Rattle.broadcast_core.proofs.Leaving.{quits-item, Clearing-item}
 use Rattle.broadcast_core.proofs.buffer.shelf.Shelf.remove.Goals as goal
 
 pub loop-stale-init : goal.loop-stale-init
-loop-stale-init g c = Clearing-start (same_listed g.M.Digest.Ord.cmp) c.args.list c.self.inside.lists.lists c.self.inside.table c.self.invariant
+loop-stale-init g c = (
+  Clearing-start (same_listed g.M.Digest.Ord.cmp) c.args.list (named_lists (names_of c.self.inside.table) c.self.inside.lists.lists) (items_of c.self.inside.table) c.self.invariant.indexed,
+  c.self.invariant.named,
+)
 
 pub loop-stale-preserved : goal.loop-stale-preserved
 loop-stale-preserved g c =
     let same = same_listed g.M.Digest.Ord.cmp in
     let key_laws = number_laws in
     let laws = eq_by_cmp_equiv (g.met.M.Digest.Ord g.world.𝓛 g.world.𝓜 g.world.𝓡 (λ s x. x, λ x. x, λ x. x, λ x. x)).total in
-    Clearing-step same key_laws laws c.args.list c.self.inside.lists.lists c.loop-stale.self-inside.lists.lists c.evict.new.self.lists c.self.inside.table c.loop-stale.self-inside.table c.remove.new.self c.loop-stale.invariant
-    c.in-Some.stale c.in-Some.ensures c.remove.ensures.left c.remove.ensures.placed
+    let mid = c.loop-stale.self-inside.table in
+    Clearing-item same key_laws laws c.args.list (named_lists (names_of c.self.inside.table) c.self.inside.lists.lists) c.loop-stale.self-inside.lists.lists c.evict.new.self.lists (names_of mid) (names_of c.remove.new.self)
+    (items_of c.self.inside.table) (items_of mid) (items_of c.remove.new.self) c.loop-stale.invariant.1 c.in-Some.stale c.in-Some.ensures
+    (quits-item g.M.Digest.Ord.cmp c.in-Some.stale.digest c.args.list mid c.remove.new.self c.remove.ensures) c.loop-stale.invariant.0
 
 pub loop-stale-smaller : goal.loop-stale-smaller
-loop-stale-smaller g c =
-    let same = same_listed g.M.Digest.Ord.cmp in
-    let key_laws = number_laws in
-    let laws = eq_by_cmp_equiv (g.met.M.Digest.Ord g.world.𝓛 g.world.𝓜 g.world.𝓡 (λ s x. x, λ x. x, λ x. x, λ x. x)).total in
-    Clearing-shorter same key_laws laws c.args.list c.self.inside.lists.lists c.loop-stale.self-inside.lists.lists c.evict.new.self.lists c.self.inside.table c.loop-stale.self-inside.table c.remove.new.self c.loop-stale.invariant
-    c.in-Some.stale c.in-Some.ensures
+loop-stale-smaller g c = evicts-shorter number_laws c.args.list c.in-Some.stale c.loop-stale.self-inside.lists.lists c.evict.new.self.lists c.in-Some.ensures
 
 pub invariant_of-self : goal.invariant_of-self
 invariant_of-self g c =
     let same = same_listed g.M.Digest.Ord.cmp in
     let key_laws = number_laws in
     let laws = eq_by_cmp_equiv (g.met.M.Digest.Ord g.world.𝓛 g.world.𝓜 g.world.𝓡 (λ s x. x, λ x. x, λ x. x, λ x. x)).total in
-    (Clearing-end same key_laws laws c.args.list c.self.inside.lists.lists c.loop-stale.self-inside.lists.lists c.evict.new.self.lists c.self.inside.table c.loop-stale.self-inside.table c.loop-stale.self-inside.table c.loop-stale.invariant
-    c.remove-2.new.self.lists c.in_default.ensures.0 c.in_default.ensures.1 c.remove-2.ensures).0
+    let names = names_of c.loop-stale.self-inside.table in
+    let items = items_of c.loop-stale.self-inside.table in
+    let empty = items_at-named names same_number c.args.list c.loop-stale.self-inside.lists.lists ∙ ap (named_nodes names) c.in_default.ensures.0 in
+    let named = rw (sym c.in_default.ensures.1) at c.loop-stale.invariant.1 in
+    record {
+      indexed = (Clearing-end same key_laws laws c.args.list (named_lists (names_of c.self.inside.table) c.self.inside.lists.lists) (named_lists names c.loop-stale.self-inside.lists.lists) (named_lists names c.evict.new.self.lists)
+          (items_of c.self.inside.table) items items c.loop-stale.invariant.0 (named_lists names c.remove-2.new.self.lists) empty (ap (named_lists names) c.in_default.ensures.1)
+          (Removes-named names same_number c.args.list c.evict.new.self.lists c.remove-2.new.self.lists c.remove-2.ensures)).0;
+      named = AllNamed-removes names same_number c.args.list c.evict.new.self.lists c.remove-2.new.self.lists c.remove-2.ensures named;
+    }
 
 pub returns : goal.returns
 returns g c =
     let same = same_listed g.M.Digest.Ord.cmp in
     let key_laws = number_laws in
     let laws = eq_by_cmp_equiv (g.met.M.Digest.Ord g.world.𝓛 g.world.𝓜 g.world.𝓡 (λ s x. x, λ x. x, λ x. x, λ x. x)).total in
-    let cleared = Clearing-end same key_laws laws c.args.list c.self.inside.lists.lists c.loop-stale.self-inside.lists.lists c.evict.new.self.lists c.self.inside.table c.loop-stale.self-inside.table c.loop-stale.self-inside.table c.loop-stale.invariant
-    c.remove-2.new.self.lists c.in_default.ensures.0 c.in_default.ensures.1 c.remove-2.ensures in
-    let distinct = distinct-digests same.key c.remove-2.new.self.lists c.remove-2.ensures.distinct in
-    rw (← c.self.view_is) (Drops-made same key_laws laws (c.args.list ∷ []) [] (stored_of c.self.inside.lists.lists c.self.inside.table) (stored_of c.remove-2.new.self.lists c.loop-stale.self-inside.table)
-    (stored-cached same key_laws laws c.remove-2.new.self.lists c.loop-stale.self-inside.table cleared.0 distinct) distinct cleared.1)
+    let names = names_of c.loop-stale.self-inside.table in
+    let items = items_of c.loop-stale.self-inside.table in
+    let old = named_lists (names_of c.self.inside.table) c.self.inside.lists.lists in
+    let gone = named_lists names c.remove-2.new.self.lists in
+    let empty = items_at-named names same_number c.args.list c.loop-stale.self-inside.lists.lists ∙ ap (named_nodes names) c.in_default.ensures.0 in
+    let removes = Removes-named names same_number c.args.list c.evict.new.self.lists c.remove-2.new.self.lists c.remove-2.ensures in
+    let cleared = Clearing-end same key_laws laws c.args.list old (named_lists names c.loop-stale.self-inside.lists.lists) (named_lists names c.evict.new.self.lists)
+    (items_of c.self.inside.table) items items c.loop-stale.invariant.0 gone empty (ap (named_lists names) c.in_default.ensures.1) removes in
+    let distinct = distinct-digests same.key gone removes.distinct in
+    rw (← c.self.view_is) (Drops-made same key_laws laws (c.args.list ∷ []) [] (stored_of old (items_of c.self.inside.table)) (stored_of gone items)
+    (stored-cached same key_laws laws gone items cleared.0 distinct) distinct cleared.1)

@@ -1,12 +1,17 @@
-use Rattle.entries.specs.Store.{same_number}
 use Rattle.std.proofs.Common.{length}
-use Rattle.entries.specs.Store.{items_at}
+use Rattle.entries.specs.Store.{same_number, items_at}
+use Rattle.entries.specs.Table.{items_of}
 use Rattle.broadcast_core.specs.Content.{same_listed}
+use Rattle.broadcast_core.specs.Indexed.{names_of, named_lists, AllNamed}
 use Rattle.broadcast_core.proofs.Dropping.{Clearing}
 use Rattle.broadcast_core.proofs.buffer.shelf.Shelf.remove.Given as goal
 
 abbrev pub invariant-loop-stale : goal.invariant-loop-stale
-invariant-loop-stale g l = Clearing (same_listed g.M.Digest.Ord.cmp) l.list l.initial.self-inside.lists.lists l.self-inside.lists.lists l.initial.self-inside.table l.self-inside.table
+invariant-loop-stale g l =
+    let old = l.initial.self-inside in
+    let now = l.self-inside in
+    Clearing (same_listed g.M.Digest.Ord.cmp) l.list (named_lists (names_of old.table) old.lists.lists) (named_lists (names_of now.table) now.lists.lists) (items_of old.table) (items_of now.table)
+    × AllNamed (names_of now.table) same_number now.lists.lists
 
 abbrev pub decreases-loop-stale : goal.decreases-loop-stale
 decreases-loop-stale g l = length (items_at same_number l.list l.self-inside.lists.lists)

@@ -1,20 +1,33 @@
 use Rattle.entries.proofs.Slots.{number_laws}
-use Rattle.std.proofs.Common.{arith}
+use Rattle.std.proofs.Common.{refl, sym, subst, length, ◌≤◌, arith}
 use Rattle.std.specs.Cmp.{eq_by_cmp_equiv}
-use Rattle.broadcast_core.specs.Content.{same_listed}
+use Rattle.entries.specs.Table.{items_of}
+use Rattle.broadcast_core.specs.Content.{same_listed, items_at, bytes_of}
+use Rattle.broadcast_core.specs.Indexed.{names_of, named_lists, shelved_of}
+use Rattle.broadcast_core.proofs.Placing.{distinct-digests}
+use Rattle.broadcast_core.proofs.Filling.{Stores-nowhere}
 use Rattle.broadcast_core.proofs.Shortening.{Stores-fits, Stores-cut}
 use Rattle.broadcast_core.proofs.buffer.shelf.Shelf.take.Goals as goal
+
+pub returns-then-deque_size-eq0-clause-ok : goal.returns-then-deque_size-eq0-clause-ok
+returns-then-deque_size-eq0-clause-ok g c =
+    let same = same_listed g.M.Digest.Ord.cmp in
+    let laws = eq_by_cmp_equiv (g.met.M.Digest.Ord g.world.𝓛 g.world.𝓜 g.world.𝓡 (λ s x. x, λ x. x, λ x. x, λ x. x)).total in
+    let lists = named_lists (names_of c.self.inside.table) c.self.inside.lists.lists in
+    let all = shelved_of c.self.inside.lists.lists c.self.inside.table in
+    let fits = subst (λ s. length (items_at same.key c.args.list s.lists) ≤ c.args.deque_size) (sym c.self.view_is) c.requires.size in
+    let room = subst (λ s. bytes_of (items_at same.key c.args.list s.lists) ≤ c.args.byte_budget) (sym c.self.view_is) c.requires.bytes in
+    let distinct = distinct-digests same.key lists c.self.invariant.indexed.apart in
+    rw (← c.self.view_is) (Stores-fits same number_laws c.args.list c.args.message.now _ c.args.byte_budget all all all
+    (Stores-nowhere same number_laws laws c.args.list c.args.message.now c.args.charge c.args.deque_size lists lists (items_of c.self.inside.table) c.self.invariant.indexed distinct distinct c.if-deque_size-eq0.true fits refl) room)
 
 pub returns-clause-ok : goal.returns-clause-ok
 returns-clause-ok g c =
     let same = same_listed g.M.Digest.Ord.cmp in
-    let key_laws = number_laws in
-    let _laws = eq_by_cmp_equiv (g.met.M.Digest.Ord g.world.𝓛 g.world.𝓜 g.world.𝓡 (λ s x. x, λ x. x, λ x. x, λ x. x)).total in
-    Stores-cut same key_laws c.args.list c.args.message.now _ c.args.byte_budget c.args.self.now c.put.new.self c.cut.new.self c.in_ok-is_new.ensures.ok c.cut.ensures
+    Stores-cut same number_laws c.args.list c.args.message.now _ c.args.byte_budget c.args.self.now c.insert.new.self c.cut.new.self c.in_ok-is_new.ensures.ok c.cut.ensures
 
 pub returns-then-bytes-from-clause-ok : goal.returns-then-bytes-from-clause-ok
 returns-then-bytes-from-clause-ok g c =
     let same = same_listed g.M.Digest.Ord.cmp in
-    let key_laws = number_laws in
-    Stores-fits same key_laws c.args.list c.args.message.now _ c.args.byte_budget c.args.self.now c.put.new.self c.put.new.self c.in_ok-is_new.ensures.ok
+    Stores-fits same number_laws c.args.list c.args.message.now _ c.args.byte_budget c.args.self.now c.insert.new.self c.insert.new.self c.in_ok-is_new.ensures.ok
     (omega (arith, c.in_ok-is_new.ensures.bytes, c.if-bytes-from.true, c.from.ensures))

@@ -6,6 +6,9 @@ use Rattle.std.specs.Prelude.{length}
 use Rattle.broadcast_core.proofs.Taking.{among-names, IsCore-taken, Takes-taken}
 use Rattle.broadcast_core.proofs.buffer.state.State.take.Goals as goal
 
+pub take-served-requires : goal.take-served-requires
+take-served-requires g c cached = rw c.digest.ensures (c.self.invariant.unawaited c.args.message.now.digest (sym (c.self.invariant.messages c.args.message.now.digest) ∙ c.in_ok-outcome.ensures.cached cached))
+
 pub invariant_of-self-2 : goal.invariant_of-self-2
 invariant_of-self-2 g c =
     let same = same_by g.P.Ord.cmp g.M.Digest.Ord.cmp in
