@@ -8,3 +8,4 @@ pub mod TicketRuns
 pub mod Counted
 pub mod Skipping
 pub mod Watching
+pub mod Several

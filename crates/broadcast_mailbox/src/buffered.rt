@@ -21,5 +21,6 @@ pub use ingress::request::Request;
 pub use ingress::responder::{Fixed, Responder};
 pub use ingress::settled::Settled;
 pub use ingress::subscription::Subscription;
+pub use ingress::subscriptions::{First, Subscriptions};
 pub use ingress::tally::Tally;
 pub use ingress::watch::{All, Broadcasts, Kind, Watch};

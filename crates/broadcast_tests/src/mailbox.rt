@@ -9,6 +9,7 @@ mod overflow;
 mod polls;
 mod relays;
 mod replies;
+mod several;
 mod tallied;
 mod threads;
 mod tickets;

@@ -18,10 +18,10 @@ pub mod worker;
 pub use crate::mocks;
 pub use asleep::CannotWait;
 pub use broadcast_mailbox::buffered::{
-    Abandoned, Account, All, Answering, Awaits, Bookkeeping, Books, Broadcasts, Counts, Fixed, Get,
-    Inbox, Incoming, Ingress, Kind, Mailbox, Message, Named, Overflow, Pending, Policy, Queued,
-    Reply, Request, Responder, Settled, Stopper, Subscription, Taker, Tally, Watch, WatchedEnds,
-    WatchedMailbox, channel, ticket_law, watched_channel,
+    Abandoned, Account, All, Answering, Awaits, Bookkeeping, Books, Broadcasts, Counts, First,
+    Fixed, Get, Inbox, Incoming, Ingress, Kind, Mailbox, Message, Named, Overflow, Pending, Policy,
+    Queued, Reply, Request, Responder, Settled, Stopper, Subscription, Subscriptions, Taker, Tally,
+    Watch, WatchedEnds, WatchedMailbox, channel, ticket_law, watched_channel,
 };
 pub use config::Config;
 pub use engine::{Engine, Ready, Report, StartError, drive, make_ready, new_engine_law, run};

@@ -23,6 +23,7 @@ pub mod settled;
 mod shared;
 mod skips;
 pub mod subscription;
+pub mod subscriptions;
 pub mod tally;
 mod told;
 pub mod watch;

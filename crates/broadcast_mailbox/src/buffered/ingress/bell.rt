@@ -46,7 +46,7 @@ impl<T: Drop> Answering<T> {
 }
 
 /// What both ends of a reply's channel are: where it goes, where it comes, and the bell.
-type Answered<T> = (Answering<T>, oneshot::Receiver<T>, Arc<Parker>);
+pub(super) type Answered<T> = (Answering<T>, oneshot::Receiver<T>, Arc<Parker>);
 
 /// Creates the channel of a reply, and the bell that is rung once the reply is sent or never will
 /// be.
@@ -54,6 +54,16 @@ pub(super) fn answered<T: Drop>(alloc: Global) -> Result<Answered<T>, AllocError
     ensures { IfOk result (λ ends. ends.0 ≡ completed_source ends.1) }
 {
     let bell = Arc::new(alloc, Parker::new())?;
+    answered_by(alloc, bell)
+}
+
+/// Creates the channel of a reply, which rings `bell` as one of its own.
+pub(super) fn answered_by<T: Drop>(
+    alloc: Global,
+    bell: Arc<Parker>,
+) -> Result<Answered<T>, AllocError>
+    ensures { IfOk result (λ ends. ends.0 ≡ completed_source ends.1) }
+{
     let own = Arc::try_clone(&bell)?;
     let (sender, receiver) = oneshot::channel(alloc)?;
     let answering = Answering {

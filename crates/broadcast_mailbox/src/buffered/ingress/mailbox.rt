@@ -1,5 +1,5 @@
 //! The mailbox through which callers on any thread reach a node.
-ghost use Rattle.std.specs.Prelude.{◌≡◌, IfOk, OnErr, ⊤};
+ghost use Rattle.std.specs.Prelude.{◌≡◌, ◌++◌, ◌∷◌, [], IfOk, OnOk, OnErr, ⊤};
 ghost use Rattle.std.specs.NonZero.{non_zero_u32_get};
 ghost use Rattle.broadcast_mailbox.specs.Account.{TallyState, is_taken_up, tallied};
 ghost use Rattle.broadcast_mailbox.specs.Ends.{IngressEnd, MailboxEnd};
@@ -14,6 +14,7 @@ use crate::buffered::ingress::queued::Queued;
 use crate::buffered::ingress::reply::Reply;
 use crate::buffered::ingress::shared::Shared;
 use crate::buffered::ingress::subscription::Subscription;
+use crate::buffered::ingress::subscriptions::Subscriptions;
 use crate::buffered::ingress::tally::Tally;
 use crate::buffered::ingress::watch::{Kind, Watch};
 use crate::{Broadcaster, Feedback, MailboxError};
@@ -179,6 +180,32 @@ where
                 Err(error)
             }
         }
+    }
+
+    /// Subscribes as `subscribe` does, and adds the subscription to those of `set`, to be waited for
+    /// among them.
+    ///
+    /// After an error nothing is queued, and nothing added.
+    pub fn subscribe_among(
+        &self,
+        set: &mut Subscriptions<M>,
+        digest: M::Digest,
+    ) -> Result<(), MailboxError>
+        ensures added { OnOk result (set.new ≡ set.old ++ digest ∷ []) }
+        ensures unchanged_on_error { OnErr result (set.new ≡ set.old) }
+    {
+        let before = set.len();
+        let Ok(responder) = set.open(self.alloc, digest, self.inbox.dropped()) else {
+            return Err(MailboxError::Memory);
+        };
+        let queued = self
+            .inbox
+            .enqueue(&self.rt, Message::subscribe(digest, responder));
+        if let Err(error) = queued {
+            set.truncate(before);
+            return Err(error);
+        }
+        Ok(())
     }
 
     /// Requests the message of `digest` if it is cached.

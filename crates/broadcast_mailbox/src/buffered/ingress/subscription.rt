@@ -3,10 +3,11 @@ ghost use Rattle.std.specs.Prelude.{◌≡◌, Ok, Err, true, IfOk, IfErr};
 ghost use Rattle.broadcast_mailbox.specs.Account.{is_accepted};
 ghost use Rattle.futures.specs.Poll.{IfReady, OnPending};
 ghost use Rattle.futures.specs.declared.task.Poll.TheVariants.{Ready};
+ghost use Rattle.futures.specs.Channel.{completed_source};
 ghost use Rattle.broadcast_mailbox.specs.Asked.{GoesBy, subscription_returns};
 
 use crate::buffered::ingress::abandoned::Abandoned;
-use crate::buffered::ingress::bell::{Answering, answered};
+use crate::buffered::ingress::bell::{Answered, Answering, answered, answered_by};
 use crate::buffered::ingress::dropped::Dropped;
 use crate::buffered::ingress::limit::Limit;
 use crate::buffered::ingress::queued::Queued;
@@ -81,10 +82,45 @@ impl<M: Digestible> Subscription<M> {
         let Ok(dropped) = Arc::try_clone(dropped) else {
             return Err(AllocError);
         };
-        let Ok((responder, receiver, bell)) = answered(alloc) else {
+        let Ok(answered) = answered(alloc) else {
             drop(dropped);
             return Err(AllocError);
         };
+        Ok(Self::over(answered, digest, dropped))
+    }
+
+    // Creates the future as `open` does, which rings `bell`.
+    pub(super) fn open_by(
+        alloc: Global,
+        digest: M::Digest,
+        dropped: &Arc<Dropped<M::Digest>>,
+        bell: Arc<Parker>,
+    ) -> Result<(Answering<Reply<M>>, Self), AllocError>
+        ensures digest { IfOk result (λ ends. ends.1.digest ≡ digest) }
+        ensures same_channel { IfOk result (λ ends. ends.1.source ≡ ends.0) }
+    {
+        let Ok(dropped) = Arc::try_clone(dropped) else {
+            drop(bell);
+            return Err(AllocError);
+        };
+        let Ok(answered) = answered_by(alloc, bell) else {
+            drop(dropped);
+            return Err(AllocError);
+        };
+        Ok(Self::over(answered, digest, dropped))
+    }
+
+    // Creates the future over the ends of its channel.
+    fn over(
+        answered: Answered<Reply<M>>,
+        digest: M::Digest,
+        dropped: Arc<Dropped<M::Digest>>,
+    ) -> (Answering<Reply<M>>, Self)
+        requires { answered.0 ≡ completed_source answered.1 }
+        ensures digest { result.1.digest ≡ digest }
+        ensures same_channel { result.1.source ≡ result.0 }
+    {
+        let (responder, receiver, bell) = answered;
         let subscription = Subscription {
             digest,
             receiver,
@@ -93,7 +129,7 @@ impl<M: Digestible> Subscription<M> {
             is_done: false,
             dropped,
         };
-        Ok((responder, subscription))
+        (responder, subscription)
     }
 
     // Keeps whether the request was accepted.
@@ -101,6 +137,13 @@ impl<M: Digestible> Subscription<M> {
         ensures { self.new ≡ record self.old { accepted = is_accepted (Ok queued) } }
     {
         self.accepted = queued.is_accepted();
+    }
+
+    /// Returns the digest that was asked for.
+    pub fn digest(&self) -> M::Digest
+        ensures { result ≡ self.now.digest }
+    {
+        self.digest
     }
 
     /// Returns whether the mailbox accepted the request. If not, it was closed.
