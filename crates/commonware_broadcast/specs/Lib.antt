@@ -1,5 +1,3 @@
-pub mod Jobs
-pub mod Workers
 pub mod EngineHistory
 pub mod EngineState
 pub mod Interfaces

@@ -3,17 +3,12 @@ pub(crate) mod asleep;
 pub mod config;
 pub mod engine;
 pub mod front;
-pub mod gate;
 pub mod launch;
 pub mod observer;
-pub mod pool;
 pub mod runtime;
 pub mod session;
 pub mod snapshots;
 pub mod started;
-pub mod strategy;
-pub mod threaded;
-pub mod worker;
 
 pub use crate::mocks;
 pub use asleep::CannotWait;
@@ -24,22 +19,21 @@ pub use broadcast_mailbox::buffered::{
     Watch, WatchedEnds, WatchedMailbox, channel, ticket_law, watched_channel,
 };
 pub use config::Config;
+pub use digest_strategies::{
+    DigestOf, Done, Gate, Job, Open, Pool, Pooled, Sequential, Strategy, Threaded, Work, Worker,
+    Working,
+};
 pub use engine::{Engine, Ready, Report, StartError, drive, make_ready, new_engine_law, run};
 pub use engine_io::{
     Counter, Direct, EndCause, Input, Metrics, NetworkFailed, Outlet, Provider, Receiver, Requests,
     Sender, Sequencer, Status, Turn,
 };
 pub use front::{MailboxEngine, WatchedEngine, WatchedNode};
-pub use gate::{Gate, Open};
 pub use launch::{start, start_observed, start_threaded};
 pub use observer::Observer;
 pub use observer::lines::Lines;
 pub use observer::recent::Recent;
-pub use pool::{Pool, Pooled};
 pub use runtime::Runtime;
 pub use session::{Client, Finished, Leaves, Session, WatchedClient, run_session};
 pub use snapshots::{MetricsError, Snapshots};
 pub use started::{Handle, MailboxReport, Prepared};
-pub use strategy::{Done, Job, Sequential, Strategy};
-pub use threaded::{Threaded, Working};
-pub use worker::{DigestOf, Work, Worker};

@@ -7,11 +7,10 @@ mod receiver;
 mod requests;
 mod script;
 mod sender;
-mod strategy;
 
 pub use broadcast_core::TestMessage;
+pub use digest_strategies::mocks::{Slow, SlowJob};
 pub use outlet::{Handed, RecordingOutlet, Replied};
 pub use requests::ScriptedRequests;
 pub use script::Script;
 pub use sender::RecordingSender;
-pub use strategy::{Slow, SlowJob};

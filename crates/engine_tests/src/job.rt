@@ -103,7 +103,7 @@ impl Strategy<TestMessage> for Gated {
 }
 
 impl Job<TestMessage> for GatedJob {
-    ghost use Rattle.commonware_broadcast.specs.Jobs.{HoldsDigested};
+    ghost use Rattle.digest_strategies.specs.Jobs.{HoldsDigested};
 
     ghost is_of = { λ job m. HoldsDigested ⟦<TestMessage as Digestible>⟧.digest_of m job.message };
 

@@ -1,13 +1,10 @@
 //! Two workers that must meet at their gate.
 ghost use Rattle.std.specs.Prelude.{IfOk};
-ghost use Rattle.commonware_broadcast.specs.Workers.{IsWorkerOf, WaitsFor};
+ghost use Rattle.digest_strategies.specs.Workers.{IsWorkerOf, WaitsFor};
 
 use super::patient::LIMIT;
 use broadcast_core::{Digest, Digestible, TestMessage};
-use commonware_broadcast::buffered::gate::Gate;
-use commonware_broadcast::buffered::strategy::{Job, Strategy};
-use commonware_broadcast::buffered::threaded::{Threaded, Working};
-use commonware_broadcast::buffered::worker::{Work, Worker};
+use commonware_broadcast::buffered::{Gate, Job, Strategy, Threaded, Work, Worker, Working};
 use futures::executor::block_on;
 use futures::future::poll_fn;
 use futures::task::{Context, Poll};

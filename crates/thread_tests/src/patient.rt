@@ -112,7 +112,7 @@ impl<M: Digestible, R: Clock + Clone + Drop> Strategy<M> for Patient<R> {
 }
 
 impl<M: Digestible, R: Clock + Drop> Job<M> for PatientJob<M, R> {
-    ghost use Rattle.commonware_broadcast.specs.Jobs.{HoldsDigested};
+    ghost use Rattle.digest_strategies.specs.Jobs.{HoldsDigested};
 
     ghost is_of = { λ job m. HoldsDigested M.digest_of m job.message };
 

@@ -2,7 +2,7 @@
 ghost use Rattle.std.specs.Prelude.{◌≡◌, false};
 ghost use Rattle.std.specs.NonZero.{non_zero_usize_get};
 
-use crate::buffered::strategy::Sequential;
+use digest_strategies::Sequential;
 use std::num::NonZeroUsize;
 
 /// The configuration of an engine.

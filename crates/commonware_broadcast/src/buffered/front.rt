@@ -7,12 +7,12 @@ ghost use Rattle.commonware_broadcast.specs.Fresh.{fresh};
 
 use crate::buffered::config::Config;
 use crate::buffered::engine::Engine;
-use crate::buffered::strategy::Strategy;
 use broadcast_core::{Codec, Digestible, PublicKey};
 use broadcast_mailbox::buffered::{
     Account, Answering, Books, Incoming, Ingress, Mailbox, Reply, Tally, Watch, WatchedMailbox,
     channel, watched_channel,
 };
+use digest_strategies::Strategy;
 use engine_io::Direct;
 use std::alloc::{AllocError, Global};
 use std::num::NonZeroU32;

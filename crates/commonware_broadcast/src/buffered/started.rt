@@ -3,11 +3,9 @@ use crate::buffered::engine::{Ready, Report, StartError, make_ready, run, spawn}
 use crate::buffered::front::MailboxEngine;
 use crate::buffered::observer::Observer;
 use crate::buffered::snapshots::{MetricsError, Snapshots};
-use crate::buffered::strategy::Strategy;
-use crate::buffered::threaded::Threaded;
-use crate::buffered::worker::Work;
 use broadcast_core::{Codec, Digestible, PublicKey};
 use broadcast_mailbox::buffered::{Answering, Bookkeeping, Incoming, Ingress, Reply, Stopper};
+use digest_strategies::{Strategy, Threaded, Work};
 use engine_io::{Direct, Metrics, Provider, Receiver, Sender};
 use std::alloc::{AllocError, AllocGlobal};
 use std::random::RandomSource;

@@ -19,11 +19,11 @@ ghost use Rattle.commonware_broadcast.specs.Interfaces.{by_responder, format_of,
 use crate::buffered::engine::handler::{handle_arrival, handle_invalid};
 use crate::buffered::engine::node::Node;
 use crate::buffered::engine::state::Engine;
-use crate::buffered::strategy::{Job, Strategy};
 use broadcast_core::{
     Cause, Codec, CodecError, Digested, Digestible, EncodeSize, PublicKey, decode_cfg,
 };
 use broadcast_mailbox::buffered::{Reply, Responder};
+use digest_strategies::{Job, Strategy};
 use engine_io::{Outlet, Turn};
 use futures::task::{Context, Poll};
 use std::alloc::Global;

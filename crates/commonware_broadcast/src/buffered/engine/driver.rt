@@ -9,9 +9,9 @@ ghost use Rattle.commonware_broadcast.specs.TakesSteps.{AlwaysTakes, TellsEnd};
 ghost use Rattle.commonware_broadcast.specs.Interfaces.{format_of, over};
 
 use crate::buffered::engine::state::Engine;
-use crate::buffered::strategy::Strategy;
 use broadcast_core::{Codec, Digestible, PublicKey};
 use broadcast_mailbox::buffered::{Message, Reply, Responder};
+use digest_strategies::Strategy;
 use engine_io::{Outlet, Provider, Receiver, Requests, Sender, Turn};
 use futures::task::{Context, Poll};
 use std::alloc::{AllocError, Global};

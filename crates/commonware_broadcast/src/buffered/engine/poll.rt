@@ -19,9 +19,9 @@ ghost use Rattle.commonware_broadcast.specs.Interfaces.{format_of, over};
 use crate::buffered::engine::apply::apply;
 use crate::buffered::engine::handler::cleanup_waiters;
 use crate::buffered::engine::state::Engine;
-use crate::buffered::strategy::Strategy;
 use broadcast_core::{Codec, Digestible, PublicKey};
 use broadcast_mailbox::buffered::{Awaits, Message, Reply, Responder};
+use digest_strategies::Strategy;
 use engine_io::{
     EndCause, First, Outlet, Provider, Receiver, Requests, Sender, Turn, comes_first, next_input,
 };

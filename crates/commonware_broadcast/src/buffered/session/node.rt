@@ -13,11 +13,11 @@ use crate::buffered::engine::{Engine, StartError};
 use crate::buffered::front::{WatchedEngine, WatchedNode};
 use crate::buffered::observer::Observer;
 use crate::buffered::started::{Handle, MailboxReport};
-use crate::buffered::strategy::Strategy;
 use broadcast_core::{Codec, Digestible, PublicKey};
 use broadcast_mailbox::buffered::{
     Account, Bookkeeping, Books, Incoming, Ingress, Stopper, Tally, Watch,
 };
+use digest_strategies::Strategy;
 use engine_io::{Provider, Receiver, Sender};
 use std::alloc::{AllocError, AllocGlobal, Global};
 use std::num::NonZeroU32;

@@ -1,7 +1,7 @@
 //! A strategy whose jobs take some polls.
 ghost use Rattle.std.specs.Prelude.{◌≡◌};
 
-use crate::buffered::{Job, Strategy};
+use crate::{Job, Strategy};
 use broadcast_core::Digestible;
 use futures::task::{Context, Poll};
 use std::alloc::AllocError;
@@ -33,7 +33,7 @@ impl<M: Digestible> Strategy<M> for Slow {
 }
 
 impl<M: Digestible> Job<M> for SlowJob<M> {
-    ghost use Rattle.commonware_broadcast.specs.Jobs.{HoldsDigested};
+    ghost use Rattle.digest_strategies.specs.Jobs.{HoldsDigested};
 
     ghost is_of = { λ job m. HoldsDigested M.digest_of m job.message };
 

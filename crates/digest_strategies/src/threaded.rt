@@ -1,8 +1,8 @@
 //! Digests on other threads.
 ghost use Rattle.std.specs.Prelude.{◌≡◌, IfOk};
 
-use crate::buffered::strategy::{Job, Strategy};
-use crate::buffered::worker::Work;
+use crate::strategy::{Job, Strategy};
+use crate::worker::Work;
 use futures::task::{Context, Poll};
 use std::alloc::{AllocError, Global};
 use std::marker::PhantomData;
@@ -10,7 +10,7 @@ use std::sync::Arc;
 use std::thread::Threads;
 
 /// Digests messages on other threads: each on one of its own, which passes a gate before, or all on
-/// that of a [`Pool`](crate::buffered::Pool), which is the gate then.
+/// that of a [`Pool`](crate::Pool), which is the gate then.
 #[derive(Drop)]
 pub struct Threaded<G, R> {
     gate: Arc<G>,
@@ -63,7 +63,7 @@ impl<M: Work<G, R>, G, R: Clone + Drop> Strategy<M> for Threaded<G, R> {
 }
 
 impl<M: Work<G, R>, G, R: Drop> Job<M> for Working<M, G, R> {
-    ghost use Rattle.commonware_broadcast.specs.Workers.{MayBeOf, MayWaitFor};
+    ghost use Rattle.digest_strategies.specs.Workers.{MayBeOf, MayWaitFor};
 
     ghost is_of = { λ job message. MayBeOf M.is_of job.worker message };
 

@@ -2,8 +2,8 @@
 -- Workers that digest messages on other threads.
 use Rattle.std.specs.Prelude.{◌≡◌, ℕ, Option, None, Some}
 use Rattle.futures.specs.Channel.{completed_source}
-use Rattle.commonware_broadcast.specs.declared.buffered.worker.Worker.{Worker}
-use Rattle.commonware_broadcast.specs.declared.buffered.worker.Worker.TheVariants as worker
+use Rattle.digest_strategies.specs.declared.worker.Worker.{Worker}
+use Rattle.digest_strategies.specs.declared.worker.Worker.TheVariants as worker
 
 module _ {M D : Type 0} where
   -- the worker's thread owes this message with its own digest, or the worker has both

@@ -4,7 +4,7 @@ ghost use Rattle.std.specs.Arc.{arc_value};
 ghost use Rattle.futures.specs.Poll.{OnPending};
 ghost use Rattle.futures.specs.Task.{Hears, IsArmed, Keeps};
 
-use crate::buffered::worker::Work;
+use crate::worker::Work;
 use broadcast_core::{Digest, Digestible, TestMessage};
 use counted_slot::{Counted, Fits, TAKEN};
 use futures::task::{Context, Poll, Source, Waker};
@@ -49,7 +49,7 @@ struct Slot<M: Digestible> {
 }
 
 impl<M: Digestible> Model for Slot<M> {
-    ghost use Rattle.commonware_broadcast.specs.Workers.{Pooling};
+    ghost use Rattle.digest_strategies.specs.Workers.{Pooling};
 
     ghost Value = { Pooling M };
 
@@ -296,7 +296,7 @@ pub struct Pooled<M: Digestible> {
 
 impl<M: Digestible> Model for Pooled<M> {
     ghost use Rattle.std.specs.Arc.{arc_value};
-    ghost use Rattle.commonware_broadcast.specs.Workers.{Pooling};
+    ghost use Rattle.digest_strategies.specs.Workers.{Pooling};
 
     ghost Value = { Pooling M };
 

@@ -2,10 +2,10 @@
 ghost use Rattle.std.specs.Prelude.{◌≡◌, ℕ, IfOk};
 ghost use Rattle.futures.specs.Poll.{OnPending};
 ghost use Rattle.futures.specs.Task.{IsArmed, Keeps};
-ghost use Rattle.engine_io.specs.Heard.{HearsAll};
-ghost use Rattle.commonware_broadcast.specs.Workers.{IsWorkerOf, WaitsFor};
+ghost use Rattle.digest_strategies.specs.Heard.{HearsAll};
+ghost use Rattle.digest_strategies.specs.Workers.{IsWorkerOf, WaitsFor};
 
-use crate::buffered::gate::{Gate, Open};
+use crate::gate::{Gate, Open};
 use broadcast_core::{Digest, Digestible, TestMessage};
 use futures::Future;
 use futures::channel::oneshot::{self, Receiver};

@@ -1,10 +1,10 @@
 //! Strategies that digest messages.
 ghost use Rattle.std.specs.Prelude.{◌≡◌, ℕ, Some, IfOk};
 ghost use Rattle.futures.specs.declared.task.Poll.TheVariants.{Ready};
-ghost use Rattle.commonware_broadcast.specs.Jobs.{HoldsDigested};
+ghost use Rattle.digest_strategies.specs.Jobs.{HoldsDigested};
 ghost use Rattle.futures.specs.Poll.{IfReady, OnPending};
 ghost use Rattle.futures.specs.Task.{IsArmed, Keeps};
-ghost use Rattle.engine_io.specs.Heard.{HearsAll};
+ghost use Rattle.digest_strategies.specs.Heard.{HearsAll};
 
 use broadcast_core::Digestible;
 use futures::task::{Context, Poll};
@@ -64,7 +64,7 @@ impl<M: Digestible> Strategy<M> for Sequential {
 }
 
 impl<M: Digestible> Job<M> for Done<M> {
-    ghost use Rattle.commonware_broadcast.specs.Jobs.{HoldsDigested};
+    ghost use Rattle.digest_strategies.specs.Jobs.{HoldsDigested};
 
     ghost is_of = { λ job m. HoldsDigested M.digest_of m job.message };
 
