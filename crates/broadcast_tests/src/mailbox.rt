@@ -4,6 +4,7 @@ mod calls;
 mod drops;
 mod inbox;
 mod limits;
+mod looks;
 mod note;
 mod overflow;
 mod polls;

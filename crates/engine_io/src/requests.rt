@@ -63,6 +63,13 @@ pub trait Requests<T: Awaits> {
         ensures armed { OnPending result (IsArmed cx.new) }
         ensures kept { Keeps cx.old cx.new };
 
+    /// Looks for some microseconds whether a request or the order to stop came since the last poll
+    /// for a request. Returns whether one may have come. A source that does not tell returns at
+    /// once.
+    fn look(&self) -> bool {
+        false
+    }
+
     /// Puts the digests of which a request that was given may have closed since the last call in
     /// place of those in `digests`. Returns whether one of another digest may have closed too. A
     /// source that does not tell always says so.
@@ -112,6 +119,10 @@ where
 
     fn poll_next(&mut self, cx: &mut Context<'_>) -> Poll<Request<Incoming<P, M>>> {
         self.poll_request(cx)
+    }
+
+    fn look(&self) -> bool {
+        Ingress::look(self)
     }
 
     /// Takes the digests of which a subscription was dropped since the last call.

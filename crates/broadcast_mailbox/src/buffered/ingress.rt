@@ -10,6 +10,7 @@ pub mod inbox;
 pub mod ingress_end;
 pub mod laws;
 mod limit;
+mod look;
 pub mod mailbox;
 pub mod message;
 pub mod overflow;

@@ -8,6 +8,7 @@ use std::alloc::{AllocError, AllocGlobal};
 use std::io;
 use std::random::RandomSource;
 use std::sync::{Mutex, Wait};
+use std::thread::{Threads, available_parallelism};
 use thiserror::Error;
 
 /// A driver whose lock is held, so that no thread waits in it.
@@ -83,6 +84,15 @@ impl Seat {
                 unreachable!()
             }
         }
+    }
+}
+
+/// Returns whether threads may look before they sleep: more than one processor may be used, so
+/// another thread may run meanwhile.
+pub(crate) fn may_look(rt: &impl Threads) -> bool {
+    match available_parallelism(rt) {
+        Ok(processors) => processors.get() > 1,
+        Err(_) => false,
     }
 }
 

@@ -2,12 +2,59 @@
 ghost use Rattle.std.specs.Prelude.{◌≡◌, ⊤, IfOk};
 ghost use Rattle.futures.specs.Channel.{canceled_source, completed_source};
 
+use crate::buffered::ingress::look::Mark;
 use crate::buffered::ingress::responder::Responder;
 use futures::channel::oneshot;
 use std::alloc::{AllocError, Global};
 use std::marker::Model;
-use std::sync::Arc;
+use std::sync::{Arc, Wait};
 use std::thread::Parker;
+use std::time::Duration;
+
+/// The bell of one call. One thread waits for it.
+#[derive(Drop)]
+pub(super) struct Bell {
+    rung: Mark,
+    parker: Parker,
+    // Whether the taker of the request was awake, so that the thread looks before it sleeps.
+    is_awake: bool,
+}
+
+impl Bell {
+    /// Creates a bell that was not rung. The thread looks before it sleeps if `is_awake`.
+    pub(super) fn new(is_awake: bool) -> Self {
+        Bell {
+            rung: Mark::new(),
+            parker: Parker::new(),
+            is_awake,
+        }
+    }
+
+    /// Ends the wait of the thread, or the next one.
+    fn ring(&self) {
+        self.rung.set();
+        self.parker.unpark();
+    }
+
+    /// Waits until the bell is rung. May return before.
+    pub(super) fn wait(&self, rt: &impl Wait) {
+        if !self.is_seen() {
+            self.parker.park(rt);
+        }
+    }
+
+    /// Waits until the bell is rung, and sleeps for no longer than `time`. May return before.
+    pub(super) fn wait_timeout(&self, rt: &impl Wait, time: Duration) {
+        if !self.is_seen() {
+            self.parker.park_timeout(rt, time);
+        }
+    }
+
+    /// Looks for some microseconds whether the bell is rung, if the thread looks at all.
+    fn is_seen(&self) -> bool {
+        self.is_awake && self.rung.look()
+    }
+}
 
 /// Where the reply to a caller goes. Dropping it cancels the caller's future.
 ///
@@ -16,7 +63,7 @@ use std::thread::Parker;
 pub struct Answering<T> {
     sender: oneshot::Sender<T>,
     // Of a future of this crate: its thread may sleep there.
-    bell: Option<Arc<Parker>>,
+    bell: Option<Arc<Bell>>,
 }
 
 impl<T> Model for Answering<T> {
@@ -38,29 +85,29 @@ impl<T: Drop> Answering<T> {
     }
 
     /// Wakes who sleeps until the reply is there.
-    fn ring(bell: Option<Arc<Parker>>) {
+    fn ring(bell: Option<Arc<Bell>>) {
         if let Some(bell) = bell {
-            bell.unpark();
+            bell.ring();
         }
     }
 }
 
 /// What both ends of a reply's channel are: where it goes, where it comes, and the bell.
-pub(super) type Answered<T> = (Answering<T>, oneshot::Receiver<T>, Arc<Parker>);
+pub(super) type Answered<T> = (Answering<T>, oneshot::Receiver<T>, Arc<Bell>);
 
 /// Creates the channel of a reply, and the bell that is rung once the reply is sent or never will
 /// be.
-pub(super) fn answered<T: Drop>(alloc: Global) -> Result<Answered<T>, AllocError>
+pub(super) fn answered<T: Drop>(alloc: Global, is_awake: bool) -> Result<Answered<T>, AllocError>
     ensures { IfOk result (λ ends. ends.0 ≡ completed_source ends.1) }
 {
-    let bell = Arc::new(alloc, Parker::new())?;
+    let bell = Arc::new(alloc, Bell::new(is_awake))?;
     answered_by(alloc, bell)
 }
 
 /// Creates the channel of a reply, which rings `bell` as one of its own.
 pub(super) fn answered_by<T: Drop>(
     alloc: Global,
-    bell: Arc<Parker>,
+    bell: Arc<Bell>,
 ) -> Result<Answered<T>, AllocError>
     ensures { IfOk result (λ ends. ends.0 ≡ completed_source ends.1) }
 {

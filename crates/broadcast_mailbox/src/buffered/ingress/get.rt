@@ -5,7 +5,7 @@ ghost use Rattle.futures.specs.Poll.{IfReady, OnPending};
 ghost use Rattle.futures.specs.declared.task.Poll.TheVariants.{Ready};
 ghost use Rattle.broadcast_mailbox.specs.Asked.{GoesBy, get_returns};
 
-use crate::buffered::ingress::bell::{Answering, answered};
+use crate::buffered::ingress::bell::{Answering, Bell, answered};
 use crate::buffered::ingress::limit::Limit;
 use crate::buffered::ingress::queued::Queued;
 use crate::buffered::ingress::reply::{Reply, Returns, try_receive};
@@ -16,7 +16,6 @@ use futures::task::{Context, Poll};
 use std::alloc::{AllocError, Global};
 use std::marker::Model;
 use std::sync::{Arc, Wait};
-use std::thread::Parker;
 use std::time::{Clock, Duration};
 
 /// A future for the cached message of a digest. Dropping it cancels the request.
@@ -27,7 +26,7 @@ use std::time::{Clock, Duration};
 pub struct Get<M: Digestible> {
     digest: M::Digest,
     receiver: Receiver<Option<Reply<M>>>,
-    bell: Arc<Parker>,
+    bell: Arc<Bell>,
     // Whether the mailbox accepted the request.
     accepted: bool,
     // Whether the channel has given its result.
@@ -53,11 +52,12 @@ impl<M: Digestible> Get<M> {
     pub(super) fn open(
         alloc: Global,
         digest: M::Digest,
+        is_awake: bool,
     ) -> Result<(Answering<Option<Reply<M>>>, Self), AllocError>
         ensures digest { IfOk result (λ ends. ends.1.digest ≡ digest) }
         ensures same_channel { IfOk result (λ ends. ends.1.source ≡ ends.0) }
     {
-        let Ok((responder, receiver, bell)) = answered(alloc) else {
+        let Ok((responder, receiver, bell)) = answered(alloc, is_awake) else {
             return Err(AllocError);
         };
         let get = Get {
@@ -85,7 +85,8 @@ impl<M: Digestible> Get<M> {
     }
 
     /// Blocks the calling thread until the reply is there, and returns what the future gives. The
-    /// thread sleeps at once, and needs no memory.
+    /// thread sleeps, and needs no memory. If more than one processor may be used and the engine
+    /// was awake at the call, the thread looks for some microseconds before.
     pub fn wait<R: Wait>(self, rt: &R) -> Option<Digested<M>>
         ensures { IfSome result (λ message. GoesBy M.Digest.cmp self.digest message) }
     {
@@ -94,7 +95,7 @@ impl<M: Digestible> Get<M> {
             if let Poll::Ready(outcome) = get.try_wait() {
                 return outcome;
             }
-            get.bell.park(rt);
+            get.bell.wait(rt);
         }
         unreachable!()
     }
@@ -102,8 +103,9 @@ impl<M: Digestible> Get<M> {
     /// Waits for the reply for no longer than `limit`, and returns what the future gives, or an
     /// `Err` with the future if the reply is not there by then.
     ///
-    /// The thread sleeps at once until the reply is there or the time is over, and needs no memory.
-    /// Returns the `Err` also if the clock can't be read.
+    /// The thread sleeps until the reply is there or the time is over, and needs no memory. It looks
+    /// before as `wait` does: those microseconds may come on top of `limit`. Returns the `Err` also
+    /// if the clock can't be read.
     pub fn wait_timeout<R: Wait + Clock>(
         self,
         rt: &R,
@@ -122,7 +124,7 @@ impl<M: Digestible> Get<M> {
             let Some(left) = limit.left(rt) else {
                 break;
             };
-            get.bell.park_timeout(rt, left);
+            get.bell.wait_timeout(rt, left);
         }
         Err(get)
     }

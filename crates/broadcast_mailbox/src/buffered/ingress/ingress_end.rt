@@ -66,6 +66,13 @@ impl<T: Named, R, A: Bookkeeping> Ingress<T, R, A> {
         A::end(&mut self.taker, refused);
     }
 
+    /// Looks for some microseconds whether a request or a stop came since the last poll for a
+    /// request, if threads may look before they sleep. Returns whether one may have come; if not,
+    /// the thread is to sleep. After a look in vain some calls return at once.
+    pub fn look(&self) -> bool {
+        self.inbox.look()
+    }
+
     /// Puts the digests of which a subscription was dropped since the last call in place of those
     /// in `taken`, each once. Returns whether it may have been one of another digest too. One that
     /// was dropped before its request was taken counts again from then on.
@@ -225,6 +232,12 @@ impl<T: Named, R, A: Bookkeeping> Stopper<T, R, A> {
         ensures { result.inbox ≡ arc_value inbox }
     {
         Stopper { inbox, rt }
+    }
+
+    /// Lets callers that wait, and whoever takes the requests, look for some microseconds before
+    /// they sleep, or not. At first they do not.
+    pub fn set_may_look(&self, may_look: bool) {
+        self.inbox.set_may_look(may_look);
     }
 }
 

@@ -164,9 +164,10 @@ where
     pub fn subscribe(&self, digest: M::Digest) -> Result<Subscription<M>, MailboxError>
         ensures { IfOk result (λ subscription. subscription.digest ≡ digest) }
     {
-        let dropped = self.inbox.dropped();
-        let Ok((responder, mut subscription)) = Subscription::open(self.alloc, digest, dropped)
-        else {
+        let (dropped, is_awake) = (self.inbox.dropped(), self.inbox.is_awake());
+        let Ok((responder, mut subscription)) = Subscription::open(
+            self.alloc, digest, dropped, is_awake,
+        ) else {
             return Err(MailboxError::Memory);
         };
         let request = Message::subscribe(digest, responder);
@@ -214,7 +215,7 @@ where
     pub fn get(&self, digest: M::Digest) -> Result<Get<M>, MailboxError>
         ensures { IfOk result (λ get. get.digest ≡ digest) }
     {
-        let Ok((responder, mut get)) = Get::open(self.alloc, digest) else {
+        let Ok((responder, mut get)) = Get::open(self.alloc, digest, self.inbox.is_awake()) else {
             return Err(MailboxError::Memory);
         };
         let request = Message::get(digest, responder);
@@ -268,9 +269,10 @@ where
             tally.new ≡ tallied (V.watched Kind.Subscribe digest) subscription.accepted tally.old) }
         ensures unchanged_on_error { OnErr result (tally.new ≡ tally.old) }
     {
-        let dropped = self.inbox.dropped();
-        let Ok((responder, mut subscription)) = Subscription::open(self.alloc, digest, dropped)
-        else {
+        let (dropped, is_awake) = (self.inbox.dropped(), self.inbox.is_awake());
+        let Ok((responder, mut subscription)) = Subscription::open(
+            self.alloc, digest, dropped, is_awake,
+        ) else {
             return Err(MailboxError::Memory);
         };
         let counted = V::matches(Kind::Subscribe, &digest);
@@ -295,7 +297,7 @@ where
             tally.new ≡ tallied (V.watched Kind.Get digest) get.accepted tally.old) }
         ensures unchanged_on_error { OnErr result (tally.new ≡ tally.old) }
     {
-        let Ok((responder, mut get)) = Get::open(self.alloc, digest) else {
+        let Ok((responder, mut get)) = Get::open(self.alloc, digest, self.inbox.is_awake()) else {
             return Err(MailboxError::Memory);
         };
         let counted = V::matches(Kind::Get, &digest);

@@ -15,6 +15,7 @@ use crate::buffered::ingress::attended::Attended;
 use crate::buffered::ingress::books::{Books, Taker};
 use crate::buffered::ingress::dropped::Dropped;
 use crate::buffered::ingress::inbox::Inbox;
+use crate::buffered::ingress::look::Alertness;
 use crate::buffered::ingress::message::{Message, Named};
 use crate::buffered::ingress::queued::{Counts, Queued};
 use crate::buffered::ingress::reply::Reply;
@@ -41,6 +42,7 @@ pub(super) struct Shared<T: Named, A: Bookkeeping> {
     // Fires once a stop is requested.
     stopped: Source,
     dropped: Arc<Dropped<T::Digest>>,
+    alertness: Alertness,
     state: Mutex<Attended<T, A>>,
 }
 
@@ -62,6 +64,7 @@ impl<T: Named, A: Bookkeeping> Shared<T, A> {
             queued: Source::new(),
             stopped: Source::new(),
             dropped,
+            alertness: Alertness::new(),
             state: Mutex::new(Attended::new(inbox, account)),
         }
     }
@@ -81,6 +84,23 @@ impl<T: Named, A: Bookkeeping> Shared<T, A> {
     pub(super) fn request_stop(&self, rt: &impl Wait) {
         let woken = self.state.lock(rt).request_stop();
         drop(woken);
+        self.alertness.ask();
+    }
+
+    /// Lets threads look for some microseconds before they sleep, or not.
+    pub(super) fn set_may_look(&self, may_look: bool) {
+        self.alertness.set_may_look(may_look);
+    }
+
+    /// Returns whether the task is awake. If so, who waits for a reply looks before it sleeps.
+    pub(super) fn is_awake(&self) -> bool {
+        self.alertness.is_awake()
+    }
+
+    /// Looks, if the task may, whether something came since its last poll for a request. Returns
+    /// whether something may have. If not, the task is to sleep.
+    pub(super) fn look(&self) -> bool {
+        self.alertness.look()
     }
 
     /// Returns whether a stop was requested.
@@ -148,6 +168,7 @@ impl<T: Closable + Named + Drop, A: Bookkeeping> Shared<T, A> {
     pub(super) fn enqueue(&self, rt: &impl Wait, message: T) -> Result<Queued, MailboxError> {
         let (queued, woken) = self.state.lock(rt).enqueue(message);
         drop(woken);
+        self.alertness.ask();
         queued
     }
 
@@ -164,6 +185,7 @@ impl<T: Closable + Named + Drop, A: Bookkeeping> Shared<T, A> {
         ensures armed { OnPending result (IsArmed cx.new) }
         ensures kept { Keeps cx.old cx.new }
     {
+        self.alertness.begin();
         self.state.lock(rt).poll_next(taker, cx, &self.queued)
     }
 
@@ -230,6 +252,7 @@ where
             .lock(rt)
             .enqueue_as(kind, message, counted, tally);
         drop(woken);
+        self.alertness.ask();
         queued
     }
 

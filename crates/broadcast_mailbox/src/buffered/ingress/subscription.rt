@@ -7,7 +7,7 @@ ghost use Rattle.futures.specs.Channel.{completed_source};
 ghost use Rattle.broadcast_mailbox.specs.Asked.{GoesBy, subscription_returns};
 
 use crate::buffered::ingress::abandoned::Abandoned;
-use crate::buffered::ingress::bell::{Answered, Answering, answered, answered_by};
+use crate::buffered::ingress::bell::{Answered, Answering, Bell, answered, answered_by};
 use crate::buffered::ingress::dropped::Dropped;
 use crate::buffered::ingress::limit::Limit;
 use crate::buffered::ingress::queued::Queued;
@@ -19,7 +19,6 @@ use futures::task::{Context, Poll};
 use std::alloc::{AllocError, Global};
 use std::marker::Model;
 use std::sync::{Arc, Wait};
-use std::thread::Parker;
 use std::time::{Clock, Duration};
 
 /// A future for the message of a digest. Dropping it cancels the request.
@@ -28,7 +27,7 @@ use std::time::{Clock, Duration};
 pub struct Subscription<M: Digestible> {
     digest: M::Digest,
     receiver: Receiver<Reply<M>>,
-    bell: Arc<Parker>,
+    bell: Arc<Bell>,
     // Whether the mailbox accepted the request.
     accepted: bool,
     // Whether the channel has given its result.
@@ -75,6 +74,7 @@ impl<M: Digestible> Subscription<M> {
         alloc: Global,
         digest: M::Digest,
         dropped: &Arc<Dropped<M::Digest>>,
+        is_awake: bool,
     ) -> Result<(Answering<Reply<M>>, Self), AllocError>
         ensures digest { IfOk result (λ ends. ends.1.digest ≡ digest) }
         ensures same_channel { IfOk result (λ ends. ends.1.source ≡ ends.0) }
@@ -82,7 +82,7 @@ impl<M: Digestible> Subscription<M> {
         let Ok(dropped) = Arc::try_clone(dropped) else {
             return Err(AllocError);
         };
-        let Ok(answered) = answered(alloc) else {
+        let Ok(answered) = answered(alloc, is_awake) else {
             drop(dropped);
             return Err(AllocError);
         };
@@ -94,7 +94,7 @@ impl<M: Digestible> Subscription<M> {
         alloc: Global,
         digest: M::Digest,
         dropped: &Arc<Dropped<M::Digest>>,
-        bell: Arc<Parker>,
+        bell: Arc<Bell>,
     ) -> Result<(Answering<Reply<M>>, Self), AllocError>
         ensures digest { IfOk result (λ ends. ends.1.digest ≡ digest) }
         ensures same_channel { IfOk result (λ ends. ends.1.source ≡ ends.0) }
@@ -154,7 +154,8 @@ impl<M: Digestible> Subscription<M> {
     }
 
     /// Blocks the calling thread until the message is there, and returns what the future gives.
-    /// The thread sleeps at once, and needs no memory.
+    /// The thread sleeps, and needs no memory. If more than one processor may be used and the engine
+    /// was awake at the call, the thread looks for some microseconds before.
     pub fn wait<R: Wait>(self, rt: &R) -> Result<Digested<M>, Canceled>
         ensures { IfOk result (λ message. GoesBy M.Digest.cmp self.digest message) }
     {
@@ -163,7 +164,7 @@ impl<M: Digestible> Subscription<M> {
             if let Poll::Ready(outcome) = subscription.try_wait() {
                 return outcome;
             }
-            subscription.bell.park(rt);
+            subscription.bell.wait(rt);
         }
         unreachable!()
     }
@@ -171,8 +172,9 @@ impl<M: Digestible> Subscription<M> {
     /// Waits for the message for no longer than `limit`, and returns what the future gives, or an
     /// `Err` with the future if the message is not there by then.
     ///
-    /// The thread sleeps at once until the message is there or the time is over, and needs no
-    /// memory. Returns the `Err` also if the clock can't be read.
+    /// The thread sleeps until the message is there or the time is over, and needs no memory. It
+    /// looks before as `wait` does: those microseconds may come on top of `limit`. Returns the `Err`
+    /// also if the clock can't be read.
     pub fn wait_timeout<R: Wait + Clock>(
         self,
         rt: &R,
@@ -191,7 +193,7 @@ impl<M: Digestible> Subscription<M> {
             let Some(left) = limit.left(rt) else {
                 break;
             };
-            subscription.bell.park_timeout(rt, left);
+            subscription.bell.wait_timeout(rt, left);
         }
         Err(subscription)
     }

@@ -6,7 +6,7 @@ ghost use Rattle.futures.specs.declared.task.Poll.TheVariants.{Ready};
 ghost use Rattle.broadcast_mailbox.specs.Asked.{GoesBy};
 ghost use Rattle.broadcast_mailbox.specs.Several.{Leaves};
 
-use crate::buffered::ingress::bell::Answering;
+use crate::buffered::ingress::bell::{Answering, Bell};
 use crate::buffered::ingress::dropped::Dropped;
 use crate::buffered::ingress::limit::Limit;
 use crate::buffered::ingress::reply::Reply;
@@ -17,7 +17,6 @@ use futures::task::Poll;
 use std::alloc::{AllocError, Global};
 use std::marker::Model;
 use std::sync::{Arc, Wait};
-use std::thread::Parker;
 use std::time::{Clock, Duration};
 
 /// The subscription of a set that was answered, which has left the set.
@@ -50,7 +49,7 @@ pub struct First<M: Digestible> {
 #[derive(Drop)]
 pub struct Subscriptions<M: Digestible> {
     // Which the reply to each of them rings.
-    bell: Arc<Parker>,
+    bell: Arc<Bell>,
     waiting: Vec<Subscription<M>>,
 }
 
@@ -67,7 +66,7 @@ impl<M: Digestible> Subscriptions<M> {
     pub fn new(alloc: Global) -> Result<Self, AllocError>
         ensures { IfOk result (λ set. set ≡ []) }
     {
-        let bell = Arc::new(alloc, Parker::new())?;
+        let bell = Arc::new(alloc, Bell::new(false))?;
         Ok(Subscriptions {
             bell,
             waiting: Vec::new(alloc),
@@ -134,7 +133,7 @@ impl<M: Digestible> Subscriptions<M> {
             if let Poll::Ready(any) = self.try_any() {
                 return any;
             }
-            self.bell.park(rt);
+            self.bell.wait(rt);
         }
         unreachable!()
     }
@@ -169,7 +168,7 @@ impl<M: Digestible> Subscriptions<M> {
             let Some(left) = limit.left(rt) else {
                 break;
             };
-            self.bell.park_timeout(rt, left);
+            self.bell.wait_timeout(rt, left);
         }
         Poll::Pending
     }

@@ -211,8 +211,13 @@ where
             cx.yield_now()
         }
         Poll::Pending => {
+            let is_asked = engine.requests().look();
             *moment = Some(((engine, network), observer));
-            Poll::Pending
+            if is_asked {
+                cx.yield_now()
+            } else {
+                Poll::Pending
+            }
         }
     }
 }

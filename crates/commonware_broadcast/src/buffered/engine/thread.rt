@@ -6,7 +6,7 @@ ghost use Rattle.commonware_broadcast.specs.Parts.{joined, ready_engine};
 ghost use Rattle.commonware_broadcast.specs.Polls.{MakesReady, ShowsPolls, ShowsRun};
 ghost use Rattle.commonware_broadcast.specs.Interfaces.{format_of, over};
 
-use crate::buffered::asleep::CannotWait;
+use crate::buffered::asleep::{CannotWait, may_look};
 use crate::buffered::engine::closed::Closed;
 use crate::buffered::engine::node::Node;
 use crate::buffered::engine::report::Report;
@@ -286,6 +286,7 @@ where
     B: Bookkeeping,
     requires { F.pre work }
 {
+    stopper.set_may_look(may_look(rt));
     match thread::spawn(rt, work) {
         Ok(thread) => Ok(thread),
         Err(refused) => {

@@ -3,5 +3,8 @@ use Rattle.commonware_broadcast.proofs.buffered.engine.running.poll_to_end.Goals
 pub returns-in-Ready-Some-clause-kept : goal.returns-in-Ready-Some-clause-kept
 returns-in-Ready-Some-clause-kept g c = λ fact h. c.poll_turns-polled.ensures.kept fact (c.answer_asked.ensures fact h)
 
-pub returns-in-Pending-clause-kept : goal.returns-in-Pending-clause-kept
-returns-in-Pending-clause-kept g c = λ fact h. c.poll_turns-polled.ensures.kept fact (c.answer_asked.ensures fact h)
+pub returns-then-is_asked-clause-kept : goal.returns-then-is_asked-clause-kept
+returns-then-is_asked-clause-kept g c = λ fact h. c.yield_now-then-is_asked.ensures.kept fact (c.poll_turns-polled.ensures.kept fact (c.answer_asked.ensures fact h))
+
+pub returns-else-is_asked-clause-kept : goal.returns-else-is_asked-clause-kept
+returns-else-is_asked-clause-kept g c = λ fact h. c.poll_turns-polled.ensures.kept fact (c.answer_asked.ensures fact h)
