@@ -8,11 +8,12 @@ mod plain;
 
 use broadcast_node::{Cache, Digest, Key, Limits, Node, Subscribed, Ticket};
 use expert::Expert;
-use plain::{Bytes32, Plain};
+use plain::Plain;
 use std::hint::black_box;
 use std::sync::Arc;
 use std::time::Instant;
 
+type Bytes32 = [u8; 32];
 type Shared = Arc<[u8]>;
 
 const ROUNDS: usize = 15;
@@ -92,7 +93,7 @@ impl Load {
         cache
     }
 
-    fn plain(&self) -> Plain<Shared> {
+    fn plain(&self) -> Plain<Bytes32, Shared> {
         let mut cache = Plain::new(self.size, u64::MAX);
         cache.peers(&self.keys);
         for (peer, message) in &self.takes {
@@ -103,7 +104,7 @@ impl Load {
         cache
     }
 
-    fn expert(&self) -> Expert<Shared> {
+    fn expert(&self) -> Expert<Bytes32, Shared> {
         let mut cache = Expert::new(self.size, u64::MAX, &self.keys);
         for (peer, message) in &self.takes {
             let (digest, payload) = &self.payloads[*message];
@@ -127,7 +128,7 @@ impl Load {
     }
 
     /// What a node does with a payload: the length is looked at, and the message is digested, as there.
-    fn plain_node(&self) -> Plain<Shared> {
+    fn plain_node(&self) -> Plain<Bytes32, Shared> {
         let mut cache = Plain::new(self.size, u64::MAX);
         cache.peers(&self.keys);
         for (peer, message) in &self.takes {
@@ -165,7 +166,7 @@ fn table(load: &Load) {
     row("take, beside an expert's", load.takes.len(), || load.cache(), || load.expert());
     row("payload of a node", load.takes.len(), || load.node(), || load.plain_node());
     let (mut cache, mut plain) = (load.cache(), load.plain());
-    let expert = load.expert();
+    let mut expert = load.expert();
     assert_eq!(cache.counts().cached, plain.cached());
     assert_eq!(expert.cached(), plain.cached());
     assert!(load.payloads.iter().all(|(digest, _)| expert.get(digest) == plain.get(digest)));
@@ -176,10 +177,12 @@ fn table(load: &Load) {
     let absent: Vec<Bytes32> = (0..20_000).map(|_| random.bytes()).collect();
     gets(&cache, &plain, &asked, &absent);
     cancels(&mut cache, &mut plain, &absent);
+    assert!(absent.iter().all(|it| expert.subscribe(1, it) && expert.cancel(it, 1)));
     let keys = load.keys();
     for (key, plain_key) in keys.iter().zip(&load.keys) {
         let list: Vec<Bytes32> = cache.list(key).unwrap().into_iter().map(Bytes32::from).collect();
         assert_eq!(list, plain.list(plain_key));
+        assert_eq!(list, expert.list(plain_key));
     }
     row(
         "list",
@@ -190,7 +193,7 @@ fn table(load: &Load) {
 }
 
 /// Subscribes to digests that are not cached, and then cancels one subscription after the other.
-fn cancels(cache: &mut Cache<Shared>, plain: &mut Plain<Shared>, absent: &[Bytes32]) {
+fn cancels(cache: &mut Cache<Shared>, plain: &mut Plain<Bytes32, Shared>, absent: &[Bytes32]) {
     row(
         "subscribe and cancel",
         absent.len(),
@@ -211,7 +214,12 @@ fn cancels(cache: &mut Cache<Shared>, plain: &mut Plain<Shared>, absent: &[Bytes
     );
 }
 
-fn gets(cache: &Cache<Shared>, plain: &Plain<Shared>, asked: &[Bytes32], absent: &[Bytes32]) {
+fn gets(
+    cache: &Cache<Shared>,
+    plain: &Plain<Bytes32, Shared>,
+    asked: &[Bytes32],
+    absent: &[Bytes32],
+) {
     for it in asked {
         assert_eq!(cache.get(&Digest::from(*it)), plain.get(it));
     }

@@ -1,10 +1,8 @@
-//! The cache of `bench/plain`, over keys and digests of 32 bytes and messages of any type: ordered maps, a deque
-//! for each peer that is searched from end to end, and messages that are cloned.
+//! The cache of `bench/plain`, over keys and digests of one type and messages of any: ordered maps, a deque for
+//! each peer that is searched from end to end, and messages that are cloned. `bench/cache` times it too.
 
 use std::collections::btree_map::Entry;
 use std::collections::{BTreeMap, VecDeque};
-
-pub type Bytes32 = [u8; 32];
 
 struct Cached<M> {
     message: M,
@@ -12,23 +10,28 @@ struct Cached<M> {
 }
 
 /// The digests of a peer, the newest first, each with the bytes that it is charged.
-#[derive(Default)]
-struct List {
-    digests: VecDeque<(Bytes32, u64)>,
+struct List<K> {
+    digests: VecDeque<(K, u64)>,
     bytes: u128,
 }
 
-pub struct Plain<M> {
-    deque_size: usize,
-    byte_budget: u64,
-    cache: BTreeMap<Bytes32, Cached<M>>,
-    lists: BTreeMap<Bytes32, List>,
-    waiters: BTreeMap<Bytes32, Vec<u64>>,
-    primary: Vec<Bytes32>,
+impl<K> List<K> {
+    fn new() -> List<K> {
+        List { digests: VecDeque::new(), bytes: 0 }
+    }
 }
 
-impl<M: Clone> Plain<M> {
-    pub fn new(deque_size: usize, byte_budget: u64) -> Plain<M> {
+pub struct Plain<K, M> {
+    deque_size: usize,
+    byte_budget: u64,
+    cache: BTreeMap<K, Cached<M>>,
+    lists: BTreeMap<K, List<K>>,
+    waiters: BTreeMap<K, Vec<u64>>,
+    primary: Vec<K>,
+}
+
+impl<K: Copy + Ord, M: Clone> Plain<K, M> {
+    pub fn new(deque_size: usize, byte_budget: u64) -> Plain<K, M> {
         Plain {
             deque_size,
             byte_budget,
@@ -39,7 +42,7 @@ impl<M: Clone> Plain<M> {
         }
     }
 
-    pub fn peers(&mut self, keys: &[Bytes32]) {
+    pub fn peers(&mut self, keys: &[K]) {
         let mut set = keys.to_vec();
         set.sort_unstable();
         set.dedup();
@@ -57,8 +60,8 @@ impl<M: Clone> Plain<M> {
     /// Returns whether the digest is new on the list, and who waited for it.
     pub fn take(
         &mut self,
-        peer: &Bytes32,
-        digest: &Bytes32,
+        peer: &K,
+        digest: &K,
         charge: u64,
         message: M,
     ) -> (Option<bool>, Vec<u64>) {
@@ -66,11 +69,11 @@ impl<M: Clone> Plain<M> {
         (self.store(peer, digest, charge, message), served)
     }
 
-    fn store(&mut self, peer: &Bytes32, digest: &Bytes32, charge: u64, message: M) -> Option<bool> {
+    fn store(&mut self, peer: &K, digest: &K, charge: u64, message: M) -> Option<bool> {
         if self.primary.binary_search(peer).is_err() || charge > self.byte_budget {
             return None;
         }
-        let list = self.lists.entry(*peer).or_default();
+        let list = self.lists.entry(*peer).or_insert_with(List::new);
         let place = list.digests.iter().position(|it| it.0 == *digest);
         if let Some((_, charged)) = place.and_then(|place| list.digests.remove(place)) {
             list.bytes -= u128::from(charged);
@@ -92,7 +95,7 @@ impl<M: Clone> Plain<M> {
     }
 
     /// Lets the ticket wait for the digest, unless it is cached. Returns whether it waits.
-    pub fn subscribe(&mut self, ticket: u64, digest: &Bytes32) -> bool {
+    pub fn subscribe(&mut self, ticket: u64, digest: &K) -> bool {
         let waits = !self.cache.contains_key(digest);
         if waits {
             self.waiters.entry(*digest).or_default().push(ticket);
@@ -101,7 +104,7 @@ impl<M: Clone> Plain<M> {
     }
 
     /// Drops the waiter with this ticket. Returns whether it waited for the digest.
-    pub fn cancel(&mut self, digest: &Bytes32, ticket: u64) -> bool {
+    pub fn cancel(&mut self, digest: &K, ticket: u64) -> bool {
         let Entry::Occupied(mut entry) = self.waiters.entry(*digest) else { return false };
         let before = entry.get().len();
         entry.get_mut().retain(|it| *it != ticket);
@@ -112,11 +115,11 @@ impl<M: Clone> Plain<M> {
         was_waiting
     }
 
-    pub fn get(&self, digest: &Bytes32) -> Option<&M> {
+    pub fn get(&self, digest: &K) -> Option<&M> {
         self.cache.get(digest).map(|it| &it.message)
     }
 
-    pub fn list(&self, peer: &Bytes32) -> Vec<Bytes32> {
+    pub fn list(&self, peer: &K) -> Vec<K> {
         let list = self.lists.get(peer);
         list.map(|it| it.digests.iter().map(|it| it.0).collect()).unwrap_or_default()
     }
@@ -126,7 +129,7 @@ impl<M: Clone> Plain<M> {
     }
 }
 
-fn release<M>(cache: &mut BTreeMap<Bytes32, Cached<M>>, digest: Bytes32) {
+fn release<K: Ord, M>(cache: &mut BTreeMap<K, Cached<M>>, digest: K) {
     let Entry::Occupied(mut entry) = cache.entry(digest) else {
         unreachable!("a listed digest is cached");
     };
