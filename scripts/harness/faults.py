@@ -20,6 +20,9 @@ CLUSTER_FAULT = re.compile(rb"cluster: (out of memory|no thread could be started
 NO_MEMORY = re.compile(rb"relayed: no memory, (\d+) wait\n")
 # The most seconds of a run of `cluster`, and how often it is tried until it takes no more: others may keep the machine busy.
 SECONDS, TRIES = 2, 4
+# A pipe that nothing reads. It is made before any thread starts a process, which would hold the reader for a moment.
+_READER, CLOSED_PIPE = os.pipe()
+os.close(_READER)
 
 
 class Events:
@@ -150,10 +153,7 @@ def try_calls(row, run, reads):
 
 
 def closed_pipe_fault(row, run, reads):
-    reader, writer = os.pipe()
-    os.close(reader)
-    with open(writer, "wb") as closed:
-        ran = run(row, NOTHING, stdout=closed)
+    ran = run(row, NOTHING, stdout=CLOSED_PIPE)
     failed = (WRITE_FAILED if reads else CLUSTER_FAILED, 3) if row.status == 0 else (row.stderr, row.status)
     return None if (ran.stderr, ran.status) == failed else f"the status is {ran.status}, and {ran.stderr!r} is told"
 
