@@ -73,7 +73,7 @@ impl Ord for Digest {
 
     ghost matches_eq = { texts_ties };
 
-    #[inline]
+    #[inline(always)]
     fn cmp(&self, other: &Self) -> Ordering {
         compare(&self.bytes, &other.bytes)
     }
