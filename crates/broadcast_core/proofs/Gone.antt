@@ -33,24 +33,24 @@ found-sorted xs x (Err i) sorted search =
     (λ t. let below = at.1 k (ltb-true k i t) in omega (arith, below, is))
     (λ f. let above = at.2 k (ltb-false k i f) within in omega (arith, above, is))))
 
--- the lowest bytes of the first tickets are marked
+-- the ten lowest bits of the first tickets are marked
 abbrev pub Marks : List ℕ → ℕ → List Bool → Type 0
-Marks xs n seen = (k : ℕ) → k < n → get_or seen (get_or xs k 0 % 256) false ≡ true
+Marks xs n seen = (k : ℕ) → k < n → get_or seen (get_or xs k 0 % 1024) false ≡ true
 
-pub marked : (xs : List ℕ) (i : ℕ) (seen : List Bool) → length seen ≡ 256 → Marks xs i seen → Marks xs (i + 1) (set seen (get_or xs i 0 % 256) true)
-marked xs i seen len marks k within = elim (eqb_tells (get_or xs k 0 % 256) (get_or xs i 0 % 256)) [
-  | inl h ↦ rw h.1 (get_or-set_same seen (get_or xs i 0 % 256) true false (omega (arith, len)))
-  | inr h ↦ get_or-set_other seen (get_or xs i 0 % 256) (get_or xs k 0 % 256) true false h.1 ∙ (elim (eqb_tells k i) [
-    | inl e ↦ absurd (h.1 (ap (λ n. get_or xs n 0 % 256) e.1))
+pub marked : (xs : List ℕ) (i : ℕ) (seen : List Bool) → length seen ≡ 1024 → Marks xs i seen → Marks xs (i + 1) (set seen (get_or xs i 0 % 1024) true)
+marked xs i seen len marks k within = elim (eqb_tells (get_or xs k 0 % 1024) (get_or xs i 0 % 1024)) [
+  | inl h ↦ rw h.1 (get_or-set_same seen (get_or xs i 0 % 1024) true false (omega (arith, len)))
+  | inr h ↦ get_or-set_other seen (get_or xs i 0 % 1024) (get_or xs k 0 % 1024) true false h.1 ∙ (elim (eqb_tells k i) [
+    | inl e ↦ absurd (h.1 (ap (λ n. get_or xs n 0 % 1024) e.1))
     | inr e ↦ marks k (omega (arith, within, e.1))
   ])
 ]
 
--- a ticket whose lowest byte none of them has is not among them
+-- a ticket whose ten lowest bits none of them has is not among them
 pub none_seen : (xs : List ℕ) (x : ℕ) (low : List Bool)
-    → ((k : ℕ) → k < length xs → get_or low (get_or xs k 0 % 256) false ≡ true) → get_or low (x % 256) false ≡ false → list_any (λ y. x == y) xs ≡ false
+    → ((k : ℕ) → k < length xs → get_or low (get_or xs k 0 % 1024) false ≡ true) → get_or low (x % 1024) false ≡ false → list_any (λ y. x == y) xs ≡ false
 none_seen xs x low seen apart = nowhere x xs (λ k within is.
-    let there : get_or low (x % 256) false ≡ true = subst (λ y. get_or low (y % 256) false ≡ true) is (seen k within) in
+    let there : get_or low (x % 1024) false ≡ true = subst (λ y. get_or low (y % 1024) false ≡ true) is (seen k within) in
     let wrong : true ≡ false = sym there ∙ apart in absurd cc)
 
 -- what an answer says if it is true

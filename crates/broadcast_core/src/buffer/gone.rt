@@ -12,7 +12,7 @@ const FEW: usize = 64;
 pub struct Gone<'a> {
     tickets: &'a [u64],
     is_sorted: bool,
-    low_bytes: [bool; 256],
+    low_bits: [bool; 1024],
 }
 
 impl<'a> Model for Gone<'a> {
@@ -25,7 +25,7 @@ impl<'a> Model for Gone<'a> {
 
     ghost invariant = { λ it. (it.is_sorted ≡ true → IsNonDecreasing it.tickets.now)
         × ((k : ℕ) → k < length it.tickets.now
-        → get_or it.low_bytes (get_or it.tickets.now k 0 % 256) false ≡ true) };
+        → get_or it.low_bits (get_or it.tickets.now k 0 % 1024) false ≡ true) };
 }
 
 impl<'a> Gone<'a> {
@@ -36,15 +36,15 @@ impl<'a> Gone<'a> {
         Gone {
             tickets,
             is_sorted: tickets.is_sorted(),
-            low_bytes: low_bytes(tickets),
+            low_bits: low_bits(tickets),
         }
     }
 
-    /// Returns whether the ticket is one of them. Most others differ from all in the lowest byte.
+    /// Returns whether the ticket is one of them. Most others differ from all in the low ten bits.
     pub fn has(&self, ticket: u64) -> bool
         ensures { result ≡ list_any (λ t. ticket == t) self.now }
     {
-        if !self.low_bytes[(ticket % 256) as usize] {
+        if !self.low_bits[(ticket % 1024) as usize] {
             return false;
         }
         if self.is_sorted && self.tickets.len() > FEW {
@@ -55,14 +55,14 @@ impl<'a> Gone<'a> {
     }
 }
 
-/// Returns for each byte whether it is the lowest one of a ticket.
-fn low_bytes(tickets: &[u64]) -> [bool; 256]
+/// Returns for each number of ten bits whether a ticket has them as its lowest.
+fn low_bits(tickets: &[u64]) -> [bool; 1024]
     ensures { (k : ℕ) → k < length tickets.now
-        → get_or result (get_or tickets.now k 0 % 256) false ≡ true }
+        → get_or result (get_or tickets.now k 0 % 1024) false ≡ true }
 {
-    let mut seen = [false; 256];
+    let mut seen = [false; 1024];
     for ticket in tickets {
-        seen[(*ticket % 256) as usize] = true;
+        seen[(*ticket % 1024) as usize] = true;
     }
     seen
 }

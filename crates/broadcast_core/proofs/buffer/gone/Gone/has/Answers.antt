@@ -8,4 +8,4 @@ returns-then-self-gt-FEW c =
 
 pub returns-then-not-self-ticket : goal.returns-then-not-self-ticket
 returns-then-not-self-ticket c =
-    rw (← c.self.view_is) (sym (none_seen c.self.inside.tickets.now c.args.ticket c.self.inside.low_bytes c.self.invariant.1 (search rules)))
+    rw (← c.self.view_is) (sym (none_seen c.self.inside.tickets.now c.args.ticket c.self.inside.low_bits c.self.invariant.1 (search rules)))
