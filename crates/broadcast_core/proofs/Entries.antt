@@ -22,13 +22,6 @@ module _ {K X : Type 0} where
       (λ h. rw (h, h) refl)
       (λ h. rw (h, h) (ap (λ fs. e ∷ fs) (remove_entry-set_value test es w)))
 
-  -- what stands at a key may be written there
-  pub set_value-same : (test : K → Bool) (es : List (K × X)) (w : X) → lookup test es ≡ Some w → set_value test es w ≡ es
-  set_value-same test [] w h = refl
-  set_value-same test (e ∷ es) w h = by_test (test e.0)
-      (λ t. let v : e.1 ≡ w = (let h' : Some e.1 ≡ Some w = sym (ap (λ b. cond b (Some e.1) (lookup test es)) t) ∙ h in cc) in rw t (ap (λ x. (e.0, x) ∷ es) (sym v)))
-      (λ t. let rest : lookup test es ≡ Some w = sym (ap (λ b. cond b (Some e.1) (lookup test es)) t) ∙ h in rw t (ap (λ fs. e ∷ fs) (set_value-same test es w rest)))
-
   -- tests that agree find the same
   pub lookup-same : (s t : K → Bool) (es : List (K × X)) → ((k : K) → s k ≡ t k) → lookup s es ≡ lookup t es
   lookup-same s t [] h = refl

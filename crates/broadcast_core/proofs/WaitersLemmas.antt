@@ -1,10 +1,11 @@
 -- Who waits, after a push, a take and a cleanup.
-use Rattle.std.proofs.Common.{◌≡◌, ◌+◌, ◌<◌, ◌≤◌, Bool, true, false, not, cond, List, [], ◌∷◌, ◌++◌, length, length-append, Option, Some, None, refl, sym, ap, ◌∙◌, subst, arith, inl, inr}
-use Rattle.std.specs.Prelude.{nat_lt, unwrap_or}
+use Rattle.std.proofs.Common.{◌≡◌, ◌+◌, ◌<◌, ◌≤◌, Bool, true, false, not, cond, List, [], ◌∷◌, ◌++◌, length, length-append, Option, Some, None, Result, Ok, Err, OnOk, refl, sym, ap, ◌∙◌, subst, arith, inl, inr}
+use Rattle.std.specs.Prelude.{nat_lt, unwrap_or, IfErr}
 use Rattle.std.specs.List.{filter, count_by, IsDistinct, AllByRecursion, items_where_true}
 use Rattle.std.specs.List.Retain.{IsFiltered, ReturnsInTurn}
 use Rattle.std.specs.List.Sorted.{IsStrictlySortedBy}
 use Rattle.std.specs.Map.{lookup, keys_of}
+use Rattle.std.specs.BTreeMap.{insert_entry}
 use Rattle.std.specs.Map.Calls.{RetainsPairs}
 use Rattle.std.specs.Cmp.{IsTotalOrder, IsEquivalence, eq_by_cmp_equiv}
 use Rattle.std.specs.Ordering.{eq_by_cmp}
@@ -14,6 +15,7 @@ use Rattle.std.proofs.lemmas.List.{nil_from_length}
 use Rattle.std.proofs.lemmas.List.Filters.{length-filter_both}
 use Rattle.std.proofs.lemmas.List.Sums.{sum_by-cons, length-filter}
 use Rattle.std.proofs.lemmas.Map.Keys.{IsDistinct-from_sorted, IsDistinct-head, IsDistinct-tail}
+use Rattle.entries.proofs.Tables.{insert_entry-same}
 use Rattle.broadcast_core.specs.Content.{items_at}
 use Rattle.broadcast_core.specs.Waiters.{NoneEmpty, AreAwaited, waiting_in, DropsClosed}
 use Rattle.broadcast_core.proofs.Distinct.{by_test}
@@ -56,21 +58,44 @@ lists-pushed {R = R} o d w ws es fs at is e = lists-updated o d (Some ws) es fs 
     (λ t. rw t (is ∙ ap (λ r. unwrap_or r [] ++ w ∷ []) (sym (lookup-equal (eq_by_cmp_equiv o) d e es t))))
     (λ t. rw t refl)
 
--- the first who waits for the digest
-module _ {D W : Type 0} {R : D → D → Ordering} (o : IsTotalOrder R) (d : D) (w : W) (ws : List W) (es mid fs : List (D × List W)) (same : mid ≡ es) (one : ws ≡ w ∷ [])
-    (at : (e : D) → lookup (eq_by_cmp R e) fs ≡ cond (eq_by_cmp R d e) (Some ws) (lookup (eq_by_cmp R e) mid)) where
-  at_first : (e : D) → lookup (eq_by_cmp R e) fs ≡ cond (eq_by_cmp R d e) (Some ws) (lookup (eq_by_cmp R e) es)
-  at_first e = at e ∙ ap (λ gs. cond (eq_by_cmp R d e) (Some ws) (lookup (eq_by_cmp R e) gs)) same
-
-  pub AreAwaited-first : AreAwaited R es → IsStrictlySortedBy R (keys_of fs) → AreAwaited R fs
-  AreAwaited-first was rises = AreAwaited-written o d ws es fs at_first was rises (rw one (omega arith))
-
-  pub lists-first : lookup (eq_by_cmp R d) es ≡ None
-      → (e : D) → items_at (eq_by_cmp R) e fs ≡ cond (eq_by_cmp R d e) (items_at (eq_by_cmp R) e es ++ w ∷ []) (items_at (eq_by_cmp R) e es)
-  lists-first none = lists-pushed o d w ws es fs at_first (one ∙ ap (λ r. unwrap_or r [] ++ w ∷ []) (sym none))
-
 pub some_pushed : {W : Type 0} (ws : List W) (w : W) → 0 < length (ws ++ w ∷ [])
 some_pushed ws w = omega (arith, length-append ws (w ∷ []))
+
+-- the waiters of the digest are ws now
+module _ {D W : Type 0} {R : D → D → Ordering} (o : IsTotalOrder R) (d : D) (w : W) (ws : List W) (es fs gs : List (D × List W)) (same : gs ≡ fs)
+    (at : (e : D) → lookup (eq_by_cmp R e) fs ≡ cond (eq_by_cmp R d e) (Some ws) (lookup (eq_by_cmp R e) es)) where
+  AreAwaited-same : AreAwaited R es → IsStrictlySortedBy R (keys_of fs) → 0 < length ws → AreAwaited R gs
+  AreAwaited-same was rises some = subst (AreAwaited R) (sym same) (AreAwaited-written o d ws es fs at was rises some)
+
+  lists-same : ws ≡ items_at (eq_by_cmp R) d es ++ w ∷ []
+      → (e : D) → items_at (eq_by_cmp R) e gs ≡ cond (eq_by_cmp R d e) (items_at (eq_by_cmp R) e es ++ w ∷ []) (items_at (eq_by_cmp R) e es)
+  lists-same is e = ap (items_at (eq_by_cmp R) e) same ∙ lists-pushed o d w ws es fs at is e
+
+  -- the first who waits for the digest
+  module _ (one : ws ≡ w ∷ []) where
+    pub AreAwaited-first : AreAwaited R es → IsStrictlySortedBy R (keys_of fs) → AreAwaited R gs
+    AreAwaited-first was rises = AreAwaited-same was rises (rw one (omega arith))
+
+    pub lists-first : lookup (eq_by_cmp R d) es ≡ None
+        → (e : D) → items_at (eq_by_cmp R) e gs ≡ cond (eq_by_cmp R d e) (items_at (eq_by_cmp R) e es ++ w ∷ []) (items_at (eq_by_cmp R) e es)
+    lists-first none = lists-same (one ∙ ap (λ r. unwrap_or r [] ++ w ∷ []) (sym none))
+
+  -- one more waits for it, if there was room
+  module _ {X A : Type 0} (was : List W) (there : lookup (eq_by_cmp R d) es ≡ Some was) where
+    pub AreAwaited-joined : (r : Result X (W × A)) → OnOk r (ws ≡ was ++ w ∷ []) → IfErr r (λ y. (y.0 ≡ w) × (ws ≡ was))
+        → AreAwaited R es → IsStrictlySortedBy R (keys_of fs) → AreAwaited R gs
+    AreAwaited-joined (Ok x) ok err awaited rises = AreAwaited-same awaited rises (rw ok (some_pushed was w))
+    AreAwaited-joined (Err y) ok err awaited rises = AreAwaited-same awaited rises (rw (err.1) (awaited.none_empty d was there))
+
+    pub lists-joined : (r : Result X (W × A)) → OnOk r (ws ≡ was ++ w ∷ [])
+        → OnOk r ((e : D) → items_at (eq_by_cmp R) e gs ≡ cond (eq_by_cmp R d e) (items_at (eq_by_cmp R) e es ++ w ∷ []) (items_at (eq_by_cmp R) e es))
+    lists-joined (Ok x) ok = lists-same (ok ∙ ap (λ r. unwrap_or r [] ++ w ∷ []) (sym there))
+    lists-joined (Err y) ok = tt
+
+    pub entries-refused : (r : Result X (W × A)) → IfErr r (λ y. (y.0 ≡ w) × (ws ≡ was))
+        → IsStrictlySortedBy R (keys_of es) → fs ≡ insert_entry R es d ws → IfErr r (λ y. (y.0 ≡ w) × (gs ≡ es))
+    entries-refused (Ok x) err rises is = tt
+    entries-refused (Err y) err rises is = (err.0, same ∙ is ∙ ap (insert_entry R es d) err.1 ∙ insert_entry-same o d was es rises there)
 
 -- an entry's list becomes another by R, and an entry without a list is gone
 abbrev pub Kept : {D W : Type 0} → (List W → List W → Type 0) → List (D × List W) → List (D × List W) → Type 0

@@ -1,5 +1,5 @@
 //! The waiters, by digest.
-ghost use Rattle.std.specs.Prelude.{◌≡◌, true, ℕ, ◌+◌, ◌++◌, [], ◌∷◌, not, nat_lt, length, if◌then◌else◌, OnOk, IfErr};
+ghost use Rattle.std.specs.Prelude.{◌≡◌, true, ℕ, ◌+◌, ◌++◌, [], ◌∷◌, not, nat_lt, length, if◌then◌else◌, IfOk, OnOk, IfErr};
 ghost use Rattle.std.specs.List.{filter, count_by, list_any, IsDistinct};
 ghost use Rattle.std.specs.BTreeMap.Range.{entries_between};
 ghost use Rattle.std.specs.declared.ops.Bound.TheVariants.{Unbounded};
@@ -13,6 +13,7 @@ use crate::items::Items;
 use crate::requests::{Closable, Ticketed};
 use std::alloc::{AllocError, Global};
 use std::collections::BTreeMap;
+use std::collections::btree_map::Entry;
 use std::marker::Model;
 use std::ops::Bound;
 
@@ -74,23 +75,7 @@ impl<D: Ord + Copy, W: Drop> Waiters<D, W> {
             else items_at same e self.old)) }
         ensures err { IfErr result (λ refused. (refused.0 ≡ waiter) × (self.new ≡ self.old)) }
     {
-        if let Some(waiters) = self.by_digest.get_mut(&digest) {
-            return match waiters.push(waiter) {
-                Ok(()) => Ok(()),
-                Err(refused) => Err((refused.value, AllocError)),
-            };
-        }
-        let mut waiters = Items::new(self.alloc);
-        if let Err(refused) = waiters.push(waiter) {
-            return Err((refused.value, AllocError));
-        }
-        match self.by_digest.insert(digest, waiters) {
-            Ok(_) => Ok(()),
-            Err(refused) => {
-                let (_, waiters) = refused.value;
-                Err((only(waiters), AllocError))
-            }
-        }
+        append(self.alloc, &mut self.by_digest, digest, waiter)
     }
 
     /// Removes the waiters of `digest` and returns them. Does not allocate. Does not search if the
@@ -212,12 +197,67 @@ impl<D: Ord + Copy, W: Drop> Waiters<D, W> {
     }
 }
 
-/// Returns the one waiter of the list.
-fn only<W: Drop>(waiters: Items<W>) -> W
-    requires { length waiters ≡ 1 }
-    ensures { waiters ≡ result ∷ [] }
+/// Puts the waiter behind the others of its digest. On an allocation failure the waiter is returned
+/// with it, and nothing changes.
+fn append<D: Ord + Copy, W: Drop>(
+    alloc: Global,
+    by_digest: &mut BTreeMap<D, Items<W>>,
+    digest: D,
+    waiter: W,
+) -> Result<(), (W, AllocError)>
+    requires { AreAwaited D.cmp by_digest.old.entries }
+    ensures awaited { AreAwaited D.cmp by_digest.new.entries }
+    ensures ok { let same = eq_by_cmp D.cmp in
+        OnOk result ((e : D) → items_at same e by_digest.new.entries
+        ≡ (if same digest e
+        then items_at same e by_digest.old.entries ++ waiter ∷ []
+        else items_at same e by_digest.old.entries)) }
+    ensures err { IfErr result (λ refused. (refused.0 ≡ waiter)
+        × (by_digest.new.entries ≡ by_digest.old.entries)) }
 {
-    waiters.into_vec().pop().unwrap()
+    match by_digest.entry(digest) {
+        Ok(entry) => match entry {
+            Entry::Occupied(found) => join(found.into_mut(), waiter),
+            Entry::Vacant(vacant) => match one(alloc, waiter) {
+                Ok(waiters) => {
+                    vacant.insert(waiters);
+                    Ok(())
+                }
+                Err(refused) => {
+                    // Gives back the room for a digest.
+                    if let Err(_stays) = Entry::Vacant(vacant).or_try_insert_with(|| Err(
+                        AllocError,
+                    )) {}
+                    Err(refused)
+                }
+            },
+        },
+        Err(_refused) => Err((waiter, AllocError)),
+    }
+}
+
+/// Puts the waiter behind the others. On an allocation failure the waiter is returned with it, and
+/// nothing changes.
+fn join<W: Drop>(waiters: &mut Items<W>, waiter: W) -> Result<(), (W, AllocError)>
+    ensures ok { OnOk result (waiters.new ≡ waiters.old ++ waiter ∷ []) }
+    ensures err { IfErr result (λ refused. (refused.0 ≡ waiter) × (waiters.new ≡ waiters.old)) }
+{
+    match waiters.push(waiter) {
+        Ok(()) => Ok(()),
+        Err(refused) => Err((refused.value, AllocError)),
+    }
+}
+
+/// Creates a list of one waiter. On an allocation failure the waiter is returned with it.
+fn one<W: Drop>(alloc: Global, waiter: W) -> Result<Items<W>, (W, AllocError)>
+    ensures ok { IfOk result (λ waiters. waiters ≡ waiter ∷ []) }
+    ensures err { IfErr result (λ refused. refused.0 ≡ waiter) }
+{
+    let mut waiters = Items::new(alloc);
+    match join(&mut waiters, waiter) {
+        Ok(()) => Ok(waiters),
+        Err(refused) => Err(refused),
+    }
 }
 
 /// Returns the number of all waiters.
