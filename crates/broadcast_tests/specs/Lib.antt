@@ -1,2 +1,1 @@
 pub mod Even
-pub mod WorkedExamples

@@ -28,4 +28,3 @@ mod streams;
 mod unencodable;
 #[cfg(test)]
 mod waiters;
-pub mod worked_examples;

@@ -1,3 +1,4 @@
+pub mod CoreExamples
 pub mod Driven
 pub mod WorkedExamples
 pub mod WorldExamples

@@ -1,6 +1,17 @@
-//! Worked examples of the definitions of engines and of worlds.
+//! Worked examples of the definitions of the core, of engines and of worlds.
+ghost use Rattle.proved_examples.specs.CoreExamples.{Repeats, Broadcasts, Stays, Requests, Budgets};
 ghost use Rattle.proved_examples.specs.WorkedExamples.{Served, Mixed, HungUp, Ends};
 ghost use Rattle.proved_examples.specs.WorldExamples.{Packets, Events};
+
+/// Does nothing. Its contract has lists of events with the answers, lists, waiters and sends
+/// that the definitions give.
+pub fn core_examples()
+    ensures repeats { Repeats }
+    ensures broadcasts { Broadcasts }
+    ensures stays { Stays }
+    ensures requests { Requests }
+    ensures budgets { Budgets }
+{}
 
 /// Does nothing. Its contract has steps of an engine, with the turns, replies, sends and counts
 /// that the definitions give.

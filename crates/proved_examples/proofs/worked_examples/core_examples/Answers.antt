@@ -1,5 +1,5 @@
 use Rattle.std.proofs.Common.{refl}
-use Rattle.broadcast_tests.proofs.worked_examples.worked_examples.Goals as goal
+use Rattle.proved_examples.proofs.worked_examples.core_examples.Goals as goal
 
 pub returns-clause-repeats : goal.returns-clause-repeats
 returns-clause-repeats c = record { answered = refl; listed = refl; with_no_place = refl }
