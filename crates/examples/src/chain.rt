@@ -26,7 +26,7 @@ fn keys() -> [Key; 4] {
 /// Hands on the turns of an engine.
 #[derive(Drop)]
 struct Teller<R> {
-    // None after the last turn, and once one was lost, so that nobody waits for more.
+    // None after the last turn and after a lost one: then the receiver waits for no more.
     to: Option<Sender<Turn<Key, Digest>>>,
     rt: R,
 }

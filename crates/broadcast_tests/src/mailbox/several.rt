@@ -91,8 +91,8 @@ impl Call {
         }
     }
 
-    /// Returns whether the set, of which all that is answered has left, gives nothing more and is as
-    /// long as it should be.
+    /// Returns whether the set, of which all that is answered has left, gives nothing more and is
+    /// as long as it should be.
     fn ends<R: Wait + Clock>(self, rt: &R, set: &mut Subscriptions<Note>, rest: usize) -> bool {
         let is_done = match (self, rest) {
             (Call::Wait, 1..) => true,

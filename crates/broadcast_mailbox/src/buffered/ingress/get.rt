@@ -103,9 +103,9 @@ impl<M: Digestible> Get<M> {
     /// Waits for the reply for no longer than `limit`, and returns what the future gives, or an
     /// `Err` with the future if the reply is not there by then.
     ///
-    /// The thread sleeps until the reply is there or the time is over, and needs no memory. It looks
-    /// before as `wait` does: those microseconds may come on top of `limit`. Returns the `Err` also
-    /// if the clock can't be read.
+    /// The thread sleeps until the reply is there or the time is over, and needs no memory. Before,
+    /// it looks as `wait` does: those microseconds may come on top of `limit`. Returns the `Err`
+    /// also if the clock can't be read.
     pub fn wait_timeout<R: Wait + Clock>(
         self,
         rt: &R,

@@ -183,8 +183,8 @@ where
         }
     }
 
-    /// Subscribes as `subscribe` does, and adds the subscription to those of `set`, to be waited for
-    /// among them.
+    /// Subscribes as `subscribe` does, and adds the subscription to those of `set`, among which it
+    /// is waited for.
     ///
     /// After an error nothing is queued, and nothing added.
     pub fn subscribe_among(
@@ -265,8 +265,8 @@ where
         digest: M::Digest,
     ) -> Result<Subscription<M>, MailboxError>
         ensures digest { IfOk result (λ subscription. subscription.digest ≡ digest) }
-        ensures counts { IfOk result (λ subscription.
-            tally.new ≡ tallied (V.watched Kind.Subscribe digest) subscription.accepted tally.old) }
+        ensures counts { IfOk result (λ asked.
+            tally.new ≡ tallied (V.watched Kind.Subscribe digest) asked.accepted tally.old) }
         ensures unchanged_on_error { OnErr result (tally.new ≡ tally.old) }
     {
         let (dropped, is_awake) = (self.inbox.dropped(), self.inbox.is_awake());

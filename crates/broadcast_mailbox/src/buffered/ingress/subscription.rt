@@ -154,8 +154,8 @@ impl<M: Digestible> Subscription<M> {
     }
 
     /// Blocks the calling thread until the message is there, and returns what the future gives.
-    /// The thread sleeps, and needs no memory. If more than one processor may be used and the engine
-    /// was awake at the call, the thread looks for some microseconds before.
+    /// The thread sleeps, and needs no memory. If more than one processor may be used and the
+    /// engine was awake at the call, the thread looks for some microseconds before.
     pub fn wait<R: Wait>(self, rt: &R) -> Result<Digested<M>, Canceled>
         ensures { IfOk result (λ message. GoesBy M.Digest.cmp self.digest message) }
     {
@@ -172,9 +172,9 @@ impl<M: Digestible> Subscription<M> {
     /// Waits for the message for no longer than `limit`, and returns what the future gives, or an
     /// `Err` with the future if the message is not there by then.
     ///
-    /// The thread sleeps until the message is there or the time is over, and needs no memory. It
-    /// looks before as `wait` does: those microseconds may come on top of `limit`. Returns the `Err`
-    /// also if the clock can't be read.
+    /// The thread sleeps until the message is there or the time is over, and needs no memory.
+    /// Before, it looks as `wait` does: those microseconds may come on top of `limit`. Returns the
+    /// `Err` also if the clock can't be read.
     pub fn wait_timeout<R: Wait + Clock>(
         self,
         rt: &R,

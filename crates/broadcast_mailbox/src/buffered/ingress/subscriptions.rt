@@ -33,8 +33,8 @@ pub struct First<M: Digestible> {
 /// Subscriptions of which a caller waits for the first that is answered. Dropping it cancels their
 /// requests.
 ///
-/// Contracts see the digests that they asked for, in the order in which they were added. One that is
-/// answered leaves, so a caller that wants a number of them asks as often:
+/// Contracts see the digests that they asked for, in the order in which they were added. One that
+/// is answered leaves, so a caller that wants a number of them asks as often:
 ///
 /// ```rust
 /// for _ in 0..number {
@@ -87,8 +87,8 @@ impl<M: Digestible> Subscriptions<M> {
         self.len() == 0
     }
 
-    // Adds a subscription to `digest`, whose drop is told there. Returns where its reply goes. After
-    // an error the set is unchanged.
+    // Adds a subscription to `digest`, whose drop is told there. Returns where its reply goes.
+    // After an error the set is unchanged.
     pub(super) fn open(
         &mut self,
         alloc: Global,
@@ -173,8 +173,8 @@ impl<M: Digestible> Subscriptions<M> {
         Poll::Pending
     }
 
-    /// Takes out the first in order that is answered, or returns `None` if the set is empty, or that
-    /// it is pending while none is answered. Waits for nobody.
+    /// Takes out the first in order that is answered, or returns `None` if the set is empty, or
+    /// that it is pending while none is answered. Waits for nobody.
     pub fn try_any(&mut self) -> Poll<Option<First<M>>>
         ensures gives { IfReady result (λ any. IfSome any (λ first.
             IfOk first.outcome (λ message. GoesBy M.Digest.cmp first.digest message))) }
