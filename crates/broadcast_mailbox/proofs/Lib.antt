@@ -6,6 +6,7 @@ pub mod Queues
 pub mod TicketCounts
 pub mod TicketRuns
 pub mod Counted
+pub mod Opening
 pub mod Skipping
 pub mod Watching
 pub mod Several

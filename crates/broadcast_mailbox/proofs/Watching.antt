@@ -3,18 +3,19 @@ use Rattle.std.proofs.Common.{◌≡◌, Bool, true, Result, Ok, Err, refl}
 use Rattle.broadcast_mailbox.specs.declared.buffered.ingress.message.Message.{Message}
 use Rattle.broadcast_mailbox.specs.declared.buffered.ingress.message.Message.TheVariants as variant
 use Rattle.broadcast_mailbox.specs.declared.buffered.ingress.watch.Kind.{Kind}
+use Rattle.broadcast_mailbox.specs.declared.buffered.ingress.watch.Kind.TheVariants as kind
 use Rattle.broadcast_mailbox.specs.declared.buffered.ingress.queued.Queued.{Queued}
 use Rattle.broadcast_mailbox.specs.declared.buffered.ingress.queued.Queued.TheVariants as queued
 use Rattle.broadcast_mailbox.specs.declared.broadcaster.MailboxError.{MailboxError}
 use Rattle.broadcast_mailbox.specs.Account.{is_accepted, is_taken_up}
 use Rattle.broadcast_mailbox.specs.Queued.{answer_of}
-use Rattle.broadcast_mailbox.specs.Watch.{is_watched, kind_of}
+use Rattle.broadcast_mailbox.specs.Watch.{BroadcastsOnly, is_broadcast, is_watched, kind_of}
 
--- a request that a watch matches has a digest that it matches
-pub watched-digest : {P M S G D : Type 0} (watched : Kind → D → Bool) (message : Message P M S G D) → is_watched watched message ≡ true → (digest : D) × (watched (kind_of message) digest ≡ true)
-watched-digest watched (variant.Broadcast recipients message) is = (message.digest, is)
-watched-digest watched (variant.Subscribe digest responder) is = (digest, is)
-watched-digest watched (variant.Get digest responder) is = (digest, is)
+-- a request that a watch of broadcasts matches is a broadcast
+pub watched-open : {P M S G D : Type 0} (watched : Kind → D → Bool) → BroadcastsOnly watched → (message : Message P M S G D) → is_watched watched message ≡ true → is_broadcast (kind_of message) ≡ true
+watched-open watched only (variant.Broadcast recipients message) is = refl
+watched-open watched only (variant.Subscribe digest responder) is = only kind.Subscribe digest is
+watched-open watched only (variant.Get digest responder) is = only kind.Get digest is
 
 -- a broadcast that was accepted is one that drew a ticket
 pub accepted-answer : (result : Result Queued MailboxError) → is_taken_up (answer_of result) ≡ is_accepted result

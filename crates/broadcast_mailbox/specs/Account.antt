@@ -1,7 +1,8 @@
 -- Believed.
 -- What is counted of the requests that are made through tallies.
-use Rattle.std.specs.Prelude.{ℕ, ◌+◌, ◌-◌, ◌^◌, min, if◌then◌else◌, ◌&&◌, Bool, true, false}
-use Rattle.std.specs.Prelude.{Option, None, Some, Result, Ok, Err}
+use Rattle.std.specs.Prelude.{ℕ, ◌+◌, ◌-◌, ◌^◌, min, if◌then◌else◌, ◌&&◌, ◌||◌, not, Bool, true, false}
+use Rattle.std.specs.Prelude.{List, Option, None, Some, Result, Ok, Err}
+use Rattle.std.specs.List.{list_all}
 use Rattle.broadcast_mailbox.specs.declared.buffered.ingress.request.Request.{Request}
 use Rattle.broadcast_mailbox.specs.declared.buffered.ingress.queued.Queued.{Queued}
 use Rattle.broadcast_mailbox.specs.declared.buffered.ingress.queued.Queued.TheVariants as queued
@@ -44,6 +45,10 @@ is_taken_up (Err error) = false
 abbrev pub tallied : Bool → Bool → TallyState → TallyState
 tallied counted accepted tally =
     record tally { accepted = tally.accepted + one_if (counted && accepted) }
+
+-- whether each counted request among them is one that stays open
+abbrev pub are_open : {T : Type 0} → (T → Bool) → List (Request T) → Bool
+are_open opens requests = list_all (λ request. not request.counted || opens request.message) requests
 
 -- how many counted requests a take with this result takes
 abbrev pub counted_of : {T : Type 0} → Option (Request T) → ℕ

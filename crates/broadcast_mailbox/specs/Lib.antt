@@ -9,6 +9,7 @@ pub mod Asked
 pub mod Several
 pub mod Attended
 pub mod Watch
+pub mod MessageLaws
 pub mod Account
 pub mod Ends
 pub mod Told

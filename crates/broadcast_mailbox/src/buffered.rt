@@ -12,7 +12,7 @@ pub use ingress::laws::ticket_law;
 pub use ingress::mailbox::{
     Incoming, Mailbox, WatchedEnds, WatchedMailbox, channel, watched_channel,
 };
-pub use ingress::message::{Awaits, Message, Named};
+pub use ingress::message::{Awaits, Message, Named, Queueable};
 pub use ingress::overflow::{Overflow, Policy};
 pub use ingress::pending::Pending;
 pub use ingress::queued::{Counts, Queued};

@@ -15,8 +15,8 @@ pub use asleep::CannotWait;
 pub use broadcast_mailbox::buffered::{
     Abandoned, Account, All, Answering, Awaits, Bookkeeping, Books, Broadcasts, Counts, First,
     Fixed, Get, Inbox, Incoming, Ingress, Kind, Mailbox, Message, Named, Overflow, Pending, Policy,
-    Queued, Reply, Request, Responder, Settled, Stopper, Subscription, Subscriptions, Taker, Tally,
-    Watch, WatchedEnds, WatchedMailbox, channel, ticket_law, watched_channel,
+    Queueable, Queued, Reply, Request, Responder, Settled, Stopper, Subscription, Subscriptions,
+    Taker, Tally, Watch, WatchedEnds, WatchedMailbox, channel, ticket_law, watched_channel,
 };
 pub use config::Config;
 pub use digest_strategies::{

@@ -1,5 +1,5 @@
 //! The counts of the requests that are made through tallies.
-ghost use Rattle.std.specs.Prelude.{◌≡◌, ◌≤◌, ◌<◌, ◌+◌, ◌^◌, ◌&&◌, ◌||◌, ℕ, Bool, false};
+ghost use Rattle.std.specs.Prelude.{◌≡◌, ◌≤◌, ◌<◌, ◌+◌, ◌^◌, ◌&&◌, ◌||◌, ℕ, Bool, false, ⊤};
 ghost use Rattle.broadcast_mailbox.specs.Account.{one_if};
 
 use std::marker::Brand;
@@ -27,6 +27,15 @@ pub trait Bookkeeping: Drop {
     /// How many of them wait.
     ghost waiting: { Self → ℕ };
 
+    /// How many of them were skipped.
+    ghost skips: { Self → ℕ };
+
+    /// How many of them were given up.
+    ghost given_up: { Self → ℕ };
+
+    /// Whether it counts only requests that stay open.
+    ghost only_open: { Type 0 };
+
     /// How many counted requests were taken.
     ghost taken: { Self.Taker → ℕ };
 
@@ -40,7 +49,10 @@ pub trait Bookkeeping: Drop {
     fn take(&mut self, taker: &mut Self::Taker, counted: bool, skipped: u64)
         requires waited { one_if counted + skipped ≤ waiting self.old }
         requires few { (waiting self.old ≤ accepted self.old) × (accepted self.old < 2 ^ 64) }
+        requires skips_none { only_open → skipped ≡ 0 }
         ensures waiting { waiting self.new + one_if counted + skipped ≡ waiting self.old }
+        ensures skips { skips self.new ≡ skips self.old + skipped }
+        ensures given_up { given_up self.new ≡ given_up self.old }
         ensures accepted { accepted self.new ≡ accepted self.old }
         ensures taken { taken taker.new ≡ taken taker.old + one_if counted }
         ensures refusals { refusals taker.new ≡ refusals taker.old }
@@ -50,6 +62,8 @@ pub trait Bookkeeping: Drop {
     fn give_up(&mut self)
         requires few { (waiting self.old ≤ accepted self.old) × (accepted self.old < 2 ^ 64) }
         ensures waiting { waiting self.new ≡ 0 }
+        ensures skips { skips self.new ≡ skips self.old }
+        ensures given_up { given_up self.new ≡ given_up self.old + waiting self.old }
         ensures accepted { accepted self.new ≡ accepted self.old };
 
     /// Counts the request that was taken last as refused, or else as applied, if it is a counted
@@ -67,6 +81,12 @@ impl Bookkeeping for () {
     ghost accepted = { λ _. 0 };
 
     ghost waiting = { λ _. 0 };
+
+    ghost skips = { λ _. 0 };
+
+    ghost given_up = { λ _. 0 };
+
+    ghost only_open = { ⊤ };
 
     ghost taken = { λ _. 0 };
 

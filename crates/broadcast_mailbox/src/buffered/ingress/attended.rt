@@ -5,19 +5,19 @@ ghost use Rattle.futures.specs.Task.{Hears, IsArmed, Keeps};
 ghost use Rattle.broadcast_mailbox.specs.Mailbox.{Enqueues, Gives, GivesOut, RequestsStop, Closes, counts_of};
 ghost use Rattle.broadcast_mailbox.specs.Queue.{waiting, counted_in};
 ghost use Rattle.broadcast_mailbox.specs.Attended.{ready};
-ghost use Rattle.broadcast_mailbox.specs.Account.{TallyState, counted_of, is_accepted, tallied};
+ghost use Rattle.broadcast_mailbox.specs.Account.{TallyState, are_open, counted_of, is_accepted, tallied};
 ghost use Rattle.broadcast_mailbox.specs.Watch.{BroadcastsOnly};
 
 use crate::MailboxError;
 use crate::buffered::ingress::account::{Account, Bookkeeping};
 use crate::buffered::ingress::books::{Books, Taker};
 use crate::buffered::ingress::inbox::Inbox;
+use crate::buffered::ingress::message::{Named, Queueable};
 use crate::buffered::ingress::queued::{Counts, Queued};
 use crate::buffered::ingress::request::Request;
 use crate::buffered::ingress::settled::Settled;
 use crate::buffered::ingress::tally::Tally;
-use crate::buffered::ingress::watch::{Kind, Watch};
-use broadcast_core::Closable;
+use crate::buffered::ingress::watch::Watch;
 use futures::task::{Context, Poll, Source, Waker};
 
 /// The wakers that a call takes out. The caller drops them, which wakes the task, once it has let
@@ -26,7 +26,7 @@ pub(super) type Woken = (Option<Waker>, Option<Waker>);
 
 /// An inbox with its account, and with the wakers of the task that takes its requests.
 #[derive(Drop)]
-pub(super) struct Attended<T, A: Bookkeeping> {
+pub(super) struct Attended<T: Named, A: Bookkeeping> {
     inbox: Inbox<T>,
     account: A,
     // Wakes the task once a request is queued.
@@ -38,13 +38,15 @@ pub(super) struct Attended<T, A: Bookkeeping> {
     ghost not_stopped: { inbox.stop ≡ true → stopped ≡ None },
     // The account counts the requests that are marked as counted.
     ghost counted: { A.waiting account ≡ counted_in (waiting inbox.queue) },
+    // If it counts only requests that stay open, so does each of those.
+    ghost open: { A.only_open → are_open T.stays_open (waiting inbox.queue) ≡ true },
     // Every request that it counts drew a ticket.
     ghost drawn: { A.accepted account ≤ inbox.queue.next },
     ghost accepted: { A.waiting account ≤ A.accepted account },
     ghost few: { A.accepted account < 2 ^ 64 },
 }
 
-impl<T, A: Bookkeeping> Attended<T, A> {
+impl<T: Named, A: Bookkeeping> Attended<T, A> {
     /// Creates an inbox for which no task waits.
     pub(super) fn new(inbox: Inbox<T>, account: A) -> Self
         requires nothing_waits { waiting inbox.queue ≡ [] }
@@ -102,7 +104,7 @@ impl<T, A: Bookkeeping> Attended<T, A> {
     }
 }
 
-impl<T: Closable + Drop, A: Bookkeeping> Attended<T, A> {
+impl<T: Queueable + Drop, A: Bookkeeping> Attended<T, A> {
     /// Queues a message.
     pub(super) fn enqueue(&mut self, message: T) -> (Result<Queued, MailboxError>, Woken)
         ensures step { Enqueues T.may_answer self.old.inbox message false result.0 self.new.inbox }
@@ -161,20 +163,19 @@ impl<T: Closable + Drop, A: Bookkeeping> Attended<T, A> {
 
 impl<T, A, K, V, D> Attended<T, Books<A, K, V, D>>
 where
-    T: Closable + Drop,
+    T: Queueable + Drop,
     A: Account,
     K: Account,
     V: Watch<D>,
 {
-    /// Queues a message of this kind for a tally, which counts it if it is accepted and `counted`.
+    /// Queues a message for a tally, which counts it if it is accepted and `counted`.
     pub(super) fn enqueue_as(
         &mut self,
-        kind: Kind,
         message: T,
         counted: bool,
         tally: &mut Tally<A>,
     ) -> (Result<Queued, MailboxError>, Woken)
-        requires { counted ≡ true → (digest : D) × (V.watched kind digest ≡ true) }
+        requires { BroadcastsOnly V.watched → counted ≡ true → T.stays_open message ≡ true }
         ensures step { Enqueues T.may_answer self.old.inbox message counted result.0
             self.new.inbox }
         ensures tallied { tally.new ≡ tallied counted (is_accepted result.0) tally.old }
@@ -183,7 +184,7 @@ where
     {
         let woken = self.queued.take();
         let queued = self.inbox.enqueue_as(message, counted);
-        self.account.count(counted, kind, &queued, tally);
+        self.account.count(counted, &queued, tally);
         (queued, (woken, None))
     }
 

@@ -1,7 +1,7 @@
 //! The account of a mailbox.
-ghost use Rattle.std.specs.Prelude.{◌≡◌, ◌<◌, ◌≤◌, ◌+◌, ◌^◌, ◌&&◌, if◌then◌else◌, not, true, false};
-ghost use Rattle.broadcast_mailbox.specs.declared.buffered.ingress.watch.Kind.{Kind};
+ghost use Rattle.std.specs.Prelude.{◌≡◌, ◌<◌, ◌≤◌, ◌+◌, ◌^◌, ◌&&◌, not, true, false};
 ghost use Rattle.broadcast_mailbox.specs.Account.{TallyState, one_if, is_accepted, is_queued, tallied};
+ghost use Rattle.broadcast_mailbox.specs.Mailbox.{count_skipped};
 ghost use Rattle.broadcast_mailbox.specs.Watch.{BroadcastsOnly};
 
 use crate::MailboxError;
@@ -9,7 +9,7 @@ use crate::buffered::ingress::account::{Account, Bookkeeping};
 use crate::buffered::ingress::queued::Queued;
 use crate::buffered::ingress::settled::Settled;
 use crate::buffered::ingress::tally::Tally;
-use crate::buffered::ingress::watch::{Kind, Watch};
+use crate::buffered::ingress::watch::Watch;
 use std::marker::PhantomData;
 use std::sync::ledger::{Blank, Book, Share};
 
@@ -24,14 +24,11 @@ pub struct Books<A: Account, K: Account, V: Watch<D>, D> {
     skipped: u64,
     waiting: u64,
     given_up: u64,
-    // Whether a request that is no broadcast was counted.
-    others: bool,
     of: PhantomData<(V, D)>,
     // Every accepted request was taken, was skipped, waits or was given up.
     ghost balanced: { accepted.total ≡ taken.total + skipped + waiting + given_up },
-    // No broadcast is closed, so if there were only broadcasts, none was skipped.
-    ghost skips: { others ≡ false → skipped ≡ 0 },
-    ghost broadcasts: { BroadcastsOnly V.watched → others ≡ false },
+    // No broadcast is closed, so if it counts only broadcasts, none was skipped.
+    ghost broadcasts: { BroadcastsOnly V.watched → skipped ≡ 0 },
 }
 
 /// What whoever takes the requests counts: those that were applied, and those that were refused.
@@ -155,7 +152,6 @@ impl<A: Account, K: Account, V: Watch<D>, D> Books<A, K, V, D> {
             skipped: 0,
             waiting: 0,
             given_up: 0,
-            others: false,
             of: PhantomData,
         };
         (books, Tally::whole(share, parts), Taker::new(taking))
@@ -166,12 +162,11 @@ impl<A: Account, K: Account, V: Watch<D>, D> Books<A, K, V, D> {
     pub(super) fn count(
         &mut self,
         counted: bool,
-        kind: Kind,
         queued: &Result<Queued, MailboxError>,
         tally: &mut Tally<A>,
     )
         requires small { self.old.accepted.total + one_if (is_accepted queued.now) < 2 ^ 64 }
-        requires watched { counted ≡ true → (digest : D) × (V.watched kind digest ≡ true) }
+        requires open { BroadcastsOnly V.watched → counted ≡ true → count_skipped queued.now ≡ 0 }
         ensures waiting { self.new.waiting
             ≡ self.old.waiting + one_if (counted && is_queued queued.now) }
         ensures accepted { self.new.accepted.total
@@ -181,23 +176,10 @@ impl<A: Account, K: Account, V: Watch<D>, D> Books<A, K, V, D> {
         if !counted {
             return;
         }
-        self.count_other(kind);
         match queued {
             Ok(Queued::Ready(_)) | Ok(Queued::Overflow(_)) => self.accept(tally),
             Ok(Queued::Skipped(_)) => self.skip_at_once(tally),
             Ok(Queued::Closed) | Err(_) => {}
-        }
-    }
-
-    // Keeps in mind that a request of this kind is counted.
-    fn count_other(&mut self, kind: Kind)
-        requires { (digest : D) × (V.watched kind digest ≡ true) }
-        ensures waiting { self.new.waiting ≡ self.old.waiting }
-        ensures accepted { self.new.accepted.total ≡ self.old.accepted.total }
-    {
-        match kind {
-            Kind::Broadcast => {}
-            Kind::Subscribe | Kind::Get => self.others = true,
         }
     }
 
@@ -214,7 +196,6 @@ impl<A: Account, K: Account, V: Watch<D>, D> Books<A, K, V, D> {
             skipped: _,
             waiting,
             given_up: _,
-            others: _,
             of: _,
         } = self;
         tally.count(accepted);
@@ -224,6 +205,7 @@ impl<A: Account, K: Account, V: Watch<D>, D> Books<A, K, V, D> {
     // Counts a request that is skipped at once.
     fn skip_at_once(&mut self, tally: &mut Tally<A>)
         requires small { self.old.accepted.total + 1 < 2 ^ 64 }
+        requires open { ¬ BroadcastsOnly V.watched }
         ensures waiting { self.new.waiting ≡ self.old.waiting }
         ensures accepted { self.new.accepted.total ≡ self.old.accepted.total + 1 }
         ensures tallied { tally.new ≡ tallied true true tally.old }
@@ -236,29 +218,23 @@ impl<A: Account, K: Account, V: Watch<D>, D> Books<A, K, V, D> {
     fn skip(&mut self, number: u64)
         requires waited { number ≤ self.old.waiting }
         requires small { self.old.accepted.total < 2 ^ 64 }
+        requires open { BroadcastsOnly V.watched → number ≡ 0 }
         ensures waiting { self.new.waiting + number ≡ self.old.waiting }
         ensures accepted { self.new.accepted.total ≡ self.old.accepted.total }
         ensures taken { self.new.taken.total ≡ self.old.taken.total }
-        ensures skipped { self.new.skipped
-            ≡ self.old.skipped + (if self.old.others then number else 0) }
-        ensures given_up { self.new.given_up
-            ≡ self.old.given_up + (if self.old.others then 0 else number) }
+        ensures skipped { self.new.skipped ≡ self.old.skipped + number }
+        ensures given_up { self.new.given_up ≡ self.old.given_up }
     {
         let Books {
             accepted: _,
             taken: _,
             skipped,
             waiting,
-            given_up,
-            others,
+            given_up: _,
             of: _,
         } = self;
         *waiting -= number;
-        if *others {
-            *skipped += number;
-        } else {
-            *given_up += number;
-        }
+        *skipped += number;
     }
 
     /// Settles the account, where nothing waits: what became of the accepted requests.
@@ -282,7 +258,6 @@ impl<A: Account, K: Account, V: Watch<D>, D> Books<A, K, V, D> {
             skipped,
             waiting: _,
             given_up,
-            others: _,
             of: _,
         } = self;
         tally.audit(accepted);
@@ -304,6 +279,12 @@ impl<A: Account, K: Account, V: Watch<D>, D> Bookkeeping for Books<A, K, V, D> {
 
     ghost waiting = { λ books. books.waiting };
 
+    ghost skips = { λ books. books.skipped };
+
+    ghost given_up = { λ books. books.given_up };
+
+    ghost only_open = { BroadcastsOnly V.watched };
+
     ghost taken = { λ taking. taking.share.amount };
 
     ghost refusals = { λ taking. taking.refused };
@@ -321,7 +302,6 @@ impl<A: Account, K: Account, V: Watch<D>, D> Bookkeeping for Books<A, K, V, D> {
             skipped: _,
             waiting,
             given_up: _,
-            others: _,
             of: _,
         } = self;
         *waiting -= 1;

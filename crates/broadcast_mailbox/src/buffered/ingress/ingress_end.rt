@@ -10,14 +10,13 @@ ghost use Rattle.broadcast_mailbox.specs.Watch.{BroadcastsOnly};
 
 use crate::buffered::ingress::account::{Account, Bookkeeping};
 use crate::buffered::ingress::books::Books;
-use crate::buffered::ingress::message::{Awaits, Named};
+use crate::buffered::ingress::message::{Awaits, Named, Queueable};
 use crate::buffered::ingress::queued::Counts;
 use crate::buffered::ingress::request::Request;
 use crate::buffered::ingress::settled::Settled;
 use crate::buffered::ingress::shared::Shared;
 use crate::buffered::ingress::tally::Tally;
 use crate::buffered::ingress::watch::Watch;
-use broadcast_core::Closable;
 use futures::task::{Context, Poll};
 use std::alloc::AllocError;
 use std::marker::Model;
@@ -125,7 +124,7 @@ impl<T: Named, R: Wait, A: Bookkeeping> Ingress<T, R, A> {
     }
 }
 
-impl<T: Closable + Awaits + Drop, R: Wait, A: Bookkeeping> Ingress<T, R, A> {
+impl<T: Awaits + Queueable + Drop, R: Wait, A: Bookkeeping> Ingress<T, R, A> {
     /// Removes and returns the oldest request, and counts it if it is a counted one. If none waits,
     /// the task is woken once one is queued.
     pub fn poll_request(&mut self, cx: &mut Context<'_>) -> Poll<Request<T>>
@@ -149,7 +148,7 @@ impl<T: Closable + Awaits + Drop, R: Wait, A: Bookkeeping> Ingress<T, R, A> {
     }
 }
 
-impl<T: Closable + Awaits + Drop, R: Wait> Ingress<T, R> {
+impl<T: Awaits + Queueable + Drop, R: Wait> Ingress<T, R> {
     /// Removes the oldest request and returns it with its ticket, or `None` if none waits.
     pub fn take(&self) -> Option<(u64, T)> {
         let mut nobody = ();
@@ -173,7 +172,7 @@ impl<T: Awaits, R, A: Bookkeeping> Ingress<T, R, A> {
 
 impl<T, R, A, K, V, D> Ingress<T, R, Books<A, K, V, D>>
 where
-    T: Closable + Named + Drop,
+    T: Queueable + Drop,
     R: Wait + Drop,
     A: Account,
     K: Account,

@@ -1,5 +1,5 @@
 //! The messages of a mailbox's callers.
-ghost use Rattle.std.specs.Prelude.{◌≡◌, false, List, None};
+ghost use Rattle.std.specs.Prelude.{◌≡◌, Bool, true, false, List, None};
 ghost use Rattle.std.specs.Ordering.{eq_by_cmp};
 ghost use Rattle.broadcast_mailbox.specs.Watch.{kind_of};
 
@@ -102,10 +102,37 @@ where
 pub trait Named {
     /// The digest.
     type Digest: Ord + Drop;
+
+    /// Whether it is never found closed.
+    ghost stays_open: { Self → Bool };
 }
 
+/// A broadcast is never found closed.
 impl<P, M: Digestible, S, G> Named for Message<P, M, S, G> {
+    ghost use Rattle.broadcast_mailbox.specs.Watch.{is_broadcast, kind_of};
+
     type Digest = M::Digest;
+
+    ghost stays_open = { λ message. is_broadcast (kind_of message) };
+}
+
+/// A request that is dropped if it is found closed while it is queued.
+pub trait Queueable: Closable + Named {
+    /// What stays open is not found closed.
+    ghost is_open: { (request : Self) → Self.Named.stays_open request ≡ true
+        → Self.Closable.may_answer request true → ⊥ };
+}
+
+impl<P, M, S, G> Queueable for Message<P, M, S, G>
+where
+    P: PublicKey,
+    M: Digestible,
+    S: Responder<Reply<M>>,
+    G: Responder<Option<Reply<M>>>,
+{
+    ghost use Rattle.broadcast_mailbox.specs.MessageLaws.{broadcast_is_open};
+
+    ghost is_open = { broadcast_is_open S.may_answer G.may_answer };
 }
 
 /// A request that may have to wait for its reply.

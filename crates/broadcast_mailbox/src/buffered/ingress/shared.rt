@@ -16,15 +16,15 @@ use crate::buffered::ingress::books::{Books, Taker};
 use crate::buffered::ingress::dropped::Dropped;
 use crate::buffered::ingress::inbox::Inbox;
 use crate::buffered::ingress::look::Alertness;
-use crate::buffered::ingress::message::{Message, Named};
+use crate::buffered::ingress::message::{Message, Named, Queueable};
 use crate::buffered::ingress::queued::{Counts, Queued};
 use crate::buffered::ingress::reply::Reply;
 use crate::buffered::ingress::request::Request;
 use crate::buffered::ingress::responder::Responder;
 use crate::buffered::ingress::settled::Settled;
 use crate::buffered::ingress::tally::Tally;
-use crate::buffered::ingress::watch::{Kind, Watch};
-use broadcast_core::{Closable, Digestible, PublicKey};
+use crate::buffered::ingress::watch::Watch;
+use broadcast_core::{Digestible, PublicKey};
 use futures::task::{Context, Poll, Source};
 use std::alloc::{AllocError, Global};
 use std::marker::Model;
@@ -163,7 +163,7 @@ impl<T: Named + Drop, A: Bookkeeping> Shared<T, A> {
     }
 }
 
-impl<T: Closable + Named + Drop, A: Bookkeeping> Shared<T, A> {
+impl<T: Queueable + Drop, A: Bookkeeping> Shared<T, A> {
     /// Queues a message.
     pub(super) fn enqueue(&self, rt: &impl Wait, message: T) -> Result<Queued, MailboxError> {
         let (queued, woken) = self.state.lock(rt).enqueue(message);
@@ -223,39 +223,20 @@ where
         requires { counted ≡ is_watched V.watched message }
         ensures { tally.new ≡ tallied counted (is_accepted result) tally.old }
     {
-        let kind = message.kind();
-        self.enqueue_kind(rt, kind, message, counted, tally)
+        let (queued, woken) = self.state.lock(rt).enqueue_as(message, counted, tally);
+        drop(woken);
+        self.alertness.ask();
+        queued
     }
 }
 
 impl<T, A, K, V, D> Shared<T, Books<A, K, V, D>>
 where
-    T: Closable + Named + Drop,
+    T: Queueable + Drop,
     A: Account,
     K: Account,
     V: Watch<D>,
 {
-    // Queues a message of this kind, as `enqueue_as` does.
-    fn enqueue_kind(
-        &self,
-        rt: &impl Wait,
-        kind: Kind,
-        message: T,
-        counted: bool,
-        tally: &mut Tally<A>,
-    ) -> Result<Queued, MailboxError>
-        requires { counted ≡ true → (digest : D) × (V.watched kind digest ≡ true) }
-        ensures { tally.new ≡ tallied counted (is_accepted result) tally.old }
-    {
-        let (queued, woken) = self
-            .state
-            .lock(rt)
-            .enqueue_as(kind, message, counted, tally);
-        drop(woken);
-        self.alertness.ask();
-        queued
-    }
-
     /// Closes the inbox and settles its account with the tally that has all parts.
     pub(super) fn settle(
         &self,
