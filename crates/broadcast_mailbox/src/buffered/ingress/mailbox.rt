@@ -1,6 +1,7 @@
 //! The mailbox through which callers on any thread reach a node.
 ghost use Rattle.std.specs.Prelude.{◌≡◌, ◌++◌, ◌∷◌, [], IfOk, OnOk, OnErr, ⊤};
-ghost use Rattle.std.specs.NonZero.{non_zero_u32_get};
+ghost use Rattle.std.specs.Arc.{arc_value};
+ghost use Rattle.std.specs.NonZero.{non_zero_u32_get, non_zero_usize_get};
 ghost use Rattle.broadcast_mailbox.specs.Account.{TallyState, is_taken_up, tallied};
 ghost use Rattle.broadcast_mailbox.specs.Ends.{IngressEnd, MailboxEnd};
 
@@ -40,6 +41,8 @@ where
     M: Digestible,
     R: Clone + Drop,
     ensures same_inbox { IfOk result (λ ends. ends.0.inbox ≡ ends.1.inbox) }
+    ensures size { IfOk result (λ ends.
+        ends.0.inbox.size ≡ non_zero_usize_get mailbox_size) }
 {
     let Ok(inbox) = Shared::create(alloc, mailbox_size, ()) else {
         drop::<_>(rt);
@@ -61,6 +64,7 @@ where
     R: Clone + Drop,
     A: Bookkeeping,
     ensures same_inbox { IfOk result (λ ends. ends.0.inbox ≡ ends.1.inbox) }
+    ensures inbox { IfOk result (λ ends. ends.0.inbox ≡ arc_value inbox) }
 {
     match Shared::ends(&rt, &inbox) {
         Ok((own, its)) => Ok((Mailbox { inbox, alloc, rt }, Ingress::new(own, its, taker))),
@@ -109,6 +113,8 @@ where
     requires taken { (taken.name ≡ K.name) × (taken.parts ≡ K.parts) }
     requires one { (K.all ≡ K.parts) × (K.parts ≡ 1) }
     ensures same_inbox { IfOk result (λ ends. ends.0.inbox ≡ ends.1.inbox) }
+    ensures size { IfOk result (λ ends.
+        ends.0.inbox.size ≡ non_zero_usize_get mailbox_size) }
     ensures whole { IfOk result (λ ends.
         ends.2 ≡ record { accepted = 0; parts = non_zero_u32_get parts }) }
 {

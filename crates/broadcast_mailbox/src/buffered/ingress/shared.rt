@@ -1,6 +1,7 @@
 //! The inbox that the ends of a mailbox share.
 ghost use Rattle.std.specs.Prelude.{◌≡◌, ◌+◌, [], true, false, IfOk};
 ghost use Rattle.std.specs.Arc.{arc_value};
+ghost use Rattle.std.specs.NonZero.{non_zero_usize_get};
 ghost use Rattle.futures.specs.Poll.{OnPending};
 ghost use Rattle.futures.specs.Task.{Hears, IsArmed, Keeps};
 ghost use Rattle.broadcast_mailbox.specs.Queue.{waiting};
@@ -37,6 +38,8 @@ use std::sync::{Arc, Mutex, Wait};
 /// requests is woken after the lock is let go.
 #[derive(Drop)]
 pub(super) struct Shared<T: Named, A: Bookkeeping> {
+    // How many places the ready list has.
+    size: usize,
     // Fires once a request is queued.
     queued: Source,
     // Fires once a stop is requested.
@@ -51,7 +54,11 @@ impl<T: Named, A: Bookkeeping> Model for Shared<T, A> {
 
     ghost Value = { SharedInbox };
 
-    ghost view = { λ it. record { queued = it.queued.id; stopped = it.stopped.id } };
+    ghost view = { λ it. record {
+      size = it.size;
+      queued = it.queued.id;
+      stopped = it.stopped.id;
+    } };
 }
 
 impl<T: Named, A: Bookkeeping> Shared<T, A> {
@@ -59,8 +66,10 @@ impl<T: Named, A: Bookkeeping> Shared<T, A> {
     fn new(inbox: Inbox<T>, account: A, dropped: Arc<Dropped<T::Digest>>) -> Self
         requires nothing_waits { waiting inbox.queue ≡ [] }
         requires nothing_counted { (A.waiting account ≡ 0) × (A.accepted account ≡ 0) }
+        ensures size { result.size ≡ inbox.queue.size }
     {
         Shared {
+            size: inbox.size(),
             queued: Source::new(),
             stopped: Source::new(),
             dropped,
@@ -134,6 +143,8 @@ impl<T: Named + Drop, A: Bookkeeping> Shared<T, A> {
         account: A,
     ) -> Result<Arc<Self>, AllocError>
         requires { (A.waiting account ≡ 0) × (A.accepted account ≡ 0) }
+        ensures size { IfOk result (λ inbox.
+            (arc_value inbox).size ≡ non_zero_usize_get mailbox_size) }
     {
         let Ok(dropped) = Arc::new(alloc, Dropped::new(alloc)) else {
             drop::<_>(account);
