@@ -18,7 +18,7 @@ pub use broadcast_mailbox::buffered::{
     Queueable, Queued, Reply, Request, Responder, Settled, Stopper, Subscription, Subscriptions,
     Taker, Tally, Watch, WatchedEnds, WatchedMailbox, channel, ticket_law, watched_channel,
 };
-pub use config::Config;
+pub use config::{Config, Observed};
 pub use digest_strategies::{
     DigestOf, Done, Gate, Job, Open, Pool, Pooled, Sequential, Strategy, Threaded, Work, Worker,
     Working,
@@ -29,11 +29,11 @@ pub use engine_io::{
     Sender, Sequencer, Status, Turn,
 };
 pub use front::{MailboxEngine, WatchedEngine, WatchedNode};
-pub use launch::{start, start_observed, start_threaded};
+pub use launch::{start, start_threaded};
 pub use observer::Observer;
 pub use observer::lines::Lines;
 pub use observer::recent::Recent;
 pub use runtime::Runtime;
 pub use session::{Client, Finished, Leaves, Session, WatchedClient, run_session};
 pub use snapshots::{MetricsError, Snapshots};
-pub use started::{Handle, MailboxReport, Prepared};
+pub use started::{Handle, MailboxReport};

@@ -7,7 +7,7 @@ mod said;
 use super::parts::{config, key};
 use anyhow::Result;
 use broadcast_core::{ByteList, Wire};
-use commonware_broadcast::buffered::{Handle, Mailbox, Observer, Runtime, Turn, start_observed};
+use commonware_broadcast::buffered::{Handle, Mailbox, Observer, Runtime, Turn};
 use commonware_broadcast::{
     Broadcaster, Digest, Digested, Key, Outcome, RangeCfg, Recipients, Set,
 };
@@ -75,7 +75,8 @@ fn start<R: Runtime>(
     };
     let limits = ((), (), ((), RangeCfg::any()));
     let config = config(ends.mail.key, limits, ends.provider);
-    Ok(start_observed(rt, config, (ends.sender, ends.receiver), teller)?)
+    let network = (ends.sender, ends.receiver);
+    Ok(config.observed_by(teller).start(rt, network)?)
 }
 
 /// Starts a node of the network.

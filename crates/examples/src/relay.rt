@@ -6,7 +6,7 @@ use anyhow::Error;
 use broadcast_core::Wire;
 use broadcast_relay::relay_to;
 use commonware_broadcast::buffered::{
-    Handle, Mailbox, Observer, Runtime, StartError, Subscription, Turn, start_observed,
+    Handle, Mailbox, Observer, Runtime, StartError, Subscription, Turn,
 };
 use commonware_broadcast::{Broadcaster, Digest, Digested, Key, RangeCfg, Recipients, Set, Write};
 use memory_network::{Ends, Mail, Network};
@@ -77,7 +77,8 @@ where
     W: Observer<Key, Digest> + Send + Drop + 'static,
 {
     let config = config(ends.mail.key, ((), RangeCfg::any()), ends.provider);
-    start_observed(rt, config, (ends.sender, ends.receiver), observer)
+    let network = (ends.sender, ends.receiver);
+    config.observed_by(observer).start(rt, network)
 }
 
 /// Starts the node of these ends with a guard.

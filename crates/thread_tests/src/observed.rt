@@ -1,7 +1,7 @@
 //! What the observers of a started engine see.
 use broadcast_core::{Cause, CodecError, Digest, Key, Outcome, RangeCfg, TestMessage};
 use commonware_broadcast::buffered::{
-    EndCause, Lines, Mailbox, Observer, Recent, Sequential, Turn, start_observed,
+    EndCause, Lines, Mailbox, Observer, Recent, Sequential, Turn,
 };
 use memory_network::{Mail, Network};
 use memory_node::keys::key_of;
@@ -24,7 +24,7 @@ where
     let ends = network.join(rt, &key_of(1))?;
     let config = config(rt, RangeCfg::any(), Sequential, &ends.mail, 4)?;
     let network = (ends.sender, ends.receiver);
-    let (handle, mailbox) = start_observed(rt, config, network, observer)?;
+    let (handle, mailbox) = config.observed_by(observer).start(rt, network)?;
     ask(rt, &mailbox, &ends.mail)?;
     Ok(handle.join(rt).into_observer())
 }

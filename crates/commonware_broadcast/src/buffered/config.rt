@@ -75,3 +75,25 @@ impl<P, MCfg, D> Config<P, MCfg, D, Sequential> {
         }
     }
 }
+
+/// A configuration, and the observer that is handed the turns of its engine.
+#[derive(Drop)]
+pub struct Observed<P, MCfg, D, T, W> {
+    /// The configuration.
+    pub config: Config<P, MCfg, D, T>,
+    /// The observer.
+    pub observer: W,
+}
+
+impl<P, MCfg, D, T> Config<P, MCfg, D, T> {
+    /// Adds an observer. It is handed each turn of the engine that is started with it, and is in
+    /// the engine's report.
+    pub fn observed_by<W>(self, observer: W) -> Observed<P, MCfg, D, T, W>
+        ensures { result ≡ record { config = self; observer = observer } }
+    {
+        Observed {
+            config: self,
+            observer,
+        }
+    }
+}

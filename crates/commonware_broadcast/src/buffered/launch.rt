@@ -1,5 +1,5 @@
-//! Engines that are made and started by one call.
-use crate::buffered::config::Config;
+//! Engines that are made and started by one call, with or without an observer.
+use crate::buffered::config::{Config, Observed};
 use crate::buffered::engine::{Engine, StartError};
 use crate::buffered::front::MailboxEngine;
 use crate::buffered::observer::Observer;
@@ -34,35 +34,7 @@ where
     V: Receiver<P> + Send + Drop + 'static,
     R: Threads + Wait + RandomSource + AllocGlobal + Clone + Send + Sync + Drop + 'static,
 {
-    start_observed(rt, cfg, network, ())
-}
-
-/// Creates and starts an engine as `start` does. The observer is handed its turns, and is in its
-/// report.
-pub fn start_observed<P, M, B, T, N, V, R, W>(
-    rt: &R,
-    cfg: Config<P, M::Cfg, B, T>,
-    network: (N, V),
-    observer: W,
-) -> Result<(Handle<P, M, R, (), W>, Mailbox<P, M, R>), StartError>
-where
-    P: PublicKey + Send + 'static,
-    M: Digestible + Codec + Send + Sync + 'static,
-    M::Digest: 'static,
-    M::Cfg: Send + Drop + 'static,
-    B: Provider<P> + Send + Drop + 'static,
-    T: Strategy<M> + Send + Drop + 'static,
-    T::Job: Send + 'static,
-    N: Sender<P> + Send + Drop + 'static,
-    V: Receiver<P> + Send + Drop + 'static,
-    R: Threads + Wait + RandomSource + AllocGlobal + Clone + Send + Sync + Drop + 'static,
-    W: Observer<P, M::Digest> + Send + Drop + 'static,
-{
-    let Ok((engine, mailbox)) = new_engine(rt, cfg) else {
-        return Err(StartError::Memory);
-    };
-    let handle = engine.start_observed(rt, network, observer)?;
-    Ok((handle, mailbox))
+    cfg.observed_by(()).start(rt, network)
 }
 
 /// Creates an engine whose messages are digested on other threads, and its mailbox, and starts it
@@ -85,20 +57,86 @@ where
     V: Receiver<P> + Send + Drop + 'static,
     R: Threads + Wait + RandomSource + AllocGlobal + Clone + Send + Sync + Drop + 'static,
 {
-    let Ok((engine, mailbox)) = new_engine(rt, cfg) else {
-        return Err(StartError::Memory);
-    };
-    match engine.prepare(rt, network) {
-        Ok(prepared) => match prepared.start(rt) {
-            Ok(handle) => Ok((handle, mailbox)),
+    cfg.observed_by(()).start_threaded(rt, network)
+}
+
+/// The handle and the mailbox of a started engine that has an observer.
+type Started<P, M, R, W> = (Handle<P, M, R, (), W>, Mailbox<P, M, R>);
+
+impl<P, C, B, T, W> Observed<P, C, B, T, W>
+where
+    P: PublicKey + Send + 'static,
+    C: Send + Drop + 'static,
+    B: Provider<P> + Send + Drop + 'static,
+    T: Send + Drop + 'static,
+    W: Send + Drop + 'static,
+{
+    /// Creates an engine and its mailbox, and starts it, as [`start`] does.
+    pub fn start<M, N, V, R>(
+        self,
+        rt: &R,
+        network: (N, V),
+    ) -> Result<Started<P, M, R, W>, StartError>
+    where
+        M: Digestible + Codec<Cfg = C> + Send + Sync + 'static,
+        M::Digest: 'static,
+        T: Strategy<M>,
+        T::Job: Send + 'static,
+        N: Sender<P> + Send + Drop + 'static,
+        V: Receiver<P> + Send + Drop + 'static,
+        R: Threads + Wait + RandomSource + AllocGlobal + Clone + Send + Sync + Drop + 'static,
+        W: Observer<P, M::Digest>,
+    {
+        let Observed { config, observer } = self;
+        let Ok((engine, mailbox)) = new_engine::<P, M, B, T, R>(rt, config) else {
+            drop::<_>((network, observer));
+            return Err(StartError::Memory);
+        };
+        let handle = engine.start_with(rt, network, observer)?;
+        Ok((handle, mailbox))
+    }
+}
+
+impl<P, C, B, G, R, W> Observed<P, C, B, Threaded<G, R>, W>
+where
+    P: PublicKey + Send + 'static,
+    C: Send + Drop + 'static,
+    B: Provider<P> + Send + Drop + 'static,
+    G: Send + Sync + Drop + 'static,
+    R: Threads + Wait + RandomSource + AllocGlobal + Clone + Send + Sync + Drop + 'static,
+    W: Send + Drop + 'static,
+{
+    /// Creates an engine whose messages are digested on other threads, and its mailbox, and starts
+    /// it, as [`start_threaded`] does.
+    pub fn start_threaded<M, N, V>(
+        self,
+        rt: &R,
+        network: (N, V),
+    ) -> Result<Started<P, M, R, W>, StartError>
+    where
+        M: Digestible + Codec<Cfg = C> + Work<G, R> + Send + Sync + 'static,
+        M::Digest: 'static,
+        N: Sender<P> + Send + Drop + 'static,
+        V: Receiver<P> + Send + Drop + 'static,
+        W: Observer<P, M::Digest>,
+    {
+        let Observed { config, observer } = self;
+        let Ok((engine, mailbox)) = new_engine::<P, M, B, Threaded<G, R>, R>(rt, config) else {
+            drop::<_>((network, observer));
+            return Err(StartError::Memory);
+        };
+        match engine.prepare(rt, network, observer) {
+            Ok(prepared) => match prepared.start(rt) {
+                Ok(handle) => Ok((handle, mailbox)),
+                Err(error) => {
+                    drop::<_>(mailbox);
+                    Err(error)
+                }
+            },
             Err(error) => {
                 drop::<_>(mailbox);
                 Err(error)
             }
-        },
-        Err(error) => {
-            drop::<_>(mailbox);
-            Err(error)
         }
     }
 }

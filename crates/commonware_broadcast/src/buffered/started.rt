@@ -134,11 +134,11 @@ where
         N: Sender<P> + Send + Drop + 'static,
         V: Receiver<P> + Send + Drop + 'static,
     {
-        self.start_observed(rt, network, ())
+        self.start_with(rt, network, ())
     }
 
     /// Starts the engine as `start` does. The observer is handed its turns, and is in its report.
-    pub fn start_observed<N, V, W>(
+    pub(super) fn start_with<N, V, W>(
         self,
         rt: &R,
         network: (N, V),
@@ -150,7 +150,7 @@ where
         V: Receiver<P> + Send + Drop + 'static,
         W: Observer<P, M::Digest> + Send + Drop + 'static,
     {
-        match self.prepare_observed(rt, network, observer) {
+        match self.prepare(rt, network, observer) {
             Ok(Prepared { ready, control }) => {
                 let (control, thread) = start_thread(rt, move || run(ready), control)?;
                 Ok(Handle { control, thread })
@@ -162,7 +162,7 @@ where
 
 /// An engine of a mailbox that is ready for its thread, and what its handle reaches it by.
 #[derive(Drop)]
-pub struct Prepared<P: PublicKey, M: Digestible, B, C, T, N, V, R, A: Bookkeeping = (), W = ()> {
+pub(super) struct Prepared<P: PublicKey, M: Digestible, B, C, T, N, V, R, A: Bookkeeping, W> {
     ready: ReadyEngine<P, M, B, C, T, N, V, R, A, W>,
     control: Control<P, M, R, A>,
 }
@@ -193,24 +193,11 @@ where
     R: Wait + RandomSource + AllocGlobal + Clone + Drop,
     A: Bookkeeping,
 {
-    /// Makes the engine ready for its thread: a job that is pending is finished.
+    /// Makes the engine ready for its thread: a job that is pending is finished. The observer is
+    /// handed its turns, and is in its report.
     ///
     /// After an error the engine is given up, and its mailbox is closed.
-    pub fn prepare<N, V>(
-        self,
-        rt: &R,
-        network: (N, V),
-    ) -> Result<Prepared<P, M, B, M::Cfg, T, N, V, R, A>, StartError>
-    where
-        N: Sender<P> + Drop,
-        V: Receiver<P> + Drop,
-    {
-        self.prepare_observed(rt, network, ())
-    }
-
-    /// Makes the engine ready as `prepare` does. The observer is handed its turns, and is in its
-    /// report.
-    pub fn prepare_observed<N, V, W>(
+    pub(super) fn prepare<N, V, W>(
         self,
         rt: &R,
         network: (N, V),
@@ -260,7 +247,7 @@ where
     /// of [`Threaded`] may not move to another thread, so `Engine::start` is not for them.
     ///
     /// After an error the engine is given up, and its mailbox is closed.
-    pub fn start(self, rt: &R) -> Result<Handle<P, M, R, A, W>, StartError> {
+    pub(super) fn start(self, rt: &R) -> Result<Handle<P, M, R, A, W>, StartError> {
         let Prepared { ready, control } = self;
         let (control, thread) = start_thread(rt, move || run(ready), control)?;
         Ok(Handle { control, thread })

@@ -75,7 +75,7 @@ where
         return Err(StartError::Memory);
     };
     let (engine, ends, tally) = made;
-    match engine.start_observed(rt, network, observer) {
+    match engine.start_with(rt, network, observer) {
         Ok(handle) => {
             play::<P, S, M, R, W, A, K>(rt, handle, ends, session, outputs, tally, clients)
         }
