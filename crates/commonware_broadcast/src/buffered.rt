@@ -34,6 +34,6 @@ pub use observer::Observer;
 pub use observer::lines::Lines;
 pub use observer::recent::Recent;
 pub use runtime::Runtime;
-pub use session::{Client, Finished, Leaves, Session, WatchedClient, run_session};
+pub use session::{Client, Finished, Leaves, Session, WatchedClient};
 pub use snapshots::{MetricsError, Snapshots};
 pub use started::{Handle, MailboxReport};

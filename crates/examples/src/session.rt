@@ -3,7 +3,7 @@
 use super::parts::{config, key};
 use anyhow::Error;
 use commonware_broadcast::buffered::{
-    Account, Broadcasts, EndCause, Finished, Runtime, Session, Settled, WatchedClient, run_session,
+    Account, Broadcasts, EndCause, Finished, Runtime, Session, Settled, WatchedClient,
 };
 use commonware_broadcast::{Digested, Key, MailboxError, RangeCfg, Recipients, TestMessage};
 use memory_network::Network;
@@ -80,10 +80,11 @@ where
     R: Runtime,
 {
     let ends = Network::between(rt, &[key(1)])?.join(rt, &key(1))?;
-    let cfg = config(key(1), RangeCfg::any(), ends.provider);
+    let config = config(key(1), RangeCfg::any(), ends.provider);
+    let network = (ends.sender, ends.receiver);
     let clients = NonZeroU32::new(CLIENTS).unwrap();
     let session = Broadcasting { rt: rt.clone()? };
-    let finished = run_session(rt, cfg, (ends.sender, ends.receiver), clients, session, ())?;
+    let finished = config.run_session(rt, network, clients, session, ())?;
     Ok(what_is_left(&finished)?)
 }
 

@@ -17,7 +17,6 @@ use broadcast_mailbox::buffered::{Account, Settled, Watch};
 pub use client::{Client, WatchedClient};
 use digest_strategies::Strategy;
 use engine_io::{EndCause, Metrics, Provider, Receiver, Sender};
-use node::run_with;
 use std::alloc::AllocGlobal;
 use std::marker::Brand;
 use std::num::NonZeroU32;
@@ -71,46 +70,50 @@ pub struct Finished<O, P: PublicKey, W = ()> {
     pub observer: W,
 }
 
-/// Runs the session with a new engine, whose network this is, and with this many clients. The first
-/// client runs on the calling thread. The engine is asked to stop once all clients have returned,
-/// or before, by one of them. The observer is handed its turns; `()` sees nothing.
-///
-/// Fails if something can't be allocated, or a thread can't be started. Then the clients that run
-/// find the mailbox closed, and all threads are joined.
-pub fn run_session<P, S, M, B, T, N, V, R, W>(
-    rt: &R,
-    cfg: Config<P, M::Cfg, B, T>,
-    network: (N, V),
-    clients: NonZeroU32,
-    session: S,
-    observer: W,
-) -> Result<Finished<S::Output, P, W>, StartError>
+impl<P, C, B, T> Config<P, C, B, T>
 where
     P: PublicKey + Send + 'static,
-    S: Session<P, M, R> + Send + Sync + Drop + 'static,
-    S::Watch: Send + 'static,
-    S::Output: Send + 'static,
-    M: Digestible + Codec + Send + Sync + 'static,
-    M::Digest: Send + 'static,
-    M::Cfg: Send + Drop + 'static,
+    C: Send + Drop + 'static,
     B: Provider<P> + Send + Drop + 'static,
-    T: Strategy<M> + Send + Drop + 'static,
-    T::Job: Send + 'static,
-    N: Sender<P> + Send + Drop + 'static,
-    V: Receiver<P> + Send + Drop + 'static,
-    R: Threads + Wait + RandomSource + AllocGlobal + Clone + Send + Sync + Drop + 'static,
-    W: Observer<P, M::Digest> + Send + Drop + 'static,
-    ensures accepted { IfOk result (λ finished.
-        Accepts S.Output.leaves finished.outputs.items finished.accepted) }
-    ensures settled { IfOk result (λ finished. AddsUp finished.accepted finished.settled) }
-    ensures broadcasts { IfOk result (λ finished.
-        BroadcastsOnly S.Watch.watched → finished.settled.skipped ≡ 0) }
-    ensures outputs { IfOk result (λ finished.
-        length finished.outputs.items ≡ non_zero_u32_get clients) }
+    T: Send + Drop + 'static,
 {
-    let accepted = Blank::new(clients.get() as u64);
-    let taken = Blank::new(1);
-    run_with::<P, S, M, B, T, N, V, R, W, Brand, Brand>(
-        rt, cfg, network, clients, session, observer, accepted, taken,
-    )
+    /// Runs the session with a new engine, whose network this is, and with this many clients. The
+    /// first client runs on the calling thread. The engine is asked to stop once all clients have
+    /// returned, or before, by one of them. The observer is handed its turns; `()` sees nothing.
+    ///
+    /// Fails if something can't be allocated, or a thread can't be started. Then the clients that
+    /// run find the mailbox closed, and all threads are joined.
+    pub fn run_session<M, S, N, V, R, W>(
+        self,
+        rt: &R,
+        network: (N, V),
+        clients: NonZeroU32,
+        session: S,
+        observer: W,
+    ) -> Result<Finished<S::Output, P, W>, StartError>
+    where
+        M: Digestible + Codec<Cfg = C> + Send + Sync + 'static,
+        M::Digest: Send + 'static,
+        S: Session<P, M, R> + Send + Sync + Drop + 'static,
+        S::Watch: Send + 'static,
+        S::Output: Send + 'static,
+        T: Strategy<M>,
+        T::Job: Send + 'static,
+        N: Sender<P> + Send + Drop + 'static,
+        V: Receiver<P> + Send + Drop + 'static,
+        R: Threads + Wait + RandomSource + AllocGlobal + Clone + Send + Sync + Drop + 'static,
+        W: Observer<P, M::Digest> + Send + Drop + 'static,
+        ensures accepted { IfOk result (λ finished.
+            Accepts S.Output.leaves finished.outputs.items finished.accepted) }
+        ensures settled { IfOk result (λ finished. AddsUp finished.accepted finished.settled) }
+        ensures broadcasts { IfOk result (λ finished.
+            BroadcastsOnly S.Watch.watched → finished.settled.skipped ≡ 0) }
+        ensures outputs { IfOk result (λ finished.
+            length finished.outputs.items ≡ non_zero_u32_get clients) }
+    {
+        let accepted = Blank::new(clients.get() as u64);
+        let taken = Blank::new(1);
+        self.observed_by(observer)
+            .run_with::<M, S, N, V, R, Brand, Brand>(rt, network, clients, session, accepted, taken)
+    }
 }

@@ -5,7 +5,7 @@ use broadcast_core::{Digest, Recipients, TestMessage};
 use broadcast_mailbox::MailboxError;
 use commonware_broadcast::buffered::{
     Account, All, Broadcasts, EndCause, Finished, Kind, Leaves, Sequential, Session, Watch,
-    WatchedClient, run_session,
+    WatchedClient,
 };
 use memory_node::support::message::{digest, digested};
 use std::alloc::{AllocGlobal, Global};
@@ -187,14 +187,8 @@ where
     let sets = Sets::new(rt.alloc(), Gives::Nothing)?;
     let wire = Wire::new(rt.alloc(), Gives::Nothing)?;
     let clients = NonZeroU32::new(ASKING + 1).unwrap();
-    let finished = run_session(
-        rt,
-        config(sets, Sequential),
-        (Void, wire),
-        clients,
-        session,
-        (),
-    )?;
+    let config = config(sets, Sequential);
+    let finished = config.run_session(rt, (Void, wire), clients, session, ())?;
     Ok((told_by_all(&finished)?, finished))
 }
 

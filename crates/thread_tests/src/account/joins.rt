@@ -3,9 +3,7 @@ use super::clients::broadcast_until_closed;
 use super::quiet::{Gives, Sets, Void, Wire, config};
 use crate::patient::pause;
 use broadcast_core::TestMessage;
-use commonware_broadcast::buffered::{
-    Account, All, Sequential, Session, WatchedClient, run_session,
-};
+use commonware_broadcast::buffered::{Account, All, Sequential, Session, WatchedClient};
 use memory_node::support::poor::{Poor, Supply};
 use std::alloc::AllocGlobal;
 use std::num::NonZeroU32;
@@ -96,14 +94,8 @@ where
     let wire = Wire::new(poor.alloc(), Gives::Nothing)?;
     let clients = NonZeroU32::new(CLIENTS).unwrap();
     poor.supply.leave(copies, 1000);
-    let finished = run_session(
-        poor,
-        config(sets, Sequential),
-        (Void, wire),
-        clients,
-        session,
-        (),
-    );
+    let config = config(sets, Sequential);
+    let finished = config.run_session(poor, (Void, wire), clients, session, ());
     Ok(finished.is_ok())
 }
 

@@ -8,7 +8,7 @@ ghost use Rattle.commonware_broadcast.specs.Sessions.{Accepts, AddsUp};
 use super::client::{Client, Ends, WatchedEnds};
 use super::threads::{abandon, join_clients, run_client, start_others};
 use super::{Finished, Session};
-use crate::buffered::config::Config;
+use crate::buffered::config::{Config, Observed};
 use crate::buffered::engine::{Engine, StartError};
 use crate::buffered::front::{WatchedEngine, WatchedNode};
 use crate::buffered::observer::Observer;
@@ -26,62 +26,68 @@ use std::sync::ledger::Blank;
 use std::sync::{Arc, Wait};
 use std::thread::Threads;
 
-/// Runs the session, whose account has these ledgers.
-pub(super) fn run_with<P, S, M, B, T, N, V, R, W, A, K>(
-    rt: &R,
-    cfg: Config<P, M::Cfg, B, T>,
-    network: (N, V),
-    clients: NonZeroU32,
-    session: S,
-    observer: W,
-    accepted: Blank,
-    taken: Blank,
-) -> Result<Finished<S::Output, P, W>, StartError>
+impl<P, C, B, T, W> Observed<P, C, B, T, W>
 where
     P: PublicKey + Send + 'static,
-    S: Session<P, M, R> + Send + Sync + Drop + 'static,
-    S::Watch: Send + 'static,
-    S::Output: Send + 'static,
-    M: Digestible + Codec + Send + Sync + 'static,
-    M::Digest: Send + 'static,
-    M::Cfg: Send + Drop + 'static,
+    C: Send + Drop + 'static,
     B: Provider<P> + Send + Drop + 'static,
-    T: Strategy<M> + Send + Drop + 'static,
-    T::Job: Send + 'static,
-    N: Sender<P> + Send + Drop + 'static,
-    V: Receiver<P> + Send + Drop + 'static,
-    R: Threads + Wait + RandomSource + AllocGlobal + Clone + Send + Sync + Drop + 'static,
-    W: Observer<P, M::Digest> + Send + Drop + 'static,
-    A: Account + Send + Sync + 'static,
-    K: Account + Send + Sync + 'static,
-    requires accepted { (accepted.name ≡ A.name) × (accepted.parts ≡ A.parts) }
-    requires parts { (A.all ≡ A.parts) × (A.parts ≡ non_zero_u32_get clients) }
-    requires taken { (taken.name ≡ K.name) × (taken.parts ≡ K.parts) }
-    requires one { (K.all ≡ K.parts) × (K.parts ≡ 1) }
-    ensures accepted { IfOk result (λ finished.
-        Accepts S.Output.leaves finished.outputs.items finished.accepted) }
-    ensures settled { IfOk result (λ finished. AddsUp finished.accepted finished.settled) }
-    ensures broadcasts { IfOk result (λ finished.
-        BroadcastsOnly S.Watch.watched → finished.settled.skipped ≡ 0) }
-    ensures outputs { IfOk result (λ finished.
-        length finished.outputs.items ≡ non_zero_u32_get clients) }
+    T: Send + Drop + 'static,
+    W: Send + Drop + 'static,
 {
-    let Ok((session, outputs)) = reserve(rt.alloc(), session, clients.get()) else {
-        drop::<_>((cfg, network, observer));
-        return Err(StartError::Memory);
-    };
-    let Ok(made) = make::<P, M, B, T, R, A, K, S::Watch>(rt, cfg, clients, accepted, taken) else {
-        drop::<_>((network, session, outputs, observer));
-        return Err(StartError::Memory);
-    };
-    let (engine, ends, tally) = made;
-    match engine.start_with(rt, network, observer) {
-        Ok(handle) => {
-            play::<P, S, M, R, W, A, K>(rt, handle, ends, session, outputs, tally, clients)
-        }
-        Err(error) => {
-            drop::<_>((ends, session, outputs, tally));
-            Err(error)
+    /// Runs the session, whose account has these ledgers.
+    pub(super) fn run_with<M, S, N, V, R, A, K>(
+        self,
+        rt: &R,
+        network: (N, V),
+        clients: NonZeroU32,
+        session: S,
+        accepted: Blank,
+        taken: Blank,
+    ) -> Result<Finished<S::Output, P, W>, StartError>
+    where
+        M: Digestible + Codec<Cfg = C> + Send + Sync + 'static,
+        M::Digest: Send + 'static,
+        S: Session<P, M, R> + Send + Sync + Drop + 'static,
+        S::Watch: Send + 'static,
+        S::Output: Send + 'static,
+        T: Strategy<M>,
+        T::Job: Send + 'static,
+        N: Sender<P> + Send + Drop + 'static,
+        V: Receiver<P> + Send + Drop + 'static,
+        R: Threads + Wait + RandomSource + AllocGlobal + Clone + Send + Sync + Drop + 'static,
+        W: Observer<P, M::Digest>,
+        A: Account + Send + Sync + 'static,
+        K: Account + Send + Sync + 'static,
+        requires accepted { (accepted.name ≡ A.name) × (accepted.parts ≡ A.parts) }
+        requires parts { (A.all ≡ A.parts) × (A.parts ≡ non_zero_u32_get clients) }
+        requires taken { (taken.name ≡ K.name) × (taken.parts ≡ K.parts) }
+        requires one { (K.all ≡ K.parts) × (K.parts ≡ 1) }
+        ensures accepted { IfOk result (λ finished.
+            Accepts S.Output.leaves finished.outputs.items finished.accepted) }
+        ensures settled { IfOk result (λ finished. AddsUp finished.accepted finished.settled) }
+        ensures broadcasts { IfOk result (λ finished.
+            BroadcastsOnly S.Watch.watched → finished.settled.skipped ≡ 0) }
+        ensures outputs { IfOk result (λ finished.
+            length finished.outputs.items ≡ non_zero_u32_get clients) }
+    {
+        let Observed { config, observer } = self;
+        let Ok((session, outputs)) = reserve(rt.alloc(), session, clients.get()) else {
+            drop::<_>((config, network, observer));
+            return Err(StartError::Memory);
+        };
+        let Ok(made) = config.make::<M, R, A, K, S::Watch>(rt, clients, accepted, taken) else {
+            drop::<_>((network, session, outputs, observer));
+            return Err(StartError::Memory);
+        };
+        let (engine, ends, tally) = made;
+        match engine.start_with(rt, network, observer) {
+            Ok(handle) => {
+                play::<P, S, M, R, W, A, K>(rt, handle, ends, session, outputs, tally, clients)
+            }
+            Err(error) => {
+                drop::<_>((ends, session, outputs, tally));
+                Err(error)
+            }
         }
     }
 }
@@ -111,48 +117,47 @@ type Made<P, M, B, T, R, A, K, W> = (
     Tally<A>,
 );
 
-/// Creates an engine and what its clients reach it by.
-fn make<P, M, B, T, R, A, K, W>(
-    rt: &R,
-    cfg: Config<P, M::Cfg, B, T>,
-    clients: NonZeroU32,
-    accepted: Blank,
-    taken: Blank,
-) -> Result<Made<P, M, B, T, R, A, K, W>, AllocError>
-where
-    P: PublicKey,
-    M: Digestible + Codec,
-    M::Cfg: Drop,
-    B: Drop,
-    T: Strategy<M> + Drop,
-    R: AllocGlobal + Clone + Drop,
-    A: Account,
-    K: Account,
-    W: Watch<M::Digest>,
-    requires accepted { (accepted.name ≡ A.name) × (accepted.parts ≡ A.parts) }
-    requires parts { (A.all ≡ A.parts) × (A.parts ≡ non_zero_u32_get clients) }
-    requires taken { (taken.name ≡ K.name) × (taken.parts ≡ K.parts) }
-    requires one { (K.all ≡ K.parts) × (K.parts ≡ 1) }
-    ensures { IfOk result (λ made. made.2.parts ≡ non_zero_u32_get clients) }
-{
-    let Ok(own) = rt.clone() else {
-        drop::<_>(cfg);
-        return Err(AllocError);
-    };
-    let node: WatchedNode<P, M, B, T, R, A, K, W> = Engine::new_watched(
-        own,
-        rt.alloc(),
-        cfg,
-        clients,
-        accepted,
-        taken,
-    )?;
-    let (engine, mailbox, tally) = node;
-    match share_stopper(rt.alloc(), engine.requests()) {
-        Ok(stopper) => Ok((engine, Ends { mailbox, stopper }, tally)),
-        Err(error) => {
-            drop::<_>((engine, mailbox, tally));
-            Err(error)
+impl<P: PublicKey, C: Drop, B: Drop, T: Drop> Config<P, C, B, T> {
+    /// Creates an engine and what its clients reach it by.
+    fn make<M, R, A, K, V>(
+        self,
+        rt: &R,
+        clients: NonZeroU32,
+        accepted: Blank,
+        taken: Blank,
+    ) -> Result<Made<P, M, B, T, R, A, K, V>, AllocError>
+    where
+        M: Digestible + Codec<Cfg = C>,
+        T: Strategy<M>,
+        R: AllocGlobal + Clone + Drop,
+        A: Account,
+        K: Account,
+        V: Watch<M::Digest>,
+        requires accepted { (accepted.name ≡ A.name) × (accepted.parts ≡ A.parts) }
+        requires parts { (A.all ≡ A.parts) × (A.parts ≡ non_zero_u32_get clients) }
+        requires taken { (taken.name ≡ K.name) × (taken.parts ≡ K.parts) }
+        requires one { (K.all ≡ K.parts) × (K.parts ≡ 1) }
+        ensures { IfOk result (λ made. made.2.parts ≡ non_zero_u32_get clients) }
+    {
+        let Ok(own) = rt.clone() else {
+            drop::<_>(self);
+            return Err(AllocError);
+        };
+        let node: WatchedNode<P, M, B, T, R, A, K, V> = Engine::new_watched(
+            own,
+            rt.alloc(),
+            self,
+            clients,
+            accepted,
+            taken,
+        )?;
+        let (engine, mailbox, tally) = node;
+        match share_stopper(rt.alloc(), engine.requests()) {
+            Ok(stopper) => Ok((engine, Ends { mailbox, stopper }, tally)),
+            Err(error) => {
+                drop::<_>((engine, mailbox, tally));
+                Err(error)
+            }
         }
     }
 }
@@ -213,7 +218,7 @@ where
             let first = run_client::<P, S, M, R, A, K>(session, 0, Client::new(ends, tally));
             let (tally, outputs) = join_clients(rt, first, threads, outputs);
             handle.stop();
-            Ok(finish::<P, M, R, A, K, S::Watch, S::Output, W>(handle.join(rt), tally, outputs))
+            Ok(Finished::settled::<M, R, A, K, S::Watch>(handle.join(rt), tally, outputs))
         }
         Err(error) => {
             handle.stop();
@@ -225,38 +230,38 @@ where
     }
 }
 
-/// Settles the account.
-fn finish<P, M, R, A, K, V, O, W>(
-    report: MailboxReport<P, M, R, Books<A, K, V, M::Digest>, W>,
-    tally: Tally<A>,
-    outputs: Vec<O>,
-) -> Finished<O, P, W>
-where
-    P: PublicKey,
-    M: Digestible,
-    R: Wait + Drop,
-    A: Account,
-    K: Account,
-    V: Watch<M::Digest>,
-    W: Drop,
-    requires accounts { (A.all ≡ A.parts) × (K.all ≡ K.parts) }
-    requires whole { tally.parts ≡ A.parts }
-    ensures accepted { result.accepted ≡ capped tally.accepted }
-    ensures settled { AddsUp result.accepted result.settled }
-    ensures broadcasts { BroadcastsOnly V.watched → result.settled.skipped ≡ 0 }
-    ensures outputs { result.outputs ≡ outputs }
-    ensures metrics { result.metrics ≡ report.metrics }
-    ensures observer { result.observer ≡ report.observer }
-{
-    let cause = report.cause();
-    let accepted = tally.accepted();
-    let (settled, metrics, observer) = report.into_settled(tally).unwrap();
-    Finished {
-        outputs,
-        cause,
-        accepted,
-        settled,
-        metrics,
-        observer,
+impl<O, P: PublicKey, W: Drop> Finished<O, P, W> {
+    /// Settles the account.
+    fn settled<M, R, A, K, V>(
+        report: MailboxReport<P, M, R, Books<A, K, V, M::Digest>, W>,
+        tally: Tally<A>,
+        outputs: Vec<O>,
+    ) -> Self
+    where
+        M: Digestible,
+        R: Wait + Drop,
+        A: Account,
+        K: Account,
+        V: Watch<M::Digest>,
+        requires accounts { (A.all ≡ A.parts) × (K.all ≡ K.parts) }
+        requires whole { tally.parts ≡ A.parts }
+        ensures accepted { result.accepted ≡ capped tally.accepted }
+        ensures settled { AddsUp result.accepted result.settled }
+        ensures broadcasts { BroadcastsOnly V.watched → result.settled.skipped ≡ 0 }
+        ensures outputs { result.outputs ≡ outputs }
+        ensures metrics { result.metrics ≡ report.metrics }
+        ensures observer { result.observer ≡ report.observer }
+    {
+        let cause = report.cause();
+        let accepted = tally.accepted();
+        let (settled, metrics, observer) = report.into_settled(tally).unwrap();
+        Finished {
+            outputs,
+            cause,
+            accepted,
+            settled,
+            metrics,
+            observer,
+        }
     }
 }

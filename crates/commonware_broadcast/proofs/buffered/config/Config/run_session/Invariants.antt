@@ -1,4 +1,4 @@
-use Rattle.commonware_broadcast.proofs.buffered.session.run_session.Given as goal
+use Rattle.commonware_broadcast.proofs.buffered.config.Config.run_session.Given as goal
 
 -- the ledgers are those of the blanks
 abbrev pub ghosts-run_with-A-Ledger : goal.ghosts-run_with-A-Ledger
