@@ -1,7 +1,7 @@
 //! What the observers of a started engine see.
 use broadcast_core::{Cause, CodecError, Digest, Key, Outcome, RangeCfg, TestMessage};
 use commonware_broadcast::buffered::{
-    EndCause, Lines, Mailbox, Observer, Recent, Sequential, Turn,
+    EndCause, Lines, Mailbox, Observer, Open, Recent, Sequential, Threaded, Turn,
 };
 use memory_network::{Mail, Network};
 use memory_node::keys::key_of;
@@ -10,7 +10,7 @@ use memory_node::support::nodes::{digest, send};
 use std::alloc::{AllocError, AllocGlobal, Global};
 use std::io::{self, Write};
 use std::random::RandomSource;
-use std::sync::Wait;
+use std::sync::{Arc, Wait};
 use std::test::Fail;
 use std::thread::Threads;
 
@@ -25,6 +25,23 @@ where
     let config = config(rt, RangeCfg::any(), Sequential, &ends.mail, 4)?;
     let network = (ends.sender, ends.receiver);
     let (handle, mailbox) = config.observed_by(observer).start(rt, network)?;
+    ask(rt, &mailbox, &ends.mail)?;
+    Ok(handle.join(rt).into_observer())
+}
+
+/// Lets a node that digests on other threads take the same inputs, and end. Returns the observer.
+fn observe_threaded<R, W>(rt: &R, observer: W) -> Result<W, Fail>
+where
+    R: Threads + Wait + RandomSource + AllocGlobal + Clone + Send + Sync + Drop + 'static,
+    W: Observer<Key, Digest> + Send + Drop + 'static,
+{
+    let network = Network::between(rt, &[key_of(1), key_of(5)])?;
+    let ends = network.join(rt, &key_of(1))?;
+    let gate = Arc::new(rt.alloc(), Open)?;
+    let strategy = Threaded::new(rt.clone()?, rt.alloc(), gate);
+    let config = config(rt, RangeCfg::any(), strategy, &ends.mail, 4)?;
+    let network = (ends.sender, ends.receiver);
+    let (handle, mailbox) = config.observed_by(observer).start_threaded(rt, network)?;
     ask(rt, &mailbox, &ends.mail)?;
     Ok(handle.join(rt).into_observer())
 }
@@ -59,6 +76,13 @@ fn lines(alloc: Global) -> Result<String, AllocError> {
 fn each_turn_is_a_line(rt: HostRuntime) -> Result<(), Fail> {
     let seen = observe(&rt, Lines::new(Vec::new(rt.alloc())))?;
     assert!(rt; seen.error().is_none());
+    assert_eq!(rt; seen.into_inner().as_slice(), lines(rt.alloc())?.as_bytes());
+    Ok(())
+}
+
+#[test]
+fn an_engine_that_digests_on_other_threads_tells_the_same(rt: HostRuntime) -> Result<(), Fail> {
+    let seen = observe_threaded(&rt, Lines::new(Vec::new(rt.alloc())))?;
     assert_eq!(rt; seen.into_inner().as_slice(), lines(rt.alloc())?.as_bytes());
     Ok(())
 }
