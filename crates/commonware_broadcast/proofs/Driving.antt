@@ -56,7 +56,7 @@ module _ {P D : Type 0} where
   later (Ready t) rest none = All-tail (λ (x : Turn P D). end_told x ≡ None) t rest none
   later Pending rest none = none
 
-module _ {P M D S G O J N R B Q C T : Type 0} (f : Format P M D C) (i : Interfaces P M D S G O J N R B Q) where
+module _ {P M D S G O J N R B Q C T : Type 0} {f : Format P M D C} {i : Interfaces P M D S G O J N R B Q} where
   -- the steps of a poll whose turns are these
   pub IsPoll-takes : (old new : Moment P M S O D J B Q C T N R) (result : Poll (Turn P D)) (listed : List (Turn P D)) → given result ≡ listed
       → IsPoll f i old new result → AlwaysTakes f i old new listed

@@ -10,7 +10,7 @@ use Rattle.commonware_broadcast.specs.EngineState.{Moment}
 use Rattle.commonware_broadcast.specs.Interfaces.{Format, Interfaces}
 use Rattle.commonware_broadcast.specs.Polls.{IsPoll, Polls, TakesPolls, ShowsPolls, RunsTo, unended}
 
-module _ {P M D S G O J N R B Q C T : Type 0} (f : Format P M D C) (i : Interfaces P M D S G O J N R B Q) where
+module _ {P M D S G O J N R B Q C T : Type 0} {f : Format P M D C} {i : Interfaces P M D S G O J N R B Q} where
   -- polls, and then one more
   pub Polls-more : (count : ℕ) (old mid new : Moment P M S O D J B Q C T N R) (turns : List (Turn P D)) (result : Poll (Turn P D)) (listed : List (Turn P D))
       → Polls f i count old mid turns → IsPoll f i mid new result → listed ≡ turns ++ given result → Polls f i (suc count) old new listed
@@ -89,18 +89,18 @@ module _ {P M D S G O J N R B Q C T : Type 0} (f : Format P M D C) (i : Interfac
   Polls-append (suc count) more old mid new turns others (next, told, poll, rest, is, tail) second =
       (next, told, poll, rest ++ others, ap (λ l. l ++ others) is ∙ append_assoc (given told) rest others, Polls-append count more next mid new rest others tail second)
 
-module _ {P M D S G O J N R B Q C T W : Type 0} (f : Format P M D C) (i : Interfaces P M D S G O J N R B Q) (seen : W → List (Turn P D) → Type 0) where
+module _ {P M D S G O J N R B Q C T W : Type 0} {f : Format P M D C} {i : Interfaces P M D S G O J N R B Q} {seen : W → List (Turn P D) → Type 0} where
   -- nothing was polled, and nothing shown
-  pub ShowsPolls-none : (old : Moment P M S O D J B Q C T N R) (watching : W) → ShowsPolls f i seen old old watching watching
-  ShowsPolls-none old watching = record {
+  pub ShowsPolls-none : {old : Moment P M S O D J B Q C T N R} {watching : W} → ShowsPolls f i seen old old watching watching
+  ShowsPolls-none {old} {watching} = record {
     took = record { count = zero; turns = []; polls = (refl, refl) };
     shown = λ turns h. subst (seen watching) (sym (append-nil turns)) h;
   }
 
   -- some polls, and then some more
-  pub ShowsPolls-more : (old mid new : Moment P M S O D J B Q C T N R) (first between last : W) → ShowsPolls f i seen old mid first between → ShowsPolls f i seen mid new between last
+  pub ShowsPolls-more : {old mid new : Moment P M S O D J B Q C T N R} {first between last : W} → ShowsPolls f i seen old mid first between → ShowsPolls f i seen mid new between last
       → ShowsPolls f i seen old new first last
-  ShowsPolls-more old mid new first between last one more = record {
+  ShowsPolls-more {old} {mid} {new} {first} {between} {last} one more = record {
     took = record {
       count = plus one.took.count more.took.count;
       turns = one.took.turns ++ more.took.turns;
@@ -111,10 +111,10 @@ module _ {P M D S G O J N R B Q C T W : Type 0} (f : Format P M D C) (i : Interf
   }
 
   -- some polls, and then one more
-  pub ShowsPolls-one : (old mid new : Moment P M S O D J B Q C T N R) (first between last : W) (result : Poll (Turn P D)) → ShowsPolls f i seen old mid first between → IsPoll f i mid new result
+  pub ShowsPolls-one : {old mid new : Moment P M S O D J B Q C T N R} {first between last : W} {result : Poll (Turn P D)} → ShowsPolls f i seen old mid first between → IsPoll f i mid new result
       → ((turns : List (Turn P D)) → seen between turns → seen last (turns ++ unended (given result))) → ShowsPolls f i seen old new first last
-  ShowsPolls-one old mid new first between last result one poll step =
-      ShowsPolls-more old mid new first between last one (record {
+  ShowsPolls-one {old} {mid} {new} {first} {between} {last} {result} one poll step =
+      ShowsPolls-more one (record {
         took = record {
           count = suc zero;
           turns = given result ++ [];
@@ -123,10 +123,12 @@ module _ {P M D S G O J N R B Q C T W : Type 0} (f : Format P M D C) (i : Interf
         shown = λ turns h. subst (λ l. seen last (turns ++ unended l)) (sym (append-nil (given result))) (step turns h);
       })
 
+module _ {P M D S G O J N R B Q C T W A : Type 0} (f : Format P M D C) (i : Interfaces P M D S G O J N R B Q) (seen : W → List (Turn P D) → Type 0)
+    (moment : A → Moment P M S O D J B Q C T N R) (watch : A → W) where
   -- what a run gives from a moment on, it gives from one that polls took to it
-  pub RunsTo-back : (old mid : Option (Moment P M S O D J B Q C T N R × W)) (left : Moment P M S O D J B Q C T N R × W) (cause : EndCause)
-      → IfSome old (λ p. IsSomeAnd mid (λ q. ShowsPolls f i seen p.0 q.0 p.1 q.1)) → IfSome mid (λ q. RunsTo f i seen q.0 q.1 left cause)
-      → IfSome old (λ p. RunsTo f i seen p.0 p.1 left cause)
+  pub RunsTo-back : (old mid : Option A) (left : Moment P M S O D J B Q C T N R × W) (cause : EndCause)
+      → IfSome old (λ p. IsSomeAnd mid (λ q. ShowsPolls f i seen (moment p) (moment q) (watch p) (watch q))) → IfSome mid (λ q. RunsTo f i seen (moment q) (watch q) left cause)
+      → IfSome old (λ p. RunsTo f i seen (moment p) (watch p) left cause)
   RunsTo-back None mid left cause took ran = tt
   RunsTo-back (Some p) None left cause took ran = absurd took
-  RunsTo-back (Some p) (Some q) left cause took ran = (ShowsPolls-more p.0 q.0 left.0 p.1 q.1 left.1 took ran.0, ran.1)
+  RunsTo-back (Some p) (Some q) left cause took ran = (ShowsPolls-more took ran.0, ran.1)

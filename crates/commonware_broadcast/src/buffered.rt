@@ -23,7 +23,7 @@ pub use digest_strategies::{
     DigestOf, Done, Gate, Job, Open, Pool, Pooled, Sequential, Strategy, Threaded, Work, Worker,
     Working,
 };
-pub use engine::{Engine, Ready, Report, StartError, drive, make_ready, new_engine_law, run};
+pub use engine::{Engine, Ready, Report, StartError, drive, new_engine_law};
 pub use engine_io::{
     Counter, Direct, EndCause, Input, Metrics, NetworkFailed, Outlet, Provider, Receiver, Requests,
     Sender, Sequencer, Status, Turn,

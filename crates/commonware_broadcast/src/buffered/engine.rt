@@ -19,4 +19,4 @@ pub use laws::new_engine_law;
 pub use report::Report;
 pub use state::Engine;
 pub(crate) use thread::spawn;
-pub use thread::{Ready, StartError, make_ready, run};
+pub use thread::{Ready, StartError};

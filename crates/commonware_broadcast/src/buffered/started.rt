@@ -1,5 +1,5 @@
 //! A started engine.
-use crate::buffered::engine::{Ready, Report, StartError, make_ready, run, spawn};
+use crate::buffered::engine::{Ready, Report, StartError, spawn};
 use crate::buffered::front::MailboxEngine;
 use crate::buffered::observer::Observer;
 use crate::buffered::snapshots::{MetricsError, Snapshots};
@@ -152,7 +152,7 @@ where
     {
         match self.prepare(rt, network, observer) {
             Ok(Prepared { ready, control }) => {
-                let (control, thread) = start_thread(rt, move || run(ready), control)?;
+                let (control, thread) = start_thread(rt, move || ready.run(), control)?;
                 Ok(Handle { control, thread })
             }
             Err(error) => Err(error),
@@ -210,7 +210,7 @@ where
     {
         match Control::new(rt, self.requests()) {
             Ok((control, snapshots)) => {
-                match make_ready(rt, self, network, observer, snapshots) {
+                match Ready::new(rt, self, network, observer, snapshots) {
                     Ok(ready) => Ok(Prepared { ready, control }),
                     Err(error) => {
                         drop::<_>(control);
@@ -249,7 +249,7 @@ where
     /// After an error the engine is given up, and its mailbox is closed.
     pub(super) fn start(self, rt: &R) -> Result<Handle<P, M, R, A, W>, StartError> {
         let Prepared { ready, control } = self;
-        let (control, thread) = start_thread(rt, move || run(ready), control)?;
+        let (control, thread) = start_thread(rt, move || ready.run(), control)?;
         Ok(Handle { control, thread })
     }
 }

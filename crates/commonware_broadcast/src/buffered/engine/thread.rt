@@ -1,5 +1,5 @@
 //! An engine that runs in a thread of its own: what moves there, and what the thread does.
-ghost use Rattle.std.specs.Prelude.{◌≡◌, List, [], ◌∷◌, ◌++◌, Some, None, IfOk, OnOk};
+ghost use Rattle.std.specs.Prelude.{◌≡◌, true, List, [], ◌∷◌, ◌++◌, Some, None, IfOk, OnOk};
 ghost use Rattle.engine_io.specs.declared.input.Turn.{Turn};
 ghost use Rattle.engine_io.specs.declared.input.Turn.TheVariants as turn;
 ghost use Rattle.commonware_broadcast.specs.Parts.{joined, ready_engine};
@@ -10,7 +10,7 @@ use crate::buffered::asleep::{CannotWait, may_look};
 use crate::buffered::engine::closed::Closed;
 use crate::buffered::engine::node::Node;
 use crate::buffered::engine::report::Report;
-use crate::buffered::engine::running::{run_to_end, run_turns};
+use crate::buffered::engine::running::Running;
 use crate::buffered::engine::state::Engine;
 use crate::buffered::observer::Observer;
 use crate::buffered::snapshots::Snapshots;
@@ -47,212 +47,177 @@ pub struct Ready<P: PublicKey, M: Digestible, S, O, B, Q, C, T, N, V, R, W = ()>
     rt: R,
 }
 
-/// Makes an engine ready for its thread: a job that is pending is finished, since a job may not
-/// move to another thread. After an error the engine has ended, and its requests are closed.
-pub fn make_ready<P, M, S, G, O, B, Q, T, N, V, R, W>(
-    rt: &R,
-    engine: Engine<P, M, S, O, B, Q, T>,
-    network: (N, V),
-    observer: W,
-    snapshots: Arc<Snapshots<P>>,
-) -> Result<Ready<P, M, S, O, B, Q, M::Cfg, T, N, V, R, W>, StartError>
+impl<P, M, S, O, B, Q, T, N, V, R, W> Ready<P, M, S, O, B, Q, M::Cfg, T, N, V, R, W>
 where
     P: PublicKey,
     M: Digestible + Codec,
     M::Cfg: Drop,
     S: Responder<Reply<M>> + Drop,
-    G: Drop,
-    O: Outlet<S, G, Reply<M>, Option<Reply<M>>> + Drop,
+    O: Drop,
     B: Provider<P> + Drop,
-    Q: Requests<Message<P, M, S, G>> + Drop,
-    T: Strategy<M> + Drop,
-    N: Sender<P> + Drop,
-    V: Receiver<P> + Drop,
-    R: Wait + RandomSource + AllocGlobal + Clone + Drop,
-    W: Observer<P, M::Digest> + Drop,
-    ensures { IfOk result (λ ready. MakesReady
-        (format_of P.cmp M.Digest.cmp M.encoding M.digest_of M.reading)
-        (over S.may_answer T.Job.is_of O.Outlet N.Sender V.Receiver B.Provider Q.Requests)
-        (engine, network) (ready_engine ready, ready.network)) }
-{
-    let mut engine = engine;
-    let mut network = network;
-    let mut observer = observer;
-    match finish_job::<P, M, S, G, O, B, Q, T, N, V, R, W>(
-        rt,
-        &mut engine,
-        &mut network,
-        &mut observer,
-        &snapshots,
-    ) {
-        Ok(rt) => Ok(Ready {
-            parts: engine.into_parts(),
-            network,
-            observer,
-            snapshots,
-            rt,
-        }),
-        Err(error) => {
-            drop::<_>(engine);
-            drop::<_>((network, observer, snapshots));
-            Err(error)
-        }
-    }
-}
-
-/// Finishes the job, and returns the handle of the engine's thread. After an error the engine has
-/// ended.
-fn finish_job<P, M, S, G, O, B, Q, T, N, V, R, W>(
-    rt: &R,
-    engine: &mut Engine<P, M, S, O, B, Q, T>,
-    network: &mut (N, V),
-    observer: &mut W,
-    snapshots: &Snapshots<P>,
-) -> Result<R, StartError>
-where
-    P: PublicKey,
-    M: Digestible + Codec,
-    S: Responder<Reply<M>> + Drop,
-    G: Drop,
-    O: Outlet<S, G, Reply<M>, Option<Reply<M>>>,
-    B: Provider<P>,
-    Q: Requests<Message<P, M, S, G>>,
-    T: Strategy<M>,
-    N: Sender<P>,
-    V: Receiver<P>,
-    R: Wait + RandomSource + AllocGlobal + Clone,
-    W: Observer<P, M::Digest>,
-    ensures took { OnOk result (ShowsPolls
-        (format_of P.cmp M.Digest.cmp M.encoding M.digest_of M.reading)
-        (over S.may_answer T.Job.is_of O.Outlet N.Sender V.Receiver B.Provider Q.Requests)
-        W.seen (engine.old, network.old) (engine.new, network.new) observer.old observer.new) }
-    ensures settled { OnOk result (engine.new.end ≡ None → engine.new.job ≡ None) }
-{
-    let ran = run_turns::<P, M, S, G, O, B, Q, T, N, V, R, W>(
-        rt, engine, network, observer, snapshots, true,
-    );
-    if ran.is_ok() {
-        if let Ok(own) = rt.clone() {
-            return Ok(own);
-        }
-    }
-    engine.end::<G>(EndCause::WaitFailed);
-    tell_end(rt, EndCause::WaitFailed, observer, snapshots);
-    Err(StartError::Memory)
-}
-
-/// Runs the engine until it ends. Returns what it leaves.
-pub fn run<P, M, S, G, O, B, Q, T, N, V, R, W>(
-    ready: Ready<P, M, S, O, B, Q, M::Cfg, T, N, V, R, W>,
-) -> Report<P, Q, W>
-where
-    P: PublicKey,
-    M: Digestible + Codec,
-    M::Cfg: Drop,
-    S: Responder<Reply<M>> + Drop,
-    G: Drop,
-    O: Outlet<S, G, Reply<M>, Option<Reply<M>>> + Drop,
-    B: Provider<P> + Drop,
-    Q: Requests<Message<P, M, S, G>> + Drop,
+    Q: Drop,
     T: Strategy<M> + Drop,
     N: Sender<P> + Drop,
     V: Receiver<P> + Drop,
     R: Wait + RandomSource + AllocGlobal + Drop,
     W: Observer<P, M::Digest> + Drop,
-    ensures runs { ShowsRun
-        (format_of P.cmp M.Digest.cmp M.encoding M.digest_of M.reading)
-        (over S.may_answer T.Job.is_of O.Outlet N.Sender V.Receiver B.Provider Q.Requests)
-        W.seen (ready_engine ready, ready.network) result.cause result.failure result.metrics
-        ready.observer result.observer (turn.Ended result.cause ∷ []) }
 {
-    let Ready {
-        parts,
-        network,
-        observer,
-        snapshots,
-        rt,
-    } = ready;
-    let (engine, mut observer, cause, failure) = run_until_end::<
-        P,
-        M,
-        S,
-        G,
-        O,
-        B,
-        Q,
-        T,
-        N,
-        V,
-        R,
-        W,
-    >(
-        &rt,
-        Engine::from_parts(parts),
-        network,
-        observer,
-        &snapshots,
-    );
-    tell_end(&rt, cause, &mut observer, &snapshots);
-    drop::<_>((snapshots, rt));
-    let (metrics, requests) = engine.into_metrics();
-    Report {
-        cause,
-        failure,
-        metrics,
-        requests,
-        observer,
+    /// Makes an engine ready for its thread: a job that is pending is finished, since a job may not
+    /// move to another thread. After an error the engine has ended, and its requests are closed.
+    pub fn new<G>(
+        rt: &R,
+        engine: Engine<P, M, S, O, B, Q, T>,
+        network: (N, V),
+        observer: W,
+        snapshots: Arc<Snapshots<P>>,
+    ) -> Result<Self, StartError>
+    where
+        G: Drop,
+        O: Outlet<S, G, Reply<M>, Option<Reply<M>>>,
+        Q: Requests<Message<P, M, S, G>>,
+        R: Clone,
+        ensures { IfOk result (λ ready. MakesReady
+            (format_of P.cmp M.Digest.cmp M.encoding M.digest_of M.reading)
+            (over S.may_answer T.Job.is_of O.Outlet N.Sender V.Receiver B.Provider Q.Requests)
+            (engine, network) (ready_engine ready, ready.network)) }
+    {
+        let mut running = Running {
+            engine,
+            network,
+            observer,
+        };
+        match running.finish_job::<G, R>(rt, &snapshots) {
+            Ok(rt) => {
+                let Running {
+                    engine,
+                    network,
+                    observer,
+                } = running;
+                Ok(Ready {
+                    parts: engine.into_parts(),
+                    network,
+                    observer,
+                    snapshots,
+                    rt,
+                })
+            }
+            Err(error) => {
+                drop::<_>(running);
+                drop::<_>(snapshots);
+                Err(error)
+            }
+        }
+    }
+
+    /// Runs the engine until it ends. Returns what it leaves.
+    pub fn run<G>(self) -> Report<P, Q, W>
+    where
+        G: Drop,
+        O: Outlet<S, G, Reply<M>, Option<Reply<M>>>,
+        Q: Requests<Message<P, M, S, G>>,
+        ensures runs { ShowsRun
+            (format_of P.cmp M.Digest.cmp M.encoding M.digest_of M.reading)
+            (over S.may_answer T.Job.is_of O.Outlet N.Sender V.Receiver B.Provider Q.Requests)
+            W.seen (ready_engine self, self.network) result.cause result.failure result.metrics
+            self.observer result.observer (turn.Ended result.cause ∷ []) }
+    {
+        let Ready {
+            parts,
+            network,
+            observer,
+            snapshots,
+            rt,
+        } = self;
+        let running = Running {
+            engine: Engine::from_parts(parts),
+            network,
+            observer,
+        };
+        let (engine, mut observer, cause, failure) = running.run_until_end::<G, R>(&rt, &snapshots);
+        tell_end(&rt, cause, &mut observer, &snapshots);
+        drop::<_>((snapshots, rt));
+        let (metrics, requests) = engine.into_metrics();
+        Report {
+            cause,
+            failure,
+            metrics,
+            requests,
+            observer,
+        }
     }
 }
 
-/// Runs the engine until it ends, and returns it with its observer, and why. If its thread can't
-/// wait, it is given up. The observer was handed the turns, but not the end.
-fn run_until_end<P, M, S, G, O, B, Q, T, N, V, R, W>(
-    rt: &R,
-    engine: Engine<P, M, S, O, B, Q, T>,
-    network: (N, V),
-    observer: W,
-    snapshots: &Snapshots<P>,
-) -> (Engine<P, M, S, O, B, Q, T>, W, EndCause, Option<CannotWait>)
+impl<P, M, S, O, B, Q, T, N, V, W> Running<P, M, S, O, B, Q, T, N, V, W>
 where
     P: PublicKey,
     M: Digestible + Codec,
     M::Cfg: Drop,
     S: Responder<Reply<M>> + Drop,
-    G: Drop,
-    O: Outlet<S, G, Reply<M>, Option<Reply<M>>> + Drop,
     B: Provider<P> + Drop,
-    Q: Requests<Message<P, M, S, G>> + Drop,
     T: Strategy<M> + Drop,
     N: Sender<P> + Drop,
     V: Receiver<P> + Drop,
-    R: Wait + RandomSource + AllocGlobal,
     W: Observer<P, M::Digest> + Drop,
-    ensures runs { ShowsRun
-        (format_of P.cmp M.Digest.cmp M.encoding M.digest_of M.reading)
-        (over S.may_answer T.Job.is_of O.Outlet N.Sender V.Receiver B.Provider Q.Requests)
-        W.seen (engine, network) result.2 result.3 result.0.node.metrics observer result.1 [] }
-    ensures ends { result.0.end ≡ Some result.2 }
 {
-    let (((mut engine, network), observer), ended) = run_to_end::<
-        P,
-        M,
-        S,
-        G,
-        O,
-        B,
-        Q,
-        T,
-        N,
-        V,
-        R,
-        W,
-    >(rt, engine, network, observer, snapshots);
-    drop::<_>(network);
-    match ended {
-        Ok(cause) => (engine, observer, cause, None),
-        Err(failure) => {
-            engine.end::<G>(EndCause::WaitFailed);
-            (engine, observer, EndCause::WaitFailed, Some(failure))
+    /// Finishes the job, and returns the handle of the engine's thread. After an error the engine
+    /// has ended.
+    fn finish_job<G, R>(&mut self, rt: &R, snapshots: &Snapshots<P>) -> Result<R, StartError>
+    where
+        G: Drop,
+        O: Outlet<S, G, Reply<M>, Option<Reply<M>>>,
+        Q: Requests<Message<P, M, S, G>>,
+        R: Wait + RandomSource + AllocGlobal + Clone,
+        ensures took { OnOk result (ShowsPolls
+            (format_of P.cmp M.Digest.cmp M.encoding M.digest_of M.reading)
+            (over S.may_answer T.Job.is_of O.Outlet N.Sender V.Receiver B.Provider Q.Requests)
+            W.seen (self.old.engine, self.old.network) (self.new.engine, self.new.network)
+            self.old.observer self.new.observer) }
+        ensures settled { OnOk result (self.new.engine.end ≡ None
+            → self.new.engine.job ≡ None) }
+    {
+        let ran = self.run_turns::<G, R>(rt, snapshots, true);
+        if ran.is_ok() {
+            if let Ok(own) = rt.clone() {
+                return Ok(own);
+            }
+        }
+        self.engine.end::<G>(EndCause::WaitFailed);
+        tell_end(rt, EndCause::WaitFailed, &mut self.observer, snapshots);
+        Err(StartError::Memory)
+    }
+
+    /// Runs the engine until it ends, and returns it with its observer, and why. If its thread
+    /// can't wait, it is given up. The observer was handed the turns, but not the end.
+    fn run_until_end<G, R>(
+        self,
+        rt: &R,
+        snapshots: &Snapshots<P>,
+    ) -> (Engine<P, M, S, O, B, Q, T>, W, EndCause, Option<CannotWait>)
+    where
+        G: Drop,
+        O: Outlet<S, G, Reply<M>, Option<Reply<M>>> + Drop,
+        Q: Requests<Message<P, M, S, G>> + Drop,
+        R: Wait + RandomSource + AllocGlobal,
+        ensures runs { ShowsRun
+            (format_of P.cmp M.Digest.cmp M.encoding M.digest_of M.reading)
+            (over S.may_answer T.Job.is_of O.Outlet N.Sender V.Receiver B.Provider Q.Requests)
+            W.seen (self.engine, self.network) result.2 result.3 result.0.node.metrics
+            self.observer result.1 [] }
+        ensures ends { result.0.end ≡ Some result.2 }
+    {
+        let (running, ended) = self.run_to_end::<G, R>(rt, snapshots);
+        let Running {
+            mut engine,
+            network,
+            observer,
+        } = running;
+        drop::<_>(network);
+        match ended {
+            Ok(cause) => (engine, observer, cause, None),
+            Err(failure) => {
+                engine.end::<G>(EndCause::WaitFailed);
+                (engine, observer, EndCause::WaitFailed, Some(failure))
+            }
         }
     }
 }
@@ -313,6 +278,13 @@ pub(crate) struct Parts<P: PublicKey, M: Digestible, S, O, B, Q, C, T> {
 }
 
 impl<P: PublicKey, M: Digestible + Codec, S, O, B, Q, T: Strategy<M>> Engine<P, M, S, O, B, Q, T> {
+    /// Returns whether no job is pending.
+    pub(super) fn is_idle(&self) -> bool
+        ensures { result ≡ true → self.now.job ≡ None }
+    {
+        self.job.is_none()
+    }
+
     /// Takes the engine apart. A pending job is dropped.
     pub(super) fn into_parts(self) -> Parts<P, M, S, O, B, Q, M::Cfg, T>
         ensures { self ≡ joined result self.job }

@@ -41,8 +41,7 @@ loop-poll-preserved g c =
     let going : c.poll.new.self.end ≡ None = none_is c.poll.new.self.end (ap (λ k. is_some k.end) (sym c.engine.view_is) ∙ sym c.is_some.ensures ∙ c.if-is_some.false) in record {
       polls = λ count is. subst (λ n. Polls (format (same_by g.P.Ord.cmp g.M.Digest.Ord.cmp) g.M.Write.encoding g.M.Digestible.digest_of (λ cfg. whole (g.M.Read.reading cfg))) (interfaces (parties (λ w b. g.S.Responder.may_answer w.responder b) g.T.Job.Job.is_of g.O.Outlet) g.N.Sender g.R.Receiver g.B.Provider g.Q.Requests)
           n (c.args.engine.now, c.args.network.now) (c.poll.new.self, c.poll.new.network) c.push_reserved.new.self.items) (let next : suc c.loop-poll._poll ≡ count = omega (arith, is) in next)
-          (Polls-more (format (same_by g.P.Ord.cmp g.M.Digest.Ord.cmp) g.M.Write.encoding g.M.Digestible.digest_of (λ cfg. whole (g.M.Read.reading cfg))) (interfaces (parties (λ w b. g.S.Responder.may_answer w.responder b) g.T.Job.Job.is_of g.O.Outlet) g.N.Sender g.R.Receiver g.B.Provider g.Q.Requests)
-          c.loop-poll._poll (c.args.engine.now, c.args.network.now) (c.loop-poll.engine, c.loop-poll.network) (c.poll.new.self, c.poll.new.network) c.loop-poll.turns.items c.poll.result c.push_reserved.new.self.items
+          (Polls-more c.loop-poll._poll (c.args.engine.now, c.args.network.now) (c.loop-poll.engine, c.loop-poll.network) (c.poll.new.self, c.poll.new.network) c.loop-poll.turns.items c.poll.result c.push_reserved.new.self.items
           (at.polls c.loop-poll._poll refl) c.poll.ensures.polled (sym (ap (λ r. c.loop-poll.turns.items ++ given r) c.in-Ready.is ∙ sym c.push_reserved.ensures.items)));
       priority = c.poll.ensures.polled.keeps_priority ∙ at.priority;
       codec_config = c.poll.ensures.polled.keeps_codec_config ∙ at.codec_config;
@@ -65,8 +64,7 @@ pub loop-poll-preserved-in_default : goal.loop-poll-preserved-in_default
 loop-poll-preserved-in_default g c = let at = c.loop-poll.invariant in record {
   polls = λ count is. subst (λ n. Polls (format (same_by g.P.Ord.cmp g.M.Digest.Ord.cmp) g.M.Write.encoding g.M.Digestible.digest_of (λ cfg. whole (g.M.Read.reading cfg))) (interfaces (parties (λ w b. g.S.Responder.may_answer w.responder b) g.T.Job.Job.is_of g.O.Outlet) g.N.Sender g.R.Receiver g.B.Provider g.Q.Requests)
       n (c.args.engine.now, c.args.network.now) (c.poll.new.self, c.poll.new.network) c.loop-poll.turns.items) (let next : suc c.loop-poll._poll ≡ count = omega (arith, is) in next)
-      (Polls-more (format (same_by g.P.Ord.cmp g.M.Digest.Ord.cmp) g.M.Write.encoding g.M.Digestible.digest_of (λ cfg. whole (g.M.Read.reading cfg))) (interfaces (parties (λ w b. g.S.Responder.may_answer w.responder b) g.T.Job.Job.is_of g.O.Outlet) g.N.Sender g.R.Receiver g.B.Provider g.Q.Requests)
-      c.loop-poll._poll (c.args.engine.now, c.args.network.now) (c.loop-poll.engine, c.loop-poll.network) (c.poll.new.self, c.poll.new.network) c.loop-poll.turns.items c.poll.result c.loop-poll.turns.items
+      (Polls-more c.loop-poll._poll (c.args.engine.now, c.args.network.now) (c.loop-poll.engine, c.loop-poll.network) (c.poll.new.self, c.poll.new.network) c.loop-poll.turns.items c.poll.result c.loop-poll.turns.items
       (at.polls c.loop-poll._poll refl) c.poll.ensures.polled (sym (ap (λ r. c.loop-poll.turns.items ++ given r) c.in_default.is ∙ append-nil c.loop-poll.turns.items)));
   priority = c.poll.ensures.polled.keeps_priority ∙ at.priority;
   codec_config = c.poll.ensures.polled.keeps_codec_config ∙ at.codec_config;
@@ -86,13 +84,10 @@ pub returns-then-is_some-clause-took : goal.returns-then-is_some-clause-took
 returns-then-is_some-clause-took g c = let at = c.loop-poll.invariant in
     subst (λ l. AlwaysTakes (format (same_by g.P.Ord.cmp g.M.Digest.Ord.cmp) g.M.Write.encoding g.M.Digestible.digest_of (λ cfg. whole (g.M.Read.reading cfg))) (interfaces (parties (λ w b. g.S.Responder.may_answer w.responder b) g.T.Job.Job.is_of g.O.Outlet) g.N.Sender g.R.Receiver g.B.Provider g.Q.Requests)
     (c.args.engine.now, c.args.network.now) (c.poll.new.self, c.poll.new.network) l) (sym c.push_reserved.ensures.items)
-    (AlwaysTakes-more (format (same_by g.P.Ord.cmp g.M.Digest.Ord.cmp) g.M.Write.encoding g.M.Digestible.digest_of (λ cfg. whole (g.M.Read.reading cfg))) (interfaces (parties (λ w b. g.S.Responder.may_answer w.responder b) g.T.Job.Job.is_of g.O.Outlet) g.N.Sender g.R.Receiver g.B.Provider g.Q.Requests)
-    (c.args.engine.now, c.args.network.now) (c.loop-poll.engine, c.loop-poll.network) (c.poll.new.self, c.poll.new.network) c.loop-poll.turns.items (c.in-Ready.turn ∷ []) at.unended
-    (Polls-take (format (same_by g.P.Ord.cmp g.M.Digest.Ord.cmp) g.M.Write.encoding g.M.Digestible.digest_of (λ cfg. whole (g.M.Read.reading cfg))) (interfaces (parties (λ w b. g.S.Responder.may_answer w.responder b) g.T.Job.Job.is_of g.O.Outlet) g.N.Sender g.R.Receiver g.B.Provider g.Q.Requests)
-    c.loop-poll._poll (c.args.engine.now, c.args.network.now) (c.loop-poll.engine, c.loop-poll.network) c.loop-poll.turns.items (at.polls c.loop-poll._poll refl) at.none_ends)
+    (AlwaysTakes-more (c.args.engine.now, c.args.network.now) (c.loop-poll.engine, c.loop-poll.network) (c.poll.new.self, c.poll.new.network) c.loop-poll.turns.items (c.in-Ready.turn ∷ []) at.unended
+    (Polls-take c.loop-poll._poll (c.args.engine.now, c.args.network.now) (c.loop-poll.engine, c.loop-poll.network) c.loop-poll.turns.items (at.polls c.loop-poll._poll refl) at.none_ends)
     at.priority at.codec_config
-    (IsPoll-takes (format (same_by g.P.Ord.cmp g.M.Digest.Ord.cmp) g.M.Write.encoding g.M.Digestible.digest_of (λ cfg. whole (g.M.Read.reading cfg))) (interfaces (parties (λ w b. g.S.Responder.may_answer w.responder b) g.T.Job.Job.is_of g.O.Outlet) g.N.Sender g.R.Receiver g.B.Provider g.Q.Requests)
-    (c.loop-poll.engine, c.loop-poll.network) (c.poll.new.self, c.poll.new.network) c.poll.result (c.in-Ready.turn ∷ []) (ap given c.in-Ready.is) c.poll.ensures.polled))
+    (IsPoll-takes (c.loop-poll.engine, c.loop-poll.network) (c.poll.new.self, c.poll.new.network) c.poll.result (c.in-Ready.turn ∷ []) (ap given c.in-Ready.is) c.poll.ensures.polled))
 
 pub returns-then-is_some-clause-ends_with_last_turn : goal.returns-then-is_some-clause-ends_with_last_turn
 returns-then-is_some-clause-ends_with_last_turn g c = λ _.
@@ -114,8 +109,7 @@ returns-then-is_some-clause-same_after_end g c = λ cause ended.
 pub returns-then-is_some-clause-drives : goal.returns-then-is_some-clause-drives
 returns-then-is_some-clause-drives g c = let at = c.loop-poll.invariant in record {
   count = suc c.loop-poll._poll;
-  polls = Polls-more (format (same_by g.P.Ord.cmp g.M.Digest.Ord.cmp) g.M.Write.encoding g.M.Digestible.digest_of (λ cfg. whole (g.M.Read.reading cfg))) (interfaces (parties (λ w b. g.S.Responder.may_answer w.responder b) g.T.Job.Job.is_of g.O.Outlet) g.N.Sender g.R.Receiver g.B.Provider g.Q.Requests)
-      c.loop-poll._poll (c.args.engine.now, c.args.network.now) (c.loop-poll.engine, c.loop-poll.network) (c.poll.new.self, c.poll.new.network) c.loop-poll.turns.items c.poll.result c.push_reserved.new.self.items
+  polls = Polls-more c.loop-poll._poll (c.args.engine.now, c.args.network.now) (c.loop-poll.engine, c.loop-poll.network) (c.poll.new.self, c.poll.new.network) c.loop-poll.turns.items c.poll.result c.push_reserved.new.self.items
       (at.polls c.loop-poll._poll refl) c.poll.ensures.polled (sym (ap (λ r. c.loop-poll.turns.items ++ given r) c.in-Ready.is ∙ sym c.push_reserved.ensures.items));
   at_most = omega (arith, c.loop-poll-test.true);
   all_unless_ended = λ none. absurd (let no : true ≡ false = sym c.if-is_some.true ∙ c.is_some.ensures ∙ ap (λ k. is_some k.end) c.engine.view_is ∙ ap is_some none in cc);
@@ -123,8 +117,7 @@ returns-then-is_some-clause-drives g c = let at = c.loop-poll.invariant in recor
 
 pub returns-clause-took : goal.returns-clause-took
 returns-clause-took g c = let at = c.loop-poll.invariant in
-    Polls-take (format (same_by g.P.Ord.cmp g.M.Digest.Ord.cmp) g.M.Write.encoding g.M.Digestible.digest_of (λ cfg. whole (g.M.Read.reading cfg))) (interfaces (parties (λ w b. g.S.Responder.may_answer w.responder b) g.T.Job.Job.is_of g.O.Outlet) g.N.Sender g.R.Receiver g.B.Provider g.Q.Requests)
-    c.loop-poll._poll (c.args.engine.now, c.args.network.now) (c.loop-poll.engine, c.loop-poll.network) c.loop-poll.turns.items (at.polls c.loop-poll._poll refl) at.none_ends
+    Polls-take c.loop-poll._poll (c.args.engine.now, c.args.network.now) (c.loop-poll.engine, c.loop-poll.network) c.loop-poll.turns.items (at.polls c.loop-poll._poll refl) at.none_ends
 
 pub returns-clause-drives : goal.returns-clause-drives
 returns-clause-drives g c = record {

@@ -1,0 +1,10 @@
+use Rattle.commonware_broadcast.proofs.Parting.{joined-idle}
+use Rattle.commonware_broadcast.proofs.buffered.engine.thread.Ready+P+M+S+O+B+Q+M+Cfg+T+N+V+R+W.new.Goals as goal
+
+pub returns-in-Ok : goal.returns-in-Ok
+returns-in-Ok g c = record {
+  last = c.finish_job.new.self.engine;
+  took = c.in-Ok.ensures.took.took;
+  idle = c.in-Ok.ensures.settled;
+  without_job = joined-idle c.finish_job.new.self.engine c.into_parts.result c.finish_job.new.self.engine.job c.into_parts.ensures;
+}
