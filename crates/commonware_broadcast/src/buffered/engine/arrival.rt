@@ -1,11 +1,13 @@
 //! A payload of a peer, and the job of its message.
-ghost use Rattle.std.specs.Prelude.{◌≡◌, List, None, Some, Ok};
+ghost use Rattle.std.specs.Prelude.{◌≡◌, if◌then◌else◌, List, None, Some, Ok, true, IfOk, IsOk, OnOk, OnErr};
+ghost use Rattle.std.specs.Ordering.{eq_by_cmp};
 ghost use Rattle.futures.specs.Poll.{IfReady, OnPending};
 ghost use Rattle.futures.specs.Task.{IsArmed, Keeps};
 ghost use Rattle.broadcast_core.specs.Content.{same_by};
 ghost use Rattle.broadcast_core.specs.Setting.{Setting};
 ghost use Rattle.broadcast_core.specs.Happening.{History};
 ghost use Rattle.broadcast_core.specs.HasContent.{HasContent};
+ghost use Rattle.engine_io.specs.Counters.{count_of, has_count, raised};
 ghost use Rattle.engine_io.specs.declared.input.Input.TheVariants as input;
 ghost use Rattle.engine_io.specs.declared.input.Turn.TheVariants as turn;
 ghost use Rattle.engine_io.specs.Heard.{HearsJob};
@@ -24,9 +26,9 @@ use broadcast_core::{
 };
 use broadcast_mailbox::buffered::{Reply, Responder};
 use digest_strategies::{Job, Strategy};
-use engine_io::{Outlet, Turn};
+use engine_io::{Metrics, Outlet, Turn};
 use futures::task::{Context, Poll};
-use std::alloc::Global;
+use std::alloc::{AllocError, Global};
 
 impl<P: PublicKey, M: Digestible + Codec, S, O, B, Q, T: Strategy<M>> Engine<P, M, S, O, B, Q, T> {
     /// Decodes a payload of `peer`, and starts the job of its message. A payload that is no
@@ -63,9 +65,8 @@ impl<P: PublicKey, M: Digestible + Codec, S, O, B, Q, T: Strategy<M>> Engine<P, 
         }
     }
 
-    /// Counts a message of `peer` that was decoded, starts its job, and polls it. If the job can't
-    /// be started, or counted, the message is refused. The count of a message whose job is refused
-    /// stays.
+    /// Counts a message of `peer` that was decoded, starts its job, and polls it. If the message
+    /// can't be counted, or its job not started, the message is refused.
     fn start_job<G>(
         &mut self,
         alloc: Global,
@@ -92,10 +93,11 @@ impl<P: PublicKey, M: Digestible + Codec, S, O, B, Q, T: Strategy<M>> Engine<P, 
           job = self.new.job;
         } }
     {
-        let Ok(()) = self.node.metrics.count_peer(&peer) else {
+        let metrics = &mut self.node.metrics;
+        let Ok(started) = count_and_start(metrics, &self.strategy, &peer, message) else {
             return Poll::Ready(Turn::Refused(Some(peer), Cause::Memory));
         };
-        match self.strategy.start(message) {
+        match started {
             Ok(job) => self.poll_job::<G>(alloc, cx, peer, job),
             Err(_) => Poll::Ready(Turn::Refused(Some(peer), Cause::Memory)),
         }
@@ -139,6 +141,30 @@ impl<P: PublicKey, M: Digestible + Codec, S, O, B, Q, T: Strategy<M>> Engine<P, 
             }
         }
     }
+}
+
+/// Counts a message of `peer` that was decoded, and then starts its job. After the outer error
+/// nothing is counted. The count of a message whose job is refused stays.
+fn count_and_start<P: PublicKey, M: Digestible, T: Strategy<M>>(
+    metrics: &mut Metrics<P>,
+    strategy: &T,
+    peer: &P,
+    message: M,
+) -> Result<Result<T::Job, AllocError>, AllocError>
+    ensures counts_one { OnOk result ((q : P) → let same = eq_by_cmp P.cmp in
+        count_of same q metrics.new.peer
+        ≡ (if same peer.now q then raised (count_of same q metrics.old.peer) 1
+        else count_of same q metrics.old.peer)) }
+    ensures totals_stay { metrics.new.totals ≡ metrics.old.totals }
+    ensures succeeds_if_counted_before { has_count (eq_by_cmp P.cmp) peer.now metrics.old.peer
+        ≡ true → IsOk result }
+    ensures unchanged_on_error { OnErr result (metrics.new ≡ metrics.old) }
+    ensures of_message { IfOk result (λ started. IfOk started (λ job. T.Job.is_of job message)) }
+{
+    let Ok(()) = metrics.count_peer(peer) else {
+        return Err(AllocError);
+    };
+    Ok(strategy.start(message))
 }
 
 /// Counts a payload of `peer` that is no message, or refuses one for which there is no memory.
