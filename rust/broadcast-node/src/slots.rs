@@ -23,19 +23,29 @@ impl<M> Slots<M> {
     }
 
     /// Makes room for one more message. Returns its handle.
+    #[inline]
     pub fn vacant(&mut self) -> Result<u64, Error> {
-        self.order.try_reserve(1)?;
-        if self.free.is_empty() {
-            self.places.try_reserve(1)?;
-            // Whatever leaves finds room among the free places.
-            self.free.try_reserve(self.places.len() + 1)?;
-            self.free.push(self.places.len());
-            self.places.push(None);
+        match self.free.last() {
+            Some(place) => Ok(*place as u64),
+            None => self.grow(),
         }
-        Ok(self.free.last().map_or(0, |place| *place as u64))
+    }
+
+    /// Adds a free place to those that are all taken. Returns its handle.
+    #[cold]
+    fn grow(&mut self) -> Result<u64, Error> {
+        let place = self.places.len();
+        self.places.try_reserve(1)?;
+        // Whatever comes finds room in the order, which has all places, and whatever leaves among the free ones.
+        self.order.try_reserve(1)?;
+        self.free.try_reserve(place + 1)?;
+        self.places.push(None);
+        self.free.push(place);
+        Ok(place as u64)
     }
 
     /// Puts the message at the place that `vacant` returned last.
+    #[inline]
     pub fn put(&mut self, digest: Digest, message: M) {
         if let Some(place) = self.free.pop()
             && let Some(slot) = self.places.get_mut(place)
@@ -46,14 +56,23 @@ impl<M> Slots<M> {
     }
 
     /// Returns the message of the handle.
+    #[inline]
     pub fn get(&self, handle: u64) -> Option<&M> {
         let slot = self.places.get(usize::try_from(handle).ok()?)?;
         slot.as_ref().map(|(_, message)| message)
     }
 
     /// Lets messages go that are not alive, until they are at most half as many as `alive`.
+    #[inline]
     pub fn settle(&mut self, alive: usize, is_alive: impl Fn(&Digest, u64) -> bool) {
         let most = alive.saturating_add(alive / 2);
+        if self.order.len() > most {
+            self.sweep(most, is_alive);
+        }
+    }
+
+    /// Lets messages go that are not alive, until there are at most `most`.
+    fn sweep(&mut self, most: usize, is_alive: impl Fn(&Digest, u64) -> bool) {
         while self.order.len() > most
             && let Some(place) = self.order.pop_front()
         {

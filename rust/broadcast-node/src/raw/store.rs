@@ -96,6 +96,7 @@ impl OwnedStore {
     }
 
     /// Returns the handle of the cached message.
+    #[inline]
     pub fn get(&self, digest: &Digest) -> Option<u64> {
         let mut handle = 0;
         // SAFETY: see above, and the field.
