@@ -283,33 +283,28 @@ impl<B: AsRef<[u8]>> Node<B> {
         payload: B,
         digest: impl FnOnce(&[u8]) -> Digest,
     ) -> Result<Received<'_, B>, Error> {
+        let charge = payload.as_ref().len();
+        let (counters, has_books) = self.books.of_mut(peer);
         let message = match wire::decode(payload.as_ref(), self.limits.max_len) {
             Ok(message) => message,
             Err(reason) => {
-                self.books.count(peer, raw::INVALID);
+                raw::broadcast_counters_count(counters, raw::INVALID);
                 return Ok(Received::Invalid(reason));
             }
         };
-        if let Some(outcome) = self.ignores(peer, payload.as_ref().len()) {
-            self.books.count(peer, outcome.code());
+        let ignored = match self.cache.waiting() {
+            0 if !has_books && !self.cache.is_primary(peer) => Some(Outcome::Ineligible),
+            0 if charge as u64 > self.limits.byte_budget => Some(Outcome::Oversize),
+            _ => None, // it may be kept, or is awaited
+        };
+        if let Some(outcome) = ignored {
+            raw::broadcast_counters_count(counters, outcome.code());
             return Ok(Received::Ignored(outcome));
         }
-        let (digest, charge) = (digest(message), payload.as_ref().len());
-        let counters = self.books.of_mut(peer);
+        let digest = digest(message);
         let taken = self.cache.receive(peer, &digest, charge, payload, counters)?;
         let (outcome, served) = (taken.outcome, taken.served);
         Ok(Received::Taken(Message { digest, outcome, served, payload: taken.message }))
-    }
-
-    /// Returns the outcome of a message that is neither kept nor awaited, whatever its digest is.
-    fn ignores(&self, peer: &Key, charge: usize) -> Option<Outcome> {
-        if self.cache.waiting() > 0 {
-            return None;
-        }
-        if !self.cache.is_primary(peer) {
-            return Some(Outcome::Ineligible);
-        }
-        (charge as u64 > self.limits.byte_budget).then_some(Outcome::Oversize)
     }
 
     /// Returns the cached message of the digest, or a ticket that waits for it.
