@@ -178,7 +178,7 @@ impl<M> Cache<M> {
     /// ```
     pub fn update_primary_peers(&mut self, keys: &[Key]) -> Result<(), Error> {
         done(self.raw.peers(keys))?;
-        self.settle(self.counts().cached);
+        self.settle(self.len());
         Ok(())
     }
 
@@ -371,6 +371,36 @@ impl<M> Cache<M> {
         removed > 0
     }
 
+    /// Returns how many messages are cached.
+    ///
+    /// ```
+    /// # use broadcast_node::{Cache, Digest, Key};
+    /// # fn main() -> Result<(), broadcast_node::Error> {
+    /// let own = Key::from([1; 32]);
+    /// let mut cache = Cache::new(own, 10, 1_000)?;
+    /// cache.update_primary_peers(&[own])?;
+    /// assert!(cache.is_empty());
+    /// cache.take_own(&Digest::from([7; 32]), 5, "hello")?;
+    /// cache.subscribe(&Digest::from([8; 32]))?;
+    /// cache.subscribe(&Digest::from([8; 32]))?;
+    /// assert_eq!((cache.len(), cache.awaited(), cache.waiting()), (1, 1, 2));
+    /// # Ok(())
+    /// # }
+    /// ```
+    pub fn len(&self) -> usize {
+        self.raw.count().cached
+    }
+
+    /// Returns whether no message is cached. Tickets may wait.
+    pub fn is_empty(&self) -> bool {
+        self.len() == 0
+    }
+
+    /// Returns how many digests are awaited. Each has at least one ticket that waits for it.
+    pub fn awaited(&self) -> usize {
+        self.raw.count().awaited
+    }
+
     /// Returns how many messages are cached, how many digests are awaited, and how many tickets wait.
     pub fn counts(&self) -> Counts {
         let raw::Counts { cached, awaited } = self.raw.count();
@@ -383,6 +413,7 @@ impl<M> Cache<M> {
     }
 
     /// Lets go of messages that the library has dropped.
+    #[inline]
     fn settle(&mut self, cached: usize) {
         let raw = &self.raw;
         self.slots.settle(cached, |digest, handle| raw.get(digest) == Some(handle));

@@ -364,6 +364,26 @@ impl<B: AsRef<[u8]>> Node<B> {
         self.books.others()
     }
 
+    /// Returns how many messages are cached.
+    pub fn len(&self) -> usize {
+        self.cache.len()
+    }
+
+    /// Returns whether no message is cached. Tickets may wait.
+    pub fn is_empty(&self) -> bool {
+        self.cache.is_empty()
+    }
+
+    /// Returns how many digests are awaited.
+    pub fn awaited(&self) -> usize {
+        self.cache.awaited()
+    }
+
+    /// Returns how many tickets wait.
+    pub fn waiting(&self) -> usize {
+        self.cache.waiting()
+    }
+
     /// Returns how many messages are cached, how many digests are awaited, and how many tickets wait.
     pub fn counts(&self) -> Counts {
         self.cache.counts()

@@ -153,6 +153,9 @@ impl Pair {
         assert_eq!(counts.cached, self.model.messages.len());
         assert_eq!(counts.awaited, self.model.awaited());
         assert_eq!(counts.waiting, self.model.waiters.len());
+        let told = (self.cache.len(), self.cache.awaited(), self.cache.waiting());
+        assert_eq!(told, (counts.cached, counts.awaited, counts.waiting));
+        assert_eq!(self.cache.is_empty(), self.model.messages.is_empty());
         assert_eq!(self.cache.list(&peer).unwrap(), self.model.list(&peer));
         let is_primary = self.model.primary.contains(&peer);
         assert_eq!(self.cache.is_primary(&peer), is_primary);
@@ -281,7 +284,7 @@ fn a_ticket_of_many_is_cancelled_at_once() -> Result<(), Error> {
     let start = Instant::now();
     assert!(waiting.iter().all(|(name, ticket)| cache.cancel(name, *ticket)));
     let time = start.elapsed();
-    assert_eq!((cache.counts().awaited, cache.waiting()), (0, 0));
+    assert_eq!((cache.awaited(), cache.waiting()), (0, 0));
     println!("{} ns each", time.as_nanos() / u128::from(DIGESTS));
     assert!(time < Duration::from_secs(10), "{time:?}");
     Ok(())

@@ -224,6 +224,8 @@ impl Pair {
         let counts = self.node.counts();
         let wanted = (self.model.messages.len(), self.model.awaited(), self.model.waiters.len());
         assert_eq!((counts.cached, counts.awaited, counts.waiting), wanted);
+        assert_eq!((self.node.len(), self.node.awaited(), self.node.waiting()), wanted);
+        assert_eq!(self.node.is_empty(), wanted.0 == 0);
     }
 }
 
@@ -290,7 +292,7 @@ fn a_message_above_the_limit_is_neither_sent_nor_taken() -> Result<(), Error> {
     assert!(
         matches!(received, Received::Invalid(Invalid::InvalidLength(len)) if len == MAX_LEN + 1)
     );
-    assert_eq!(node.counts().cached, 0);
+    assert!(node.is_empty());
     Ok(())
 }
 
@@ -319,7 +321,7 @@ fn a_node_moves_to_another_thread() -> Result<(), Error> {
     let moved = std::thread::spawn(move || (node.get(&digest) == Some(b"there"), node));
     let (is_there, node) = moved.join().unwrap();
     assert!(is_there);
-    assert_eq!(node.counts().cached, 1);
+    assert_eq!(node.len(), 1);
     Ok(())
 }
 

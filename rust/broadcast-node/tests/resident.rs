@@ -96,9 +96,9 @@ fn evicted_messages_are_given_back(before: usize) -> Result<(), Error> {
     for n in 0..MANY >> 10 {
         cache.take_own(&digest(n), 1 << 16, vec![n as u8; 1 << 16])?;
     }
-    assert_eq!(cache.counts().cached, 16);
+    assert_eq!(cache.len(), 16);
     grew(before, "evicted messages");
     cache.update_primary_peers(&[])?;
-    assert_eq!(cache.counts().cached, 0);
+    assert!(cache.is_empty());
     Ok(())
 }

@@ -167,7 +167,7 @@ fn table(load: &Load) {
     row("payload of a node", load.takes.len(), || load.node(), || load.plain_node());
     let (mut cache, mut plain) = (load.cache(), load.plain());
     let mut expert = load.expert();
-    assert_eq!(cache.counts().cached, plain.cached());
+    assert_eq!(cache.len(), plain.cached());
     assert_eq!(expert.cached(), plain.cached());
     assert!(load.payloads.iter().all(|(digest, _)| expert.get(digest) == plain.get(digest)));
     let mut random = Random(3);
