@@ -29,13 +29,23 @@ def type_of(text):
 
 
 def owner_of(header):
-    """How the prover names what an `impl` is for."""
+    """The name of the type that an `impl` is for, if its arguments are only parameters; and how the prover names both."""
     depth, at = 0, len("impl")
     while at < len(header) and (depth or header[at] in "<"):
         depth += {"<": 1, ">": -1}.get(header[at], 0)
         at += 1
     before, has_trait, after = header[at:].partition(" for ")
-    return type_of(after) + type_of(before) if has_trait else type_of(before)
+    named = type_of(after if has_trait else before)
+    return None if "+" in named else named, named + type_of(before) if has_trait else named
+
+
+def module_of(file, owner=None):
+    """The path of the module of a file, or of that of its crate in which this type is declared."""
+    declares = re.compile(rf"^(?:pub(?:\(\w+\))? )?(?:struct|enum) {owner}\b", re.M)
+    if owner and not declares.search((TOP / file).read_text()):
+        others = sorted(TOP.joinpath(*Path(file).parts[:3]).rglob("*.rt"))
+        file = next((it.relative_to(TOP) for it in others if declares.search(it.read_text())), file)
+    return [it for it in Path(file).with_suffix("").parts[3:] if it not in ("lib", "main")]
 
 
 def function_at(file, text, old):
@@ -43,11 +53,11 @@ def function_at(file, text, old):
     lines, place = text.split("\n"), text.count("\n", 0, text.index(old))
     at = max(i for i in range(place + 1) if FN.match(lines[i]))
     indent, name = FN.match(lines[at]).groups()
-    path = [it for it in Path(file).with_suffix("").parts[3:] if it not in ("lib", "main")]
-    if indent:
-        start = max(i for i in range(at) if IMPL.match(lines[i]))
-        path.append(owner_of(" ".join(lines[start:at]).partition(" {")[0].partition(" where ")[0]))
-    return "::".join([*path, name])
+    if not indent:
+        return "::".join([*module_of(file), name])
+    start = max(i for i in range(at) if IMPL.match(lines[i]))
+    owner, named = owner_of(" ".join(lines[start:at]).partition(" {")[0].partition(" where ")[0])
+    return "::".join([*module_of(file, owner), named, name])
 
 
 def functions_of(mutant):
