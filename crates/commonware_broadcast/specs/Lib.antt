@@ -14,6 +14,4 @@ pub mod Polls
 pub mod Waits
 pub mod Fresh
 pub mod Parts
-pub mod Scripts
-pub mod Recorded
 pub mod Sessions

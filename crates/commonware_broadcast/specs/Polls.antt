@@ -15,7 +15,7 @@ use Rattle.engine_io.specs.declared.requests.Requests.{Ghosts as Requests}
 use Rattle.engine_io.specs.Causes.{HasCause}
 use Rattle.engine_io.specs.Counters.{Counters}
 use Rattle.engine_io.specs.Sources.{given}
-use Rattle.commonware_broadcast.specs.declared.buffered.asleep.CannotWait.{CannotWait}
+use Rattle.engine_io.specs.declared.asleep.CannotWait.{CannotWait}
 use Rattle.commonware_broadcast.specs.EngineState.{EngineState, Moment}
 use Rattle.commonware_broadcast.specs.Interfaces.{Format, Interfaces}
 use Rattle.commonware_broadcast.specs.Order.{UnlessPeers, IfNetwork}

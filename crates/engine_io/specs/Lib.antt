@@ -9,3 +9,5 @@ pub mod Handing
 pub mod Refused
 pub mod Causes
 pub mod Heard
+pub mod Scripts
+pub mod Recorded

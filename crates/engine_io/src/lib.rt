@@ -1,23 +1,33 @@
 // SPDX-License-Identifier: Apache-2.0
-//! The interfaces of an engine: its sources and sinks, its inputs and turns, and its counters.
+//! The interfaces of an engine: its sources and sinks, its inputs, turns and counters, who sees and
+//! asks for those, and scripts and recorders for tests.
 #![tactic(auto)]
 
+pub mod asleep;
 pub mod first;
 pub mod input;
 pub mod metrics;
+pub mod mocks;
 pub mod network;
 pub mod next;
+pub mod observer;
 pub mod outlet;
 pub mod reply;
 pub mod requests;
+pub mod snapshots;
 pub mod waiter;
 
+pub use asleep::{CannotWait, Seat, block_on_asleep, may_look};
 pub use first::{First, comes_first};
 pub use input::{EndCause, Input, Turn};
 pub use metrics::{Counter, Metrics, Sequencer, Status};
 pub use network::{NetworkFailed, Provider, Receiver, Sender};
 pub use next::next_input;
+pub use observer::Observer;
+pub use observer::lines::Lines;
+pub use observer::recent::Recent;
 pub use outlet::{Direct, Outlet};
 pub use reply::{copies, respond_get, respond_subscribe, respond_waiters};
 pub use requests::Requests;
+pub use snapshots::{MetricsError, Snapshots};
 pub use waiter::Waiter;

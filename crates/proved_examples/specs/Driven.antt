@@ -14,14 +14,14 @@ use Rattle.engine_io.specs.Counters.{Counted, number_at, raised, is_counted_as}
 use Rattle.engine_io.specs.Inputs.{sets_in, requests_in, payloads_in}
 use Rattle.engine_io.specs.Replies.{reply_of}
 use Rattle.engine_io.specs.Sources.{given, given_some, given_ok}
-use Rattle.commonware_broadcast.specs.declared.mocks.outlet.RecordingOutlet.{RecordingOutlet}
-use Rattle.commonware_broadcast.specs.declared.mocks.requests.ScriptedRequests.{ScriptedRequests}
-use Rattle.commonware_broadcast.specs.declared.mocks.sender.RecordingSender.{RecordingSender}
+use Rattle.engine_io.specs.declared.mocks.outlet.RecordingOutlet.{RecordingOutlet}
+use Rattle.engine_io.specs.declared.mocks.requests.ScriptedRequests.{ScriptedRequests}
+use Rattle.engine_io.specs.declared.mocks.sender.RecordingSender.{RecordingSender}
 use Rattle.commonware_broadcast.specs.Counting.{counted}
 use Rattle.commonware_broadcast.specs.EngineHistory.{Step, happenings, inputs, turns}
 use Rattle.commonware_broadcast.specs.EngineState.{EngineState}
-use Rattle.commonware_broadcast.specs.Recorded.{reply_in}
-use Rattle.commonware_broadcast.specs.Scripts.{Scripted, values}
+use Rattle.engine_io.specs.Recorded.{reply_in}
+use Rattle.engine_io.specs.Scripts.{Scripted, values}
 use Rattle.commonware_broadcast.specs.Taken.{payload_inputs, pending_input}
 
 -- no poll of the script has given a result

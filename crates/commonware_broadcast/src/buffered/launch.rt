@@ -2,12 +2,11 @@
 use crate::buffered::config::{Config, Observed};
 use crate::buffered::engine::{Engine, StartError};
 use crate::buffered::front::MailboxEngine;
-use crate::buffered::observer::Observer;
 use crate::buffered::started::Handle;
 use broadcast_core::{Codec, Digestible, PublicKey};
 use broadcast_mailbox::buffered::Mailbox;
 use digest_strategies::{Strategy, Threaded, Work};
-use engine_io::{Provider, Receiver, Sender};
+use engine_io::{Observer, Provider, Receiver, Sender};
 use std::alloc::{AllocError, AllocGlobal};
 use std::random::RandomSource;
 use std::sync::Wait;

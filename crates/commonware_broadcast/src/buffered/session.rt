@@ -11,12 +11,11 @@ mod threads;
 
 use crate::buffered::config::Config;
 use crate::buffered::engine::StartError;
-use crate::buffered::observer::Observer;
 use broadcast_core::{Codec, Digestible, PublicKey};
 use broadcast_mailbox::buffered::{Account, Settled, Watch};
 pub use client::{Client, WatchedClient};
 use digest_strategies::Strategy;
-use engine_io::{EndCause, Metrics, Provider, Receiver, Sender};
+use engine_io::{EndCause, Metrics, Observer, Provider, Receiver, Sender};
 use std::alloc::AllocGlobal;
 use std::marker::Brand;
 use std::num::NonZeroU32;

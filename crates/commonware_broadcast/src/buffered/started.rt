@@ -1,12 +1,10 @@
 //! A started engine.
 use crate::buffered::engine::{Ready, Report, StartError, spawn};
 use crate::buffered::front::MailboxEngine;
-use crate::buffered::observer::Observer;
-use crate::buffered::snapshots::{MetricsError, Snapshots};
 use broadcast_core::{Codec, Digestible, PublicKey};
 use broadcast_mailbox::buffered::{Answering, Bookkeeping, Incoming, Ingress, Reply, Stopper};
 use digest_strategies::{Strategy, Threaded, Work};
-use engine_io::{Direct, Metrics, Provider, Receiver, Sender};
+use engine_io::{Direct, Metrics, MetricsError, Observer, Provider, Receiver, Sender, Snapshots};
 use std::alloc::{AllocError, AllocGlobal};
 use std::random::RandomSource;
 use std::sync::{Arc, Wait};

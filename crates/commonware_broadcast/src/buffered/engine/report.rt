@@ -2,12 +2,11 @@
 ghost use Rattle.std.specs.Prelude.{◌≡◌, ◌+◌, ◌↔◌, false, is_err, IfOk, IfErr};
 ghost use Rattle.broadcast_mailbox.specs.Watch.{BroadcastsOnly};
 
-use crate::buffered::asleep::CannotWait;
 use broadcast_core::{Digestible, PublicKey};
 use broadcast_mailbox::buffered::{
     Account, Books, Ingress, Message, Reply, Responder, Settled, Tally, Watch,
 };
-use engine_io::{EndCause, Metrics};
+use engine_io::{CannotWait, EndCause, Metrics};
 use std::sync::Wait;
 
 /// The report of a started engine.

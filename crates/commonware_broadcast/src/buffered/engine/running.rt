@@ -8,14 +8,14 @@ ghost use Rattle.commonware_broadcast.specs.EngineHistory.{end_told};
 ghost use Rattle.commonware_broadcast.specs.Polls.{RunsTo, ShowsPolls};
 ghost use Rattle.commonware_broadcast.specs.Interfaces.{format_of, over};
 
-use crate::buffered::asleep::{CannotWait, Seat};
 use crate::buffered::engine::state::Engine;
-use crate::buffered::observer::Observer;
-use crate::buffered::snapshots::Snapshots;
 use broadcast_core::{Codec, Digestible, PublicKey};
 use broadcast_mailbox::buffered::{Message, Reply, Responder};
 use digest_strategies::Strategy;
-use engine_io::{EndCause, Outlet, Provider, Receiver, Requests, Sender, Turn};
+use engine_io::{
+    CannotWait, EndCause, Observer, Outlet, Provider, Receiver, Requests, Seat, Sender, Snapshots,
+    Turn,
+};
 use futures::future::poll_fn;
 use futures::task::{Context, Doorbell, Poll, Queue};
 use std::alloc::{AllocGlobal, Global};

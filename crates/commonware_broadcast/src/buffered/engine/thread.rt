@@ -6,18 +6,18 @@ ghost use Rattle.commonware_broadcast.specs.Parts.{joined, ready_engine};
 ghost use Rattle.commonware_broadcast.specs.Polls.{MakesReady, ShowsPolls, ShowsRun};
 ghost use Rattle.commonware_broadcast.specs.Interfaces.{format_of, over};
 
-use crate::buffered::asleep::{CannotWait, may_look};
 use crate::buffered::engine::closed::Closed;
 use crate::buffered::engine::node::Node;
 use crate::buffered::engine::report::Report;
 use crate::buffered::engine::running::Running;
 use crate::buffered::engine::state::Engine;
-use crate::buffered::observer::Observer;
-use crate::buffered::snapshots::Snapshots;
 use broadcast_core::{Codec, Digestible, PublicKey};
 use broadcast_mailbox::buffered::{Bookkeeping, Message, Named, Reply, Responder, Stopper};
 use digest_strategies::Strategy;
-use engine_io::{EndCause, Metrics, Outlet, Provider, Receiver, Requests, Sender, Turn};
+use engine_io::{
+    CannotWait, EndCause, Metrics, Observer, Outlet, Provider, Receiver, Requests, Sender,
+    Snapshots, Turn, may_look,
+};
 use std::alloc::AllocGlobal;
 use std::random::RandomSource;
 use std::sync::{Arc, Wait};

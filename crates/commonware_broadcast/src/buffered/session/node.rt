@@ -11,14 +11,13 @@ use super::{Finished, Session};
 use crate::buffered::config::{Config, Observed};
 use crate::buffered::engine::{Engine, StartError};
 use crate::buffered::front::{WatchedEngine, WatchedNode};
-use crate::buffered::observer::Observer;
 use crate::buffered::started::{Handle, MailboxReport};
 use broadcast_core::{Codec, Digestible, PublicKey};
 use broadcast_mailbox::buffered::{
     Account, Bookkeeping, Books, Incoming, Ingress, Stopper, Tally, Watch,
 };
 use digest_strategies::Strategy;
-use engine_io::{Provider, Receiver, Sender};
+use engine_io::{Observer, Provider, Receiver, Sender};
 use std::alloc::{AllocError, AllocGlobal, Global};
 use std::num::NonZeroU32;
 use std::random::RandomSource;

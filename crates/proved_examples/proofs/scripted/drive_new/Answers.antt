@@ -7,8 +7,8 @@ use Rattle.engine_io.specs.Counters.{raised, number_at, is_counted_as}
 use Rattle.commonware_broadcast.specs.Counting.{counted}
 use Rattle.engine_io.specs.Replies.{reply_of}
 use Rattle.engine_io.specs.Sources.{given, given_some, given_ok}
-use Rattle.commonware_broadcast.specs.Recorded.{reply_in}
-use Rattle.commonware_broadcast.specs.Scripts.{HasGiven, values}
+use Rattle.engine_io.specs.Recorded.{reply_in}
+use Rattle.engine_io.specs.Scripts.{HasGiven, values}
 use Rattle.commonware_broadcast.specs.Taken.{Holds}
 use Rattle.proved_examples.proofs.Zero.{number-zero}
 use Rattle.proved_examples.proofs.scripted.drive_new.Goals as goal

@@ -38,14 +38,14 @@ pub struct CannotWait(());
 /// processor each yield gives a whole time slice away. One that finds its driver taken sleeps at
 /// once.
 #[derive(Drop)]
-pub(crate) struct Seat {
+pub struct Seat {
     queue: Queue,
 }
 
 impl Seat {
     /// Creates a queue that has room for the task of the future, so that `block_on` needs no
     /// memory.
-    pub(crate) fn new<R: RandomSource + AllocGlobal>(rt: &R) -> Result<Self, CannotWait> {
+    pub fn new<R: RandomSource + AllocGlobal>(rt: &R) -> Result<Self, CannotWait> {
         match Self::with_room(rt) {
             Ok(seat) => Ok(seat),
             Err(_) => Err(CannotWait(())),
@@ -68,7 +68,7 @@ impl Seat {
     }
 
     /// Polls `future` on this thread until it is ready.
-    pub(crate) fn block_on<R: Wait, F: Future>(self, rt: &R, future: F) -> F::Output
+    pub fn block_on<R: Wait, F: Future>(self, rt: &R, future: F) -> F::Output
         requires { F.can_poll future }
         ensures { F.gives future result }
     {
@@ -89,7 +89,7 @@ impl Seat {
 
 /// Returns whether threads may look before they sleep: more than one processor may be used, so
 /// another thread may run meanwhile.
-pub(crate) fn may_look(rt: &impl Threads) -> bool {
+pub fn may_look(rt: &impl Threads) -> bool {
     match available_parallelism(rt) {
         Ok(processors) => processors.get() > 1,
         Err(_) => false,
@@ -97,7 +97,7 @@ pub(crate) fn may_look(rt: &impl Threads) -> bool {
 }
 
 /// Polls `future` on this thread until it is ready. The thread sleeps while it is pending.
-pub(crate) fn block_on_asleep<R, F>(rt: &R, future: F) -> Result<F::Output, CannotWait>
+pub fn block_on_asleep<R, F>(rt: &R, future: F) -> Result<F::Output, CannotWait>
 where
     R: Wait + RandomSource + AllocGlobal,
     F: Future,

@@ -1,7 +1,7 @@
 -- Believed.
 -- The replies that an outlet records.
-use Rattle.commonware_broadcast.specs.declared.mocks.outlet.Replied.TheVariants as mocks
-use Rattle.commonware_broadcast.specs.declared.mocks.outlet.Replied.{Replied as Recorded}
+use Rattle.engine_io.specs.declared.mocks.outlet.Replied.TheVariants as mocks
+use Rattle.engine_io.specs.declared.mocks.outlet.Replied.{Replied as Recorded}
 use Rattle.engine_io.specs.Replies.{Replied, subscribed, got}
 
 -- the reply that a record is of

@@ -5,7 +5,7 @@ ghost use Rattle.engine_io.specs.declared.input.Turn.{Turn};
 pub mod lines;
 pub mod recent;
 
-use engine_io::Turn;
+use crate::input::Turn;
 
 /// Sees the turns of a started engine, in the thread of the engine.
 pub trait Observer<P, D> {

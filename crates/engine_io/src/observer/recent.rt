@@ -3,8 +3,8 @@ ghost use Rattle.std.specs.Prelude.{◌≡◌, ◌+◌, ◌-◌, ◌≤◌, [], 
 ghost use Rattle.std.specs.VecDeque.{deque_len, deque_capacity};
 
 use super::Observer;
+use crate::input::Turn;
 use broadcast_core::PublicKey;
-use engine_io::Turn;
 use std::alloc::{AllocError, Global};
 use std::collections::VecDeque;
 

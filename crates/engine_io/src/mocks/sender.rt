@@ -2,7 +2,7 @@
 ghost use Rattle.std.specs.Prelude.{◌≡◌, List, [], ◌∷◌, ◌++◌, false};
 ghost use Rattle.broadcast_core.specs.declared.event.Sent.{Sent};
 
-use crate::buffered::Sender;
+use crate::network::Sender;
 use broadcast_core::{Items, Recipients, Sent};
 use std::alloc::Global;
 

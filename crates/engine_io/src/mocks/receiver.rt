@@ -1,10 +1,10 @@
 //! A script of payloads.
 ghost use Rattle.std.specs.Prelude.{◌≡◌};
-ghost use Rattle.commonware_broadcast.specs.Scripts.{HasGiven, IsQuiet, next_of};
+ghost use Rattle.engine_io.specs.Scripts.{HasGiven, IsQuiet, next_of};
 ghost use Rattle.engine_io.specs.Sources.{given_ok, IsFailure};
 
 use super::script::Script;
-use crate::buffered::{NetworkFailed, Receiver};
+use crate::network::{NetworkFailed, Receiver};
 use broadcast_core::Items;
 use futures::task::{Context, Poll};
 

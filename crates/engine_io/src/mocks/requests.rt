@@ -1,12 +1,13 @@
 //! A script of requests.
 ghost use Rattle.std.specs.Prelude.{◌≡◌, List, Some, true, false};
 ghost use Rattle.futures.specs.Task.{IsArmed, Keeps};
-ghost use Rattle.commonware_broadcast.specs.Scripts.{HasGiven, IsQuiet};
+ghost use Rattle.engine_io.specs.Scripts.{HasGiven, IsQuiet};
 ghost use Rattle.engine_io.specs.Sources.{given};
 ghost use Rattle.broadcast_mailbox.specs.declared.buffered.ingress.request.Request.{Request as Asked};
 
 use super::script::Script;
-use crate::buffered::{Awaits, Request, Requests};
+use crate::requests::Requests;
+use broadcast_mailbox::buffered::{Awaits, Request};
 use futures::task::{Context, Poll, Source, Waker};
 
 /// Gives the requests of a script, until the engine is to stop.

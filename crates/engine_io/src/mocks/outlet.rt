@@ -1,8 +1,9 @@
 //! An outlet that records.
 ghost use Rattle.std.specs.Prelude.{◌≡◌, ◌++◌, ◌∷◌, [], map, false};
-ghost use Rattle.commonware_broadcast.specs.Recorded.{reply_in};
+ghost use Rattle.engine_io.specs.Recorded.{reply_in};
 
-use crate::buffered::{Outlet, Responder};
+use crate::outlet::Outlet;
+use broadcast_mailbox::buffered::Responder;
 use std::alloc::Global;
 
 /// A reply with its request.

@@ -2,8 +2,8 @@
 ghost use Rattle.std.specs.Prelude.{◌≡◌, None};
 
 use super::Observer;
+use crate::input::{EndCause, Turn};
 use broadcast_core::{Cause, Outcome};
-use engine_io::{EndCause, Turn};
 use std::fmt;
 use std::io::{self, Write};
 

@@ -2,7 +2,7 @@
 ghost use Rattle.std.specs.Prelude.{◌≡◌, ◌==◌, length};
 ghost use Rattle.futures.specs.Poll.{OnPending};
 ghost use Rattle.futures.specs.Task.{IsArmed, Keeps};
-ghost use Rattle.commonware_broadcast.specs.Scripts.{next_of, after_next};
+ghost use Rattle.engine_io.specs.Scripts.{next_of, after_next};
 
 use futures::task::{Context, Poll, Source, Waker};
 use std::collections::VecDeque;
@@ -23,7 +23,7 @@ pub struct Script<A> {
 }
 
 impl<A> Model for Script<A> {
-    ghost use Rattle.commonware_broadcast.specs.Scripts.{Scripted};
+    ghost use Rattle.engine_io.specs.Scripts.{Scripted};
 
     ghost Value = { Scripted A };
 

@@ -4,9 +4,9 @@ ghost use Rattle.std.specs.Ordering.{eq_by_cmp};
 ghost use Rattle.futures.specs.Task.{IsArmed, Keeps};
 ghost use Rattle.engine_io.specs.Counters.{IsCopy};
 
-use crate::buffered::asleep::block_on_asleep;
+use crate::asleep::block_on_asleep;
+use crate::metrics::Metrics;
 use broadcast_core::PublicKey;
-use engine_io::Metrics;
 use futures::channel::oneshot::{self, Canceled, Sender};
 use futures::task::{Context, Poll, Source, Waker};
 use std::alloc::{AllocError, AllocGlobal, Global};
@@ -138,12 +138,12 @@ impl<P: PublicKey> Snapshots<P> {
     }
 
     /// Lets the thread of the engine look for callers, and register, at its next poll.
-    pub(crate) fn look_again(&self) {
+    pub fn look_again(&self) {
         self.is_asked.store(true, Ordering::SeqCst);
     }
 
     /// Hands a copy of the counters to all who asked, if somebody did since the last time.
-    pub(crate) fn answer_asked(
+    pub fn answer_asked(
         &self,
         rt: &impl Wait,
         alloc: Global,
@@ -159,13 +159,7 @@ impl<P: PublicKey> Snapshots<P> {
 
     /// Hands a copy of the counters to all who ask for them. The thread is woken once another one
     /// asks.
-    pub(crate) fn answer(
-        &self,
-        rt: &impl Wait,
-        alloc: Global,
-        metrics: &Metrics<P>,
-        cx: &mut Context<'_>,
-    )
+    pub fn answer(&self, rt: &impl Wait, alloc: Global, metrics: &Metrics<P>, cx: &mut Context<'_>)
         ensures armed { IsArmed cx.new }
         ensures kept { Keeps cx.old cx.new }
     {
@@ -177,7 +171,7 @@ impl<P: PublicKey> Snapshots<P> {
     }
 
     /// Tells callers that the engine has ended: those who ask, and those who will.
-    pub(crate) fn end(&self, rt: &impl Wait, alloc: Global) {
+    pub fn end(&self, rt: &impl Wait, alloc: Global) {
         self.has_ended.store(true, Ordering::SeqCst);
         let asking = mem::replace(&mut *self.asking.lock(rt), Asking::new(alloc));
         drop::<_>(asking);

@@ -1,11 +1,11 @@
 //! A script of peer sets.
 ghost use Rattle.std.specs.Prelude.{◌≡◌, None};
 ghost use Rattle.futures.specs.declared.task.Poll.TheVariants.{Ready};
-ghost use Rattle.commonware_broadcast.specs.Scripts.{HasGiven, IsQuiet, next_of};
+ghost use Rattle.engine_io.specs.Scripts.{HasGiven, IsQuiet, next_of};
 ghost use Rattle.engine_io.specs.Sources.{given_some};
 
 use super::script::Script;
-use crate::buffered::Provider;
+use crate::network::Provider;
 use broadcast_core::{PublicKey, Set};
 use futures::task::{Context, Poll};
 
