@@ -33,7 +33,7 @@ extern "C" {
 /* The version of these functions. It changes whenever one of them does, so a caller compares it with
  * `broadcast_c_version()` once. */
 enum {
-    BROADCAST_VERSION = 4
+    BROADCAST_VERSION = 5
 };
 
 /* The status that a call returns. After any other than OK and WAITS the cache, node or store is as it
@@ -105,7 +105,7 @@ typedef struct {
 
 typedef struct {
     uint32_t outcome;
-    bool kept;     /* whether it was inserted, and the cached handle of its digest is this one */
+    bool kept;     /* whether it is cached, and no message of its digest was */
     size_t served; /* how many tickets `broadcast_store_served` copies */
     size_t cached; /* cached messages */
 } broadcast_stored;

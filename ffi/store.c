@@ -65,9 +65,10 @@ static void is_cleaned_up_by_digest(void)
     must(removed == 1);
 }
 
+/* A message of a digest that is cached is not kept, also one of the same handle. */
 static void tells_outcomes(void)
 {
-    broadcast_stored stored = take(&own, digest, 50, 701);
+    broadcast_stored stored = take(&own, digest, 50, 700);
     must(stored.outcome == BROADCAST_INSERTED && !stored.kept && stored.cached == 1);
     stored = take(&own, digest, 50, 702);
     must(stored.outcome == BROADCAST_DUPLICATE && !stored.kept);

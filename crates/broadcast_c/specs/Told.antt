@@ -13,7 +13,7 @@ use Rattle.broadcast_core.specs.declared.ordered.Recipients.TheVariants as recip
 use Rattle.broadcast_core.specs.declared.outcome.Outcome.{Outcome}
 use Rattle.byte_cache.specs.Changes.{TakesBytes, message_of, served_of}
 use Rattle.byte_cache.specs.declared.cache.Cache.{Cache}
-use Rattle.byte_cache.specs.Held.{TakesHandle, handle_at, is_new}
+use Rattle.byte_cache.specs.Held.{TakesHandle, enters}
 use Rattle.byte_cache.specs.declared.name.Name.{Name}
 use Rattle.byte_cache.specs.declared.node.Node.{Node}
 use Rattle.byte_cache.specs.declared.store.Store.{Store}
@@ -113,12 +113,12 @@ pub record IsPacket (sent : Sent Key) (keys_old keys_new : List Key) (keys_neede
   pub status_told : status ≡ (if of_keys == 0 then of_bytes else of_keys)
 
 -- the message of the handle was taken, and the caller is told the outcome, the number of tickets
--- served, whether it was inserted and the store keeps its handle, and the number of cached messages
+-- served, whether its message is cached and none of its digest was, and the number of cached messages
 pub record TellsStoring (same : Same Name (List ℕ)) (peer : Name) (digest : List ℕ)
     (charge handle : ℕ) (old new : Store) (told : Stored) : Type 0 where
   pub was : Outcome
   pub taken : TakesHandle same peer digest charge handle old new was
   pub outcome_told : told.outcome ≡ outcome_code was
   pub served_told : told.served ≡ length new.served
-  pub kept_told : told.kept ≡ is_new was handle (handle_at same new.core digest)
+  pub kept_told : told.kept ≡ enters same digest old new
   pub cached_told : told.cached ≡ length new.core.cached

@@ -7,7 +7,7 @@ use broadcast_core::{Answer, Outcome};
 use byte_cache::Blob;
 
 /// The version of these functions. It changes whenever one of them does.
-pub const VERSION: u32 = 4;
+pub const VERSION: u32 = 5;
 
 /// Returns the version of these functions.
 #[unsafe(no_mangle)]

@@ -23,7 +23,7 @@ use std::alloc::{AllocError, Global};
 pub struct Stored {
     /// The number of the outcome.
     pub outcome: u32,
-    /// Whether the message was inserted, and the cached handle of its digest is this one.
+    /// Whether the message is cached, and none of its digest was.
     pub kept: bool,
     /// The number of tickets that were served.
     pub served: usize,

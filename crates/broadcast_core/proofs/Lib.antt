@@ -8,6 +8,7 @@ pub mod WaitersLemmas
 pub mod Cleaning
 pub mod CleaningAt
 pub mod Taking
+pub mod Entering
 pub mod Placing
 pub mod Numbering
 pub mod Indexing

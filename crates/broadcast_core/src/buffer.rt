@@ -1,7 +1,7 @@
 //! The cache of a node and the waiters for its messages.
 //!
 //! A call whose result has no `AllocError` does not allocate.
-ghost use Rattle.std.specs.Prelude.{◌≡◌, ◌≤◌, true, false, [], length, is_some, IsSome, IfOk, IfSome, IfErr, IsOk};
+ghost use Rattle.std.specs.Prelude.{◌≡◌, ◌≤◌, ◌&&◌, true, false, not, [], length, is_some, IsSome, IfOk, IfSome, IfErr, IsOk, OnOk, OnErr};
 ghost use Rattle.std.specs.List.{All, IsDistinct, count_by};
 ghost use Rattle.std.specs.Map.{keys_of};
 ghost use Rattle.std.specs.Option.{option_copied, option_map};
@@ -193,7 +193,28 @@ impl<P: PublicKey, M: Digestible, W: Drop> Core<P, M, W> {
         ensures { IsTaken (same_by P.cmp M.Digest.cmp) peer.now message.now
             (option_map length (M.encoding message.now.message)) self.old self.new result }
     {
-        self.state.take(peer, message)
+        self.state.take(peer, message, &mut false)
+    }
+
+    /// Takes `message` under the key `peer`, as [`Core::take`] does, and sets `entered` to whether
+    /// it is cached and no message of its digest was.
+    pub fn take_telling(
+        &mut self,
+        peer: &P,
+        message: &Digested<M>,
+        entered: &mut bool,
+    ) -> Result<Taken<W>, AllocError>
+    where
+        M: EncodeSize,
+        ensures taken { IsTaken (same_by P.cmp M.Digest.cmp) peer.now message.now
+            (option_map length (M.encoding message.now.message)) self.old self.new result }
+        ensures entered { let same = same_by P.cmp M.Digest.cmp in
+            let d = message.now.digest in
+            OnOk result (entered.new ≡ (not (is_some (message_at same self.old d))
+            && is_some (message_at same self.new d))) }
+        ensures unentered { OnErr result (entered.new ≡ entered.old) }
+    {
+        self.state.take(peer, message, entered)
     }
 
     /// Takes `message` under the own key, as [`Core::take`] does.
@@ -204,7 +225,7 @@ impl<P: PublicKey, M: Digestible, W: Drop> Core<P, M, W> {
             (option_map length (M.encoding message.now.message)) self.old self.new result }
     {
         let Core { own, state } = self;
-        state.take(own, message)
+        state.take(own, message, &mut false)
     }
 
     /// Returns `waiter` with the cached message of `digest`, or puts it behind the other waiters of

@@ -1,13 +1,12 @@
 -- Believed.
 -- How the calls of a store change it.
-use Rattle.std.specs.Prelude.{◌≡◌, ℕ, ◌==◌, Bool, false, List, Ok, Option, Some}
+use Rattle.std.specs.Prelude.{◌≡◌, ℕ, ◌&&◌, Bool, not, List, Ok, Option, Some, is_some}
 use Rattle.std.specs.List.{list_any}
 use Rattle.std.specs.Option.{option_map}
 use Rattle.broadcast_core.specs.Carried.{Carried}
 use Rattle.broadcast_core.specs.Content.{Content, Same, message_at}
 use Rattle.broadcast_core.specs.Changes.{IsTaken}
 use Rattle.broadcast_core.specs.declared.outcome.Outcome.{Outcome}
-use Rattle.broadcast_core.specs.declared.outcome.Outcome.TheVariants.{Inserted}
 use Rattle.byte_cache.specs.declared.held.Held.{Held}
 use Rattle.byte_cache.specs.declared.name.Name.{Name}
 use Rattle.byte_cache.specs.declared.store.Store.{Store}
@@ -34,7 +33,7 @@ TakesHandle same peer digest charge handle old new outcome =
 abbrev pub handle_at : Same Name (List ℕ) → Content Name Held (List ℕ) ℕ → List ℕ → Option ℕ
 handle_at same core digest = option_map (λ x. x.message.handle) (message_at same core digest)
 
--- whether the message was inserted, and the cached handle is this one
-abbrev pub is_new : Outcome → ℕ → Option ℕ → Bool
-is_new Inserted handle (Some cached) = cached == handle
-is_new _ handle cached = false
+-- whether a message of the digest is cached, and none was
+abbrev pub enters : Same Name (List ℕ) → List ℕ → Store → Store → Bool
+enters same digest old new = not (is_some (message_at same old.core digest))
+    && is_some (message_at same new.core digest)

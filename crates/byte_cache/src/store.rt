@@ -5,7 +5,7 @@ ghost use Rattle.std.specs.List.{count_by};
 ghost use Rattle.broadcast_core.specs.Content.{same_by, has_primary, message_at, waiting_at};
 ghost use Rattle.broadcast_core.specs.Changes.{TakesPeers, Cleans, CleansAt, Awaits};
 ghost use Rattle.broadcast_core.specs.Waiters.{is_gone, gone_from, counted};
-ghost use Rattle.byte_cache.specs.Held.{HaveSameNames, TakesHandle, handle_at, is_new};
+ghost use Rattle.byte_cache.specs.Held.{HaveSameNames, TakesHandle, handle_at, enters};
 
 use crate::held::Held;
 use crate::name::Name;
@@ -58,8 +58,7 @@ impl Store {
     }
 
     /// Takes the message of the handle under the key `peer`, by the digest, at this charge. Returns
-    /// the outcome, and whether the handle is now that of a cached message and the outcome is
-    /// `Inserted`.
+    /// the outcome, and whether the message is now cached and none of its digest was.
     pub fn take(
         &mut self,
         alloc: Global,
@@ -72,8 +71,7 @@ impl Store {
             IfOk result (λ taken. TakesHandle same peer.now digest charge handle
             self.old self.new taken.0) }
         ensures kept { let same = same_by ⟦<Name as Ord>⟧.cmp ⟦<Digest as Ord>⟧.cmp in
-            IfOk result (λ taken. taken.1
-            ≡ is_new taken.0 handle (handle_at same self.new.core digest)) }
+            IfOk result (λ taken. taken.1 ≡ enters same digest self.old self.new) }
         ensures refused { OnErr result (self.new ≡ self.old) }
     {
         let held = Held {
@@ -82,12 +80,9 @@ impl Store {
             digest,
         };
         let message = Digested::precomputed(alloc, held, digest)?;
-        let taken = self.core.take(peer, &message)?;
+        let mut kept = false;
+        let taken = self.core.take_telling(peer, &message, &mut kept)?;
         self.served = taken.served;
-        let kept = match taken.outcome {
-            Outcome::Inserted => self.handle(&digest) == Some(handle),
-            _ => false,
-        };
         Ok((taken.outcome, kept))
     }
 

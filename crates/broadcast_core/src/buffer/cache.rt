@@ -1,5 +1,5 @@
 //! The lists of the peers, and each listed message once.
-ghost use Rattle.std.specs.Prelude.{◌≡◌, ◌≤◌, ◌∷◌, false, true, length, [], None};
+ghost use Rattle.std.specs.Prelude.{◌≡◌, ◌≤◌, ◌<◌, ◌∷◌, false, true, length, [], None};
 ghost use Rattle.std.specs.Prelude.{is_some, IfOk, IfSome, OnOk, OnErr, IsOk, MatchBool};
 ghost use Rattle.std.specs.Option.{option_copied};
 ghost use Rattle.std.specs.List.{IsDistinct, list_any};
@@ -90,6 +90,10 @@ impl<P: PublicKey, M: Digestible> Cache<P, M> {
             true (has_digest same.digest message.now.digest cs)) }
         ensures cached { IfOk result (λ taken. taken.1 ≡ true → is_some (lookup
             (eq_by_cmp M.Digest.cmp message.now.digest) self.old.messages) ≡ true) }
+        ensures known { IfOk result (λ taken. taken.0 ≡ Outcome.Inserted → 0 < deque_size
+            → taken.1 ≡ is_some (lookup (eq_by_cmp M.Digest.cmp message.now.digest)
+            self.old.messages)) }
+        ensures stays_at_size_zero { deque_size ≡ 0 → self.new ≡ self.old }
         ensures ok { let same = same_by P.cmp M.Digest.cmp in
             let cs = items_at same.key peer.now self.old.lists in
             let c = at_charge message.now.digest charge in
@@ -130,6 +134,8 @@ impl<P: PublicKey, M: Digestible> Cache<P, M> {
         ensures outcome { IfOk result (λ taken. taken.0 ≡ outcome_of true true false) }
         ensures cached { IfOk result (λ taken. taken.1 ≡ true → is_some (lookup
             (eq_by_cmp M.Digest.cmp message.now.digest) self.old.messages) ≡ true) }
+        ensures known { 0 < deque_size → IfOk result (λ taken. taken.1 ≡ is_some (lookup
+            (eq_by_cmp M.Digest.cmp message.now.digest) self.old.messages)) }
         ensures ok { let same = same_by P.cmp M.Digest.cmp in
             let c = at_charge message.now.digest charge in
             OnOk result (Stores same peer.now message.now

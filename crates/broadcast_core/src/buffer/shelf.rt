@@ -110,6 +110,9 @@ impl<M: Digestible> Shelf<M> {
             ≡ outcome_of true true (has_digest same.digest message.now.digest cs)) }
         ensures cached { IfOk result (λ taken. taken.1 ≡ true → is_some (lookup
             (eq_by_cmp M.Digest.cmp message.now.digest) self.old.messages) ≡ true) }
+        ensures known { 0 < deque_size → IfOk result (λ taken. taken.1 ≡ is_some (lookup
+            (eq_by_cmp M.Digest.cmp message.now.digest) self.old.messages)) }
+        ensures stays_at_size_zero { deque_size ≡ 0 → self.new ≡ self.old }
         ensures ok { let same = same_listed M.Digest.cmp in
             let cs = items_at same.key list self.old.lists in
             let c = at_charge message.now.digest charge in

@@ -1,5 +1,5 @@
 //! The state of a core, but for its own key.
-ghost use Rattle.std.specs.Prelude.{◌≡◌, ◌≤◌, true, false, length, is_some, IfOk, OnOk, OnErr, IsOk, MatchBool};
+ghost use Rattle.std.specs.Prelude.{◌≡◌, ◌≤◌, ◌<◌, ◌&&◌, not, true, false, length, is_some, IfOk, OnOk, OnErr, IsOk, MatchBool};
 ghost use Rattle.std.specs.Option.{option_map};
 ghost use Rattle.std.specs.List.{list_any};
 ghost use Rattle.std.specs.Map.{lookup};
@@ -52,13 +52,25 @@ impl<P: PublicKey, M: Digestible, W> Model for State<P, M, W> {
 }
 
 impl<P: PublicKey, M: Digestible, W: Drop> State<P, M, W> {
-    /// Takes the message under the key, and takes out the waiters of its digest.
-    pub fn take(&mut self, peer: &P, message: &Digested<M>) -> Result<Taken<W>, AllocError>
+    /// Takes the message under the key, and takes out the waiters of its digest. On success, sets
+    /// `entered` to whether the message is cached and none of its digest was.
+    pub fn take(
+        &mut self,
+        peer: &P,
+        message: &Digested<M>,
+        entered: &mut bool,
+    ) -> Result<Taken<W>, AllocError>
     where
         M: EncodeSize,
-        ensures { (own : P) → IsTaken (same_by P.cmp M.Digest.cmp) peer.now message.now
+        ensures taken { (own : P) → IsTaken (same_by P.cmp M.Digest.cmp) peer.now message.now
             (option_map length (M.encoding message.now.message))
             (with_own own self.old) (with_own own self.new) result }
+        ensures entered { let same = same_by P.cmp M.Digest.cmp in
+            let d = message.now.digest in
+            OnOk result (entered.new ≡ (not (is_some (lookup (same.digest d)
+            self.old.stored.messages)) && is_some (lookup (same.digest d)
+            self.new.stored.messages))) }
+        ensures unentered { OnErr result (entered.new ≡ entered.old) }
     {
         let (outcome, was_cached) = store(
             &self.primary,
@@ -68,6 +80,7 @@ impl<P: PublicKey, M: Digestible, W: Drop> State<P, M, W> {
             peer,
             message,
         )?;
+        *entered = enters(outcome, self.deque_size, was_cached);
         // A cached digest has no waiters.
         let served = self.waiters.take(&message.digest(), was_cached);
         Ok(Taken { outcome, served })
@@ -96,6 +109,10 @@ fn store<P: PublicKey, M: Digestible + EncodeSize>(
         (has_digest same.digest message.now.digest cs)) }
     ensures cached { IfOk result (λ taken. taken.1 ≡ true → is_some (lookup
         (eq_by_cmp M.Digest.cmp message.now.digest) cache.old.messages) ≡ true) }
+    ensures known { IfOk result (λ taken. taken.0 ≡ Outcome.Inserted → 0 < deque_size
+        → taken.1 ≡ is_some (lookup (eq_by_cmp M.Digest.cmp message.now.digest)
+        cache.old.messages)) }
+    ensures stays_at_size_zero { deque_size ≡ 0 → cache.new ≡ cache.old }
     ensures ok { let same = same_by P.cmp M.Digest.cmp in
         let charge = option_map length (M.encoding message.now.message) in
         OnOk result (MatchBool (list_any (same.key peer.now) primary.now)
@@ -115,6 +132,19 @@ fn store<P: PublicKey, M: Digestible + EncodeSize>(
         Some(charge) => cache.take(primary, peer, message, charge, deque_size, byte_budget),
         None if primary.position(peer).is_none() => Ok((Outcome::Ineligible, false)),
         None => Ok((Outcome::Oversize, false)),
+    }
+}
+
+/// Returns whether a message with this outcome is cached, where none of its digest was.
+fn enters(outcome: Outcome, deque_size: usize, was_cached: bool) -> bool
+    ensures yes { result ≡ true
+        → (outcome ≡ Outcome.Inserted) × (0 < deque_size) × (was_cached ≡ false) }
+    ensures no { result ≡ false → outcome ≡ Outcome.Inserted → 0 < deque_size
+        → was_cached ≡ true }
+{
+    match outcome {
+        Outcome::Inserted => { if deque_size == 0 { false } else { !was_cached } }
+        _ => false,
     }
 }
 

@@ -4,6 +4,7 @@ use Rattle.broadcast_core.specs.Content.{same_by, items_at, outcome_of}
 use Rattle.std.specs.Option.{option_map}
 use Rattle.std.specs.Prelude.{length}
 use Rattle.broadcast_core.proofs.Taking.{among-names, IsCore-taken, Takes-taken}
+use Rattle.broadcast_core.proofs.Entering.{entered-is}
 use Rattle.broadcast_core.proofs.buffer.state.State.take.Goals as goal
 
 pub take-served-requires : goal.take-served-requires
@@ -18,8 +19,8 @@ invariant_of-self-2 g c =
     IsCore-taken same key_laws c.self.inside.deque_size c.self.inside.byte_budget laws c.args.peer.now c.args.message.now c.self.inside.primary c.self.inside.cache c.store.new.cache
     c.self.inside.waiters c.take-served.new.self c.self.invariant waits (option_map length (g.M.Write.encoding c.args.message.now.message)) _ refl c.in_ok-outcome.ensures.ok
 
-pub returns : goal.returns
-returns g c = λ own.
+pub returns-clause-taken : goal.returns-clause-taken
+returns-clause-taken g c = λ own.
     let same = same_by g.P.Ord.cmp g.M.Digest.Ord.cmp in
     let key_laws = eq_by_cmp_equiv g.met.P.Ord.total in
     let laws = eq_by_cmp_equiv (g.met.M.Digest.Ord g.world.𝓛 g.world.𝓜 g.world.𝓡 (λ s x. x, λ x. x, λ x. x, λ x. x)).total in
@@ -35,3 +36,12 @@ returns g c = λ own.
       succeeds_on_oversize = λ _. refl;
       succeeds_at_size_zero = λ _. refl;
     })
+
+pub returns-clause-entered : goal.returns-clause-entered
+returns-clause-entered g c =
+    let same = same_by g.P.Ord.cmp g.M.Digest.Ord.cmp in
+    let key_laws = eq_by_cmp_equiv g.met.P.Ord.total in
+    let laws = eq_by_cmp_equiv (g.met.M.Digest.Ord g.world.𝓛 g.world.𝓜 g.world.𝓡 (λ s x. x, λ x. x, λ x. x, λ x. x)).total in
+    rw (← c.self.view_is) (entered-is same key_laws laws c.self.inside.byte_budget c.args.peer.now c.args.message.now c.self.inside.primary c.self.inside.cache c.store.new.cache
+    c.self.invariant (option_map length (g.M.Write.encoding c.args.message.now.message)) _ _ _ (record { yes = c.enters.ensures.yes; no = c.enters.ensures.no })
+    c.in_ok-outcome.ensures.known c.store.ensures.stays_at_size_zero _ c.in_ok-outcome.ensures.outcome c.in_ok-outcome.ensures.ok)
