@@ -81,7 +81,7 @@ where
 /// Starts a node that has no other peers.
 fn start_alone<R>(rt: &R) -> Result<Started<TestMessage, R>, Fault>
 where
-    R: Threads + Wait + RandomSource + AllocGlobal + Clone + Send + Sync + Drop + 'static,
+    R: Threads + Wait + Clock + RandomSource + AllocGlobal + Clone + Send + Sync + Drop + 'static,
 {
     let network = Network::new(rt, &keys_of(rt.alloc(), 1)?)?;
     let ends = join(rt, &network, &key_of(1))?;
@@ -157,7 +157,7 @@ fn run_clients<R>(
     mailbox: &Mailbox<Key, TestMessage, R>,
 ) -> Answered
 where
-    R: Threads + Wait + RandomSource + AllocGlobal + Clone + Send + Sync + Drop + 'static,
+    R: Threads + Wait + Clock + RandomSource + AllocGlobal + Clone + Send + Sync + Drop + 'static,
 {
     let failed = Arc::new(rt.alloc(), AtomicBool::new(false))?;
     let mut clients = Vec::new(rt.alloc());
@@ -180,7 +180,7 @@ fn start_clients<R>(
     clients: &mut Vec<JoinHandle<Answered>>,
 ) -> Result<(), Fault>
 where
-    R: Threads + Wait + RandomSource + AllocGlobal + Clone + Send + Sync + Drop + 'static,
+    R: Threads + Wait + Clock + RandomSource + AllocGlobal + Clone + Send + Sync + Drop + 'static,
 {
     for _ in 0..rate.clients {
         clients.reserve(1)?;
@@ -199,7 +199,7 @@ where
 /// Starts a client.
 fn start_client<R>(rt: &R, client: GetClient<R>) -> Result<JoinHandle<Answered>, Fault>
 where
-    R: Threads + Wait + RandomSource + AllocGlobal + Clone + Send + Sync + Drop + 'static,
+    R: Threads + Wait + Clock + RandomSource + AllocGlobal + Clone + Send + Sync + Drop + 'static,
 {
     match thread::spawn(rt, move || client.run()) {
         Ok(thread) => Ok(thread),

@@ -16,6 +16,7 @@ use std::random::RandomSource;
 use std::sync::Wait;
 use std::sync::ledger::Blank;
 use std::thread::Threads;
+use std::time::Clock;
 
 /// A started node: the handle of its engine, and the mailbox of its callers.
 pub type Started<M, R, A = ()> = (Handle<Key, M, R, A>, Mailbox<Key, M, R, A>);
@@ -85,7 +86,7 @@ where
     M::Cfg: Send + Drop + 'static,
     T: Strategy<M> + Send + Drop + 'static,
     T::Job: Send + 'static,
-    R: Threads + Wait + RandomSource + AllocGlobal + Clone + Send + Sync + Drop + 'static,
+    R: Threads + Wait + Clock + RandomSource + AllocGlobal + Clone + Send + Sync + Drop + 'static,
     A: Account + Send + Sync + 'static,
     K: Account + Send + Sync + 'static,
     requires accepted { (accepted.name ≡ A.name) × (accepted.parts ≡ A.parts) }

@@ -11,6 +11,7 @@ use broadcast_core::{Digestible, PublicKey};
 use broadcast_mailbox::buffered::{Awaits, Bookkeeping, Incoming, Ingress, Request};
 use futures::task::{Context, Poll};
 use std::sync::Wait;
+use std::time::Clock;
 
 /// Gives requests, and the order to stop.
 pub trait Requests<T: Awaits> {
@@ -66,7 +67,7 @@ pub trait Requests<T: Awaits> {
     /// Looks for some microseconds whether a request or the order to stop came since the last poll
     /// for a request. Returns whether one may have come. A source that does not tell returns at
     /// once.
-    fn look(&self) -> bool {
+    fn look<C: Clock>(&self, _clock: &C) -> bool {
         false
     }
 
@@ -121,8 +122,8 @@ where
         self.poll_request(cx)
     }
 
-    fn look(&self) -> bool {
-        Ingress::look(self)
+    fn look<C: Clock>(&self, clock: &C) -> bool {
+        Ingress::look(self, clock)
     }
 
     /// Takes the digests of which a subscription was dropped since the last call.

@@ -9,6 +9,7 @@ use std::random::RandomSource;
 use std::sync::Wait;
 use std::test::Fail;
 use std::thread::Threads;
+use std::time::Clock;
 
 /// Letters that are broadcast, and how many subscriptions and gets of the letters 1 and 2 give a
 /// message then.
@@ -79,7 +80,7 @@ impl Asked {
 /// and what was asked afterwards.
 fn ask<R>(rt: &R, known: &[u8]) -> Result<(Asked, Asked), Fail>
 where
-    R: Threads + Wait + RandomSource + AllocGlobal + Clone + Send + Sync + Drop + 'static,
+    R: Threads + Wait + Clock + RandomSource + AllocGlobal + Clone + Send + Sync + Drop + 'static,
 {
     let node = start(rt, Sequential)?;
     let mailbox = node.mailbox.clone()?;
@@ -99,7 +100,7 @@ where
 /// Returns what was counted of requests before the stop and after it.
 fn counts<R>(rt: &R, known: &[u8]) -> Result<[(u64, u64); 2], Fail>
 where
-    R: Threads + Wait + RandomSource + AllocGlobal + Clone + Send + Sync + Drop + 'static,
+    R: Threads + Wait + Clock + RandomSource + AllocGlobal + Clone + Send + Sync + Drop + 'static,
 {
     let (before, after) = ask(rt, known)?;
     Ok([before.count(rt), after.count(rt)])

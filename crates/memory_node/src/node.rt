@@ -12,6 +12,7 @@ use std::num::NonZeroUsize;
 use std::random::RandomSource;
 use std::sync::{Arc, Wait};
 use std::thread::Threads;
+use std::time::Clock;
 
 /// The number of requests that a mailbox takes before it tells its callers to slow down.
 const MAILBOX_SIZE: usize = 1000;
@@ -99,7 +100,7 @@ where
         M::Cfg: Send + Drop + 'static,
         T: Send + Drop + 'static,
         T::Job: Send + 'static,
-        R: Threads + RandomSource + AllocGlobal + Clone + Send + Sync + Drop + 'static,
+        R: Threads + Clock + RandomSource + AllocGlobal + Clone + Send + Sync + Drop + 'static,
     {
         let Prepared {
             engine,
@@ -134,7 +135,7 @@ where
     M::Cfg: Send + Drop + 'static,
     T: Strategy<M> + Send + Drop + 'static,
     T::Job: Send + 'static,
-    R: Threads + Wait + RandomSource + AllocGlobal + Clone + Send + Sync + Drop + 'static,
+    R: Threads + Wait + Clock + RandomSource + AllocGlobal + Clone + Send + Sync + Drop + 'static,
 {
     let prepared = Prepared::new(rt, codec_config, strategy, mail, others, deque_size)?;
     Ok(prepared.start(rt))

@@ -16,6 +16,7 @@ use std::sync::atomic::{AtomicU64, Ordering};
 use std::sync::{Arc, Wait};
 use std::test::Fail;
 use std::thread::{self, Threads};
+use std::time::Clock;
 
 /// How often a job is polled while its worker waits at the gate.
 pub const POLLS: u64 = 100;
@@ -100,7 +101,7 @@ impl<R: Threads> Work<Meeting, R> for TestMessage {
 /// the second was started, and whether each job gave the digest of its message.
 fn meet<R>(rt: &R) -> Result<(u64, bool, bool), Fail>
 where
-    R: Threads + Wait + RandomSource + AllocGlobal + Clone + Drop,
+    R: Threads + Wait + Clock + RandomSource + AllocGlobal + Clone + Drop,
 {
     let gate = Meeting::new(rt.alloc())?;
     let strategy = Threaded::new(rt.clone()?, rt.alloc(), Arc::try_clone(&gate)?);
@@ -112,7 +113,7 @@ where
 /// whether the first was pending until then, and whether each gave the digest of its message.
 fn digests<R>(rt: &R, gate: &Meeting, strategy: &Threaded<Meeting, R>) -> Result<(bool, bool), Fail>
 where
-    R: Threads + Wait + RandomSource + AllocGlobal + Clone + Drop,
+    R: Threads + Wait + Clock + RandomSource + AllocGlobal + Clone + Drop,
 {
     let (first, second) = (message(rt.alloc(), 1)?, message(rt.alloc(), 2)?);
     let wanted = (first.digest(), second.digest());
@@ -145,7 +146,7 @@ where
 /// Waits for the digest of a job.
 fn digest<R>(rt: &R, job: &mut Working<TestMessage, Meeting, R>) -> io::Result<Digest>
 where
-    R: Threads + Wait + RandomSource + AllocGlobal + Drop,
+    R: Threads + Wait + Clock + RandomSource + AllocGlobal + Drop,
 {
     let (_, digest) = block_on(rt, poll_fn(|cx| job.poll(cx)))?;
     Ok(digest)

@@ -11,6 +11,7 @@ use std::random::RandomSource;
 use std::sync::{Arc, Wait};
 use std::test::Fail;
 use std::thread::Threads;
+use std::time::Clock;
 
 type Running<R> = (Handle<u64, TestMessage, R>, Mailbox<u64, TestMessage, R>);
 
@@ -40,7 +41,7 @@ fn config<B, T>(peer_provider: B, strategy: T) -> Config<u64, RangeCfg, B, T> {
 /// Starts an engine that digests messages itself.
 fn sequential<R>(rt: &R) -> Result<Running<R>, Fail>
 where
-    R: Threads + Wait + RandomSource + AllocGlobal + Clone + Send + Sync + Drop + 'static,
+    R: Threads + Wait + Clock + RandomSource + AllocGlobal + Clone + Send + Sync + Drop + 'static,
 {
     let ends = ends(rt)?;
     let cfg = config(ends.provider, Sequential);
@@ -50,7 +51,7 @@ where
 /// Starts an engine whose messages are digested on other threads.
 fn threaded<R>(rt: &R) -> Result<Running<R>, Fail>
 where
-    R: Threads + Wait + RandomSource + AllocGlobal + Clone + Send + Sync + Drop + 'static,
+    R: Threads + Wait + Clock + RandomSource + AllocGlobal + Clone + Send + Sync + Drop + 'static,
 {
     let gate = Arc::new(rt.alloc(), Open)?;
     let strategy = Threaded::new(rt.clone()?, rt.alloc(), gate);
@@ -63,7 +64,7 @@ where
 /// came, and was counted for its peer.
 fn receives<R>(rt: &R, running: Running<R>) -> Result<bool, Fail>
 where
-    R: Threads + Wait + RandomSource + AllocGlobal + Drop,
+    R: Threads + Wait + Clock + RandomSource + AllocGlobal + Drop,
 {
     let (handle, mailbox) = running;
     let came = mailbox.subscribe(digest(rt.alloc(), 2)?)?.wait(rt).is_ok();
@@ -77,7 +78,7 @@ where
 /// Starts an engine with each strategy.
 fn start_both<R>(rt: &R) -> Result<bool, Fail>
 where
-    R: Threads + Wait + RandomSource + AllocGlobal + Clone + Send + Sync + Drop + 'static,
+    R: Threads + Wait + Clock + RandomSource + AllocGlobal + Clone + Send + Sync + Drop + 'static,
 {
     let alone = receives(rt, sequential(rt)?)?;
     Ok(alone && receives(rt, threaded(rt)?)?)

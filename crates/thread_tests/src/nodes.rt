@@ -17,7 +17,7 @@ use std::time::Clock;
 /// Starts the node of number 1, whose messages are digested on other threads.
 pub fn start_threaded<R>(rt: &R) -> Result<Node<TestMessage, R>, Fail>
 where
-    R: Threads + Wait + RandomSource + AllocGlobal + Clone + Send + Sync + Drop + 'static,
+    R: Threads + Wait + Clock + RandomSource + AllocGlobal + Clone + Send + Sync + Drop + 'static,
 {
     let gate = Arc::new(rt.alloc(), Open)?;
     let strategy = Threaded::new(rt.clone()?, rt.alloc(), gate);
@@ -34,7 +34,7 @@ where
 /// Starts the node of number 1, whose messages are digested on the thread of the pool.
 pub fn start_pooled<R>(rt: &R, pool: Pool<TestMessage, R>) -> Result<Node<TestMessage, R>, Fail>
 where
-    R: Threads + Wait + RandomSource + AllocGlobal + Clone + Send + Sync + Drop + 'static,
+    R: Threads + Wait + Clock + RandomSource + AllocGlobal + Clone + Send + Sync + Drop + 'static,
 {
     let pool = Arc::new(rt.alloc(), pool)?;
     let strategy = Threaded::new(rt.clone()?, rt.alloc(), pool);

@@ -13,11 +13,12 @@ use std::random::RandomSource;
 use std::sync::{Arc, Wait};
 use std::test::Fail;
 use std::thread::Threads;
+use std::time::Clock;
 
 /// Lets a node with the observer take some inputs, and end. Returns the observer.
 fn observe<R, W>(rt: &R, observer: W) -> Result<W, Fail>
 where
-    R: Threads + Wait + RandomSource + AllocGlobal + Clone + Send + Sync + Drop + 'static,
+    R: Threads + Wait + Clock + RandomSource + AllocGlobal + Clone + Send + Sync + Drop + 'static,
     W: Observer<Key, Digest> + Send + Drop + 'static,
 {
     let network = Network::between(rt, &[key_of(1), key_of(5)])?;
@@ -32,7 +33,7 @@ where
 /// Lets a node that digests on other threads take the same inputs, and end. Returns the observer.
 fn observe_threaded<R, W>(rt: &R, observer: W) -> Result<W, Fail>
 where
-    R: Threads + Wait + RandomSource + AllocGlobal + Clone + Send + Sync + Drop + 'static,
+    R: Threads + Wait + Clock + RandomSource + AllocGlobal + Clone + Send + Sync + Drop + 'static,
     W: Observer<Key, Digest> + Send + Drop + 'static,
 {
     let network = Network::between(rt, &[key_of(1), key_of(5)])?;

@@ -139,7 +139,7 @@ fn feed<R: Wait + AllocGlobal>(rt: &R, mail: &Mail<Key>) -> Result<(), AllocErro
 /// payloads were taken and how many were no message.
 fn served<R>(rt: &R) -> Result<(bool, u64, u64), Fail>
 where
-    R: Threads + Wait + RandomSource + AllocGlobal + Clone + Send + Sync + Drop + 'static,
+    R: Threads + Wait + Clock + RandomSource + AllocGlobal + Clone + Send + Sync + Drop + 'static,
 {
     let node = start(rt, Sequential)?;
     let got = hears(rt, &node)?;
@@ -156,7 +156,7 @@ where
 /// served.
 fn hears<R>(rt: &R, node: &Node<TestMessage, R>) -> Result<bool, Fail>
 where
-    R: Threads + Wait + RandomSource + AllocGlobal + Drop,
+    R: Threads + Wait + Clock + RandomSource + AllocGlobal + Drop,
 {
     let waiting = subscribe(rt, &node.mailbox, 2)?;
     feed(rt, &node.mail)?;

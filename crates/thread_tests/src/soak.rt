@@ -98,7 +98,7 @@ fn start_callers<R>(
     made: &Arc<AtomicU64>,
 ) -> Result<Vec<JoinHandle<Outcome>>, Fail>
 where
-    R: Threads + Wait + RandomSource + AllocGlobal + Clone + Send + Sync + Drop + 'static,
+    R: Threads + Wait + Clock + RandomSource + AllocGlobal + Clone + Send + Sync + Drop + 'static,
 {
     let mut callers = Vec::new(rt.alloc());
     for _ in 0..CALLERS {
@@ -114,7 +114,7 @@ fn start_caller<R>(
     made: &Arc<AtomicU64>,
 ) -> Result<JoinHandle<Outcome>, Fail>
 where
-    R: Threads + Wait + RandomSource + AllocGlobal + Clone + Send + Sync + Drop + 'static,
+    R: Threads + Wait + Clock + RandomSource + AllocGlobal + Clone + Send + Sync + Drop + 'static,
 {
     let caller = Caller {
         mailbox: mailbox.clone()?,
@@ -229,7 +229,7 @@ struct Workers {
 /// Starts the callers and the feeder of the node.
 fn start_workers<R>(rt: &R, node: &Node<TestMessage, R>) -> Result<Workers, Fail>
 where
-    R: Threads + Wait + RandomSource + AllocGlobal + Clone + Send + Sync + Drop + 'static,
+    R: Threads + Wait + Clock + RandomSource + AllocGlobal + Clone + Send + Sync + Drop + 'static,
 {
     let made = Arc::new(rt.alloc(), AtomicU64::new(0))?;
     let callers = start_callers(rt, &node.mailbox, &made)?;

@@ -4,10 +4,12 @@ use super::polls::DIGEST;
 use broadcast_mailbox::buffered::{Incoming, Ingress, Mailbox, channel};
 use futures::task::{Doorbell, Poll, Solo};
 use std::alloc::AllocGlobal;
+use std::io;
 use std::num::NonZeroUsize;
 use std::random::RandomSource;
 use std::sync::Wait;
 use std::test::Fail;
+use std::time::{Clock, Duration};
 
 /// Both ends of a mailbox, and the task that takes its requests.
 #[derive(Drop)]
@@ -15,9 +17,10 @@ struct Ends<R: Wait> {
     mailbox: Mailbox<u64, Note, R>,
     ingress: Ingress<Incoming<u64, Note>, R>,
     task: Solo,
+    rt: R,
 }
 
-impl<R: Wait + RandomSource + AllocGlobal + Clone + Drop> Ends<R> {
+impl<R: Wait + Clock + RandomSource + AllocGlobal + Clone + Drop> Ends<R> {
     /// Creates the ends of a mailbox whose threads may look before they sleep, or not.
     fn new(rt: &R, may_look: bool) -> Result<Self, Fail> {
         let (mailbox, ingress) = channel(rt.clone()?, rt.alloc(), NonZeroUsize::MIN)?;
@@ -26,7 +29,13 @@ impl<R: Wait + RandomSource + AllocGlobal + Clone + Drop> Ends<R> {
             mailbox,
             ingress,
             task: Solo::new(rt, Doorbell::spinning())?,
+            rt: rt.clone()?,
         })
+    }
+
+    /// Returns whether a look sees that something came.
+    fn look(&self) -> bool {
+        self.ingress.look(&self.rt)
     }
 
     /// Takes the next request. Returns whether there was one.
@@ -43,7 +52,7 @@ impl<R: Wait + RandomSource + AllocGlobal + Clone + Drop> Ends<R> {
         let _is_taken = self.take();
         let _is_left = self.take();
         let _asked = self.mailbox.get(DIGEST)?;
-        Ok(self.ingress.look())
+        Ok(self.look())
     }
 }
 
@@ -52,11 +61,11 @@ fn a_look_finds_what_came_since_the_last_poll(rt: HostRuntime) -> Result<(), Fai
     let mut ends = Ends::new(&rt, true)?;
     assert!(rt; !ends.take());
     let _asked = ends.mailbox.get(DIGEST)?;
-    assert!(rt; ends.ingress.look(), "a request");
+    assert!(rt; ends.look(), "a request");
     assert!(rt; ends.take());
     ends.ingress.request_stop();
-    assert!(rt; ends.ingress.look(), "a stop");
-    assert!(rt; !ends.ingress.look(), "it was seen");
+    assert!(rt; ends.look(), "a stop");
+    assert!(rt; !ends.look(), "it was seen");
     Ok(())
 }
 
@@ -65,7 +74,7 @@ fn a_request_that_was_taken_is_not_seen(rt: HostRuntime) -> Result<(), Fail> {
     let mut ends = Ends::new(&rt, true)?;
     let _asked = ends.mailbox.get(DIGEST)?;
     assert!(rt; ends.take());
-    assert!(rt; !ends.ingress.look());
+    assert!(rt; !ends.look());
     Ok(())
 }
 
@@ -73,7 +82,7 @@ fn a_request_that_was_taken_is_not_seen(rt: HostRuntime) -> Result<(), Fail> {
 fn after_a_look_in_vain_the_next_ones_rest(rt: HostRuntime) -> Result<(), Fail> {
     let mut ends = Ends::new(&rt, true)?;
     assert!(rt; !ends.take());
-    assert!(rt; !ends.ingress.look(), "nothing came");
+    assert!(rt; !ends.look(), "nothing came");
     assert!(rt; !ends.sees_a_request()?, "it rests");
     let mut sees_again = false;
     for _ in 0..100 {
@@ -87,5 +96,28 @@ fn after_a_look_in_vain_the_next_ones_rest(rt: HostRuntime) -> Result<(), Fail> 
 fn nobody_looks_who_may_not(rt: HostRuntime) -> Result<(), Fail> {
     let mut ends = Ends::new(&rt, false)?;
     assert!(rt; !ends.sees_a_request()?);
+    Ok(())
+}
+
+/// A clock that can't be read.
+struct Stopped;
+
+impl Clock for Stopped {
+    fn monotonic(&self) -> io::Result<Duration> {
+        Err(io::Error::other("it has stopped"))
+    }
+
+    fn since_1970(&self) -> io::Result<Duration> {
+        Err(io::Error::other("it has stopped"))
+    }
+}
+
+#[test]
+fn a_look_needs_no_clock(rt: HostRuntime) -> Result<(), Fail> {
+    let mut ends = Ends::new(&rt, true)?;
+    assert!(rt; !ends.take());
+    let _asked = ends.mailbox.get(DIGEST)?;
+    assert!(rt; ends.ingress.look(&Stopped), "a request");
+    assert!(rt; ends.take() && !ends.ingress.look(&Stopped));
     Ok(())
 }

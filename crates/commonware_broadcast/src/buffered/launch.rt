@@ -11,6 +11,7 @@ use std::alloc::{AllocError, AllocGlobal};
 use std::random::RandomSource;
 use std::sync::Wait;
 use std::thread::Threads;
+use std::time::Clock;
 
 /// Creates an engine and its mailbox, and starts it in a thread of its own, where it runs until it
 /// ends.
@@ -31,7 +32,7 @@ where
     T::Job: Send + 'static,
     N: Sender<P> + Send + Drop + 'static,
     V: Receiver<P> + Send + Drop + 'static,
-    R: Threads + Wait + RandomSource + AllocGlobal + Clone + Send + Sync + Drop + 'static,
+    R: Threads + Wait + Clock + RandomSource + AllocGlobal + Clone + Send + Sync + Drop + 'static,
 {
     cfg.observed_by(()).start(rt, network)
 }
@@ -54,7 +55,7 @@ where
     G: Send + Sync + Drop + 'static,
     N: Sender<P> + Send + Drop + 'static,
     V: Receiver<P> + Send + Drop + 'static,
-    R: Threads + Wait + RandomSource + AllocGlobal + Clone + Send + Sync + Drop + 'static,
+    R: Threads + Wait + Clock + RandomSource + AllocGlobal + Clone + Send + Sync + Drop + 'static,
 {
     cfg.observed_by(()).start_threaded(rt, network)
 }
@@ -83,7 +84,16 @@ where
         T::Job: Send + 'static,
         N: Sender<P> + Send + Drop + 'static,
         V: Receiver<P> + Send + Drop + 'static,
-        R: Threads + Wait + RandomSource + AllocGlobal + Clone + Send + Sync + Drop + 'static,
+        R: Threads
+            + Wait
+            + Clock
+            + RandomSource
+            + AllocGlobal
+            + Clone
+            + Send
+            + Sync
+            + Drop
+            + 'static,
         W: Observer<P, M::Digest>,
     {
         let Observed { config, observer } = self;
@@ -102,7 +112,7 @@ where
     C: Send + Drop + 'static,
     B: Provider<P> + Send + Drop + 'static,
     G: Send + Sync + Drop + 'static,
-    R: Threads + Wait + RandomSource + AllocGlobal + Clone + Send + Sync + Drop + 'static,
+    R: Threads + Wait + Clock + RandomSource + AllocGlobal + Clone + Send + Sync + Drop + 'static,
     W: Send + Drop + 'static,
 {
     /// Creates an engine whose messages are digested on other threads, and its mailbox, and starts

@@ -3,11 +3,13 @@ use std::alloc::AllocGlobal;
 use std::random::RandomSource;
 use std::sync::Wait;
 use std::thread::Threads;
+use std::time::Clock;
 
-/// What a node that is started needs of its runtime: threads, the right to wait, random bytes and
-/// an allocator. Each type that has these is one.
+/// What a node that is started needs of its runtime: threads, the right to wait, a clock, random
+/// bytes and an allocator. Each type that has these is one.
 pub trait Runtime: Threads
     + Wait
+    + Clock
     + RandomSource
     + AllocGlobal
     + Clone
@@ -18,5 +20,5 @@ pub trait Runtime: Threads
 
 impl<R> Runtime for R
 where
-    R: Threads + Wait + RandomSource + AllocGlobal + Clone + Send + Sync + Drop + 'static,
+    R: Threads + Wait + Clock + RandomSource + AllocGlobal + Clone + Send + Sync + Drop + 'static,
 {}

@@ -23,6 +23,7 @@ use std::random::RandomSource;
 use std::sync::Wait;
 use std::sync::ledger::Blank;
 use std::thread::Threads;
+use std::time::Clock;
 
 /// The output of a client of a session.
 pub trait Leaves {
@@ -100,7 +101,16 @@ where
         T::Job: Send + 'static,
         N: Sender<P> + Send + Drop + 'static,
         V: Receiver<P> + Send + Drop + 'static,
-        R: Threads + Wait + RandomSource + AllocGlobal + Clone + Send + Sync + Drop + 'static,
+        R: Threads
+            + Wait
+            + Clock
+            + RandomSource
+            + AllocGlobal
+            + Clone
+            + Send
+            + Sync
+            + Drop
+            + 'static,
         W: Observer<P, M::Digest> + Send + Drop + 'static,
         ensures accepted { IfOk result (λ finished.
             Accepts S.Output.leaves finished.outputs.items finished.accepted) }

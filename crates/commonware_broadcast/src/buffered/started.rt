@@ -9,6 +9,7 @@ use std::alloc::{AllocError, AllocGlobal};
 use std::random::RandomSource;
 use std::sync::{Arc, Wait};
 use std::thread::{JoinHandle, Threads};
+use std::time::Clock;
 
 /// An engine that runs in a thread of its own. If it is dropped, the engine is asked to stop, and
 /// its end is not waited for.
@@ -117,7 +118,7 @@ where
     M::Digest: 'static,
     M::Cfg: Send + Drop + 'static,
     B: Provider<P> + Send + Drop + 'static,
-    R: Threads + Wait + RandomSource + AllocGlobal + Clone + Send + Sync + Drop + 'static,
+    R: Threads + Wait + Clock + RandomSource + AllocGlobal + Clone + Send + Sync + Drop + 'static,
     T: Strategy<M> + Send + Drop + 'static,
     A: Bookkeeping + Send + 'static,
     A::Taker: Send + 'static,
@@ -188,7 +189,7 @@ where
     M::Cfg: Drop,
     B: Provider<P> + Drop,
     T: Strategy<M> + Drop,
-    R: Wait + RandomSource + AllocGlobal + Clone + Drop,
+    R: Wait + Clock + RandomSource + AllocGlobal + Clone + Drop,
     A: Bookkeeping,
 {
     /// Makes the engine ready for its thread: a job that is pending is finished. The observer is
@@ -236,7 +237,7 @@ where
     G: Send + Sync + Drop + 'static,
     N: Sender<P> + Send + Drop + 'static,
     V: Receiver<P> + Send + Drop + 'static,
-    R: Threads + Wait + RandomSource + AllocGlobal + Clone + Send + Sync + Drop + 'static,
+    R: Threads + Wait + Clock + RandomSource + AllocGlobal + Clone + Send + Sync + Drop + 'static,
     A: Bookkeeping + Send + 'static,
     A::Taker: Send + 'static,
     W: Observer<P, M::Digest> + Send + Drop + 'static,

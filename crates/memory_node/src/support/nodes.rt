@@ -11,13 +11,14 @@ use std::random::RandomSource;
 use std::sync::{Arc, Wait};
 use std::test::Fail;
 use std::thread::Threads;
+use std::time::Clock;
 
 /// Starts the node of number 1. It has no peers and no payloads yet.
 pub fn start<T, R>(rt: &R, strategy: T) -> Result<Node<TestMessage, R>, Fail>
 where
     T: Strategy<TestMessage> + Send + Drop + 'static,
     T::Job: Send + 'static,
-    R: Threads + Wait + RandomSource + AllocGlobal + Clone + Send + Sync + Drop + 'static,
+    R: Threads + Wait + Clock + RandomSource + AllocGlobal + Clone + Send + Sync + Drop + 'static,
 {
     let mail = Arc::new(rt.alloc(), Mail::new(rt.alloc(), key_of(1)))?;
     let others = Vec::new(rt.alloc());

@@ -22,6 +22,7 @@ use std::sync::Wait;
 use std::sync::ledger::Blank;
 use std::test::Fail;
 use std::thread::Threads;
+use std::time::Clock;
 
 /// The network of an engine.
 type Network = (Void, Wire);
@@ -29,7 +30,7 @@ type Network = (Void, Wire);
 /// Lets the engine of the row end.
 fn ending_of<R>(rt: &R, row: &Row) -> Result<Ending, Fail>
 where
-    R: Threads + Wait + RandomSource + AllocGlobal + Clone + Send + Sync + Drop + 'static,
+    R: Threads + Wait + Clock + RandomSource + AllocGlobal + Clone + Send + Sync + Drop + 'static,
 {
     let sets = Sets::new(rt.alloc(), row.gives)?;
     let wire = Wire::new(rt.alloc(), row.gives)?;
@@ -63,7 +64,7 @@ where
     M: Digestible + Codec + Send + Sync + 'static,
     M::Digest: Send + 'static,
     M::Cfg: Send + Drop + 'static,
-    R: Threads + Wait + RandomSource + AllocGlobal + Clone + Send + Sync + Drop + 'static,
+    R: Threads + Wait + Clock + RandomSource + AllocGlobal + Clone + Send + Sync + Drop + 'static,
 {
     let parts = NonZeroU32::new(2).unwrap();
     let accepted = Blank::new(parts.get() as u64);
@@ -88,7 +89,7 @@ where
     M: Digestible + Codec + Send + Sync + 'static,
     M::Digest: Send + 'static,
     M::Cfg: Send + Drop + 'static,
-    R: Threads + Wait + RandomSource + AllocGlobal + Clone + Send + Sync + Drop + 'static,
+    R: Threads + Wait + Clock + RandomSource + AllocGlobal + Clone + Send + Sync + Drop + 'static,
     A: Account + Send + Sync + 'static,
     K: Account + Send + Sync + 'static,
     requires accepted { (accepted.name ≡ A.name) × (accepted.parts ≡ A.parts) }
@@ -198,7 +199,7 @@ where
     M: Digestible + Codec + Send + Sync + 'static,
     M::Digest: Send + 'static,
     M::Cfg: Send + Drop + 'static,
-    R: Threads + Wait + RandomSource + AllocGlobal + Clone + Send + Sync + Drop + 'static,
+    R: Threads + Wait + Clock + RandomSource + AllocGlobal + Clone + Send + Sync + Drop + 'static,
     A: Account + Send + Sync + 'static,
     K: Account + Send + Sync + 'static,
 {

@@ -2,7 +2,7 @@
 ghost use Rattle.std.specs.Prelude.{◌≡◌, ⊤, IfOk};
 ghost use Rattle.futures.specs.Channel.{canceled_source, completed_source};
 
-use crate::buffered::ingress::look::Mark;
+use crate::buffered::ingress::look::{Alertness, Mark};
 use crate::buffered::ingress::responder::Responder;
 use futures::channel::oneshot;
 use std::alloc::{AllocError, Global};
@@ -16,17 +16,17 @@ use std::time::Duration;
 pub(super) struct Bell {
     rung: Mark,
     parker: Parker,
-    // Whether the taker of the request was awake, so that the thread looks before it sleeps.
-    is_awake: bool,
+    // Of the taker of the request if it was awake, so that the thread looks before it sleeps.
+    taker: Option<Arc<Alertness>>,
 }
 
 impl Bell {
-    /// Creates a bell that was not rung. The thread looks before it sleeps if `is_awake`.
-    pub(super) fn new(is_awake: bool) -> Self {
+    /// Creates a bell that was not rung. The thread looks before it sleeps if `taker`.
+    pub(super) fn new(taker: Option<Arc<Alertness>>) -> Self {
         Bell {
             rung: Mark::new(),
             parker: Parker::new(),
-            is_awake,
+            taker,
         }
     }
 
@@ -52,7 +52,10 @@ impl Bell {
 
     /// Looks for some microseconds whether the bell is rung, if the thread looks at all.
     fn is_seen(&self) -> bool {
-        self.is_awake && self.rung.look()
+        match &self.taker {
+            Some(taker) => taker.look_for_reply(&self.rung),
+            None => false,
+        }
     }
 }
 
@@ -97,10 +100,13 @@ pub(super) type Answered<T> = (Answering<T>, oneshot::Receiver<T>, Arc<Bell>);
 
 /// Creates the channel of a reply, and the bell that is rung once the reply is sent or never will
 /// be.
-pub(super) fn answered<T: Drop>(alloc: Global, is_awake: bool) -> Result<Answered<T>, AllocError>
+pub(super) fn answered<T: Drop>(
+    alloc: Global,
+    taker: Option<Arc<Alertness>>,
+) -> Result<Answered<T>, AllocError>
     ensures { IfOk result (λ ends. ends.0 ≡ completed_source ends.1) }
 {
-    let bell = Arc::new(alloc, Bell::new(is_awake))?;
+    let bell = Arc::new(alloc, Bell::new(taker))?;
     answered_by(alloc, bell)
 }
 

@@ -7,6 +7,7 @@ ghost use Rattle.broadcast_mailbox.specs.Asked.{GoesBy, get_returns};
 
 use crate::buffered::ingress::bell::{Answering, Bell, answered};
 use crate::buffered::ingress::limit::Limit;
+use crate::buffered::ingress::look::Alertness;
 use crate::buffered::ingress::queued::Queued;
 use crate::buffered::ingress::reply::{Reply, Returns, try_receive};
 use broadcast_core::{Digested, Digestible};
@@ -52,12 +53,12 @@ impl<M: Digestible> Get<M> {
     pub(super) fn open(
         alloc: Global,
         digest: M::Digest,
-        is_awake: bool,
+        taker: Option<Arc<Alertness>>,
     ) -> Result<(Answering<Option<Reply<M>>>, Self), AllocError>
         ensures digest { IfOk result (λ ends. ends.1.digest ≡ digest) }
         ensures same_channel { IfOk result (λ ends. ends.1.source ≡ ends.0) }
     {
-        let Ok((responder, receiver, bell)) = answered(alloc, is_awake) else {
+        let Ok((responder, receiver, bell)) = answered(alloc, taker) else {
             return Err(AllocError);
         };
         let get = Get {

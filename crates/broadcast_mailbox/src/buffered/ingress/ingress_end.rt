@@ -21,6 +21,7 @@ use futures::task::{Context, Poll};
 use std::alloc::AllocError;
 use std::marker::Model;
 use std::sync::{Arc, Wait};
+use std::time::Clock;
 
 /// The end of a mailbox from which its requests are taken, with messages `T`.
 ///
@@ -68,8 +69,8 @@ impl<T: Named, R, A: Bookkeeping> Ingress<T, R, A> {
     /// Looks for some microseconds whether a request or a stop came since the last poll for a
     /// request, if threads may look before they sleep. Returns whether one may have come; if not,
     /// the thread is to sleep. After a look in vain some calls return at once.
-    pub fn look(&self) -> bool {
-        self.inbox.look()
+    pub fn look(&self, clock: &impl Clock) -> bool {
+        self.inbox.look(clock)
     }
 
     /// Puts the digests of which a subscription was dropped since the last call in place of those

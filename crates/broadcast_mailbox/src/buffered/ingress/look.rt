@@ -1,14 +1,27 @@
 //! What threads look at before they sleep.
 
 use std::hint::spin_loop;
-use std::sync::atomic::{AtomicBool, AtomicU32, Ordering};
+use std::sync::atomic::{AtomicBool, AtomicU32, AtomicU64, AtomicUsize, Ordering};
+use std::thread::yield_now;
+use std::time::Clock;
 
-/// How often a thread looks at a mark. That takes 10 microseconds or more, as long as another
-/// thread takes to wake.
-const LOOKS: u32 = 2000;
+/// How often a thread glances at a mark before it sleeps. That takes 10 microseconds or more, as
+/// long as another thread takes to wake.
+const GLANCES: u32 = 100;
+
+/// How often it looks in a glance, which takes as long as a caller needs to see a reply.
+const LOOKS: u32 = 20;
 
 /// How often the taker of the requests sleeps at once after it looked in vain.
 const RESTS: u32 = 16;
+
+/// A yield that takes longer gave the processor to other work, in microseconds.
+const DEAR: u64 = 100;
+
+/// For how long threads do not yield after such a one, in microseconds: at first, and at most.
+const LEAST_BAN: u64 = 1_000;
+
+const MOST_BAN: u64 = 256_000;
 
 /// A mark that one thread sets, and at which another looks before it sleeps.
 #[derive(Drop)]
@@ -34,9 +47,8 @@ impl Mark {
         self.is_set.store(false, Ordering::Release);
     }
 
-    /// Looks for some microseconds whether the mark is set, and clears it. Returns whether it was.
-    /// The thread neither sleeps nor yields.
-    pub(super) fn look(&self) -> bool {
+    /// Looks a few times whether the mark is set, and clears it. Returns whether it was.
+    fn glance(&self) -> bool {
         for _ in 0..LOOKS {
             if self.is_set.load(Ordering::Acquire) {
                 self.clear();
@@ -48,8 +60,71 @@ impl Mark {
     }
 }
 
+/// Whether the threads of one side may yield between their glances. Times are microseconds of the
+/// taker's clock.
+#[derive(Drop)]
+struct Yields {
+    // They may not before that time.
+    banned_until: AtomicU64,
+    // For how long they may not after the next dear yield.
+    ban: AtomicU64,
+}
+
+impl Yields {
+    /// Creates those of threads that may yield at once.
+    fn new() -> Self {
+        Yields {
+            banned_until: AtomicU64::new(0),
+            ban: AtomicU64::new(LEAST_BAN),
+        }
+    }
+
+    /// Returns whether the threads may yield at that time.
+    fn may_yield(&self, now: u64) -> bool {
+        self.banned_until.load(Ordering::Relaxed) <= now
+    }
+
+    /// Notes a yield, which was over at the time `now`. A dear one bans the next ones, for twice as
+    /// long as that before it.
+    fn note(&self, is_dear: bool, now: u64) {
+        let ban = self.ban.load(Ordering::Relaxed);
+        if is_dear {
+            self.banned_until
+                .store(now.saturating_add(ban), Ordering::Relaxed);
+            self.ban
+                .store(ban.saturating_mul(2).min(MOST_BAN), Ordering::Relaxed);
+        } else if ban > LEAST_BAN {
+            self.ban.store(ban - 1, Ordering::Relaxed);
+        }
+    }
+}
+
+/// What stands on cache lines of its own, so that who writes it does not slow down who reads what
+/// stands beside it.
+#[derive(Drop)]
+struct Apart<T> {
+    _before: [u64; 8],
+    it: T,
+    _after: [u64; 8],
+}
+
+impl<T> Apart<T> {
+    /// Puts the value on cache lines of its own.
+    fn new(it: T) -> Self {
+        Apart {
+            _before: [0; 8],
+            it,
+            _after: [0; 8],
+        }
+    }
+}
+
 /// What the callers of a mailbox and the taker of its requests tell each other so that they need
 /// not sleep.
+///
+/// Between glances threads yield to those that look for a reply, since several of them may be on
+/// one processor. Beside other work a yield gives a whole time slice away, so nobody yields for a
+/// while after one that took long.
 #[derive(Drop)]
 pub(super) struct Alertness {
     // Whether threads may look before they sleep.
@@ -58,8 +133,14 @@ pub(super) struct Alertness {
     is_awake: AtomicBool,
     // How often the taker is still to sleep at once.
     rests: AtomicU32,
+    yields_of_callers: Yields,
+    yields_of_taker: Yields,
+    // How many callers look.
+    looking: Apart<AtomicUsize>,
     // Set once there may be something to do for the taker.
-    asked: Mark,
+    asked: Apart<Mark>,
+    // The time of the taker's last glance.
+    now: Apart<AtomicU64>,
 }
 
 impl Alertness {
@@ -69,7 +150,11 @@ impl Alertness {
             may_look: AtomicBool::new(false),
             is_awake: AtomicBool::new(false),
             rests: AtomicU32::new(0),
-            asked: Mark::new(),
+            yields_of_callers: Yields::new(),
+            yields_of_taker: Yields::new(),
+            looking: Apart::new(AtomicUsize::new(0)),
+            asked: Apart::new(Mark::new()),
+            now: Apart::new(AtomicU64::new(0)),
         }
     }
 
@@ -85,28 +170,93 @@ impl Alertness {
 
     /// Tells the taker that there may be something to do.
     pub(super) fn ask(&self) {
-        self.asked.set();
+        self.asked.it.set();
     }
 
     /// Begins a poll of the taker for a request.
     pub(super) fn begin(&self) {
         if self.may_look.load(Ordering::Acquire) {
-            self.is_awake.store(true, Ordering::Release);
-            self.asked.clear();
+            if !self.is_awake() {
+                self.is_awake.store(true, Ordering::Release);
+            }
+            self.asked.it.clear();
+        }
+    }
+
+    /// Looks for some microseconds whether the mark of a caller is set, and clears it. Returns
+    /// whether it was.
+    pub(super) fn look_for_reply(&self, mark: &Mark) -> bool {
+        self.looking.it.fetch_add(1, Ordering::Relaxed);
+        let is_seen = self.glance_for_reply(mark);
+        self.looking.it.fetch_sub(1, Ordering::Relaxed);
+        is_seen
+    }
+
+    fn glance_for_reply(&self, mark: &Mark) -> bool {
+        for _ in 0..GLANCES {
+            if mark.glance() {
+                return true;
+            }
+            if self.looking.it.load(Ordering::Relaxed) > 1 {
+                self.yield_to_callers();
+            }
+        }
+        false
+    }
+
+    /// Lets other callers look. Without a clock of its own a caller takes that of the taker, which
+    /// stands still once the taker sleeps.
+    fn yield_to_callers(&self) {
+        let before = self.now.it.load(Ordering::Relaxed);
+        if self.yields_of_callers.may_yield(before) {
+            yield_now();
+            let now = self.now.it.load(Ordering::Relaxed);
+            let is_dear = now.saturating_sub(before) > DEAR || !self.is_awake();
+            self.yields_of_callers.note(is_dear, now);
         }
     }
 
     /// Looks, if the taker may, whether something came since its last poll for a request began.
     /// Returns whether something may have. If not, the taker is to sleep.
-    pub(super) fn look(&self) -> bool {
+    pub(super) fn look(&self, clock: &impl Clock) -> bool {
         if self.is_awake() && self.is_rested() {
-            if self.asked.look() {
+            if self.look_for_request(clock) {
                 return true;
             }
             self.rests.store(RESTS, Ordering::Release);
         }
         self.is_awake.store(false, Ordering::Release);
         false
+    }
+
+    /// Looks for some microseconds whether something came. Returns whether something may have.
+    fn look_for_request(&self, clock: &impl Clock) -> bool {
+        for _ in 0..GLANCES {
+            if self.asked.it.glance() {
+                return true;
+            }
+            let before = self.read(clock);
+            // They were answered, and may need this processor.
+            if self.looking.it.load(Ordering::Relaxed) > 0
+                && self.yields_of_taker.may_yield(before)
+            {
+                yield_now();
+                let now = self.read(clock);
+                self.yields_of_taker
+                    .note(now.saturating_sub(before) > DEAR, now);
+            }
+        }
+        false
+    }
+
+    /// Reads the clock, if it can be read, and tells the callers. Returns the time.
+    fn read(&self, clock: &impl Clock) -> u64 {
+        if let Ok(time) = clock.monotonic() {
+            self.now
+                .it
+                .store(time.as_micros() as u64, Ordering::Relaxed);
+        }
+        self.now.it.load(Ordering::Relaxed)
     }
 
     /// Returns whether the taker looks this time. It does not some times after it looked in vain.

@@ -170,9 +170,9 @@ where
     pub fn subscribe(&self, digest: M::Digest) -> Result<Subscription<M>, MailboxError>
         ensures { IfOk result (λ subscription. subscription.digest ≡ digest) }
     {
-        let (dropped, is_awake) = (self.inbox.dropped(), self.inbox.is_awake());
+        let (dropped, taker) = (self.inbox.dropped(), self.inbox.awake());
         let Ok((responder, mut subscription)) = Subscription::open(
-            self.alloc, digest, dropped, is_awake,
+            self.alloc, digest, dropped, taker,
         ) else {
             return Err(MailboxError::Memory);
         };
@@ -221,7 +221,7 @@ where
     pub fn get(&self, digest: M::Digest) -> Result<Get<M>, MailboxError>
         ensures { IfOk result (λ get. get.digest ≡ digest) }
     {
-        let Ok((responder, mut get)) = Get::open(self.alloc, digest, self.inbox.is_awake()) else {
+        let Ok((responder, mut get)) = Get::open(self.alloc, digest, self.inbox.awake()) else {
             return Err(MailboxError::Memory);
         };
         let request = Message::get(digest, responder);
@@ -275,9 +275,9 @@ where
             tally.new ≡ tallied (V.watched Kind.Subscribe digest) asked.accepted tally.old) }
         ensures unchanged_on_error { OnErr result (tally.new ≡ tally.old) }
     {
-        let (dropped, is_awake) = (self.inbox.dropped(), self.inbox.is_awake());
+        let (dropped, taker) = (self.inbox.dropped(), self.inbox.awake());
         let Ok((responder, mut subscription)) = Subscription::open(
-            self.alloc, digest, dropped, is_awake,
+            self.alloc, digest, dropped, taker,
         ) else {
             return Err(MailboxError::Memory);
         };
@@ -303,7 +303,7 @@ where
             tally.new ≡ tallied (V.watched Kind.Get digest) get.accepted tally.old) }
         ensures unchanged_on_error { OnErr result (tally.new ≡ tally.old) }
     {
-        let Ok((responder, mut get)) = Get::open(self.alloc, digest, self.inbox.is_awake()) else {
+        let Ok((responder, mut get)) = Get::open(self.alloc, digest, self.inbox.awake()) else {
             return Err(MailboxError::Memory);
         };
         let counted = V::matches(Kind::Get, &digest);

@@ -31,6 +31,7 @@ use std::alloc::{AllocError, Global};
 use std::marker::Model;
 use std::num::NonZeroUsize;
 use std::sync::{Arc, Mutex, Wait};
+use std::time::Clock;
 
 /// The inbox that the ends of a mailbox share.
 ///
@@ -45,7 +46,7 @@ pub(super) struct Shared<T: Named, A: Bookkeeping> {
     // Fires once a stop is requested.
     stopped: Source,
     dropped: Arc<Dropped<T::Digest>>,
-    alertness: Alertness,
+    alertness: Arc<Alertness>,
     state: Mutex<Attended<T, A>>,
 }
 
@@ -63,7 +64,12 @@ impl<T: Named, A: Bookkeeping> Model for Shared<T, A> {
 
 impl<T: Named, A: Bookkeeping> Shared<T, A> {
     // Puts the inbox behind a lock, beside what is told of its subscriptions.
-    fn new(inbox: Inbox<T>, account: A, dropped: Arc<Dropped<T::Digest>>) -> Self
+    fn new(
+        inbox: Inbox<T>,
+        account: A,
+        dropped: Arc<Dropped<T::Digest>>,
+        alertness: Arc<Alertness>,
+    ) -> Self
         requires nothing_waits { waiting inbox.queue ≡ [] }
         requires nothing_counted { (A.waiting account ≡ 0) × (A.accepted account ≡ 0) }
         ensures size { result.size ≡ inbox.queue.size }
@@ -73,7 +79,7 @@ impl<T: Named, A: Bookkeeping> Shared<T, A> {
             queued: Source::new(),
             stopped: Source::new(),
             dropped,
-            alertness: Alertness::new(),
+            alertness,
             state: Mutex::new(Attended::new(inbox, account)),
         }
     }
@@ -102,14 +108,18 @@ impl<T: Named, A: Bookkeeping> Shared<T, A> {
     }
 
     /// Returns whether the task is awake. If so, who waits for a reply looks before it sleeps.
-    pub(super) fn is_awake(&self) -> bool {
-        self.alertness.is_awake()
+    pub(super) fn awake(&self) -> Option<Arc<Alertness>> {
+        if self.alertness.is_awake() {
+            Arc::try_clone(&self.alertness).ok()
+        } else {
+            None
+        }
     }
 
     /// Looks, if the task may, whether something came since its last poll for a request. Returns
     /// whether something may have. If not, the task is to sleep.
-    pub(super) fn look(&self) -> bool {
-        self.alertness.look()
+    pub(super) fn look(&self, clock: &impl Clock) -> bool {
+        self.alertness.look(clock)
     }
 
     /// Returns whether a stop was requested.
@@ -150,8 +160,12 @@ impl<T: Named + Drop, A: Bookkeeping> Shared<T, A> {
             drop::<_>(account);
             return Err(AllocError);
         };
+        let Ok(alertness) = Arc::new(alloc, Alertness::new()) else {
+            drop::<_>(account);
+            return Err(AllocError);
+        };
         let inbox = Inbox::new(alloc, mailbox_size);
-        let Ok(shared) = Arc::new(alloc, Shared::new(inbox, account, dropped)) else {
+        let Ok(shared) = Arc::new(alloc, Shared::new(inbox, account, dropped, alertness)) else {
             return Err(AllocError);
         };
         Ok(shared)

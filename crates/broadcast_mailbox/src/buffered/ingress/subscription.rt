@@ -10,6 +10,7 @@ use crate::buffered::ingress::abandoned::Abandoned;
 use crate::buffered::ingress::bell::{Answered, Answering, Bell, answered, answered_by};
 use crate::buffered::ingress::dropped::Dropped;
 use crate::buffered::ingress::limit::Limit;
+use crate::buffered::ingress::look::Alertness;
 use crate::buffered::ingress::queued::Queued;
 use crate::buffered::ingress::reply::{Reply, Returns, try_receive};
 use broadcast_core::{Digested, Digestible};
@@ -74,7 +75,7 @@ impl<M: Digestible> Subscription<M> {
         alloc: Global,
         digest: M::Digest,
         dropped: &Arc<Dropped<M::Digest>>,
-        is_awake: bool,
+        taker: Option<Arc<Alertness>>,
     ) -> Result<(Answering<Reply<M>>, Self), AllocError>
         ensures digest { IfOk result (λ ends. ends.1.digest ≡ digest) }
         ensures same_channel { IfOk result (λ ends. ends.1.source ≡ ends.0) }
@@ -82,7 +83,7 @@ impl<M: Digestible> Subscription<M> {
         let Ok(dropped) = Arc::try_clone(dropped) else {
             return Err(AllocError);
         };
-        let Ok(answered) = answered(alloc, is_awake) else {
+        let Ok(answered) = answered(alloc, taker) else {
             drop(dropped);
             return Err(AllocError);
         };

@@ -66,7 +66,7 @@ impl<M: Digestible> Subscriptions<M> {
     pub fn new(alloc: Global) -> Result<Self, AllocError>
         ensures { IfOk result (λ set. set ≡ []) }
     {
-        let bell = Arc::new(alloc, Bell::new(false))?;
+        let bell = Arc::new(alloc, Bell::new(None))?;
         Ok(Subscriptions {
             bell,
             waiting: Vec::new(alloc),

@@ -22,6 +22,7 @@ use std::alloc::{AllocGlobal, Global};
 use std::io;
 use std::random::RandomSource;
 use std::sync::Wait;
+use std::time::Clock;
 
 /// The turns that a poll takes at most before it lets other tasks run.
 const TURNS: u64 = 128;
@@ -110,7 +111,7 @@ where
         G: Drop,
         O: Outlet<S, G, Reply<M>, Option<Reply<M>>>,
         Q: Requests<Message<P, M, S, G>>,
-        R: Wait + RandomSource + AllocGlobal,
+        R: Wait + Clock + RandomSource + AllocGlobal,
         ensures took { ShowsPolls
             (format_of P.cmp M.Digest.cmp M.encoding M.digest_of M.reading)
             (over S.may_answer T.Job.is_of O.Outlet N.Sender V.Receiver B.Provider Q.Requests)
@@ -153,7 +154,7 @@ where
         G: Drop,
         O: Outlet<S, G, Reply<M>, Option<Reply<M>>>,
         Q: Requests<Message<P, M, S, G>>,
-        R: Wait + AllocGlobal,
+        R: Wait + Clock + AllocGlobal,
         ensures took { ShowsPolls
             (format_of P.cmp M.Digest.cmp M.encoding M.digest_of M.reading)
             (over S.may_answer T.Job.is_of O.Outlet N.Sender V.Receiver B.Provider Q.Requests)
@@ -169,7 +170,7 @@ where
             Poll::Ready(Some(cause)) => Poll::Ready(cause),
             Poll::Ready(None) => cx.yield_now(),
             Poll::Pending => {
-                let is_asked = self.engine.requests().look();
+                let is_asked = self.engine.requests().look(rt);
                 if is_asked {
                     cx.yield_now()
                 } else {
@@ -190,7 +191,7 @@ where
         G: Drop,
         O: Outlet<S, G, Reply<M>, Option<Reply<M>>> + Drop,
         Q: Requests<Message<P, M, S, G>> + Drop,
-        R: Wait + AllocGlobal,
+        R: Wait + Clock + AllocGlobal,
         ensures ready { IfReady result (λ end. IfSome running.old (λ old. RunsTo
             (format_of P.cmp M.Digest.cmp M.encoding M.digest_of M.reading)
             (over S.may_answer T.Job.is_of O.Outlet N.Sender V.Receiver B.Provider Q.Requests)
@@ -229,7 +230,7 @@ where
         G: Drop,
         O: Outlet<S, G, Reply<M>, Option<Reply<M>>> + Drop,
         Q: Requests<Message<P, M, S, G>> + Drop,
-        R: Wait + RandomSource + AllocGlobal,
+        R: Wait + Clock + RandomSource + AllocGlobal,
         ensures took { ShowsPolls
             (format_of P.cmp M.Digest.cmp M.encoding M.digest_of M.reading)
             (over S.may_answer T.Job.is_of O.Outlet N.Sender V.Receiver B.Provider Q.Requests)

@@ -23,6 +23,7 @@ use std::random::RandomSource;
 use std::sync::{Arc, Wait};
 use std::thread;
 use std::thread::{JoinHandle, Threads};
+use std::time::Clock;
 use thiserror::Error;
 
 /// Why an engine was not started. It is given up then, and its mailbox is closed.
@@ -59,7 +60,7 @@ where
     T: Strategy<M> + Drop,
     N: Sender<P> + Drop,
     V: Receiver<P> + Drop,
-    R: Wait + RandomSource + AllocGlobal + Drop,
+    R: Wait + Clock + RandomSource + AllocGlobal + Drop,
     W: Observer<P, M::Digest> + Drop,
 {
     /// Makes an engine ready for its thread: a job that is pending is finished, since a job may not
@@ -166,7 +167,7 @@ where
         G: Drop,
         O: Outlet<S, G, Reply<M>, Option<Reply<M>>>,
         Q: Requests<Message<P, M, S, G>>,
-        R: Wait + RandomSource + AllocGlobal + Clone,
+        R: Wait + Clock + RandomSource + AllocGlobal + Clone,
         ensures took { OnOk result (ShowsPolls
             (format_of P.cmp M.Digest.cmp M.encoding M.digest_of M.reading)
             (over S.may_answer T.Job.is_of O.Outlet N.Sender V.Receiver B.Provider Q.Requests)
@@ -197,7 +198,7 @@ where
         G: Drop,
         O: Outlet<S, G, Reply<M>, Option<Reply<M>>> + Drop,
         Q: Requests<Message<P, M, S, G>> + Drop,
-        R: Wait + RandomSource + AllocGlobal,
+        R: Wait + Clock + RandomSource + AllocGlobal,
         ensures runs { ShowsRun
             (format_of P.cmp M.Digest.cmp M.encoding M.digest_of M.reading)
             (over S.may_answer T.Job.is_of O.Outlet N.Sender V.Receiver B.Provider Q.Requests)
@@ -227,7 +228,7 @@ fn tell_end<P, D, R, W>(rt: &R, cause: EndCause, observer: &mut W, snapshots: &S
 where
     P: PublicKey,
     D: Drop,
-    R: Wait + AllocGlobal,
+    R: Wait + Clock + AllocGlobal,
     W: Observer<P, D>,
     ensures { (turns : List (Turn P D)) → W.seen observer.old turns
         → W.seen observer.new (turns ++ turn.Ended cause ∷ []) }

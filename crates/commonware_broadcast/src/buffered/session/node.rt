@@ -24,6 +24,7 @@ use std::random::RandomSource;
 use std::sync::ledger::Blank;
 use std::sync::{Arc, Wait};
 use std::thread::Threads;
+use std::time::Clock;
 
 impl<P, C, B, T, W> Observed<P, C, B, T, W>
 where
@@ -53,7 +54,16 @@ where
         T::Job: Send + 'static,
         N: Sender<P> + Send + Drop + 'static,
         V: Receiver<P> + Send + Drop + 'static,
-        R: Threads + Wait + RandomSource + AllocGlobal + Clone + Send + Sync + Drop + 'static,
+        R: Threads
+            + Wait
+            + Clock
+            + RandomSource
+            + AllocGlobal
+            + Clone
+            + Send
+            + Sync
+            + Drop
+            + 'static,
         W: Observer<P, M::Digest>,
         A: Account + Send + Sync + 'static,
         K: Account + Send + Sync + 'static,
