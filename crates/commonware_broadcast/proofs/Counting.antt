@@ -7,6 +7,7 @@ use Rattle.broadcast_core.specs.Setting.{Setting}
 use Rattle.broadcast_core.specs.Happening.{History, cleanup}
 use Rattle.broadcast_core.specs.Waiting.{Awaiting, waiting, awaited}
 use Rattle.broadcast_core.specs.HasContent.{named_by}
+use Rattle.broadcast_core.specs.Waiters.{counted}
 use Rattle.broadcast_core.specs.Answers.{outcome}
 use Rattle.broadcast_core.specs.declared.outcome.Outcome.{Outcome}
 use Rattle.broadcast_core.specs.declared.outcome.Outcome.TheVariants.{Inserted, Duplicate, Ineligible, Oversize}
@@ -69,6 +70,9 @@ number_of-added Dropped Success n c = sym (raised-none c.dropped)
 number_of-added Dropped Failure n c = sym (raised-none c.dropped)
 number_of-added Dropped status.Invalid n c = sym (raised-none c.dropped)
 number_of-added Dropped Dropped n c = refl
+
+pub added-counted : (n : ℕ) (c : Counter) → added Dropped (counted n) c ≡ added Dropped n c
+added-counted n c = ap (λ k. record c { dropped = k }) (omega arith)
 
 -- the totals with more for what is counted, which is no payload
 abbrev raise : {P : Type 0} → Counted P → ℕ → Totals → Totals
@@ -165,6 +169,11 @@ if-raised : (b : Bool) (n : ℕ) → (if b then raised n 1 else n) ≡ raised n 
 if-raised true n = refl
 if-raised false n = sym (raised-none n)
 
+-- the peer is counted once more, and nothing else
+pub record CountsPeer {P D : Type 0} (same : Same P D) (p : P) (old new : Counters P) : Type 0 where
+  pub one : (q : P) → count_of same.key q new.peer ≡ (if same.key p q then raised (count_of same.key q old.peer) 1 else count_of same.key q old.peer)
+  pub stays : new.totals ≡ old.totals
+
 -- a step at which no payload is decoded
 abbrev pub IsNotDecoded : {P M D S G : Type 0} → Step P M D S G → Type 0
 IsNotDecoded (decoded p) = ⊥
@@ -211,12 +220,11 @@ module _ {P M D S G : Type 0} (s : Setting P M D) (past : History P M D (Asker S
   step-waits (ended cause) t = refl
 
   -- a payload of the peer was decoded
-  pub decoded-counted : (p : P) {same : Same P D} → s.same ≡ same → (old new : Counters P) (c : Counted P)
-      → ((q : P) → count_of same.key q new.peer ≡ (if same.key p q then raised (count_of same.key q old.peer) 1 else count_of same.key q old.peer)) → new.totals ≡ old.totals
+  pub decoded-counted : (p : P) {same : Same P D} → s.same ≡ same → (old new : Counters P) (c : Counted P) → CountsPeer same p old new
       → number_at s.same.key c new ≡ raised (number_at s.same.key c old) (count_by (is_counted_as s.same.key c) (peer p ∷ []))
-  decoded-counted p is old new (peer q) one stays =
-      subst (λ a. count_of a.key q new.peer ≡ (if a.key p q then raised (count_of a.key q old.peer) 1 else count_of a.key q old.peer)) (sym is) (one q)
+  decoded-counted p is old new (peer q) counts =
+      subst (λ a. count_of a.key q new.peer ≡ (if a.key p q then raised (count_of a.key q old.peer) 1 else count_of a.key q old.peer)) (sym is) (counts.one q)
       ∙ if-raised (s.same.key p q) (count_of s.same.key q old.peer) ∙ ap (raised (count_of s.same.key q old.peer)) (sym (count-one (is_counted_as s.same.key (peer q)) (peer p)))
-  decoded-counted p is old new (receive a) one stays = ap (λ (t : Totals). number_of a t.receive) stays ∙ sym (raised-none (number_of a old.totals.receive))
-  decoded-counted p is old new (subscribe a) one stays = ap (λ (t : Totals). number_of a t.subscribe) stays ∙ sym (raised-none (number_of a old.totals.subscribe))
-  decoded-counted p is old new (get a) one stays = ap (λ (t : Totals). number_of a t.get) stays ∙ sym (raised-none (number_of a old.totals.get))
+  decoded-counted p is old new (receive a) counts = ap (λ (t : Totals). number_of a t.receive) counts.stays ∙ sym (raised-none (number_of a old.totals.receive))
+  decoded-counted p is old new (subscribe a) counts = ap (λ (t : Totals). number_of a t.subscribe) counts.stays ∙ sym (raised-none (number_of a old.totals.subscribe))
+  decoded-counted p is old new (get a) counts = ap (λ (t : Totals). number_of a t.get) counts.stays ∙ sym (raised-none (number_of a old.totals.get))

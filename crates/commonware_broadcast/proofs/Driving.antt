@@ -11,9 +11,10 @@ use Rattle.engine_io.specs.Sources.{given}
 use Rattle.commonware_broadcast.specs.EngineHistory.{happenings, end_told}
 use Rattle.commonware_broadcast.specs.EngineState.{Moment}
 use Rattle.commonware_broadcast.specs.Interfaces.{Format, Interfaces}
-use Rattle.commonware_broadcast.specs.Polls.{IsPoll, Polls}
+use Rattle.commonware_broadcast.specs.Polls.{Polls}
 use Rattle.commonware_broadcast.specs.TakesSteps.{TakesSteps, AlwaysTakes}
-use Rattle.commonware_broadcast.proofs.Taking.{IsSetting-later, told-same, TakesSteps-none, TakesSteps-more}
+use Rattle.commonware_broadcast.proofs.Composing.{told-same}
+use Rattle.commonware_broadcast.proofs.Taking.{IsSetting-later, TakesSteps-none, TakesSteps-more}
 
 -- what is not some is none
 pub none_unless : {A : Type 0} (o : Option A) → ((a : A) → o ≡ Some a → ⊥) → o ≡ None
@@ -57,31 +58,15 @@ module _ {P D : Type 0} where
   later Pending rest none = none
 
 module _ {P M D S G O J N R B Q C T : Type 0} {f : Format P M D C} {i : Interfaces P M D S G O J N R B Q} where
-  -- the steps of a poll whose turns are these
-  pub IsPoll-takes : (old new : Moment P M S O D J B Q C T N R) (result : Poll (Turn P D)) (listed : List (Turn P D)) → given result ≡ listed
-      → IsPoll f i old new result → AlwaysTakes f i old new listed
-  IsPoll-takes old new result listed is one = λ s has_format past has before held.
-      subst (λ l. TakesSteps s i past before old new l) is (one.took s has_format past has before held).took
-
-  -- steps, and then more
-  pub AlwaysTakes-more : (old mid new : Moment P M S O D J B Q C T N R) (listed more_listed : List (Turn P D)) → (old.0.end ≡ None → mid.0.end ≡ None)
-      → AlwaysTakes f i old mid listed → mid.0.priority ≡ old.0.priority → mid.0.codec_config ≡ old.0.codec_config
-      → AlwaysTakes f i mid new more_listed → AlwaysTakes f i old new (listed ++ more_listed)
-  AlwaysTakes-more old mid new listed more_listed lives begun priority config more = λ s has_format past has before held.
-      let one = begun s has_format past has before held in
-      let still = IsSetting-later f old.0.codec_config mid.0.codec_config old.0.priority mid.0.priority s has_format config priority in
-      TakesSteps-more s i past before old mid new listed more_listed lives one (more s still (happenings one.steps ++ past) one.ran.content one.pending one.held)
-
   -- the steps of polls of which none ended the engine
   pub Polls-take : (count : ℕ) (old new : Moment P M S O D J B Q C T N R) (turns : List (Turn P D)) → Polls f i count old new turns
       → All (λ t. end_told t ≡ None) turns → AlwaysTakes f i old new turns
   Polls-take zero old new turns polls none = λ s has_format past has before held.
       subst (λ n. TakesSteps s i past before old n turns) (sym polls.0)
-      (TakesSteps-none s i past before old old turns has held (λ _. polls.1) refl refl (λ told h. told-same i.receiver.told old.1.1 told h))
+      (TakesSteps-none has held (λ _. polls.1) refl refl (λ told h. told-same i.receiver.told old.1.1 told h))
   Polls-take (suc count) old new turns (mid, result, poll, rest, is, tail) none =
       let all = subst (λ l. All (λ t. end_told t ≡ None) l) is none in
-      subst (λ l. AlwaysTakes f i old new l) (sym is)
-      (AlwaysTakes-more old mid new (given result) rest
-      (λ _. none_unless mid.0.end (λ cause at. unended result rest cause all (poll.tells_its_end cause at)))
-      (IsPoll-takes old mid result (given result) refl poll) poll.keeps_priority poll.keeps_codec_config
-      (Polls-take count mid new rest tail (later result rest all)))
+      subst (λ l. AlwaysTakes f i old new l) (sym is) (λ s has_format past has before held.
+      let one = (poll.took s has_format past has before held).took in
+      TakesSteps-more (λ _. none_unless mid.0.end (λ cause at. unended result rest cause all (poll.tells_its_end cause at))) one
+      (Polls-take count mid new rest tail (later result rest all) s (IsSetting-later has_format poll.keeps_codec_config poll.keeps_priority) (happenings one.steps ++ past) one.ran.content one.pending one.held))

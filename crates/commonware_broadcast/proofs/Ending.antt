@@ -8,7 +8,7 @@ use Rattle.engine_io.specs.declared.input.Turn.{Turn}
 use Rattle.engine_io.specs.declared.input.Turn.TheVariants as turn
 use Rattle.engine_io.specs.Causes.{HasCause}
 use Rattle.commonware_broadcast.specs.EngineHistory.{end_told}
-use Rattle.commonware_broadcast.specs.EngineState.{Moment}
+use Rattle.commonware_broadcast.specs.EngineState.{EngineState, Moment}
 use Rattle.commonware_broadcast.specs.Interfaces.{Format, Interfaces}
 use Rattle.commonware_broadcast.specs.Order.{IfNetwork, end_in}
 use Rattle.commonware_broadcast.specs.Polls.{Attends, IsPoll}
@@ -42,21 +42,26 @@ module _ {P D : Type 0} where
   as_ended (Ready t) cause h = ap Ready (turn_of_end t cause h)
   as_ended Pending cause h = absurd (let no : None ≡ Some cause = h in cc)
 
-module _ {P M D S G O J N R B Q C T : Type 0} (f : Format P M D C) (i : Interfaces P M D S G O J N R B Q)
-    (old new : Moment P M S O D J B Q C T N R) (result : Poll (Turn P D)) where
+-- these stay
+pub record Keeps {P M S O D J B Q C T : Type 0} (old new : EngineState P M S O D J B Q C T) : Type 0 where
+  pub priority : new.priority ≡ old.priority
+  pub codec_config : new.codec_config ≡ old.codec_config
+  pub strategy : new.strategy ≡ old.strategy
+
+module _ {P M D S G O J N R B Q C T : Type 0} {f : Format P M D C} {i : Interfaces P M D S G O J N R B Q}
+    {old new : Moment P M S O D J B Q C T N R} {result : Poll (Turn P D)} where
   -- a poll of an engine that had not ended
   pub IsPoll-open : old.0.end ≡ None → new.0.end ≡ end_in result → Always f i old (λ s past before. PollsOnce s i past before old new result)
-      → Attends i.provider i.receiver i.requests old new result
-      → new.0.priority ≡ old.0.priority → new.0.codec_config ≡ old.0.codec_config → new.0.strategy ≡ old.0.strategy → IsPoll f i old new result
-  IsPoll-open lives ends took attends priority config strategy = record {
+      → Attends i.provider i.receiver i.requests old new result → Keeps old.0 new.0 → IsPoll f i old new result
+  IsPoll-open lives ends took attends keeps = record {
     took = took;
     attends = λ _. attends;
     same_after_end = λ cause ended. absurd (let no : None ≡ Some cause = sym lives ∙ ended in cc);
     tells_its_end = λ cause ended. as_ended result cause (sym ends ∙ ended);
     ends_as_told = λ cause is. ends ∙ ap end_in is;
-    keeps_priority = priority;
-    keeps_codec_config = config;
-    keeps_strategy = strategy;
+    keeps_priority = keeps.priority;
+    keeps_codec_config = keeps.codec_config;
+    keeps_strategy = keeps.strategy;
   }
 
 pub IfNetwork-weaker : {P D : Type 0} (holds more : Type 0) → (holds → more) → (result : Poll (Turn P D)) → IfNetwork result holds → IfNetwork result more

@@ -1,5 +1,4 @@
 pub mod Counting
-pub mod EngineSteps
 pub mod Composing
 pub mod Telling
 pub mod Sending

@@ -10,38 +10,26 @@ use Rattle.commonware_broadcast.specs.EngineState.{Moment}
 use Rattle.commonware_broadcast.specs.Interfaces.{Format, Interfaces}
 use Rattle.commonware_broadcast.specs.Polls.{IsPoll, Polls, TakesPolls, ShowsPolls, RunsTo, unended}
 
+-- a poll after others that had these turns, and what they are with its own
+pub record Next {P M D S G O J N R B Q C T : Type 0} (f : Format P M D C) (i : Interfaces P M D S G O J N R B Q) (mid new : Moment P M S O D J B Q C T N R) (turns listed : List (Turn P D)) : Type 0 where
+  pub result : Poll (Turn P D)
+  pub polled : IsPoll f i mid new result
+  pub all : listed ≡ turns ++ given result
+
 module _ {P M D S G O J N R B Q C T : Type 0} {f : Format P M D C} {i : Interfaces P M D S G O J N R B Q} where
   -- polls, and then one more
-  pub Polls-more : (count : ℕ) (old mid new : Moment P M S O D J B Q C T N R) (turns : List (Turn P D)) (result : Poll (Turn P D)) (listed : List (Turn P D))
-      → Polls f i count old mid turns → IsPoll f i mid new result → listed ≡ turns ++ given result → Polls f i (suc count) old new listed
-  Polls-more zero old mid new turns result listed polls one all =
-      (new, result, subst (λ e. IsPoll f i e new result) polls.0 one, [], all ∙ ap (λ l. l ++ given result) polls.1 ∙ sym (append-nil (given result)), (refl, refl))
-  Polls-more (suc count) old mid new turns result listed (next, told, poll, rest, is, tail) one all = (
+  pub Polls-more : (count : ℕ) (old mid new : Moment P M S O D J B Q C T N R) (turns listed : List (Turn P D)) → Polls f i count old mid turns → Next f i mid new turns listed
+      → Polls f i (suc count) old new listed
+  Polls-more zero old mid new turns listed polls one = let last = given one.result in
+      (new, one.result, subst (λ e. IsPoll f i e new one.result) polls.0 one.polled, [], one.all ∙ ap (λ l. l ++ last) polls.1 ∙ sym (append-nil last), (refl, refl))
+  Polls-more (suc count) old mid new turns listed (next, told, poll, rest, is, tail) one = let last = given one.result in (
     next,
     told,
     poll,
-    rest ++ given result,
-    all ∙ ap (λ l. l ++ given result) is ∙ append_assoc (given told) rest (given result),
-    Polls-more count next mid new rest result (rest ++ given result) tail one refl,
+    rest ++ last,
+    one.all ∙ ap (λ l. l ++ last) is ∙ append_assoc (given told) rest last,
+    Polls-more count next mid new rest (rest ++ last) tail (record { result = one.result; polled = one.polled; all = refl }),
   )
-
-  -- some polls, and then one more
-  pub TakesPolls-one : (old mid new : Moment P M S O D J B Q C T N R) (result : Poll (Turn P D)) → TakesPolls f i old mid → IsPoll f i mid new result → TakesPolls f i old new
-  TakesPolls-one old mid new result took one = record {
-    count = suc took.count;
-    turns = took.turns ++ given result;
-    polls = Polls-more took.count old mid new took.turns result (took.turns ++ given result) took.polls one refl;
-  }
-
-  TakesPolls-polls : (count : ℕ) (old mid new : Moment P M S O D J B Q C T N R) (turns : List (Turn P D)) → TakesPolls f i old mid → Polls f i count mid new turns
-      → TakesPolls f i old new
-  TakesPolls-polls zero old mid new turns took polls = subst (λ e. TakesPolls f i old e) (sym polls.0) took
-  TakesPolls-polls (suc count) old mid new turns took (next, told, poll, rest, is, tail) =
-      TakesPolls-polls count old next new rest (TakesPolls-one old mid next told took poll) tail
-
-  -- some polls, and then some more
-  pub TakesPolls-more : (old mid new : Moment P M S O D J B Q C T N R) → TakesPolls f i old mid → TakesPolls f i mid new → TakesPolls f i old new
-  TakesPolls-more old mid new took more = TakesPolls-polls more.count old mid new more.turns took more.polls
 
 abbrev plus : ℕ → ℕ → ℕ
 plus zero more = more
@@ -81,13 +69,13 @@ module _ {P D : Type 0} where
   unended-end (turn.Refused peer why) cause h = absurd (let no : None ≡ Some cause = h in cc)
   unended-end (turn.Ended why) cause h = refl
 
-module _ {P M D S G O J N R B Q C T : Type 0} (f : Format P M D C) (i : Interfaces P M D S G O J N R B Q) where
-  Polls-append : (count more : ℕ) (old mid new : Moment P M S O D J B Q C T N R) (turns others : List (Turn P D)) → Polls f i count old mid turns → Polls f i more mid new others
-      → Polls f i (plus count more) old new (turns ++ others)
-  Polls-append zero more old mid new turns others first second =
-      subst (λ ts. Polls f i more old new (ts ++ others)) (sym first.1) (subst (λ e. Polls f i more e new others) first.0 second)
-  Polls-append (suc count) more old mid new turns others (next, told, poll, rest, is, tail) second =
-      (next, told, poll, rest ++ others, ap (λ l. l ++ others) is ∙ append_assoc (given told) rest others, Polls-append count more next mid new rest others tail second)
+module _ {P M D S G O J N R B Q C T : Type 0} {f : Format P M D C} {i : Interfaces P M D S G O J N R B Q} where
+  Polls-append : {mid new : Moment P M S O D J B Q C T N R} (count : ℕ) (old : Moment P M S O D J B Q C T N R) (turns : List (Turn P D)) → Polls f i count old mid turns
+      → (more : TakesPolls f i mid new) → Polls f i (plus count more.count) old new (turns ++ more.turns)
+  Polls-append {new = new} zero old turns first more =
+      subst (λ ts. Polls f i more.count old new (ts ++ more.turns)) (sym first.1) (subst (λ e. Polls f i more.count e new more.turns) first.0 more.polls)
+  Polls-append (suc count) old turns (next, told, poll, rest, is, tail) more =
+      (next, told, poll, rest ++ more.turns, ap (λ l. l ++ more.turns) is ∙ append_assoc (given told) rest more.turns, Polls-append count next rest tail more)
 
 module _ {P M D S G O J N R B Q C T W : Type 0} {f : Format P M D C} {i : Interfaces P M D S G O J N R B Q} {seen : W → List (Turn P D) → Type 0} where
   -- nothing was polled, and nothing shown
@@ -98,37 +86,37 @@ module _ {P M D S G O J N R B Q C T W : Type 0} {f : Format P M D C} {i : Interf
   }
 
   -- some polls, and then some more
-  pub ShowsPolls-more : {old mid new : Moment P M S O D J B Q C T N R} {first between last : W} → ShowsPolls f i seen old mid first between → ShowsPolls f i seen mid new between last
-      → ShowsPolls f i seen old new first last
-  ShowsPolls-more {old} {mid} {new} {first} {between} {last} one more = record {
+  pub ShowsPolls-more : {old mid new : Moment P M S O D J B Q C T N R × W} → ShowsPolls f i seen old.0 mid.0 old.1 mid.1 → ShowsPolls f i seen mid.0 new.0 mid.1 new.1
+      → ShowsPolls f i seen old.0 new.0 old.1 new.1
+  ShowsPolls-more {old} {new = new} one more = record {
     took = record {
       count = plus one.took.count more.took.count;
       turns = one.took.turns ++ more.took.turns;
-      polls = Polls-append f i one.took.count more.took.count old mid new one.took.turns more.took.turns one.took.polls more.took.polls;
+      polls = Polls-append one.took.count old.0 one.took.turns one.took.polls more.took;
     };
-    shown = λ turns h. subst (seen last) (append_assoc turns (unended one.took.turns) (unended more.took.turns) ∙ ap (λ l. turns ++ l) (sym (unended-append one.took.turns more.took.turns)))
+    shown = λ turns h. subst (seen new.1) (append_assoc turns (unended one.took.turns) (unended more.took.turns) ∙ ap (λ l. turns ++ l) (sym (unended-append one.took.turns more.took.turns)))
         (more.shown (turns ++ unended one.took.turns) (one.shown turns h));
   }
 
   -- some polls, and then one more
-  pub ShowsPolls-one : {old mid new : Moment P M S O D J B Q C T N R} {first between last : W} {result : Poll (Turn P D)} → ShowsPolls f i seen old mid first between → IsPoll f i mid new result
-      → ((turns : List (Turn P D)) → seen between turns → seen last (turns ++ unended (given result))) → ShowsPolls f i seen old new first last
-  ShowsPolls-one {old} {mid} {new} {first} {between} {last} {result} one poll step =
+  pub ShowsPolls-one : {old mid new : Moment P M S O D J B Q C T N R × W} {result : Poll (Turn P D)} → ShowsPolls f i seen old.0 mid.0 old.1 mid.1 → IsPoll f i mid.0 new.0 result
+      → ((turns : List (Turn P D)) → seen mid.1 turns → seen new.1 (turns ++ unended (given result))) → ShowsPolls f i seen old.0 new.0 old.1 new.1
+  ShowsPolls-one {new = new} {result} one poll step =
       ShowsPolls-more one (record {
         took = record {
           count = suc zero;
           turns = given result ++ [];
-          polls = (new, result, poll, [], refl, (refl, refl));
+          polls = (new.0, result, poll, [], refl, (refl, refl));
         };
-        shown = λ turns h. subst (λ l. seen last (turns ++ unended l)) (sym (append-nil (given result))) (step turns h);
+        shown = λ turns h. subst (λ l. seen new.1 (turns ++ unended l)) (sym (append-nil (given result))) (step turns h);
       })
 
 module _ {P M D S G O J N R B Q C T W A : Type 0} (f : Format P M D C) (i : Interfaces P M D S G O J N R B Q) (seen : W → List (Turn P D) → Type 0)
-    (moment : A → Moment P M S O D J B Q C T N R) (watch : A → W) where
+    (at : A → Moment P M S O D J B Q C T N R × W) where
   -- what a run gives from a moment on, it gives from one that polls took to it
   pub RunsTo-back : (old mid : Option A) (left : Moment P M S O D J B Q C T N R × W) (cause : EndCause)
-      → IfSome old (λ p. IsSomeAnd mid (λ q. ShowsPolls f i seen (moment p) (moment q) (watch p) (watch q))) → IfSome mid (λ q. RunsTo f i seen (moment q) (watch q) left cause)
-      → IfSome old (λ p. RunsTo f i seen (moment p) (watch p) left cause)
+      → IfSome old (λ p. IsSomeAnd mid (λ q. ShowsPolls f i seen (at p).0 (at q).0 (at p).1 (at q).1)) → IfSome mid (λ q. RunsTo f i seen (at q).0 (at q).1 left cause)
+      → IfSome old (λ p. RunsTo f i seen (at p).0 (at p).1 left cause)
   RunsTo-back None mid left cause took ran = tt
   RunsTo-back (Some p) None left cause took ran = absurd took
   RunsTo-back (Some p) (Some q) left cause took ran = (ShowsPolls-more took ran.0, ran.1)

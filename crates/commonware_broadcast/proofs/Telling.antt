@@ -14,13 +14,6 @@ use Rattle.commonware_broadcast.specs.EngineHistory.{Step, swept, applied, refus
 use Rattle.commonware_broadcast.specs.AppliesSteps.{IsOf}
 use Rattle.commonware_broadcast.proofs.Composing.{history-append}
 
--- the steps have these turns, read messages of these peers, and end in no end
-pub record Tells {P M D S G : Type 0} (s : Setting P M D) (past : History P M D (Asker S) (Asker G))
-    (steps : List (Step P M D S G)) (listed : List (Turn P D)) (peers : List P) : Type 0 where
-  pub turned : turns s steps past ≡ listed
-  pub goes_on : end_of steps ≡ None
-  pub read : read_from steps ≡ peers
-
 -- what follows an empty list is the whole
 pub none-before : {A : Type 0} (xs ys : List A) → xs ++ ys ≡ [] → xs ≡ []
 none-before [] ys h = refl
@@ -126,21 +119,3 @@ module _ {P M D S G : Type 0} (s : Setting P M D) where
       ap (λ ts. ts ++ turns_at s step (happenings (later ++ earlier) ++ past)) (turns-append later earlier past)
       ∙ append_assoc (turns s earlier past) (turns s later (happenings earlier ++ past)) (turns_at s step (happenings (later ++ earlier) ++ past))
       ∙ ap (λ hs. turns s earlier past ++ (turns s later (happenings earlier ++ past) ++ turns_at s step hs)) (history-append later earlier past)
-
-  -- the step of an input, after others that have no turn
-  pub Tells-input : (past : History P M D (Asker S) (Asker G)) (input : Input P M S G D) (turn : Turn P D) (step : Step P M D S G) (steps : List (Step P M D S G)) (peers : List P)
-      → turns s steps past ≡ [] → read_from steps ≡ peers → IsOf input step → turns_at s step (happenings steps ++ past) ≡ turn ∷ [] → Tells s past (step ∷ steps) (turn ∷ []) peers
-  Tells-input past input turn step steps peers none read of_input turned = record {
-    turned = ap (λ ts. ts ++ turns_at s step (happenings steps ++ past)) none ∙ turned;
-    goes_on = goes-on-at input step steps of_input;
-    read = ap (λ ps. read_from steps ++ ps) (reads-none input step of_input) ∙ append-nil (read_from steps) ∙ read;
-  }
-
-  -- steps, and then more
-  pub Tells-more : (past : History P M D (Asker S) (Asker G)) (earlier later : List (Step P M D S G)) (first second : List (Turn P D)) (peers more : List P)
-      → Tells s past earlier first peers → Tells s (happenings earlier ++ past) later second more → Tells s past (later ++ earlier) (first ++ second) (peers ++ more)
-  Tells-more past earlier later first second peers more one two = record {
-    turned = turns-append later earlier past ∙ ap (λ ts. ts ++ turns s later (happenings earlier ++ past)) one.turned ∙ ap (λ ts. first ++ ts) two.turned;
-    goes_on = end_of-append later earlier one.goes_on ∙ two.goes_on;
-    read = read_from-append later earlier ∙ ap (λ ps. ps ++ read_from later) one.read ∙ ap (λ ps. peers ++ ps) two.read;
-  }

@@ -1,16 +1,18 @@
 -- Internal.
 -- What an engine does with a message that arrives.
-use Rattle.std.specs.Prelude.{◌≡◌, List, [], ◌∷◌, ◌++◌, Option, Some, None, Result}
+use Rattle.std.specs.Prelude.{◌≡◌, List, [], ◌∷◌, ◌++◌, Option, None, Result}
 use Rattle.futures.specs.declared.task.Poll.{Poll}
-use Rattle.broadcast_core.specs.Setting.{Setting}
+use Rattle.broadcast_core.specs.Setting.{Setting, own_digested}
 use Rattle.broadcast_core.specs.Happening.{History}
 use Rattle.broadcast_core.specs.HasContent.{HasContent}
 use Rattle.broadcast_core.specs.declared.codec.CodecError.{CodecError}
 use Rattle.engine_io.specs.declared.input.Input.{Input}
+use Rattle.engine_io.specs.declared.input.Input.TheVariants.{Arrived}
 use Rattle.engine_io.specs.declared.input.Turn.{Turn}
 use Rattle.engine_io.specs.Inputs.{sets_in, requests_in, payloads_in}
 use Rattle.engine_io.specs.Replies.{Asker}
 use Rattle.engine_io.specs.Sources.{given}
+use Rattle.commonware_broadcast.specs.declared.buffered.engine.node.Node.{Node}
 use Rattle.commonware_broadcast.specs.EngineHistory.{Step, inputs, read_from, end_of, sweeps, turns}
 use Rattle.commonware_broadcast.specs.EngineState.{EngineState}
 use Rattle.commonware_broadcast.specs.Interfaces.{Format, IsSetting, Parties}
@@ -31,9 +33,9 @@ pub data Arrival (P M : Type 0) : Type 0 where
 
 module _ {P M D : Type 0} (s : Setting P M D) where
   -- the input that it is
-  abbrev pub input_of : {S G : Type 0} → Arrival P M → List (Input P M S G D)
-  input_of (payload_of p result) = payload_input s p result ∷ []
-  input_of (message_of p m) = pending_input s (Some (p, m))
+  abbrev pub input_of : {S G : Type 0} → Arrival P M → Input P M S G D
+  input_of (payload_of p result) = payload_input s p result
+  input_of (message_of p m) = Arrived p (own_digested s m)
 
   -- the peer, if it is a message that is read now
   abbrev pub reader_of : Arrival P M → List P
@@ -43,9 +45,10 @@ module _ {P M D : Type 0} (s : Setting P M D) where
 module _ {P M D S G O J B Q C T : Type 0} (s : Setting P M D) (i : Parties M D S G O J) where
   -- after a history, an arrival was taken by these steps
   pub record Arrives (past : History P M D (Asker S) (Asker G)) (arrival : Arrival P M)
-      (old new : EngineState P M S O D J B Q C T) (result : Poll (Turn P D)) : Type 0 where
+      (old : Node P M S O D) (new : EngineState P M S O D J B Q C T) (result : Poll (Turn P D))
+      : Type 0 where
     pub steps : List (Step P M D S G)
-    pub ran : AppliesSteps s i.may_answer i.outlet.told past steps old.node new.node
+    pub ran : AppliesSteps s i.may_answer i.outlet.told past steps old new.node
     pub turned : turns s steps past ≡ given result
     pub goes_on : end_of steps ≡ None
     pub read_from : read_from steps ≡ reader_of s arrival
@@ -55,7 +58,7 @@ module _ {P M D S G O J B Q C T : Type 0} (s : Setting P M D) (i : Parties M D S
     -- it is the input, or the message of the job that is pending now
     pub pending : Option (P × M)
     pub held : HoldsJob i.is_of new.job pending
-    pub flow : input_of s arrival ≡ inputs steps ++ pending_input s pending
+    pub flow : input_of s arrival ∷ [] ≡ inputs steps ++ pending_input s pending
 
 module _ {P M D S G O J B Q C T : Type 0} (f : Format P M D C) (i : Parties M D S G O J) where
   -- so it was, whatever happened before
@@ -64,4 +67,4 @@ module _ {P M D S G O J B Q C T : Type 0} (f : Format P M D C) (i : Parties M D 
   AlwaysArrives arrival old new result = (s : Setting P M D)
       → IsSetting f old.codec_config old.priority s
       → (past : History P M D (Asker S) (Asker G)) → HasContent s past old.node.core
-      → Arrives s i past (arrival s) old new result
+      → Arrives s i past (arrival s) old.node new result

@@ -1,5 +1,4 @@
 use Rattle.std.proofs.Common.{refl, subst}
-use Rattle.broadcast_core.specs.declared.event.Cause.TheVariants.{Memory}
 use Rattle.commonware_broadcast.specs.AppliesSteps.{Handles, replying}
 use Rattle.engine_io.specs.declared.input.Input.TheVariants as input
 use Rattle.commonware_broadcast.proofs.Applying.{Handles-refused}
@@ -11,6 +10,4 @@ returns-in-Ok-clause-handled g c = λ s e encoding past has.
     c.in-Ok.ensures (c.handle_arrival.ensures.handled s e encoding past has)
 
 pub returns-in-Err-clause-handled : goal.returns-in-Err-clause-handled
-returns-in-Err-clause-handled g c = λ s e encoding past has.
-    Handles-refused s (λ w b. g.S.Responder.may_answer w.responder b) g.O.Outlet.told past (input.Arrived c.args.peer (record { message = c.args.message; digest = c.args.digest })) Memory
-    c.args.node.now c.args.node.now has refl tt
+returns-in-Err-clause-handled g c = λ s e encoding past has. Handles-refused has refl tt

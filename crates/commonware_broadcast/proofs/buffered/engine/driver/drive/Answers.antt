@@ -2,7 +2,7 @@ use Rattle.std.proofs.Common.{rules, ◌≡◌, ◌++◌, ◌∙◌, true, false
 use Rattle.broadcast_core.specs.Codec.{whole}
 use Rattle.broadcast_core.specs.Content.{same_by}
 use Rattle.engine_io.specs.Sources.{given}
-use Rattle.commonware_broadcast.specs.EngineHistory.{end_told}
+use Rattle.commonware_broadcast.specs.EngineHistory.{happenings, end_told}
 use Rattle.commonware_broadcast.specs.Interfaces.{format, parties, interfaces}
 use Rattle.commonware_broadcast.specs.TakesSteps.{TellsEnd, AlwaysTakes}
 use Rattle.commonware_broadcast.specs.Polls.{Polls}
@@ -11,7 +11,8 @@ use Rattle.futures.specs.declared.task.Poll.TheVariants.{Ready, Pending}
 use Rattle.std.specs.List.{All}
 use Rattle.std.proofs.lemmas.List.Elements.{All-push}
 use Rattle.commonware_broadcast.proofs.Polls.{Polls-more}
-use Rattle.commonware_broadcast.proofs.Driving.{AlwaysTakes-more, IsPoll-takes, Polls-take, none_unless, none_is, none_listed, some_is, no_end}
+use Rattle.commonware_broadcast.proofs.Taking.{IsSetting-later, TakesSteps-more}
+use Rattle.commonware_broadcast.proofs.Driving.{Polls-take, none_unless, none_is, none_listed, some_is, no_end}
 use Rattle.commonware_broadcast.proofs.buffered.engine.driver.drive.Goals as goal
 
 pub loop-poll-init : goal.loop-poll-init
@@ -41,8 +42,8 @@ loop-poll-preserved g c =
     let going : c.poll.new.self.end ≡ None = none_is c.poll.new.self.end (ap (λ k. is_some k.end) (sym c.engine.view_is) ∙ sym c.is_some.ensures ∙ c.if-is_some.false) in record {
       polls = λ count is. subst (λ n. Polls (format (same_by g.P.Ord.cmp g.M.Digest.Ord.cmp) g.M.Write.encoding g.M.Digestible.digest_of (λ cfg. whole (g.M.Read.reading cfg))) (interfaces (parties (λ w b. g.S.Responder.may_answer w.responder b) g.T.Job.Job.is_of g.O.Outlet) g.N.Sender g.R.Receiver g.B.Provider g.Q.Requests)
           n (c.args.engine.now, c.args.network.now) (c.poll.new.self, c.poll.new.network) c.push_reserved.new.self.items) (let next : suc c.loop-poll._poll ≡ count = omega (arith, is) in next)
-          (Polls-more c.loop-poll._poll (c.args.engine.now, c.args.network.now) (c.loop-poll.engine, c.loop-poll.network) (c.poll.new.self, c.poll.new.network) c.loop-poll.turns.items c.poll.result c.push_reserved.new.self.items
-          (at.polls c.loop-poll._poll refl) c.poll.ensures.polled (sym (ap (λ r. c.loop-poll.turns.items ++ given r) c.in-Ready.is ∙ sym c.push_reserved.ensures.items)));
+          (Polls-more c.loop-poll._poll (c.args.engine.now, c.args.network.now) (c.loop-poll.engine, c.loop-poll.network) (c.poll.new.self, c.poll.new.network) c.loop-poll.turns.items c.push_reserved.new.self.items
+          (at.polls c.loop-poll._poll refl) (record { result = c.poll.result; polled = c.poll.ensures.polled; all = sym (ap (λ r. c.loop-poll.turns.items ++ given r) c.in-Ready.is ∙ sym c.push_reserved.ensures.items) }));
       priority = c.poll.ensures.polled.keeps_priority ∙ at.priority;
       codec_config = c.poll.ensures.polled.keeps_codec_config ∙ at.codec_config;
       strategy = c.poll.ensures.polled.keeps_strategy ∙ at.strategy;
@@ -64,8 +65,8 @@ pub loop-poll-preserved-in_default : goal.loop-poll-preserved-in_default
 loop-poll-preserved-in_default g c = let at = c.loop-poll.invariant in record {
   polls = λ count is. subst (λ n. Polls (format (same_by g.P.Ord.cmp g.M.Digest.Ord.cmp) g.M.Write.encoding g.M.Digestible.digest_of (λ cfg. whole (g.M.Read.reading cfg))) (interfaces (parties (λ w b. g.S.Responder.may_answer w.responder b) g.T.Job.Job.is_of g.O.Outlet) g.N.Sender g.R.Receiver g.B.Provider g.Q.Requests)
       n (c.args.engine.now, c.args.network.now) (c.poll.new.self, c.poll.new.network) c.loop-poll.turns.items) (let next : suc c.loop-poll._poll ≡ count = omega (arith, is) in next)
-      (Polls-more c.loop-poll._poll (c.args.engine.now, c.args.network.now) (c.loop-poll.engine, c.loop-poll.network) (c.poll.new.self, c.poll.new.network) c.loop-poll.turns.items c.poll.result c.loop-poll.turns.items
-      (at.polls c.loop-poll._poll refl) c.poll.ensures.polled (sym (ap (λ r. c.loop-poll.turns.items ++ given r) c.in_default.is ∙ append-nil c.loop-poll.turns.items)));
+      (Polls-more c.loop-poll._poll (c.args.engine.now, c.args.network.now) (c.loop-poll.engine, c.loop-poll.network) (c.poll.new.self, c.poll.new.network) c.loop-poll.turns.items c.loop-poll.turns.items
+      (at.polls c.loop-poll._poll refl) (record { result = c.poll.result; polled = c.poll.ensures.polled; all = sym (ap (λ r. c.loop-poll.turns.items ++ given r) c.in_default.is ∙ append-nil c.loop-poll.turns.items) }));
   priority = c.poll.ensures.polled.keeps_priority ∙ at.priority;
   codec_config = c.poll.ensures.polled.keeps_codec_config ∙ at.codec_config;
   strategy = c.poll.ensures.polled.keeps_strategy ∙ at.strategy;
@@ -84,10 +85,10 @@ pub returns-then-is_some-clause-took : goal.returns-then-is_some-clause-took
 returns-then-is_some-clause-took g c = let at = c.loop-poll.invariant in
     subst (λ l. AlwaysTakes (format (same_by g.P.Ord.cmp g.M.Digest.Ord.cmp) g.M.Write.encoding g.M.Digestible.digest_of (λ cfg. whole (g.M.Read.reading cfg))) (interfaces (parties (λ w b. g.S.Responder.may_answer w.responder b) g.T.Job.Job.is_of g.O.Outlet) g.N.Sender g.R.Receiver g.B.Provider g.Q.Requests)
     (c.args.engine.now, c.args.network.now) (c.poll.new.self, c.poll.new.network) l) (sym c.push_reserved.ensures.items)
-    (AlwaysTakes-more (c.args.engine.now, c.args.network.now) (c.loop-poll.engine, c.loop-poll.network) (c.poll.new.self, c.poll.new.network) c.loop-poll.turns.items (c.in-Ready.turn ∷ []) at.unended
-    (Polls-take c.loop-poll._poll (c.args.engine.now, c.args.network.now) (c.loop-poll.engine, c.loop-poll.network) c.loop-poll.turns.items (at.polls c.loop-poll._poll refl) at.none_ends)
-    at.priority at.codec_config
-    (IsPoll-takes (c.loop-poll.engine, c.loop-poll.network) (c.poll.new.self, c.poll.new.network) c.poll.result (c.in-Ready.turn ∷ []) (ap given c.in-Ready.is) c.poll.ensures.polled))
+    (λ s is past has before held.
+    let begun = Polls-take c.loop-poll._poll (c.args.engine.now, c.args.network.now) (c.loop-poll.engine, c.loop-poll.network) c.loop-poll.turns.items (at.polls c.loop-poll._poll refl) at.none_ends s is past has before held in
+    TakesSteps-more at.unended begun (rw c.in-Ready.is at
+    (c.poll.ensures.polled.took s (IsSetting-later is at.codec_config at.priority) (happenings begun.steps ++ past) begun.ran.content begun.pending begun.held).took))
 
 pub returns-then-is_some-clause-ends_with_last_turn : goal.returns-then-is_some-clause-ends_with_last_turn
 returns-then-is_some-clause-ends_with_last_turn g c = λ _.
@@ -109,8 +110,8 @@ returns-then-is_some-clause-same_after_end g c = λ cause ended.
 pub returns-then-is_some-clause-drives : goal.returns-then-is_some-clause-drives
 returns-then-is_some-clause-drives g c = let at = c.loop-poll.invariant in record {
   count = suc c.loop-poll._poll;
-  polls = Polls-more c.loop-poll._poll (c.args.engine.now, c.args.network.now) (c.loop-poll.engine, c.loop-poll.network) (c.poll.new.self, c.poll.new.network) c.loop-poll.turns.items c.poll.result c.push_reserved.new.self.items
-      (at.polls c.loop-poll._poll refl) c.poll.ensures.polled (sym (ap (λ r. c.loop-poll.turns.items ++ given r) c.in-Ready.is ∙ sym c.push_reserved.ensures.items));
+  polls = Polls-more c.loop-poll._poll (c.args.engine.now, c.args.network.now) (c.loop-poll.engine, c.loop-poll.network) (c.poll.new.self, c.poll.new.network) c.loop-poll.turns.items c.push_reserved.new.self.items
+      (at.polls c.loop-poll._poll refl) (record { result = c.poll.result; polled = c.poll.ensures.polled; all = sym (ap (λ r. c.loop-poll.turns.items ++ given r) c.in-Ready.is ∙ sym c.push_reserved.ensures.items) });
   at_most = omega (arith, c.loop-poll-test.true);
   all_unless_ended = λ none. absurd (let no : true ≡ false = sym c.if-is_some.true ∙ c.is_some.ensures ∙ ap (λ k. is_some k.end) c.engine.view_is ∙ ap is_some none in cc);
 }

@@ -1,11 +1,12 @@
 use Rattle.std.proofs.Common.{[], ◌∷◌, refl, subst}
+use Rattle.broadcast_core.proofs.Handing.{handed-subscribe}
 use Rattle.broadcast_core.proofs.Lawful.{same_by-lawful}
+use Rattle.broadcast_core.proofs.Stepping.{HasContent-subscribe}
 use Rattle.broadcast_core.specs.Content.{same_by}
 use Rattle.broadcast_core.specs.Changes.{IsSubscribed}
 use Rattle.broadcast_core.specs.declared.outcome.Subscribed.TheVariants as outcome
 use Rattle.engine_io.specs.Replies.{subscribed}
-use Rattle.engine_io.proofs.Handing.{Hands-none}
-use Rattle.commonware_broadcast.proofs.EngineSteps.{AppliesStep-subscribed}
+use Rattle.commonware_broadcast.proofs.Composing.{told-same}
 use Rattle.commonware_broadcast.proofs.buffered.engine.handler.handle_subscribe.Goals as goal
 
 pub returns-in-Ok-Answered-clause-steps : goal.returns-in-Ok-Answered-clause-steps
@@ -17,11 +18,13 @@ returns-in-Ok-Answered-clause-steps g c =
       replies,
       λ s e past has counted.
           let lawful = same_by-lawful g.met.P.Ord.total (g.met.M.Digest.Ord g.world.𝓛 g.world.𝓜 g.world.𝓡 (λ s x. x, λ x. x, λ x. x, λ x. x)).total in
-          AppliesStep-subscribed e lawful (λ w b. g.S.Responder.may_answer w.responder b) g.O.Outlet.told past c.args.node.now has
-          (record { ticket = c.args.ticket; responder = c.args.responder }) c.args.digest c.subscribe.new.self (outcome.Answered c.in-Ok-Answered.waiter x) replies counted
-          c.respond_subscribe.new.outlet c.respond_subscribe.new.metrics
-          (subst (λ w. IsSubscribed (same_by g.P.Ord.cmp g.M.Digest.Ord.cmp) c.args.digest w c.args.node.now.core c.subscribe.new.self (outcome.Answered c.in-Ok-Answered.waiter x)) c.new.ensures is)
-          refl handed.1,
+          let done = subst (λ w. IsSubscribed (same_by g.P.Ord.cmp g.M.Digest.Ord.cmp) c.args.digest w c.args.node.now.core c.subscribe.new.self (outcome.Answered c.in-Ok-Answered.waiter x)) c.new.ensures is in
+          record {
+            lawful = (handed-subscribe e lawful has (record { ticket = c.args.ticket; responder = c.args.responder }) c.args.digest c.subscribe.new.self (outcome.Answered c.in-Ok-Answered.waiter x) done, tt);
+            content = HasContent-subscribe e lawful has (outcome.Answered c.in-Ok-Answered.waiter x) done;
+            counted = handed.1.counted;
+            replied = handed.1.handed;
+          },
     )
 
 pub returns-in-Ok-Waiting-clause-steps : goal.returns-in-Ok-Waiting-clause-steps
@@ -30,9 +33,11 @@ returns-in-Ok-Waiting-clause-steps g c =
       [],
       λ s e past has counted.
           let lawful = same_by-lawful g.met.P.Ord.total (g.met.M.Digest.Ord g.world.𝓛 g.world.𝓜 g.world.𝓡 (λ s x. x, λ x. x, λ x. x, λ x. x)).total in
-          AppliesStep-subscribed e lawful (λ w b. g.S.Responder.may_answer w.responder b) g.O.Outlet.told past c.args.node.now has
-          (record { ticket = c.args.ticket; responder = c.args.responder }) c.args.digest c.subscribe.new.self outcome.Waiting [] counted
-          c.args.node.now.outlet c.args.node.now.metrics
-          (subst (λ w. IsSubscribed (same_by g.P.Ord.cmp g.M.Digest.Ord.cmp) c.args.digest w c.args.node.now.core c.subscribe.new.self outcome.Waiting) c.new.ensures is)
-          refl (Hands-none g.O.Outlet.told c.args.node.now.outlet c.args.node.now.metrics),
+          let done = subst (λ w. IsSubscribed (same_by g.P.Ord.cmp g.M.Digest.Ord.cmp) c.args.digest w c.args.node.now.core c.subscribe.new.self outcome.Waiting) c.new.ensures is in
+          record {
+            lawful = (handed-subscribe e lawful has (record { ticket = c.args.ticket; responder = c.args.responder }) c.args.digest c.subscribe.new.self outcome.Waiting done, tt);
+            content = HasContent-subscribe e lawful has outcome.Waiting done;
+            counted = refl;
+            replied = told-same g.O.Outlet.told c.args.node.now.outlet;
+          },
     )

@@ -14,7 +14,7 @@ returns-clause-took g c =
     g.W.Observer.seen (old.engine, old.network) old.observer ((x.0.engine, x.0.network), x.0.observer) x.1))
     (λ p cx left q called x ran. RunsTo-back (format (same_by g.P.Ord.cmp g.M.Digest.Ord.cmp) g.M.Write.encoding g.M.Digestible.digest_of (λ cfg. whole (g.M.Read.reading cfg)))
     (interfaces (parties (λ w b. g.S.Responder.may_answer w.responder b) g.T.Job.Job.is_of g.O.Outlet) g.N.Sender g.V.Receiver g.B.Provider g.Q.Requests)
-    g.W.Observer.seen (λ w. (w.engine, w.network)) (λ w. w.observer) p.0 q.0 ((x.0.engine, x.0.network), x.0.observer) x.1 (search rules) ran)
+    g.W.Observer.seen (λ w. ((w.engine, w.network), w.observer)) p.0 q.0 ((x.0.engine, x.0.network), x.0.observer) x.1 (search rules) ran)
     (λ p cx left q x called. search rules) in
     (rw c.poll_fn.ensures at ran).0
 
@@ -25,7 +25,7 @@ returns-clause-ended g c =
     g.W.Observer.seen (old.engine, old.network) old.observer ((x.0.engine, x.0.network), x.0.observer) x.1))
     (λ p cx left q called x ran. RunsTo-back (format (same_by g.P.Ord.cmp g.M.Digest.Ord.cmp) g.M.Write.encoding g.M.Digestible.digest_of (λ cfg. whole (g.M.Read.reading cfg)))
     (interfaces (parties (λ w b. g.S.Responder.may_answer w.responder b) g.T.Job.Job.is_of g.O.Outlet) g.N.Sender g.V.Receiver g.B.Provider g.Q.Requests)
-    g.W.Observer.seen (λ w. (w.engine, w.network)) (λ w. w.observer) p.0 q.0 ((x.0.engine, x.0.network), x.0.observer) x.1 (search rules) ran)
+    g.W.Observer.seen (λ w. ((w.engine, w.network), w.observer)) p.0 q.0 ((x.0.engine, x.0.network), x.0.observer) x.1 (search rules) ran)
     (λ p cx left q x called. search rules) in
     (rw c.poll_fn.ensures at ran).1
 

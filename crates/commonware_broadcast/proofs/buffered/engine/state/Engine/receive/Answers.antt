@@ -1,20 +1,16 @@
-use Rattle.std.proofs.Common.{◌≡◌, Ok, Err, [], inl, inr, refl, sym, ap, ◌∙◌}
+use Rattle.std.proofs.Common.{◌≡◌, Ok, Err, inl, inr, refl, sym, ap, ◌∙◌}
 use Rattle.std.specs.Prelude.{length, is_ok, true}
 use Rattle.broadcast_core.specs.Codec.{whole}
 use Rattle.broadcast_core.specs.declared.codec.CodecError.TheVariants as CodecError
 use Rattle.broadcast_core.proofs.Applying.{not_memory}
-use Rattle.engine_io.specs.declared.input.Input.TheVariants as input
-use Rattle.commonware_broadcast.specs.Arrives.{payload_of}
-use Rattle.commonware_broadcast.specs.Interfaces.{parties}
-use Rattle.commonware_broadcast.proofs.Composing.{AppliesSteps-none}
-use Rattle.commonware_broadcast.proofs.Arriving.{some_ok, Arrives-handled, Arrives-read, Arrives-uncounted}
+use Rattle.commonware_broadcast.proofs.Arriving.{some_ok, Arrives-handled, Arrives-uncounted}
 use Rattle.commonware_broadcast.proofs.buffered.engine.state.Engine.receive.Goals as goal
 
 pub returns-in-Ok-clause-arrives : goal.returns-in-Ok-clause-arrives
 returns-in-Ok-clause-arrives g c = λ s is past has.
     let read : s.reading c.args.bytes.now ≡ Ok c.in-Ok.message = ap (λ f. f c.args.bytes.now) (is.reading ∙ ap (λ e. whole (g.M.Read.reading e.codec_config)) (sym c.self.view_is))
     ∙ elim c.in-Ok.ensures [ inl at ↦ sym at | inr lacks ↦ absurd (let h = lacks.0 in cc) ] in
-    Arrives-read s (parties (λ w b. g.S.Responder.may_answer w.responder b) g.T.Job.Job.is_of g.O.Outlet) past c.args.peer _ _ _ _ _ read (c.start_job.ensures.arrives s is past has)
+    rw read (c.start_job.ensures.arrives s is past has)
 
 pub returns-in-Err-clause-arrives : goal.returns-in-Err-clause-arrives
 returns-in-Err-clause-arrives g c = rw (← c.self.view_is) (λ s is past has.
@@ -24,14 +20,11 @@ returns-in-Err-clause-arrives g c = rw (← c.self.view_is) (λ s is past has.
           let read : s.reading c.args.bytes.now ≡ Err c.in-Err.error = ap (λ f. f c.args.bytes.now) is.reading ∙ sym at in
           let other : c.in-Err.error ≡ CodecError.Memory → ⊥ =
           λ h. not_memory (length c.args.bytes.now) (g.M.Read.reading c.self.inside.codec_config c.args.bytes.now) (λ why. g.met.M.Read.refusals c.self.inside.codec_config c.args.bytes.now why) (sym at ∙ ap Err h) in
-          Arrives-read s (parties (λ w b. g.S.Responder.may_answer w.responder b) g.T.Job.Job.is_of g.O.Outlet) past c.args.peer _ _ _ _ _ read
-          (Arrives-handled s (parties (λ w b. g.S.Responder.may_answer w.responder b) g.T.Job.Job.is_of g.O.Outlet) past (payload_of c.args.peer (Err c.in-Err.error)) _ _ [] c.self.inside.node (input.Invalid c.args.peer c.in-Err.error) c.refuse.result
-          (AppliesSteps-none s (λ w b. g.S.Responder.may_answer w.responder b) g.O.Outlet.told past c.self.inside.node has) refl refl refl refl refl (record { no_sets = refl; no_requests = refl; all = refl })
-          (c.refuse.ensures.invalid other s is.same past has) idle)
+          rw read (Arrives-handled refl (c.refuse.ensures.invalid other s is.same past has) idle)
       | inr lacks ↦
           let memory : c.in-Err.error ≡ CodecError.Memory = (let h = lacks.0 in cc) in
           let reads : is_ok (s.reading c.args.bytes.now) ≡ true = ap (λ f. is_ok (f c.args.bytes.now)) is.reading ∙ lacks.1 in
           let message = some_ok (s.reading c.args.bytes.now) reads in
           let refused = c.refuse.ensures.memory memory in
-          Arrives-read s (parties (λ w b. g.S.Responder.may_answer w.responder b) g.T.Job.Job.is_of g.O.Outlet) past c.args.peer _ _ _ _ _ message.1 (Arrives-uncounted s (parties (λ w b. g.S.Responder.may_answer w.responder b) g.T.Job.Job.is_of g.O.Outlet) past c.args.peer message.0 _ _ _ has refused.1 idle refused.0)
+          rw message.1 (rw refused.0 (Arrives-uncounted has refused.1 idle))
     ])
