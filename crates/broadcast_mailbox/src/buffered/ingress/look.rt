@@ -252,9 +252,8 @@ impl Alertness {
     /// Reads the clock, if it can be read, and tells the callers. Returns the time.
     fn read(&self, clock: &impl Clock) -> u64 {
         if let Ok(time) = clock.monotonic() {
-            self.now
-                .it
-                .store(time.as_micros() as u64, Ordering::Relaxed);
+            let micros = u64::try_from(time.as_micros()).unwrap_or(u64::MAX);
+            self.now.it.store(micros, Ordering::Relaxed);
         }
         self.now.it.load(Ordering::Relaxed)
     }
