@@ -69,6 +69,9 @@ impl<T: Named, R, A: Bookkeeping> Ingress<T, R, A> {
     /// Looks for some microseconds whether a request or a stop came since the last poll for a
     /// request, if threads may look before they sleep. Returns whether one may have come; if not,
     /// the thread is to sleep. After a look in vain some calls return at once.
+    ///
+    /// Meanwhile the thread yields to callers that look for a reply. The clock tells how long that
+    /// took: after a yield that gave the processor to other work, nobody yields for some time.
     pub fn look(&self, clock: &impl Clock) -> bool {
         self.inbox.look(clock)
     }

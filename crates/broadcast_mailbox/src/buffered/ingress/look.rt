@@ -18,9 +18,10 @@ const RESTS: u32 = 16;
 /// A yield that takes longer gave the processor to other work, in microseconds.
 const DEAR: u64 = 100;
 
-/// For how long threads do not yield after such a one, in microseconds: at first, and at most.
+/// For how long threads do not yield after a first such one, in microseconds.
 const LEAST_BAN: u64 = 1_000;
 
+/// For how long they do not at most, in microseconds.
 const MOST_BAN: u64 = 256_000;
 
 /// A mark that one thread sets, and at which another looks before it sleeps.
@@ -104,16 +105,16 @@ impl Yields {
 #[derive(Drop)]
 struct Apart<T> {
     _before: [u64; 8],
-    it: T,
+    value: T,
     _after: [u64; 8],
 }
 
 impl<T> Apart<T> {
     /// Puts the value on cache lines of its own.
-    fn new(it: T) -> Self {
+    fn new(value: T) -> Self {
         Apart {
             _before: [0; 8],
-            it,
+            value,
             _after: [0; 8],
         }
     }
@@ -128,9 +129,9 @@ impl<T> Apart<T> {
 #[derive(Drop)]
 pub(super) struct Alertness {
     // Whether threads may look before they sleep.
-    may_look: AtomicBool,
+    may_look: Apart<AtomicBool>,
     // Whether the taker polls or looks, so that a reply may come soon.
-    is_awake: AtomicBool,
+    is_awake: Apart<AtomicBool>,
     // How often the taker is still to sleep at once.
     rests: AtomicU32,
     yields_of_callers: Yields,
@@ -147,8 +148,8 @@ impl Alertness {
     /// Creates that of a mailbox whose threads sleep at once.
     pub(super) fn new() -> Self {
         Alertness {
-            may_look: AtomicBool::new(false),
-            is_awake: AtomicBool::new(false),
+            may_look: Apart::new(AtomicBool::new(false)),
+            is_awake: Apart::new(AtomicBool::new(false)),
             rests: AtomicU32::new(0),
             yields_of_callers: Yields::new(),
             yields_of_taker: Yields::new(),
@@ -160,35 +161,35 @@ impl Alertness {
 
     /// Lets threads look before they sleep, or not.
     pub(super) fn set_may_look(&self, may_look: bool) {
-        self.may_look.store(may_look, Ordering::Release);
+        self.may_look.value.store(may_look, Ordering::Release);
     }
 
     /// Returns whether the taker is awake. If so, who waits for a reply looks before it sleeps.
     pub(super) fn is_awake(&self) -> bool {
-        self.is_awake.load(Ordering::Acquire)
+        self.is_awake.value.load(Ordering::Acquire)
     }
 
     /// Tells the taker that there may be something to do.
     pub(super) fn ask(&self) {
-        self.asked.it.set();
+        self.asked.value.set();
     }
 
     /// Begins a poll of the taker for a request.
     pub(super) fn begin(&self) {
-        if self.may_look.load(Ordering::Acquire) {
+        if self.may_look.value.load(Ordering::Acquire) {
             if !self.is_awake() {
-                self.is_awake.store(true, Ordering::Release);
+                self.is_awake.value.store(true, Ordering::Release);
             }
-            self.asked.it.clear();
+            self.asked.value.clear();
         }
     }
 
     /// Looks for some microseconds whether the mark of a caller is set, and clears it. Returns
     /// whether it was.
     pub(super) fn look_for_reply(&self, mark: &Mark) -> bool {
-        self.looking.it.fetch_add(1, Ordering::Relaxed);
+        self.looking.value.fetch_add(1, Ordering::Relaxed);
         let is_seen = self.glance_for_reply(mark);
-        self.looking.it.fetch_sub(1, Ordering::Relaxed);
+        self.looking.value.fetch_sub(1, Ordering::Relaxed);
         is_seen
     }
 
@@ -197,7 +198,7 @@ impl Alertness {
             if mark.glance() {
                 return true;
             }
-            if self.looking.it.load(Ordering::Relaxed) > 1 {
+            if self.looking.value.load(Ordering::Relaxed) > 1 {
                 self.yield_to_callers();
             }
         }
@@ -207,10 +208,10 @@ impl Alertness {
     /// Lets other callers look. Without a clock of its own a caller takes that of the taker, which
     /// stands still once the taker sleeps.
     fn yield_to_callers(&self) {
-        let before = self.now.it.load(Ordering::Relaxed);
+        let before = self.now.value.load(Ordering::Relaxed);
         if self.yields_of_callers.may_yield(before) {
             yield_now();
-            let now = self.now.it.load(Ordering::Relaxed);
+            let now = self.now.value.load(Ordering::Relaxed);
             let is_dear = now.saturating_sub(before) > DEAR || !self.is_awake();
             self.yields_of_callers.note(is_dear, now);
         }
@@ -225,19 +226,19 @@ impl Alertness {
             }
             self.rests.store(RESTS, Ordering::Release);
         }
-        self.is_awake.store(false, Ordering::Release);
+        self.is_awake.value.store(false, Ordering::Release);
         false
     }
 
     /// Looks for some microseconds whether something came. Returns whether something may have.
     fn look_for_request(&self, clock: &impl Clock) -> bool {
         for _ in 0..GLANCES {
-            if self.asked.it.glance() {
+            if self.asked.value.glance() {
                 return true;
             }
             let before = self.read(clock);
             // They were answered, and may need this processor.
-            if self.looking.it.load(Ordering::Relaxed) > 0
+            if self.looking.value.load(Ordering::Relaxed) > 0
                 && self.yields_of_taker.may_yield(before)
             {
                 yield_now();
@@ -253,9 +254,9 @@ impl Alertness {
     fn read(&self, clock: &impl Clock) -> u64 {
         if let Ok(time) = clock.monotonic() {
             let micros = u64::try_from(time.as_micros()).unwrap_or(u64::MAX);
-            self.now.it.store(micros, Ordering::Relaxed);
+            self.now.value.store(micros, Ordering::Relaxed);
         }
-        self.now.it.load(Ordering::Relaxed)
+        self.now.value.load(Ordering::Relaxed)
     }
 
     /// Returns whether the taker looks this time. It does not some times after it looked in vain.
