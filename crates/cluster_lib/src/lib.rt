@@ -22,6 +22,7 @@ pub mod tally;
 
 pub use arguments::read_arguments;
 use arguments::{HELP, is_help};
+use commonware_broadcast::buffered::Runtime;
 use ended::finish;
 use fault::Fault;
 use measure::{measure, write_measured};
@@ -30,10 +31,7 @@ use rate::{Rate, is_rate};
 use run::run;
 use settings::Settings;
 use std::io::Write;
-use std::random::RandomSource;
-use std::sync::{Arc, Wait};
-use std::thread::Threads;
-use std::time::Clock;
+use std::sync::Arc;
 
 /// Does what the words say: runs a cluster and writes a line for each node and one for the account
 /// to `out`, or measures how many requests an engine answers, or prints what the arguments are.
@@ -41,7 +39,7 @@ use std::time::Clock;
 /// the exit status. The words are the arguments without the program's name.
 pub fn play<R, W, E>(rt: &R, words: &[String], out: W, err: E, terminal: Option<E>) -> u8
 where
-    R: Threads + Wait + Clock + RandomSource + AllocGlobal + Clone + Send + Sync + Drop + 'static,
+    R: Runtime,
     W: Write + Drop,
     E: Write + Send + Drop + 'static,
 {
@@ -60,7 +58,7 @@ fn play_words<R, W, E>(
     terminal: Option<E>,
 ) -> Result<(), Fault>
 where
-    R: Threads + Wait + Clock + RandomSource + AllocGlobal + Clone + Send + Sync + Drop + 'static,
+    R: Runtime,
     W: Write,
     E: Write + Send + Drop + 'static,
 {
@@ -81,7 +79,7 @@ fn play_run<R, W, E>(
     terminal: Option<E>,
 ) -> Result<(), Fault>
 where
-    R: Threads + Wait + Clock + RandomSource + AllocGlobal + Clone + Send + Sync + Drop + 'static,
+    R: Runtime,
     W: Write,
     E: Write + Send + Drop + 'static,
 {
@@ -99,7 +97,7 @@ fn play_rate<R, W, E>(
     terminal: Option<E>,
 ) -> Result<(), Fault>
 where
-    R: Threads + Wait + Clock + RandomSource + AllocGlobal + Clone + Send + Sync + Drop + 'static,
+    R: Runtime,
     W: Write,
     E: Write + Send + Drop + 'static,
 {

@@ -11,7 +11,7 @@ use crate::node::{Started, config, join, key_of, keys_of};
 use crate::progress::Progress;
 use crate::rate::Rate;
 use broadcast_core::{Digest, Key, TestMessage};
-use commonware_broadcast::buffered::{self, Get, Mailbox, Subscription};
+use commonware_broadcast::buffered::{self, Get, Mailbox, Runtime, Subscription};
 use memory_network::Network;
 use std::alloc::AllocGlobal;
 use std::fmt::{self, Display, Formatter};
@@ -69,7 +69,7 @@ impl Display for Measured {
 /// of them end.
 pub fn measure<R>(rt: &R, rate: Rate, progress: &Arc<Progress>) -> Result<Measured, Fault>
 where
-    R: Threads + Wait + Clock + RandomSource + AllocGlobal + Clone + Send + Sync + Drop + 'static,
+    R: Runtime,
 {
     let (handle, mailbox) = start_alone(rt)?;
     let measured = measure_node(rt, rate, progress, &mailbox);
@@ -81,7 +81,7 @@ where
 /// Starts a node that has no other peers.
 fn start_alone<R>(rt: &R) -> Result<Started<TestMessage, R>, Fault>
 where
-    R: Threads + Wait + Clock + RandomSource + AllocGlobal + Clone + Send + Sync + Drop + 'static,
+    R: Runtime,
 {
     let network = Network::new(rt, &keys_of(rt.alloc(), 1)?)?;
     let ends = join(rt, &network, &key_of(1))?;
@@ -97,7 +97,7 @@ fn measure_node<R>(
     mailbox: &Mailbox<Key, TestMessage, R>,
 ) -> Result<Measured, Fault>
 where
-    R: Threads + Wait + Clock + RandomSource + AllocGlobal + Clone + Send + Sync + Drop + 'static,
+    R: Runtime,
 {
     let _feedback = broadcast(rt, mailbox, 1, 1)?;
     let waiting = subscribe(rt, mailbox, rate.waiting)?;
@@ -133,7 +133,7 @@ fn time<R>(
     mailbox: &Mailbox<Key, TestMessage, R>,
 ) -> Result<Measured, Fault>
 where
-    R: Threads + Wait + Clock + RandomSource + AllocGlobal + Clone + Send + Sync + Drop + 'static,
+    R: Runtime,
 {
     let Ok(began) = Instant::now(rt) else {
         return Err(Fault::Clock);
@@ -157,7 +157,7 @@ fn run_clients<R>(
     mailbox: &Mailbox<Key, TestMessage, R>,
 ) -> Answered
 where
-    R: Threads + Wait + Clock + RandomSource + AllocGlobal + Clone + Send + Sync + Drop + 'static,
+    R: Runtime,
 {
     let failed = Arc::new(rt.alloc(), AtomicBool::new(false))?;
     let mut clients = Vec::new(rt.alloc());
@@ -180,7 +180,7 @@ fn start_clients<R>(
     clients: &mut Vec<JoinHandle<Answered>>,
 ) -> Result<(), Fault>
 where
-    R: Threads + Wait + Clock + RandomSource + AllocGlobal + Clone + Send + Sync + Drop + 'static,
+    R: Runtime,
 {
     for _ in 0..rate.clients {
         clients.reserve(1)?;
@@ -199,7 +199,7 @@ where
 /// Starts a client.
 fn start_client<R>(rt: &R, client: GetClient<R>) -> Result<JoinHandle<Answered>, Fault>
 where
-    R: Threads + Wait + Clock + RandomSource + AllocGlobal + Clone + Send + Sync + Drop + 'static,
+    R: Runtime,
 {
     match thread::spawn(rt, move || client.run()) {
         Ok(thread) => Ok(thread),

@@ -6,17 +6,13 @@ ghost use Rattle.broadcast_mailbox.specs.Account.{TallyState};
 use crate::fault::Fault;
 use broadcast_core::{Codec, Digestible, Key, RangeCfg, Set};
 use commonware_broadcast::buffered::{
-    Account, All, Books, Config, Engine, Handle, Mailbox, Sequential, StartError, Strategy, Tally,
-    WatchedNode,
+    Account, All, Books, Config, Engine, Handle, Mailbox, Runtime, Sequential, StartError,
+    Strategy, Tally, WatchedNode,
 };
 use memory_network::{Ends, Inbound, Network, Outbound, PeerSets};
 use std::alloc::{AllocError, AllocGlobal, Global};
 use std::num::NonZeroU32;
-use std::random::RandomSource;
-use std::sync::Wait;
 use std::sync::ledger::Blank;
-use std::thread::Threads;
-use std::time::Clock;
 
 /// A started node: the handle of its engine, and the mailbox of its callers.
 pub type Started<M, R, A = ()> = (Handle<Key, M, R, A>, Mailbox<Key, M, R, A>);
@@ -86,7 +82,7 @@ where
     M::Cfg: Send + Drop + 'static,
     T: Strategy<M> + Send + Drop + 'static,
     T::Job: Send + 'static,
-    R: Threads + Wait + Clock + RandomSource + AllocGlobal + Clone + Send + Sync + Drop + 'static,
+    R: Runtime,
     A: Account + Send + Sync + 'static,
     K: Account + Send + Sync + 'static,
     requires accepted { (accepted.name ≡ A.name) × (accepted.parts ≡ A.parts) }

@@ -10,19 +10,18 @@ use crate::session::{NodeSession, STRANGER};
 use crate::settings::Settings;
 use crate::shared::Shared;
 use broadcast_core::{CodecError, Key, Write};
+use commonware_broadcast::buffered::Runtime;
 use memory_network::{Mail, Network};
 use std::alloc::{AllocError, AllocGlobal, Global};
-use std::random::RandomSource;
 use std::sync::{Arc, Wait};
 use std::thread::{self, JoinHandle, Threads};
-use std::time::Clock;
 
 /// Runs the nodes of the numbers from 1, each with a client. Stops them once all clients have
 /// finished, or one has failed, or all engines are idle. Returns what became of the nodes, or the
 /// first fault.
 pub fn run<R>(rt: &R, settings: Settings, progress: &Arc<Progress>) -> Result<Ended, Fault>
 where
-    R: Threads + Wait + Clock + RandomSource + AllocGlobal + Clone + Send + Sync + Drop + 'static,
+    R: Runtime,
 {
     let network = disturbed_network(rt, settings.nodes)?;
     let shared = Shared::new(rt.alloc(), settings, network, Arc::try_clone(progress)?)?;
@@ -45,16 +44,16 @@ fn start_all<R>(
     threads: &mut Vec<JoinHandle<Outcome>>,
 ) -> Result<(), Fault>
 where
-    R: Threads + Wait + Clock + RandomSource + AllocGlobal + Clone + Send + Sync + Drop + 'static,
+    R: Runtime,
 {
     for (place, mail) in shared.network.mails().iter().enumerate() {
         threads.reserve(1)?;
         let session = NodeSession {
             number: place.saturating_add(1) as u64,
-            ends: join(rt, &shared.network, &mail.key)?,
             settings,
             shared: Arc::try_clone(shared)?,
             rt: rt.clone()?,
+            ends: join(rt, &shared.network, &mail.key)?,
         };
         threads.push_reserved(start(rt, shared, session)?);
     }
@@ -65,7 +64,7 @@ where
 /// at once.
 fn start<R>(rt: &R, shared: &Shared, session: NodeSession<R>) -> Result<JoinHandle<Outcome>, Fault>
 where
-    R: Threads + Wait + Clock + RandomSource + AllocGlobal + Clone + Send + Sync + Drop + 'static,
+    R: Runtime,
 {
     match thread::spawn(rt, move || session.play()) {
         Ok(thread) => Ok(thread),

@@ -15,16 +15,16 @@ use crate::shared::Shared;
 use crate::tally::{Counting, WholeTally};
 use broadcast_core::{Key, TestMessage};
 use broadcast_mailbox::Feedback;
-use commonware_broadcast::buffered::{Account, Bookkeeping, Mailbox, MailboxReport, StartError};
+use commonware_broadcast::buffered::{
+    Account, Bookkeeping, Mailbox, MailboxReport, Runtime, StartError,
+};
 use memory_network::Ends;
 use std::alloc::{AllocError, AllocGlobal};
 use std::marker::Brand;
 use std::num::NonZeroU32;
-use std::random::RandomSource;
 use std::sync::ledger::Blank;
 use std::sync::{Arc, Wait};
-use std::thread::{self, JoinHandle, Threads};
-use std::time::Clock;
+use std::thread::{self, JoinHandle};
 
 /// The number of a stranger, whose key no node has, and no node admits.
 pub const STRANGER: u64 = 0;
@@ -58,7 +58,7 @@ pub struct NodeSession<R> {
 
 impl<R> NodeSession<R>
 where
-    R: Threads + Wait + Clock + RandomSource + AllocGlobal + Clone + Send + Sync + Drop + 'static,
+    R: Runtime,
 {
     /// Runs the session with a new node. If it fails, all nodes and clients end.
     pub fn play(self) -> Result<Played, Fault> {
@@ -77,7 +77,7 @@ where
 /// Runs the session with a new node, and picks the ledgers of its account.
 fn play_node<R>(session: NodeSession<R>) -> Result<Played, Fault>
 where
-    R: Threads + Wait + Clock + RandomSource + AllocGlobal + Clone + Send + Sync + Drop + 'static,
+    R: Runtime,
 {
     let parts = NonZeroU32::MIN;
     let all = parts.get() as u64;
@@ -92,7 +92,7 @@ fn play_with<R, A, K>(
     taken: Blank,
 ) -> Result<Played, Fault>
 where
-    R: Threads + Wait + Clock + RandomSource + AllocGlobal + Clone + Send + Sync + Drop + 'static,
+    R: Runtime,
     A: Account + Send + Sync + 'static,
     K: Account + Send + Sync + 'static,
     requires accepted { (accepted.name ≡ A.name) × (accepted.parts ≡ A.parts) }
@@ -148,7 +148,7 @@ fn run_node<R, A, K>(
     tally: WholeTally<A>,
 ) -> Result<Played, Fault>
 where
-    R: Threads + Wait + Clock + RandomSource + AllocGlobal + Clone + Send + Sync + Drop + 'static,
+    R: Runtime,
     A: Account + Send + Sync + 'static,
     K: Account + Send + Sync + 'static,
     requires accounts { (A.all ≡ A.parts) × (K.all ≡ K.parts) }
@@ -174,7 +174,7 @@ fn start_client<R, A, K>(
     tally: WholeTally<A>,
 ) -> Result<JoinHandle<Finished<A>>, Fault>
 where
-    R: Threads + Wait + Clock + RandomSource + AllocGlobal + Clone + Send + Sync + Drop + 'static,
+    R: Runtime,
     A: Account + Send + Sync + 'static,
     K: Account + Send + Sync + 'static,
 {
@@ -200,10 +200,10 @@ where
 {
     Ok(Client {
         number,
-        mailbox: mailbox.clone()?,
         settings,
         shared: Arc::try_clone(shared)?,
         rt: rt.clone()?,
+        mailbox: mailbox.clone()?,
     })
 }
 

@@ -4,15 +4,12 @@ ghost use Rattle.std.specs.NonZero.{non_zero_usize_get};
 
 use broadcast_core::{Codec, Digestible, Key};
 use commonware_broadcast::buffered::{
-    Config, Engine, Handle, Mailbox, MailboxEngine, MailboxReport, StartError, Strategy,
+    Config, Engine, Handle, Mailbox, MailboxEngine, MailboxReport, Runtime, StartError, Strategy,
 };
 use memory_network::{Inbound, Mail, Outbound, PeerSets};
 use std::alloc::{AllocError, AllocGlobal};
 use std::num::NonZeroUsize;
-use std::random::RandomSource;
 use std::sync::{Arc, Wait};
-use std::thread::Threads;
-use std::time::Clock;
 
 /// The number of requests that a mailbox takes before it tells its callers to slow down.
 const MAILBOX_SIZE: usize = 1000;
@@ -34,7 +31,7 @@ pub struct Node<M: Digestible, R: Wait> {
 impl<M, R> Node<M, R>
 where
     M: Digestible,
-    R: Threads + Wait + Drop,
+    R: Runtime,
 {
     /// Waits for the end of the engine. Returns what it leaves.
     pub fn join(self, rt: &R) -> MailboxReport<Key, M, R> {
@@ -79,16 +76,15 @@ where
         T: Drop,
         R: AllocGlobal + Clone + Drop,
     {
-        let config = config(rt, codec_config, strategy, mail, deque_size)?;
-        let (engine, mailbox) = Engine::new(rt.clone()?, rt.alloc(), config)?;
+        let network = network(rt, mail, others)?;
+        let mail = Arc::try_clone(mail)?;
+        let config = config(rt, codec_config, strategy, &mail, deque_size)?;
+        let (engine, mailbox) = new_engine(rt, config)?;
         Ok(Prepared {
             engine,
             mailbox,
-            mail: Arc::try_clone(mail)?,
-            network: (
-                Outbound::new(rt, &mail.key, others)?,
-                Inbound::new(rt, mail)?,
-            ),
+            mail,
+            network,
         })
     }
 
@@ -100,7 +96,7 @@ where
         M::Cfg: Send + Drop + 'static,
         T: Send + Drop + 'static,
         T::Job: Send + 'static,
-        R: Threads + Clock + RandomSource + AllocGlobal + Clone + Send + Sync + Drop + 'static,
+        R: Runtime,
     {
         let Prepared {
             engine,
@@ -119,6 +115,33 @@ where
     }
 }
 
+/// Creates the ends of the network of this mail's node, which sends to the others.
+pub fn network<R>(
+    rt: &R,
+    mail: &Arc<Mail<Key>>,
+    others: Vec<Arc<Mail<Key>>>,
+) -> Result<(Outbound<Key, R>, Inbound<Key, R>), AllocError>
+where
+    R: AllocGlobal + Clone + Drop,
+{
+    let outbound = Outbound::new(rt, &mail.key, others)?;
+    Ok((outbound, Inbound::new(rt, mail)?))
+}
+
+/// Creates an engine and its mailbox.
+fn new_engine<M, T, R>(
+    rt: &R,
+    config: Config<Key, M::Cfg, PeerSets<Key, R>, T>,
+) -> Result<(NodeEngine<M, T, R>, Mailbox<Key, M, R>), AllocError>
+where
+    M: Digestible + Codec,
+    M::Cfg: Drop,
+    T: Strategy<M> + Drop,
+    R: Wait + AllocGlobal + Clone + Drop,
+{
+    Engine::new(rt.clone()?, rt.alloc(), config)
+}
+
 /// Starts the node of this mail, which sends to the others. Fails if there is no memory for its
 /// engine.
 pub fn start<M, T, R>(
@@ -135,7 +158,7 @@ where
     M::Cfg: Send + Drop + 'static,
     T: Strategy<M> + Send + Drop + 'static,
     T::Job: Send + 'static,
-    R: Threads + Wait + Clock + RandomSource + AllocGlobal + Clone + Send + Sync + Drop + 'static,
+    R: Runtime,
 {
     let prepared = Prepared::new(rt, codec_config, strategy, mail, others, deque_size)?;
     Ok(prepared.start(rt))

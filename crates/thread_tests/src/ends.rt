@@ -2,7 +2,7 @@
 use super::patient::pause;
 use broadcast_core::{Key, TestMessage};
 use broadcast_mailbox::MailboxError;
-use commonware_broadcast::buffered::{EndCause, Mailbox, Sequential};
+use commonware_broadcast::buffered::{EndCause, Mailbox, Runtime, Sequential};
 use memory_network::Mail;
 use memory_node::node::Node;
 use memory_node::support::nodes::{broadcast, gets, start};
@@ -11,7 +11,7 @@ use std::random::RandomSource;
 use std::sync::atomic::Ordering;
 use std::sync::{Arc, Wait};
 use std::test::Fail;
-use std::thread::{self, JoinHandle, Threads};
+use std::thread::{self, JoinHandle};
 use std::time::Clock;
 
 /// Returns whether an engine that has answered is not polled while nothing happens.
@@ -47,7 +47,7 @@ fn start_failing<R>(
     node: &Node<TestMessage, R>,
 ) -> Result<JoinHandle<Result<bool, MailboxError>>, Fail>
 where
-    R: Threads + Wait + Clock + RandomSource + AllocGlobal + Clone + Send + Sync + Drop + 'static,
+    R: Runtime,
 {
     let mailbox = node.mailbox.clone()?;
     let mail = Arc::try_clone(&node.mail)?;
@@ -59,7 +59,7 @@ where
 /// broadcast, and why it ended.
 fn join<R>(rt: &R) -> Result<(bool, EndCause), Fail>
 where
-    R: Threads + Wait + Clock + RandomSource + AllocGlobal + Clone + Send + Sync + Drop + 'static,
+    R: Runtime,
 {
     let node = start(rt, Sequential)?;
     let failing = start_failing(rt, &node)?;

@@ -4,19 +4,19 @@ ghost use Rattle.digest_strategies.specs.Workers.{IsWorkerOf, WaitsFor};
 
 use super::patient::LIMIT;
 use broadcast_core::{Digest, Digestible, TestMessage};
-use commonware_broadcast::buffered::{Gate, Job, Strategy, Threaded, Work, Worker, Working};
+use commonware_broadcast::buffered::{
+    Gate, Job, Runtime, Strategy, Threaded, Work, Worker, Working,
+};
 use futures::executor::block_on;
 use futures::future::poll_fn;
 use futures::task::{Context, Poll};
 use memory_node::support::task::Task;
 use std::alloc::{AllocError, AllocGlobal, Global};
 use std::io;
-use std::random::RandomSource;
+use std::sync::Arc;
 use std::sync::atomic::{AtomicU64, Ordering};
-use std::sync::{Arc, Wait};
 use std::test::Fail;
 use std::thread::{self, Threads};
-use std::time::Clock;
 
 /// How often a job is polled while its worker waits at the gate.
 pub const POLLS: u64 = 100;
@@ -101,7 +101,7 @@ impl<R: Threads> Work<Meeting, R> for TestMessage {
 /// the second was started, and whether each job gave the digest of its message.
 fn meet<R>(rt: &R) -> Result<(u64, bool, bool), Fail>
 where
-    R: Threads + Wait + Clock + RandomSource + AllocGlobal + Clone + Drop,
+    R: Runtime,
 {
     let gate = Meeting::new(rt.alloc())?;
     let strategy = Threaded::new(rt.clone()?, rt.alloc(), Arc::try_clone(&gate)?);
@@ -113,7 +113,7 @@ where
 /// whether the first was pending until then, and whether each gave the digest of its message.
 fn digests<R>(rt: &R, gate: &Meeting, strategy: &Threaded<Meeting, R>) -> Result<(bool, bool), Fail>
 where
-    R: Threads + Wait + Clock + RandomSource + AllocGlobal + Clone + Drop,
+    R: Runtime,
 {
     let (first, second) = (message(rt.alloc(), 1)?, message(rt.alloc(), 2)?);
     let wanted = (first.digest(), second.digest());
@@ -129,7 +129,7 @@ where
 /// Polls a job some times. Returns whether it stays pending, and nothing wakes its task.
 fn is_pending<R>(task: &mut Task, job: &mut Working<TestMessage, Meeting, R>) -> bool
 where
-    R: Threads + Drop,
+    R: Runtime,
 {
     for _ in 0..POLLS {
         let mut cx = task.solo.begin();
@@ -146,7 +146,7 @@ where
 /// Waits for the digest of a job.
 fn digest<R>(rt: &R, job: &mut Working<TestMessage, Meeting, R>) -> io::Result<Digest>
 where
-    R: Threads + Wait + Clock + RandomSource + AllocGlobal + Drop,
+    R: Runtime,
 {
     let (_, digest) = block_on(rt, poll_fn(|cx| job.poll(cx)))?;
     Ok(digest)

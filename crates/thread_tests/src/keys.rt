@@ -1,17 +1,15 @@
 //! Engines in threads whose peers have numbers as keys.
 use broadcast_core::{RangeCfg, TestMessage};
 use commonware_broadcast::buffered::{
-    Config, EndCause, Handle, Mailbox, Open, Sequential, Status, Threaded, start, start_threaded,
+    Config, EndCause, Handle, Mailbox, Open, Runtime, Sequential, Status, Threaded, start,
+    start_threaded,
 };
 use memory_network::{Ends, Network};
 use memory_node::support::nodes::digest;
 use std::alloc::AllocGlobal;
 use std::num::NonZeroUsize;
-use std::random::RandomSource;
 use std::sync::{Arc, Wait};
 use std::test::Fail;
-use std::thread::Threads;
-use std::time::Clock;
 
 type Running<R> = (Handle<u64, TestMessage, R>, Mailbox<u64, TestMessage, R>);
 
@@ -41,7 +39,7 @@ fn config<B, T>(peer_provider: B, strategy: T) -> Config<u64, RangeCfg, B, T> {
 /// Starts an engine that digests messages itself.
 fn sequential<R>(rt: &R) -> Result<Running<R>, Fail>
 where
-    R: Threads + Wait + Clock + RandomSource + AllocGlobal + Clone + Send + Sync + Drop + 'static,
+    R: Runtime,
 {
     let ends = ends(rt)?;
     let cfg = config(ends.provider, Sequential);
@@ -51,7 +49,7 @@ where
 /// Starts an engine whose messages are digested on other threads.
 fn threaded<R>(rt: &R) -> Result<Running<R>, Fail>
 where
-    R: Threads + Wait + Clock + RandomSource + AllocGlobal + Clone + Send + Sync + Drop + 'static,
+    R: Runtime,
 {
     let gate = Arc::new(rt.alloc(), Open)?;
     let strategy = Threaded::new(rt.clone()?, rt.alloc(), gate);
@@ -64,7 +62,7 @@ where
 /// came, and was counted for its peer.
 fn receives<R>(rt: &R, running: Running<R>) -> Result<bool, Fail>
 where
-    R: Threads + Wait + Clock + RandomSource + AllocGlobal + Drop,
+    R: Runtime,
 {
     let (handle, mailbox) = running;
     let came = mailbox.subscribe(digest(rt.alloc(), 2)?)?.wait(rt).is_ok();
@@ -78,7 +76,7 @@ where
 /// Starts an engine with each strategy.
 fn start_both<R>(rt: &R) -> Result<bool, Fail>
 where
-    R: Threads + Wait + Clock + RandomSource + AllocGlobal + Clone + Send + Sync + Drop + 'static,
+    R: Runtime,
 {
     let alone = receives(rt, sequential(rt)?)?;
     Ok(alone && receives(rt, threaded(rt)?)?)

@@ -3,7 +3,7 @@ use super::nodes::wait_for_close;
 use super::patient::{LIMIT, pause};
 use broadcast_core::{Key, TestMessage};
 use commonware_broadcast::buffered::{
-    Handle, Metrics, MetricsError, Sequential, Status, Subscription,
+    Handle, Metrics, MetricsError, Runtime, Sequential, Status, Subscription,
 };
 use memory_node::keys::key_of;
 use memory_node::node::Node;
@@ -13,7 +13,6 @@ use std::random::RandomSource;
 use std::sync::Wait;
 use std::sync::atomic::Ordering;
 use std::test::Fail;
-use std::thread::Threads;
 use std::time::{Clock, Duration};
 
 /// The payloads of peer 5 that were decoded, messages that were received and that were invalid,
@@ -57,7 +56,7 @@ where
 /// Returns what a fed node tells of its counters, and how often that let its engine poll.
 fn told<R>(rt: &R) -> Result<(Counts, Counts, u64), Fail>
 where
-    R: Threads + Wait + Clock + RandomSource + AllocGlobal + Clone + Send + Sync + Drop + 'static,
+    R: Runtime,
 {
     let node = start(rt, Sequential)?;
     let open = feed(rt, &node)?;
@@ -84,7 +83,7 @@ fn counters_are_told_and_cost_a_poll_at_most(rt: HostRuntime) -> Result<(), Fail
 /// Waits until the engine has ended. Returns whether it has.
 fn wait_for_end<R>(rt: &R, handle: &Handle<Key, TestMessage, R>) -> bool
 where
-    R: Threads + Wait + Clock + Drop,
+    R: Runtime,
 {
     for _ in 0..LIMIT {
         if handle.is_finished() {
@@ -99,7 +98,7 @@ where
 /// does not tell its counters then.
 fn ended<R>(rt: &R) -> Result<(bool, bool, Option<MetricsError>), Fail>
 where
-    R: Threads + Wait + Clock + RandomSource + AllocGlobal + Clone + Send + Sync + Drop + 'static,
+    R: Runtime,
 {
     let node = start(rt, Sequential)?;
     let _answered = gets(rt, &node.mailbox, 1)?;
@@ -120,7 +119,7 @@ fn an_engine_that_ended_tells_so(rt: HostRuntime) -> Result<(), Fail> {
 /// Returns whether an engine ends whose handle is dropped.
 fn ends_when_dropped<R>(rt: &R) -> Result<bool, Fail>
 where
-    R: Threads + Wait + Clock + RandomSource + AllocGlobal + Clone + Send + Sync + Drop + 'static,
+    R: Runtime,
 {
     let Node {
         mailbox,
@@ -141,7 +140,7 @@ fn a_dropped_handle_stops_its_engine(rt: HostRuntime) -> Result<(), Fail> {
 /// whether it ended.
 fn runs_on<R>(rt: &R) -> Result<(bool, bool), Fail>
 where
-    R: Threads + Wait + Clock + RandomSource + AllocGlobal + Clone + Send + Sync + Drop + 'static,
+    R: Runtime,
 {
     let Node {
         mailbox,

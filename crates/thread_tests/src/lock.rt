@@ -2,13 +2,13 @@
 use super::nodes::{hold, start_patient};
 use super::patient::Talk;
 use broadcast_core::TestMessage;
+use commonware_broadcast::buffered::Runtime;
 use memory_node::node::Node;
 use memory_node::support::nodes::{broadcast, subscribe};
 use std::alloc::AllocGlobal;
 use std::random::RandomSource;
 use std::sync::Wait;
 use std::test::Fail;
-use std::thread::Threads;
 use std::time::Clock;
 
 /// Whether a broadcast was accepted while a job was pending at an engine, the job was polled to its
@@ -23,7 +23,7 @@ struct Answered {
 /// Broadcasts while a job is pending, which waits for the answer.
 fn broadcast_meanwhile<R>(rt: &R) -> Result<Answered, Fail>
 where
-    R: Threads + Wait + Clock + RandomSource + AllocGlobal + Clone + Send + Sync + Drop + 'static,
+    R: Runtime,
 {
     let (node, talk) = start_patient(rt)?;
     let answered = answers(rt, &node, &talk)?;

@@ -3,42 +3,40 @@ use super::patient::{LIMIT, Patient, Talk, pause};
 use broadcast_core::{Key, RangeCfg, TestMessage};
 use broadcast_mailbox::MailboxError;
 use commonware_broadcast::Feedback;
-use commonware_broadcast::buffered::{self, Mailbox, Open, Pool, Threaded};
+use commonware_broadcast::buffered::{self, Mailbox, Open, Pool, Runtime, Threaded, Work};
 use memory_network::Mail;
 use memory_node::node::{Node, config};
 use memory_node::support::nodes::{broadcast, network, send, start, track};
 use std::alloc::AllocGlobal;
-use std::random::RandomSource;
 use std::sync::{Arc, Wait};
 use std::test::Fail;
-use std::thread::Threads;
 use std::time::Clock;
 
 /// Starts the node of number 1, whose messages are digested on other threads.
 pub fn start_threaded<R>(rt: &R) -> Result<Node<TestMessage, R>, Fail>
 where
-    R: Threads + Wait + Clock + RandomSource + AllocGlobal + Clone + Send + Sync + Drop + 'static,
+    R: Runtime,
 {
-    let gate = Arc::new(rt.alloc(), Open)?;
-    let strategy = Threaded::new(rt.clone()?, rt.alloc(), gate);
-    let (mail, network) = network(rt)?;
-    let cfg = config(rt, RangeCfg::any(), strategy, &mail, 4)?;
-    let (handle, mailbox) = buffered::start_threaded(rt, cfg, network)?;
-    Ok(Node {
-        mailbox,
-        mail,
-        handle,
-    })
+    start_gated(rt, Open)
 }
 
 /// Starts the node of number 1, whose messages are digested on the thread of the pool.
 pub fn start_pooled<R>(rt: &R, pool: Pool<TestMessage, R>) -> Result<Node<TestMessage, R>, Fail>
 where
-    R: Threads + Wait + Clock + RandomSource + AllocGlobal + Clone + Send + Sync + Drop + 'static,
+    R: Runtime,
 {
-    let pool = Arc::new(rt.alloc(), pool)?;
-    let strategy = Threaded::new(rt.clone()?, rt.alloc(), pool);
+    start_gated(rt, pool)
+}
+
+/// Starts the node of number 1, whose messages are digested once they pass the gate.
+fn start_gated<G, R>(rt: &R, gate: G) -> Result<Node<TestMessage, R>, Fail>
+where
+    TestMessage: Work<G, R>,
+    G: Send + Sync + Drop + 'static,
+    R: Runtime,
+{
     let (mail, network) = network(rt)?;
+    let strategy = Threaded::new(rt.clone()?, rt.alloc(), Arc::new(rt.alloc(), gate)?);
     let cfg = config(rt, RangeCfg::any(), strategy, &mail, 4)?;
     let (handle, mailbox) = buffered::start_threaded(rt, cfg, network)?;
     Ok(Node {
@@ -51,7 +49,7 @@ where
 /// Starts the node of number 1, whose jobs take part in a talk.
 pub fn start_patient<R>(rt: &R) -> Result<(Node<TestMessage, R>, Arc<Talk>), Fail>
 where
-    R: Threads + Wait + Clock + RandomSource + AllocGlobal + Clone + Send + Sync + Drop + 'static,
+    R: Runtime,
 {
     let talk = Talk::new(rt)?;
     let strategy = Patient::new(rt, &talk)?;

@@ -1,7 +1,7 @@
 //! What the observers of a started engine see.
 use broadcast_core::{Cause, CodecError, Digest, Key, Outcome, RangeCfg, TestMessage};
 use commonware_broadcast::buffered::{
-    EndCause, Lines, Mailbox, Observer, Open, Recent, Sequential, Threaded, Turn,
+    EndCause, Lines, Mailbox, Observer, Open, Recent, Runtime, Sequential, Threaded, Turn,
 };
 use memory_network::{Mail, Network};
 use memory_node::keys::key_of;
@@ -12,13 +12,11 @@ use std::io::{self, Write};
 use std::random::RandomSource;
 use std::sync::{Arc, Wait};
 use std::test::Fail;
-use std::thread::Threads;
-use std::time::Clock;
 
 /// Lets a node with the observer take some inputs, and end. Returns the observer.
 fn observe<R, W>(rt: &R, observer: W) -> Result<W, Fail>
 where
-    R: Threads + Wait + Clock + RandomSource + AllocGlobal + Clone + Send + Sync + Drop + 'static,
+    R: Runtime,
     W: Observer<Key, Digest> + Send + Drop + 'static,
 {
     let network = Network::between(rt, &[key_of(1), key_of(5)])?;
@@ -33,13 +31,12 @@ where
 /// Lets a node that digests on other threads take the same inputs, and end. Returns the observer.
 fn observe_threaded<R, W>(rt: &R, observer: W) -> Result<W, Fail>
 where
-    R: Threads + Wait + Clock + RandomSource + AllocGlobal + Clone + Send + Sync + Drop + 'static,
+    R: Runtime,
     W: Observer<Key, Digest> + Send + Drop + 'static,
 {
+    let strategy = Threaded::new(rt.clone()?, rt.alloc(), Arc::new(rt.alloc(), Open)?);
     let network = Network::between(rt, &[key_of(1), key_of(5)])?;
     let ends = network.join(rt, &key_of(1))?;
-    let gate = Arc::new(rt.alloc(), Open)?;
-    let strategy = Threaded::new(rt.clone()?, rt.alloc(), gate);
     let config = config(rt, RangeCfg::any(), strategy, &ends.mail, 4)?;
     let network = (ends.sender, ends.receiver);
     let (handle, mailbox) = config.observed_by(observer).start_threaded(rt, network)?;

@@ -5,7 +5,7 @@ use super::gates::{Meeting, POLLS};
 use super::nodes::start_pooled;
 use super::patient::{LIMIT, pause};
 use broadcast_core::{Digestible, TestMessage};
-use commonware_broadcast::buffered::{EndCause, Gate, Pool, Pooled, Status};
+use commonware_broadcast::buffered::{EndCause, Gate, Pool, Pooled, Runtime, Status};
 use memory_node::node::Node;
 use memory_node::support::nodes::{broadcast, gets, send, subscribe, track};
 use memory_node::support::poor::{Poor, Supply};
@@ -14,7 +14,7 @@ use std::alloc::{AllocError, AllocGlobal};
 use std::random::RandomSource;
 use std::sync::{Arc, Wait};
 use std::test::Fail;
-use std::thread::{self, JoinHandle, Threads};
+use std::thread::{self, JoinHandle};
 use std::time::{Clock, Duration};
 
 /// The letters of the messages that a peer sends.
@@ -26,7 +26,7 @@ const OWN: u8 = 1;
 /// Starts a pool, each of whose runtimes has the supply.
 fn start_pool<R>(rt: &R, supply: &Arc<Supply>) -> Result<Pool<TestMessage, Poor<R>>, AllocError>
 where
-    R: Threads + Wait + AllocGlobal + Clone + Send + Drop + 'static,
+    R: Runtime,
 {
     let poor = Poor::new(rt, supply)?;
     Pool::start(&poor, rt.alloc())
@@ -63,7 +63,7 @@ where
 /// messages it took.
 fn run<R>(rt: &R, pool: Pool<TestMessage, R>) -> Result<(bool, EndCause, u64), Fail>
 where
-    R: Threads + Wait + Clock + RandomSource + AllocGlobal + Clone + Send + Sync + Drop + 'static,
+    R: Runtime,
 {
     let node = start_pooled(rt, pool)?;
     let served = serves(rt, &node)?;
@@ -88,7 +88,7 @@ fn wait_for_end(clock: &impl Clock, supply: &Arc<Supply>) -> bool {
 /// Runs an engine with a pool. Returns what `run` does, and whether the pool's thread ends with it.
 fn run_pooled<R>(rt: &R) -> Result<((bool, EndCause, u64), bool), Fail>
 where
-    R: Threads + Wait + Clock + RandomSource + AllocGlobal + Clone + Send + Sync + Drop + 'static,
+    R: Runtime,
 {
     let supply = Supply::new(rt.alloc())?;
     let pool = start_pool(rt, &supply)?;
@@ -129,7 +129,7 @@ type Holding<R> = (Pool<Held, R>, Pooled<Held>);
 /// Starts a pool that digests a message.
 fn hold<R>(rt: &R, gate: &Arc<Meeting>) -> Result<Holding<R>, AllocError>
 where
-    R: Threads + Wait + AllocGlobal + Clone + Send + Drop + 'static,
+    R: Runtime,
 {
     let pool = Pool::start(rt, rt.alloc())?;
     let held = Held {
@@ -180,7 +180,7 @@ type Course = (bool, bool, bool);
 /// how many threads met, and the digest.
 fn release<R>(rt: &R) -> Result<(Course, u64, u64), Fail>
 where
-    R: Threads + Wait + Clock + RandomSource + AllocGlobal + Clone + Send + Drop + 'static,
+    R: Runtime,
 {
     let gate = Meeting::new(rt.alloc())?;
     let mut task = Task::new(rt)?;
@@ -204,7 +204,7 @@ fn a_job_is_pending_until_the_thread_of_its_pool_has_digested(rt: HostRuntime) -
 /// Starts a thread that passes the gate later.
 fn pass_later<R>(rt: &R, gate: &Arc<Meeting>) -> Result<JoinHandle<()>, Fail>
 where
-    R: Threads + Clock + Clone + Send + Drop + 'static,
+    R: Runtime,
 {
     let gate = Arc::try_clone(gate)?;
     let own = rt.clone()?;
@@ -218,7 +218,7 @@ where
 /// many have at last.
 fn drop_held<R>(rt: &R) -> Result<(bool, u64), Fail>
 where
-    R: Threads + Wait + Clock + AllocGlobal + Clone + Send + Drop + 'static,
+    R: Runtime,
 {
     let gate = Meeting::new(rt.alloc())?;
     let holding = hold(rt, &gate)?;

@@ -3,7 +3,9 @@ use super::nodes::{hold, start_patient, wait_for_close};
 use super::patient::Talk;
 use broadcast_core::{Key, TestMessage};
 use commonware_broadcast::Feedback;
-use commonware_broadcast::buffered::{EndCause, Mailbox, Sequential, Status, Subscription};
+use commonware_broadcast::buffered::{
+    EndCause, Mailbox, Runtime, Sequential, Status, Subscription,
+};
 use memory_network::Mail;
 use memory_node::node::Node;
 use memory_node::support::nodes::{broadcast, digest, gets, send, start, subscribe, track};
@@ -11,7 +13,6 @@ use std::alloc::{AllocError, AllocGlobal};
 use std::random::RandomSource;
 use std::sync::Wait;
 use std::test::Fail;
-use std::thread::Threads;
 use std::time::Clock;
 
 /// What a stopped engine left: whether it closed its mailbox before a job that was pending gave up,
@@ -31,7 +32,7 @@ struct Stopped {
 /// Stops an engine, some times, with a job pending or idle, and joins it.
 fn stop<R>(rt: &R, is_busy: bool, times: u64) -> Result<Stopped, Fail>
 where
-    R: Threads + Wait + Clock + RandomSource + AllocGlobal + Clone + Send + Sync + Drop + 'static,
+    R: Runtime,
 {
     let (node, talk) = start_patient(rt)?;
     let (waiting, prompt) = ask_to_stop(rt, &node, &talk, is_busy, times)?;
@@ -50,7 +51,7 @@ fn ask_to_stop<R>(
     times: u64,
 ) -> Result<(Subscription<TestMessage>, bool), Fail>
 where
-    R: Threads + Wait + Clock + AllocGlobal + Clone + Send + Drop + 'static,
+    R: Runtime,
 {
     if is_busy {
         hold(rt, &node.mail, talk)?;
@@ -65,7 +66,7 @@ where
 /// Joins the engine of a node. Returns its mailbox, and its cause.
 fn join<R>(rt: &R, node: Node<TestMessage, R>) -> (Mailbox<Key, TestMessage, R>, EndCause)
 where
-    R: Threads + Wait + Drop,
+    R: Runtime,
 {
     let Node {
         mailbox,
@@ -139,7 +140,7 @@ fn feed<R: Wait + AllocGlobal>(rt: &R, mail: &Mail<Key>) -> Result<(), AllocErro
 /// payloads were taken and how many were no message.
 fn served<R>(rt: &R) -> Result<(bool, u64, u64), Fail>
 where
-    R: Threads + Wait + Clock + RandomSource + AllocGlobal + Clone + Send + Sync + Drop + 'static,
+    R: Runtime,
 {
     let node = start(rt, Sequential)?;
     let got = hears(rt, &node)?;
@@ -156,7 +157,7 @@ where
 /// served.
 fn hears<R>(rt: &R, node: &Node<TestMessage, R>) -> Result<bool, Fail>
 where
-    R: Threads + Wait + Clock + RandomSource + AllocGlobal + Drop,
+    R: Runtime,
 {
     let waiting = subscribe(rt, &node.mailbox, 2)?;
     feed(rt, &node.mail)?;

@@ -3,7 +3,7 @@ use super::nodes::start_threaded;
 use super::patient::{LIMIT, pause};
 use broadcast_core::{Key, TestMessage};
 use broadcast_mailbox::MailboxError;
-use commonware_broadcast::buffered::{EndCause, Mailbox, Metrics, Status, Subscription};
+use commonware_broadcast::buffered::{EndCause, Mailbox, Metrics, Runtime, Status, Subscription};
 use memory_network::Mail;
 use memory_node::keys::key_of;
 use memory_node::node::Node;
@@ -98,7 +98,7 @@ fn start_callers<R>(
     made: &Arc<AtomicU64>,
 ) -> Result<Vec<JoinHandle<Outcome>>, Fail>
 where
-    R: Threads + Wait + Clock + RandomSource + AllocGlobal + Clone + Send + Sync + Drop + 'static,
+    R: Runtime,
 {
     let mut callers = Vec::new(rt.alloc());
     for _ in 0..CALLERS {
@@ -114,7 +114,7 @@ fn start_caller<R>(
     made: &Arc<AtomicU64>,
 ) -> Result<JoinHandle<Outcome>, Fail>
 where
-    R: Threads + Wait + Clock + RandomSource + AllocGlobal + Clone + Send + Sync + Drop + 'static,
+    R: Runtime,
 {
     let caller = Caller {
         mailbox: mailbox.clone()?,
@@ -158,7 +158,7 @@ fn feed<R: Wait + AllocGlobal>(rt: &R, mail: &Mail<Key>) -> Result<(), AllocErro
 /// Starts the feeder. Its thread returns whether all was handed over.
 fn start_feeder<R>(rt: &R, mail: &Arc<Mail<Key>>) -> Result<JoinHandle<bool>, Fail>
 where
-    R: Threads + Wait + AllocGlobal + Clone + Send + Sync + Drop + 'static,
+    R: Runtime,
 {
     let mail = Arc::try_clone(mail)?;
     let own = rt.clone()?;
@@ -229,7 +229,7 @@ struct Workers {
 /// Starts the callers and the feeder of the node.
 fn start_workers<R>(rt: &R, node: &Node<TestMessage, R>) -> Result<Workers, Fail>
 where
-    R: Threads + Wait + Clock + RandomSource + AllocGlobal + Clone + Send + Sync + Drop + 'static,
+    R: Runtime,
 {
     let made = Arc::new(rt.alloc(), AtomicU64::new(0))?;
     let callers = start_callers(rt, &node.mailbox, &made)?;
@@ -250,7 +250,7 @@ fn stop<R>(
     first: Ends,
 ) -> Result<Account, Fail>
 where
-    R: Threads + Wait + Drop,
+    R: Runtime,
 {
     node.handle.stop();
     node.mail.fail(rt)?;
@@ -287,7 +287,7 @@ where
 /// Lets callers and a feeder work at an engine, and stops it once half of the requests are made.
 fn soak<R>(rt: &R) -> Result<Account, Fail>
 where
-    R: Threads + Wait + Clock + RandomSource + AllocGlobal + Clone + Send + Sync + Drop + 'static,
+    R: Runtime,
 {
     let node = start_threaded(rt)?;
     let first = greet(rt, &node)?;

@@ -2,18 +2,15 @@
 use super::nodes::wait_for_close;
 use broadcast_core::{Codec, Digestible, Key, RangeCfg, TestMessage};
 use commonware_broadcast::Feedback;
-use commonware_broadcast::buffered::{EndCause, Handle, Mailbox, Sequential, StartError};
+use commonware_broadcast::buffered::{EndCause, Handle, Mailbox, Runtime, Sequential, StartError};
 use memory_network::Mail;
 use memory_node::keys::key_of;
 use memory_node::node::{Node, Prepared, Started};
 use memory_node::support::nodes::broadcast;
 use memory_node::support::poor::{Poor, Supply};
 use std::alloc::{AllocError, AllocGlobal};
-use std::random::RandomSource;
 use std::sync::{Arc, Wait};
 use std::test::Fail;
-use std::thread::Threads;
-use std::time::Clock;
 
 /// How a start ends: its error, or the cause with which the engine ended.
 type Ending = Result<EndCause, StartError>;
@@ -69,7 +66,7 @@ fn stop<R>(
     handle: Handle<Key, TestMessage, R>,
 ) -> Result<EndCause, Fail>
 where
-    R: Threads + Wait + Clock + AllocGlobal + Clone + Send + Drop + 'static,
+    R: Runtime,
 {
     handle.stop();
     let _closed = wait_for_close(rt, mailbox)?;
@@ -88,7 +85,7 @@ where
     M: Digestible + Codec + Send + Sync + 'static,
     M::Digest: 'static,
     M::Cfg: Send + Drop + 'static,
-    R: Threads + Wait + Clock + RandomSource + AllocGlobal + Clone + Send + Sync + Drop + 'static,
+    R: Runtime,
 {
     let mail = Arc::new(rt.alloc(), Mail::new(rt.alloc(), key_of(1)))?;
     let others = Vec::new(rt.alloc());
@@ -101,7 +98,7 @@ where
 /// is closed.
 fn start<R>(rt: &Poor<R>, copies: u64, randoms: u64) -> Result<(Ending, bool), Fail>
 where
-    R: Threads + Wait + Clock + RandomSource + AllocGlobal + Clone + Send + Sync + Drop + 'static,
+    R: Runtime,
 {
     match start_with(rt, RangeCfg::any(), copies, randoms)? {
         Ok(node) => stopped(rt, node),
@@ -112,7 +109,7 @@ where
 /// Stops a node. Returns its cause, and whether its mailbox is closed.
 fn stopped<R>(rt: &R, node: Node<TestMessage, R>) -> Result<(Ending, bool), Fail>
 where
-    R: Threads + Wait + Clock + AllocGlobal + Clone + Send + Drop + 'static,
+    R: Runtime,
 {
     let Node {
         mailbox,
@@ -134,7 +131,7 @@ where
 /// Starts an engine for each row.
 fn start_all<R>(rt: &R) -> Result<(), Fail>
 where
-    R: Threads + Wait + Clock + RandomSource + AllocGlobal + Clone + Send + Sync + Drop + 'static,
+    R: Runtime,
 {
     for row in cases() {
         let poor = Poor::new(rt, &Supply::new(rt.alloc())?)?;

@@ -2,16 +2,13 @@
 use crate::buffered::config::{Config, Observed};
 use crate::buffered::engine::{Engine, StartError};
 use crate::buffered::front::MailboxEngine;
+use crate::buffered::runtime::Runtime;
 use crate::buffered::started::Handle;
 use broadcast_core::{Codec, Digestible, PublicKey};
 use broadcast_mailbox::buffered::Mailbox;
 use digest_strategies::{Strategy, Threaded, Work};
 use engine_io::{Observer, Provider, Receiver, Sender};
 use std::alloc::{AllocError, AllocGlobal};
-use std::random::RandomSource;
-use std::sync::Wait;
-use std::thread::Threads;
-use std::time::Clock;
 
 /// Creates an engine and its mailbox, and starts it in a thread of its own, where it runs until it
 /// ends.
@@ -32,7 +29,7 @@ where
     T::Job: Send + 'static,
     N: Sender<P> + Send + Drop + 'static,
     V: Receiver<P> + Send + Drop + 'static,
-    R: Threads + Wait + Clock + RandomSource + AllocGlobal + Clone + Send + Sync + Drop + 'static,
+    R: Runtime,
 {
     cfg.observed_by(()).start(rt, network)
 }
@@ -55,7 +52,7 @@ where
     G: Send + Sync + Drop + 'static,
     N: Sender<P> + Send + Drop + 'static,
     V: Receiver<P> + Send + Drop + 'static,
-    R: Threads + Wait + Clock + RandomSource + AllocGlobal + Clone + Send + Sync + Drop + 'static,
+    R: Runtime,
 {
     cfg.observed_by(()).start_threaded(rt, network)
 }
@@ -84,16 +81,7 @@ where
         T::Job: Send + 'static,
         N: Sender<P> + Send + Drop + 'static,
         V: Receiver<P> + Send + Drop + 'static,
-        R: Threads
-            + Wait
-            + Clock
-            + RandomSource
-            + AllocGlobal
-            + Clone
-            + Send
-            + Sync
-            + Drop
-            + 'static,
+        R: Runtime,
         W: Observer<P, M::Digest>,
     {
         let Observed { config, observer } = self;
@@ -112,7 +100,7 @@ where
     C: Send + Drop + 'static,
     B: Provider<P> + Send + Drop + 'static,
     G: Send + Sync + Drop + 'static,
-    R: Threads + Wait + Clock + RandomSource + AllocGlobal + Clone + Send + Sync + Drop + 'static,
+    R: Runtime,
     W: Send + Drop + 'static,
 {
     /// Creates an engine whose messages are digested on other threads, and its mailbox, and starts

@@ -11,19 +11,16 @@ mod threads;
 
 use crate::buffered::config::Config;
 use crate::buffered::engine::StartError;
+use crate::buffered::runtime::Runtime;
 use broadcast_core::{Codec, Digestible, PublicKey};
 use broadcast_mailbox::buffered::{Account, Settled, Watch};
 pub use client::{Client, WatchedClient};
 use digest_strategies::Strategy;
 use engine_io::{EndCause, Metrics, Observer, Provider, Receiver, Sender};
-use std::alloc::AllocGlobal;
 use std::marker::Brand;
 use std::num::NonZeroU32;
-use std::random::RandomSource;
 use std::sync::Wait;
 use std::sync::ledger::Blank;
-use std::thread::Threads;
-use std::time::Clock;
 
 /// The output of a client of a session.
 pub trait Leaves {
@@ -101,16 +98,7 @@ where
         T::Job: Send + 'static,
         N: Sender<P> + Send + Drop + 'static,
         V: Receiver<P> + Send + Drop + 'static,
-        R: Threads
-            + Wait
-            + Clock
-            + RandomSource
-            + AllocGlobal
-            + Clone
-            + Send
-            + Sync
-            + Drop
-            + 'static,
+        R: Runtime,
         W: Observer<P, M::Digest> + Send + Drop + 'static,
         ensures accepted { IfOk result (λ finished.
             Accepts S.Output.leaves finished.outputs.items finished.accepted) }

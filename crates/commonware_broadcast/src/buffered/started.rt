@@ -1,6 +1,7 @@
 //! A started engine.
 use crate::buffered::engine::{Ready, Report, StartError, spawn};
 use crate::buffered::front::MailboxEngine;
+use crate::buffered::runtime::Runtime;
 use broadcast_core::{Codec, Digestible, PublicKey};
 use broadcast_mailbox::buffered::{Answering, Bookkeeping, Incoming, Ingress, Reply, Stopper};
 use digest_strategies::{Strategy, Threaded, Work};
@@ -118,7 +119,7 @@ where
     M::Digest: 'static,
     M::Cfg: Send + Drop + 'static,
     B: Provider<P> + Send + Drop + 'static,
-    R: Threads + Wait + Clock + RandomSource + AllocGlobal + Clone + Send + Sync + Drop + 'static,
+    R: Runtime,
     T: Strategy<M> + Send + Drop + 'static,
     A: Bookkeeping + Send + 'static,
     A::Taker: Send + 'static,
@@ -237,7 +238,7 @@ where
     G: Send + Sync + Drop + 'static,
     N: Sender<P> + Send + Drop + 'static,
     V: Receiver<P> + Send + Drop + 'static,
-    R: Threads + Wait + Clock + RandomSource + AllocGlobal + Clone + Send + Sync + Drop + 'static,
+    R: Runtime,
     A: Bookkeeping + Send + 'static,
     A::Taker: Send + 'static,
     W: Observer<P, M::Digest> + Send + Drop + 'static,

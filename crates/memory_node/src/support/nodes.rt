@@ -3,22 +3,20 @@ use crate::keys::key_of;
 use crate::node::{self, Node};
 use broadcast_core::{Digest, Digested, Digestible, Key, RangeCfg, Recipients, Set, TestMessage};
 use broadcast_mailbox::MailboxError;
-use commonware_broadcast::buffered::{Mailbox, Strategy, Subscription};
+use commonware_broadcast::buffered::{Mailbox, Runtime, Strategy, Subscription};
 use commonware_broadcast::{Broadcaster, Feedback};
 use memory_network::{Inbound, Mail, Outbound};
 use std::alloc::{AllocError, AllocGlobal, Global};
 use std::random::RandomSource;
 use std::sync::{Arc, Wait};
 use std::test::Fail;
-use std::thread::Threads;
-use std::time::Clock;
 
 /// Starts the node of number 1. It has no peers and no payloads yet.
 pub fn start<T, R>(rt: &R, strategy: T) -> Result<Node<TestMessage, R>, Fail>
 where
     T: Strategy<TestMessage> + Send + Drop + 'static,
     T::Job: Send + 'static,
-    R: Threads + Wait + Clock + RandomSource + AllocGlobal + Clone + Send + Sync + Drop + 'static,
+    R: Runtime,
 {
     let mail = Arc::new(rt.alloc(), Mail::new(rt.alloc(), key_of(1)))?;
     let others = Vec::new(rt.alloc());
@@ -37,9 +35,8 @@ where
     R: AllocGlobal + Clone + Drop,
 {
     let mail = Arc::new(rt.alloc(), Mail::new(rt.alloc(), key_of(1)))?;
-    let outbound = Outbound::new(rt, &mail.key, Vec::new(rt.alloc()))?;
-    let inbound = Inbound::new(rt, &mail)?;
-    Ok((mail, (outbound, inbound)))
+    let network = node::network(rt, &mail, Vec::new(rt.alloc()))?;
+    Ok((mail, network))
 }
 
 /// Tells the node the numbers of its peers.

@@ -4,8 +4,8 @@ use crate::patient::{LIMIT, pause};
 use broadcast_core::{Digest, Recipients, TestMessage};
 use broadcast_mailbox::MailboxError;
 use commonware_broadcast::buffered::{
-    Account, All, Broadcasts, EndCause, Finished, Kind, Leaves, Sequential, Session, Watch,
-    WatchedClient,
+    Account, All, Broadcasts, EndCause, Finished, Kind, Leaves, Runtime, Sequential, Session,
+    Watch, WatchedClient,
 };
 use memory_node::support::message::{digest, digested};
 use std::alloc::{AllocGlobal, Global};
@@ -14,7 +14,6 @@ use std::num::NonZeroU32;
 use std::random::RandomSource;
 use std::sync::Wait;
 use std::test::Fail;
-use std::thread::Threads;
 use std::time::Clock;
 
 /// How many clients make requests. The next one stops the engine.
@@ -178,7 +177,7 @@ where
 fn run<V, R>(rt: &R) -> Result<(u64, Finished<Left, u64>), Fail>
 where
     V: Watch<Digest> + Send + Sync + 'static,
-    R: Threads + Wait + Clock + RandomSource + AllocGlobal + Clone + Send + Sync + Drop + 'static,
+    R: Runtime,
 {
     let session: Asking<R, V> = Asking {
         rt: rt.clone()?,

@@ -8,7 +8,7 @@ use crate::mute::Mute;
 use broadcast_core::{Codec, Digested, Digestible, Recipients};
 use broadcast_mailbox::{Feedback, MailboxError};
 use commonware_broadcast::buffered::{
-    Account, All, Books, Config, Engine, Get, MailboxReport, Settled, Status, Strategy,
+    Account, All, Books, Config, Engine, Get, MailboxReport, Runtime, Settled, Status, Strategy,
     Subscription, Tally, WatchedEngine, WatchedMailbox, WatchedNode, drive,
 };
 use commonware_broadcast::mocks::Slow;
@@ -21,8 +21,6 @@ use std::random::RandomSource;
 use std::sync::Wait;
 use std::sync::ledger::Blank;
 use std::test::Fail;
-use std::thread::Threads;
-use std::time::Clock;
 
 /// The network of an engine.
 type Network = (Void, Wire);
@@ -30,7 +28,7 @@ type Network = (Void, Wire);
 /// Lets the engine of the row end.
 fn ending_of<R>(rt: &R, row: &Row) -> Result<Ending, Fail>
 where
-    R: Threads + Wait + Clock + RandomSource + AllocGlobal + Clone + Send + Sync + Drop + 'static,
+    R: Runtime,
 {
     let sets = Sets::new(rt.alloc(), row.gives)?;
     let wire = Wire::new(rt.alloc(), row.gives)?;
@@ -64,7 +62,7 @@ where
     M: Digestible + Codec + Send + Sync + 'static,
     M::Digest: Send + 'static,
     M::Cfg: Send + Drop + 'static,
-    R: Threads + Wait + Clock + RandomSource + AllocGlobal + Clone + Send + Sync + Drop + 'static,
+    R: Runtime,
 {
     let parts = NonZeroU32::new(2).unwrap();
     let accepted = Blank::new(parts.get() as u64);
@@ -89,7 +87,7 @@ where
     M: Digestible + Codec + Send + Sync + 'static,
     M::Digest: Send + 'static,
     M::Cfg: Send + Drop + 'static,
-    R: Threads + Wait + Clock + RandomSource + AllocGlobal + Clone + Send + Sync + Drop + 'static,
+    R: Runtime,
     A: Account + Send + Sync + 'static,
     K: Account + Send + Sync + 'static,
     requires accepted { (accepted.name ≡ A.name) × (accepted.parts ≡ A.parts) }
@@ -199,7 +197,7 @@ where
     M: Digestible + Codec + Send + Sync + 'static,
     M::Digest: Send + 'static,
     M::Cfg: Send + Drop + 'static,
-    R: Threads + Wait + Clock + RandomSource + AllocGlobal + Clone + Send + Sync + Drop + 'static,
+    R: Runtime,
     A: Account + Send + Sync + 'static,
     K: Account + Send + Sync + 'static,
 {

@@ -3,15 +3,13 @@ use super::clients::broadcast_until_closed;
 use super::quiet::{Gives, Sets, Void, Wire, config};
 use crate::patient::pause;
 use broadcast_core::TestMessage;
-use commonware_broadcast::buffered::{Account, All, Sequential, Session, WatchedClient};
+use commonware_broadcast::buffered::{Account, All, Runtime, Sequential, Session, WatchedClient};
 use memory_node::support::poor::{Poor, Supply};
 use std::alloc::AllocGlobal;
 use std::num::NonZeroU32;
-use std::random::RandomSource;
 use std::sync::atomic::{AtomicU64, Ordering};
 use std::sync::{Arc, Wait};
 use std::test::Fail;
-use std::thread::Threads;
 use std::time::Clock;
 
 /// How many clients there are.
@@ -64,7 +62,7 @@ where
 /// many clients had begun and ended then.
 fn attempt<R>(rt: &R, copies: u64) -> Result<(bool, u64, u64), Fail>
 where
-    R: Threads + Wait + Clock + RandomSource + AllocGlobal + Clone + Send + Sync + Drop + 'static,
+    R: Runtime,
 {
     let supply = Supply::new(rt.alloc())?;
     let poor = Poor {
@@ -88,7 +86,7 @@ where
 /// Runs the session with this many copies of the runtime. Returns whether it was finished.
 fn runs<R>(poor: &Poor<R>, session: Staying<Poor<R>>, copies: u64) -> Result<bool, Fail>
 where
-    R: Threads + Wait + Clock + RandomSource + AllocGlobal + Clone + Send + Sync + Drop + 'static,
+    R: Runtime,
 {
     let sets = Sets::new(poor.alloc(), Gives::Nothing)?;
     let wire = Wire::new(poor.alloc(), Gives::Nothing)?;

@@ -11,6 +11,7 @@ use super::{Finished, Session};
 use crate::buffered::config::{Config, Observed};
 use crate::buffered::engine::{Engine, StartError};
 use crate::buffered::front::{WatchedEngine, WatchedNode};
+use crate::buffered::runtime::Runtime;
 use crate::buffered::started::{Handle, MailboxReport};
 use broadcast_core::{Codec, Digestible, PublicKey};
 use broadcast_mailbox::buffered::{
@@ -20,11 +21,9 @@ use digest_strategies::Strategy;
 use engine_io::{Observer, Provider, Receiver, Sender};
 use std::alloc::{AllocError, AllocGlobal, Global};
 use std::num::NonZeroU32;
-use std::random::RandomSource;
 use std::sync::ledger::Blank;
 use std::sync::{Arc, Wait};
 use std::thread::Threads;
-use std::time::Clock;
 
 impl<P, C, B, T, W> Observed<P, C, B, T, W>
 where
@@ -54,16 +53,7 @@ where
         T::Job: Send + 'static,
         N: Sender<P> + Send + Drop + 'static,
         V: Receiver<P> + Send + Drop + 'static,
-        R: Threads
-            + Wait
-            + Clock
-            + RandomSource
-            + AllocGlobal
-            + Clone
-            + Send
-            + Sync
-            + Drop
-            + 'static,
+        R: Runtime,
         W: Observer<P, M::Digest>,
         A: Account + Send + Sync + 'static,
         K: Account + Send + Sync + 'static,
