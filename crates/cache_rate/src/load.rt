@@ -22,13 +22,10 @@ pub struct Load<K: Name> {
 impl<K: Name> Load<K> {
     /// Creates an empty cache whose peers are primary.
     pub fn new(alloc: Global, settings: &Settings) -> Result<Load<K>, AllocError> {
-        let mut keys = Vec::new(alloc);
-        for peer in 0..settings.peers {
-            keys.push(K::named(Of::Peer, peer))?;
-        }
-        let size = settings.size as usize;
-        let mut core = Core::new(alloc, K::unnamed(), size, u64::MAX);
-        core.update_primary_peers(Set::from_iter_dedup(Vec::from_slice(alloc, &keys)?)?);
+        let keys = keys_of(alloc, settings.peers)?;
+        let peers = Set::from_iter_dedup(Vec::from_slice(alloc, &keys)?)?;
+        let mut core = Core::new(alloc, K::unnamed(), settings.size as usize, u64::MAX);
+        core.update_primary_peers(peers);
         Ok(Load {
             core,
             keys,
@@ -125,4 +122,13 @@ impl<K: Name> Load<K> {
         }
         counted
     }
+}
+
+/// Returns the keys of as many peers.
+fn keys_of<K: Name>(alloc: Global, peers: u64) -> Result<Vec<K>, AllocError> {
+    let mut keys = Vec::new(alloc);
+    for peer in 0..peers {
+        keys.push(K::named(Of::Peer, peer))?;
+    }
+    Ok(keys)
 }

@@ -36,14 +36,19 @@ where
     R: Clock + AllocGlobal,
 {
     let mut load = Load::<K>::new(rt.alloc(), settings)?;
-    prepare(rt.alloc(), &mut load, settings)?;
-    let Ok(began) = Instant::now(rt) else {
-        return Err(Fault::Clock);
-    };
-    let counted = call(rt.alloc(), &mut load, settings)?;
-    let Ok(took) = began.elapsed(rt) else {
-        return Err(Fault::Clock);
-    };
+    fill_and_time(rt, &mut load, settings)
+}
+
+/// Fills the cache, and times calls of it.
+fn fill_and_time<K, R>(rt: &R, load: &mut Load<K>, settings: &Settings) -> Result<Measured, Fault>
+where
+    K: Name,
+    R: Clock + AllocGlobal,
+{
+    prepare(rt.alloc(), load, settings)?;
+    let began = Instant::now(rt).map_err(|_| Fault::Clock)?;
+    let counted = call(rt.alloc(), load, settings)?;
+    let took = began.elapsed(rt).map_err(|_| Fault::Clock)?;
     let nanos = u64::try_from(took.as_nanos()).unwrap_or(u64::MAX);
     let calls = calls_of(settings, counted).max(1);
     Ok(Measured {

@@ -173,6 +173,7 @@ where
     R: Wait + RandomSource + AllocGlobal + Clone + Drop,
 {
     fn new(rt: &R, codec_config: M::Cfg) -> Result<Self, Fail> {
+        let (own, task) = (rt.clone()?, Solo::new(rt, Doorbell::spinning())?);
         let ends = Network::between(rt, &[1])?.join(rt, &1)?;
         let config = Config {
             public_key: 1,
@@ -184,12 +185,12 @@ where
             peer_provider: ends.provider,
             strategy: Sequential,
         };
-        let (engine, mailbox) = Engine::new(rt.clone()?, rt.alloc(), config)?;
+        let (engine, mailbox) = Engine::new(own, rt.alloc(), config)?;
         Ok(Node {
             engine,
             mailbox,
             network: (ends.sender, ends.receiver),
-            task: Solo::new(rt, Doorbell::spinning())?,
+            task,
             asked: Vec::new(rt.alloc()),
         })
     }

@@ -75,6 +75,14 @@ fn next(alloc: Global, before: &Block, payload: &[u8]) -> Result<Block, AllocErr
     })
 }
 
+/// Writes the block, and reads it again. Returns how many bytes it took, and what was read.
+fn write_and_read(alloc: Global, block: Block) -> Result<(usize, Block), CodecError> {
+    let mut bytes = Vec::new(alloc);
+    Wire(block).write(&mut bytes)?;
+    let Wire(read) = decode_cfg::<Wire<Block>>(alloc, &bytes, &((), (), RangeCfg::any()))?;
+    Ok((bytes.len(), read))
+}
+
 /// Prints the length of the second block of a chain, and what is read from it.
 pub fn show<W: io::Write>(alloc: Global, out: &mut W) -> Result<(), Error> {
     let first = Block {
@@ -82,16 +90,12 @@ pub fn show<W: io::Write>(alloc: Global, out: &mut W) -> Result<(), Error> {
         height: 0,
         payload: Vec::new(alloc).into(),
     };
-    let mut bytes = Vec::new(alloc);
-    Wire(next(alloc, &first, b"hello")?).write(&mut bytes)?;
-    let Wire(read) = decode_cfg::<Wire<Block>>(alloc, &bytes, &((), (), RangeCfg::any()))?;
+    let (len, read) = write_and_read(alloc, next(alloc, &first, b"hello")?)?;
     let follows = read.parent == first.digest();
     writeln!(
         out,
-        "block: {} bytes, {follows}, {}, {:?}",
-        bytes.len(),
-        read.height,
-        read.payload
+        "block: {len} bytes, {follows}, {}, {:?}",
+        read.height, read.payload
     )?;
     Ok(())
 }

@@ -4,7 +4,7 @@
 mod ledger;
 mod said;
 
-use super::parts::{config, key};
+use super::parts::{self, key};
 use anyhow::Result;
 use broadcast_core::{ByteList, Wire};
 use commonware_broadcast::buffered::{Handle, Mailbox, Observer, Runtime, Turn};
@@ -69,29 +69,28 @@ fn start<R: Runtime>(
     ends: Ends<Key, R>,
     to: Sender<Turn<Key, Digest>>,
 ) -> Result<(Started<R>, Asked<R>)> {
+    let own = rt.clone()?;
     let teller = Teller {
         to: Some(to),
-        rt: rt.clone()?,
+        rt: own,
     };
     let limits = ((), (), ((), RangeCfg::any()));
-    let config = config(ends.mail.key, limits, ends.provider);
-    let network = (ends.sender, ends.receiver);
-    Ok(config.observed_by(teller).start(rt, network)?)
+    Ok(parts::start(rt, ends, limits, teller)?)
 }
 
 /// Starts a node of the network.
 fn join<R: Runtime>(rt: &R, network: &Network<Key>, key: &Key) -> Result<(Started<R>, Member<R>)> {
+    let own = rt.clone()?;
     let ends = network.join(rt, key)?;
     let mail = Arc::try_clone(&ends.mail)?;
     let (to, turns) = unbounded(rt.alloc())?;
     let (handle, mailbox) = start(rt, ends, to)?;
-    let (rt, ledger) = (rt.clone()?, Ledger::new(rt.alloc()));
     let member = Member {
-        rt,
+        rt: own,
         mail,
         mailbox,
         turns,
-        ledger,
+        ledger: Ledger::new(rt.alloc()),
     };
     Ok((handle, member))
 }

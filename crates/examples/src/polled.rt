@@ -29,9 +29,10 @@ where
     M::Cfg: Drop,
     R: Wait + RandomSource + AllocGlobal + Clone + Send + Drop + 'static,
 {
+    let own = rt.clone()?;
     let ends = Network::between(rt, &[key(1)])?.join(rt, &key(1))?;
     let config = config(key(1), codec_config, ends.provider);
-    let (mut engine, mailbox) = Engine::new(rt.clone()?, rt.alloc(), config)?;
+    let (mut engine, mailbox) = Engine::new(own, rt.alloc(), config)?;
     let mut network = (ends.sender, ends.receiver);
     ask_of(rt, &mut engine, &mailbox, &mut network, message)
 }

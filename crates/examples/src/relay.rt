@@ -1,18 +1,15 @@
 //! A relay of three nodes with keys of 32 bytes: node 2 hands on to node 3 what it receives from
 //! node 1, and leaves out the peer that sends it what is no note.
 use super::note::Note;
-use super::parts::{config, key};
+use super::parts::{self, key};
 use anyhow::Error;
 use broadcast_core::Wire;
 use broadcast_relay::relay_to;
-use commonware_broadcast::buffered::{
-    Handle, Mailbox, Observer, Runtime, StartError, Subscription, Turn,
-};
+use commonware_broadcast::buffered::{Mailbox, Observer, Runtime, Subscription, Turn};
 use commonware_broadcast::{Broadcaster, Digest, Digested, Key, RangeCfg, Recipients, Set, Write};
 use memory_network::{Ends, Mail, Network};
 use std::alloc::{AllocError, AllocGlobal, Global};
 use std::io;
-use std::random::RandomSource;
 use std::sync::{Arc, Wait};
 
 /// The keys of all peers. The last of them is no node, and hostile.
@@ -65,21 +62,7 @@ impl<R: Wait, D> Observer<Key, D> for Guard<R> {
 }
 
 /// A node with an observer.
-type Node<R, W> = (
-    Handle<Key, Wire<Note>, R, (), W>,
-    Mailbox<Key, Wire<Note>, R>,
-);
-
-/// Starts the node of these ends with an observer.
-fn start<R, W>(rt: &R, ends: Ends<Key, R>, observer: W) -> Result<Node<R, W>, StartError>
-where
-    R: Runtime,
-    W: Observer<Key, Digest> + Send + Drop + 'static,
-{
-    let config = config(ends.mail.key, ((), RangeCfg::any()), ends.provider);
-    let network = (ends.sender, ends.receiver);
-    config.observed_by(observer).start(rt, network)
-}
+type Node<R, W> = parts::Node<Wire<Note>, R, W>;
 
 /// Starts the node of these ends with a guard.
 fn start_guarded<R>(rt: &R, ends: Ends<Key, R>) -> Result<Node<R, Guard<R>>, Error>
@@ -87,7 +70,7 @@ where
     R: Runtime,
 {
     let guard = Guard::new(rt, &ends.mail)?;
-    Ok(start(rt, ends, guard)?)
+    Ok(parts::start(rt, ends, ((), RangeCfg::any()), guard)?)
 }
 
 /// Starts a node of the network.
@@ -95,7 +78,8 @@ fn join<R>(rt: &R, network: &Network<Key>, public_key: Key) -> Result<Node<R, ()
 where
     R: Runtime,
 {
-    Ok(start(rt, network.join(rt, &public_key)?, ())?)
+    let ends = network.join(rt, &public_key)?;
+    Ok(parts::start(rt, ends, ((), RangeCfg::any()), ())?)
 }
 
 /// Lets peer 9 send the node a byte that is no note, and then a note.
@@ -116,7 +100,7 @@ fn hand_on<R>(
     awaited: Subscription<Wire<Note>>,
 ) -> Result<(), Error>
 where
-    R: Wait + RandomSource + AllocGlobal + Clone + Send + Drop + 'static,
+    R: Runtime,
 {
     let notes = vec![in rt.alloc(); awaited.wait(rt)?]?;
     let _relayed = relay_to(rt.alloc(), second, notes)?;
@@ -124,6 +108,24 @@ where
 }
 
 /// Lets node 1 send the note to node 2 alone, and node 2 hand it on. Returns what node 3 receives.
+fn pass_on_by<R>(
+    rt: &R,
+    first: &Mailbox<Key, Wire<Note>, R>,
+    second: &Mailbox<Key, Wire<Note>, R>,
+    third: &Mailbox<Key, Wire<Note>, R>,
+    note: Digested<Wire<Note>>,
+) -> Result<Digested<Wire<Note>>, Error>
+where
+    R: Runtime,
+{
+    let received = third.subscribe(note.digest())?;
+    let awaited = second.subscribe(note.digest())?;
+    let _feedback = first.broadcast(Recipients::One(key(2)), note)?;
+    hand_on(rt, second, awaited)?;
+    Ok(received.wait(rt)?)
+}
+
+/// Runs the nodes 1 and 3 while the note is passed on. Returns what node 3 receives.
 fn pass_on<R>(
     rt: &R,
     network: &Network<Key>,
@@ -135,11 +137,7 @@ where
 {
     let (handle_1, first) = join(rt, network, key(1))?;
     let (handle_3, third) = join(rt, network, key(3))?;
-    let received = third.subscribe(note.digest())?;
-    let awaited = second.subscribe(note.digest())?;
-    let _feedback = first.broadcast(Recipients::One(key(2)), note)?;
-    hand_on(rt, second, awaited)?;
-    let received = received.wait(rt)?;
+    let received = pass_on_by(rt, &first, second, &third, note)?;
     handle_1.stop();
     handle_3.stop();
     drop::<_>((handle_1.join(rt), handle_3.join(rt)));
@@ -157,6 +155,22 @@ struct Seen {
     has_peer: bool,
 }
 
+/// Passes the note on. Returns what node 3 receives, and whether node 2 has the spam.
+fn pass_on_beside<R>(
+    rt: &R,
+    network: &Network<Key>,
+    second: &Mailbox<Key, Wire<Note>, R>,
+    note: Digested<Wire<Note>>,
+    spam: Digest,
+) -> Result<(Digested<Wire<Note>>, bool), Error>
+where
+    R: Runtime,
+{
+    let received = pass_on(rt, network, second, note)?;
+    let has_spam = second.get(spam)?.wait(rt).is_some();
+    Ok((received, has_spam))
+}
+
 /// Runs the three nodes.
 fn relay<R>(rt: &R, note: Digested<Wire<Note>>, spam: &Digested<Wire<Note>>) -> Result<Seen, Error>
 where
@@ -166,8 +180,7 @@ where
     let ends = network.join(rt, &key(2))?;
     attack(rt, &ends.mail, spam)?;
     let (handle, second) = start_guarded(rt, ends)?;
-    let received = pass_on(rt, &network, &second, note)?;
-    let has_spam = second.get(spam.digest())?.wait(rt).is_some();
+    let (received, has_spam) = pass_on_beside(rt, &network, &second, note, spam.digest())?;
     handle.stop();
     let guard = handle.join(rt).into_observer();
     Ok(Seen {

@@ -79,11 +79,11 @@ fn broadcast_and_settle<R>(rt: &R) -> Result<Left, Error>
 where
     R: Runtime,
 {
+    let session = Broadcasting { rt: rt.clone()? };
+    let clients = NonZeroU32::new(CLIENTS).unwrap();
     let ends = Network::between(rt, &[key(1)])?.join(rt, &key(1))?;
     let config = config(key(1), RangeCfg::any(), ends.provider);
     let network = (ends.sender, ends.receiver);
-    let clients = NonZeroU32::new(CLIENTS).unwrap();
-    let session = Broadcasting { rt: rt.clone()? };
     let finished = config.run_session(rt, network, clients, session, ())?;
     Ok(what_is_left(&finished)?)
 }

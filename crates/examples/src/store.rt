@@ -12,8 +12,8 @@ ghost use Rattle.broadcast_core.specs.TakenLaw.{IsFrom, FoundWasTaken};
 use super::two_nodes::message;
 use anyhow::Error;
 use broadcast_core::{
-    Codec, Core, Digested, Digestible, Event, PublicKey, RangeCfg, Run, Set, TestMessage,
-    answer_law, cache_law, run, same_law,
+    Codec, Core, Digested, Digestible, Event, PublicKey, RangeCfg, Recipients, Run, Set,
+    TestMessage, answer_law, cache_law, run, same_law,
 };
 use std::alloc::{AllocError, Global};
 use std::io;
@@ -56,19 +56,29 @@ fn answers<P: PublicKey, M: Digestible + Codec>(
     run(alloc, own, 10, 1000, false, cfg, events)
 }
 
-/// Prints what a get is answered, and whether the store then finds the message.
-pub fn show<W: io::Write>(alloc: Global, out: &mut W) -> Result<(), Error> {
-    let message: Digested<TestMessage> = message(alloc, b"hello")?;
-    let digest = message.digest();
+/// Returns the events of a peer set, a broadcast of the message, and a get of it.
+fn events(
+    alloc: Global,
+    message: Digested<TestMessage>,
+) -> Result<Vec<Event<u64, TestMessage>>, AllocError> {
     let primary = Set::from_iter_dedup(vec![in alloc; 1]?)?;
-    let asked = vec![in alloc;
+    let digest = message.digest();
+    let events = vec![in alloc;
         Event::Peers(primary),
-        Event::Broadcast(broadcast_core::Recipients::All, message),
+        Event::Broadcast(Recipients::All, message),
         Event::Get(7, digest),
     ]?;
-    let run = answers(alloc, 1, &RangeCfg::any(), asked)?;
+    Ok(events)
+}
+
+/// Prints how many answers there are, and whether the store then finds the message.
+pub fn show<W: io::Write>(alloc: Global, out: &mut W) -> Result<(), Error> {
+    let message = message(alloc, b"hello")?;
+    let digest = message.digest();
+    let run = answers(alloc, 1, &RangeCfg::any(), events(alloc, message)?)?;
+    let number = run.answers.len();
     let store = Store { core: run.core };
     let found = store.find(&digest).is_some();
-    writeln!(out, "store: {} answers, {found}", run.answers.len())?;
+    writeln!(out, "store: {number} answers, {found}")?;
     Ok(())
 }

@@ -1,12 +1,10 @@
 //! Two nodes in threads, over a network in memory: the file to begin with.
 use anyhow::Error;
-use commonware_broadcast::buffered::{self, Config, Handle, Mailbox, Runtime};
+use commonware_broadcast::buffered::{self, Config, EndCause, Handle, Mailbox, Runtime};
 use commonware_broadcast::{Broadcaster, Digested, Key, RangeCfg, Recipients, TestMessage};
 use memory_network::Network;
 use std::alloc::{AllocError, AllocGlobal, Global};
 use std::io::Write;
-use std::random::RandomSource;
-use std::sync::Wait;
 
 const KEY_1: Key = Key { bytes: [1; 32] };
 
@@ -37,7 +35,7 @@ where
 /// Lets node 1 broadcast a message for which node 2 waits. Returns what node 2 receives.
 fn pass_on<R>(rt: &R, one: &Asked<R>, two: &Asked<R>) -> Result<Digested<TestMessage>, Error>
 where
-    R: Wait + RandomSource + AllocGlobal + Clone + Send + Drop + 'static,
+    R: Runtime,
 {
     let message = message(rt.alloc(), b"hello")?;
     let awaited = two.subscribe(message.digest())?;
@@ -45,8 +43,8 @@ where
     Ok(awaited.wait(rt)?)
 }
 
-/// Prints what node 2 received, and why it ended.
-pub fn show<R, W: Write>(rt: &R, out: &mut W) -> Result<(), Error>
+/// Runs both nodes. Returns what node 2 received, and why it ended.
+fn run<R>(rt: &R) -> Result<(Digested<TestMessage>, EndCause), Error>
 where
     R: Runtime,
 {
@@ -57,7 +55,15 @@ where
     handle_1.stop();
     handle_2.stop();
     let _report = handle_1.join(rt);
-    let cause = handle_2.join(rt).cause();
+    Ok((received, handle_2.join(rt).cause()))
+}
+
+/// Prints what node 2 received, and why it ended.
+pub fn show<R, W: Write>(rt: &R, out: &mut W) -> Result<(), Error>
+where
+    R: Runtime,
+{
+    let (received, cause) = run(rt)?;
     writeln!(out, "two nodes: {:?}, {cause:?}", received.inner().content)?;
     Ok(())
 }
