@@ -7,11 +7,9 @@ use crate::settings::Settings;
 use crate::shared::{AllSubscribed, Shared};
 use crate::tally::{Counting, WholeTally};
 use broadcast_core::{Key, TestMessage};
-use commonware_broadcast::buffered::{Account, Bookkeeping, Mailbox, Subscription};
+use commonware_broadcast::buffered::{Account, Bookkeeping, Mailbox, Runtime, Subscription};
 use std::alloc::AllocGlobal;
-use std::random::RandomSource;
-use std::sync::{Arc, Wait};
-use std::time::Clock;
+use std::sync::Arc;
 
 /// The counts of a node's client.
 #[derive(Clone, Copy)]
@@ -41,7 +39,7 @@ pub struct Client<R, A: Bookkeeping> {
 
 impl<R, A, K> Client<R, Counting<A, K>>
 where
-    R: Wait + Clock + RandomSource + AllocGlobal,
+    R: Runtime,
     A: Account,
     K: Account,
 {
@@ -138,7 +136,7 @@ where
 /// Waits for each subscription. Returns how many were served.
 pub fn count_served<R>(rt: &R, waiting: Vec<Subscription<TestMessage>>) -> u64
 where
-    R: Wait + RandomSource + AllocGlobal,
+    R: Runtime,
 {
     let mut served = 0u64;
     for subscription in waiting {

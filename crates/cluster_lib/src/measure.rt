@@ -16,9 +16,8 @@ use memory_network::Network;
 use std::alloc::AllocGlobal;
 use std::fmt::{self, Display, Formatter};
 use std::io;
-use std::random::RandomSource;
+use std::sync::Arc;
 use std::sync::atomic::{AtomicBool, Ordering};
-use std::sync::{Arc, Wait};
 use std::thread::{self, JoinHandle, Threads};
 use std::time::{Clock, Duration, Instant};
 
@@ -114,7 +113,7 @@ fn subscribe<R>(
     number: u64,
 ) -> Result<Vec<Subscription<TestMessage>>, Fault>
 where
-    R: Wait + RandomSource + AllocGlobal,
+    R: Runtime,
 {
     let mut waiting = Vec::new(rt.alloc());
     for message in 0..number {
@@ -245,7 +244,7 @@ struct GetClient<R> {
 
 impl<R> GetClient<R>
 where
-    R: Wait + RandomSource + AllocGlobal,
+    R: Runtime,
 {
     /// Makes all requests. If it fails, all clients end. Returns how many were answered with the
     /// message.
@@ -304,7 +303,7 @@ where
 /// Waits for the requests. Returns how many were answered with the message.
 pub fn count_answered<R>(rt: &R, gets: Vec<Get<TestMessage>>) -> u64
 where
-    R: Wait + RandomSource + AllocGlobal,
+    R: Runtime,
 {
     let mut answered = 0u64;
     for get in gets {

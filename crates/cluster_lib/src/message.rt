@@ -2,9 +2,8 @@
 use crate::fault::Fault;
 use broadcast_core::{Digest, Digested, Digestible, Key, Recipients, TestMessage};
 use broadcast_mailbox::{Broadcaster, Feedback};
-use commonware_broadcast::buffered::{Bookkeeping, Mailbox};
+use commonware_broadcast::buffered::{Bookkeeping, Mailbox, Runtime};
 use std::alloc::{AllocError, AllocGlobal, Global};
-use std::sync::Wait;
 
 /// Creates the message of the node with this number. Its content has the number of the node and
 /// that of the message, eight bytes each.
@@ -58,7 +57,7 @@ pub fn broadcast<R, A>(
     number: u64,
 ) -> Result<Feedback, Fault>
 where
-    R: Wait + AllocGlobal + Clone + Send + 'static,
+    R: Runtime,
     A: Bookkeeping + Send + 'static,
 {
     let message = message_with_digest(rt.alloc(), node, number)?;

@@ -45,7 +45,7 @@ pub fn keys_of(alloc: Global, nodes: u64) -> Result<Set<Key>, AllocError> {
 /// Returns the ends of a node of the network.
 pub fn join<R>(rt: &R, network: &Network<Key>, key: &Key) -> Result<Ends<Key, R>, Fault>
 where
-    R: AllocGlobal + Clone + Drop,
+    R: Runtime,
 {
     // The network has the node, so nothing but memory may lack.
     match network.join(rt, key) {
@@ -91,17 +91,33 @@ where
     requires one { (K.all ≡ K.parts) × (K.parts ≡ 1) }
     ensures { IfOk result (λ counted. counted.1.parts ≡ A.all) }
 {
-    let node: WatchedNode<Key, M, PeerSets<Key, R>, T, R, A, K, All> = Engine::new_watched(
-        rt.clone()?,
-        rt.alloc(),
-        config,
-        parts,
-        accepted,
-        taken,
-    )?;
-    let (engine, mailbox, tally) = node;
+    let (engine, mailbox, tally) = new_counting(rt, config, parts, accepted, taken)?;
     match engine.start(rt, network) {
         Ok(handle) => Ok((Ok((handle, mailbox)), tally)),
         Err(error) => Ok((Err((mailbox, error)), tally)),
     }
+}
+
+/// Creates an engine whose mailbox counts every tallied request.
+fn new_counting<M, T, R, A, K>(
+    rt: &R,
+    config: Config<Key, M::Cfg, PeerSets<Key, R>, T>,
+    parts: NonZeroU32,
+    accepted: Blank,
+    taken: Blank,
+) -> Result<WatchedNode<Key, M, PeerSets<Key, R>, T, R, A, K, All>, AllocError>
+where
+    M: Digestible + Codec,
+    M::Cfg: Drop,
+    T: Strategy<M> + Drop,
+    R: Runtime,
+    A: Account,
+    K: Account,
+    requires accepted { (accepted.name ≡ A.name) × (accepted.parts ≡ A.parts) }
+    requires parts { (A.all ≡ A.parts) × (A.parts ≡ non_zero_u32_get parts) }
+    requires taken { (taken.name ≡ K.name) × (taken.parts ≡ K.parts) }
+    requires one { (K.all ≡ K.parts) × (K.parts ≡ 1) }
+    ensures { IfOk result (λ node. node.2.parts ≡ A.all) }
+{
+    Engine::new_watched(rt.clone()?, rt.alloc(), config, parts, accepted, taken)
 }

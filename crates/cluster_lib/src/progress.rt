@@ -1,4 +1,5 @@
 //! The progress of a long run on a terminal.
+use commonware_broadcast::buffered::Runtime;
 use std::alloc::AllocError;
 use std::io::{self, Write};
 use std::sync::Arc;
@@ -73,7 +74,7 @@ impl Progress {
 /// own. Nothing is shown if there is no terminal, or no memory or thread for it.
 pub fn show_during<R, W, F, T>(rt: &R, progress: &Arc<Progress>, terminal: Option<W>, work: F) -> T
 where
-    R: Threads + Clock + Clone + Send + Sync + Drop + 'static,
+    R: Runtime,
     W: Write + Send + Drop + 'static,
     F: FnOnce() -> T,
     requires { F.pre work }
@@ -87,7 +88,7 @@ where
 /// Starts the thread that shows the progress, if there is a terminal.
 fn show<R, W>(rt: &R, progress: &Arc<Progress>, terminal: Option<W>) -> Option<JoinHandle<()>>
 where
-    R: Threads + Clock + Clone + Send + Sync + Drop + 'static,
+    R: Runtime,
     W: Write + Send + Drop + 'static,
 {
     match terminal {
@@ -103,7 +104,7 @@ fn start<R, W>(
     terminal: W,
 ) -> Result<Option<JoinHandle<()>>, AllocError>
 where
-    R: Threads + Clock + Clone + Send + Sync + Drop + 'static,
+    R: Runtime,
     W: Write + Send + Drop + 'static,
 {
     let progress = Arc::try_clone(progress)?;

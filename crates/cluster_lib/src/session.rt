@@ -19,7 +19,7 @@ use commonware_broadcast::buffered::{
     Account, Bookkeeping, Mailbox, MailboxReport, Runtime, StartError,
 };
 use memory_network::Ends;
-use std::alloc::{AllocError, AllocGlobal};
+use std::alloc::AllocError;
 use std::marker::Brand;
 use std::num::NonZeroU32;
 use std::sync::ledger::Blank;
@@ -127,7 +127,7 @@ pub fn not_started<R, A>(
     error: StartError,
 ) -> Fault
 where
-    R: Wait + AllocGlobal + Clone + Send + 'static,
+    R: Runtime,
     A: Bookkeeping + Send + 'static,
 {
     match broadcast(rt, mailbox, STRANGER, 1) {
@@ -194,7 +194,7 @@ fn client_of<R, A, K>(
     mailbox: &Mailbox<Key, TestMessage, R, Counting<A, K>>,
 ) -> Result<Client<R, Counting<A, K>>, AllocError>
 where
-    R: Wait + Clone + Drop,
+    R: Runtime,
     A: Account,
     K: Account,
 {

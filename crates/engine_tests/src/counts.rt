@@ -2,14 +2,11 @@
 use broadcast_core::{Key, TestMessage};
 use cluster_lib::client::count_served;
 use cluster_lib::measure::count_answered;
-use commonware_broadcast::buffered::{Get, Mailbox, Sequential, Subscription};
+use commonware_broadcast::buffered::{Get, Mailbox, Runtime, Sequential, Subscription};
 use memory_node::support::nodes::{broadcast, digest, gets, start, track};
 use std::alloc::AllocGlobal;
-use std::random::RandomSource;
 use std::sync::Wait;
 use std::test::Fail;
-use std::thread::Threads;
-use std::time::Clock;
 
 /// Letters that are broadcast, and how many subscriptions and gets of the letters 1 and 2 give a
 /// message then.
@@ -65,7 +62,7 @@ impl Asked {
     /// Waits for all of them. Returns how many subscriptions and how many gets gave a message.
     fn count<R>(self, rt: &R) -> (u64, u64)
     where
-        R: Wait + RandomSource + AllocGlobal,
+        R: Runtime,
     {
         let Asked {
             subscriptions,
@@ -80,7 +77,7 @@ impl Asked {
 /// and what was asked afterwards.
 fn ask<R>(rt: &R, known: &[u8]) -> Result<(Asked, Asked), Fail>
 where
-    R: Threads + Wait + Clock + RandomSource + AllocGlobal + Clone + Send + Sync + Drop + 'static,
+    R: Runtime,
 {
     let node = start(rt, Sequential)?;
     let mailbox = node.mailbox.clone()?;
@@ -100,7 +97,7 @@ where
 /// Returns what was counted of requests before the stop and after it.
 fn counts<R>(rt: &R, known: &[u8]) -> Result<[(u64, u64); 2], Fail>
 where
-    R: Threads + Wait + Clock + RandomSource + AllocGlobal + Clone + Send + Sync + Drop + 'static,
+    R: Runtime,
 {
     let (before, after) = ask(rt, known)?;
     Ok([before.count(rt), after.count(rt)])

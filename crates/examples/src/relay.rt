@@ -7,7 +7,7 @@ use broadcast_core::Wire;
 use broadcast_relay::relay_to;
 use commonware_broadcast::buffered::{Mailbox, Observer, Runtime, Subscription, Turn};
 use commonware_broadcast::{Broadcaster, Digest, Digested, Key, RangeCfg, Recipients, Set, Write};
-use memory_network::{Ends, Mail, Network};
+use memory_network::{Mail, Network};
 use std::alloc::{AllocError, AllocGlobal, Global};
 use std::io;
 use std::sync::{Arc, Wait};
@@ -61,25 +61,22 @@ impl<R: Wait, D> Observer<Key, D> for Guard<R> {
     }
 }
 
-/// A node with an observer.
-type Node<R, W> = parts::Node<Wire<Note>, R, W>;
+/// A node with a guard.
+type Node<R> = parts::Node<Wire<Note>, R, Guard<R>>;
 
-/// Starts the node of these ends with a guard.
-fn start_guarded<R>(rt: &R, ends: Ends<Key, R>) -> Result<Node<R, Guard<R>>, Error>
-where
-    R: Runtime,
-{
-    let guard = Guard::new(rt, &ends.mail)?;
-    Ok(parts::start(rt, ends, ((), RangeCfg::any()), guard)?)
-}
-
-/// Starts a node of the network.
-fn join<R>(rt: &R, network: &Network<Key>, public_key: Key) -> Result<Node<R, ()>, Error>
+/// Starts a node of the network. Returns it with its mail.
+fn join<R>(
+    rt: &R,
+    network: &Network<Key>,
+    public_key: Key,
+) -> Result<(Arc<Mail<Key>>, Node<R>), Error>
 where
     R: Runtime,
 {
     let ends = network.join(rt, &public_key)?;
-    Ok(parts::start(rt, ends, ((), RangeCfg::any()), ())?)
+    let mail = Arc::try_clone(&ends.mail)?;
+    let guard = Guard::new(rt, &mail)?;
+    Ok((mail, parts::start(rt, ends, ((), RangeCfg::any()), guard)?))
 }
 
 /// Lets peer 9 send the node a byte that is no note, and then a note.
@@ -135,8 +132,8 @@ fn pass_on<R>(
 where
     R: Runtime,
 {
-    let (handle_1, first) = join(rt, network, key(1))?;
-    let (handle_3, third) = join(rt, network, key(3))?;
+    let (_, (handle_1, first)) = join(rt, network, key(1))?;
+    let (_, (handle_3, third)) = join(rt, network, key(3))?;
     let received = pass_on_by(rt, &first, second, &third, note)?;
     handle_1.stop();
     handle_3.stop();
@@ -177,9 +174,8 @@ where
     R: Runtime,
 {
     let network = Network::between(rt, &PEERS)?;
-    let ends = network.join(rt, &key(2))?;
-    attack(rt, &ends.mail, spam)?;
-    let (handle, second) = start_guarded(rt, ends)?;
+    let (mail, (handle, second)) = join(rt, &network, key(2))?;
+    attack(rt, &mail, spam)?;
     let (received, has_spam) = pass_on_beside(rt, &network, &second, note, spam.digest())?;
     handle.stop();
     let guard = handle.join(rt).into_observer();

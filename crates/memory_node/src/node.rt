@@ -74,7 +74,7 @@ where
     where
         M::Cfg: Drop,
         T: Drop,
-        R: AllocGlobal + Clone + Drop,
+        R: Runtime,
     {
         let network = network(rt, mail, others)?;
         let mail = Arc::try_clone(mail)?;
@@ -122,7 +122,7 @@ pub fn network<R>(
     others: Vec<Arc<Mail<Key>>>,
 ) -> Result<(Outbound<Key, R>, Inbound<Key, R>), AllocError>
 where
-    R: AllocGlobal + Clone + Drop,
+    R: Runtime,
 {
     let outbound = Outbound::new(rt, &mail.key, others)?;
     Ok((outbound, Inbound::new(rt, mail)?))
@@ -137,7 +137,7 @@ where
     M: Digestible + Codec,
     M::Cfg: Drop,
     T: Strategy<M> + Drop,
-    R: Wait + AllocGlobal + Clone + Drop,
+    R: Runtime,
 {
     Engine::new(rt.clone()?, rt.alloc(), config)
 }

@@ -6,10 +6,8 @@ use commonware_broadcast::buffered::{EndCause, Mailbox, Runtime, Sequential};
 use memory_network::Mail;
 use memory_node::node::Node;
 use memory_node::support::nodes::{broadcast, gets, start};
-use std::alloc::AllocGlobal;
-use std::random::RandomSource;
+use std::sync::Arc;
 use std::sync::atomic::Ordering;
-use std::sync::{Arc, Wait};
 use std::test::Fail;
 use std::thread::{self, JoinHandle};
 use std::time::Clock;
@@ -32,7 +30,7 @@ fn fail_later<R>(
     mail: &Mail<Key>,
 ) -> Result<bool, MailboxError>
 where
-    R: Wait + Clock + RandomSource + AllocGlobal + Clone + Send + 'static,
+    R: Runtime,
 {
     let _found = gets(rt, mailbox, 1)?;
     let is_idle = is_idle(rt, mail);

@@ -8,14 +8,14 @@ use memory_network::{Ends, Network};
 use memory_node::support::nodes::digest;
 use std::alloc::AllocGlobal;
 use std::num::NonZeroUsize;
-use std::sync::{Arc, Wait};
+use std::sync::Arc;
 use std::test::Fail;
 
 type Running<R> = (Handle<u64, TestMessage, R>, Mailbox<u64, TestMessage, R>);
 
 /// Returns what the node of key 1 has of a network with the node of key 5, which sends it the
 /// message of the letter 2.
-fn ends<R: Wait + AllocGlobal + Clone + Drop>(rt: &R) -> Result<Ends<u64, R>, Fail> {
+fn ends<R: Runtime>(rt: &R) -> Result<Ends<u64, R>, Fail> {
     let ends = Network::between(rt, &[1, 5])?.join(rt, &1)?;
     let bytes = Vec::from_slice(rt.alloc(), &[0, 0, 0, 0, 0, 0, 0, 1, 2])?;
     ends.mail.deliver(rt, 5, bytes)?;

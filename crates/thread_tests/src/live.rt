@@ -8,12 +8,9 @@ use commonware_broadcast::buffered::{
 use memory_node::keys::key_of;
 use memory_node::node::Node;
 use memory_node::support::nodes::{broadcast, gets, send, start, subscribe, track};
-use std::alloc::AllocGlobal;
-use std::random::RandomSource;
-use std::sync::Wait;
 use std::sync::atomic::Ordering;
 use std::test::Fail;
-use std::time::{Clock, Duration};
+use std::time::Duration;
 
 /// The payloads of peer 5 that were decoded, messages that were received and that were invalid,
 /// subscribes that were served, gets that gave a message and that gave none, and awaited digests.
@@ -39,7 +36,7 @@ fn counts(metrics: &Metrics<Key>) -> Counts {
 /// gets both letters. Returns a subscription that waits, for which there is no message.
 fn feed<R>(rt: &R, node: &Node<TestMessage, R>) -> Result<Subscription<TestMessage>, Fail>
 where
-    R: Wait + Clock + RandomSource + AllocGlobal,
+    R: Runtime,
 {
     let served = subscribe(rt, &node.mailbox, 2)?;
     track(rt, &node.mail, &[1, 5])?;

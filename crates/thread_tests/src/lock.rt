@@ -5,11 +5,7 @@ use broadcast_core::TestMessage;
 use commonware_broadcast::buffered::Runtime;
 use memory_node::node::Node;
 use memory_node::support::nodes::{broadcast, subscribe};
-use std::alloc::AllocGlobal;
-use std::random::RandomSource;
-use std::sync::Wait;
 use std::test::Fail;
-use std::time::Clock;
 
 /// Whether a broadcast was accepted while a job was pending at an engine, the job was polled to its
 /// limit before that, and the job's message was taken afterwards.
@@ -35,7 +31,7 @@ where
 /// of the node fails then, which ends its engine.
 fn answers<R>(rt: &R, node: &Node<TestMessage, R>, talk: &Talk) -> Result<Answered, Fail>
 where
-    R: Wait + Clock + RandomSource + AllocGlobal + Clone + Send + 'static,
+    R: Runtime,
 {
     let waiting = subscribe(rt, &node.mailbox, 2)?;
     let accepted = is_accepted(rt, node, talk)?;
@@ -49,7 +45,7 @@ where
 /// Broadcasts at a node while a job is pending. Returns whether the broadcast was accepted.
 fn is_accepted<R>(rt: &R, node: &Node<TestMessage, R>, talk: &Talk) -> Result<bool, Fail>
 where
-    R: Wait + Clock + AllocGlobal + Clone + Send + 'static,
+    R: Runtime,
 {
     hold(rt, &node.mail, talk)?;
     let accepted = broadcast(rt, &node.mailbox, 1)?.accepted();

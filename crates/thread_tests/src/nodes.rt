@@ -8,9 +8,8 @@ use memory_network::Mail;
 use memory_node::node::{Node, config};
 use memory_node::support::nodes::{broadcast, network, send, start, track};
 use std::alloc::AllocGlobal;
-use std::sync::{Arc, Wait};
+use std::sync::Arc;
 use std::test::Fail;
-use std::time::Clock;
 
 /// Starts the node of number 1, whose messages are digested on other threads.
 pub fn start_threaded<R>(rt: &R) -> Result<Node<TestMessage, R>, Fail>
@@ -57,11 +56,7 @@ where
 }
 
 /// Lets a job be pending at the node, which has the peer 5. It is of the message of the letter 2.
-pub fn hold<R: Wait + Clock + AllocGlobal>(
-    rt: &R,
-    mail: &Mail<Key>,
-    talk: &Talk,
-) -> Result<(), Fail> {
+pub fn hold<R: Runtime>(rt: &R, mail: &Mail<Key>, talk: &Talk) -> Result<(), Fail> {
     track(rt, mail, &[1, 5])?;
     send(rt, mail, 5, &[0, 0, 0, 0, 0, 0, 0, 1, 2])?;
     if talk.wait_for_job(rt) {
@@ -77,7 +72,7 @@ pub fn wait_for_close<R>(
     mailbox: &Mailbox<Key, TestMessage, R>,
 ) -> Result<bool, MailboxError>
 where
-    R: Wait + Clock + AllocGlobal + Clone + Send + 'static,
+    R: Runtime,
 {
     for _ in 0..LIMIT {
         if broadcast(rt, mailbox, 1)? == Feedback::Closed {

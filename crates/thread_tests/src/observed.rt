@@ -9,8 +9,7 @@ use memory_node::node::config;
 use memory_node::support::nodes::{digest, send};
 use std::alloc::{AllocError, AllocGlobal, Global};
 use std::io::{self, Write};
-use std::random::RandomSource;
-use std::sync::{Arc, Wait};
+use std::sync::Arc;
 use std::test::Fail;
 
 /// Lets a node with the observer take some inputs, and end. Returns the observer.
@@ -48,7 +47,7 @@ where
 /// network.
 fn ask<R>(rt: &R, mailbox: &Mailbox<Key, TestMessage, R>, mail: &Mail<Key>) -> Result<(), Fail>
 where
-    R: Wait + RandomSource + AllocGlobal,
+    R: Runtime,
 {
     // It is answered after the set was taken, since a peer set comes first.
     let _none = mailbox.get(digest(rt.alloc(), 2)?)?.wait(rt);

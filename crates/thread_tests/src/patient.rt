@@ -1,6 +1,6 @@
 //! Jobs that are pending until a caller on another thread was answered.
 use broadcast_core::Digestible;
-use commonware_broadcast::buffered::{Job, Strategy};
+use commonware_broadcast::buffered::{Job, Runtime, Strategy};
 use futures::task::{Context, Poll};
 use std::alloc::{AllocError, AllocGlobal};
 use std::sync::Arc;
@@ -96,7 +96,7 @@ pub struct PatientJob<M: Digestible, R> {
     message: Option<(M, M::Digest)>,
 }
 
-impl<M: Digestible, R: Clock + Clone + Drop> Strategy<M> for Patient<R> {
+impl<M: Digestible, R: Runtime> Strategy<M> for Patient<R> {
     type Job = PatientJob<M, R>;
 
     fn start(&self, message: M) -> Result<PatientJob<M, R>, AllocError> {

@@ -11,8 +11,7 @@ use memory_node::support::nodes::{broadcast, gets, send, subscribe, track};
 use memory_node::support::poor::{Poor, Supply};
 use memory_node::support::task::Task;
 use std::alloc::{AllocError, AllocGlobal};
-use std::random::RandomSource;
-use std::sync::{Arc, Wait};
+use std::sync::Arc;
 use std::test::Fail;
 use std::thread::{self, JoinHandle};
 use std::time::{Clock, Duration};
@@ -35,7 +34,7 @@ where
 /// Lets a peer send the message of the letter. Returns whether a subscriber and a get are given it.
 fn takes<R>(rt: &R, node: &Node<TestMessage, R>, letter: u8) -> Result<bool, Fail>
 where
-    R: Wait + Clock + RandomSource + AllocGlobal,
+    R: Runtime,
 {
     let waiting = subscribe(rt, &node.mailbox, letter)?;
     send(rt, &node.mail, 5, &[0, 0, 0, 0, 0, 0, 0, 1, letter])?;
@@ -46,7 +45,7 @@ where
 /// Lets a node take messages of a peer and broadcast one. Returns whether callers are given each.
 fn serves<R>(rt: &R, node: &Node<TestMessage, R>) -> Result<bool, Fail>
 where
-    R: Wait + Clock + RandomSource + AllocGlobal + Clone + Send + 'static,
+    R: Runtime,
 {
     track(rt, &node.mail, &[1, 5])?;
     for letter in SENT {

@@ -10,10 +10,8 @@ use memory_network::Mail;
 use memory_node::node::Node;
 use memory_node::support::nodes::{broadcast, digest, gets, send, start, subscribe, track};
 use std::alloc::{AllocError, AllocGlobal};
-use std::random::RandomSource;
 use std::sync::Wait;
 use std::test::Fail;
-use std::time::Clock;
 
 /// What a stopped engine left: whether it closed its mailbox before a job that was pending gave up,
 /// its cause, whether the subscription that it held is canceled, and what its mailbox answers
@@ -81,7 +79,7 @@ where
 /// its engine ends also if it does not stop.
 fn closes<R>(rt: &R, node: &Node<TestMessage, R>, talk: &Talk) -> Result<bool, Fail>
 where
-    R: Wait + Clock + AllocGlobal + Clone + Send + 'static,
+    R: Runtime,
 {
     let closed = wait_for_close(rt, &node.mailbox)?;
     let prompt = closed && !talk.gave_up();
@@ -98,7 +96,7 @@ fn after<R>(
     held: bool,
 ) -> Result<Stopped, Fail>
 where
-    R: Wait + RandomSource + AllocGlobal + Clone + Send + 'static,
+    R: Runtime,
 {
     let feedback = broadcast(rt, mailbox, 1)?;
     let canceled = subscribe(rt, mailbox, 1)?.wait(rt).is_err();

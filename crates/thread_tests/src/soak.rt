@@ -9,7 +9,6 @@ use memory_node::keys::key_of;
 use memory_node::node::Node;
 use memory_node::support::nodes::{broadcast, gets, send, subscribe, track};
 use std::alloc::{AllocError, AllocGlobal};
-use std::random::RandomSource;
 use std::sync::atomic::{AtomicU64, Ordering};
 use std::sync::{Arc, Wait};
 use std::test::Fail;
@@ -50,7 +49,7 @@ struct Caller<R> {
 
 impl<R> Caller<R>
 where
-    R: Wait + RandomSource + AllocGlobal + Clone + Send + 'static,
+    R: Runtime,
 {
     /// Makes all requests, and waits for the subscriptions. Returns what happened to them.
     fn run(&self) -> Outcome {
@@ -270,7 +269,7 @@ where
 /// Lets the node serve a subscription and find a message, before its callers start.
 fn greet<R>(rt: &R, node: &Node<TestMessage, R>) -> Result<Ends, Fail>
 where
-    R: Wait + RandomSource + AllocGlobal,
+    R: Runtime,
 {
     let waiting = subscribe(rt, &node.mailbox, 2)?;
     track(rt, &node.mail, &[1, 5])?;

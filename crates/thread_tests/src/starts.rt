@@ -9,7 +9,7 @@ use memory_node::node::{Node, Prepared, Started};
 use memory_node::support::nodes::broadcast;
 use memory_node::support::poor::{Poor, Supply};
 use std::alloc::{AllocError, AllocGlobal};
-use std::sync::{Arc, Wait};
+use std::sync::Arc;
 use std::test::Fail;
 
 /// How a start ends: its error, or the cause with which the engine ended.
@@ -123,7 +123,7 @@ where
 /// Returns whether the mailbox is closed.
 fn is_closed<R>(rt: &R, mailbox: &Mailbox<Key, TestMessage, R>) -> Result<bool, Fail>
 where
-    R: Wait + AllocGlobal + Clone + Send + 'static,
+    R: Runtime,
 {
     Ok(broadcast(rt, mailbox, 1)? == Feedback::Closed)
 }

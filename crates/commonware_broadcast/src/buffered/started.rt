@@ -10,7 +10,6 @@ use std::alloc::{AllocError, AllocGlobal};
 use std::random::RandomSource;
 use std::sync::{Arc, Wait};
 use std::thread::{JoinHandle, Threads};
-use std::time::Clock;
 
 /// An engine that runs in a thread of its own. If it is dropped, the engine is asked to stop, and
 /// its end is not waited for.
@@ -190,7 +189,7 @@ where
     M::Cfg: Drop,
     B: Provider<P> + Drop,
     T: Strategy<M> + Drop,
-    R: Wait + Clock + RandomSource + AllocGlobal + Clone + Drop,
+    R: Runtime,
     A: Bookkeeping,
 {
     /// Makes the engine ready for its thread: a job that is pending is finished. The observer is

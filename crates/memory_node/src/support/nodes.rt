@@ -7,7 +7,6 @@ use commonware_broadcast::buffered::{Mailbox, Runtime, Strategy, Subscription};
 use commonware_broadcast::{Broadcaster, Feedback};
 use memory_network::{Inbound, Mail, Outbound};
 use std::alloc::{AllocError, AllocGlobal, Global};
-use std::random::RandomSource;
 use std::sync::{Arc, Wait};
 use std::test::Fail;
 
@@ -32,7 +31,7 @@ pub type Networked<R> = (Arc<Mail<Key>>, (Outbound<Key, R>, Inbound<Key, R>));
 /// Creates the mail of the node of number 1, and the ends of a network without other nodes.
 pub fn network<R>(rt: &R) -> Result<Networked<R>, AllocError>
 where
-    R: AllocGlobal + Clone + Drop,
+    R: Runtime,
 {
     let mail = Arc::new(rt.alloc(), Mail::new(rt.alloc(), key_of(1)))?;
     let network = node::network(rt, &mail, Vec::new(rt.alloc()))?;
@@ -69,7 +68,7 @@ pub fn broadcast<R>(
     letter: u8,
 ) -> Result<Feedback, MailboxError>
 where
-    R: Wait + AllocGlobal + Clone + Send + 'static,
+    R: Runtime,
 {
     let digested = Digested::compute(rt.alloc(), message(rt.alloc(), letter)?)?;
     mailbox.broadcast(Recipients::All, digested)
@@ -94,7 +93,7 @@ pub fn gets<R>(
     letter: u8,
 ) -> Result<bool, MailboxError>
 where
-    R: Wait + RandomSource + AllocGlobal,
+    R: Runtime,
 {
     let get = mailbox.get(digest(rt.alloc(), letter)?)?;
     Ok(get.wait(rt).is_some())

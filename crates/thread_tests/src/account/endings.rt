@@ -17,7 +17,6 @@ use memory_node::support::message::digested;
 use std::alloc::AllocGlobal;
 use std::marker::Brand;
 use std::num::NonZeroU32;
-use std::random::RandomSource;
 use std::sync::Wait;
 use std::sync::ledger::Blank;
 use std::test::Fail;
@@ -221,7 +220,7 @@ fn poll_often<M, T, R, A, K>(
 where
     T: Strategy<M>,
     M: Digestible + Codec,
-    R: Wait + RandomSource + AllocGlobal + Drop,
+    R: Runtime,
     A: Account,
     K: Account,
 {

@@ -23,7 +23,6 @@ use std::alloc::{AllocError, AllocGlobal, Global};
 use std::num::NonZeroU32;
 use std::sync::ledger::Blank;
 use std::sync::{Arc, Wait};
-use std::thread::Threads;
 
 impl<P, C, B, T, W> Observed<P, C, B, T, W>
 where
@@ -128,7 +127,7 @@ impl<P: PublicKey, C: Drop, B: Drop, T: Drop> Config<P, C, B, T> {
     where
         M: Digestible + Codec<Cfg = C>,
         T: Strategy<M>,
-        R: AllocGlobal + Clone + Drop,
+        R: Runtime,
         A: Account,
         K: Account,
         V: Watch<M::Digest>,
@@ -193,7 +192,7 @@ where
     S::Output: Send + 'static,
     M: Digestible + Send + Sync + 'static,
     M::Digest: Send + 'static,
-    R: Threads + Wait + AllocGlobal + Clone + Send + Sync + Drop + 'static,
+    R: Runtime,
     W: Drop,
     A: Account + Send + Sync + 'static,
     K: Account + Send + Sync + 'static,

@@ -6,9 +6,10 @@ ghost use Rattle.commonware_broadcast.specs.Sessions.{CountTo};
 use super::client::{Client, WatchedClient, WatchedEnds};
 use super::{Leaves, Session};
 use crate::buffered::engine::StartError;
+use crate::buffered::runtime::Runtime;
 use broadcast_core::{Digestible, PublicKey};
 use broadcast_mailbox::buffered::{Account, Tally};
-use std::alloc::{AllocError, AllocGlobal};
+use std::alloc::AllocError;
 use std::sync::{Arc, Wait};
 use std::thread::{self, JoinHandle, Threads};
 
@@ -38,7 +39,7 @@ where
     S::Output: Send + 'static,
     M: Digestible + Send + Sync + 'static,
     M::Digest: Send + 'static,
-    R: Threads + Wait + AllocGlobal + Clone + Send + Sync + Drop + 'static,
+    R: Runtime,
     A: Account + Send + Sync + 'static,
     K: Account + Send + Sync + 'static,
     requires parts { tally.old.parts ≡ others + 1 }
@@ -77,7 +78,7 @@ where
     S::Output: Send + 'static,
     M: Digestible + Send + Sync + 'static,
     M::Digest: Send + 'static,
-    R: Threads + Wait + AllocGlobal + Clone + Send + Sync + Drop + 'static,
+    R: Runtime,
     A: Account + Send + Sync + 'static,
     K: Account + Send + Sync + 'static,
     requires { tally.parts ≡ 1 }
