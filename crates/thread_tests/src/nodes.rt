@@ -3,7 +3,7 @@ use super::patient::{LIMIT, Patient, Talk, pause};
 use broadcast_core::{Key, RangeCfg, TestMessage};
 use broadcast_mailbox::MailboxError;
 use commonware_broadcast::Feedback;
-use commonware_broadcast::buffered::{self, Mailbox, Open, Pool, Runtime, Threaded, Work};
+use commonware_broadcast::buffered::{self, Mailbox, Open, Pool, Runtime, Threaded};
 use memory_network::Mail;
 use memory_node::node::{Node, config};
 use memory_node::support::nodes::{broadcast, network, send, start, track};
@@ -16,7 +16,15 @@ pub fn start_threaded<R>(rt: &R) -> Result<Node<TestMessage, R>, Fail>
 where
     R: Runtime,
 {
-    start_gated(rt, Open)
+    let (mail, network) = network(rt)?;
+    let strategy = Threaded::new(rt.clone()?, rt.alloc(), Arc::new(rt.alloc(), Open)?);
+    let cfg = config(rt, RangeCfg::any(), strategy, &mail, 4)?;
+    let (handle, mailbox) = buffered::start_threaded(rt, cfg, network)?;
+    Ok(Node {
+        mailbox,
+        mail,
+        handle,
+    })
 }
 
 /// Starts the node of number 1, whose messages are digested on the thread of the pool.
@@ -24,18 +32,8 @@ pub fn start_pooled<R>(rt: &R, pool: Pool<TestMessage, R>) -> Result<Node<TestMe
 where
     R: Runtime,
 {
-    start_gated(rt, pool)
-}
-
-/// Starts the node of number 1, whose messages are digested once they pass the gate.
-fn start_gated<G, R>(rt: &R, gate: G) -> Result<Node<TestMessage, R>, Fail>
-where
-    TestMessage: Work<G, R>,
-    G: Send + Sync + Drop + 'static,
-    R: Runtime,
-{
     let (mail, network) = network(rt)?;
-    let strategy = Threaded::new(rt.clone()?, rt.alloc(), Arc::new(rt.alloc(), gate)?);
+    let strategy = Threaded::new(rt.clone()?, rt.alloc(), Arc::new(rt.alloc(), pool)?);
     let cfg = config(rt, RangeCfg::any(), strategy, &mail, 4)?;
     let (handle, mailbox) = buffered::start_threaded(rt, cfg, network)?;
     Ok(Node {

@@ -11,8 +11,10 @@ use memory_node::support::message::{digest, digested};
 use std::alloc::{AllocGlobal, Global};
 use std::marker::PhantomData;
 use std::num::NonZeroU32;
+use std::random::RandomSource;
 use std::sync::Wait;
 use std::test::Fail;
+use std::time::Clock;
 
 /// How many clients make requests. The next one stops the engine.
 const ASKING: u32 = 4;
@@ -68,7 +70,7 @@ impl Leaves for Left {
 
 impl<R, V> Session<u64, TestMessage, R> for Asking<R, V>
 where
-    R: Runtime,
+    R: Wait + Clock + RandomSource + AllocGlobal,
     V: Watch<Digest>,
 {
     type Watch = V;
@@ -136,7 +138,7 @@ fn ask_and_stop<R, A, K, V>(
     client: &mut WatchedClient<u64, TestMessage, R, A, K, V>,
 ) -> Told
 where
-    R: Runtime,
+    R: Wait + Clock + RandomSource + AllocGlobal,
     A: Account,
     K: Account,
     V: Watch<Digest>,
@@ -155,7 +157,7 @@ pub fn broadcast_until_closed<R, A, K, V>(
     client: &mut WatchedClient<u64, TestMessage, R, A, K, V>,
 ) -> Told
 where
-    R: Runtime,
+    R: Wait + Clock + AllocGlobal,
     A: Account,
     K: Account,
     V: Watch<Digest>,

@@ -7,9 +7,10 @@ use commonware_broadcast::buffered::{Account, All, Runtime, Sequential, Session,
 use memory_node::support::poor::{Poor, Supply};
 use std::alloc::AllocGlobal;
 use std::num::NonZeroU32;
-use std::sync::Arc;
 use std::sync::atomic::{AtomicU64, Ordering};
+use std::sync::{Arc, Wait};
 use std::test::Fail;
+use std::time::Clock;
 
 /// How many clients there are.
 const CLIENTS: u32 = 4;
@@ -34,7 +35,7 @@ struct Staying<R> {
 
 impl<R> Session<u64, TestMessage, R> for Staying<R>
 where
-    R: Runtime,
+    R: Wait + Clock + AllocGlobal,
 {
     type Watch = All;
 
