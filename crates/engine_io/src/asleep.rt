@@ -27,10 +27,16 @@ impl<R> Drive<R> for Idle {
 
 /// A thread could not be made ready to wait: there was no memory, or there were no random bytes.
 ///
-/// Only a `Seat` that could not be made gives one.
+/// Only a `Seat` that could not be made and an allocation failure give one.
 #[derive(Clone, Copy, Debug, PartialEq, Eq, Error)]
 #[error("the thread can't wait")]
 pub struct CannotWait(());
+
+impl From<AllocError> for CannotWait {
+    fn from(_error: AllocError) -> Self {
+        CannotWait(())
+    }
+}
 
 /// Polls one future on a thread until it is ready. While the future is pending, the thread sleeps.
 ///

@@ -32,7 +32,9 @@ impl Bell {
 
     /// Ends the wait of the thread, or the next one.
     fn ring(&self) {
-        self.rung.set();
+        if self.taker.is_some() {
+            self.rung.set();
+        }
         self.parker.unpark();
     }
 

@@ -62,8 +62,8 @@ impl<D: Drop> Dropped<D> {
     /// Returns whether it may have been one of another digest too.
     pub(super) fn take(&self, taken: &mut Vec<D>) -> bool {
         taken.clear();
-        let may_be_any = self.may_be_any.swap(false, Ordering::SeqCst);
-        if !self.has_told.swap(false, Ordering::SeqCst) {
+        let may_be_any = take(&self.may_be_any);
+        if !take(&self.has_told) {
             return may_be_any;
         }
         for _ in 0..TRIES {
@@ -74,4 +74,10 @@ impl<D: Drop> Dropped<D> {
         }
         true
     }
+}
+
+/// Clears the mark, and returns whether it was set. One that is not set is only read, which is
+/// cheaper.
+fn take(mark: &AtomicBool) -> bool {
+    mark.load(Ordering::SeqCst) && mark.swap(false, Ordering::SeqCst)
 }

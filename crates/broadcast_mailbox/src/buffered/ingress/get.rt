@@ -23,7 +23,6 @@ use std::time::{Clock, Duration};
 ///
 /// It gives `None` if the message is not cached, if the request was dropped, and if the reply goes
 /// by another digest.
-#[derive(Drop)]
 pub struct Get<M: Digestible> {
     digest: M::Digest,
     receiver: Receiver<Option<Reply<M>>>,
@@ -32,6 +31,20 @@ pub struct Get<M: Digestible> {
     accepted: bool,
     // Whether the channel has given its result.
     is_done: bool,
+}
+
+// By hand, since what is derived is proved anew in each crate that drops one.
+impl<M: Digestible> Drop for Get<M> {
+    fn drop(self) {
+        let Get {
+            digest: _,
+            receiver,
+            bell,
+            accepted: _,
+            is_done: _,
+        } = self;
+        drop::<_>((receiver, bell));
+    }
 }
 
 impl<M: Digestible> Model for Get<M> {

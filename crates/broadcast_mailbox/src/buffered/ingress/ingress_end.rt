@@ -26,11 +26,18 @@ use std::time::Clock;
 /// The end of a mailbox from which its requests are taken, with messages `T`.
 ///
 /// A call takes the lock of the inbox once, and makes one call of the inbox under it.
-#[derive(Drop)]
 pub struct Ingress<T: Named, R, A: Bookkeeping = ()> {
     inbox: Arc<Shared<T, A>>,
     taker: A::Taker,
     rt: R,
+}
+
+// By hand, since what is derived is proved anew in each crate that drops one.
+impl<T: Named + Drop, R: Drop, A: Bookkeeping> Drop for Ingress<T, R, A> {
+    fn drop(self) {
+        let Ingress { inbox, taker, rt } = self;
+        drop::<_>((inbox, taker, rt));
+    }
 }
 
 impl<T: Named, R, A: Bookkeeping> Model for Ingress<T, R, A> {
@@ -83,8 +90,10 @@ impl<T: Named, R, A: Bookkeeping> Ingress<T, R, A> {
         ensures { self.new ≡ self.old }
     {
         let may_be_any = self.inbox.take_dropped(taken);
-        taken.sort_unstable();
-        taken.dedup();
+        if taken.len() > 1 {
+            taken.sort_unstable();
+            taken.dedup();
+        }
         may_be_any
     }
 }
@@ -214,10 +223,16 @@ where
 }
 
 /// Asks whoever takes the requests of a mailbox to stop. It may be used on any thread.
-#[derive(Drop)]
 pub struct Stopper<T: Named, R, A: Bookkeeping = ()> {
     inbox: Arc<Shared<T, A>>,
     rt: R,
+}
+
+impl<T: Named + Drop, R: Drop, A: Bookkeeping> Drop for Stopper<T, R, A> {
+    fn drop(self) {
+        let Stopper { inbox, rt } = self;
+        drop::<_>((inbox, rt));
+    }
 }
 
 impl<T: Named, R, A: Bookkeeping> Model for Stopper<T, R, A> {

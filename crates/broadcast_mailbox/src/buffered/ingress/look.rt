@@ -38,14 +38,18 @@ impl Mark {
         }
     }
 
-    /// Sets the mark.
+    /// Sets the mark. One that is set is only read, which is cheaper.
     pub(super) fn set(&self) {
-        self.is_set.store(true, Ordering::Release);
+        if !self.is_set.load(Ordering::SeqCst) {
+            self.is_set.store(true, Ordering::Release);
+        }
     }
 
-    /// Clears the mark.
+    /// Clears the mark. One that is not set is only read.
     fn clear(&self) {
-        self.is_set.store(false, Ordering::Release);
+        if self.is_set.load(Ordering::Acquire) {
+            self.is_set.store(false, Ordering::Release);
+        }
     }
 
     /// Looks a few times whether the mark is set, and clears it. Returns whether it was.
@@ -220,7 +224,10 @@ impl Alertness {
     /// Looks, if the taker may, whether something came since its last poll for a request began.
     /// Returns whether something may have. If not, the taker is to sleep.
     pub(super) fn look(&self, clock: &impl Clock) -> bool {
-        if self.is_awake() && self.is_rested() {
+        if !self.is_awake() {
+            return false;
+        }
+        if self.is_rested() {
             if self.look_for_request(clock) {
                 return true;
             }

@@ -140,11 +140,22 @@ where
 ///
 /// A call takes the lock of the inbox once, makes one call of the inbox under it, and wakes the
 /// task that takes the requests after it has let the lock go.
-#[derive(Drop)]
 pub struct Mailbox<P: PublicKey, M: Digestible, R, A: Bookkeeping = ()> {
     inbox: Arc<Shared<Incoming<P, M>, A>>,
     alloc: Global,
     rt: R,
+}
+
+// By hand, since what is derived is proved anew in each crate that drops a mailbox.
+impl<P: PublicKey, M: Digestible, R: Drop, A: Bookkeeping> Drop for Mailbox<P, M, R, A> {
+    fn drop(self) {
+        let Mailbox {
+            inbox,
+            alloc: _,
+            rt,
+        } = self;
+        drop::<_>((inbox, rt));
+    }
 }
 
 impl<P: PublicKey, M: Digestible, R, A: Bookkeeping> Model for Mailbox<P, M, R, A> {

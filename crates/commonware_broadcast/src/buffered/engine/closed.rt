@@ -67,7 +67,9 @@ impl<M: Digestible> Closed<M> {
 
     /// Forgets the digests that have no waiters any more.
     pub(super) fn forget<P: PublicKey, W: Drop>(&mut self, core: &Core<P, M, W>) {
-        self.applied.retain(|digest| core.waiting(digest) > 0);
+        if !self.applied.is_empty() {
+            self.applied.retain(|digest| core.waiting(digest) > 0);
+        }
         self.asks_each = self.asks_each && core.awaited() > 0;
     }
 }

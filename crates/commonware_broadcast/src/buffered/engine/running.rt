@@ -18,7 +18,7 @@ use engine_io::{
 };
 use futures::future::poll_fn;
 use futures::task::{Context, Doorbell, Poll, Queue};
-use std::alloc::{AllocGlobal, Global};
+use std::alloc::{AllocError, AllocGlobal, Global};
 use std::io;
 use std::random::RandomSource;
 use std::sync::Wait;
@@ -182,11 +182,11 @@ where
 
     /// Polls the engine as `poll_asked` does, and takes it once it has ended.
     fn poll_to_end<G, R>(
-        running: &mut Option<Self>,
+        running: &mut Option<Box<Self>>,
         rt: &R,
         snapshots: &Snapshots<P>,
         cx: &mut Context<'_>,
-    ) -> Poll<(Self, EndCause)>
+    ) -> Poll<(Box<Self>, EndCause)>
     where
         G: Drop,
         O: Outlet<S, G, Reply<M>, Option<Reply<M>>> + Drop,
@@ -195,14 +195,14 @@ where
         ensures ready { IfReady result (λ end. IfSome running.old (λ old. RunsTo
             (format_of P.cmp M.Digest.cmp M.encoding M.digest_of M.reading)
             (over S.may_answer T.Job.is_of O.Outlet N.Sender V.Receiver B.Provider Q.Requests)
-            W.seen (old.engine, old.network) old.observer
-            ((end.0.engine, end.0.network), end.0.observer) end.1)) }
+            W.seen (old.value.engine, old.value.network) old.value.observer
+            ((end.0.value.engine, end.0.value.network), end.0.value.observer) end.1)) }
         ensures pending { OnPending result (IfSome running.old (λ old.
             IsSomeAnd running.new (λ new. ShowsPolls
             (format_of P.cmp M.Digest.cmp M.encoding M.digest_of M.reading)
             (over S.may_answer T.Job.is_of O.Outlet N.Sender V.Receiver B.Provider Q.Requests)
-            W.seen (old.engine, old.network) (new.engine, new.network)
-            old.observer new.observer))) }
+            W.seen (old.value.engine, old.value.network) (new.value.engine, new.value.network)
+            old.value.observer new.value.observer))) }
         ensures armed { OnPending result (IsArmed cx.new) }
         ensures kept { Keeps cx.old cx.new }
     {
@@ -239,29 +239,55 @@ where
         ensures ended { IfOk result.1 (λ cause. result.0.engine.end ≡ Some cause) }
         ensures unchanged_on_error { IfErr result.1 (λ failure. result.0 ≡ self) }
     {
+        // A poll that is pending moves no engine then.
+        let running = match Box::new(rt.alloc(), self) {
+            Ok(running) => running,
+            Err(refused) => return (refused.value, Err(CannotWait::from(AllocError))),
+        };
         let seat = match Seat::new(rt) {
             Ok(seat) => seat,
-            Err(failure) => return (self, Err(failure)),
+            Err(failure) => return (Box::into_inner(running), Err(failure)),
         };
         snapshots.look_again();
-        let mut running = Some(self);
-        let poll = move |cx: &mut Context<'_>| -> Poll<(Self, EndCause)>
+        let (running, cause) = Self::run_on::<G, R>(running, seat, rt, snapshots);
+        (Box::into_inner(running), Ok(cause))
+    }
+
+    /// Runs the engine on the seat until it ends.
+    fn run_on<G, R>(
+        running: Box<Self>,
+        seat: Seat,
+        rt: &R,
+        snapshots: &Snapshots<P>,
+    ) -> (Box<Self>, EndCause)
+    where
+        G: Drop,
+        O: Outlet<S, G, Reply<M>, Option<Reply<M>>> + Drop,
+        Q: Requests<Message<P, M, S, G>> + Drop,
+        R: Wait + Clock + AllocGlobal,
+        ensures ran { RunsTo
+            (format_of P.cmp M.Digest.cmp M.encoding M.digest_of M.reading)
+            (over S.may_answer T.Job.is_of O.Outlet N.Sender V.Receiver B.Provider Q.Requests)
+            W.seen (running.value.engine, running.value.network) running.value.observer
+            ((result.0.value.engine, result.0.value.network), result.0.value.observer) result.1 }
+    {
+        let mut running = Some(running);
+        let poll = move |cx: &mut Context<'_>| -> Poll<(Box<Self>, EndCause)>
             ensures ready { IfReady result (λ end. IfSome running.entry (λ old. RunsTo
                 (format_of P.cmp M.Digest.cmp M.encoding M.digest_of M.reading)
                 (over S.may_answer T.Job.is_of O.Outlet N.Sender V.Receiver B.Provider Q.Requests)
-                W.seen (old.engine, old.network) old.observer
-                ((end.0.engine, end.0.network), end.0.observer) end.1)) }
+                W.seen (old.value.engine, old.value.network) old.value.observer
+                ((end.0.value.engine, end.0.value.network), end.0.value.observer) end.1)) }
             ensures pending { OnPending result (IfSome running.entry (λ old.
                 IsSomeAnd running.exit (λ new. ShowsPolls
                 (format_of P.cmp M.Digest.cmp M.encoding M.digest_of M.reading)
                 (over S.may_answer T.Job.is_of O.Outlet N.Sender V.Receiver B.Provider Q.Requests)
-                W.seen (old.engine, old.network) (new.engine, new.network)
-                old.observer new.observer))) }
+                W.seen (old.value.engine, old.value.network) (new.value.engine, new.value.network)
+                old.value.observer new.value.observer))) }
             ensures armed { OnPending result (IsArmed cx.new) }
             ensures kept { Keeps cx.old cx.new }
         { Self::poll_to_end::<G, R>(&mut running, rt, snapshots, cx) };
-        let (running, cause) = seat.block_on(rt, poll_fn(poll));
-        (running, Ok(cause))
+        seat.block_on(rt, poll_fn(poll))
     }
 }
 
