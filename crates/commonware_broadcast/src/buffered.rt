@@ -22,8 +22,8 @@ pub use digest_strategies::{
 pub use engine::{Engine, Ready, Report, StartError, drive, new_engine_law};
 pub use engine_io::{
     CannotWait, Counter, Direct, EndCause, Input, Lines, Metrics, MetricsError, NetworkFailed,
-    Observer, Outlet, Provider, Receiver, Recent, Requests, Sender, Sequencer, Snapshots, Status,
-    Turn, observer, snapshots,
+    Observer, Outlet, Provider, Receiver, Recent, Requests, Sender, Sequencer, SetNumber,
+    Snapshots, Status, Turn, observer, snapshots,
 };
 pub use front::{MailboxEngine, WatchedEngine, WatchedNode};
 pub use launch::{start, start_threaded};

@@ -11,3 +11,4 @@ pub mod Causes
 pub mod Heard
 pub mod Scripts
 pub mod Recorded
+pub mod SetNumber

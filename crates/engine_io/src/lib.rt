@@ -26,6 +26,7 @@ pub use next::next_input;
 pub use observer::Observer;
 pub use observer::lines::Lines;
 pub use observer::recent::Recent;
+pub use observer::set_number::SetNumber;
 pub use outlet::{Direct, Outlet};
 pub use reply::{copies, respond_get, respond_subscribe, respond_waiters};
 pub use requests::Requests;

@@ -4,6 +4,7 @@ ghost use Rattle.engine_io.specs.declared.input.Turn.{Turn};
 
 pub mod lines;
 pub mod recent;
+pub mod set_number;
 
 use crate::input::Turn;
 

@@ -1,7 +1,8 @@
 //! What the observers of a started engine see.
 use broadcast_core::{Cause, CodecError, Digest, Key, Outcome, RangeCfg, TestMessage};
 use commonware_broadcast::buffered::{
-    EndCause, Lines, Mailbox, Observer, Open, Recent, Runtime, Sequential, Threaded, Turn,
+    EndCause, Lines, Mailbox, Observer, Open, Recent, Runtime, Sequential, SetNumber, Threaded,
+    Turn,
 };
 use memory_network::{Mail, Network};
 use memory_node::keys::key_of;
@@ -86,7 +87,8 @@ fn an_engine_that_digests_on_other_threads_tells_the_same(rt: HostRuntime) -> Re
 
 #[test]
 fn the_latest_turns_are_kept(rt: HostRuntime) -> Result<(), Fail> {
-    let recent = observe(&rt, Recent::new(rt.alloc(), 3)?)?;
+    let both = (Recent::new(rt.alloc(), 3)?, SetNumber::new());
+    let (recent, sets) = observe(&rt, both)?;
     let expected = [
         Turn::Invalid(key_of(5), CodecError::EndOfBuffer),
         Turn::Payload(key_of(5), digest(rt.alloc(), 2)?, Outcome::Inserted),
@@ -98,6 +100,7 @@ fn the_latest_turns_are_kept(rt: HostRuntime) -> Result<(), Fail> {
     }
     assert_eq!(rt; turns.as_slice(), expected.as_slice());
     assert_eq!(rt; recent.seen(), 5);
+    assert_eq!(rt; sets.number, 1);
     Ok(())
 }
 
