@@ -1,9 +1,9 @@
 //! Started nodes, whose messages are digested elsewhere or later.
 use super::patient::{LIMIT, Patient, Talk, pause};
-use broadcast_core::{Key, RangeCfg, TestMessage};
+use broadcast_core::{Codec, Digestible, Key, RangeCfg, TestMessage};
 use broadcast_mailbox::MailboxError;
 use commonware_broadcast::Feedback;
-use commonware_broadcast::buffered::{self, Mailbox, Open, Pool, Runtime, Threaded};
+use commonware_broadcast::buffered::{self, Mailbox, Open, Pool, Runtime, Threaded, Work};
 use memory_network::Mail;
 use memory_node::node::{Node, config};
 use memory_node::support::nodes::{broadcast, network, send, start, track};
@@ -16,15 +16,7 @@ pub fn start_threaded<R>(rt: &R) -> Result<Node<TestMessage, R>, Fail>
 where
     R: Runtime,
 {
-    let (mail, network) = network(rt)?;
-    let strategy = Threaded::new(rt.clone()?, rt.alloc(), Arc::new(rt.alloc(), Open)?);
-    let cfg = config(rt, RangeCfg::any(), strategy, &mail, 4)?;
-    let (handle, mailbox) = buffered::start_threaded(rt, cfg, network)?;
-    Ok(Node {
-        mailbox,
-        mail,
-        handle,
-    })
+    start_gated(rt, RangeCfg::any(), Open)
 }
 
 /// Starts the node of number 1, whose messages are digested on the thread of the pool.
@@ -32,9 +24,22 @@ pub fn start_pooled<R>(rt: &R, pool: Pool<TestMessage, R>) -> Result<Node<TestMe
 where
     R: Runtime,
 {
+    start_gated(rt, RangeCfg::any(), pool)
+}
+
+/// Starts the node of number 1, whose messages are digested once they pass the gate. It is generic
+/// in the message, since the check refuses a bound on what `TestMessage` sends to a thread.
+fn start_gated<M, G, R>(rt: &R, codec_config: M::Cfg, gate: G) -> Result<Node<M, R>, Fail>
+where
+    M: Digestible + Codec + Work<G, R> + Send + Sync + 'static,
+    M::Digest: 'static,
+    M::Cfg: Send + Drop + 'static,
+    G: Send + Sync + Drop + 'static,
+    R: Runtime,
+{
     let (mail, network) = network(rt)?;
-    let strategy = Threaded::new(rt.clone()?, rt.alloc(), Arc::new(rt.alloc(), pool)?);
-    let cfg = config(rt, RangeCfg::any(), strategy, &mail, 4)?;
+    let strategy = Threaded::new(rt.clone()?, rt.alloc(), Arc::new(rt.alloc(), gate)?);
+    let cfg = config(rt, codec_config, strategy, &mail, 4)?;
     let (handle, mailbox) = buffered::start_threaded(rt, cfg, network)?;
     Ok(Node {
         mailbox,
