@@ -16,7 +16,8 @@ use engine_io::{
     CannotWait, EndCause, Observer, Outlet, Provider, Receiver, Requests, Seat, Sender, Snapshots,
     Turn,
 };
-use futures::future::poll_fn;
+use futures::Future;
+use futures::future::{PollFn, poll_fn};
 use futures::task::{Context, Doorbell, Poll, Queue};
 use std::alloc::{AllocError, AllocGlobal, Global};
 use std::io;
@@ -287,8 +288,22 @@ where
             ensures armed { OnPending result (IsArmed cx.new) }
             ensures kept { Keeps cx.old cx.new }
         { Self::poll_to_end::<G, R>(&mut running, rt, snapshots, cx) };
-        seat.block_on(rt, poll_fn(poll))
+        block_on_polls(seat, rt, poll)
     }
+}
+
+/// Polls on the seat until a poll is ready.
+///
+/// By itself, since a proof that a closure is a future takes the longer the more parameters are
+/// around it.
+fn block_on_polls<T, F, R>(seat: Seat, rt: &R, poll: F) -> T
+where
+    F: FnMut(&mut Context<'_>) -> Poll<T>,
+    R: Wait,
+    requires { ⟦<PollFn<F> as Future>⟧.can_poll (record { f = poll }) }
+    ensures { ⟦<PollFn<F> as Future>⟧.gives (record { f = poll }) result }
+{
+    seat.block_on(rt, poll_fn(poll))
 }
 
 /// Returns why the engine ended, if the turn tells that.
