@@ -64,10 +64,11 @@ fn an_open_mailbox_of_a_node_that_is_not_started_is_told(rt: HostRuntime) -> Res
 
 #[test]
 fn a_node_that_fails_stops_those_before_it(rt: HostRuntime) -> Result<(), Fail> {
-    // The second node has no copy of the runtime.
+    // The first node takes four copies of the runtime, and the second finds none.
     let supply = Supply::new(rt.alloc())?;
-    supply.leave(1, 1000);
+    supply.leave(4, 1000);
     let heirs = Supply::new(rt.alloc())?;
+    let ample = heirs.copies();
     let poor = Poor {
         rt: rt.clone()?,
         supply,
@@ -75,7 +76,8 @@ fn a_node_that_fails_stops_those_before_it(rt: HostRuntime) -> Result<(), Fail> 
     };
     let ended = run(&poor, SETTINGS, &progress(rt.alloc())?);
     assert!(rt; matches!(ended, Err(Fault::Memory)));
-    // The threads of the first node do not wait until all engines are idle, as without a failure.
+    // The first node ran. Its threads do not wait until all engines are idle, as without a failure.
+    assert!(rt; heirs.copies() < ample);
     assert!(rt; heirs.pauses() < 500);
     Ok(())
 }

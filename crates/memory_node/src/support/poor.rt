@@ -32,6 +32,11 @@ impl Supply {
         self.pauses.load(Ordering::SeqCst)
     }
 
+    /// Returns how many copies can still be made.
+    pub fn copies(&self) -> u64 {
+        self.copies.load(Ordering::SeqCst)
+    }
+
     /// Leaves this many copies, and this many times random bytes.
     pub fn leave(&self, copies: u64, randoms: u64) {
         self.copies.store(copies, Ordering::SeqCst);
