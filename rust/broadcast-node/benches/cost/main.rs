@@ -1,7 +1,9 @@
 //! What calls cost beside a plain Rust cache, in nanoseconds: `cargo bench --offline`.
 //!
-//! Each number is the least of `ROUNDS` rounds, in which the two take turns. On a shared machine compare the
-//! ratios of one table, never the times of two.
+//! From process to process the plain cache's times differ by a third, however many rounds each takes. So each table
+//! is measured by `RUNS` processes, in each of which a time is the least of `ROUNDS` rounds, in which the two take
+//! turns. A row is that of the process with the median ratio, then the least and the greatest ratio. On a shared
+//! machine compare the ratios of one table, never the times of two.
 
 mod expert;
 mod plain;
@@ -9,14 +11,30 @@ mod plain;
 use broadcast_node::{Cache, Digest, Key, Limits, Node, Subscribed, Ticket};
 use expert::Expert;
 use plain::Plain;
+use std::env;
 use std::hint::black_box;
+use std::process::Command;
 use std::sync::Arc;
 use std::time::Instant;
 
 type Bytes32 = [u8; 32];
 type Shared = Arc<[u8]>;
 
-const ROUNDS: usize = 15;
+const RUNS: usize = 7;
+const ROUNDS: usize = 5;
+
+/// Peers, length of their lists, messages, and bytes of a message.
+const LOADS: [(usize, usize, usize, usize); 7] = [
+    (10, 10, 20_000, 100),
+    (100, 10, 20_000, 100),
+    (1_000, 10, 20_000, 100),
+    (16, 100, 20_000, 100),
+    (16, 1000, 20_000, 100),
+    (16, 100, 20_000, 1_000),
+    (16, 100, 1_000, 10_000),
+];
+/// The variable that tells a process which load it measures.
+const LOAD: &str = "BROADCAST_BENCH_LOAD";
 
 /// A generator of numbers (splitmix).
 struct Random(u64);
@@ -45,7 +63,6 @@ impl Random {
 
 /// Messages that each of about four of the peers hands on, in a random order near by.
 struct Load {
-    name: String,
     size: usize,
     keys: Vec<Bytes32>,
     payloads: Vec<(Bytes32, Shared)>,
@@ -68,7 +85,6 @@ impl Load {
             (random.place(peers), near)
         };
         Load {
-            name: format!("{peers} peers, lists of {size}, {len} bytes"),
             size,
             keys,
             payloads: (0..messages).map(message).collect(),
@@ -142,14 +158,14 @@ impl Load {
     }
 }
 
-/// Prints how long a call takes on both sides. What a side returns is dropped after its time was taken.
+/// Prints the nanoseconds that a call takes on both sides. What a side returns is dropped after its time was taken.
 fn row<A, B>(name: &str, calls: usize, mut one: impl FnMut() -> A, mut other: impl FnMut() -> B) {
     let (mut a, mut b) = (f64::MAX, f64::MAX);
     for _ in 0..ROUNDS {
         a = a.min(nanos(calls, &mut one));
         b = b.min(nanos(calls, &mut other));
     }
-    println!("{name:28} {a:10.1} {b:10.1} {:8.2}", a / b);
+    println!("{name}\t{a}\t{b}");
 }
 
 fn nanos<T>(calls: usize, side: &mut impl FnMut() -> T) -> f64 {
@@ -161,7 +177,6 @@ fn nanos<T>(calls: usize, side: &mut impl FnMut() -> T) -> f64 {
 }
 
 fn table(load: &Load) {
-    println!("\n{:28} {:>10} {:>10} {:>8}", load.name, "verified", "other", "ratio");
     row("take", load.takes.len(), || load.cache(), || load.plain());
     row("take, beside an expert's", load.takes.len(), || load.cache(), || load.expert());
     row("payload of a node", load.takes.len(), || load.node(), || load.plain_node());
@@ -255,16 +270,57 @@ fn each<T, R>(items: &[T], mut call: impl FnMut(&T) -> R) {
     }
 }
 
+/// What a process printed of one row.
+struct Row {
+    name: String,
+    verified: f64,
+    other: f64,
+}
+
+impl Row {
+    fn parse(line: &str) -> Option<Row> {
+        let mut cells = line.split('\t');
+        let name = cells.next()?.to_owned();
+        let (verified, other) = (cells.next()?.parse().ok()?, cells.next()?.parse().ok()?);
+        Some(Row { name, verified, other })
+    }
+
+    fn ratio(&self) -> f64 {
+        self.verified / self.other
+    }
+}
+
+/// Runs this program for the load, and returns the rows that it printed.
+fn run(load: usize) -> Vec<Row> {
+    let ran =
+        Command::new(env::current_exe().unwrap()).env(LOAD, load.to_string()).output().unwrap();
+    assert!(ran.status.success(), "{}", String::from_utf8_lossy(&ran.stderr));
+    String::from_utf8(ran.stdout).unwrap().lines().map(|it| Row::parse(it).unwrap()).collect()
+}
+
+/// Prints the table of a load.
+fn show(number: usize) {
+    let (peers, size, _, len) = LOADS[number];
+    let name = format!("{peers} peers, lists of {size}, {len} bytes");
+    println!("\n{name:36} {:>9} {:>9} {:>6}", "verified", "other", "ratio");
+    let mut runs: Vec<_> = (0..RUNS).map(|_| run(number).into_iter()).collect();
+    loop {
+        let mut rows: Vec<Row> = runs.iter_mut().filter_map(Iterator::next).collect();
+        rows.sort_by(|a, b| a.ratio().total_cmp(&b.ratio()));
+        let [least, .., greatest] = &rows[..] else { break };
+        let (least, greatest) = (least.ratio(), greatest.ratio());
+        let row = &rows[rows.len() / 2];
+        let (name, a, b) = (&row.name, row.verified, row.other);
+        println!("{name:36} {a:9.1} {b:9.1} {:6.2}  ({least:.2} to {greatest:.2})", a / b);
+    }
+}
+
 fn main() {
-    for (peers, size, messages, len) in [
-        (10, 10, 20_000, 100),
-        (100, 10, 20_000, 100),
-        (1_000, 10, 20_000, 100),
-        (16, 100, 20_000, 100),
-        (16, 1000, 20_000, 100),
-        (16, 100, 20_000, 1_000),
-        (16, 100, 1_000, 10_000),
-    ] {
-        table(&Load::new(peers, size, messages, len));
+    match env::var(LOAD) {
+        Ok(number) => {
+            let (peers, size, messages, len) = LOADS[number.parse::<usize>().unwrap()];
+            table(&Load::new(peers, size, messages, len));
+        }
+        Err(_) => (0..LOADS.len()).for_each(show),
     }
 }
