@@ -38,7 +38,7 @@ impl Ord for Name {
 
     ghost matches_eq = { λ x y. texts_ties x.bytes y.bytes };
 
-    #[inline]
+    #[inline(always)]
     fn cmp(&self, other: &Self) -> Ordering {
         compare(&self.bytes, &other.bytes)
     }

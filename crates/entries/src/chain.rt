@@ -67,6 +67,7 @@ pub fn push_front<K: Drop, D: Copy>(
 }
 
 /// Takes the oldest place out of a chain, and frees it. Does not allocate.
+#[inline(always)]
 pub fn pop_oldest<K: Drop, D>(places: &mut Slab<Entry<K, D>>, chain: &mut Chain) -> Option<D>
     requires { HasNodes (get places.old) chain.old }
     ensures popped { Pops (get places.old) (get places.new) chain.old chain.new result }
@@ -84,6 +85,7 @@ pub fn pop_oldest<K: Drop, D>(places: &mut Slab<Entry<K, D>>, chain: &mut Chain)
 
 /// Takes the oldest digest out of a chain that has more than `size`, with its charge. Does not
 /// allocate.
+#[inline(always)]
 pub fn trim<K: Drop, D: Copy>(
     places: &mut Slab<Entry<K, Charged<D>>>,
     chain: &mut Chain,

@@ -160,6 +160,7 @@ where
 
     ghost is_among = { message_is_among (eq_by_cmp M.Digest.cmp) };
 
+    #[inline]
     fn abandoned(&self) -> Option<Abandoned<M::Digest>> {
         match self {
             Message::Subscribe { digest, responder } => Abandoned::found(responder, *digest),
