@@ -1,9 +1,9 @@
 //! What calls cost beside a plain Rust cache, in nanoseconds: `cargo bench --offline`.
 //!
-//! From process to process the plain cache's times differ by a third, however many rounds each takes. So each table
-//! is measured by `RUNS` processes, in each of which a time is the least of `ROUNDS` rounds, in which the two take
-//! turns. A row is that of the process with the median ratio, then the least and the greatest ratio. On a shared
-//! machine compare the ratios of one table, never the times of two.
+//! From process to process, and from hour to hour, the plain cache's times differ by a third, however many rounds a
+//! process takes. So each table is measured by `RUNS` processes, in each of which a time is the least of `ROUNDS`
+//! rounds, in which the two take turns. A row is that of the process with the median ratio, then the least and the
+//! greatest ratio. Compare the ratios of several runs, never the times of two.
 
 mod expert;
 mod plain;
@@ -299,11 +299,11 @@ fn run(load: usize) -> Vec<Row> {
 }
 
 /// Prints the table of a load.
-fn show(number: usize) {
-    let (peers, size, _, len) = LOADS[number];
+fn show(load: usize) {
+    let (peers, size, _, len) = LOADS[load];
     let name = format!("{peers} peers, lists of {size}, {len} bytes");
     println!("\n{name:36} {:>9} {:>9} {:>6}", "verified", "other", "ratio");
-    let mut runs: Vec<_> = (0..RUNS).map(|_| run(number).into_iter()).collect();
+    let mut runs: Vec<_> = (0..RUNS).map(|_| run(load).into_iter()).collect();
     loop {
         let mut rows: Vec<Row> = runs.iter_mut().filter_map(Iterator::next).collect();
         rows.sort_by(|a, b| a.ratio().total_cmp(&b.ratio()));
@@ -317,8 +317,8 @@ fn show(number: usize) {
 
 fn main() {
     match env::var(LOAD) {
-        Ok(number) => {
-            let (peers, size, messages, len) = LOADS[number.parse::<usize>().unwrap()];
+        Ok(load) => {
+            let (peers, size, messages, len) = LOADS[load.parse::<usize>().unwrap()];
             table(&Load::new(peers, size, messages, len));
         }
         Err(_) => (0..LOADS.len()).for_each(show),
