@@ -89,6 +89,14 @@ impl<M: Digestible> Digested<M> {
         self.digest
     }
 
+    /// Returns the message, which copies of this one may share. Does not allocate.
+    pub fn into_shared(self) -> Arc<M>
+        ensures { arc_value result ≡ self.message }
+    {
+        let Digested { message, digest: _ } = self;
+        message
+    }
+
     /// Returns the message, shared with this one.
     pub fn inner_shared(&self) -> Result<Arc<M>, AllocError>
         ensures { IfOk result (λ message. arc_value message ≡ self.now.message) }

@@ -9,6 +9,7 @@ mod counters;
 mod held;
 mod name;
 mod node;
+mod spare;
 mod store;
 
 pub use blob::Blob;
@@ -17,4 +18,5 @@ pub use counters::Counters;
 pub use held::Held;
 pub use name::Name;
 pub use node::Node;
+pub use spare::Spare;
 pub use store::Store;

@@ -9,6 +9,7 @@ ghost use Rattle.byte_cache.specs.Held.{HaveSameNames, TakesHandle, handle_at, e
 
 use crate::held::Held;
 use crate::name::Name;
+use crate::spare::Spare;
 use broadcast_core::{Core, Digest, Digested, Items, Outcome, Set, Subscribed};
 use std::alloc::{AllocError, Global};
 
@@ -21,6 +22,8 @@ pub struct Store {
     pub core: Core<Name, Held, u64>,
     /// The tickets that the last taking served, in the order of their subscribes.
     pub served: Items<u64>,
+    /// Where the message that was taken last stands.
+    pub spare: Spare,
 }
 
 impl Store {
@@ -41,6 +44,7 @@ impl Store {
         Store {
             core: Core::new(alloc, own, deque_size, byte_budget),
             served: Items::new(alloc),
+            spare: Spare::new(),
         }
     }
 
@@ -79,9 +83,11 @@ impl Store {
             charge,
             digest,
         };
-        let message = Digested::precomputed(alloc, held, digest)?;
+        let message = Digested::precomputed_shared(self.spare.share(alloc, held)?, digest);
         let mut kept = false;
-        let taken = self.core.take_telling(peer, &message, &mut kept)?;
+        let taken = self.core.take_telling(peer, &message, &mut kept);
+        self.spare.put(message.into_shared());
+        let taken = taken?;
         self.served = taken.served;
         Ok((taken.outcome, kept))
     }

@@ -124,6 +124,21 @@ fn a_cache_loses_no_taking() {
     refuse_each(cache, |it| it.update_primary_peers(&[peer(), own(), peer()]));
 }
 
+/// A message that the cache does not keep leaves its place to the next one: a repeat, or a stranger's message, does
+/// not allocate after it.
+#[test]
+fn a_message_that_is_not_kept_leaves_its_place() {
+    let mut cache = cache();
+    let stranger = Key::from([3; 32]);
+    assert_eq!((take(&mut cache, 9), take(&mut cache, 9)), (Ok(0), Ok(0)));
+    for _ in 0..2 {
+        assert_eq!(refusing(0, || take(&mut cache, 9)), (Ok(0), false), "a repeat");
+        let taken = || cache.take(&stranger, &digest(7), 7, "message").map(|it| it.served.len());
+        let (served, was_refused) = refusing(0, taken);
+        assert!(served.is_ok() && !was_refused, "a stranger's");
+    }
+}
+
 /// A node for which three tickets wait, and which has a message.
 fn node() -> Node<Vec<u8>> {
     let mut node = Node::new(own(), Limits::default()).unwrap();
