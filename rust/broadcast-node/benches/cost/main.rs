@@ -1,9 +1,9 @@
 //! What calls cost beside a plain Rust cache, in nanoseconds: `cargo bench --offline`.
 //!
-//! From process to process, and from hour to hour, the plain cache's times differ by a third, however many rounds a
-//! process takes. So each table is measured by `RUNS` processes, in each of which a time is the least of `ROUNDS`
-//! rounds, in which the two take turns. A row is that of the process with the median ratio, then the least and the
-//! greatest ratio. Compare the ratios of several runs, never the times of two.
+//! Other work on a machine, also that of neighbours that one does not see, slows some moments down by a half. So the
+//! calls of a row are timed in stretches of `STRETCH`, and a stretch counts by its least time in `ROUNDS` rounds, in
+//! which the two sides take turns. Where memory lies differs from process to process. So each table is measured by
+//! `RUNS` processes: a row is that of the process with the median ratio, then the least and the greatest ratio.
 
 mod expert;
 mod plain;
@@ -15,13 +15,14 @@ use std::env;
 use std::hint::black_box;
 use std::process::Command;
 use std::sync::Arc;
-use std::time::Instant;
+use std::time::{Duration, Instant};
 
 type Bytes32 = [u8; 32];
 type Shared = Arc<[u8]>;
 
 const RUNS: usize = 7;
-const ROUNDS: usize = 5;
+const ROUNDS: usize = 15;
+const STRETCH: usize = 500;
 
 /// Peers, length of their lists, messages, and bytes of a message.
 const LOADS: [(usize, usize, usize, usize); 7] = [
@@ -64,7 +65,8 @@ impl Random {
 /// Messages that each of about four of the peers hands on, in a random order near by.
 struct Load {
     size: usize,
-    keys: Vec<Bytes32>,
+    keys: Vec<Key>,
+    plain_keys: Vec<Bytes32>,
     payloads: Vec<(Bytes32, Shared)>,
     takes: Vec<(usize, usize)>,
 }
@@ -72,7 +74,7 @@ struct Load {
 impl Load {
     fn new(peers: usize, size: usize, messages: usize, len: usize) -> Load {
         let mut random = Random(7);
-        let keys = (0..peers).map(|_| random.bytes()).collect();
+        let plain_keys: Vec<Bytes32> = (0..peers).map(|_| random.bytes()).collect();
         let bytes: Vec<u8> = (0..len).map(|_| random.next() as u8).collect();
         let message = |n: usize| {
             let mut bytes = bytes.clone();
@@ -86,102 +88,130 @@ impl Load {
         };
         Load {
             size,
-            keys,
+            keys: plain_keys.iter().map(|it| Key::from(*it)).collect(),
+            plain_keys,
             payloads: (0..messages).map(message).collect(),
             takes: (0..messages * 4).map(take).collect(),
         }
     }
 
-    fn keys(&self) -> Vec<Key> {
-        self.keys.iter().map(|it| Key::from(*it)).collect()
-    }
-
-    fn cache(&self) -> Cache<Shared> {
-        let keys = self.keys();
+    fn empty_cache(&self) -> Cache<Shared> {
         let mut cache = Cache::new(Key::from([0; 32]), self.size, u64::MAX).unwrap();
-        cache.update_primary_peers(&keys).unwrap();
-        for (peer, message) in &self.takes {
-            let (digest, payload) = &self.payloads[*message];
-            let digest = Digest::from(*digest);
-            let taken = cache.take(&keys[*peer], &digest, payload.len(), payload.clone());
-            black_box(taken.unwrap().outcome);
-        }
+        cache.update_primary_peers(&self.keys).unwrap();
         cache
     }
 
-    fn plain(&self) -> Plain<Bytes32, Shared> {
+    fn empty_plain(&self) -> Plain<Bytes32, Shared> {
         let mut cache = Plain::new(self.size, u64::MAX);
-        cache.peers(&self.keys);
-        for (peer, message) in &self.takes {
-            let (digest, payload) = &self.payloads[*message];
-            let charge = payload.len() as u64;
-            black_box(cache.take(&self.keys[*peer], digest, charge, payload.clone()));
-        }
+        cache.peers(&self.plain_keys);
         cache
     }
 
-    fn expert(&self) -> Expert<Bytes32, Shared> {
-        let mut cache = Expert::new(self.size, u64::MAX, &self.keys);
-        for (peer, message) in &self.takes {
-            let (digest, payload) = &self.payloads[*message];
-            let charge = payload.len() as u64;
-            black_box(cache.take(&self.keys[*peer], digest, charge, payload.clone()));
-        }
-        cache
+    fn empty_expert(&self) -> Expert<Bytes32, Shared> {
+        Expert::new(self.size, u64::MAX, &self.plain_keys)
     }
 
-    fn node(&self) -> Node<Shared> {
-        let keys = self.keys();
+    fn empty_node(&self) -> Node<Shared> {
         let mut limits = Limits::default();
         (limits.deque_size, limits.byte_budget) = (self.size, u64::MAX);
         let mut node = Node::new(Key::from([0; 32]), limits).unwrap();
-        node.update_primary_peers(&keys).unwrap();
-        for (peer, message) in &self.takes {
-            let payload = self.payloads[*message].1.clone();
-            black_box(node.payload(&keys[*peer], payload).unwrap());
-        }
+        node.update_primary_peers(&self.keys).unwrap();
         node
     }
 
+    /// The peer, the digest and the payload of a take.
+    fn take(&self, n: usize) -> (usize, &Bytes32, Shared) {
+        let (peer, message) = self.takes[n];
+        let (digest, payload) = &self.payloads[message];
+        (peer, digest, payload.clone())
+    }
+
+    fn take_cache(&self, cache: &mut Cache<Shared>, n: usize) {
+        let (peer, digest, payload) = self.take(n);
+        let digest = Digest::from(*digest);
+        let taken = cache.take(&self.keys[peer], &digest, payload.len(), payload);
+        black_box(taken.unwrap().outcome);
+    }
+
+    fn take_plain(&self, cache: &mut Plain<Bytes32, Shared>, n: usize) {
+        let (peer, digest, payload) = self.take(n);
+        black_box(cache.take(&self.plain_keys[peer], digest, payload.len() as u64, payload));
+    }
+
+    fn take_expert(&self, cache: &mut Expert<Bytes32, Shared>, n: usize) {
+        let (peer, digest, payload) = self.take(n);
+        black_box(cache.take(&self.plain_keys[peer], digest, payload.len() as u64, payload));
+    }
+
+    fn payload_node(&self, node: &mut Node<Shared>, n: usize) {
+        let (peer, _, payload) = self.take(n);
+        black_box(node.payload(&self.keys[peer], payload).unwrap());
+    }
+
     /// What a node does with a payload: the length is looked at, and the message is digested, as there.
-    fn plain_node(&self) -> Plain<Bytes32, Shared> {
-        let mut cache = Plain::new(self.size, u64::MAX);
-        cache.peers(&self.keys);
-        for (peer, message) in &self.takes {
-            let payload = self.payloads[*message].1.clone();
-            let (len, bytes) = payload.split_at(4);
-            assert_eq!(len, (bytes.len() as u32).to_be_bytes());
-            let (digest, charge) = (Digest::sha256(bytes).into(), payload.len() as u64);
-            black_box(cache.take(&self.keys[*peer], &digest, charge, payload));
+    fn payload_plain(&self, cache: &mut Plain<Bytes32, Shared>, n: usize) {
+        let (peer, _, payload) = self.take(n);
+        let (len, bytes) = payload.split_at(4);
+        assert_eq!(len, (bytes.len() as u32).to_be_bytes());
+        let (digest, charge) = (Digest::sha256(bytes).into(), payload.len() as u64);
+        black_box(cache.take(&self.plain_keys[peer], &digest, charge, payload));
+    }
+
+    /// Returns what the calls leave of a state.
+    fn filled<T>(&self, mut state: T, call: impl Fn(&Self, &mut T, usize)) -> T {
+        (0..self.takes.len()).for_each(|n| call(self, &mut state, n));
+        state
+    }
+}
+
+/// One side of a row: what makes its state, which each round begins with, and its calls.
+struct Side<M, C>(M, C);
+
+impl<S, M: FnMut() -> S, C: FnMut(&mut S, usize)> Side<M, C> {
+    /// Makes the calls, and lowers the time of each stretch to what it took, if that was less.
+    fn round(&mut self, calls: usize, least: &mut [Duration]) {
+        let mut state = self.0();
+        for (stretch, least) in least.iter_mut().enumerate() {
+            let first = stretch * STRETCH;
+            let start = Instant::now();
+            (first..calls.min(first + STRETCH)).for_each(|n| self.1(&mut state, n));
+            *least = start.elapsed().min(*least);
         }
-        cache
     }
 }
 
-/// Prints the nanoseconds that a call takes on both sides. What a side returns is dropped after its time was taken.
-fn row<A, B>(name: &str, calls: usize, mut one: impl FnMut() -> A, mut other: impl FnMut() -> B) {
-    let (mut a, mut b) = (f64::MAX, f64::MAX);
+/// Prints the nanoseconds that a call takes on both sides.
+fn row<S, T>(
+    name: &str,
+    calls: usize,
+    mut one: Side<impl FnMut() -> S, impl FnMut(&mut S, usize)>,
+    mut other: Side<impl FnMut() -> T, impl FnMut(&mut T, usize)>,
+) {
+    let mut a = vec![Duration::MAX; calls.div_ceil(STRETCH)];
+    let mut b = a.clone();
     for _ in 0..ROUNDS {
-        a = a.min(nanos(calls, &mut one));
-        b = b.min(nanos(calls, &mut other));
+        one.round(calls, &mut a);
+        other.round(calls, &mut b);
     }
-    println!("{name}\t{a}\t{b}");
-}
-
-fn nanos<T>(calls: usize, side: &mut impl FnMut() -> T) -> f64 {
-    let start = Instant::now();
-    let kept = side();
-    let time = start.elapsed();
-    drop(kept);
-    time.as_nanos() as f64 / calls as f64
+    let nanos =
+        |least: &[Duration]| least.iter().sum::<Duration>().as_nanos() as f64 / calls as f64;
+    println!("{name}\t{}\t{}", nanos(&a), nanos(&b));
 }
 
 fn table(load: &Load) {
-    row("take", load.takes.len(), || load.cache(), || load.plain());
-    row("take, beside an expert's", load.takes.len(), || load.cache(), || load.expert());
-    row("payload of a node", load.takes.len(), || load.node(), || load.plain_node());
-    let (mut cache, mut plain) = (load.cache(), load.plain());
-    let mut expert = load.expert();
+    let calls = load.takes.len();
+    let cache = || Side(|| load.empty_cache(), |it: &mut _, n| load.take_cache(it, n));
+    let plain = Side(|| load.empty_plain(), |it: &mut _, n| load.take_plain(it, n));
+    let expert = Side(|| load.empty_expert(), |it: &mut _, n| load.take_expert(it, n));
+    let node = Side(|| load.empty_node(), |it: &mut _, n| load.payload_node(it, n));
+    let plain_node = Side(|| load.empty_plain(), |it: &mut _, n| load.payload_plain(it, n));
+    row("take", calls, cache(), plain);
+    row("take, beside an expert's", calls, cache(), expert);
+    row("payload of a node", calls, node, plain_node);
+
+    let mut cache = load.filled(load.empty_cache(), Load::take_cache);
+    let mut plain = load.filled(load.empty_plain(), Load::take_plain);
+    let mut expert = load.filled(load.empty_expert(), Load::take_expert);
     assert_eq!(cache.len(), plain.cached());
     assert_eq!(expert.cached(), plain.cached());
     assert!(load.payloads.iter().all(|(digest, _)| expert.get(digest) == plain.get(digest)));
@@ -193,39 +223,35 @@ fn table(load: &Load) {
     gets(&cache, &plain, &asked, &absent);
     cancels(&mut cache, &mut plain, &absent);
     assert!(absent.iter().all(|it| expert.subscribe(1, it) && expert.cancel(it, 1)));
-    let keys = load.keys();
-    for (key, plain_key) in keys.iter().zip(&load.keys) {
-        let list: Vec<Bytes32> = cache.list(key).unwrap().into_iter().map(Bytes32::from).collect();
-        assert_eq!(list, plain.list(plain_key));
-        assert_eq!(list, expert.list(plain_key));
-    }
-    row(
-        "list",
-        load.keys.len(),
-        || keys.iter().map(|it| cache.list(it).unwrap().len()).sum::<usize>(),
-        || load.keys.iter().map(|it| plain.list(it).len()).sum::<usize>(),
-    );
+    lists(&cache, &plain, &expert, load);
 }
 
 /// Subscribes to digests that are not cached, and then cancels one subscription after the other.
 fn cancels(cache: &mut Cache<Shared>, plain: &mut Plain<Bytes32, Shared>, absent: &[Bytes32]) {
+    let calls = absent.len() * 2;
     row(
-        "subscribe and cancel",
-        absent.len(),
-        || {
-            let wait = |it: &Bytes32| match cache.subscribe(&Digest::from(*it)) {
-                Ok(Subscribed::Waiting(ticket)) => ticket,
+        "subscribe, cancel",
+        calls,
+        Side(Vec::new, |tickets: &mut Vec<Ticket>, n| match absent.get(n) {
+            Some(digest) => match cache.subscribe(&Digest::from(*digest)) {
+                Ok(Subscribed::Waiting(ticket)) => tickets.push(ticket),
                 other => panic!("{other:?}"),
-            };
-            let tickets: Vec<Ticket> = absent.iter().map(wait).collect();
-            let cancel = |(it, ticket): (&Bytes32, _)| cache.cancel(&Digest::from(*it), ticket);
-            assert!(absent.iter().zip(tickets).all(cancel));
-        },
-        || {
-            let tickets: Vec<u64> = (0..absent.len() as u64).collect();
-            assert!(absent.iter().zip(&tickets).all(|(it, ticket)| plain.subscribe(*ticket, it)));
-            assert!(absent.iter().zip(&tickets).all(|(it, ticket)| plain.cancel(it, *ticket)));
-        },
+            },
+            None => {
+                let n = n - absent.len();
+                assert!(cache.cancel(&Digest::from(absent[n]), tickets[n]));
+            }
+        }),
+        Side(Vec::new, |tickets: &mut Vec<u64>, n| match absent.get(n) {
+            Some(digest) => {
+                assert!(plain.subscribe(n as u64, digest));
+                tickets.push(n as u64);
+            }
+            None => {
+                let n = n - absent.len();
+                assert!(plain.cancel(&absent[n], tickets[n]));
+            }
+        }),
     );
 }
 
@@ -238,36 +264,50 @@ fn gets(
     for it in asked {
         assert_eq!(cache.get(&Digest::from(*it)), plain.get(it));
     }
-    row(
-        "get, beside a copy",
-        asked.len(),
-        || each(asked, |it| cache.get(&Digest::from(*it)).cloned()),
-        || each(asked, |it| plain.get(it).map(|it| it.to_vec())),
-    );
-    row(
-        "get that lends, beside a copy",
-        asked.len(),
-        || each(asked, |it| cache.get(&Digest::from(*it))),
-        || each(asked, |it| plain.get(it).map(|it| it.to_vec())),
-    );
-    row(
-        "get",
-        asked.len(),
-        || each(asked, |it| cache.get(&Digest::from(*it)).cloned()),
-        || each(asked, |it| plain.get(it).cloned()),
-    );
+    let lends = || each(asked, |it| cache.get(&Digest::from(*it)));
+    let clones = || each(asked, |it| cache.get(&Digest::from(*it)).cloned());
+    let copies = || each(asked, |it| plain.get(it).map(|it| it.to_vec()));
+    row("get, beside a copy", asked.len(), clones(), copies());
+    row("get that lends, beside a copy", asked.len(), lends(), copies());
+    row("get", asked.len(), clones(), each(asked, |it| plain.get(it).cloned()));
     row(
         "get of what is not there",
         absent.len(),
-        || each(absent, |it| cache.get(&Digest::from(*it)).cloned()),
-        || each(absent, |it| plain.get(it).cloned()),
+        each(absent, |it| cache.get(&Digest::from(*it)).cloned()),
+        each(absent, |it| plain.get(it).cloned()),
     );
 }
 
-fn each<T, R>(items: &[T], mut call: impl FnMut(&T) -> R) {
-    for item in items {
-        black_box(call(item));
+/// The side without a state that calls each item.
+fn each<T, R>(
+    items: &[T],
+    mut call: impl FnMut(&T) -> R,
+) -> Side<impl FnMut(), impl FnMut(&mut (), usize)> {
+    Side(
+        || (),
+        move |_: &mut (), n| {
+            black_box(call(&items[n]));
+        },
+    )
+}
+
+fn lists(
+    cache: &Cache<Shared>,
+    plain: &Plain<Bytes32, Shared>,
+    expert: &Expert<Bytes32, Shared>,
+    load: &Load,
+) {
+    for (key, plain_key) in load.keys.iter().zip(&load.plain_keys) {
+        let list: Vec<Bytes32> = cache.list(key).unwrap().into_iter().map(Bytes32::from).collect();
+        assert_eq!(list, plain.list(plain_key));
+        assert_eq!(list, expert.list(plain_key));
     }
+    row(
+        "list",
+        load.keys.len(),
+        each(&load.keys, |it| cache.list(it).unwrap().len()),
+        each(&load.plain_keys, |it| plain.list(it).len()),
+    );
 }
 
 /// What a process printed of one row.
