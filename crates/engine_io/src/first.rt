@@ -42,6 +42,10 @@ pub fn comes_first<P: Drop, J: Drop, T: Awaits, Q: Requests<T>>(
     if requests.stopped(cx) {
         return First::Stop;
     }
+    // A job is large, and mostly there is none: its place is not copied then.
+    if slot.is_none() {
+        return First::Sources;
+    }
     match slot.take() {
         Some((peer, job)) => First::Job(peer, job),
         None => First::Sources,

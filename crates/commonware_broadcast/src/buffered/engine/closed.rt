@@ -33,14 +33,11 @@ impl<M: Digestible> Closed<M> {
         ensures { result ≡ false
             → self.new.digests.items ≡ self.old.digests.items ++ self.old.applied.items }
     {
-        if self
-            .digests
-            .extend_from_slice(self.applied.as_slice())
-            .is_err()
-        {
-            return true;
+        if self.applied.is_empty() {
+            return self.asks_each;
         }
-        self.asks_each
+        let added = self.digests.extend_from_slice(self.applied.as_slice());
+        added.is_err() || self.asks_each
     }
 
     /// Keeps the digest of a subscribe that the requests did not give, if somebody waits for it.

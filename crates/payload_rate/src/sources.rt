@@ -1,0 +1,95 @@
+//! What an engine is given.
+use broadcast_core::{Event, Items, Recipients, Set, TestMessage};
+use broadcast_text::fault::Fault;
+use engine_io::{NetworkFailed, Provider, Receiver, Sender};
+use futures::task::{Context, Poll};
+use replay_lib::read_events;
+use std::alloc::{AllocError, Global};
+use std::io::Read;
+
+/// Gives the last peer set of a file, and no other.
+#[derive(Drop)]
+pub struct Peers {
+    set: Option<Set<u64>>,
+}
+
+impl Provider<u64> for Peers {
+    fn poll_update(&mut self, cx: &mut Context<'_>) -> Poll<Option<Set<u64>>> {
+        match self.set.take() {
+            Some(set) => Poll::Ready(Some(set)),
+            None => cx.yield_now(),
+        }
+    }
+}
+
+/// Gives the payloads of a file.
+#[derive(Drop)]
+pub struct Payloads {
+    // Those that are left, the next one last.
+    left: Vec<(u64, Items<u8>)>,
+}
+
+impl Receiver<u64> for Payloads {
+    fn poll_recv(
+        &mut self,
+        cx: &mut Context<'_>,
+    ) -> Poll<Result<(u64, Items<u8>), NetworkFailed>> {
+        match self.left.pop() {
+            Some(payload) => Poll::Ready(Ok(payload)),
+            None => cx.yield_now(),
+        }
+    }
+}
+
+/// Sends to nobody.
+#[derive(Drop)]
+pub struct Nobody;
+
+impl Sender<u64> for Nobody {
+    fn send(&mut self, recipients: Recipients<u64>, bytes: Vec<u8>, _priority: bool) {
+        drop::<_>((recipients, bytes));
+    }
+}
+
+/// The peer set and the payloads of a file.
+#[derive(Drop)]
+pub struct Given {
+    /// The peer set.
+    pub peers: Peers,
+    /// The payloads.
+    pub payloads: Payloads,
+}
+
+impl Given {
+    /// Reads a file of events, and keeps its last peer set and its payloads.
+    pub fn read<R: Read + Drop>(alloc: Global, reader: R) -> Result<Self, Fault> {
+        let events = read_events(alloc, reader)?;
+        Ok(Self::of(alloc, events)?)
+    }
+
+    /// Keeps the last peer set and the payloads.
+    fn of(alloc: Global, events: Vec<Event<u64, TestMessage>>) -> Result<Self, AllocError> {
+        let mut set = None;
+        let mut left = Vec::new(alloc);
+        for event in events {
+            match event {
+                Event::Peers(peers) => set = Some(peers),
+                Event::Payload(peer, bytes) => left.push((peer, bytes))?,
+                Event::Broadcast(..)
+                | Event::Subscribe(..)
+                | Event::Get(..)
+                | Event::Cleanup(..) => {}
+            }
+        }
+        left.reverse();
+        Ok(Given {
+            peers: Peers { set },
+            payloads: Payloads { left },
+        })
+    }
+
+    /// Returns how many payloads there are.
+    pub fn payloads(&self) -> usize {
+        self.payloads.left.len()
+    }
+}

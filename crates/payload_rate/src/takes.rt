@@ -1,0 +1,67 @@
+//! Payloads that are taken.
+use crate::sources::{Given, Nobody, Payloads, Peers};
+use broadcast_core::{Answer, Digest, Event, RangeCfg, TestMessage, run};
+use commonware_broadcast::buffered::{Config, MailboxEngine, Sequential, Turn, drive};
+use futures::task::{Doorbell, Poll, Solo};
+use std::alloc::{AllocError, AllocGlobal, Global};
+use std::random::RandomSource;
+use std::sync::Wait;
+
+/// The own key of the node, which no peer has.
+const OWN: u64 = u64::MAX;
+
+/// Runs the events on a core whose lists have `size` places. Returns how many payloads it took.
+pub fn by_run(
+    alloc: Global,
+    size: usize,
+    events: Vec<Event<u64, TestMessage>>,
+) -> Result<usize, AllocError> {
+    let ran = run(alloc, OWN, size, u64::MAX, false, &RangeCfg::any(), events)?;
+    let answers = ran.answers.as_slice();
+    Ok(answers
+        .iter()
+        .filter(|it| matches!(it, Answer::Taken { .. }))
+        .count())
+}
+
+/// Gives the payloads to an engine whose lists have `size` places, one at a poll. It has a mailbox
+/// that nobody uses. Returns how many it took.
+pub fn by_engine<H>(rt: &H, size: usize, given: Given) -> Result<usize, AllocError>
+where
+    H: Wait + RandomSource + AllocGlobal + Clone + Drop,
+{
+    let polls = given.payloads() + 1;
+    let mut config = Config::new(OWN, RangeCfg::any(), given.peers);
+    config.deque_size = size;
+    config.byte_budget = u64::MAX;
+    let (mut engine, mailbox) =
+        MailboxEngine::<u64, TestMessage, Peers, Sequential, H>::new(rt.clone()?, rt.alloc(), config)?;
+    let mut network = (Nobody, given.payloads);
+    let turns = poll(rt, &mut engine, &mut network, polls)?;
+    drop::<_>(mailbox);
+    Ok(turns
+        .iter()
+        .filter(|it| matches!(it, Turn::Payload(..)))
+        .count())
+}
+
+/// Polls the engine so often. Returns the turns that it took.
+fn poll<H>(
+    rt: &H,
+    engine: &mut MailboxEngine<u64, TestMessage, Peers, Sequential, H>,
+    network: &mut (Nobody, Payloads),
+    polls: usize,
+) -> Result<Vec<Turn<u64, Digest>>, AllocError>
+where
+    H: Wait + RandomSource + AllocGlobal + Clone + Drop,
+{
+    let Ok(task) = Solo::new(rt, Doorbell::spinning()) else {
+        return Err(AllocError);
+    };
+    let mut cx = task.begin();
+    let turns = drive(rt.alloc(), engine, &mut cx, network, polls);
+    // The task is to be polled again.
+    let _: Poll<()> = cx.yield_now();
+    cx.park();
+    turns
+}
