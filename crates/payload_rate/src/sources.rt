@@ -30,10 +30,7 @@ pub struct Payloads {
 }
 
 impl Receiver<u64> for Payloads {
-    fn poll_recv(
-        &mut self,
-        cx: &mut Context<'_>,
-    ) -> Poll<Result<(u64, Items<u8>), NetworkFailed>> {
+    fn poll_recv(&mut self, cx: &mut Context<'_>) -> Poll<Result<(u64, Items<u8>), NetworkFailed>> {
         match self.left.pop() {
             Some(payload) => Poll::Ready(Ok(payload)),
             None => cx.yield_now(),
@@ -75,10 +72,8 @@ impl Given {
             match event {
                 Event::Peers(peers) => set = Some(peers),
                 Event::Payload(peer, bytes) => left.push((peer, bytes))?,
-                Event::Broadcast(..)
-                | Event::Subscribe(..)
-                | Event::Get(..)
-                | Event::Cleanup(..) => {}
+                Event::Broadcast(..) | Event::Subscribe(..) | Event::Get(..) | Event::Cleanup(..) =>
+                    {}
             }
         }
         left.reverse();

@@ -10,6 +10,9 @@ use std::sync::Wait;
 /// The own key of the node, which no peer has.
 const OWN: u64 = u64::MAX;
 
+/// An engine with a mailbox that nobody uses.
+type Idle<H> = MailboxEngine<u64, TestMessage, Peers, Sequential, H>;
+
 /// Runs the events on a core whose lists have `size` places. Returns how many payloads it took.
 pub fn by_run(
     alloc: Global,
@@ -17,15 +20,13 @@ pub fn by_run(
     events: Vec<Event<u64, TestMessage>>,
 ) -> Result<usize, AllocError> {
     let ran = run(alloc, OWN, size, u64::MAX, false, &RangeCfg::any(), events)?;
-    let answers = ran.answers.as_slice();
-    Ok(answers
-        .iter()
-        .filter(|it| matches!(it, Answer::Taken { .. }))
-        .count())
+    let answers = ran.answers.as_slice().iter();
+    let taken = answers.filter(|it| matches!(it, Answer::Taken { .. }));
+    Ok(taken.count())
 }
 
-/// Gives the payloads to an engine whose lists have `size` places, one at a poll. It has a mailbox
-/// that nobody uses. Returns how many it took.
+/// Gives the payloads to an engine whose lists have `size` places, one at a poll. Returns how many
+/// it took.
 pub fn by_engine<H>(rt: &H, size: usize, given: Given) -> Result<usize, AllocError>
 where
     H: Wait + RandomSource + AllocGlobal + Clone + Drop,
@@ -34,21 +35,18 @@ where
     let mut config = Config::new(OWN, RangeCfg::any(), given.peers);
     config.deque_size = size;
     config.byte_budget = u64::MAX;
-    let (mut engine, mailbox) =
-        MailboxEngine::<u64, TestMessage, Peers, Sequential, H>::new(rt.clone()?, rt.alloc(), config)?;
+    let (mut engine, mailbox) = Idle::new(rt.clone()?, rt.alloc(), config)?;
     let mut network = (Nobody, given.payloads);
     let turns = poll(rt, &mut engine, &mut network, polls)?;
     drop::<_>(mailbox);
-    Ok(turns
-        .iter()
-        .filter(|it| matches!(it, Turn::Payload(..)))
-        .count())
+    let taken = turns.iter().filter(|it| matches!(it, Turn::Payload(..)));
+    Ok(taken.count())
 }
 
 /// Polls the engine so often. Returns the turns that it took.
 fn poll<H>(
     rt: &H,
-    engine: &mut MailboxEngine<u64, TestMessage, Peers, Sequential, H>,
+    engine: &mut Idle<H>,
     network: &mut (Nobody, Payloads),
     polls: usize,
 ) -> Result<Vec<Turn<u64, Digest>>, AllocError>
