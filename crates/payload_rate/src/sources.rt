@@ -1,5 +1,7 @@
 //! What an engine is given.
-use broadcast_core::{Event, Items, Recipients, Set, TestMessage};
+ghost use Rattle.std.specs.Prelude.{⊤};
+
+use broadcast_core::{Digestible, Event, Items, Recipients, Set};
 use broadcast_text::fault::Fault;
 use engine_io::{NetworkFailed, Provider, Receiver, Sender};
 use futures::task::{Context, Poll};
@@ -43,7 +45,9 @@ impl Receiver<u64> for Payloads {
 pub struct Nobody;
 
 impl Sender<u64> for Nobody {
-    fn send(&mut self, recipients: Recipients<u64>, bytes: Vec<u8>, _priority: bool) {
+    fn send(&mut self, recipients: Recipients<u64>, bytes: Vec<u8>, _priority: bool)
+        ensures { ⊤ }
+    {
         drop::<_>((recipients, bytes));
     }
 }
@@ -65,22 +69,30 @@ impl Given {
     }
 
     /// Keeps the last peer set and the payloads.
-    fn of(alloc: Global, events: Vec<Event<u64, TestMessage>>) -> Result<Self, AllocError> {
-        let mut set = None;
-        let mut left = Vec::new(alloc);
+    fn of<M: Digestible>(alloc: Global, events: Vec<Event<u64, M>>) -> Result<Self, AllocError> {
+        let mut given = Given {
+            peers: Peers { set: None },
+            payloads: Payloads {
+                left: Vec::new(alloc),
+            },
+        };
         for event in events {
-            match event {
-                Event::Peers(peers) => set = Some(peers),
-                Event::Payload(peer, bytes) => left.push((peer, bytes))?,
-                Event::Broadcast(..) | Event::Subscribe(..) | Event::Get(..) | Event::Cleanup(..) =>
-                    {}
-            }
+            given.keep(event)?;
         }
-        left.reverse();
-        Ok(Given {
-            peers: Peers { set },
-            payloads: Payloads { left },
-        })
+        given.payloads.left.reverse();
+        Ok(given)
+    }
+
+    /// Keeps a peer set or a payload.
+    fn keep<M: Digestible>(&mut self, event: Event<u64, M>) -> Result<(), AllocError> {
+        match event {
+            Event::Peers(peers) => self.peers.set = Some(peers),
+            Event::Payload(peer, bytes) => self.payloads.left.push((peer, bytes))?,
+            Event::Broadcast(recipients, message) => drop::<_>((recipients, message)),
+            Event::Subscribe(_ticket, _digest) | Event::Get(_ticket, _digest) => {}
+            Event::Cleanup(tickets) => drop::<_>(tickets),
+        }
+        Ok(())
     }
 
     /// Returns how many payloads there are.

@@ -31,7 +31,7 @@ pub fn by_engine<H>(rt: &H, size: usize, given: Given) -> Result<usize, AllocErr
 where
     H: Wait + RandomSource + AllocGlobal + Clone + Drop,
 {
-    let polls = given.payloads() + 1;
+    let polls = given.payloads().saturating_add(1);
     let mut config = Config::new(OWN, RangeCfg::any(), given.peers);
     config.deque_size = size;
     config.byte_budget = u64::MAX;
