@@ -1,6 +1,8 @@
 //! What a peer sends at full speed, tells of or asks for is taken no faster than an author's rates and a connection's pace allow.
 //!
-//! Each test waits for some of it, and looks that this took as long as it had to: a machine that is slow fails none of them.
+//! Each test waits for some of it, and looks that this took as long as it had to: a machine that is slow fails none of them,
+//! if it does not stand still for ten seconds. A relay takes a peer for away that is silent for so long: so what a peer sends
+//! is made before it connects, and while it waits it beats.
 
 mod support;
 
@@ -15,8 +17,8 @@ use support::{Relay, folder, keygen, wait_for};
 
 type Stream = SslStream<TcpStream>;
 
-const PATIENCE: Duration = Duration::from_secs(20);
-const SHORT: Duration = Duration::from_millis(300);
+/// How long a test waits for what must come, whatever else the machine does.
+const PATIENCE: Duration = Duration::from_secs(60);
 /// Of 100 a second, and an eighth of that at once, so many take more than `LEAST`.
 const TAKEN: f64 = 150.0;
 const LEAST: Duration = Duration::from_millis(1_200);
@@ -31,9 +33,9 @@ fn relay_and_peers(name: &str, limits: &str) -> (Relay, Hostile, Hostile) {
     (relays.remove(0), Hostile::new(&author), Hostile::new(&other))
 }
 
-/// Connects a peer that waits for a slow relay.
+/// Connects a peer that waits for a slow relay, and begins a handshake anew that took too long.
 fn connect(peer: &Hostile, relay: &Relay) -> Stream {
-    let stream = peer.connect(relay.address).unwrap();
+    let stream = (0..4).find_map(|_| peer.connect(relay.address)).unwrap();
     stream.get_ref().set_read_timeout(Some(PATIENCE)).unwrap();
     stream.get_ref().set_write_timeout(Some(PATIENCE)).unwrap();
     stream
@@ -44,9 +46,15 @@ fn write(mut stream: Stream, bytes: Vec<u8>) -> JoinHandle<io::Result<Stream>> {
     spawn(move || stream.write_all(&bytes).map(|()| stream))
 }
 
-/// Waits until a counter of the relay has this value.
-fn wait_for_count(relay: &Relay, line: &str, value: f64) {
-    wait_for(line, PATIENCE, || relay.metric(line) >= value);
+/// Lets a relay have a message that others may ask for.
+fn give(peer: &Hostile, relay: &Relay, message: &[u8]) {
+    let mut stream = connect(peer, relay);
+    stream.write_all(&frame(1, message)).unwrap();
+    wait_for("the message", PATIENCE, || !relay.printed().is_empty());
+}
+
+fn beat(stream: &mut Stream) {
+    stream.write_all(&frame(0, &[])).unwrap();
 }
 
 #[test]
@@ -67,10 +75,11 @@ fn an_author_is_taken_at_its_rates_whoever_brings_its_messages() {
             let message = |it| frame(1, &author.message(stamp + it, &[b'x'; 10_000]));
             (from..from + 400).flat_map(message).collect()
         };
-        let floods = [(connect(&author, &relay), flood(0)), (connect(&other, &relay), flood(400))];
+        let floods = [(&author, flood(0)), (&other, flood(400))];
         let start = Instant::now();
-        let writers = floods.map(|(stream, bytes)| write(stream, bytes));
-        wait_for_count(&relay, "relay_delivered_total{author=\"author\"}", TAKEN);
+        let writers = floods.map(|(peer, bytes)| write(connect(peer, &relay), bytes));
+        let counter = "relay_delivered_total{author=\"author\"}";
+        wait_for(counter, PATIENCE, || relay.metric(counter) >= TAKEN);
         let took = start.elapsed();
         assert!(took >= LEAST, "{name}: {took:?}");
         drop(relay);
@@ -89,7 +98,11 @@ fn an_author_is_asked_for_at_its_rate() {
     let mut stream = connect(&hostile, &relay);
     let start = Instant::now();
     stream.write_all(&frame(2, &haves)).unwrap();
-    wait_for_count(&relay, "relay_asked_total{peer=\"author\"}", TAKEN);
+    let counter = "relay_asked_total{peer=\"author\"}";
+    wait_for(counter, PATIENCE, || {
+        beat(&mut stream);
+        relay.metric(counter) >= TAKEN
+    });
     let took = start.elapsed();
     assert!(took >= LEAST, "{took:?}");
 }
@@ -123,14 +136,14 @@ fn a_peer_is_served_at_its_pace() {
     // 32 MiB a second, and an eighth of that at once.
     let (relay, author, other) = relay_and_peers("pace-served", "");
     let (stamp, text) = (now(), [b'x'; 59_000]);
-    author.send(relay.address, &frame(1, &author.message(stamp, &text)), SHORT);
-    wait_for("the message", PATIENCE, || !relay.printed().is_empty());
+    give(&author, &relay, &author.message(stamp, &text));
     let mut stream = connect(&other, &relay);
     let start = Instant::now();
     let asks = frame(3, &author.digest(stamp, &text).repeat(500)).repeat(2);
     stream.write_all(&asks).unwrap();
     let mut served = 0;
     while served < 800 * text.len() {
+        beat(&mut stream);
         let (kind, len) = read_frame(&mut stream).unwrap();
         served += if kind == 1 { len } else { 0 };
     }
@@ -142,8 +155,7 @@ fn a_peer_is_served_at_its_pace() {
 fn a_peer_is_told_the_lists_at_its_pace() {
     // Twice at once, and then once a second.
     let (relay, author, other) = relay_and_peers("pace-told", "");
-    author.send(relay.address, &frame(1, &author.message(now(), b"listed")), SHORT);
-    wait_for("the message", PATIENCE, || !relay.printed().is_empty());
+    give(&author, &relay, &author.message(now(), b"listed"));
     let mut stream = connect(&other, &relay);
     let start = Instant::now();
     let mut told = 0;

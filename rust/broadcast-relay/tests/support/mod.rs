@@ -16,7 +16,7 @@ use std::path::{Path, PathBuf};
 use std::process::{self, Child, ChildStdin, Command, Stdio};
 use std::sync::atomic::{AtomicU32, Ordering};
 use std::sync::{Arc, Mutex};
-use std::thread::{sleep, spawn};
+use std::thread::{panicking, sleep, spawn};
 use std::time::{Duration, Instant};
 
 pub const RELAY: &str = env!("CARGO_BIN_EXE_broadcast-relay");
@@ -272,6 +272,15 @@ impl Relay {
         false
     }
 
+    /// Ends it, and shows what it logged last, its counters too: so a test that fails tells what its relays have seen.
+    fn show_end(&mut self) {
+        self.terminate();
+        let log = self.log();
+        let lines: Vec<&str> = log.lines().collect();
+        let last = &lines[lines.len().saturating_sub(40)..];
+        println!("{} logged:\n{}", self.name, last.join("\n"));
+    }
+
     /// How often each message is in the journal, by the author's key and text.
     pub fn journal(&self) -> HashMap<(String, String), usize> {
         let out = Command::new(RELAY).arg("log").arg(self.journal_folder()).output().unwrap();
@@ -333,6 +342,9 @@ impl Relay {
 
 impl Drop for Relay {
     fn drop(&mut self) {
+        if panicking() && self.process.is_some() {
+            self.show_end();
+        }
         if let Some(process) = &mut self.process {
             let _ = process.kill();
             let _ = process.wait();
