@@ -1,8 +1,8 @@
 //! What a peer sends at full speed, tells of or asks for is taken no faster than an author's rates and a connection's pace allow.
 //!
 //! Each test waits for some of it, and looks that this took as long as it had to: a machine that is slow fails none of them,
-//! if it does not stand still for ten seconds. A relay takes a peer for away that is silent for so long: so what a peer sends
-//! is made before it connects, and while it waits it beats.
+//! if it does not stand still for ten seconds. A relay ends a connection that is silent for so long: so what a peer sends is
+//! made before it connects, and while it waits it beats.
 
 mod support;
 
