@@ -9,18 +9,13 @@ use replay_lib::read_events;
 use std::alloc::{AllocError, Global};
 use std::io::Read;
 
-/// Gives the last peer set of a file, and no other.
+/// Gives no peer set.
 #[derive(Drop)]
-pub struct Peers {
-    set: Option<Set<u64>>,
-}
+pub struct NoSets;
 
-impl Provider<u64> for Peers {
+impl Provider<u64> for NoSets {
     fn poll_update(&mut self, cx: &mut Context<'_>) -> Poll<Option<Set<u64>>> {
-        match self.set.take() {
-            Some(set) => Poll::Ready(Some(set)),
-            None => cx.yield_now(),
-        }
+        cx.yield_now()
     }
 }
 
@@ -52,11 +47,11 @@ impl Sender<u64> for Nobody {
     }
 }
 
-/// The peer set and the payloads of a file.
+/// The last peer set and the payloads of a file.
 #[derive(Drop)]
 pub struct Given {
     /// The peer set.
-    pub peers: Peers,
+    pub peers: Set<u64>,
     /// The payloads.
     pub payloads: Payloads,
 }
@@ -71,7 +66,7 @@ impl Given {
     /// Keeps the last peer set and the payloads.
     fn of<M: Digestible>(alloc: Global, events: Vec<Event<u64, M>>) -> Result<Self, AllocError> {
         let mut given = Given {
-            peers: Peers { set: None },
+            peers: Set::default(alloc),
             payloads: Payloads {
                 left: Vec::new(alloc),
             },
@@ -86,7 +81,7 @@ impl Given {
     /// Keeps a peer set or a payload.
     fn keep<M: Digestible>(&mut self, event: Event<u64, M>) -> Result<(), AllocError> {
         match event {
-            Event::Peers(peers) => self.peers.set = Some(peers),
+            Event::Peers(peers) => self.peers = peers,
             Event::Payload(peer, bytes) => self.payloads.left.push((peer, bytes))?,
             Event::Broadcast(recipients, message) => drop::<_>((recipients, message)),
             Event::Subscribe(_ticket, _digest) | Event::Get(_ticket, _digest) => {}

@@ -1,7 +1,9 @@
 //! Payloads that are taken.
-use crate::sources::{Given, Nobody, Payloads, Peers};
+use crate::sources::{Given, NoSets, Nobody, Payloads};
 use broadcast_core::{Answer, Digest, Event, RangeCfg, TestMessage, run};
-use commonware_broadcast::buffered::{Config, MailboxEngine, Sequential, Turn, drive};
+use commonware_broadcast::buffered::{
+    Answering, Config, Input, MailboxEngine, Reply, Sequential, Turn,
+};
 use futures::task::{Doorbell, Poll, Solo};
 use std::alloc::{AllocError, AllocGlobal, Global};
 use std::random::RandomSource;
@@ -11,7 +13,10 @@ use std::sync::Wait;
 const OWN: u64 = u64::MAX;
 
 /// An engine with a mailbox that nobody uses.
-type Idle<H> = MailboxEngine<u64, TestMessage, Peers, Sequential, H>;
+type Idle<H> = MailboxEngine<u64, TestMessage, NoSets, Sequential, H>;
+
+/// Where the reply to a get goes.
+type ToGet = Answering<Option<Reply<TestMessage>>>;
 
 /// Runs the events on a core whose lists have `size` places. Returns how many payloads it took.
 pub fn by_run(
@@ -31,25 +36,25 @@ pub fn by_engine<H>(rt: &H, size: usize, given: Given) -> Result<usize, AllocErr
 where
     H: Wait + RandomSource + AllocGlobal + Clone + Drop,
 {
-    let polls = given.payloads().saturating_add(1);
-    let mut config = Config::new(OWN, RangeCfg::any(), given.peers);
+    let polls = given.payloads();
+    let mut config = Config::new(OWN, RangeCfg::any(), NoSets);
     config.deque_size = size;
     config.byte_budget = u64::MAX;
     let (mut engine, mailbox) = Idle::new(rt.clone()?, rt.alloc(), config)?;
     let mut network = (Nobody, given.payloads);
-    let turns = poll(rt, &mut engine, &mut network, polls)?;
+    let _peers = engine.apply::<ToGet, _>(rt.alloc(), Input::Peers(given.peers), &mut network.0);
+    let taken = poll(rt, &mut engine, &mut network, polls)?;
     drop::<_>(mailbox);
-    let taken = turns.iter().filter(|it| matches!(it, Turn::Payload(..)));
-    Ok(taken.count())
+    Ok(taken)
 }
 
-/// Polls the engine so often. Returns the turns that it took.
+/// Polls the engine so often. Returns how many payloads it took.
 fn poll<H>(
     rt: &H,
     engine: &mut Idle<H>,
     network: &mut (Nobody, Payloads),
     polls: usize,
-) -> Result<Vec<Turn<u64, Digest>>, AllocError>
+) -> Result<usize, AllocError>
 where
     H: Wait + RandomSource + AllocGlobal + Clone + Drop,
 {
@@ -57,9 +62,20 @@ where
         return Err(AllocError);
     };
     let mut cx = task.begin();
-    let turns = drive(rt.alloc(), engine, &mut cx, network, polls);
+    let mut taken: usize = 0;
+    for _poll in 0..polls {
+        let polled = engine.poll::<ToGet, _, _>(rt.alloc(), &mut cx, network);
+        if is_payload(&polled) {
+            taken = taken.saturating_add(1);
+        }
+    }
     // The task is to be polled again.
     let _: Poll<()> = cx.yield_now();
     cx.park();
-    turns
+    Ok(taken)
+}
+
+/// Returns whether the poll took a payload.
+fn is_payload(polled: &Poll<Turn<u64, Digest>>) -> bool {
+    matches!(polled, Poll::Ready(Turn::Payload(..)))
 }
