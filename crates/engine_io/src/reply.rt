@@ -102,6 +102,10 @@ where
         × (map reply_of replies ≡ map (λ w. to_subscribe w message) waiters)
         × Hands O.told outlet.old metrics.old replies outlet.new metrics.new }
 {
+    // Mostly nobody waits.
+    if waiters.is_empty() {
+        return;
+    }
     for waiter in waiters.into_vec() {
         let Some(copy) = copies.pop() else {
             return;

@@ -1,4 +1,5 @@
-use Rattle.std.proofs.Common.{◌≡◌, length, arith, refl, sym, ap, ◌∙◌, subst}
+use Rattle.std.proofs.Common.{◌≡◌, [], length, arith, refl, sym, ap, ◌∙◌, subst, eqb-true}
+use Rattle.std.proofs.lemmas.List.{nil_from_length}
 use Rattle.std.proofs.lemmas.List.Elements.{All-pop}
 use Rattle.std.specs.Vec.Iter.{into_iter_items}
 use Rattle.broadcast_core.proofs.Running.{one_come, none_left}
@@ -28,6 +29,12 @@ loop-waiter-preserved g c =
       handed = λ message all. AllHanded-more g.O.Outlet.told message c.in-Some-pop.copy at.yielded c.in-Some.waiter c.args.outlet.now at.outlet c.respond_subscribe.new.outlet c.args.metrics.now at.metrics c.respond_subscribe.new.metrics
           (rw c.in-Some-pop.is at (All-pop (λ copy. copy ≡ message) at.copies.items c.pop.new.self.items c.pop.result c.pop.ensures.items (at.invariant.equal message all))).1 (at.invariant.handed message all) c.respond_subscribe.ensures;
     }
+
+pub returns-then-is_empty : goal.returns-then-is_empty
+returns-then-is_empty g c = λ message all.
+    let none : c.args.waiters ≡ [] = nil_from_length c.args.waiters (eqb-true _ _ (sym c.is_empty.ensures ∙ c.if-is_empty.true)) in
+    let handed = subst (λ ws. AllHanded g.O.Outlet.told message ws c.args.outlet.now c.args.metrics.now c.args.outlet.now c.args.metrics.now) (sym none) (AllHanded-none g.O.Outlet.told message c.args.outlet.now c.args.metrics.now) in
+    (handed.replies, handed.due, handed.hands)
 
 pub returns : goal.returns
 returns g c = λ message all.
