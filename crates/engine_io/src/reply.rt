@@ -68,6 +68,7 @@ where
 }
 
 /// Returns `number` copies of the message, or an error if one can't be allocated.
+#[inline(always)] // A call takes longer than what is done where nobody waits.
 pub fn copies<M: Digestible>(
     alloc: Global,
     message: &Digested<M>,
@@ -85,6 +86,7 @@ pub fn copies<M: Digestible>(
 
 /// Hands a message to each waiter, in order, and counts which were delivered. There is a copy of
 /// the message for each waiter.
+#[inline(always)] // A call takes longer than what is done where nobody waits.
 pub fn respond_waiters<P, M, S, G, O>(
     metrics: &mut Metrics<P>,
     outlet: &mut O,
