@@ -68,7 +68,7 @@ where
 }
 
 /// Returns `number` copies of the message, or an error if one can't be allocated.
-#[inline(always)] // A call takes longer than what is done where nobody waits.
+#[inline(always)] // Most messages have no waiter, and a call costs more than the test for that.
 pub fn copies<M: Digestible>(
     alloc: Global,
     message: &Digested<M>,
@@ -86,7 +86,7 @@ pub fn copies<M: Digestible>(
 
 /// Hands a message to each waiter, in order, and counts which were delivered. There is a copy of
 /// the message for each waiter.
-#[inline(always)] // A call takes longer than what is done where nobody waits.
+#[inline(always)] // As `copies`.
 pub fn respond_waiters<P, M, S, G, O>(
     metrics: &mut Metrics<P>,
     outlet: &mut O,
@@ -104,7 +104,6 @@ where
         × (map reply_of replies ≡ map (λ w. to_subscribe w message) waiters)
         × Hands O.told outlet.old metrics.old replies outlet.new metrics.new }
 {
-    // Mostly nobody waits.
     if waiters.is_empty() {
         return;
     }
