@@ -7,7 +7,7 @@ from pathlib import Path
 from harness.common import TOP, call
 
 DEBIAN = Path("/usr/share/cargo/registry")
-CONFIG = ("--config", Path(__file__).with_name("debian.toml")) if DEBIAN.exists() else ()
+CONFIG = ("--config", Path(__file__).with_name("debian.toml"))
 # The packages that the crates of `rust` are built with.
 CRATES = (
     "bytes clap hyper openssl prometheus rand serde serde-json sha2 tokio tokio-openssl toml tracing tracing-subscriber"
@@ -19,7 +19,9 @@ FIRST = ["setsid", "-w", "sh", "-c", 'echo -15 2> /dev/null > /proc/self/autogro
 
 def cargo(command, words, env, limit, cwd=TOP / "rust", before=()):
     """Calls cargo, which asks no network. Returns whether it succeeded, and what it printed."""
-    offline = () if command == "fmt" else ("--offline", *CONFIG)
+    # Looked at now: `lacking` may have installed the packages meanwhile.
+    config = CONFIG if DEBIAN.exists() else ()
+    offline = () if command == "fmt" else ("--offline", *config)
     return call([*before, "cargo", command, *offline, *words], limit, cwd=cwd, env=env)
 
 

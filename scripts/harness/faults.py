@@ -17,7 +17,7 @@ READ_FAILED, WRITE_FAILED, CLUSTER_FAILED = b"read failed\n", b"write failed\n",
 # The parts in which the longest stream of a row is moved.
 PARTS = 8
 CLUSTER_FAULT = re.compile(rb"cluster: (out of memory|no thread could be started|\d+ of \d+ subscriptions missed)\n")
-NO_MEMORY = re.compile(rb"relayed: no memory, (\d+) wait\n")
+RELAYED = re.compile(rb"relayed: (?:no memory|\[(.*)\]), (\d+) wait\n")
 # The most seconds of a run of `cluster`, and how often it is tried until it takes no more: others may keep the machine busy.
 SECONDS, TRIES = 2, 4
 # A pipe that nothing reads. It is made before any thread starts a process, which would hold the reader for a moment.
@@ -159,14 +159,18 @@ def closed_pipe_fault(row, run, reads):
 
 
 def try_relay(run):
-    """Yields each growth that is refused to the relay of `examples`: without memory for feedbacks nothing is broadcast."""
-    row, is_seen = Row("", [b"relayed"], b"", b"", b"", 0), False
+    """Yields each growth that is refused to the relay of `examples`: as many broadcasts wait as are told as accepted, and
+    without memory for feedbacks none."""
+    row, seen = Row("", [b"relayed"], b"", b"", b"", 0), set()
     for number in range(1, run(row).growths + 1):
-        refusal = Refusal(first=number, last=number)
-        found = NO_MEMORY.search(run(row, refusal).stdout)
-        is_seen = is_seen or bool(found)
-        yield refusal, f"{int(found[1])} broadcasts wait" if found and int(found[1]) else None
-    yield "no memory for feedbacks", None if is_seen else "it is not seen"
+        refusal, fault = Refusal(first=number, last=number), None
+        if found := RELAYED.search(run(row, refusal).stdout):
+            seen.add(found[1])
+            accepted = len(re.findall(rb"\w+", found[1] or b""))
+            fault = None if accepted == int(found[2]) else f"{accepted} are told as accepted, and {int(found[2])} wait"
+        yield refusal, fault
+    yield "no memory for feedbacks", None if None in seen else "it is not seen"
+    yield "no memory for a broadcast", None if seen & {b"", b"Ok"} else "it is not seen"
 
 
 def try_cluster(args, run):

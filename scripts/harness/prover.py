@@ -28,6 +28,12 @@ def type_of(text):
     return "+".join([name, *re.findall(r"\w+", arguments)]) if re.search("[<:]", arguments[1:]) else name
 
 
+def type_in_impl(text, parameters):
+    """How the prover names a type or trait where one is for the other: with its arguments that are no parameters."""
+    name, arguments = re.match(r"(?:\w+::)*(\w+)(.*)", text.strip()).groups()
+    return name + "".join(it for it in re.findall(r"\w+", arguments) if it not in parameters)
+
+
 def owner_of(header):
     """The name of the type that an `impl` is for, if its arguments are only parameters; and how the prover names both."""
     depth, at = 0, len("impl")
@@ -35,8 +41,9 @@ def owner_of(header):
         depth += {"<": 1, ">": -1}.get(header[at], 0)
         at += 1
     before, has_trait, after = header[at:].partition(" for ")
-    named = type_of(after if has_trait else before)
-    return None if "+" in named else named, named + type_of(before) if has_trait else named
+    named, parameters = type_of(after if has_trait else before), re.findall(r"\w+", header[len("impl"):at])
+    both = "".join(type_in_impl(it, parameters) for it in (after, before)) if has_trait else named
+    return None if "+" in named else named, both
 
 
 def module_of(file, owner=None):

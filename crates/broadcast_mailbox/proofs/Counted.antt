@@ -1,8 +1,8 @@
 -- What becomes of counted requests.
 use Rattle.std.proofs.Common.{◌≡◌, ℕ, ◌+◌, ◌^◌, ◌<◌, ◌≤◌, ◌&&◌, Bool, true, false, List, [], ◌∷◌, ◌++◌, refl, ap, ◌∙◌, sym, inl, inr, Option, None, Some, Result, Ok, Err, arith}
-use Rattle.broadcast_mailbox.specs.declared.buffered.ingress.request.Request.{Request}
-use Rattle.broadcast_mailbox.specs.declared.buffered.ingress.queued.Queued.{Queued}
-use Rattle.broadcast_mailbox.specs.declared.buffered.ingress.queued.Queued.TheVariants as queued
+use Rattle.broadcast_mailbox.specs.declared.buffered.ingress.message.Request.{Request}
+use Rattle.broadcast_mailbox.specs.declared.buffered.ingress.message.Queued.{Queued}
+use Rattle.broadcast_mailbox.specs.declared.buffered.ingress.message.Queued.TheVariants as queued
 use Rattle.broadcast_mailbox.specs.declared.broadcaster.MailboxError.{MailboxError}
 use Rattle.broadcast_mailbox.specs.declared.broadcaster.MailboxError.TheVariants.{Memory, Exhausted}
 use Rattle.broadcast_mailbox.specs.Overflow.{Drains, PutsWithin}

@@ -2,7 +2,7 @@
 use Rattle.std.proofs.Common.{◌≡◌, ◌+◌, Bool, false, List, [], ◌∷◌, ◌++◌, length, Result, is_ok, is_err, cond, refl, sym, append-nil, ap, ◌∙◌, subst, inl, inr, append_assoc, arith}
 use Rattle.std.proofs.lemmas.List.{length_push}
 use Rattle.std.proofs.lemmas.Bool.{false≢true, cases_lt}
-use Rattle.broadcast_mailbox.specs.declared.buffered.ingress.request.Request.{Request}
+use Rattle.broadcast_mailbox.specs.declared.buffered.ingress.message.Request.{Request}
 use Rattle.broadcast_mailbox.specs.Overflow.{Handles, Drains, PutsWithin}
 use Rattle.broadcast_mailbox.proofs.Rising.{IsRising-higher, IsRising-lower, IsRising-tickets-push}
 use Rattle.broadcast_mailbox.proofs.Refilling.{Refills-fits, Refills-rising}

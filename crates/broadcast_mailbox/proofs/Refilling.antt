@@ -1,7 +1,7 @@
 -- What refilling a ready list keeps.
 use Rattle.std.proofs.Common.{◌≡◌, ℕ, ◌+◌, ◌≤◌, ◌⊎◌, Bool, List, [], ◌∷◌, ◌++◌, length, sym, ap, ◌∙◌, subst, inl, inr, Option, None, Some, append_assoc, arith, length-append}
 use Rattle.std.proofs.lemmas.List.{length_push}
-use Rattle.broadcast_mailbox.specs.declared.buffered.ingress.request.Request.{Request}
+use Rattle.broadcast_mailbox.specs.declared.buffered.ingress.message.Request.{Request}
 use Rattle.broadcast_mailbox.specs.Overflow.{Drains, PutsWithin}
 use Rattle.broadcast_mailbox.specs.Queue.{QueueState, IsRising, Pops, tickets_of, waiting}
 use Rattle.broadcast_mailbox.specs.Mailbox.{count_taken}

@@ -1,7 +1,7 @@
 -- Tickets that rise.
 use Rattle.std.proofs.Common.{◌≡◌, ℕ, suc, ◌+◌, ◌≤◌, Bool, List, [], ◌∷◌, ◌++◌, length, refl, sym, ap, ◌∙◌, subst, arith, append-nil, append_assoc}
 use Rattle.std.proofs.lemmas.List.{map-append}
-use Rattle.broadcast_mailbox.specs.declared.buffered.ingress.request.Request.{Request}
+use Rattle.broadcast_mailbox.specs.declared.buffered.ingress.message.Request.{Request}
 use Rattle.broadcast_mailbox.specs.Queue.{QueueState, IsRising, request_of, tickets_of, waiting, with_ready, with_overflow}
 
 -- tickets that stay below a number stay below a higher one

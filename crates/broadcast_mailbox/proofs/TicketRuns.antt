@@ -1,8 +1,8 @@
 -- What the steps of a mailbox do with its tickets.
 use Rattle.std.proofs.Common.{◌≡◌, ℕ, ◌+◌, ◌≤◌, Bool, List, [], ◌∷◌, ◌++◌, length, Option, None, Some, Ok, Err, sym, subst, append_assoc, ap, inl, inr, arith, length-append}
 use Rattle.std.specs.List.{flat_map}
-use Rattle.broadcast_mailbox.specs.declared.buffered.ingress.request.Request.{Request}
-use Rattle.broadcast_mailbox.specs.declared.buffered.ingress.queued.Queued.TheVariants as queued
+use Rattle.broadcast_mailbox.specs.declared.buffered.ingress.message.Request.{Request}
+use Rattle.broadcast_mailbox.specs.declared.buffered.ingress.message.Queued.TheVariants as queued
 use Rattle.broadcast_mailbox.specs.declared.broadcaster.MailboxError.TheVariants.{Memory, Exhausted}
 use Rattle.broadcast_mailbox.specs.Overflow.{Drains, PutsWithin}
 use Rattle.broadcast_mailbox.specs.Queue.{QueueState, IsRising, Pops, tickets_of, waiting, request_of, with_ready, with_overflow}

@@ -2,10 +2,10 @@
 use Rattle.std.proofs.Common.{◌≡◌, Bool, true, Result, Ok, Err, refl}
 use Rattle.broadcast_mailbox.specs.declared.buffered.ingress.message.Message.{Message}
 use Rattle.broadcast_mailbox.specs.declared.buffered.ingress.message.Message.TheVariants as variant
-use Rattle.broadcast_mailbox.specs.declared.buffered.ingress.watch.Kind.{Kind}
-use Rattle.broadcast_mailbox.specs.declared.buffered.ingress.watch.Kind.TheVariants as kind
-use Rattle.broadcast_mailbox.specs.declared.buffered.ingress.queued.Queued.{Queued}
-use Rattle.broadcast_mailbox.specs.declared.buffered.ingress.queued.Queued.TheVariants as queued
+use Rattle.broadcast_mailbox.specs.declared.buffered.ingress.message.Kind.{Kind}
+use Rattle.broadcast_mailbox.specs.declared.buffered.ingress.message.Kind.TheVariants as kind
+use Rattle.broadcast_mailbox.specs.declared.buffered.ingress.message.Queued.{Queued}
+use Rattle.broadcast_mailbox.specs.declared.buffered.ingress.message.Queued.TheVariants as queued
 use Rattle.broadcast_mailbox.specs.declared.broadcaster.MailboxError.{MailboxError}
 use Rattle.broadcast_mailbox.specs.Account.{is_accepted, is_taken_up}
 use Rattle.broadcast_mailbox.specs.Queued.{answer_of}

@@ -3,9 +3,9 @@
 use Rattle.std.specs.Prelude.{ℕ, ◌+◌, ◌-◌, ◌^◌, min, if◌then◌else◌, ◌&&◌, ◌||◌, not, Bool, true, false}
 use Rattle.std.specs.Prelude.{List, Option, None, Some, Result, Ok, Err}
 use Rattle.std.specs.List.{list_all}
-use Rattle.broadcast_mailbox.specs.declared.buffered.ingress.request.Request.{Request}
-use Rattle.broadcast_mailbox.specs.declared.buffered.ingress.queued.Queued.{Queued}
-use Rattle.broadcast_mailbox.specs.declared.buffered.ingress.queued.Queued.TheVariants as queued
+use Rattle.broadcast_mailbox.specs.declared.buffered.ingress.message.Request.{Request}
+use Rattle.broadcast_mailbox.specs.declared.buffered.ingress.message.Queued.{Queued}
+use Rattle.broadcast_mailbox.specs.declared.buffered.ingress.message.Queued.TheVariants as queued
 use Rattle.broadcast_mailbox.specs.declared.broadcaster.MailboxError.{MailboxError}
 use Rattle.broadcast_mailbox.specs.declared.broadcaster.Feedback.{Feedback}
 use Rattle.broadcast_mailbox.specs.declared.broadcaster.Feedback.TheVariants as feedback
@@ -34,6 +34,11 @@ abbrev pub is_queued : Result Queued MailboxError → Bool
 is_queued (Ok (queued.Ready ticket)) = true
 is_queued (Ok (queued.Overflow ticket)) = true
 is_queued _ = false
+
+-- whether it was skipped at once
+abbrev pub is_skipped : Result Queued MailboxError → Bool
+is_skipped (Ok (queued.Skipped ticket)) = true
+is_skipped _ = false
 
 -- whether a broadcast with this result was accepted
 abbrev pub is_taken_up : Result Feedback MailboxError → Bool

@@ -2,13 +2,13 @@
 -- The state of a mailbox, and what each call may return and leave.
 use Rattle.std.specs.Prelude.{◌≡◌, ℕ, ◌+◌, Bool, true, false, List, length, Option, None, Some}
 use Rattle.std.specs.Prelude.{Result, Ok}
-use Rattle.broadcast_mailbox.specs.declared.buffered.ingress.request.Request.{Request}
-use Rattle.broadcast_mailbox.specs.declared.buffered.ingress.queued.Queued.{Queued}
-use Rattle.broadcast_mailbox.specs.declared.buffered.ingress.queued.Counts.{Counts}
-use Rattle.broadcast_mailbox.specs.declared.buffered.ingress.queued.Queued.TheVariants as queued
+use Rattle.broadcast_mailbox.specs.declared.buffered.ingress.message.Request.{Request}
+use Rattle.broadcast_mailbox.specs.declared.buffered.ingress.message.Queued.{Queued}
+use Rattle.broadcast_mailbox.specs.declared.buffered.ingress.message.Counts.{Counts}
+use Rattle.broadcast_mailbox.specs.declared.buffered.ingress.message.Queued.TheVariants as queued
 use Rattle.broadcast_mailbox.specs.declared.broadcaster.MailboxError.{MailboxError}
 use Rattle.broadcast_mailbox.specs.Queue.{QueueState, Pushes, Pops}
-use Rattle.broadcast_mailbox.specs.Queue.{queue_after, shut_down, waiting}
+use Rattle.broadcast_mailbox.specs.Queue.{queue_after, shut_down, waiting, counted_in}
 
 -- the queue, whether a stop is asked for, and how many requests were taken, skipped and given up
 pub record MailboxState (T : Type 0) : Type 0 where
@@ -83,14 +83,16 @@ module _ {T : Type 0} where
           skipped = old.skipped + length skipped;
         })
 
-    -- the oldest request is taken, whatever is skipped
-    abbrev pub Gives : MailboxState T → Option (Request T) → MailboxState T → Type 0
-    Gives old result new = (skipped : List (Request T)) × Takes old result skipped new
+    -- the oldest request is taken, and of the requests that are skipped the counted ones are booked:
+    -- `before` were so before, and `after` are so after
+    abbrev pub Gives : MailboxState T → ℕ → Option (Request T) → MailboxState T → ℕ → Type 0
+    Gives old before result new after =
+        (skipped : List (Request T)) × Takes old result skipped new × (after ≡ before + counted_in skipped)
 
     -- and its ticket and message are given
-    abbrev pub GivesOut : MailboxState T → Option (ℕ × T) → MailboxState T → Type 0
-    GivesOut old result new =
-        (request : Option (Request T)) × Gives old request new × (result ≡ taken_of request)
+    abbrev pub GivesOut : MailboxState T → ℕ → Option (ℕ × T) → MailboxState T → ℕ → Type 0
+    GivesOut old before result new after =
+        (request : Option (Request T)) × Gives old before request new after × (result ≡ taken_of request)
 
   -- a stop is asked for
   abbrev pub RequestsStop : MailboxState T → MailboxState T → Type 0

@@ -1,8 +1,8 @@
 -- Believed.
 -- What the caller of a broadcast is told.
 use Rattle.std.specs.Prelude.{Result, Ok, Err}
-use Rattle.broadcast_mailbox.specs.declared.buffered.ingress.queued.Queued.{Queued}
-use Rattle.broadcast_mailbox.specs.declared.buffered.ingress.queued.Queued.TheVariants as queued
+use Rattle.broadcast_mailbox.specs.declared.buffered.ingress.message.Queued.{Queued}
+use Rattle.broadcast_mailbox.specs.declared.buffered.ingress.message.Queued.TheVariants as queued
 use Rattle.broadcast_mailbox.specs.declared.broadcaster.Feedback.{Feedback}
 use Rattle.broadcast_mailbox.specs.declared.broadcaster.Feedback.TheVariants as feedback
 use Rattle.broadcast_mailbox.specs.declared.broadcaster.MailboxError.{MailboxError}

@@ -1,8 +1,8 @@
 -- Internal.
 -- How many requests were skipped.
 use Rattle.std.specs.Prelude.{◌≡◌, List, length}
-use Rattle.broadcast_mailbox.specs.declared.buffered.ingress.request.Request.{Request}
-use Rattle.broadcast_mailbox.specs.declared.buffered.ingress.skips.Skips.{Skips}
+use Rattle.broadcast_mailbox.specs.declared.buffered.ingress.message.Request.{Request}
+use Rattle.broadcast_mailbox.specs.declared.buffered.ingress.account.Skips.{Skips}
 use Rattle.broadcast_mailbox.specs.Queue.{counted_in}
 
 abbrev pub no_skips : Skips

@@ -3,9 +3,9 @@
 use Rattle.std.specs.Prelude.{◌≡◌, ℕ, ◌+◌, ◌==◌, if◌then◌else◌, Bool, List, [], ◌∷◌, ◌++◌, length}
 use Rattle.std.specs.Prelude.{Option, Some, Result, Ok, Contains}
 use Rattle.std.specs.List.{flat_map}
-use Rattle.broadcast_mailbox.specs.declared.buffered.ingress.request.Request.{Request}
-use Rattle.broadcast_mailbox.specs.declared.buffered.ingress.queued.Queued.{Queued}
-use Rattle.broadcast_mailbox.specs.declared.buffered.ingress.queued.Queued.TheVariants as queued
+use Rattle.broadcast_mailbox.specs.declared.buffered.ingress.message.Request.{Request}
+use Rattle.broadcast_mailbox.specs.declared.buffered.ingress.message.Queued.{Queued}
+use Rattle.broadcast_mailbox.specs.declared.buffered.ingress.message.Queued.TheVariants as queued
 use Rattle.broadcast_mailbox.specs.declared.broadcaster.MailboxError.{MailboxError}
 use Rattle.broadcast_mailbox.specs.Queue.{IsRising, tickets_of, waiting}
 use Rattle.broadcast_mailbox.specs.Mailbox.{MailboxState, Enqueues, Takes, RequestsStop, Closes}

@@ -3,8 +3,8 @@
 use Rattle.std.specs.Prelude.{◌≡◌, Bool, true, false}
 use Rattle.broadcast_mailbox.specs.declared.buffered.ingress.message.Message.{Message}
 use Rattle.broadcast_mailbox.specs.declared.buffered.ingress.message.Message.TheVariants as variant
-use Rattle.broadcast_mailbox.specs.declared.buffered.ingress.watch.Kind.{Kind}
-use Rattle.broadcast_mailbox.specs.declared.buffered.ingress.watch.Kind.TheVariants as kind
+use Rattle.broadcast_mailbox.specs.declared.buffered.ingress.message.Kind.{Kind}
+use Rattle.broadcast_mailbox.specs.declared.buffered.ingress.message.Kind.TheVariants as kind
 
 -- whether the kind is that of a broadcast
 abbrev pub is_broadcast : Kind → Bool

@@ -3,7 +3,10 @@
 #![tactic(auto)]
 
 pub mod key_text;
+mod name_text;
+pub mod naming;
 pub mod page;
 
 pub use key_text::KeyText;
-pub use page::write_page;
+pub use naming::{Label, Naming, NamingError};
+pub use page::{write_end, write_metrics, write_page, write_page_with};

@@ -1,5 +1,6 @@
 //! The mailbox: its overflow, its inbox, its calls, what callers are given, callers on threads, and
 //! relays.
+mod accepted;
 mod calls;
 mod drops;
 mod inbox;

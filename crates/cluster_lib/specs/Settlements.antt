@@ -3,7 +3,7 @@
 use Rattle.std.specs.Prelude.{ℕ, ◌+◌, List, ◌++◌, codes}
 use Rattle.std.specs.Fmt.{decimal}
 use Rattle.broadcast_mailbox.specs.Account.{capped}
-use Rattle.broadcast_mailbox.specs.declared.buffered.ingress.settled.Settled.{Settled}
+use Rattle.broadcast_mailbox.specs.declared.buffered.ingress.account.Settled.{Settled}
 
 -- how many requests these are
 abbrev pub ended : Settled → ℕ

@@ -4,7 +4,7 @@ use Rattle.std.specs.Prelude.{ℕ, ◌^◌, ◌-◌, List, [], ◌∷◌, ◌++�
 use Rattle.std.specs.List.{flat_map}
 use Rattle.std.specs.Fmt.{styled_decimal, format_spec}
 use Rattle.broadcast_mailbox.specs.Account.{capped}
-use Rattle.broadcast_mailbox.specs.declared.buffered.ingress.settled.Settled.{Settled}
+use Rattle.broadcast_mailbox.specs.declared.buffered.ingress.account.Settled.{Settled}
 use Rattle.cluster_lib.specs.Settlements.{settlement_text}
 use Rattle.cluster_lib.specs.declared.row.Row.{Row}
 use Rattle.cluster_lib.specs.declared.settlement.Settlement.{Settlement}

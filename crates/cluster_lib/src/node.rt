@@ -60,10 +60,10 @@ pub fn config<R>(
     sets: PeerSets<Key, R>,
     deque_size: usize,
 ) -> Config<Key, RangeCfg, PeerSets<Key, R>, Sequential> {
-    let mut config = Config::new(key, RangeCfg::any(), sets);
-    config.deque_size = deque_size;
-    config.byte_budget = u64::MAX;
-    config
+    Config::new(key, sets)
+        .with_codec_config(RangeCfg::any())
+        .with_deque_size(deque_size)
+        .with_byte_budget(u64::MAX)
 }
 
 /// Starts a node whose mailbox counts every tallied request. Fails if there is no memory for its

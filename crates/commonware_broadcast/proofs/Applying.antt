@@ -10,7 +10,7 @@ use Rattle.broadcast_core.specs.declared.event.Cause.TheVariants.{Memory, Unenco
 use Rattle.broadcast_core.specs.declared.ordered.Recipients.{Recipients}
 use Rattle.broadcast_mailbox.specs.declared.buffered.ingress.message.Message.{Message}
 use Rattle.broadcast_mailbox.specs.declared.buffered.ingress.message.Message.TheVariants.{Broadcast}
-use Rattle.broadcast_mailbox.specs.declared.buffered.ingress.request.Request.{Request as RequestOf}
+use Rattle.broadcast_mailbox.specs.declared.buffered.ingress.message.Request.{Request as RequestOf}
 use Rattle.engine_io.specs.declared.input.Input.{Input}
 use Rattle.engine_io.specs.declared.input.Input.TheVariants.{Request}
 use Rattle.engine_io.specs.declared.input.Turn.{Turn}

@@ -63,10 +63,10 @@ module _ {P M D S G O J N R B Q C T : Type 0} {f : Format P M D C} {i : Interfac
       → All (λ t. end_told t ≡ None) turns → AlwaysTakes f i old new turns
   Polls-take zero old new turns polls none = λ s has_format past has before held.
       subst (λ n. TakesSteps s i past before old n turns) (sym polls.0)
-      (TakesSteps-none has held (λ _. polls.1) refl refl (λ told h. told-same i.receiver.told old.1.1 told h))
+      (TakesSteps-none has held (λ _. polls.1) refl refl (λ told h. told-same i.receiver.told old.receiver told h))
   Polls-take (suc count) old new turns (mid, result, poll, rest, is, tail) none =
       let all = subst (λ l. All (λ t. end_told t ≡ None) l) is none in
       subst (λ l. AlwaysTakes f i old new l) (sym is) (λ s has_format past has before held.
       let one = (poll.took s has_format past has before held).took in
-      TakesSteps-more (λ _. none_unless mid.0.end (λ cause at. unended result rest cause all (poll.tells_its_end cause at))) one
+      TakesSteps-more (λ _. none_unless mid.engine.end (λ cause at. unended result rest cause all (poll.tells_its_end cause at))) one
       (Polls-take count mid new rest tail (later result rest all) s (IsSetting-later has_format poll.keeps_codec_config poll.keeps_priority) (happenings one.steps ++ past) one.ran.content one.pending one.held))

@@ -51,8 +51,8 @@ pub record Keeps {P M S O D J B Q C T : Type 0} (old new : EngineState P M S O D
 module _ {P M D S G O J N R B Q C T : Type 0} {f : Format P M D C} {i : Interfaces P M D S G O J N R B Q}
     {old new : Moment P M S O D J B Q C T N R} {result : Poll (Turn P D)} where
   -- a poll of an engine that had not ended
-  pub IsPoll-open : old.0.end ≡ None → new.0.end ≡ end_in result → Always f i old (λ s past before. PollsOnce s i past before old new result)
-      → Attends i.provider i.receiver i.requests old new result → Keeps old.0 new.0 → IsPoll f i old new result
+  pub IsPoll-open : old.engine.end ≡ None → new.engine.end ≡ end_in result → Always f i old (λ s past before. PollsOnce s i past before old new result)
+      → Attends i.provider i.receiver i.requests old new result → Keeps old.engine new.engine → IsPoll f i old new result
   IsPoll-open lives ends took attends keeps = record {
     took = took;
     attends = λ _. attends;

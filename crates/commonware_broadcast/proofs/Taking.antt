@@ -6,7 +6,7 @@ use Rattle.broadcast_core.specs.Setting.{Setting}
 use Rattle.broadcast_core.specs.Happening.{History, cleanup}
 use Rattle.broadcast_core.specs.HasContent.{HasContent}
 use Rattle.broadcast_mailbox.specs.declared.buffered.ingress.message.Message.{Message}
-use Rattle.broadcast_mailbox.specs.declared.buffered.ingress.request.Request.{Request as Asked}
+use Rattle.broadcast_mailbox.specs.declared.buffered.ingress.message.Request.{Request as Asked}
 use Rattle.engine_io.specs.declared.input.EndCause.{EndCause}
 use Rattle.engine_io.specs.declared.input.EndCause.TheVariants.{Stopped}
 use Rattle.engine_io.specs.declared.input.Input.{Input}
@@ -86,38 +86,38 @@ flow-append b m n p q i j first second =
     sym (append_assoc b m n) ∙ ap (λ l. l ++ n) first ∙ append_assoc p i n ∙ ap (λ l. p ++ l) second ∙ sym (append_assoc p q j)
 
 -- nothing is taken where the engine and its network stay
-idle : {P M D S G O J N R B Q C T : Type 0} {old new : Moment P M S O D J B Q C T N R} {steps : List (Step P M D S G)} → new.0.provider ≡ old.0.provider → new.1 ≡ old.1
+idle : {P M D S G O J N R B Q C T : Type 0} {old new : Moment P M S O D J B Q C T N R} {steps : List (Step P M D S G)} → new.engine.provider ≡ old.engine.provider → new.receiver ≡ old.receiver
     → requests_in (inputs steps) ≡ [] → sweeps steps ≡ 0 → TakesNone old new steps
-idle provider network none unasked = record { provider = provider; receiver = ap (λ n. n.1) network; requests = none; asks_none = unasked }
+idle provider receiver none unasked = record { provider = provider; receiver = receiver; requests = none; asks_none = unasked }
 
 -- what the sources gave: these inputs, none of which is a payload, with these outcomes of its requests, and these payloads
 pub record Gave {P M D S G O J N R B Q C T : Type 0} (i : Interfaces P M D S G O J N R B Q) (old new : Moment P M S O D J B Q C T N R) (given : List (Input P M S G D))
     (refusals : List Bool) (received : List (P × List ℕ)) : Type 0 where
   pub local : payloads_in given ≡ []
-  pub sets : (told : List (List P)) → i.provider.told old.0.provider told → i.provider.told new.0.provider (told ++ sets_in given)
-  pub requests : (told : List (Asked (Message P M S G D))) → i.requests.told old.0.requests told → i.requests.told new.0.requests (told ++ requests_in given)
-  pub outcomes : (told : List Bool) → i.requests.ended old.0.requests told → i.requests.ended new.0.requests (told ++ refusals)
-  pub payloads : (told : List (P × List ℕ)) → i.receiver.told old.1.1 told → i.receiver.told new.1.1 (told ++ received)
+  pub sets : (told : List (List P)) → i.provider.told old.engine.provider told → i.provider.told new.engine.provider (told ++ sets_in given)
+  pub requests : (told : List (Asked (Message P M S G D))) → i.requests.told old.engine.requests told → i.requests.told new.engine.requests (told ++ requests_in given)
+  pub outcomes : (told : List Bool) → i.requests.ended old.engine.requests told → i.requests.ended new.engine.requests (told ++ refusals)
+  pub payloads : (told : List (P × List ℕ)) → i.receiver.told old.receiver told → i.receiver.told new.receiver (told ++ received)
 
 module _ {P M D S G O J N R B Q C T : Type 0} {i : Interfaces P M D S G O J N R B Q} {old new : Moment P M S O D J B Q C T N R} where
   -- only the network gave
-  pub Gave-received : {received : List (P × List ℕ)} → new.0.provider ≡ old.0.provider
-      → ((told : List (Asked (Message P M S G D))) → i.requests.told old.0.requests told → i.requests.told new.0.requests told)
-      → ((told : List Bool) → i.requests.ended old.0.requests told → i.requests.ended new.0.requests told)
-      → ((told : List (P × List ℕ)) → i.receiver.told old.1.1 told → i.receiver.told new.1.1 (told ++ received)) → Gave i old new [] [] received
+  pub Gave-received : {received : List (P × List ℕ)} → new.engine.provider ≡ old.engine.provider
+      → ((told : List (Asked (Message P M S G D))) → i.requests.told old.engine.requests told → i.requests.told new.engine.requests told)
+      → ((told : List Bool) → i.requests.ended old.engine.requests told → i.requests.ended new.engine.requests told)
+      → ((told : List (P × List ℕ)) → i.receiver.told old.receiver told → i.receiver.told new.receiver (told ++ received)) → Gave i old new [] [] received
   Gave-received provider requests outcomes payloads = record {
     local = refl;
-    sets = λ told h. subst (λ b. i.provider.told b (told ++ [])) (sym provider) (told-same i.provider.told old.0.provider told h);
-    requests = λ told h. told-same i.requests.told new.0.requests told (requests told h);
-    outcomes = λ told h. told-same i.requests.ended new.0.requests told (outcomes told h);
+    sets = λ told h. subst (λ b. i.provider.told b (told ++ [])) (sym provider) (told-same i.provider.told old.engine.provider told h);
+    requests = λ told h. told-same i.requests.told new.engine.requests told (requests told h);
+    outcomes = λ told h. told-same i.requests.ended new.engine.requests told (outcomes told h);
     payloads = payloads;
   }
 
   -- nothing was given
-  pub Gave-none : new.0.provider ≡ old.0.provider → ((told : List (Asked (Message P M S G D))) → i.requests.told old.0.requests told → i.requests.told new.0.requests told)
-      → ((told : List Bool) → i.requests.ended old.0.requests told → i.requests.ended new.0.requests told) → new.1.1 ≡ old.1.1 → Gave i old new [] [] []
+  pub Gave-none : new.engine.provider ≡ old.engine.provider → ((told : List (Asked (Message P M S G D))) → i.requests.told old.engine.requests told → i.requests.told new.engine.requests told)
+      → ((told : List Bool) → i.requests.ended old.engine.requests told → i.requests.ended new.engine.requests told) → new.receiver ≡ old.receiver → Gave i old new [] [] []
   Gave-none provider requests outcomes receiver =
-      Gave-received provider requests outcomes (λ told h. subst (λ r. i.receiver.told r (told ++ [])) (sym receiver) (told-same i.receiver.told old.1.1 told h))
+      Gave-received provider requests outcomes (λ told h. subst (λ r. i.receiver.told r (told ++ [])) (sym receiver) (told-same i.receiver.told old.receiver told h))
 
 -- an engine before and after some polls, whatever happened before, and whatever message it held
 pub record Course (P M D S G O J N R B Q C T : Type 0) : Type 1 where
@@ -130,19 +130,19 @@ pub record Course (P M D S G O J N R B Q C T : Type 0) : Type 1 where
 
 module _ {P M D S G O J N R B Q C T : Type 0} {x : Course P M D S G O J N R B Q C T} where
   -- the engine stays, and the network gives nothing
-  abbrev pub TakesSteps-none : {listed : List (Turn P D)} → HasContent x.s x.past x.old.0.node.core → Holds x.i.of_arrivals.is_of x.old.0.end x.old.0.job x.before → (x.old.0.end ≡ None → listed ≡ [])
-      → x.new.0 ≡ x.old.0 → x.new.1.0 ≡ x.old.1.0 → ((told : List (P × List ℕ)) → x.i.receiver.told x.old.1.1 told → x.i.receiver.told x.new.1.1 (told ++ []))
+  abbrev pub TakesSteps-none : {listed : List (Turn P D)} → HasContent x.s x.past x.old.engine.node.core → Holds x.i.of_arrivals.is_of x.old.engine.end x.old.engine.job x.before → (x.old.engine.end ≡ None → listed ≡ [])
+      → x.new.engine ≡ x.old.engine → x.new.sender ≡ x.old.sender → ((told : List (P × List ℕ)) → x.i.receiver.told x.old.receiver told → x.i.receiver.told x.new.receiver (told ++ []))
       → TakesSteps x.s x.i x.past x.before x.old x.new listed
   TakesSteps-none has held none same sender gives = record {
     steps = [];
-    ran = subst (λ e. AppliesSteps x.s x.i.of_arrivals.may_answer x.i.of_arrivals.outlet.told x.past [] x.old.0.node e.node) (sym same) (AppliesSteps-none has);
-    sends = subst (λ n. Sends {S = S} {G = G} x.s x.i.sender.told [] x.old.1.0 n) (sym sender) (Sends-silent {S = S} {G = G} x.s x.i.sender.told [] x.old.1.0 refl);
+    ran = subst (λ e. AppliesSteps x.s x.i.of_arrivals.may_answer x.i.of_arrivals.outlet.told x.past [] x.old.engine.node e.node) (sym same) (AppliesSteps-none has);
+    sends = subst (λ n. Sends {S = S} {G = G} x.s x.i.sender.told [] x.old.sender n) (sym sender) (Sends-silent {S = S} {G = G} x.s x.i.sender.told [] x.old.sender refl);
     due = refl;
     turned = λ lives. sym (none lives);
     ends = λ lives. ap (λ e. e.end) same ∙ lives;
-    sets = λ told h. subst (λ e. x.i.provider.told e.provider (told ++ [])) (sym same) (told-same x.i.provider.told x.old.0.provider told h);
-    requests = λ told h. subst (λ e. x.i.requests.told e.requests (told ++ [])) (sym same) (told-same x.i.requests.told x.old.0.requests told h);
-    outcomes = λ told h. subst (λ e. x.i.requests.ended e.requests (told ++ [])) (sym same) (told-same x.i.requests.ended x.old.0.requests told h);
+    sets = λ told h. subst (λ e. x.i.provider.told e.provider (told ++ [])) (sym same) (told-same x.i.provider.told x.old.engine.provider told h);
+    requests = λ told h. subst (λ e. x.i.requests.told e.requests (told ++ [])) (sym same) (told-same x.i.requests.told x.old.engine.requests told h);
+    outcomes = λ told h. subst (λ e. x.i.requests.ended e.requests (told ++ [])) (sym same) (told-same x.i.requests.ended x.old.engine.requests told h);
     received = [];
     given = gives;
     pending = x.before;
@@ -152,9 +152,9 @@ module _ {P M D S G O J N R B Q C T : Type 0} {x : Course P M D S G O J N R B Q 
   }
 
   -- one step, which takes nothing from the network
-  abbrev TakesSteps-step : {step : Step P M D S G} {listed : List (Turn P D)} → AppliesSteps x.s x.i.of_arrivals.may_answer x.i.of_arrivals.outlet.told x.past (step ∷ []) x.old.0.node x.new.0.node
-      → Sends x.s x.i.sender.told (step ∷ []) x.old.1.0 x.new.1.0 → turns_at x.s step x.past ≡ listed → x.new.0.end ≡ end_of (step ∷ []) → Gave x.i x.old x.new (inputs_at step) (outcomes_at step) []
-      → read_from_at step ≡ [] → Holds x.i.of_arrivals.is_of x.new.0.end x.new.0.job x.before → TakesSteps x.s x.i x.past x.before x.old x.new listed
+  abbrev TakesSteps-step : {step : Step P M D S G} {listed : List (Turn P D)} → AppliesSteps x.s x.i.of_arrivals.may_answer x.i.of_arrivals.outlet.told x.past (step ∷ []) x.old.engine.node x.new.engine.node
+      → Sends x.s x.i.sender.told (step ∷ []) x.old.sender x.new.sender → turns_at x.s step x.past ≡ listed → x.new.engine.end ≡ end_of (step ∷ []) → Gave x.i x.old x.new (inputs_at step) (outcomes_at step) []
+      → read_from_at step ≡ [] → Holds x.i.of_arrivals.is_of x.new.engine.end x.new.engine.job x.before → TakesSteps x.s x.i x.past x.before x.old x.new listed
   TakesSteps-step {step} ran sends turned ends gave reads held = record {
     steps = step ∷ [];
     ran = ran;
@@ -175,8 +175,8 @@ module _ {P M D S G O J N R B Q C T : Type 0} {x : Course P M D S G O J N R B Q 
 
   -- one input, which was applied or refused
   pub TakesOnly-input : {input : Input P M S G D} {turn : Turn P D}
-      → Applies x.s (sinks x.i.of_arrivals.may_answer x.i.of_arrivals.outlet.told x.i.sender.told) x.past input turn (x.old.0.node, x.old.1.0) (x.new.0.node, x.new.1.0)
-      → Gave x.i x.old x.new (input ∷ []) (outcome_of (is_request input) (refuses turn)) [] → x.new.0.end ≡ None → Holds x.i.of_arrivals.is_of x.new.0.end x.new.0.job x.before
+      → Applies x.s (sinks x.i.of_arrivals.may_answer x.i.of_arrivals.outlet.told x.i.sender.told) x.past input turn (x.old.engine.node, x.old.sender) (x.new.engine.node, x.new.sender)
+      → Gave x.i x.old x.new (input ∷ []) (outcome_of (is_request input) (refuses turn)) [] → x.new.engine.end ≡ None → Holds x.i.of_arrivals.is_of x.new.engine.end x.new.engine.job x.before
       → TakesOnly x.s x.i x.past x.before x.old x.new (turn ∷ [])
   TakesOnly-input {input} {turn} one gave lives held =
       let done = one.handled in
@@ -190,49 +190,49 @@ module _ {P M D S G O J N R B Q C T : Type 0} {x : Course P M D S G O J N R B Q 
       }
 
   -- an end
-  abbrev pub TakesOnly-ended : {cause : EndCause} → AppliesStep x.s x.i.of_arrivals.may_answer x.i.of_arrivals.outlet.told x.past (ended cause) x.old.0.node x.new.0.node → x.new.0.end ≡ Some cause
-      → x.new.0.job ≡ None → x.new.1.0 ≡ x.old.1.0 → Gave x.i x.old x.new [] [] [] → TakesOnly x.s x.i x.past x.before x.old x.new (Ended cause ∷ [])
+  abbrev pub TakesOnly-ended : {cause : EndCause} → AppliesStep x.s x.i.of_arrivals.may_answer x.i.of_arrivals.outlet.told x.past (ended cause) x.old.engine.node x.new.engine.node → x.new.engine.end ≡ Some cause
+      → x.new.engine.job ≡ None → x.new.sender ≡ x.old.sender → Gave x.i x.old x.new [] [] [] → TakesOnly x.s x.i x.past x.before x.old x.new (Ended cause ∷ [])
   TakesOnly-ended {cause} one end empty sender gave = record {
     took = TakesSteps-step (AppliesSteps-one one tt)
-        (subst (λ n. Sends {S = S} {G = G} x.s x.i.sender.told (ended cause ∷ []) x.old.1.0 n) (sym sender) (Sends-silent {S = S} {G = G} x.s x.i.sender.told (ended cause ∷ []) x.old.1.0 refl))
-        refl end gave refl (subst (λ e. Holds x.i.of_arrivals.is_of e x.new.0.job x.before) (sym end) empty);
+        (subst (λ n. Sends {S = S} {G = G} x.s x.i.sender.told (ended cause ∷ []) x.old.sender n) (sym sender) (Sends-silent {S = S} {G = G} x.s x.i.sender.told (ended cause ∷ []) x.old.sender refl))
+        refl end gave refl (subst (λ e. Holds x.i.of_arrivals.is_of e x.new.engine.job x.before) (sym end) empty);
     asks_none = refl;
   }
 
   -- a cleanup
-  abbrev pub CleansUpFirst-alone : {test : ℕ → Asker S → Bool} → AppliesStep x.s x.i.of_arrivals.may_answer x.i.of_arrivals.outlet.told x.past (swept test) x.old.0.node x.new.0.node → x.new.0.end ≡ None
-      → x.new.1.0 ≡ x.old.1.0 → Gave x.i x.old x.new [] [] [] → Holds x.i.of_arrivals.is_of x.new.0.end x.new.0.job x.before → CleansUpFirst x.s x.i x.past x.before x.old x.new []
+  abbrev pub CleansUpFirst-alone : {test : ℕ → Asker S → Bool} → AppliesStep x.s x.i.of_arrivals.may_answer x.i.of_arrivals.outlet.told x.past (swept test) x.old.engine.node x.new.engine.node → x.new.engine.end ≡ None
+      → x.new.sender ≡ x.old.sender → Gave x.i x.old x.new [] [] [] → Holds x.i.of_arrivals.is_of x.new.engine.end x.new.engine.job x.before → CleansUpFirst x.s x.i x.past x.before x.old x.new []
   CleansUpFirst-alone {test} cleaned lives sender gave held = record {
     took = TakesSteps-step (AppliesSteps-one cleaned tt)
-        (subst (λ n. Sends {S = S} {G = G} x.s x.i.sender.told (swept test ∷ []) x.old.1.0 n) (sym sender) (Sends-silent {S = S} {G = G} x.s x.i.sender.told (swept test ∷ []) x.old.1.0 refl))
+        (subst (λ n. Sends {S = S} {G = G} x.s x.i.sender.told (swept test ∷ []) x.old.sender n) (sym sender) (Sends-silent {S = S} {G = G} x.s x.i.sender.told (swept test ∷ []) x.old.sender refl))
         refl lives gave refl held;
     swept_once = record { test = test; later = []; first = refl; once = refl };
   }
 
   -- the steps of an arrival, which is the message held before or what the network gave
-  abbrev pub TakesSteps-arrival : {arrival : Arrival P M} {result : Poll (Turn P D)} {received : List (P × List ℕ)} → Arrives x.s x.i.of_arrivals x.past arrival x.old.0.node x.new.0 result
-      → x.new.0.end ≡ None → x.new.1.0 ≡ x.old.1.0 → Gave x.i x.old x.new [] [] received → input_of x.s {S = S} {G = G} arrival ∷ [] ≡ pending_input x.s x.before ++ payload_inputs x.s received
+  abbrev pub TakesSteps-arrival : {arrival : Arrival P M} {result : Poll (Turn P D)} {received : List (P × List ℕ)} → Arrives x.s x.i.of_arrivals x.past arrival x.old.engine.node x.new.engine result
+      → x.new.engine.end ≡ None → x.new.sender ≡ x.old.sender → Gave x.i x.old x.new [] [] received → input_of x.s {S = S} {G = G} arrival ∷ [] ≡ pending_input x.s x.before ++ payload_inputs x.s received
       → reader_of x.s arrival ≡ senders_of x.s received → TakesSteps x.s x.i x.past x.before x.old x.new (given result)
   TakesSteps-arrival {received = received} one lives sender gave coming reads = record {
     steps = one.steps;
     ran = one.ran;
-    sends = subst (λ n. Sends x.s x.i.sender.told one.steps x.old.1.0 n) (sym sender) (Sends-none x.s x.i.sender.told one.steps x.old.1.0 one.remote.no_requests);
+    sends = subst (λ n. Sends x.s x.i.sender.told one.steps x.old.sender n) (sym sender) (Sends-none x.s x.i.sender.told one.steps x.old.sender one.remote.no_requests);
     due = all-due x.s x.past x.i.of_arrivals.may_answer one.steps one.ran.lawful;
     turned = λ _. one.turned;
     ends = λ _. lives ∙ sym one.goes_on;
-    sets = λ told h. subst (λ l. x.i.provider.told x.new.0.provider (told ++ l)) (sym one.remote.no_sets) (gave.sets told h);
-    requests = λ told h. subst (λ l. x.i.requests.told x.new.0.requests (told ++ l)) (sym one.remote.no_requests) (gave.requests told h);
-    outcomes = λ told h. subst (λ l. x.i.requests.ended x.new.0.requests (told ++ l)) (sym (outcomes-none one.steps one.remote.no_requests)) (gave.outcomes told h);
+    sets = λ told h. subst (λ l. x.i.provider.told x.new.engine.provider (told ++ l)) (sym one.remote.no_sets) (gave.sets told h);
+    requests = λ told h. subst (λ l. x.i.requests.told x.new.engine.requests (told ++ l)) (sym one.remote.no_requests) (gave.requests told h);
+    outcomes = λ told h. subst (λ l. x.i.requests.ended x.new.engine.requests (told ++ l)) (sym (outcomes-none one.steps one.remote.no_requests)) (gave.outcomes told h);
     received = received;
     given = gave.payloads;
     pending = one.pending;
-    held = subst (λ e. Holds x.i.of_arrivals.is_of e x.new.0.job one.pending) (sym lives) one.held;
+    held = subst (λ e. Holds x.i.of_arrivals.is_of e x.new.engine.job one.pending) (sym lives) one.held;
     flow = sym coming ∙ one.flow ∙ ap (λ l. l ++ pending_input x.s one.pending) (sym one.remote.all);
     read = one.read_from ∙ reads;
   }
 
   -- steps, and then more
-  abbrev pub TakesSteps-more : {mid : Moment P M S O D J B Q C T N R} {listed more_listed : List (Turn P D)} → (x.old.0.end ≡ None → mid.0.end ≡ None)
+  abbrev pub TakesSteps-more : {mid : Moment P M S O D J B Q C T N R} {listed more_listed : List (Turn P D)} → (x.old.engine.end ≡ None → mid.engine.end ≡ None)
       → (one : TakesSteps x.s x.i x.past x.before x.old mid listed) → TakesSteps x.s x.i (happenings one.steps ++ x.past) one.pending mid x.new more_listed
       → TakesSteps x.s x.i x.past x.before x.old x.new (listed ++ more_listed)
   TakesSteps-more {mid} {listed} lives one more =
@@ -240,18 +240,18 @@ module _ {P M D S G O J N R B Q C T : Type 0} {x : Course P M D S G O J N R B Q 
       record {
         steps = more.steps ++ one.steps;
         ran = AppliesSteps-more one.ran more.ran;
-        sends = Sends-more x.s x.i.sender.told one.steps more.steps x.old.1.0 mid.1.0 x.new.1.0 one.sends more.sends;
+        sends = Sends-more x.s x.i.sender.told one.steps more.steps x.old.sender mid.sender x.new.sender one.sends more.sends;
         due = all-due x.s x.past x.i.of_arrivals.may_answer (more.steps ++ one.steps) (AreSteps-append x.s x.i.of_arrivals.may_answer more.steps one.steps x.past more.ran.lawful one.ran.lawful);
         turned = λ at. turns-append x.s more.steps one.steps x.past ∙ ap (λ ts. ts ++ turns x.s more.steps (happenings one.steps ++ x.past)) (one.turned at) ∙ ap (λ ts. listed ++ ts) (more.turned (lives at));
         ends = λ at. more.ends (lives at) ∙ sym (end_of-append more.steps one.steps (sym (one.ends at) ∙ lives at));
-        sets = λ told h. subst (x.i.provider.told x.new.0.provider) (append_assoc told (sets_in (inputs one.steps)) (sets_in (inputs more.steps))
+        sets = λ told h. subst (x.i.provider.told x.new.engine.provider) (append_assoc told (sets_in (inputs one.steps)) (sets_in (inputs more.steps))
             ∙ ap (λ l. told ++ l) (sym (ap sets_in all ∙ sets-append (inputs one.steps) (inputs more.steps)))) (more.sets (told ++ sets_in (inputs one.steps)) (one.sets told h));
-        requests = λ told h. subst (x.i.requests.told x.new.0.requests) (append_assoc told (requests_in (inputs one.steps)) (requests_in (inputs more.steps))
+        requests = λ told h. subst (x.i.requests.told x.new.engine.requests) (append_assoc told (requests_in (inputs one.steps)) (requests_in (inputs more.steps))
             ∙ ap (λ l. told ++ l) (sym (ap requests_in all ∙ requests-append (inputs one.steps) (inputs more.steps)))) (more.requests (told ++ requests_in (inputs one.steps)) (one.requests told h));
-        outcomes = λ told h. subst (x.i.requests.ended x.new.0.requests) (append_assoc told (outcomes one.steps) (outcomes more.steps)
+        outcomes = λ told h. subst (x.i.requests.ended x.new.engine.requests) (append_assoc told (outcomes one.steps) (outcomes more.steps)
             ∙ ap (λ l. told ++ l) (sym (outcomes-append more.steps one.steps))) (more.outcomes (told ++ outcomes one.steps) (one.outcomes told h));
         received = one.received ++ more.received;
-        given = λ told h. subst (x.i.receiver.told x.new.1.1) (append_assoc told one.received more.received) (more.given (told ++ one.received) (one.given told h));
+        given = λ told h. subst (x.i.receiver.told x.new.receiver) (append_assoc told one.received more.received) (more.given (told ++ one.received) (one.given told h));
         pending = more.pending;
         held = more.held;
         flow = ap (λ l. pending_input x.s x.before ++ l) (map-after _ one.received more.received)
@@ -261,7 +261,7 @@ module _ {P M D S G O J N R B Q C T : Type 0} {x : Course P M D S G O J N R B Q 
         read = read_from-append more.steps one.steps ∙ ap (λ ps. ps ++ read_from more.steps) one.read ∙ ap (λ ps. senders_of x.s one.received ++ ps) more.read ∙ sym (senders-append x.s one.received more.received);
       }
 
-  pub CleansUpFirst-more : {mid : Moment P M S O D J B Q C T N R} {listed more_listed : List (Turn P D)} → (x.old.0.end ≡ None → mid.0.end ≡ None)
+  pub CleansUpFirst-more : {mid : Moment P M S O D J B Q C T N R} {listed more_listed : List (Turn P D)} → (x.old.engine.end ≡ None → mid.engine.end ≡ None)
       → (one : CleansUpFirst x.s x.i x.past x.before x.old mid listed) → TakesOnly x.s x.i (happenings one.took.steps ++ x.past) one.took.pending mid x.new more_listed
       → CleansUpFirst x.s x.i x.past x.before x.old x.new (listed ++ more_listed)
   CleansUpFirst-more lives one more = record {
@@ -277,50 +277,50 @@ module _ {P M D S G O J N R B Q C T : Type 0} {x : Course P M D S G O J N R B Q 
 module _ {P M D S G O J N R B Q C T : Type 0} {x : Course P M D S G O J N R B Q C T} where
   -- a cleanup, and then more
   pub CleansUpFirst-before : {test : ℕ → Asker S → Bool} {mid : Node P M S O D} {listed : List (Turn P D)}
-      → AppliesStep x.s x.i.of_arrivals.may_answer x.i.of_arrivals.outlet.told x.past (swept test) x.old.0.node mid → x.old.0.end ≡ None → Holds x.i.of_arrivals.is_of x.old.0.end x.old.0.job x.before
-      → TakesOnly x.s x.i (cleanup test ∷ x.past) x.before (record x.old.0 { node = mid }, x.old.1) x.new listed → CleansUpFirst x.s x.i x.past x.before x.old x.new listed
+      → AppliesStep x.s x.i.of_arrivals.may_answer x.i.of_arrivals.outlet.told x.past (swept test) x.old.engine.node mid → x.old.engine.end ≡ None → Holds x.i.of_arrivals.is_of x.old.engine.end x.old.engine.job x.before
+      → TakesOnly x.s x.i (cleanup test ∷ x.past) x.before (record x.old { engine = record x.old.engine { node = mid } }) x.new listed → CleansUpFirst x.s x.i x.past x.before x.old x.new listed
   CleansUpFirst-before {mid = mid} cleaned lives held more =
-      CleansUpFirst-more {mid = (record x.old.0 { node = mid }, x.old.1)} (λ _. lives) (CleansUpFirst-alone cleaned lives refl (Gave-none refl (λ told h. h) (λ told h. h) refl) held) more
+      CleansUpFirst-more {mid = (record x.old { engine = record x.old.engine { node = mid } })} (λ _. lives) (CleansUpFirst-alone cleaned lives refl (Gave-none refl (λ told h. h) (λ told h. h) refl) held) more
 
   -- a poll of an engine that has ended
-  pub PollsOnce-ended : {cause : EndCause} {result : Poll (Turn P D)} → HasContent x.s x.past x.old.0.node.core → Holds x.i.of_arrivals.is_of x.old.0.end x.old.0.job x.before → x.old.0.end ≡ Some cause
+  pub PollsOnce-ended : {cause : EndCause} {result : Poll (Turn P D)} → HasContent x.s x.past x.old.engine.node.core → Holds x.i.of_arrivals.is_of x.old.engine.end x.old.engine.job x.before → x.old.engine.end ≡ Some cause
       → x.new ≡ x.old → PollsOnce x.s x.i x.past x.before x.old x.new result
   PollsOnce-ended {cause} {result} has held at same = subst (λ n. PollsOnce x.s x.i x.past x.before x.old n result) (sym same) (record {
-    took = TakesSteps-none has held (λ lives. absurd (let no : Some cause ≡ None = sym at ∙ lives in cc)) refl refl (λ told h. told-same x.i.receiver.told x.old.1.1 told h);
+    took = TakesSteps-none has held (λ lives. absurd (let no : Some cause ≡ None = sym at ∙ lives in cc)) refl refl (λ told h. told-same x.i.receiver.told x.old.receiver told h);
     job_alone = λ job is. record { provider = refl; receiver = refl; requests = refl; asks_none = refl };
     swept_once = λ lives. absurd (let no : Some cause ≡ None = sym at ∙ lives in cc);
   })
 
   -- a stop was asked for, and the engine ended
-  pub PollsOnce-stopped : AppliesStep x.s x.i.of_arrivals.may_answer x.i.of_arrivals.outlet.told x.past (ended Stopped) x.old.0.node x.new.0.node
-      → x.new.0.end ≡ Some Stopped → x.new.0.job ≡ None → x.new.0.provider ≡ x.old.0.provider → x.new.1 ≡ x.old.1
-      → ((told : List (Asked (Message P M S G D))) → x.i.requests.told x.old.0.requests told → x.i.requests.told x.new.0.requests told)
-      → ((told : List Bool) → x.i.requests.ended x.old.0.requests told → x.i.requests.ended x.new.0.requests told)
+  pub PollsOnce-stopped : AppliesStep x.s x.i.of_arrivals.may_answer x.i.of_arrivals.outlet.told x.past (ended Stopped) x.old.engine.node x.new.engine.node
+      → x.new.engine.end ≡ Some Stopped → x.new.engine.job ≡ None → x.new.engine.provider ≡ x.old.engine.provider → x.new.sender ≡ x.old.sender → x.new.receiver ≡ x.old.receiver
+      → ((told : List (Asked (Message P M S G D))) → x.i.requests.told x.old.engine.requests told → x.i.requests.told x.new.engine.requests told)
+      → ((told : List Bool) → x.i.requests.ended x.old.engine.requests told → x.i.requests.ended x.new.engine.requests told)
       → PollsOnce x.s x.i x.past x.before x.old x.new (Ready (Ended Stopped))
-  PollsOnce-stopped one end empty provider network tells outcomes = record {
-    took = (TakesOnly-ended one end empty (ap (λ n. n.0) network) (Gave-none provider tells outcomes (ap (λ n. n.1) network))).took;
-    job_alone = λ job is. idle provider network refl refl;
-    swept_once = λ lives none. inl (refl, idle provider network refl refl);
+  PollsOnce-stopped one end empty provider sender receiver tells outcomes = record {
+    took = (TakesOnly-ended one end empty sender (Gave-none provider tells outcomes receiver)).took;
+    job_alone = λ job is. idle provider receiver refl refl;
+    swept_once = λ lives none. inl (refl, idle provider receiver refl refl);
   }
 
   -- the job that was pending was polled
-  pub PollsOnce-job : {job : P × J} {result : Poll (Turn P D)} → x.old.0.job ≡ Some job → HoldsJob x.i.of_arrivals.is_of x.old.0.job x.before
-      → ((m : M) → x.i.of_arrivals.is_of job.1 m → Arrives x.s x.i.of_arrivals x.past (message_of job.0 m) x.old.0.node x.new.0 result) → x.new.0.end ≡ None → x.new.0.provider ≡ x.old.0.provider
-      → x.new.1 ≡ x.old.1 → Gave x.i x.old x.new [] [] [] → PollsOnce x.s x.i x.past x.before x.old x.new result
-  PollsOnce-job {job} at held arrives lives provider network gave =
+  pub PollsOnce-job : {job : P × J} {result : Poll (Turn P D)} → x.old.engine.job ≡ Some job → HoldsJob x.i.of_arrivals.is_of x.old.engine.job x.before
+      → ((m : M) → x.i.of_arrivals.is_of job.1 m → Arrives x.s x.i.of_arrivals x.past (message_of job.0 m) x.old.engine.node x.new.engine result) → x.new.engine.end ≡ None → x.new.engine.provider ≡ x.old.engine.provider
+      → x.new.sender ≡ x.old.sender → x.new.receiver ≡ x.old.receiver → Gave x.i x.old x.new [] [] [] → PollsOnce x.s x.i x.past x.before x.old x.new result
+  PollsOnce-job {job} at held arrives lives provider sender receiver gave =
       let m = Holds-some x.i.of_arrivals.is_of job.0 job.1 x.before (subst (λ j. HoldsJob x.i.of_arrivals.is_of j x.before) at held) in
       let one = arrives m.0 m.2 in
       record {
-        took = TakesSteps-arrival {received = []} one lives (ap (λ n. n.0) network) gave (ap (λ b. pending_input x.s b) (sym m.1) ∙ sym (append-nil (pending_input x.s x.before))) refl;
-        job_alone = λ held_job is. idle provider network one.remote.no_requests one.asks_none;
+        took = TakesSteps-arrival {received = []} one lives sender gave (ap (λ b. pending_input x.s b) (sym m.1) ∙ sym (append-nil (pending_input x.s x.before))) refl;
+        job_alone = λ held_job is. idle provider receiver one.remote.no_requests one.asks_none;
         swept_once = λ _ none. absurd (let no : Some job ≡ None = sym at ∙ none in cc);
       }
 
   -- no job was pending, and the sources were polled, once the requests had told what comes first
-  pub PollsOnce-sources : {asked : Q} {job : Option (P × J)} {result : Poll (Turn P D)} → x.old.0.job ≡ None
-      → CleansUpFirst x.s x.i x.past x.before (record x.old.0 { requests = asked; job = job }, x.old.1) x.new (given result)
-      → ((told : List (Asked (Message P M S G D))) → x.i.requests.told x.old.0.requests told → x.i.requests.told asked told)
-      → ((told : List Bool) → x.i.requests.ended x.old.0.requests told → x.i.requests.ended asked told) → PollsOnce x.s x.i x.past x.before x.old x.new result
+  pub PollsOnce-sources : {asked : Q} {job : Option (P × J)} {result : Poll (Turn P D)} → x.old.engine.job ≡ None
+      → CleansUpFirst x.s x.i x.past x.before (record x.old { engine = record x.old.engine { requests = asked; job = job } }) x.new (given result)
+      → ((told : List (Asked (Message P M S G D))) → x.i.requests.told x.old.engine.requests told → x.i.requests.told asked told)
+      → ((told : List Bool) → x.i.requests.ended x.old.engine.requests told → x.i.requests.ended asked told) → PollsOnce x.s x.i x.past x.before x.old x.new result
   PollsOnce-sources none one tells outcomes = let took = one.took in record {
     took = record {
       steps = took.steps;

@@ -1,11 +1,12 @@
 -- Internal.
 -- What an engine does with a message that arrives.
-use Rattle.std.specs.Prelude.{◌≡◌, List, [], ◌∷◌, ◌++◌, Option, None, Result}
+use Rattle.std.specs.Prelude.{◌≡◌, if◌then◌else◌, ℕ, Bool, List, [], ◌∷◌, ◌++◌, Option, None, Result}
 use Rattle.futures.specs.declared.task.Poll.{Poll}
 use Rattle.broadcast_core.specs.Setting.{Setting, own_digested}
 use Rattle.broadcast_core.specs.Happening.{History}
 use Rattle.broadcast_core.specs.HasContent.{HasContent}
 use Rattle.broadcast_core.specs.declared.codec.CodecError.{CodecError}
+use Rattle.engine_io.specs.Counters.{count_of, raised}
 use Rattle.engine_io.specs.declared.input.Input.{Input}
 use Rattle.engine_io.specs.declared.input.Input.TheVariants.{Arrived}
 use Rattle.engine_io.specs.declared.input.Turn.{Turn}
@@ -18,6 +19,11 @@ use Rattle.commonware_broadcast.specs.EngineState.{EngineState}
 use Rattle.commonware_broadcast.specs.Interfaces.{Format, IsSetting, Parties}
 use Rattle.commonware_broadcast.specs.AppliesSteps.{AppliesSteps}
 use Rattle.commonware_broadcast.specs.Taken.{payload_input, pending_input, sender_of, HoldsJob}
+
+-- one payload more is counted on the peer, and none on another
+abbrev pub CountsOne : {P : Type 0} → (P → P → Bool) → P → (old new : List (P × ℕ)) → Type 0
+CountsOne {P} same p old new = (q : P) → count_of same q new
+    ≡ (if same p q then raised (count_of same q old) 1 else count_of same q old)
 
 -- none of the inputs is a peer set or a request
 pub record IsRemote {P M D S G : Type 0} (is : List (Input P M S G D)) : Type 0 where

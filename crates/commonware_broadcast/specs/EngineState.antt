@@ -17,6 +17,16 @@ pub record EngineState (P M S O D J B Q C T : Type 0) : Type 0 where
   pub codec_config : C
   pub strategy : T
 
--- an engine, and the sender and receiver of its network
-abbrev pub Moment : (P M S O D J B Q C T N R : Type 0) → Type 0
-Moment P M S O D J B Q C T N R = EngineState P M S O D J B Q C T × (N × R)
+-- an engine, and both ends of its network
+pub record Moment (P M S O D J B Q C T N R : Type 0) : Type 0 where
+  pub engine : EngineState P M S O D J B Q C T
+  pub sender : N
+  pub receiver : R
+
+abbrev pub moment : {P M S O D J B Q C T N R : Type 0} → EngineState P M S O D J B Q C T → N × R
+    → Moment P M S O D J B Q C T N R
+moment engine network = record {
+  engine = engine;
+  sender = network.0;
+  receiver = network.1;
+}

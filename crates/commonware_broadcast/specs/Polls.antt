@@ -27,30 +27,30 @@ module _ {P M S G O D J N R B Q C T : Type 0} (provider : Provider B P) (receive
   pub record Attends (old new : Moment P M S O D J B Q C T N R) (result : Poll (Turn P D))
       : Type 0 where
     -- a stop comes first
-    pub stop_first : requests.stops old.0.requests → result ≡ Ready (Ended Stopped)
+    pub stop_first : requests.stops old.engine.requests → result ≡ Ready (Ended Stopped)
     -- an end has its cause, and closes the requests
     pub has_cause : (cause : EndCause) → result ≡ Ready (Ended cause)
-        → HasCause cause (requests.may_stop old.0.requests) (provider.may_end old.0.provider)
-        (receiver.may_fail old.1.1)
+        → HasCause cause (requests.may_stop old.engine.requests) (provider.may_end old.engine.provider)
+        (receiver.may_fail old.receiver)
     pub closes : (cause : EndCause) → result ≡ Ready (Ended cause)
-        → requests.closed new.0.requests
+        → requests.closed new.engine.requests
     -- if no job is pending, a peer set comes before a request, and both come before a payload
-    pub peers_first : old.0.job ≡ None → UnlessPeers result (provider.quiet old.0.provider)
-    pub requests_first : old.0.job ≡ None → IfNetwork result (requests.quiet old.0.requests)
-    pub network_last : (new.1.1 ≡ old.1.1)
-        ⊎ (provider.quiet old.0.provider × requests.quiet old.0.requests)
+    pub peers_first : old.engine.job ≡ None → UnlessPeers result (provider.quiet old.engine.provider)
+    pub requests_first : old.engine.job ≡ None → IfNetwork result (requests.quiet old.engine.requests)
+    pub network_last : (new.receiver ≡ old.receiver)
+        ⊎ (provider.quiet old.engine.provider × requests.quiet old.engine.requests)
     -- a pending poll has started a job, or the network had nothing to give either
-    pub network_looked_at : old.0.job ≡ None
-        → OnPending result (new.0.job ≡ None → receiver.quiet old.1.1)
+    pub network_looked_at : old.engine.job ≡ None
+        → OnPending result (new.engine.job ≡ None → receiver.quiet old.receiver)
     -- once no job is pending the end of the peer sets ends the engine, and so does a failed
     -- network, unless something else came first
-    pub ends_with_peers : old.0.job ≡ None → provider.ends old.0.provider
+    pub ends_with_peers : old.engine.job ≡ None → provider.ends old.engine.provider
         → (result ≡ Ready (Ended Stopped)) ⊎ (result ≡ Ready (Ended PeersClosed))
-    pub ends_with_network : old.0.job ≡ None → receiver.fails old.1.1
+    pub ends_with_network : old.engine.job ≡ None → receiver.fails old.receiver
         → (result ≡ Ready (Ended NetworkFailed))
-        ⊎ ((new.1.1 ≡ old.1.1) × OnPending result ⊥)
+        ⊎ ((new.receiver ≡ old.receiver) × OnPending result ⊥)
     -- it takes one input at most, so a turn leaves no job behind
-    pub idle_if_ready : IfReady result (λ turn. new.0.job ≡ None)
+    pub idle_if_ready : IfReady result (λ turn. new.engine.job ≡ None)
 
 -- the turns that are no end
 abbrev pub unended : {P D : Type 0} → List (Turn P D) → List (Turn P D)
@@ -64,19 +64,19 @@ module _ {P M D S G O J N R B Q C T : Type 0} (f : Format P M D C)
   pub record IsPoll (old new : Moment P M S O D J B Q C T N R) (result : Poll (Turn P D))
       : Type 0 where
     pub took : Always f i old (λ s past before. PollsOnce s i past before old new result)
-    pub attends : old.0.end ≡ None
+    pub attends : old.engine.end ≡ None
         → Attends i.provider i.receiver i.requests old new result
     -- once it has ended, every poll returns that end, and changes nothing
-    pub same_after_end : (cause : EndCause) → old.0.end ≡ Some cause
-        → (result ≡ Ready (Ended cause)) × (new.0 ≡ old.0) × (new.1 ≡ old.1)
+    pub same_after_end : (cause : EndCause) → old.engine.end ≡ Some cause
+        → (result ≡ Ready (Ended cause)) × (new ≡ old)
     -- the engine has ended if and only if the turn is its end
-    pub tells_its_end : (cause : EndCause) → new.0.end ≡ Some cause
+    pub tells_its_end : (cause : EndCause) → new.engine.end ≡ Some cause
         → result ≡ Ready (Ended cause)
     pub ends_as_told : (cause : EndCause) → result ≡ Ready (Ended cause)
-        → new.0.end ≡ Some cause
-    pub keeps_priority : new.0.priority ≡ old.0.priority
-    pub keeps_codec_config : new.0.codec_config ≡ old.0.codec_config
-    pub keeps_strategy : new.0.strategy ≡ old.0.strategy
+        → new.engine.end ≡ Some cause
+    pub keeps_priority : new.engine.priority ≡ old.engine.priority
+    pub keeps_codec_config : new.engine.codec_config ≡ old.engine.codec_config
+    pub keeps_strategy : new.engine.strategy ≡ old.engine.strategy
 
   -- this many polls, one after another, and the turns that were ready
   abbrev pub Polls : ℕ → Moment P M S O D J B Q C T N R → Moment P M S O D J B Q C T N R
@@ -92,7 +92,7 @@ module _ {P M D S G O J N R B Q C T : Type 0} (f : Format P M D C)
     pub count : ℕ
     pub polls : Polls count old new turns
     pub at_most : count ≤ limit
-    pub all_unless_ended : new.0.end ≡ None → count ≡ limit
+    pub all_unless_ended : new.engine.end ≡ None → count ≡ limit
 
   -- some polls, one after another
   pub record TakesPolls (old new : Moment P M S O D J B Q C T N R) : Type 0 where
@@ -103,9 +103,9 @@ module _ {P M D S G O J N R B Q C T : Type 0} (f : Format P M D C)
   -- an engine took some polls until it had no job, or had ended, and is to have none from then on
   pub record MakesReady (old new : Moment P M S O D J B Q C T N R) : Type 0 where
     pub last : EngineState P M S O D J B Q C T
-    pub took : TakesPolls old (last, new.1)
+    pub took : TakesPolls old (record new { engine = last })
     pub idle : last.end ≡ None → last.job ≡ None
-    pub without_job : new.0 ≡ record last { job = None }
+    pub without_job : new.engine ≡ record last { job = None }
 
   -- an engine took some polls, and left these counters: the last poll ended it for this cause, or
   -- its thread could not wait, and no poll was taken
@@ -113,8 +113,8 @@ module _ {P M D S G O J N R B Q C T : Type 0} (f : Format P M D C)
       (failure : Option CannotWait) (metrics : Counters P) : Type 0 where
     pub last : Moment P M S O D J B Q C T N R
     pub took : TakesPolls old last
-    pub counters : metrics ≡ last.0.node.metrics
-    pub caused : MatchOption failure (last.0.end ≡ Some cause)
+    pub counters : metrics ≡ last.engine.node.metrics
+    pub caused : MatchOption failure (last.engine.end ≡ Some cause)
         (λ failed. (cause ≡ WaitFailed) × (last ≡ old))
 
 module _ {P M D S G O J N R B Q C T W : Type 0} (f : Format P M D C)
@@ -130,7 +130,7 @@ module _ {P M D S G O J N R B Q C T W : Type 0} (f : Format P M D C)
   abbrev pub RunsTo : Moment P M S O D J B Q C T N R → W → Moment P M S O D J B Q C T N R × W
       → EndCause → Type 0
   RunsTo old watching left cause =
-      ShowsPolls old left.0 watching left.1 × (left.0.0.end ≡ Some cause)
+      ShowsPolls old left.0 watching left.1 × (left.0.engine.end ≡ Some cause)
 
   -- an engine ran, and its observer was handed its turns, and then these
   pub record ShowsRun (old : Moment P M S O D J B Q C T N R) (cause : EndCause)

@@ -2,7 +2,7 @@
 -- What a session leaves.
 use Rattle.std.specs.Prelude.{◌≡◌, ℕ, ◌+◌, Bool, true, List, [], ◌∷◌, sum}
 use Rattle.broadcast_mailbox.specs.Account.{capped}
-use Rattle.broadcast_mailbox.specs.declared.buffered.ingress.settled.Settled.{Settled}
+use Rattle.broadcast_mailbox.specs.declared.buffered.ingress.account.Settled.{Settled}
 
 -- each of the outputs may be left by a client that counted the number at its place
 abbrev pub AreLeft : {O : Type 0} → (O → ℕ → Bool) → List O → List ℕ → Type 0

@@ -9,7 +9,7 @@ use Rattle.broadcast_core.specs.Handed.{handed}
 use Rattle.broadcast_core.specs.Happening.{History}
 use Rattle.broadcast_core.specs.HasContent.{HasContent}
 use Rattle.broadcast_mailbox.specs.declared.buffered.ingress.message.Message.{Message}
-use Rattle.broadcast_mailbox.specs.declared.buffered.ingress.request.Request.{Request}
+use Rattle.broadcast_mailbox.specs.declared.buffered.ingress.message.Request.{Request}
 use Rattle.engine_io.specs.declared.input.EndCause.{EndCause}
 use Rattle.engine_io.specs.declared.input.EndCause.TheVariants.{Stopped}
 use Rattle.engine_io.specs.declared.input.Turn.{Turn}
@@ -38,30 +38,30 @@ module _ {P M D S G O J N R B Q C T : Type 0} (s : Setting P M D)
       (old new : Moment P M S O D J B Q C T N R) (listed : List (Turn P D)) : Type 0 where
     pub steps : List (Step P M D S G)
     pub ran : AppliesSteps s i.of_arrivals.may_answer i.of_arrivals.outlet.told past steps
-        old.0.node new.0.node
-    pub sends : Sends s i.sender.told steps old.1.0 new.1.0
+        old.engine.node new.engine.node
+    pub sends : Sends s i.sender.told steps old.sender new.sender
     -- the replies are those that are due at its happenings, in order, each to who asked
     pub due : map reply_of (handed_out steps) ≡ handed s (happenings steps) past
     -- the turns that were ready are those of the steps, each input and each end having one
-    pub turned : old.0.end ≡ None → turns s steps past ≡ listed
+    pub turned : old.engine.end ≡ None → turns s steps past ≡ listed
     -- the engine has ended if and only if the newest step is its end
-    pub ends : old.0.end ≡ None → new.0.end ≡ end_of steps
+    pub ends : old.engine.end ≡ None → new.engine.end ≡ end_of steps
     -- the peer sets and the requests of its inputs are those that were given, in order
-    pub sets : (told : List (List P)) → i.provider.told old.0.provider told
-        → i.provider.told new.0.provider (told ++ sets_in (inputs steps))
+    pub sets : (told : List (List P)) → i.provider.told old.engine.provider told
+        → i.provider.told new.engine.provider (told ++ sets_in (inputs steps))
     pub requests : (told : List (Request (Message P M S G D)))
-        → i.requests.told old.0.requests told
-        → i.requests.told new.0.requests (told ++ requests_in (inputs steps))
+        → i.requests.told old.engine.requests told
+        → i.requests.told new.engine.requests (told ++ requests_in (inputs steps))
     -- of each of those requests it was told, in order, whether it was refused
-    pub outcomes : (told : List Bool) → i.requests.ended old.0.requests told
-        → i.requests.ended new.0.requests (told ++ outcomes steps)
+    pub outcomes : (told : List Bool) → i.requests.ended old.engine.requests told
+        → i.requests.ended new.engine.requests (told ++ outcomes steps)
     -- the message held before, and then the payloads that were given, are, in order, those of its
     -- inputs and then the message that is held now
     pub received : List (P × List ℕ)
-    pub given : (told : List (P × List ℕ)) → i.receiver.told old.1.1 told
-        → i.receiver.told new.1.1 (told ++ received)
+    pub given : (told : List (P × List ℕ)) → i.receiver.told old.receiver told
+        → i.receiver.told new.receiver (told ++ received)
     pub pending : Option (P × M)
-    pub held : Holds i.of_arrivals.is_of new.0.end new.0.job pending
+    pub held : Holds i.of_arrivals.is_of new.engine.end new.engine.job pending
     pub flow : pending_input s before ++ payload_inputs s received
         ≡ payloads_in (inputs steps) ++ pending_input s pending
     -- each payload that is a message was decoded once, or refused before it was counted
@@ -84,9 +84,9 @@ module _ {P M D S G O J N R B Q C T : Type 0} (s : Setting P M D)
       (old new : Moment P M S O D J B Q C T N R) (result : Poll (Turn P D)) : Type 0 where
     pub took : TakesSteps past before old new (given result)
     -- while a job is pending, nothing is taken from any source, and no waiter is asked
-    pub job_alone : (job : P × J) → old.0.job ≡ Some job → TakesNone old new took.steps
+    pub job_alone : (job : P × J) → old.engine.job ≡ Some job → TakesNone old new took.steps
     -- if none is pending, one cleanup comes first, unless the engine was told to stop
-    pub swept_once : old.0.end ≡ None → old.0.job ≡ None
+    pub swept_once : old.engine.end ≡ None → old.engine.job ≡ None
         → ((result ≡ Ready (Ended Stopped)) × TakesNone old new took.steps)
         ⊎ IsSweptOnce took.steps
 
@@ -95,9 +95,9 @@ module _ {P M D S G O J N R B Q C T : Type 0} (f : Format P M D C)
   -- this holds whatever happened to the engine before, and whatever message it holds
   abbrev pub Always : ((s : Setting P M D) → History P M D (Asker S) (Asker G) → Option (P × M)
       → Type 0) → Type 0
-  Always holds = (s : Setting P M D) → IsSetting f old.0.codec_config old.0.priority s
-      → (past : History P M D (Asker S) (Asker G)) → HasContent s past old.0.node.core
-      → (before : Option (P × M)) → Holds i.of_arrivals.is_of old.0.end old.0.job before
+  Always holds = (s : Setting P M D) → IsSetting f old.engine.codec_config old.engine.priority s
+      → (past : History P M D (Asker S) (Asker G)) → HasContent s past old.engine.node.core
+      → (before : Option (P × M)) → Holds i.of_arrivals.is_of old.engine.end old.engine.job before
       → holds s past before
 
 module _ {P M D S G O J N R B Q C T : Type 0} (f : Format P M D C)

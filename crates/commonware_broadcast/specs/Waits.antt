@@ -15,11 +15,11 @@ module _ {P M S G O D J N R B Q C T : Type 0} (job_needs : J → ℕ → Type 0)
   -- with each source that wakes it, as far as its sources tell which: always with the order to stop
   pub record Waits (old_job : Option (P × J)) (new : Moment P M S O D J B Q C T N R)
       : Type 0 where
-    pub for_stop : HearsAll cx (requests.needs_stop new.0.requests)
+    pub for_stop : HearsAll cx (requests.needs_stop new.engine.requests)
     -- with the job, if one is pending
-    pub for_job : HearsJob job_needs cx new.0.job
+    pub for_job : HearsJob job_needs cx new.engine.job
     -- with all others, if none was pending before; with the network unless it gave a payload
-    pub for_peers : old_job ≡ None → HearsAll cx (provider.needs new.0.provider)
-    pub for_requests : old_job ≡ None → HearsAll cx (requests.needs new.0.requests)
-    pub for_network : old_job ≡ None → new.0.job ≡ None
-        → HearsAll cx (receiver.needs new.1.1)
+    pub for_peers : old_job ≡ None → HearsAll cx (provider.needs new.engine.provider)
+    pub for_requests : old_job ≡ None → HearsAll cx (requests.needs new.engine.requests)
+    pub for_network : old_job ≡ None → new.engine.job ≡ None
+        → HearsAll cx (receiver.needs new.receiver)

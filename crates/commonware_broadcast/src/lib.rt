@@ -7,7 +7,7 @@ pub mod mocks;
 
 // The mailbox, the cache, and what sources of one's own are polled with, so that a caller depends
 // on this crate alone.
-pub use broadcast_core::{Digest, Key, byte_list};
+pub use broadcast_core::{ByteList, Digest, Key, OneOf, Record, Tag, Wire, byte_list, codec_law};
 pub use broadcast_mailbox::{
     Answer, Broadcaster, Cause, Closable, Codec, CodecError, Core, Digested, Digestible,
     EncodeSize, Event, Feedback, Items, MailboxError, Outcome, PublicKey, RangeCfg, Read,

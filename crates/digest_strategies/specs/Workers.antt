@@ -27,7 +27,7 @@ abbrev pub MayWaitFor : {W : Type 0} → (W → ℕ → Type 0) → Option W →
 MayWaitFor needs None source = ⊥
 MayWaitFor needs (Some worker) source = needs worker source
 
--- the worker is one of this message, if it is not joined yet
-abbrev pub MayBeOf : {M W : Type 0} → (W → M → Type 0) → Option W → M → Type 0
-MayBeOf is_of None message = Unit {0}
-MayBeOf is_of (Some worker) message = is_of worker message
+-- the worker is not joined yet, and is one of this message
+abbrev pub HoldsWorkerOf : {M W : Type 0} → (W → M → Type 0) → Option W → M → Type 0
+HoldsWorkerOf is_of None message = ⊥
+HoldsWorkerOf is_of (Some worker) message = is_of worker message

@@ -37,6 +37,9 @@ impl<M: Digestible> Job<M> for SlowJob<M> {
 
     ghost is_of = { λ job m. HoldsDigested M.digest_of m job.message };
 
+    // A pending poll asks for another one.
+    ghost needs = { λ _ _. ⊥ };
+
     /// Returns the message after the number of pending polls. Polls after that are pending.
     fn poll(&mut self, cx: &mut Context<'_>) -> Poll<(M, M::Digest)> {
         if self.left > 0 {

@@ -12,15 +12,16 @@ use std::alloc::AllocError;
 
 /// Computes the digest of one message.
 pub trait Job<M: Digestible> {
-    /// Whether this may be the message of the job.
+    /// Whether this may be the message of the job. Of a job that has given its message, none is.
     ghost is_of: { Self → M → Type 0 };
 
-    /// Holds of each source that wakes who waits for the digest. By default of no source.
-    ghost needs: { Self → ℕ → Type 0 } = { λ _ _. ⊥ };
+    /// Holds of each source that wakes who waits for the digest: of none if a pending poll always
+    /// asks for another one.
+    ghost needs: { Self → ℕ → Type 0 };
 
     /// Returns the message with its own digest once that is computed.
     fn poll(&mut self, cx: &mut Context<'_>) -> Poll<(M, M::Digest)>
-        ensures stays { (m : M) → is_of self.old m → is_of self.new m }
+        ensures stays { OnPending result ((m : M) → is_of self.old m → is_of self.new m) }
         ensures digested { (m : M) → is_of self.old m
             → IfReady result (λ out. (out.0 ≡ m) × (out.1 ≡ M.digest_of m)) }
         ensures heard { OnPending result (HearsAll cx.new (needs self.new)) }
@@ -68,10 +69,13 @@ impl<M: Digestible> Job<M> for Done<M> {
 
     ghost is_of = { λ job m. HoldsDigested M.digest_of m job.message };
 
+    // A pending poll asks for another one.
+    ghost needs = { λ _ _. ⊥ };
+
     /// Returns the message. Later polls are pending.
     fn poll(&mut self, cx: &mut Context<'_>) -> Poll<(M, M::Digest)>
-        ensures stays { (m : M) → HoldsDigested M.digest_of m self.old.message
-            → HoldsDigested M.digest_of m self.new.message }
+        ensures stays { OnPending result ((m : M) → HoldsDigested M.digest_of m self.old.message
+            → HoldsDigested M.digest_of m self.new.message) }
         ensures digested { (m : M) → HoldsDigested M.digest_of m self.old.message
             → IfReady result (λ out. (out.0 ≡ m) × (out.1 ≡ M.digest_of m)) }
         ensures at_once { (out : M × M.Digest) → self.old.message ≡ Some out

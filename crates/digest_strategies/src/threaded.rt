@@ -63,9 +63,9 @@ impl<M: Work<G, R>, G, R: Clone + Drop> Strategy<M> for Threaded<G, R> {
 }
 
 impl<M: Work<G, R>, G, R: Drop> Job<M> for Working<M, G, R> {
-    ghost use Rattle.digest_strategies.specs.Workers.{MayBeOf, MayWaitFor};
+    ghost use Rattle.digest_strategies.specs.Workers.{HoldsWorkerOf, MayWaitFor};
 
-    ghost is_of = { λ job message. MayBeOf M.is_of job.worker message };
+    ghost is_of = { λ job message. HoldsWorkerOf M.is_of job.worker message };
 
     ghost needs = { λ job source. MayWaitFor M.needs job.worker source };
 

@@ -1,3 +1,4 @@
 pub mod PeerCounts
+pub mod Counting
 pub mod Handing
 pub mod Staying

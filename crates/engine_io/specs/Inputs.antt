@@ -2,7 +2,7 @@
 -- What the inputs of an engine are.
 use Rattle.std.specs.Prelude.{List, [], ◌∷◌}
 use Rattle.broadcast_mailbox.specs.declared.buffered.ingress.message.Message.{Message}
-use Rattle.broadcast_mailbox.specs.declared.buffered.ingress.request.Request.{Request}
+use Rattle.broadcast_mailbox.specs.declared.buffered.ingress.message.Request.{Request}
 use Rattle.engine_io.specs.declared.input.Input.{Input}
 use Rattle.engine_io.specs.declared.input.Input.TheVariants as input
 

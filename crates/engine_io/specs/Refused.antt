@@ -1,6 +1,7 @@
 -- Believed.
 -- Whether an input was refused, and what is told of that.
-use Rattle.std.specs.Prelude.{Bool, true, false, List, [], ◌∷◌}
+use Rattle.std.specs.Prelude.{ℕ, ◌+◌, Bool, true, false, List, [], ◌∷◌}
+use Rattle.broadcast_mailbox.specs.Account.{one_if}
 use Rattle.engine_io.specs.declared.input.Turn.{Turn}
 use Rattle.engine_io.specs.declared.input.Turn.TheVariants as turn
 use Rattle.engine_io.specs.declared.input.Input.{Input}
@@ -19,3 +20,8 @@ is_request _ = false
 abbrev pub outcome_of : Bool → Bool → List Bool
 outcome_of true refused = refused ∷ []
 outcome_of false refused = []
+
+-- how many of these outcomes are refusals
+abbrev pub refusals : List Bool → ℕ
+refusals [] = 0
+refusals (refused ∷ outcomes) = one_if refused + refusals outcomes

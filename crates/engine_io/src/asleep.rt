@@ -1,5 +1,5 @@
 //! A thread that polls one future, and sleeps at once while it is pending.
-ghost use Rattle.std.specs.Prelude.{IfOk};
+ghost use Rattle.std.specs.Prelude.{◌≡◌, IfOk, IfErr};
 
 use futures::Future;
 use futures::executor::block_on_driving;
@@ -27,16 +27,10 @@ impl<R> Drive<R> for Idle {
 
 /// A thread could not be made ready to wait: there was no memory, or there were no random bytes.
 ///
-/// Only a `Seat` that could not be made and an allocation failure give one.
+/// Nothing but a `Seat` that could not be made gives one.
 #[derive(Clone, Copy, Debug, PartialEq, Eq, Error)]
 #[error("the thread can't wait")]
 pub struct CannotWait(());
-
-impl From<AllocError> for CannotWait {
-    fn from(_error: AllocError) -> Self {
-        CannotWait(())
-    }
-}
 
 /// Polls one future on a thread until it is ready. While the future is pending, the thread sleeps.
 ///
@@ -51,10 +45,28 @@ pub struct Seat {
 impl Seat {
     /// Creates a queue that has room for the task of the future, so that `block_on` needs no
     /// memory.
-    pub fn new<R: RandomSource + AllocGlobal>(rt: &R) -> Result<Self, CannotWait> {
+    fn new<R: RandomSource + AllocGlobal>(rt: &R) -> Result<Self, CannotWait> {
         match Self::with_room(rt) {
             Ok(seat) => Ok(seat),
             Err(_) => Err(CannotWait(())),
+        }
+    }
+
+    /// Creates a seat for a future that owns `value`, and puts that in a box. If either fails, the
+    /// value is handed back.
+    pub fn with_boxed<R, T>(rt: &R, value: T) -> Result<(Self, Box<T>), (CannotWait, T)>
+    where
+        R: RandomSource + AllocGlobal,
+        ensures boxed { IfOk result (λ made. made.1.value ≡ value) }
+        ensures handed_back { IfErr result (λ failed. failed.1 ≡ value) }
+    {
+        let held = match Box::new(rt.alloc(), value) {
+            Ok(held) => held,
+            Err(refused) => return Err((CannotWait(()), refused.value)),
+        };
+        match Self::new(rt) {
+            Ok(seat) => Ok((seat, held)),
+            Err(failure) => Err((failure, Box::into_inner(held))),
         }
     }
 

@@ -1,7 +1,7 @@
 //! The first step of a poll.
 ghost use Rattle.std.specs.Prelude.{◌≡◌, Bool, List};
 ghost use Rattle.futures.specs.Task.{IsArmed, Keeps};
-ghost use Rattle.broadcast_mailbox.specs.declared.buffered.ingress.request.Request.{Request};
+ghost use Rattle.broadcast_mailbox.specs.declared.buffered.ingress.message.Request.{Request};
 ghost use Rattle.engine_io.specs.declared.first.First.TheVariants.{Stop, Sources};
 ghost use Rattle.engine_io.specs.First.{Empties};
 ghost use Rattle.engine_io.specs.Heard.{HearsAll};

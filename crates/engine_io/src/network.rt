@@ -31,8 +31,9 @@ pub trait Provider<P: PublicKey> {
     /// Whether there may be no more sets. For a provider that does not tell, there may.
     ghost may_end: { Self → Type 0 } = { λ _. ⊤ };
 
-    /// Holds of each source that wakes who waits for a peer set. By default of no source.
-    ghost needs: { Self → ℕ → Type 0 } = { λ _ _. ⊥ };
+    /// Holds of each source that wakes who waits for a peer set: of none if none ever does, or if a
+    /// pending poll always asks for another one.
+    ghost needs: { Self → ℕ → Type 0 };
 
     /// Returns the next set of primary peers, or `None` once there are no more.
     fn poll_update(&mut self, cx: &mut Context<'_>) -> Poll<Option<Set<P>>>
@@ -61,8 +62,9 @@ pub trait Receiver<P> {
     /// Whether it may have failed. A receiver that does not tell always may have.
     ghost may_fail: { Self → Type 0 } = { λ _. ⊤ };
 
-    /// Holds of each source that wakes who waits for a payload. By default of no source.
-    ghost needs: { Self → ℕ → Type 0 } = { λ _ _. ⊥ };
+    /// Holds of each source that wakes who waits for a payload: of none if none ever does, or if a
+    /// pending poll always asks for another one.
+    ghost needs: { Self → ℕ → Type 0 };
 
     /// Returns the next payload with its sender.
     fn poll_recv(&mut self, cx: &mut Context<'_>) -> Poll<Result<(P, Items<u8>), NetworkFailed>>

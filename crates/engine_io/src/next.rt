@@ -4,7 +4,7 @@ ghost use Rattle.futures.specs.Poll.{IfReady, OnPending};
 ghost use Rattle.futures.specs.Task.{IsArmed, Keeps};
 ghost use Rattle.futures.specs.declared.task.Poll.TheVariants.{Ready};
 ghost use Rattle.broadcast_mailbox.specs.declared.buffered.ingress.message.Message.{Message};
-ghost use Rattle.broadcast_mailbox.specs.declared.buffered.ingress.request.Request.{Request};
+ghost use Rattle.broadcast_mailbox.specs.declared.buffered.ingress.message.Request.{Request};
 ghost use Rattle.engine_io.specs.Sources.{given_ok};
 ghost use Rattle.engine_io.specs.Inputs.{sets_in, requests_in, payloads_in};
 ghost use Rattle.engine_io.specs.FirstSource.{UnlessPeerSet};

@@ -1,11 +1,15 @@
 //! The source of an engine's requests.
-ghost use Rattle.std.specs.Prelude.{◌≡◌, ⊤, ◌⊎◌, ℕ, Bool, List, [], ◌∷◌, ◌++◌, true, false};
+ghost use Rattle.std.specs.Prelude.{◌≡◌, ◌≤◌, ◌+◌, ◌&&◌, ⊤, ◌⊎◌, ℕ, Bool, List, [], ◌∷◌, ◌++◌, true, false};
 ghost use Rattle.futures.specs.Poll.{OnPending};
 ghost use Rattle.futures.specs.Task.{IsArmed, Keeps};
 ghost use Rattle.engine_io.specs.Heard.{HearsAll};
 ghost use Rattle.engine_io.specs.Sources.{given};
+ghost use Rattle.engine_io.specs.Refused.{refusals};
+ghost use Rattle.broadcast_mailbox.specs.Account.{one_if};
+ghost use Rattle.broadcast_mailbox.specs.Queue.{counted_in};
 ghost use Rattle.broadcast_mailbox.specs.Ends.{IngressEnd, SharedInbox};
-ghost use Rattle.broadcast_mailbox.specs.declared.buffered.ingress.request.Request.{Request};
+ghost use Rattle.broadcast_mailbox.specs.declared.buffered.ingress.message.Message.{Message};
+ghost use Rattle.broadcast_mailbox.specs.declared.buffered.ingress.message.Request.{Request};
 
 use broadcast_core::{Digestible, PublicKey};
 use broadcast_mailbox::buffered::{Awaits, Bookkeeping, Incoming, Ingress, Request};
@@ -34,11 +38,12 @@ pub trait Requests<T: Awaits> {
     /// Whether the requests were closed. A source that does not tell always may have been.
     ghost closed: { Self → Type 0 } = { λ _. ⊤ };
 
-    /// Holds of each source that wakes who waits for a request. By default of no source.
-    ghost needs: { Self → ℕ → Type 0 } = { λ _ _. ⊥ };
+    /// Holds of each source that wakes who waits for a request: of none if none ever does, or if a
+    /// pending poll always asks for another one.
+    ghost needs: { Self → ℕ → Type 0 };
 
-    /// Holds of each source that wakes who waits for the order to stop. By default of no source.
-    ghost needs_stop: { Self → ℕ → Type 0 } = { λ _ _. ⊥ };
+    /// Holds of each source that wakes who waits for the order to stop, likewise.
+    ghost needs_stop: { Self → ℕ → Type 0 };
 
     /// Returns whether the engine is to stop. If not, the task is woken once it is.
     fn stopped(&mut self, cx: &mut Context<'_>) -> bool
@@ -99,8 +104,9 @@ pub trait Requests<T: Awaits> {
             → ended self.old outcomes → ended self.new outcomes };
 }
 
-/// Other threads queue the requests, so nothing is told of them. A task that waits is woken by the
-/// inbox of the mailbox.
+/// Other threads queue the requests, so of those only is told how many counted ones were given. No
+/// more of them count as refused than were told to be. A task that waits is woken by the inbox of
+/// the mailbox.
 impl<P, M, R, A> Requests<Incoming<P, M>> for Ingress<Incoming<P, M>, R, A>
 where
     P: PublicKey,
@@ -108,7 +114,9 @@ where
     R: Wait,
     A: Bookkeeping,
 {
-    ghost told = { λ _ _. ⊤ };
+    ghost told = { λ it requests. it.taken ≡ counted_in requests };
+
+    ghost ended = { λ it outcomes. it.refused ≤ refusals outcomes };
 
     ghost needs = { λ it source. source ≡ it.inbox.queued };
 
@@ -131,7 +139,15 @@ where
         self.take_dropped(digests)
     }
 
-    fn end(&mut self, refused: bool) {
+    fn end(&mut self, refused: bool)
+        ensures tells { (requests : List (Request (Message P M ℕ ℕ M.Digest)))
+            → self.old.taken ≡ counted_in requests → self.new.taken ≡ counted_in requests }
+        ensures ended { (outcomes : List Bool) → self.old.refused ≤ refusals outcomes
+            → self.new.refused ≤ refusals (outcomes ++ refused ∷ []) }
+        ensures counts { self.new.refused
+            ≡ self.old.refused + one_if (self.old.undecided && refused) }
+        ensures decided { self.new.undecided ≡ false }
+    {
         Ingress::end(self, refused);
     }
 

@@ -1,10 +1,11 @@
 //! The counters of a running engine, for those who ask for them.
-ghost use Rattle.std.specs.Prelude.{◌≡◌, None, [], ◌∷◌, ◌++◌, OnOk, OnErr, IfOk};
+ghost use Rattle.std.specs.Prelude.{◌≡◌, None, Ok, Err, [], ◌∷◌, ◌++◌, OnOk, OnErr, IfOk, IfErr};
 ghost use Rattle.std.specs.Ordering.{eq_by_cmp};
 ghost use Rattle.futures.specs.Task.{IsArmed, Keeps};
 ghost use Rattle.engine_io.specs.Counters.{IsCopy};
+ghost use Rattle.engine_io.specs.declared.snapshots.MetricsError.TheVariants.{Memory, Ended};
 
-use crate::asleep::block_on_asleep;
+use crate::asleep::{CannotWait, block_on_asleep};
 use crate::metrics::Metrics;
 use broadcast_core::PublicKey;
 use futures::channel::oneshot::{self, Canceled, Sender};
@@ -114,11 +115,7 @@ impl<P: PublicKey> Snapshots<P> {
             return Err(MetricsError::Memory);
         };
         self.put(rt, sender)?;
-        match block_on_asleep(rt, receiver) {
-            Ok(Ok(Ok(metrics))) => Ok(metrics),
-            Ok(Err(Canceled)) => Err(MetricsError::Ended),
-            Ok(Ok(Err(AllocError))) | Err(_) => Err(MetricsError::Memory),
-        }
+        told(block_on_asleep(rt, receiver))
     }
 
     /// Adds a caller, and wakes the thread of the engine.
@@ -175,6 +172,24 @@ impl<P: PublicKey> Snapshots<P> {
         self.has_ended.store(true, Ordering::SeqCst);
         let asking = mem::replace(&mut *self.asking.lock(rt), Asking::new(alloc));
         drop::<_>(asking);
+    }
+}
+
+/// Returns what a caller is told, by what its wait returned.
+fn told<P: PublicKey>(
+    waited: Result<Result<Copied<P>, Canceled>, CannotWait>,
+) -> Result<Metrics<P>, MetricsError>
+    ensures copied { IfOk waited (λ sent. IfOk sent (λ copied. IfOk copied (λ metrics.
+        result ≡ Ok metrics))) }
+    ensures not_copied { IfOk waited (λ sent. IfOk sent (λ copied. IfErr copied (λ error.
+        result ≡ Err Memory))) }
+    ensures canceled { IfOk waited (λ sent. IfErr sent (λ error. result ≡ Err Ended)) }
+    ensures cannot_wait { IfErr waited (λ error. result ≡ Err Memory) }
+{
+    match waited {
+        Ok(Ok(Ok(metrics))) => Ok(metrics),
+        Ok(Err(Canceled)) => Err(MetricsError::Ended),
+        Ok(Ok(Err(AllocError))) | Err(_) => Err(MetricsError::Memory),
     }
 }
 

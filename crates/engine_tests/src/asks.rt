@@ -1,15 +1,17 @@
 //! Whom a poll of an engine asks whether they still wait.
 use broadcast_core::{Codec, Digest, Digestible, Items, RangeCfg, Set, TestMessage};
+use broadcast_mailbox::buffered::{Incoming, Ingress, channel};
 use commonware_broadcast::buffered::{
-    Config, Direct, Engine, Fixed, Input, Message, NetworkFailed, Reply, Request, Requests,
-    Responder, Sequential, drive,
+    Config, Direct, Engine, Fixed, Input, Mailbox, Message, NetworkFailed, Reply, Request,
+    Requests, Responder, Sequential, drive,
 };
 use commonware_broadcast::mocks::{RecordingSender, Script};
 use futures::task::{Context, Doorbell, Poll, Solo};
-use std::alloc::{AllocError, Global};
+use std::alloc::{AllocError, AllocGlobal, Global};
 use std::cell::Cell;
 use std::num::NonZeroUsize;
 use std::rc::Rc;
+use std::sync::Wait;
 use std::test::Fail;
 
 /// What happens to a node.
@@ -21,7 +23,7 @@ enum Step {
     Apply(u8),
     /// The caller of this place waits no more.
     Leave(usize),
-    /// Its source names the digest of this letter.
+    /// A subscription to the digest of this letter is dropped, so that the mailbox names it.
     Name(u8),
     /// It is polled, and asks the callers of these places, each once, and no other.
     Poll(&'static [usize]),
@@ -101,7 +103,7 @@ fn rows() -> &'static [&'static [Step]] {
 fn a_poll_asks_only_whom_it_must(rt: HostRuntime) -> Result<(), Fail> {
     for (place, steps) in rows().iter().enumerate() {
         let task = Solo::new(&rt, Doorbell::spinning())?;
-        let other = goes::<TestMessage>(rt.alloc(), &task, RangeCfg::any(), steps)?;
+        let other = goes::<TestMessage, _>(&rt, &task, RangeCfg::any(), steps)?;
         assert_eq!(rt; other, None, "row {place}");
     }
     Ok(())
@@ -144,17 +146,22 @@ impl<M: Digestible> Responder<Reply<M>> for Counting {
 /// A request of a node.
 type Wanted<M> = Message<u64, M, Counting, Fixed>;
 
-/// Gives one request at a time, and names the digest that it is told.
+/// Gives one request at a time, and names the digests that a mailbox does.
 #[derive(Drop)]
-struct Telling<M: Digestible> {
+struct Telling<M: Digestible, R: Wait> {
     request: Cell<Option<Wanted<M>>>,
-    named: Cell<Option<M::Digest>>,
+    ingress: Ingress<Incoming<u64, M>, R>,
 }
 
-impl<M: Digestible> Requests<Wanted<M>> for Telling<M> {
+impl<M: Digestible, R: Wait> Requests<Wanted<M>> for Telling<M, R> {
     ghost use Rattle.std.specs.Prelude.{⊤};
 
     ghost told = { λ _ _. ⊤ };
+
+    // A pending poll asks for another one.
+    ghost needs = { λ _ _. ⊥ };
+
+    ghost needs_stop = { λ _ _. ⊥ };
 
     fn stopped(&mut self, cx: &mut Context<'_>) -> bool {
         let _: Poll<()> = cx.yield_now();
@@ -173,11 +180,7 @@ impl<M: Digestible> Requests<Wanted<M>> for Telling<M> {
     }
 
     fn take_closed(&mut self, digests: &mut Vec<M::Digest>) -> bool {
-        digests.clear();
-        match self.named.replace(None) {
-            Some(digest) => digests.push(digest).is_err(),
-            None => false,
-        }
+        Requests::take_closed(&mut self.ingress, digests)
     }
 
     fn end(&mut self, _refused: bool) {}
@@ -193,45 +196,50 @@ type Network = (
 
 /// An engine over such a source, with its callers.
 #[derive(Drop)]
-struct Node<M: Digestible + Codec>
+struct Node<M: Digestible + Codec, R: Wait>
 where
     M::Cfg: Drop,
 {
-    engine: Engine<u64, M, Counting, Direct, Script<Option<Set<u64>>>, Telling<M>, Sequential>,
+    engine: Engine<u64, M, Counting, Direct, Script<Option<Set<u64>>>, Telling<M, R>, Sequential>,
+    mailbox: Mailbox<u64, M, R>,
     network: Network,
     callers: Vec<Rc<Caller>>,
 }
 
 /// Makes the steps, and returns the place of the first at which others are asked.
-fn goes<M>(
-    alloc: Global,
+fn goes<M, R>(
+    rt: &R,
     task: &Solo,
     codec_config: M::Cfg,
     steps: &[Step],
-) -> Result<Option<usize>, AllocError>
+) -> Result<Option<usize>, Fail>
 where
     M: Digestible<Digest = Digest> + Codec,
     M::Cfg: Drop,
+    R: Wait + AllocGlobal + Clone + Drop,
 {
-    let mut node = Node::<M>::new(alloc, codec_config);
+    let mut node = Node::<M, R>::new(rt, codec_config)?;
     for (place, step) in steps.iter().enumerate() {
-        if !node.goes(alloc, task, *step)? {
+        if !node.goes(rt.alloc(), task, *step)? {
             return Ok(Some(place));
         }
     }
     Ok(None)
 }
 
-impl<M> Node<M>
+impl<M, R> Node<M, R>
 where
     M: Digestible<Digest = Digest> + Codec,
     M::Cfg: Drop,
+    R: Wait + AllocGlobal + Clone + Drop,
 {
     /// Creates a node without callers.
-    fn new(alloc: Global, codec_config: M::Cfg) -> Self {
+    fn new(rt: &R, codec_config: M::Cfg) -> Result<Self, Fail> {
+        let alloc = rt.alloc();
+        let (mailbox, ingress) = channel(rt.clone()?, alloc, NonZeroUsize::MIN)?;
         let requests = Telling {
             request: Cell::new(None),
-            named: Cell::new(None),
+            ingress,
         };
         let cfg = Config {
             public_key: 1,
@@ -243,15 +251,16 @@ where
             peer_provider: Script::new(Vec::new(alloc)),
             strategy: Sequential,
         };
-        Node {
+        Ok(Node {
             engine: Engine::over(alloc, cfg, requests, Direct),
+            mailbox,
             network: (RecordingSender::new(alloc), Script::new(Vec::new(alloc))),
             callers: Vec::new(alloc),
-        }
+        })
     }
 
     /// Makes the step. Returns whether the callers are asked that are to be.
-    fn goes(&mut self, alloc: Global, task: &Solo, step: Step) -> Result<bool, AllocError> {
+    fn goes(&mut self, alloc: Global, task: &Solo, step: Step) -> Result<bool, Fail> {
         match step {
             Step::Subscribe(letter) => {
                 let message = self.subscribe(alloc, letter)?;
@@ -266,7 +275,7 @@ where
                     caller.gone.set(true);
                 }
             }
-            Step::Name(letter) => self.engine.requests().named.set(Some(digest(letter))),
+            Step::Name(letter) => drop::<_>(self.mailbox.subscribe(digest(letter))?),
             Step::Poll(places) => {
                 self.poll(alloc, task)?;
                 return Ok(self.has_asked(places));

@@ -1,6 +1,6 @@
 //! A strategy that may refuse to start jobs, and whose jobs are pending for a number of polls.
 ghost use Rattle.std.specs.Prelude.{◌≡◌};
-ghost use Rattle.futures.specs.Task.{IsArmed, Keeps};
+ghost use Rattle.futures.specs.Task.{Hears, IsArmed, Keeps};
 ghost use Rattle.futures.specs.declared.task.Poll.TheVariants.{Pending};
 
 use broadcast_core::{Digest, Digestible, TestMessage};
@@ -58,6 +58,7 @@ impl Gate {
 
     fn wait<T>(&self, cx: &mut Context<'_>) -> Poll<T>
         ensures pending { result ≡ Pending }
+        ensures heard { Hears cx.new self.now.source.id }
         ensures armed { IsArmed cx.new }
         ensures kept { Keeps cx.old cx.new }
     {
@@ -103,9 +104,12 @@ impl Strategy<TestMessage> for Gated {
 }
 
 impl Job<TestMessage> for GatedJob {
+    ghost use Rattle.std.specs.Rc.{rc_value};
     ghost use Rattle.digest_strategies.specs.Jobs.{HoldsDigested};
 
     ghost is_of = { λ job m. HoldsDigested ⟦<TestMessage as Digestible>⟧.digest_of m job.message };
+
+    ghost needs = { λ job source. source ≡ (rc_value job.gate).source.id };
 
     fn poll(&mut self, cx: &mut Context<'_>) -> Poll<(TestMessage, Digest)> {
         if self.gate.is_shut() {

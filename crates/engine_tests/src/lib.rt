@@ -39,6 +39,10 @@ mod passing;
 #[cfg(test)]
 mod peers;
 #[cfg(test)]
+mod progress;
+#[cfg(test)]
+mod recent;
+#[cfg(test)]
 mod recipients;
 #[cfg(test)]
 mod scenario_rows;
@@ -46,6 +50,8 @@ mod scenario_rows;
 mod scenarios;
 #[cfg(test)]
 mod scripts;
+#[cfg(test)]
+mod spread;
 #[cfg(test)]
 mod texts;
 #[cfg(test)]

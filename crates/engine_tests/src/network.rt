@@ -95,6 +95,8 @@ impl Inbound {
 }
 
 impl Receiver<u64> for Inbound {
+    ghost needs = { λ it source. source ≡ it.source.id };
+
     fn poll_recv(&mut self, cx: &mut Context<'_>) -> Poll<Result<(u64, Items<u8>), NetworkFailed>> {
         if let Some(payload) = self.payloads.pop_front() {
             return Poll::Ready(Ok(payload));

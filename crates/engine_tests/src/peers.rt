@@ -1,6 +1,6 @@
 //! A provider that is fed from outside.
 ghost use Rattle.std.specs.Prelude.{◌≡◌};
-ghost use Rattle.futures.specs.Task.{IsArmed, Keeps};
+ghost use Rattle.futures.specs.Task.{Hears, IsArmed, Keeps};
 ghost use Rattle.futures.specs.declared.task.Poll.TheVariants.{Pending};
 
 use broadcast_core::Set;
@@ -52,6 +52,7 @@ impl Feed {
 
     fn wait<T>(&self, cx: &mut Context<'_>) -> Poll<T>
         ensures pending { result ≡ Pending }
+        ensures heard { Hears cx.new self.now.source.id }
         ensures armed { IsArmed cx.new }
         ensures kept { Keeps cx.old cx.new }
     {
@@ -67,6 +68,10 @@ impl Feed {
 pub struct Peers(pub Rc<Feed>);
 
 impl Provider<u64> for Peers {
+    ghost use Rattle.std.specs.Rc.{rc_value};
+
+    ghost needs = { λ peers source. source ≡ (rc_value peers.0).source.id };
+
     fn poll_update(&mut self, cx: &mut Context<'_>) -> Poll<Option<Set<u64>>> {
         match self.0.next.replace(None) {
             Some(Update::Set(peers)) => Poll::Ready(Some(peers)),

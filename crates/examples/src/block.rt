@@ -5,7 +5,7 @@ ghost use Rattle.std.specs.Int.{bytes_high_first};
 ghost use Rattle.broadcast_core.specs.Exact.{exact_bytes};
 
 use anyhow::Error;
-use broadcast_core::{
+use commonware_broadcast::{
     ByteList, CodecError, Digest, Digestible, EncodeSize, RangeCfg, Record, Wire, Write, decode_cfg,
 };
 use std::alloc::{AllocError, Global};

@@ -6,10 +6,9 @@ mod said;
 
 use super::parts::{self, key};
 use anyhow::Result;
-use broadcast_core::{ByteList, Wire};
 use commonware_broadcast::buffered::{Handle, Mailbox, Observer, Runtime, Turn};
 use commonware_broadcast::{
-    Broadcaster, Digest, Digested, Key, Outcome, RangeCfg, Recipients, Set,
+    Broadcaster, ByteList, Digest, Digested, Key, Outcome, RangeCfg, Recipients, Set, Wire,
 };
 use crossbeam_channel::{Receiver, Sender, unbounded};
 use ledger::{Awaited, FIRST, Ledger};

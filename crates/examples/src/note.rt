@@ -4,7 +4,7 @@ ghost use Rattle.sha2.specs.Sha256.{sha256};
 ghost use Rattle.broadcast_core.specs.Exact.{exact_bytes};
 
 use anyhow::Error;
-use broadcast_core::{
+use commonware_broadcast::{
     ByteList, Codec, CodecError, Digest, Digestible, EncodeSize, RangeCfg, Record, Tag, Wire,
     Write, codec_law, decode_cfg,
 };

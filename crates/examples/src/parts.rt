@@ -19,7 +19,7 @@ pub fn config<C, D>(
     codec_config: C,
     peer_provider: D,
 ) -> Config<Key, C, D, Sequential> {
-    Config::new(public_key, codec_config, peer_provider)
+    Config::new(public_key, peer_provider).with_codec_config(codec_config)
 }
 
 /// The handle and the mailbox of a node whose messages are `M`, and whose turns `W` sees.

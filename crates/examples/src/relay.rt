@@ -3,10 +3,11 @@
 use super::note::Note;
 use super::parts::{self, key};
 use anyhow::Error;
-use broadcast_core::Wire;
 use broadcast_relay::relay_to;
 use commonware_broadcast::buffered::{Mailbox, Observer, Runtime, Subscription, Turn};
-use commonware_broadcast::{Broadcaster, Digest, Digested, Key, RangeCfg, Recipients, Set, Write};
+use commonware_broadcast::{
+    Broadcaster, Digest, Digested, Key, RangeCfg, Recipients, Set, Wire, Write,
+};
 use memory_network::{Mail, Network};
 use std::alloc::{AllocError, AllocGlobal, Global};
 use std::io;

@@ -1,10 +1,9 @@
 //! Notes that a relay hands to a mailbox, whose requests nobody takes.
 use super::note::Note;
 use anyhow::Error;
-use broadcast_core::Wire;
 use broadcast_mailbox::buffered::channel;
 use broadcast_relay::relay_to;
-use commonware_broadcast::Digested;
+use commonware_broadcast::{Digested, Wire};
 use std::alloc::{AllocError, AllocGlobal, Global};
 use std::io;
 use std::num::NonZeroUsize;

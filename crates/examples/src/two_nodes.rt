@@ -28,7 +28,7 @@ where
     R: Runtime,
 {
     let ends = network.join(rt, &public_key)?;
-    let config = Config::new(public_key, RangeCfg::any(), ends.provider);
+    let config = Config::new(public_key, ends.provider).with_codec_config(RangeCfg::any());
     Ok(buffered::start(rt, config, (ends.sender, ends.receiver))?)
 }
 

@@ -176,7 +176,8 @@ where
     C: Drop,
     T: Drop,
     R: Clone + Drop,
-    ensures { IfOk result (λ it. non_zero_usize_get it.mailbox_size ≡ 1000) }
+    ensures mailbox { IfOk result (λ it. non_zero_usize_get it.mailbox_size ≡ 1000) }
+    ensures no_budget { IfOk result (λ it. it.byte_budget ≡ 18446744073709551615) }
 {
     Ok(Config {
         public_key: mail.key,

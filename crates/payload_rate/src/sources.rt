@@ -14,6 +14,9 @@ use std::io::Read;
 pub struct NoSets;
 
 impl Provider<u64> for NoSets {
+    // A pending poll asks for another one.
+    ghost needs = { λ _ _. ⊥ };
+
     fn poll_update(&mut self, cx: &mut Context<'_>) -> Poll<Option<Set<u64>>> {
         cx.yield_now()
     }
@@ -27,6 +30,9 @@ pub struct Payloads {
 }
 
 impl Receiver<u64> for Payloads {
+    // A pending poll asks for another one.
+    ghost needs = { λ _ _. ⊥ };
+
     fn poll_recv(&mut self, cx: &mut Context<'_>) -> Poll<Result<(u64, Items<u8>), NetworkFailed>> {
         match self.left.pop() {
             Some(payload) => Poll::Ready(Ok(payload)),

@@ -37,9 +37,10 @@ where
     H: Wait + RandomSource + AllocGlobal + Clone + Drop,
 {
     let polls = given.payloads();
-    let mut config = Config::new(OWN, RangeCfg::any(), NoSets);
-    config.deque_size = size;
-    config.byte_budget = u64::MAX;
+    let config = Config::new(OWN, NoSets)
+        .with_codec_config(RangeCfg::any())
+        .with_deque_size(size)
+        .with_byte_budget(u64::MAX);
     let (mut engine, mailbox) = Idle::new(rt.clone()?, rt.alloc(), config)?;
     let mut network = (Nobody, given.payloads);
     let _peers = engine.apply::<ToGet, _>(rt.alloc(), Input::Peers(given.peers), &mut network.0);

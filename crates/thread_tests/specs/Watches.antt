@@ -2,8 +2,8 @@
 -- The watch of a test.
 use Rattle.std.specs.Prelude.{ℕ, List, Bool, false, nat_eq}
 use Rattle.std.specs.Cmp.Lexicographic.{pointwise}
-use Rattle.broadcast_mailbox.specs.declared.buffered.ingress.watch.Kind.{Kind}
-use Rattle.broadcast_mailbox.specs.declared.buffered.ingress.watch.Kind.TheVariants as kind
+use Rattle.broadcast_mailbox.specs.declared.buffered.ingress.message.Kind.{Kind}
+use Rattle.broadcast_mailbox.specs.declared.buffered.ingress.message.Kind.TheVariants as kind
 
 -- whether the request is a subscribe to this digest
 abbrev pub is_subscribe_to : List ℕ → Kind → List ℕ → Bool

@@ -26,6 +26,8 @@ mod pools;
 #[cfg(test)]
 mod shutdown;
 #[cfg(test)]
+mod snapshots;
+#[cfg(test)]
 mod soak;
 #[cfg(test)]
 mod starts;

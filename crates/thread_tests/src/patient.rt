@@ -116,6 +116,9 @@ impl<M: Digestible, R: Clock + Drop> Job<M> for PatientJob<M, R> {
 
     ghost is_of = { λ job m. HoldsDigested M.digest_of m job.message };
 
+    // A pending poll asks for another one.
+    ghost needs = { λ _ _. ⊥ };
+
     fn poll(&mut self, cx: &mut Context<'_>) -> Poll<(M, M::Digest)> {
         if self.talk.is_pending(&self.rt) {
             return cx.yield_now();

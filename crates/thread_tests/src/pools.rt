@@ -122,6 +122,14 @@ impl Digestible for Held {
     ghost exact = { exact_number };
 }
 
+/// Creates a message of this number that waits at the gate.
+fn message_of(number: u64, gate: &Arc<Meeting>) -> Result<Held, AllocError> {
+    Ok(Held {
+        number,
+        gate: Arc::try_clone(gate)?,
+    })
+}
+
 /// A pool whose thread digests a message that waits at the gate.
 type Holding<R> = (Pool<Held, R>, Pooled<Held>);
 
@@ -131,11 +139,7 @@ where
     R: Runtime,
 {
     let pool = Pool::start(rt, rt.alloc())?;
-    let held = Held {
-        number: 7,
-        gate: Arc::try_clone(gate)?,
-    };
-    let job = pool.digest(rt.alloc(), held)?;
+    let job = pool.digest(rt.alloc(), message_of(7, gate)?)?;
     Ok((pool, job))
 }
 
@@ -197,6 +201,43 @@ where
 #[test]
 fn a_job_is_pending_until_the_thread_of_its_pool_has_digested(rt: HostRuntime) -> Result<(), Fail> {
     assert_eq!(rt; release(&rt)?, ((true, true, true), 2, 7));
+    Ok(())
+}
+
+/// Waits for the digest of a job.
+fn digest<R>(rt: &R, job: Pooled<Held>) -> u64
+where
+    R: Runtime,
+{
+    let (message, digest) = job.join(rt);
+    drop(message);
+    digest
+}
+
+/// Gives a pool whose thread is held two more messages. The second one waits, so the third one is
+/// digested on this thread, and passes the gate. Returns whether it is digested at once, and the
+/// digests of all.
+fn give_more<R>(rt: &R) -> Result<(bool, [u64; 3]), Fail>
+where
+    R: Runtime,
+{
+    let gate = Meeting::new(rt.alloc())?;
+    let mut task = Task::new(rt)?;
+    let (pool, first) = hold(rt, &gate)?;
+    let is_held = gate.waits_for(1);
+    let second = pool.digest(rt.alloc(), message_of(8, &gate)?)?;
+    let mut third = pool.digest(rt.alloc(), message_of(9, &gate)?)?;
+    let at_once = is_held && poll(&mut task, &mut third);
+    let digests = [digest(rt, first), digest(rt, second), digest(rt, third)];
+    drop(pool);
+    Ok((at_once, digests))
+}
+
+#[test]
+fn a_message_for_which_a_pool_has_no_place_is_digested_at_once(
+    rt: HostRuntime,
+) -> Result<(), Fail> {
+    assert_eq!(rt; give_more(&rt)?, (true, [7, 8, 9]));
     Ok(())
 }
 

@@ -1,15 +1,17 @@
 //! Engines that can't be started, or can't wait once they are.
 use super::nodes::wait_for_close;
-use broadcast_core::{Codec, Digestible, Key, RangeCfg, TestMessage};
+use broadcast_core::{Codec, Digest, Digestible, Key, RangeCfg, TestMessage};
 use commonware_broadcast::Feedback;
-use commonware_broadcast::buffered::{EndCause, Handle, Mailbox, Runtime, Sequential, StartError};
-use memory_network::Mail;
+use commonware_broadcast::buffered::{
+    EndCause, Handle, Mailbox, Observer, Runtime, Sequential, StartError, Turn,
+};
+use memory_network::{Mail, Network};
 use memory_node::keys::key_of;
-use memory_node::node::{Node, Prepared, Started};
+use memory_node::node::{Node, Prepared, Started, config};
 use memory_node::support::nodes::broadcast;
 use memory_node::support::poor::{Poor, Supply};
 use std::alloc::{AllocError, AllocGlobal};
-use std::sync::Arc;
+use std::sync::{Arc, Mutex, Wait};
 use std::test::Fail;
 
 /// How a start ends: its error, or the cause with which the engine ended.
@@ -145,4 +147,61 @@ where
 #[test]
 fn an_engine_that_is_not_started_is_given_up(rt: HostRuntime) -> Result<(), Fail> {
     start_all(&rt)
+}
+
+/// The cause of the end that an observer was told, if that was its last turn.
+type Last = Mutex<Option<EndCause>>;
+
+/// Keeps the last turn.
+#[derive(Drop)]
+struct Keeping<R> {
+    last: Arc<Last>,
+    rt: R,
+}
+
+impl<R: Wait> Observer<Key, Digest> for Keeping<R> {
+    fn turn(&mut self, turn: &Turn<Key, Digest>) {
+        *self.last.lock(&self.rt) = match turn {
+            Turn::Ended(cause) => Some(*cause),
+            _ => None,
+        };
+    }
+}
+
+/// Starts an engine with an observer and the supply. Returns why it is not started, and the end
+/// that the observer was told last.
+fn observe<R>(
+    rt: &R,
+    copies: u64,
+    randoms: u64,
+) -> Result<(Option<StartError>, Option<EndCause>), Fail>
+where
+    R: Runtime,
+{
+    let poor = Poor::new(rt, &Supply::new(rt.alloc())?)?;
+    let ends = Network::between(rt, &[key_of(1)])?.join(&poor, &key_of(1))?;
+    let last: Arc<Last> = Arc::new(rt.alloc(), Mutex::new(None))?;
+    let observer = Keeping {
+        last: Arc::try_clone(&last)?,
+        rt: rt.clone()?,
+    };
+    let config = config(&poor, RangeCfg::any(), Sequential, &ends.mail, 4)?;
+    poor.supply.leave(copies, randoms);
+    let network = (ends.sender, ends.receiver);
+    let started = config
+        .observed_by(observer)
+        .start::<TestMessage, _, _, _>(&poor, network);
+    let error = started.err();
+    let cause = *last.lock(rt);
+    Ok((error, cause))
+}
+
+#[test]
+fn the_end_of_an_engine_that_is_not_started_is_told(rt: HostRuntime) -> Result<(), Fail> {
+    let expected = (Some(StartError::Memory), Some(EndCause::WaitFailed));
+    // There is no copy of the runtime for the thread, or the calling one can't wait for a job.
+    for (copies, randoms) in [(3, 9), (4, 0)] {
+        assert_eq!(rt; observe(&rt, copies, randoms)?, expected, "{copies} copies");
+    }
+    Ok(())
 }

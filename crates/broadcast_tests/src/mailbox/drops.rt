@@ -6,7 +6,8 @@ use super::note::Note;
 use super::polls::{DIGEST, reply};
 use broadcast_core::{Closable, Digested};
 use broadcast_mailbox::buffered::{
-    Account, All, Get, Incoming, Ingress, Mailbox, Reply, Subscription, channel, watched_channel,
+    Account, All, Bookkeeping, Get, Incoming, Ingress, Mailbox, Reply, Subscription, channel,
+    watched_channel,
 };
 use futures::Future;
 use futures::task::{Doorbell, Poll, Solo};
@@ -113,21 +114,25 @@ fn rows() -> &'static [Row] {
 #[test]
 fn each_drop_of_what_may_wait_is_told_once(rt: HostRuntime) -> Result<(), Fail> {
     for (place, row) in rows().iter().enumerate() {
-        let mut talk = Talk::new(&rt)?;
-        let mut told = Vec::new(rt.alloc());
-        for (step, is_told) in row.0 {
-            talk.make(&rt, *step)?;
-            assert!(rt; !talk.ingress.take_dropped(&mut told));
-            assert_eq!(rt;
-                told.as_slice(),
-                if *is_told { &[DIGEST][..] } else { &[][..] },
-                "row {place}: {step:?}"
-            );
-            assert!(rt; !talk.ingress.take_dropped(&mut told));
-            assert!(rt; told.is_empty(), "row {place}: {step:?}, again");
-        }
+        assert_eq!(rt; goes(&rt, row.0)?, None, "row {place}");
     }
     Ok(())
+}
+
+/// Makes the steps, and returns the place of the first after which the mailbox tells otherwise.
+fn goes<R>(rt: &R, steps: &[(Step, bool)]) -> Result<Option<usize>, Fail>
+where
+    R: Wait + Clock + RandomSource + AllocGlobal + Clone + Drop,
+{
+    let (mailbox, ingress) = channel(rt.clone()?, rt.alloc(), NonZeroUsize::MIN)?;
+    let mut talk = Talk::over(rt, mailbox, ingress)?;
+    for (place, (step, is_told)) in steps.iter().enumerate() {
+        talk.make(rt, *step)?;
+        if !talk.tells(*is_told) {
+            return Ok(Some(place));
+        }
+    }
+    Ok(None)
 }
 
 /// The future of a caller.
@@ -140,25 +145,45 @@ enum Asked {
 
 /// A caller, and whoever takes its requests.
 #[derive(Drop)]
-struct Talk<R: Wait> {
-    mailbox: Mailbox<u64, Note, R>,
-    ingress: Ingress<Incoming<u64, Note>, R>,
+struct Talk<R: Wait, A: Bookkeeping> {
+    mailbox: Mailbox<u64, Note, R, A>,
+    ingress: Ingress<Incoming<u64, Note>, R, A>,
     task: Solo,
     asked: Asked,
     taken: Option<Incoming<u64, Note>>,
+    told: Vec<u64>,
 }
 
-impl<R: Wait + Clock + RandomSource + AllocGlobal + Clone + Drop> Talk<R> {
+impl<R, A> Talk<R, A>
+where
+    R: Wait + Clock + RandomSource + AllocGlobal + Drop,
+    A: Bookkeeping,
+{
     /// Creates a caller that has asked for nothing.
-    fn new(rt: &R) -> Result<Self, Fail> {
-        let (mailbox, ingress) = channel(rt.clone()?, rt.alloc(), NonZeroUsize::MIN)?;
+    fn over(
+        rt: &R,
+        mailbox: Mailbox<u64, Note, R, A>,
+        ingress: Ingress<Incoming<u64, Note>, R, A>,
+    ) -> Result<Self, Fail> {
+        let task = Solo::new(rt, Doorbell::spinning())?;
         Ok(Talk {
             mailbox,
             ingress,
-            task: Solo::new(rt, Doorbell::spinning())?,
+            task,
             asked: Asked::Nothing,
             taken: None,
+            told: Vec::new(rt.alloc()),
         })
+    }
+
+    /// Returns whether the mailbox tells once of a drop, if `is_told`, or else of none.
+    fn tells(&mut self, is_told: bool) -> bool {
+        let wanted = if is_told { &[DIGEST][..] } else { &[][..] };
+        let may_be_any = self.ingress.take_dropped(&mut self.told);
+        if may_be_any || self.told.as_slice() != wanted {
+            return false;
+        }
+        !self.ingress.take_dropped(&mut self.told) && self.told.is_empty()
     }
 
     /// Makes the step. A call drops the future of the call before it.
@@ -228,30 +253,32 @@ impl<R: Wait + Clock + RandomSource + AllocGlobal + Clone + Drop> Talk<R> {
 
 #[test]
 fn a_tallied_subscription_is_told_too(rt: HostRuntime) -> Result<(), Fail> {
-    assert_eq!(rt; tells_with_one_part(&rt)?, (0, 1));
+    for (place, row) in rows().iter().enumerate() {
+        assert_eq!(rt; goes_with_one_part(&rt, row.0)?, None, "row {place}");
+    }
     Ok(())
 }
 
-/// The same as [`tells_tallied`], for a tally of one part.
-fn tells_with_one_part<R>(rt: &R) -> Result<(usize, usize), Fail>
+/// The same as [`goes`], where a tally of one part subscribes.
+fn goes_with_one_part<R>(rt: &R, steps: &[(Step, bool)]) -> Result<Option<usize>, Fail>
 where
-    R: Wait + AllocGlobal + Clone + Drop,
+    R: Wait + Clock + RandomSource + AllocGlobal + Clone + Drop,
 {
     let parts = NonZeroU32::MIN;
     let accepted = Blank::new(parts.get() as u64);
-    tells_tallied::<R, Brand, Brand>(rt, parts, accepted, Blank::new(1))
+    goes_tallied::<R, Brand, Brand>(rt, parts, accepted, Blank::new(1), steps)
 }
 
-/// Returns how many digests a mailbox with an account tells before a subscription is dropped, and
-/// after it.
-fn tells_tallied<R, A, K>(
+/// The same as [`goes`], where a tally subscribes.
+fn goes_tallied<R, A, K>(
     rt: &R,
     parts: NonZeroU32,
     accepted: Blank,
     taken: Blank,
-) -> Result<(usize, usize), Fail>
+    steps: &[(Step, bool)],
+) -> Result<Option<usize>, Fail>
 where
-    R: Wait + AllocGlobal + Clone + Drop,
+    R: Wait + Clock + RandomSource + AllocGlobal + Clone + Drop,
     A: Account,
     K: Account,
     requires accepted { (accepted.name ≡ A.name) × (accepted.parts ≡ A.parts) }
@@ -259,7 +286,7 @@ where
     requires taken { (taken.name ≡ K.name) × (taken.parts ≡ K.parts) }
     requires one { (K.all ≡ K.parts) × (K.parts ≡ 1) }
 {
-    let (mailbox, mut ingress, mut tally) = watched_channel::<u64, Note, R, A, K, All>(
+    let (mailbox, ingress, mut tally) = watched_channel::<u64, Note, R, A, K, All>(
         rt.clone()?,
         rt.alloc(),
         NonZeroUsize::MIN,
@@ -267,14 +294,19 @@ where
         accepted,
         taken,
     )?;
-    let mut told = Vec::new(rt.alloc());
-    let subscription = mailbox.subscribe_as(&mut tally, DIGEST);
-    let _may_be_any = ingress.take_dropped(&mut told);
-    let before = told.len();
-    drop::<_>(subscription);
-    let _may_be_any = ingress.take_dropped(&mut told);
-    drop::<_>((mailbox, tally));
-    Ok((before, told.len()))
+    let mut talk = Talk::over(rt, mailbox, ingress)?;
+    for (place, (step, is_told)) in steps.iter().enumerate() {
+        if let Step::Subscribe = step {
+            let subscription = talk.mailbox.subscribe_as(&mut tally, DIGEST)?;
+            talk.asked = Asked::Subscription(subscription);
+        } else {
+            talk.make(rt, *step)?;
+        }
+        if !talk.tells(*is_told) {
+            return Ok(Some(place));
+        }
+    }
+    Ok(None)
 }
 
 /// How many subscriptions are dropped beside a thread that looks.

@@ -1,8 +1,9 @@
 //! Waits with a limit.
-use super::polls::{Asked, Row, end_request, rows};
+use super::polls::{Asked, Call, End, Row, end_request, rows};
 use std::alloc::AllocGlobal;
 use std::sync::Wait;
 use std::test::Fail;
+use std::thread::{self, Threads};
 use std::time::{Clock, Duration, Instant};
 
 /// A limit that passes.
@@ -12,7 +13,12 @@ fn short() -> Duration {
 
 /// A limit that does not pass.
 fn long() -> Duration {
-    Duration::from_secs(60)
+    Duration::from_secs(40)
+}
+
+/// More than a wait takes that ends with its reply, and less than a limit that does not pass.
+fn soon() -> Duration {
+    Duration::from_secs(20)
 }
 
 #[test]
@@ -55,4 +61,29 @@ fn gives<R: Wait + Clock + AllocGlobal + Clone + Drop>(rt: &R, row: Row) -> Resu
     };
     end_request(&ingress, rt.alloc(), end)?;
     Ok(matches!(wait(asked, rt, long()), Ok(given) if given == wanted))
+}
+
+#[test]
+fn a_wait_ends_once_its_reply_comes(rt: HostRuntime) -> Result<(), Fail> {
+    for call in [Call::Subscribe, Call::Get] {
+        let start = Instant::now(&rt)?;
+        assert_eq!(rt; given_meanwhile(&rt, call)?, Some(7), "{call:?}");
+        let passed = start.elapsed(&rt)?;
+        assert!(rt; passed < soon(), "{call:?} took {passed:?}");
+    }
+    Ok(())
+}
+
+/// Replies to the request of the call while a thread sleeps that waits for it with a limit that
+/// does not pass. Returns the digest of the message that the thread is given.
+fn given_meanwhile<R>(rt: &R, call: Call) -> Result<Option<u64>, Fail>
+where
+    R: Threads + Wait + Clock + AllocGlobal + Clone + Send + Sync + Drop + 'static,
+{
+    let (asked, ingress) = Asked::new(rt, call)?;
+    let own = rt.clone()?;
+    let waiting = thread::spawn(rt, move || wait(asked, &own, long()).unwrap_or(None))?;
+    thread::sleep(rt, Duration::from_millis(50));
+    end_request(&ingress, rt.alloc(), End::Replied(7))?;
+    Ok(waiting.join(rt))
 }

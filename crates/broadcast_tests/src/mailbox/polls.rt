@@ -18,7 +18,7 @@ use std::test::Fail;
 pub(super) const DIGEST: u64 = 7;
 
 /// The call that made the future.
-#[derive(Clone, Copy)]
+#[derive(Clone, Copy, Debug)]
 pub(super) enum Call {
     Subscribe,
     Get,

@@ -26,13 +26,12 @@ pub struct Config<P, MCfg, D, T> {
     pub strategy: T,
 }
 
-impl<P, MCfg, D> Config<P, MCfg, D, Sequential> {
+impl<P, D> Config<P, (), D, Sequential> {
     /// Creates a configuration whose ready list has 1,024 places. Of each peer at most 256 digests
-    /// are kept, which are charged at most 64 MiB. Messages are not sent as priority, and are
-    /// digested at once. Each of these is a field to set.
-    pub fn new(public_key: P, codec_config: MCfg, peer_provider: D) -> Self
+    /// are kept, which are charged at most 64 MiB. Messages are not sent as priority, are digested
+    /// at once, and are decoded without a configuration. Each of these is a field with a setter.
+    pub fn new(public_key: P, peer_provider: D) -> Self
         ensures key { result.public_key ≡ public_key }
-        ensures codec { result.codec_config ≡ codec_config }
         ensures provider { result.peer_provider ≡ peer_provider }
         ensures mailbox { non_zero_usize_get result.mailbox_size ≡ 1024 }
         ensures lists { (result.deque_size ≡ 256) × (result.byte_budget ≡ 67108864) }
@@ -44,13 +43,42 @@ impl<P, MCfg, D> Config<P, MCfg, D, Sequential> {
             deque_size: 256,
             byte_budget: 64 * 1024 * 1024,
             priority: false,
-            codec_config,
+            codec_config: (),
             peer_provider,
             strategy: Sequential,
         }
     }
+}
 
-    /// Digests messages by this strategy.
+impl<P, D, T> Config<P, (), D, T> {
+    /// Sets what messages of peers may be decoded.
+    pub fn with_codec_config<MCfg>(self, codec_config: MCfg) -> Config<P, MCfg, D, T>
+        ensures { result ≡ record {
+          public_key = self.public_key;
+          mailbox_size = self.mailbox_size;
+          deque_size = self.deque_size;
+          byte_budget = self.byte_budget;
+          priority = self.priority;
+          codec_config = codec_config;
+          peer_provider = self.peer_provider;
+          strategy = self.strategy;
+        } }
+    {
+        Config {
+            public_key: self.public_key,
+            mailbox_size: self.mailbox_size,
+            deque_size: self.deque_size,
+            byte_budget: self.byte_budget,
+            priority: self.priority,
+            codec_config,
+            peer_provider: self.peer_provider,
+            strategy: self.strategy,
+        }
+    }
+}
+
+impl<P, MCfg, D> Config<P, MCfg, D, Sequential> {
+    /// Sets what digests messages.
     pub fn with_strategy<T>(self, strategy: T) -> Config<P, MCfg, D, T>
         ensures { result ≡ record {
           public_key = self.public_key;
@@ -76,16 +104,43 @@ impl<P, MCfg, D> Config<P, MCfg, D, Sequential> {
     }
 }
 
-/// A configuration, and the observer that is handed the turns of its engine.
-#[derive(Drop)]
-pub struct Observed<P, MCfg, D, T, W> {
-    /// The configuration.
-    pub config: Config<P, MCfg, D, T>,
-    /// The observer.
-    pub observer: W,
-}
-
 impl<P, MCfg, D, T> Config<P, MCfg, D, T> {
+    /// Sets the greatest number of requests in the mailbox's ready list.
+    pub fn with_mailbox_size(self, mailbox_size: NonZeroUsize) -> Self
+        ensures { result ≡ record self { mailbox_size = mailbox_size } }
+    {
+        let mut config = self;
+        config.mailbox_size = mailbox_size;
+        config
+    }
+
+    /// Sets the greatest number of digests that are kept of each peer.
+    pub fn with_deque_size(self, deque_size: usize) -> Self
+        ensures { result ≡ record self { deque_size = deque_size } }
+    {
+        let mut config = self;
+        config.deque_size = deque_size;
+        config
+    }
+
+    /// Sets the most bytes that the digests of a peer are charged together.
+    pub fn with_byte_budget(self, byte_budget: u64) -> Self
+        ensures { result ≡ record self { byte_budget = byte_budget } }
+    {
+        let mut config = self;
+        config.byte_budget = byte_budget;
+        config
+    }
+
+    /// Sets whether messages are sent as priority.
+    pub fn with_priority(self, priority: bool) -> Self
+        ensures { result ≡ record self { priority = priority } }
+    {
+        let mut config = self;
+        config.priority = priority;
+        config
+    }
+
     /// Adds an observer. It is handed each turn of the engine that is started with it, and is in
     /// the engine's report.
     pub fn observed_by<W>(self, observer: W) -> Observed<P, MCfg, D, T, W>
@@ -96,4 +151,13 @@ impl<P, MCfg, D, T> Config<P, MCfg, D, T> {
             observer,
         }
     }
+}
+
+/// A configuration, and the observer that is handed the turns of its engine.
+#[derive(Drop)]
+pub struct Observed<P, MCfg, D, T, W> {
+    /// The configuration.
+    pub config: Config<P, MCfg, D, T>,
+    /// The observer.
+    pub observer: W,
 }

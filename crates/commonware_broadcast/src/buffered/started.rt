@@ -14,16 +14,16 @@ use std::thread::{JoinHandle, Threads};
 /// An engine that runs in a thread of its own. If it is dropped, the engine is asked to stop, and
 /// its end is not waited for.
 pub struct Handle<P: PublicKey, M: Digestible, R: Wait, A: Bookkeeping = (), W = ()> {
-    control: Control<P, M, R, A>,
+    control: Arc<Control<P, M, R, A>>,
     thread: JoinHandle<MailboxReport<P, M, R, A, W>>,
 }
 
 /// The report of a started engine that has a mailbox.
 pub type MailboxReport<P, M, R, A = (), W = ()> = Report<P, Ingress<Incoming<P, M>, R, A>, W>;
 
-/// The channel from a handle to its engine: it requests a stop, and asks for the counters.
+/// The channel to a started engine: it requests a stop, and asks for the counters.
 #[derive(Drop)]
-struct Control<P: PublicKey, M: Digestible, R, A: Bookkeeping> {
+pub(super) struct Control<P: PublicKey, M: Digestible, R, A: Bookkeeping> {
     stopper: Stopper<Incoming<P, M>, R, A>,
     snapshots: Arc<Snapshots<P>>,
 }
@@ -39,13 +39,28 @@ impl<P: PublicKey, M: Digestible, R: AllocGlobal + Clone + Drop, A: Bookkeeping>
     fn new(
         rt: &R,
         requests: &Ingress<Incoming<P, M>, R, A>,
-    ) -> Result<(Self, Arc<Snapshots<P>>), AllocError> {
+    ) -> Result<(Arc<Self>, Arc<Snapshots<P>>), AllocError> {
         let snapshots = Arc::new(rt.alloc(), Snapshots::new(rt.alloc()))?;
         let control = Control {
             snapshots: Arc::try_clone(&snapshots)?,
             stopper: requests.stopper()?,
         };
-        Ok((control, snapshots))
+        Ok((Arc::new(rt.alloc(), control)?, snapshots))
+    }
+}
+
+impl<P: PublicKey, M: Digestible, R: Wait, A: Bookkeeping> Control<P, M, R, A> {
+    /// Asks the engine to stop. Does not wait for its end.
+    pub(super) fn request_stop(&self) {
+        self.stopper.request_stop();
+    }
+
+    /// Returns a copy of the counters that the engine has now.
+    pub(super) fn metrics(&self, rt: &R) -> Result<Metrics<P>, MetricsError>
+    where
+        R: RandomSource + AllocGlobal,
+    {
+        self.snapshots.ask(rt)
     }
 }
 
@@ -58,7 +73,7 @@ where
 {
     /// Asks the engine to stop. Does not wait for its end.
     pub fn stop(&self) {
-        self.control.stopper.request_stop();
+        self.control.request_stop();
     }
 
     /// Returns whether the engine has ended. Does not wait for its end.
@@ -72,7 +87,12 @@ where
     where
         R: RandomSource + AllocGlobal,
     {
-        self.control.snapshots.ask(rt)
+        self.control.metrics(rt)
+    }
+
+    /// Shares the channel to the engine.
+    pub(super) fn control(&self) -> Result<Arc<Control<P, M, R, A>>, AllocError> {
+        Arc::try_clone(&self.control)
     }
 
     /// Waits for the end of the engine. Returns what it leaves.
@@ -163,7 +183,7 @@ where
 #[derive(Drop)]
 pub(super) struct Prepared<P: PublicKey, M: Digestible, B, C, T, N, V, R, A: Bookkeeping, W> {
     ready: ReadyEngine<P, M, B, C, T, N, V, R, A, W>,
-    control: Control<P, M, R, A>,
+    control: Arc<Control<P, M, R, A>>,
 }
 
 /// An engine of a mailbox that is ready for its thread.
@@ -257,8 +277,8 @@ where
 fn start_thread<X, F, P, M, R, A>(
     rt: &R,
     work: F,
-    control: Control<P, M, R, A>,
-) -> Result<(Control<P, M, R, A>, JoinHandle<X>), StartError>
+    control: Arc<Control<P, M, R, A>>,
+) -> Result<(Arc<Control<P, M, R, A>>, JoinHandle<X>), StartError>
 where
     X: Send + Drop + 'static,
     F: FnOnce() -> X + Send + 'static,

@@ -19,6 +19,9 @@ impl<P: PublicKey> Provider<P> for Script<Option<Set<P>>> {
 
     ghost may_end = { λ it. next_of it.rest ≡ Ready None };
 
+    // Nothing wakes who waits for more than there is.
+    ghost needs = { λ _ _. ⊥ };
+
     fn poll_update(&mut self, cx: &mut Context<'_>) -> Poll<Option<Set<P>>> {
         self.poll(cx)
     }

@@ -18,6 +18,9 @@ impl<P> Receiver<P> for Script<Result<(P, Items<u8>), NetworkFailed>> {
 
     ghost may_fail = { λ it. IsFailure (next_of it.rest) };
 
+    // Nothing wakes who waits for more than there is.
+    ghost needs = { λ _ _. ⊥ };
+
     fn poll_recv(&mut self, cx: &mut Context<'_>) -> Poll<Result<(P, Items<u8>), NetworkFailed>> {
         self.poll(cx)
     }

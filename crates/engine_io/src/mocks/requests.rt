@@ -3,7 +3,7 @@ ghost use Rattle.std.specs.Prelude.{◌≡◌, List, Some, true, false};
 ghost use Rattle.futures.specs.Task.{IsArmed, Keeps};
 ghost use Rattle.engine_io.specs.Scripts.{HasGiven, IsQuiet};
 ghost use Rattle.engine_io.specs.Sources.{given};
-ghost use Rattle.broadcast_mailbox.specs.declared.buffered.ingress.request.Request.{Request as Asked};
+ghost use Rattle.broadcast_mailbox.specs.declared.buffered.ingress.message.Request.{Request as Asked};
 
 use super::script::Script;
 use crate::requests::Requests;
@@ -52,6 +52,11 @@ impl<T: Awaits> Requests<T> for ScriptedRequests<T> {
     ghost may_stop = { λ it. it.stops_after ≡ Some 0 };
 
     ghost closed = { λ it. it.closed ≡ true };
+
+    // Nothing wakes who waits for more than there is, or for a stop that never comes.
+    ghost needs = { λ _ _. ⊥ };
+
+    ghost needs_stop = { λ _ _. ⊥ };
 
     fn stopped(&mut self, cx: &mut Context<'_>) -> bool
         ensures stops { self.old.stops_after ≡ Some 0 → result ≡ true }

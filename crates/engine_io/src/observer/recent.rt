@@ -1,6 +1,7 @@
 //! The latest turns.
-ghost use Rattle.std.specs.Prelude.{◌≡◌, ◌+◌, ◌-◌, ◌≤◌, [], ◌∷◌, ◌++◌, drop, length, IfOk};
+ghost use Rattle.std.specs.Prelude.{◌≡◌, ◌+◌, ◌-◌, ◌≤◌, [], ◌∷◌, ◌++◌, drop, length, IfOk, IfErr};
 ghost use Rattle.std.specs.VecDeque.{deque_len, deque_capacity};
+ghost use Rattle.broadcast_mailbox.specs.Account.{capped};
 
 use super::Observer;
 use crate::input::Turn;
@@ -23,6 +24,7 @@ impl<P: PublicKey, D: Copy> Recent<P, D> {
     pub fn new(alloc: Global, limit: usize) -> Result<Self, AllocError>
         ensures empty { IfOk result (λ recent. recent.turns.items ≡ []) }
         ensures limit { IfOk result (λ recent. recent.limit ≡ limit) }
+        ensures none_seen { IfOk result (λ recent. recent.seen ≡ 0) }
     {
         Ok(Recent {
             turns: VecDeque::with_capacity(alloc, limit)?,
@@ -45,11 +47,27 @@ impl<P: PublicKey, D: Copy> Recent<P, D> {
         self.seen
     }
 
+    /// Counts a turn, and keeps its copy, if there was memory for one.
+    fn see(&mut self, copy: Result<Turn<P, D>, AllocError>)
+        ensures latest { IfOk copy (λ turn. let turns = self.old.turns.items ++ turn ∷ [] in
+            self.new.turns.items ≡ drop (length turns - self.old.limit) turns) }
+        ensures same_without_a_copy { IfErr copy (λ error.
+            self.new.turns.items ≡ self.old.turns.items) }
+        ensures counted { self.new.seen ≡ capped (self.old.seen + 1) }
+        ensures same_limit { self.new.limit ≡ self.old.limit }
+    {
+        self.seen = self.seen.saturating_add(1);
+        if let Ok(turn) = copy {
+            self.keep(turn);
+        }
+    }
+
     /// Keeps the turn in place of the oldest one, if there is no place left.
     fn keep(&mut self, turn: Turn<P, D>)
         ensures latest { let turns = self.old.turns.items ++ turn ∷ [] in
             self.new.turns.items ≡ drop (length turns - self.old.limit) turns }
         ensures same_limit { self.new.limit ≡ self.old.limit }
+        ensures same_count { self.new.seen ≡ self.old.seen }
     {
         if self.turns.len() < self.limit {
             self.turns.push_back_reserved(turn);
@@ -62,10 +80,12 @@ impl<P: PublicKey, D: Copy> Recent<P, D> {
 }
 
 impl<P: PublicKey, D: Copy> Observer<P, D> for Recent<P, D> {
+    ghost use Rattle.std.specs.Prelude.{◌≡◌, length};
+    ghost use Rattle.broadcast_mailbox.specs.Account.{capped};
+
+    ghost seen = { λ it turns. it.seen ≡ capped (length turns) };
+
     fn turn(&mut self, turn: &Turn<P, D>) {
-        self.seen = self.seen.saturating_add(1);
-        if let Ok(turn) = turn.clone() {
-            self.keep(turn);
-        }
+        self.see(turn.clone());
     }
 }

@@ -1,6 +1,6 @@
 //! What a node knows of the chain.
 use super::said::Message;
-use broadcast_core::{Digest, Key};
+use commonware_broadcast::{Digest, Key};
 use std::alloc::{AllocError, Global};
 use std::io;
 

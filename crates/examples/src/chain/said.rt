@@ -4,7 +4,7 @@ ghost use Rattle.sha2.specs.Sha256.{sha256};
 ghost use Rattle.examples.specs.Said.{content};
 ghost use Rattle.broadcast_core.specs.Exact.{exact_bytes};
 
-use broadcast_core::{
+use commonware_broadcast::{
     ByteList, CodecError, Digest, Digested, Digestible, EncodeSize, Key, Record, Wire, Write,
 };
 

@@ -2,8 +2,10 @@
 use super::clients::broadcast_until_closed;
 use super::quiet::{Gives, Sets, Void, Wire, config};
 use crate::patient::pause;
-use broadcast_core::TestMessage;
-use commonware_broadcast::buffered::{Account, All, Runtime, Sequential, Session, WatchedClient};
+use broadcast_core::{Digest, TestMessage};
+use commonware_broadcast::buffered::{
+    Account, All, Observer, Runtime, Sequential, Session, Turn, WatchedClient,
+};
 use memory_node::support::poor::{Poor, Supply};
 use std::alloc::AllocGlobal;
 use std::num::NonZeroU32;
@@ -51,49 +53,77 @@ where
             client.stop();
         }
         let _told = broadcast_until_closed(&self.rt, client);
-        for _ in 0..50 {
-            pause(&self.rt);
-        }
+        stay(&self.rt);
         self.counts.ended.fetch_add(1, Ordering::SeqCst);
     }
 }
 
-/// Runs a session with this many copies of the runtime. Returns whether it was finished, and how
-/// many clients had begun and ended then.
-fn attempt<R>(rt: &R, copies: u64) -> Result<(bool, u64, u64), Fail>
+/// An observer that takes a while for the end of its engine.
+#[derive(Drop)]
+struct Slow<R> {
+    rt: R,
+}
+
+impl<R: Clock> Observer<u64, Digest> for Slow<R> {
+    fn turn(&mut self, turn: &Turn<u64, Digest>) {
+        if matches!(turn, Turn::Ended(_)) {
+            stay(&self.rt);
+        }
+    }
+}
+
+/// Gives up the thread for a while.
+fn stay(clock: &impl Clock) {
+    for _ in 0..50 {
+        pause(clock);
+    }
+}
+
+/// What a session leaves.
+#[derive(Clone, Copy)]
+struct Left {
+    is_finished: bool,
+    /// How many clients had begun.
+    begun: u64,
+    /// How many clients had ended.
+    ended: u64,
+    /// Whether a thread still had a copy of the runtime.
+    is_used: bool,
+}
+
+/// Runs a session with this many copies of the runtime.
+fn attempt<R>(rt: &R, copies: u64) -> Result<Left, Fail>
 where
     R: Runtime,
 {
     let supply = Supply::new(rt.alloc())?;
-    let poor = Poor {
-        rt: rt.clone()?,
-        heirs: Arc::try_clone(&supply)?,
-        supply,
-    };
+    let poor = Poor::new(rt, &supply)?;
     let counts = Arc::new(rt.alloc(), Counts::new())?;
     let session = Staying {
         counts: Arc::try_clone(&counts)?,
         rt: poor.clone()?,
     };
-    let is_finished = runs(&poor, session, copies)?;
-    Ok((
+    let is_finished = runs(poor, session, copies)?;
+    Ok(Left {
         is_finished,
-        counts.begun.load(Ordering::SeqCst),
-        counts.ended.load(Ordering::SeqCst),
-    ))
+        begun: counts.begun.load(Ordering::SeqCst),
+        ended: counts.ended.load(Ordering::SeqCst),
+        is_used: Arc::strong_count(&supply) > 1,
+    })
 }
 
 /// Runs the session with this many copies of the runtime. Returns whether it was finished.
-fn runs<R>(poor: &Poor<R>, session: Staying<Poor<R>>, copies: u64) -> Result<bool, Fail>
+fn runs<R>(poor: Poor<R>, session: Staying<Poor<R>>, copies: u64) -> Result<bool, Fail>
 where
     R: Runtime,
 {
     let sets = Sets::new(poor.alloc(), Gives::Nothing)?;
     let wire = Wire::new(poor.alloc(), Gives::Nothing)?;
+    let observer = Slow { rt: poor.clone()? };
     let clients = NonZeroU32::new(CLIENTS).unwrap();
     poor.supply.leave(copies, 1000);
     let config = config(sets, Sequential);
-    let finished = config.run_session(poor, (Void, wire), clients, session, ());
+    let finished = config.run_session(&poor, (Void, wire), clients, session, observer);
     Ok(finished.is_ok())
 }
 
@@ -108,17 +138,21 @@ impl Counts {
 }
 
 #[test]
-fn clients_of_a_session_that_fails_are_joined(rt: HostRuntime) -> Result<(), Fail> {
+fn threads_of_a_session_that_fails_are_joined(rt: HostRuntime) -> Result<(), Fail> {
     let mut most = 0u64;
     for copies in 0..COPIES {
-        let (is_finished, begun, ended) = attempt(&rt, copies)?;
-        assert_eq!(rt; begun, ended, "{copies} copies");
-        if is_finished {
+        let left = attempt(&rt, copies)?;
+        assert_eq!(rt;
+            (left.begun, left.is_used),
+            (left.ended, false),
+            "{copies} copies"
+        );
+        if left.is_finished {
             // Some of the clients of a session that failed had begun.
-            assert_eq!(rt; (ended, most > 0), (u64::from(CLIENTS), true));
+            assert_eq!(rt; (left.ended, most > 0), (u64::from(CLIENTS), true));
             return Ok(());
         }
-        most = most.max(ended);
+        most = most.max(left.ended);
     }
     Err("no session is finished")?
 }

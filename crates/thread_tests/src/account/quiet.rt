@@ -51,6 +51,9 @@ impl Sets {
 }
 
 impl Provider<u64> for Sets {
+    // Nothing wakes who waits for more.
+    ghost needs = { λ _ _. ⊥ };
+
     fn poll_update(&mut self, cx: &mut Context<'_>) -> Poll<Option<Set<u64>>> {
         if let Some(set) = self.first.take() {
             return Poll::Ready(Some(set));
@@ -90,6 +93,9 @@ impl Wire {
 }
 
 impl Receiver<u64> for Wire {
+    // Nothing wakes who waits for more.
+    ghost needs = { λ _ _. ⊥ };
+
     fn poll_recv(&mut self, cx: &mut Context<'_>) -> Poll<Received> {
         match self.first.take() {
             Some(received) => Poll::Ready(received),

@@ -1,15 +1,13 @@
 //! The account of a mailbox.
 ghost use Rattle.std.specs.Prelude.{◌≡◌, ◌<◌, ◌≤◌, ◌+◌, ◌^◌, ◌&&◌, not, true, false};
-ghost use Rattle.broadcast_mailbox.specs.Account.{TallyState, one_if, is_accepted, is_queued, tallied};
+ghost use Rattle.broadcast_mailbox.specs.Account.{TallyState, one_if, is_accepted, is_queued};
+ghost use Rattle.broadcast_mailbox.specs.Account.{is_skipped, tallied};
 ghost use Rattle.broadcast_mailbox.specs.Mailbox.{count_skipped};
 ghost use Rattle.broadcast_mailbox.specs.Watch.{BroadcastsOnly};
 
 use crate::MailboxError;
-use crate::buffered::ingress::account::{Account, Bookkeeping};
-use crate::buffered::ingress::queued::Queued;
-use crate::buffered::ingress::settled::Settled;
-use crate::buffered::ingress::tally::Tally;
-use crate::buffered::ingress::watch::Watch;
+use crate::buffered::ingress::account::{Account, Bookkeeping, Settled, Tally};
+use crate::buffered::ingress::message::{Queued, Watch};
 use std::marker::PhantomData;
 use std::sync::ledger::{Blank, Book, Share};
 
@@ -50,7 +48,7 @@ impl<K: Account> Taker<K> {
     fn new(share: Share<K>) -> Self
         requires parts { (share.parts ≡ K.all) × (0 < K.all) }
         requires nothing { share.amount ≡ 0 }
-        ensures { result.share.amount ≡ 0 }
+        ensures { (result.share.amount ≡ 0) × (result.refused ≡ 0) }
     {
         Taker {
             share,
@@ -143,6 +141,7 @@ impl<A: Account, K: Account, V: Watch<D>, D> Books<A, K, V, D> {
         requires one { (K.all ≡ K.parts) × (0 < K.parts) }
         ensures nothing { (result.0.accepted.total ≡ 0) × (result.0.waiting ≡ 0) }
         ensures whole { result.1 ≡ record { accepted = 0; parts = parts } }
+        ensures nothing_taken { (result.2.share.amount ≡ 0) × (result.2.refused ≡ 0) }
     {
         let (accepted, share) = accepted.open::<A>();
         let (taken, taking) = taken.open::<K>();
@@ -171,6 +170,9 @@ impl<A: Account, K: Account, V: Watch<D>, D> Books<A, K, V, D> {
             ≡ self.old.waiting + one_if (counted && is_queued queued.now) }
         ensures accepted { self.new.accepted.total
             ≡ self.old.accepted.total + one_if (counted && is_accepted queued.now) }
+        ensures skipped { self.new.skipped
+            ≡ self.old.skipped + one_if (counted && is_skipped queued.now) }
+        ensures given_up { self.new.given_up ≡ self.old.given_up }
         ensures tallied { tally.new ≡ tallied counted (is_accepted queued.now) tally.old }
     {
         if !counted {
@@ -188,6 +190,8 @@ impl<A: Account, K: Account, V: Watch<D>, D> Books<A, K, V, D> {
         requires small { self.old.accepted.total + 1 < 2 ^ 64 }
         ensures waiting { self.new.waiting ≡ self.old.waiting + 1 }
         ensures accepted { self.new.accepted.total ≡ self.old.accepted.total + 1 }
+        ensures skipped { self.new.skipped ≡ self.old.skipped }
+        ensures given_up { self.new.given_up ≡ self.old.given_up }
         ensures tallied { tally.new ≡ tallied true true tally.old }
     {
         let Books {
@@ -208,6 +212,8 @@ impl<A: Account, K: Account, V: Watch<D>, D> Books<A, K, V, D> {
         requires open { ¬ BroadcastsOnly V.watched }
         ensures waiting { self.new.waiting ≡ self.old.waiting }
         ensures accepted { self.new.accepted.total ≡ self.old.accepted.total + 1 }
+        ensures skipped { self.new.skipped ≡ self.old.skipped + 1 }
+        ensures given_up { self.new.given_up ≡ self.old.given_up }
         ensures tallied { tally.new ≡ tallied true true tally.old }
     {
         self.accept(tally);

@@ -1,15 +1,17 @@
 //! The future of a get.
-ghost use Rattle.std.specs.Prelude.{◌≡◌, Ok, None, true, IfSome, IfOk, IfErr};
+ghost use Rattle.std.specs.Prelude.{◌≡◌, Ok, Option, None, true, IfSome, IfOk, IfErr};
+ghost use Rattle.broadcast_core.specs.Carried.{Carried};
 ghost use Rattle.broadcast_mailbox.specs.Account.{is_accepted};
 ghost use Rattle.futures.specs.Poll.{IfReady, OnPending};
 ghost use Rattle.futures.specs.declared.task.Poll.TheVariants.{Ready};
+ghost use Rattle.futures.specs.Task.{Covers, Keeps};
 ghost use Rattle.broadcast_mailbox.specs.Asked.{GoesBy, get_returns};
 
-use crate::buffered::ingress::bell::{Answering, Bell, answered};
-use crate::buffered::ingress::limit::Limit;
 use crate::buffered::ingress::look::Alertness;
-use crate::buffered::ingress::queued::Queued;
-use crate::buffered::ingress::reply::{Reply, Returns, try_receive};
+use crate::buffered::ingress::message::Queued;
+use crate::buffered::ingress::reply::{
+    Answering, Bell, Limit, Reply, Returns, answered, try_receive,
+};
 use broadcast_core::{Digested, Digestible};
 use futures::Future;
 use futures::channel::oneshot::{Canceled, Receiver};
@@ -168,7 +170,19 @@ impl<M: Digestible> Future for Get<M> {
     ghost gives = { λ g outcome.
         IfSome outcome (λ message. GoesBy M.Digest.cmp g.digest message) };
 
-    fn poll(&mut self, cx: &mut Context<'_>) -> Poll<Option<Digested<M>>> {
+    /// Once the reply was returned, later polls give `None`.
+    fn poll(&mut self, cx: &mut Context<'_>) -> Poll<Option<Digested<M>>>
+        ensures value { IfReady result (λ outcome.
+            IfSome outcome (λ message. GoesBy M.Digest.cmp self.old.digest message)) }
+        ensures none_if_done { self.old.done ≡ true → result ≡ Ready None }
+        ensures done { IfReady result (λ outcome. self.new.done ≡ true) }
+        ensures same { OnPending result ((outcome : Option (Carried M M.Digest))
+            → IfSome outcome (λ message. GoesBy M.Digest.cmp self.new.digest message)
+            → IfSome outcome (λ message. GoesBy M.Digest.cmp self.old.digest message)) }
+        ensures registered { OnPending result
+            (Covers cx.new (λ source. source ≡ self.new.source)) }
+        ensures kept { Keeps cx.old cx.new }
+    {
         if self.is_done {
             return Poll::Ready(None);
         }

@@ -8,15 +8,10 @@ ghost use Rattle.broadcast_mailbox.specs.Attended.{ready};
 ghost use Rattle.broadcast_mailbox.specs.Ends.{IngressEnd, MailboxEnd, SharedInbox};
 ghost use Rattle.broadcast_mailbox.specs.Watch.{BroadcastsOnly};
 
-use crate::buffered::ingress::account::{Account, Bookkeeping};
+use crate::buffered::ingress::account::{Account, Bookkeeping, Settled, Tally};
 use crate::buffered::ingress::books::Books;
-use crate::buffered::ingress::message::{Awaits, Named, Queueable};
-use crate::buffered::ingress::queued::Counts;
-use crate::buffered::ingress::request::Request;
-use crate::buffered::ingress::settled::Settled;
+use crate::buffered::ingress::message::{Awaits, Counts, Named, Queueable, Request, Watch};
 use crate::buffered::ingress::shared::Shared;
-use crate::buffered::ingress::tally::Tally;
-use crate::buffered::ingress::watch::Watch;
 use futures::task::{Context, Poll};
 use std::alloc::AllocError;
 use std::marker::Model;
@@ -57,7 +52,12 @@ impl<T: Named, R, A: Bookkeeping> Model for Ingress<T, R, A> {
 impl<T: Named, R, A: Bookkeeping> Ingress<T, R, A> {
     // Creates the end that takes from the inbox.
     pub(super) fn new(rt: R, inbox: Arc<Shared<T, A>>, taker: A::Taker) -> Self
-        ensures { result.inbox ≡ arc_value inbox }
+        ensures { result ≡ record {
+          inbox = arc_value inbox;
+          taken = A.taken taker;
+          refused = A.refusals taker;
+          undecided = A.undecided taker;
+        } }
     {
         Ingress { inbox, taker, rt }
     }

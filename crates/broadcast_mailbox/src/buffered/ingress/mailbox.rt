@@ -5,19 +5,15 @@ ghost use Rattle.std.specs.NonZero.{non_zero_u32_get, non_zero_usize_get};
 ghost use Rattle.broadcast_mailbox.specs.Account.{TallyState, is_taken_up, tallied};
 ghost use Rattle.broadcast_mailbox.specs.Ends.{IngressEnd, MailboxEnd};
 
-use crate::buffered::ingress::account::{Account, Bookkeeping};
-use crate::buffered::ingress::bell::Answering;
+use crate::buffered::ingress::account::{Account, Bookkeeping, Tally};
 use crate::buffered::ingress::books::Books;
 use crate::buffered::ingress::get::Get;
 use crate::buffered::ingress::ingress_end::Ingress;
-use crate::buffered::ingress::message::Message;
-use crate::buffered::ingress::queued::Queued;
-use crate::buffered::ingress::reply::Reply;
+use crate::buffered::ingress::message::{Kind, Message, Queued, Watch};
+use crate::buffered::ingress::reply::{Answering, Reply};
 use crate::buffered::ingress::shared::Shared;
 use crate::buffered::ingress::subscription::Subscription;
 use crate::buffered::ingress::subscriptions::Subscriptions;
-use crate::buffered::ingress::tally::Tally;
-use crate::buffered::ingress::watch::{Kind, Watch};
 use crate::{Broadcaster, Feedback, MailboxError};
 use broadcast_core::{Digested, Digestible, EncodeSize, PublicKey, Recipients, Write};
 use std::alloc::{AllocError, Global};
@@ -43,6 +39,7 @@ where
     ensures same_inbox { IfOk result (λ ends. ends.0.inbox ≡ ends.1.inbox) }
     ensures size { IfOk result (λ ends.
         ends.0.inbox.size ≡ non_zero_usize_get mailbox_size) }
+    ensures nothing_taken { IfOk result (λ ends. (ends.1.taken ≡ 0) × (ends.1.refused ≡ 0)) }
 {
     let Ok(inbox) = Shared::create(alloc, mailbox_size, ()) else {
         drop::<_>(rt);
@@ -65,6 +62,8 @@ where
     A: Bookkeeping,
     ensures same_inbox { IfOk result (λ ends. ends.0.inbox ≡ ends.1.inbox) }
     ensures inbox { IfOk result (λ ends. ends.0.inbox ≡ arc_value inbox) }
+    ensures taker { IfOk result (λ ends. (ends.1.taken ≡ A.taken taker)
+        × (ends.1.refused ≡ A.refusals taker)) }
 {
     match Shared::ends(&rt, &inbox) {
         Ok((own, its)) => Ok((Mailbox { inbox, alloc, rt }, Ingress::new(own, its, taker))),
@@ -117,6 +116,7 @@ where
         ends.0.inbox.size ≡ non_zero_usize_get mailbox_size) }
     ensures whole { IfOk result (λ ends.
         ends.2 ≡ record { accepted = 0; parts = non_zero_u32_get parts }) }
+    ensures nothing_taken { IfOk result (λ ends. (ends.1.taken ≡ 0) × (ends.1.refused ≡ 0)) }
 {
     let (books, tally, taking) = Books::<A, K, V, M::Digest>::open(
         accepted,

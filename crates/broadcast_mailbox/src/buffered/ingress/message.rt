@@ -1,14 +1,15 @@
-//! The messages of a mailbox's callers.
-ghost use Rattle.std.specs.Prelude.{◌≡◌, Bool, true, false, List, None};
+//! The messages of a mailbox's callers, the tickets that they draw, and which of them are counted.
+ghost use Rattle.std.specs.Prelude.{◌≡◌, Bool, true, false, List, None, Ok};
 ghost use Rattle.std.specs.Ordering.{eq_by_cmp};
-ghost use Rattle.broadcast_mailbox.specs.Watch.{kind_of};
+ghost use Rattle.broadcast_mailbox.specs.Watch.{kind_of, is_broadcast};
+ghost use Rattle.broadcast_mailbox.specs.declared.buffered.ingress.message.Kind.{Kind};
+ghost use Rattle.broadcast_mailbox.specs.Account.{is_accepted};
+ghost use Rattle.broadcast_mailbox.specs.Queued.{feedback_of, answer_of};
 
-use crate::buffered::ingress::abandoned::Abandoned;
-use crate::buffered::ingress::overflow::Policy;
-use crate::buffered::ingress::pending::Pending;
-use crate::buffered::ingress::reply::Reply;
-use crate::buffered::ingress::responder::Responder;
-use crate::buffered::ingress::watch::Kind;
+use crate::buffered::ingress::dropped::Abandoned;
+use crate::buffered::ingress::queue::{Pending, Policy};
+use crate::buffered::ingress::reply::{Reply, Responder};
+use crate::{Feedback, MailboxError};
 use broadcast_core::{Closable, Digested, Digestible, PublicKey, Recipients};
 use std::alloc::AllocError;
 
@@ -181,4 +182,137 @@ where
     fn handle(overflow: &mut Pending<Self>, message: Self) -> Result<(), AllocError> {
         overflow.append(message)
     }
+}
+
+/// A message with the ticket that it drew.
+#[derive(Drop)]
+pub struct Request<T> {
+    /// The ticket that the message drew.
+    pub ticket: u64,
+    /// The message.
+    pub message: T,
+    /// Whether the request was made through a tally, and the watch matches it.
+    pub counted: bool,
+}
+
+/// A request is closed if its message is.
+impl<T: Closable> Closable for Request<T> {
+    ghost may_answer = { λ request answer. T.may_answer request.message answer };
+
+    fn is_closed(&self) -> bool {
+        self.message.is_closed()
+    }
+}
+
+impl<T: Closable + Drop> Policy for Request<T> {
+    type Overflow = Pending<Self>;
+
+    fn handle(overflow: &mut Pending<Self>, message: Self) -> Result<(), AllocError> {
+        overflow.append(message)
+    }
+}
+
+/// The kind of a request.
+#[derive(Clone, Copy, Debug, PartialEq, Eq)]
+pub enum Kind {
+    /// To broadcast a message.
+    Broadcast,
+    /// The message of a digest, at once or when it arrives.
+    Subscribe,
+    /// The message of a digest if it is cached.
+    Get,
+}
+
+/// Selects the tallied requests that are counted, by kind and digest. The digest of a broadcast
+/// is the one that was handed in with its message.
+pub trait Watch<D> {
+    /// Whether a request of this kind and digest is counted.
+    ghost watched: { Kind → D → Bool };
+
+    /// Returns whether a request of this kind and digest is counted.
+    fn matches(kind: Kind, digest: &D) -> bool
+        ensures { result ≡ watched kind digest.now };
+}
+
+/// Counts every tallied request.
+pub struct All;
+
+impl<D> Watch<D> for All {
+    ghost watched = { λ _ _. true };
+
+    fn matches(_kind: Kind, _digest: &D) -> bool {
+        true
+    }
+}
+
+/// Counts the tallied broadcasts.
+pub struct Broadcasts;
+
+impl<D> Watch<D> for Broadcasts {
+    ghost watched = { λ kind _. is_broadcast kind };
+
+    fn matches(kind: Kind, _digest: &D) -> bool {
+        match kind {
+            Kind::Broadcast => true,
+            Kind::Subscribe | Kind::Get => false,
+        }
+    }
+}
+
+/// The result of an enqueue, with the ticket that the message drew.
+#[derive(Clone, Copy, Debug, PartialEq, Eq)]
+pub enum Queued {
+    /// The message is in the ready list.
+    Ready(u64),
+    /// The ready list is full, and the message is in the overflow.
+    Overflow(u64),
+    /// The ready list is full and the message is closed, so it was dropped.
+    Skipped(u64),
+    /// The mailbox is closed, and the message was dropped. It drew no ticket.
+    Closed,
+}
+
+impl Queued {
+    /// Returns what the caller of a broadcast is told.
+    pub fn feedback(self) -> Feedback
+        ensures { result ≡ feedback_of self }
+    {
+        match self {
+            Queued::Ready(_) => Feedback::Ok,
+            Queued::Overflow(_) | Queued::Skipped(_) => Feedback::Backoff,
+            Queued::Closed => Feedback::Closed,
+        }
+    }
+
+    /// Returns whether the message drew a ticket.
+    pub fn is_accepted(self) -> bool
+        ensures { result ≡ is_accepted (Ok self) }
+    {
+        match self {
+            Queued::Ready(_) | Queued::Overflow(_) | Queued::Skipped(_) => true,
+            Queued::Closed => false,
+        }
+    }
+
+    // Returns what a broadcast returns if the inbox answered `queued`. An error stays as it is.
+    pub(super) fn answer(queued: Result<Queued, MailboxError>) -> Result<Feedback, MailboxError>
+        ensures { result ≡ answer_of queued }
+    {
+        Ok(queued?.feedback())
+    }
+}
+
+/// The number of requests that a mailbox accepted, and of each of their outcomes.
+#[derive(Clone, Copy, Debug, PartialEq, Eq)]
+pub struct Counts {
+    /// How many drew a ticket.
+    pub accepted: u64,
+    /// How many were taken.
+    pub taken: u64,
+    /// How many were closed and dropped.
+    pub skipped: u64,
+    /// How many wait.
+    pub waiting: u64,
+    /// How many were dropped when the mailbox was closed.
+    pub given_up: u64,
 }

@@ -1,5 +1,5 @@
-//! The inbox that the ends of a mailbox share.
-ghost use Rattle.std.specs.Prelude.{◌≡◌, ◌+◌, [], true, false, IfOk};
+//! The inbox that the ends of a mailbox share, and the law of its tickets.
+ghost use Rattle.std.specs.Prelude.{◌≡◌, ◌+◌, [], true, false, IfOk, ℕ, List};
 ghost use Rattle.std.specs.Arc.{arc_value};
 ghost use Rattle.std.specs.NonZero.{non_zero_usize_get};
 ghost use Rattle.futures.specs.Poll.{OnPending};
@@ -9,23 +9,20 @@ ghost use Rattle.broadcast_mailbox.specs.Attended.{ready};
 ghost use Rattle.broadcast_mailbox.specs.Ends.{SharedInbox};
 ghost use Rattle.broadcast_mailbox.specs.Account.{TallyState, counted_of, is_accepted, tallied};
 ghost use Rattle.broadcast_mailbox.specs.Watch.{BroadcastsOnly, is_watched};
+ghost use Rattle.broadcast_mailbox.specs.Mailbox.{MailboxState, mailbox_after};
+ghost use Rattle.broadcast_mailbox.specs.Tickets.{Step, Runs, IsLawful};
 
 use crate::MailboxError;
-use crate::buffered::ingress::account::{Account, Bookkeeping};
-use crate::buffered::ingress::attended::Attended;
+use crate::buffered::ingress::account::{Account, Bookkeeping, Settled, Tally};
 use crate::buffered::ingress::books::{Books, Taker};
 use crate::buffered::ingress::dropped::Dropped;
-use crate::buffered::ingress::inbox::Inbox;
+use crate::buffered::ingress::inbox::{Attended, Inbox};
 use crate::buffered::ingress::look::Alertness;
-use crate::buffered::ingress::message::{Message, Named, Queueable};
-use crate::buffered::ingress::queued::{Counts, Queued};
-use crate::buffered::ingress::reply::Reply;
-use crate::buffered::ingress::request::Request;
-use crate::buffered::ingress::responder::Responder;
-use crate::buffered::ingress::settled::Settled;
-use crate::buffered::ingress::tally::Tally;
-use crate::buffered::ingress::watch::Watch;
-use broadcast_core::{Digestible, PublicKey};
+use crate::buffered::ingress::message::{
+    Counts, Message, Named, Queueable, Queued, Request, Watch,
+};
+use crate::buffered::ingress::reply::{Reply, Responder};
+use broadcast_core::{Closable, Digestible, PublicKey};
 use futures::task::{Context, Poll, Source};
 use std::alloc::{AllocError, Global};
 use std::marker::Model;
@@ -282,3 +279,13 @@ where
         settled
     }
 }
+
+/// Proves that every ticket ends once. Over any list of calls of an inbox that begins empty,
+/// however many requests were taken before, the tickets rise as they are drawn and as they are
+/// taken, each drawn ticket has exactly one end, and the counts are the numbers of those tickets
+/// and of the requests before. The calls are those of `Inbox`, by their contracts.
+pub fn ticket_law<T: Closable>()
+    ensures { (size before : ℕ) (steps : List (Step T)) (last : MailboxState T)
+        → Runs T.may_answer (mailbox_after size before) steps last
+        → IsLawful before steps last }
+{}

@@ -1,18 +1,20 @@
 //! The future of a subscribe.
-ghost use Rattle.std.specs.Prelude.{◌≡◌, Ok, Err, true, IfOk, IfErr};
+ghost use Rattle.std.specs.Prelude.{◌≡◌, Result, Ok, Err, true, IfOk, IfErr};
+ghost use Rattle.broadcast_core.specs.Carried.{Carried};
 ghost use Rattle.broadcast_mailbox.specs.Account.{is_accepted};
 ghost use Rattle.futures.specs.Poll.{IfReady, OnPending};
 ghost use Rattle.futures.specs.declared.task.Poll.TheVariants.{Ready};
 ghost use Rattle.futures.specs.Channel.{completed_source};
+ghost use Rattle.futures.specs.Task.{Covers, Keeps};
+ghost use Rattle.futures.specs.declared.channel.oneshot.Canceled.{Canceled};
 ghost use Rattle.broadcast_mailbox.specs.Asked.{GoesBy, subscription_returns};
 
-use crate::buffered::ingress::abandoned::Abandoned;
-use crate::buffered::ingress::bell::{Answered, Answering, Bell, answered, answered_by};
-use crate::buffered::ingress::dropped::Dropped;
-use crate::buffered::ingress::limit::Limit;
+use crate::buffered::ingress::dropped::{Abandoned, Dropped};
 use crate::buffered::ingress::look::Alertness;
-use crate::buffered::ingress::queued::Queued;
-use crate::buffered::ingress::reply::{Reply, Returns, try_receive};
+use crate::buffered::ingress::message::Queued;
+use crate::buffered::ingress::reply::{
+    Answered, Answering, Bell, Limit, Reply, Returns, answered, answered_by, try_receive,
+};
 use broadcast_core::{Digested, Digestible};
 use futures::Future;
 use futures::channel::oneshot::{Canceled, Receiver};
@@ -47,9 +49,10 @@ impl<M: Digestible> Drop for Subscription<M> {
             is_done,
             dropped,
         } = self;
-        let abandoned = Abandoned::close(receiver, digest);
-        if !is_done {
-            dropped.tell(abandoned);
+        if is_done {
+            drop::<_>(receiver);
+        } else {
+            dropped.tell(Abandoned::close(receiver, digest));
         }
     }
 }
@@ -223,7 +226,19 @@ impl<M: Digestible> Future for Subscription<M> {
 
     ghost gives = { λ s outcome. IfOk outcome (λ message. GoesBy M.Digest.cmp s.digest message) };
 
-    fn poll(&mut self, cx: &mut Context<'_>) -> Poll<Result<Digested<M>, Canceled>> {
+    /// Once the message was returned, later polls give that it is canceled.
+    fn poll(&mut self, cx: &mut Context<'_>) -> Poll<Result<Digested<M>, Canceled>>
+        ensures value { IfReady result (λ outcome.
+            IfOk outcome (λ message. GoesBy M.Digest.cmp self.old.digest message)) }
+        ensures canceled_if_done { self.old.done ≡ true → result ≡ Ready (Err (record {})) }
+        ensures done { IfReady result (λ outcome. self.new.done ≡ true) }
+        ensures same { OnPending result ((outcome : Result (Carried M M.Digest) Canceled)
+            → IfOk outcome (λ message. GoesBy M.Digest.cmp self.new.digest message)
+            → IfOk outcome (λ message. GoesBy M.Digest.cmp self.old.digest message)) }
+        ensures registered { OnPending result
+            (Covers cx.new (λ source. source ≡ self.new.source)) }
+        ensures kept { Keeps cx.old cx.new }
+    {
         if self.is_done {
             return Poll::Ready(Err(Canceled));
         }

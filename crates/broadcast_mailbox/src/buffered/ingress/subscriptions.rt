@@ -6,10 +6,8 @@ ghost use Rattle.futures.specs.declared.task.Poll.TheVariants.{Ready};
 ghost use Rattle.broadcast_mailbox.specs.Asked.{GoesBy};
 ghost use Rattle.broadcast_mailbox.specs.Several.{Leaves};
 
-use crate::buffered::ingress::bell::{Answering, Bell};
 use crate::buffered::ingress::dropped::Dropped;
-use crate::buffered::ingress::limit::Limit;
-use crate::buffered::ingress::reply::Reply;
+use crate::buffered::ingress::reply::{Answering, Bell, Limit, Reply};
 use crate::buffered::ingress::subscription::Subscription;
 use broadcast_core::{Digested, Digestible};
 use futures::channel::oneshot::Canceled;

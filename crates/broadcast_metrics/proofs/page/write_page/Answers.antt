@@ -1,11 +1,4 @@
-use Rattle.broadcast_metrics.proofs.Then.{on_ok_then}
-use Rattle.broadcast_text.proofs.Written.{Appends-append}
 use Rattle.broadcast_metrics.proofs.page.write_page.Goals as goal
 
 pub returns : goal.returns
-returns g c = rw (← c.peers.ensures)
-    (on_ok_then c.write_all-2.result
-    (λ end. Appends-append _ _ _ _ _ c.in_ok-write_all.ensures.bytes
-    (Appends-append _ _ _ _ _ c.in_ok-write_peers.ensures
-    (Appends-append _ _ _ _ _ c.in_ok-write_totals.ensures end)))
-    c.write_all-2.ensures.bytes)
+returns g c = rw c.empty.ensures at c.write_page_with.ensures

@@ -1,5 +1,5 @@
 //! A payload of a peer, and the job of its message.
-ghost use Rattle.std.specs.Prelude.{◌≡◌, if◌then◌else◌, List, None, Some, Ok, true, IfOk, IsOk, OnOk, OnErr};
+ghost use Rattle.std.specs.Prelude.{◌≡◌, List, None, Some, Ok, true, IfOk, IsOk, OnOk, OnErr};
 ghost use Rattle.std.specs.Ordering.{eq_by_cmp};
 ghost use Rattle.futures.specs.Poll.{IfReady, OnPending};
 ghost use Rattle.futures.specs.Task.{IsArmed, Keeps};
@@ -7,13 +7,13 @@ ghost use Rattle.broadcast_core.specs.Content.{same_by};
 ghost use Rattle.broadcast_core.specs.Setting.{Setting};
 ghost use Rattle.broadcast_core.specs.Happening.{History};
 ghost use Rattle.broadcast_core.specs.HasContent.{HasContent};
-ghost use Rattle.engine_io.specs.Counters.{count_of, has_count, raised};
+ghost use Rattle.engine_io.specs.Counters.{has_count};
 ghost use Rattle.engine_io.specs.declared.input.Input.TheVariants as input;
 ghost use Rattle.engine_io.specs.declared.input.Turn.TheVariants as turn;
 ghost use Rattle.engine_io.specs.Heard.{HearsJob};
 ghost use Rattle.engine_io.specs.Replies.{Asker};
 ghost use Rattle.commonware_broadcast.specs.AppliesSteps.{Handles, replying};
-ghost use Rattle.commonware_broadcast.specs.Arrives.{AlwaysArrives, payload_of, message_of};
+ghost use Rattle.commonware_broadcast.specs.Arrives.{AlwaysArrives, CountsOne, payload_of, message_of};
 ghost use Rattle.commonware_broadcast.specs.EngineHistory.{end_told};
 ghost use Rattle.commonware_broadcast.specs.Order.{end_in};
 ghost use Rattle.commonware_broadcast.specs.Interfaces.{by_responder, format_of, parties_of};
@@ -66,7 +66,8 @@ impl<P: PublicKey, M: Digestible + Codec, S, O, B, Q, T: Strategy<M>> Engine<P, 
     }
 
     /// Counts a message of `peer` that was decoded, starts its job, and polls it. If the message
-    /// can't be counted, or its job not started, the message is refused.
+    /// can't be counted, or its job not started, the message is refused. If `peer` was counted
+    /// before, the message is counted in any case.
     fn start_job<G>(
         &mut self,
         alloc: Global,
@@ -82,6 +83,9 @@ impl<P: PublicKey, M: Digestible + Codec, S, O, B, Q, T: Strategy<M>> Engine<P, 
             (format_of P.cmp M.Digest.cmp M.encoding M.digest_of M.reading)
             (parties_of S.may_answer T.Job.is_of O.Outlet)
             (λ s. payload_of peer (Ok message)) self.old self.new result }
+        ensures counted_before_its_job { has_count (eq_by_cmp P.cmp) peer
+            self.old.node.metrics.peer ≡ true → CountsOne (eq_by_cmp P.cmp) peer
+            self.old.node.metrics.peer self.new.node.metrics.peer }
         ensures idle_if_ready { IfReady result (λ turn. self.new.job ≡ None) }
         ensures held_if_pending { OnPending result (self.new.job ≡ None → ⊥) }
         ensures tells_no_end { end_in result ≡ None }
@@ -120,6 +124,7 @@ impl<P: PublicKey, M: Digestible + Codec, S, O, B, Q, T: Strategy<M>> Engine<P, 
             (format_of P.cmp M.Digest.cmp M.encoding M.digest_of M.reading)
             (parties_of S.may_answer T.Job.is_of O.Outlet)
             (λ s. message_of peer m) self.old self.new result }
+        ensures counts_no_payload { self.new.node.metrics.peer ≡ self.old.node.metrics.peer }
         ensures idle_if_ready { IfReady result (λ turn. self.new.job ≡ None) }
         ensures held_if_pending { OnPending result (self.new.job ≡ None → ⊥) }
         ensures tells_no_end { end_in result ≡ None }
@@ -151,10 +156,8 @@ fn count_and_start<P: PublicKey, M: Digestible, T: Strategy<M>>(
     peer: &P,
     message: M,
 ) -> Result<Result<T::Job, AllocError>, AllocError>
-    ensures counts_one { OnOk result ((q : P) → let same = eq_by_cmp P.cmp in
-        count_of same q metrics.new.peer
-        ≡ (if same peer.now q then raised (count_of same q metrics.old.peer) 1
-        else count_of same q metrics.old.peer)) }
+    ensures counts_one { OnOk result
+        (CountsOne (eq_by_cmp P.cmp) peer.now metrics.old.peer metrics.new.peer) }
     ensures totals_stay { metrics.new.totals ≡ metrics.old.totals }
     ensures succeeds_if_counted_before { has_count (eq_by_cmp P.cmp) peer.now metrics.old.peer
         ≡ true → IsOk result }
@@ -212,6 +215,7 @@ where
         → Handles s (replying (by_responder S.may_answer) O.told) past
         (input.Arrived peer (record { message = message; digest = digest }))
         result node.old node.new }
+    ensures counts_no_payload { node.new.metrics.peer ≡ node.old.metrics.peer }
     ensures tells_no_end { end_told result ≡ None }
 {
     match Digested::precomputed(alloc, message, digest) {

@@ -1,5 +1,5 @@
 //! Which waiters the next cleanup asks.
-ghost use Rattle.std.specs.Prelude.{◌≡◌, ◌++◌, false};
+ghost use Rattle.std.specs.Prelude.{◌≡◌, ◌++◌, true, false};
 
 use broadcast_core::{Core, Digestible, PublicKey};
 use std::alloc::Global;
@@ -30,8 +30,9 @@ impl<M: Digestible> Closed<M> {
     /// Names the digests of which the requests tell nothing, too. Returns whether any other digest
     /// may be one of these, since there was no memory for it.
     pub(super) fn add_applied(&mut self) -> bool
-        ensures { result ≡ false
+        ensures named { result ≡ false
             → self.new.digests.items ≡ self.old.digests.items ++ self.old.applied.items }
+        ensures each { self.old.asks_each ≡ true → result ≡ true }
     {
         if self.applied.is_empty() {
             return self.asks_each;

@@ -6,6 +6,7 @@ ghost use Rattle.engine_io.specs.declared.input.Turn.TheVariants as turn;
 ghost use Rattle.engine_io.specs.declared.input.EndCause.{EndCause};
 ghost use Rattle.commonware_broadcast.specs.Polls.{Drives};
 ghost use Rattle.commonware_broadcast.specs.TakesSteps.{AlwaysTakes, TellsEnd};
+ghost use Rattle.commonware_broadcast.specs.EngineState.{moment};
 ghost use Rattle.commonware_broadcast.specs.Interfaces.{format_of, over};
 
 use crate::buffered::engine::state::Engine;
@@ -40,11 +41,11 @@ where
     ensures took { IfOk result (λ turns. AlwaysTakes
         (format_of P.cmp M.Digest.cmp M.encoding M.digest_of M.reading)
         (over S.may_answer T.Job.is_of O.Outlet N.Sender R.Receiver B.Provider Q.Requests)
-        (engine.old, network.old) (engine.new, network.new) turns.items) }
+        (moment engine.old network.old) (moment engine.new network.new) turns.items) }
     ensures drives { IfOk result (λ turns. Drives
         (format_of P.cmp M.Digest.cmp M.encoding M.digest_of M.reading)
         (over S.may_answer T.Job.is_of O.Outlet N.Sender R.Receiver B.Provider Q.Requests)
-        limit (engine.old, network.old) (engine.new, network.new) turns.items) }
+        limit (moment engine.old network.old) (moment engine.new network.new) turns.items) }
     ensures at_most_limit { IfOk result (λ turns. length turns.items ≤ limit) }
     ensures ends_with_last_turn { IfOk result (λ turns.
         0 < limit → TellsEnd engine.new.end turns.items) }

@@ -56,6 +56,7 @@ where
         → (past : History P M M.Digest (Asker S) (Asker G)) → HasContent s past node.old.core
         → Handles s (replying (by_responder S.may_answer) O.told) past
         (input.Arrived peer message) result node.old node.new }
+    ensures counts_no_payload { node.new.metrics.peer ≡ node.old.metrics.peer }
     ensures tells_no_end { end_told result ≡ None }
 {
     match take(node, alloc, &peer, &message) {

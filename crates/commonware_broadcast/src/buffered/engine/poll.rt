@@ -9,11 +9,12 @@ ghost use Rattle.engine_io.specs.Causes.{HasCause};
 ghost use Rattle.engine_io.specs.Heard.{HearsAll, HearsJob};
 ghost use Rattle.engine_io.specs.Refused.{outcome_of};
 ghost use Rattle.engine_io.specs.Sources.{given};
-ghost use Rattle.broadcast_mailbox.specs.declared.buffered.ingress.request.Request.{Request};
+ghost use Rattle.broadcast_mailbox.specs.declared.buffered.ingress.message.Request.{Request};
 ghost use Rattle.commonware_broadcast.specs.Order.{UnlessPeers, IfNetwork, end_in};
 ghost use Rattle.commonware_broadcast.specs.Polls.{IsPoll};
 ghost use Rattle.commonware_broadcast.specs.TakesSteps.{AlwaysTakesOnly, AlwaysCleans};
 ghost use Rattle.commonware_broadcast.specs.Waits.{Waits};
+ghost use Rattle.commonware_broadcast.specs.EngineState.{moment};
 ghost use Rattle.commonware_broadcast.specs.Interfaces.{format_of, over};
 
 use crate::buffered::engine::apply::apply;
@@ -50,9 +51,9 @@ impl<P: PublicKey, M: Digestible + Codec, S, O, B, Q, T: Strategy<M>> Engine<P, 
         ensures polled { IsPoll
             (format_of P.cmp M.Digest.cmp M.encoding M.digest_of M.reading)
             (over S.may_answer T.Job.is_of O.Outlet N.Sender R.Receiver B.Provider Q.Requests)
-            (self.old, network.old) (self.new, network.new) result }
+            (moment self.old network.old) (moment self.new network.new) result }
         ensures waits { OnPending result (Waits T.Job.needs R.Receiver B.Provider Q.Requests
-            cx.new self.old.job (self.new, network.new)) }
+            cx.new self.old.job (moment self.new network.new)) }
         ensures armed { OnPending result (IsArmed cx.new) }
         ensures kept { Keeps cx.old cx.new }
     {
@@ -89,7 +90,7 @@ impl<P: PublicKey, M: Digestible + Codec, S, O, B, Q, T: Strategy<M>> Engine<P, 
         ensures took { AlwaysCleans
             (format_of P.cmp M.Digest.cmp M.encoding M.digest_of M.reading)
             (over S.may_answer T.Job.is_of O.Outlet N.Sender R.Receiver B.Provider Q.Requests)
-            (self.old, network.old) (self.new, network.new) (given result) }
+            (moment self.old network.old) (moment self.new network.new) (given result) }
         ensures ends { self.new.end ≡ end_in result }
         ensures has_cause { (cause : EndCause) → result ≡ Ready (turn.Ended cause)
             → HasCause cause ⊥ (B.may_end self.old.provider) (R.may_fail network.old.1) }
@@ -150,7 +151,7 @@ impl<P: PublicKey, M: Digestible + Codec, S, O, B, Q, T: Strategy<M>> Engine<P, 
         ensures took { AlwaysCleans
             (format_of P.cmp M.Digest.cmp M.encoding M.digest_of M.reading)
             (over S.may_answer T.Job.is_of O.Outlet N.Sender R.Receiver B.Provider Q.Requests)
-            (self.old, network.old) (self.new, network.new) (given result) }
+            (moment self.old network.old) (moment self.new network.new) (given result) }
         ensures ends { self.new.end ≡ end_in result }
         ensures has_cause { (cause : EndCause) → result ≡ Ready (turn.Ended cause)
             → HasCause cause ⊥ (B.may_end self.old.provider) ⊥ }
@@ -212,7 +213,7 @@ impl<P: PublicKey, M: Digestible + Codec, S, O, B, Q, T: Strategy<M>> Engine<P, 
         ensures took { AlwaysTakesOnly
             (format_of P.cmp M.Digest.cmp M.encoding M.digest_of M.reading)
             (over S.may_answer T.Job.is_of O.Outlet N.Sender R.Receiver B.Provider Q.Requests)
-            (self.old, network.old) (self.new, network.new) (given result) }
+            (moment self.old network.old) (moment self.new network.new) (given result) }
         ensures ends { self.new.end ≡ end_in result }
         ensures has_cause { (cause : EndCause) → result ≡ Ready (turn.Ended cause)
             → HasCause cause ⊥ ⊥ (R.may_fail network.old.1) }

@@ -6,6 +6,7 @@ ghost use Rattle.futures.specs.Task.{IsArmed, Keeps};
 ghost use Rattle.engine_io.specs.declared.input.EndCause.{EndCause};
 ghost use Rattle.commonware_broadcast.specs.EngineHistory.{end_told};
 ghost use Rattle.commonware_broadcast.specs.Polls.{RunsTo, ShowsPolls};
+ghost use Rattle.commonware_broadcast.specs.EngineState.{moment};
 ghost use Rattle.commonware_broadcast.specs.Interfaces.{format_of, over};
 
 use crate::buffered::engine::state::Engine;
@@ -19,7 +20,7 @@ use engine_io::{
 use futures::Future;
 use futures::future::{PollFn, poll_fn};
 use futures::task::{Context, Doorbell, Poll, Queue};
-use std::alloc::{AllocError, AllocGlobal, Global};
+use std::alloc::{AllocGlobal, Global};
 use std::io;
 use std::random::RandomSource;
 use std::sync::Wait;
@@ -74,7 +75,8 @@ where
         ensures took { ShowsPolls
             (format_of P.cmp M.Digest.cmp M.encoding M.digest_of M.reading)
             (over S.may_answer T.Job.is_of O.Outlet N.Sender V.Receiver B.Provider Q.Requests)
-            W.seen (self.old.engine, self.old.network) (self.new.engine, self.new.network)
+            W.seen (moment self.old.engine self.old.network)
+            (moment self.new.engine self.new.network)
             self.old.observer self.new.observer }
         ensures ended { (cause : EndCause) → result ≡ Ready (Some cause)
             → self.new.engine.end ≡ Some cause }
@@ -116,7 +118,8 @@ where
         ensures took { ShowsPolls
             (format_of P.cmp M.Digest.cmp M.encoding M.digest_of M.reading)
             (over S.may_answer T.Job.is_of O.Outlet N.Sender V.Receiver B.Provider Q.Requests)
-            W.seen (self.old.engine, self.old.network) (self.new.engine, self.new.network)
+            W.seen (moment self.old.engine self.old.network)
+            (moment self.new.engine self.new.network)
             self.old.observer self.new.observer }
         ensures ended { (cause : EndCause) → result ≡ Ok (Some cause)
             → self.new.engine.end ≡ Some cause }
@@ -159,7 +162,8 @@ where
         ensures took { ShowsPolls
             (format_of P.cmp M.Digest.cmp M.encoding M.digest_of M.reading)
             (over S.may_answer T.Job.is_of O.Outlet N.Sender V.Receiver B.Provider Q.Requests)
-            W.seen (self.old.engine, self.old.network) (self.new.engine, self.new.network)
+            W.seen (moment self.old.engine self.old.network)
+            (moment self.new.engine self.new.network)
             self.old.observer self.new.observer }
         ensures ended { IfReady result (λ cause. self.new.engine.end ≡ Some cause) }
         ensures armed { OnPending result (IsArmed cx.new) }
@@ -196,13 +200,14 @@ where
         ensures ready { IfReady result (λ end. IfSome running.old (λ old. RunsTo
             (format_of P.cmp M.Digest.cmp M.encoding M.digest_of M.reading)
             (over S.may_answer T.Job.is_of O.Outlet N.Sender V.Receiver B.Provider Q.Requests)
-            W.seen (old.value.engine, old.value.network) old.value.observer
-            ((end.0.value.engine, end.0.value.network), end.0.value.observer) end.1)) }
+            W.seen (moment old.value.engine old.value.network) old.value.observer
+            (moment end.0.value.engine end.0.value.network, end.0.value.observer) end.1)) }
         ensures pending { OnPending result (IfSome running.old (λ old.
             IsSomeAnd running.new (λ new. ShowsPolls
             (format_of P.cmp M.Digest.cmp M.encoding M.digest_of M.reading)
             (over S.may_answer T.Job.is_of O.Outlet N.Sender V.Receiver B.Provider Q.Requests)
-            W.seen (old.value.engine, old.value.network) (new.value.engine, new.value.network)
+            W.seen (moment old.value.engine old.value.network)
+            (moment new.value.engine new.value.network)
             old.value.observer new.value.observer))) }
         ensures armed { OnPending result (IsArmed cx.new) }
         ensures kept { Keeps cx.old cx.new }
@@ -235,19 +240,15 @@ where
         ensures took { ShowsPolls
             (format_of P.cmp M.Digest.cmp M.encoding M.digest_of M.reading)
             (over S.may_answer T.Job.is_of O.Outlet N.Sender V.Receiver B.Provider Q.Requests)
-            W.seen (self.engine, self.network) (result.0.engine, result.0.network)
+            W.seen (moment self.engine self.network) (moment result.0.engine result.0.network)
             self.observer result.0.observer }
         ensures ended { IfOk result.1 (λ cause. result.0.engine.end ≡ Some cause) }
         ensures unchanged_on_error { IfErr result.1 (λ failure. result.0 ≡ self) }
     {
-        // A poll that is pending moves no engine then.
-        let running = match Box::new(rt.alloc(), self) {
-            Ok(running) => running,
-            Err(refused) => return (refused.value, Err(CannotWait::from(AllocError))),
-        };
-        let seat = match Seat::new(rt) {
-            Ok(seat) => seat,
-            Err(failure) => return (Box::into_inner(running), Err(failure)),
+        // A poll that is pending moves no engine in a box.
+        let (seat, running) = match Seat::with_boxed(rt, self) {
+            Ok(made) => made,
+            Err((failure, running)) => return (running, Err(failure)),
         };
         snapshots.look_again();
         let (running, cause) = Self::run_on::<G, R>(running, seat, rt, snapshots);
@@ -269,21 +270,23 @@ where
         ensures ran { RunsTo
             (format_of P.cmp M.Digest.cmp M.encoding M.digest_of M.reading)
             (over S.may_answer T.Job.is_of O.Outlet N.Sender V.Receiver B.Provider Q.Requests)
-            W.seen (running.value.engine, running.value.network) running.value.observer
-            ((result.0.value.engine, result.0.value.network), result.0.value.observer) result.1 }
+            W.seen (moment running.value.engine running.value.network) running.value.observer
+            (moment result.0.value.engine result.0.value.network, result.0.value.observer)
+            result.1 }
     {
         let mut running = Some(running);
         let poll = move |cx: &mut Context<'_>| -> Poll<(Box<Self>, EndCause)>
             ensures ready { IfReady result (λ end. IfSome running.entry (λ old. RunsTo
                 (format_of P.cmp M.Digest.cmp M.encoding M.digest_of M.reading)
                 (over S.may_answer T.Job.is_of O.Outlet N.Sender V.Receiver B.Provider Q.Requests)
-                W.seen (old.value.engine, old.value.network) old.value.observer
-                ((end.0.value.engine, end.0.value.network), end.0.value.observer) end.1)) }
+                W.seen (moment old.value.engine old.value.network) old.value.observer
+                (moment end.0.value.engine end.0.value.network, end.0.value.observer) end.1)) }
             ensures pending { OnPending result (IfSome running.entry (λ old.
                 IsSomeAnd running.exit (λ new. ShowsPolls
                 (format_of P.cmp M.Digest.cmp M.encoding M.digest_of M.reading)
                 (over S.may_answer T.Job.is_of O.Outlet N.Sender V.Receiver B.Provider Q.Requests)
-                W.seen (old.value.engine, old.value.network) (new.value.engine, new.value.network)
+                W.seen (moment old.value.engine old.value.network)
+                (moment new.value.engine new.value.network)
                 old.value.observer new.value.observer))) }
             ensures armed { OnPending result (IsArmed cx.new) }
             ensures kept { Keeps cx.old cx.new }

@@ -7,7 +7,7 @@ ghost use Rattle.broadcast_core.specs.HasContent.{HasContent};
 ghost use Rattle.engine_io.specs.declared.input.Turn.TheVariants as turn;
 ghost use Rattle.engine_io.specs.declared.input.EndCause.{EndCause};
 ghost use Rattle.engine_io.specs.Replies.{Asker};
-ghost use Rattle.broadcast_mailbox.specs.declared.buffered.ingress.request.Request.{Request};
+ghost use Rattle.broadcast_mailbox.specs.declared.buffered.ingress.message.Request.{Request};
 ghost use Rattle.commonware_broadcast.specs.EngineHistory.{end_told, ended};
 ghost use Rattle.commonware_broadcast.specs.AppliesSteps.{Applies, AppliesStep, sinks};
 ghost use Rattle.commonware_broadcast.specs.Fresh.{fresh};

@@ -4,6 +4,7 @@ ghost use Rattle.engine_io.specs.declared.input.Turn.{Turn};
 ghost use Rattle.engine_io.specs.declared.input.Turn.TheVariants as turn;
 ghost use Rattle.commonware_broadcast.specs.Parts.{joined, ready_engine};
 ghost use Rattle.commonware_broadcast.specs.Polls.{MakesReady, ShowsPolls, ShowsRun};
+ghost use Rattle.commonware_broadcast.specs.EngineState.{moment};
 ghost use Rattle.commonware_broadcast.specs.Interfaces.{format_of, over};
 
 use crate::buffered::engine::closed::Closed;
@@ -80,7 +81,7 @@ where
         ensures { IfOk result (λ ready. MakesReady
             (format_of P.cmp M.Digest.cmp M.encoding M.digest_of M.reading)
             (over S.may_answer T.Job.is_of O.Outlet N.Sender V.Receiver B.Provider Q.Requests)
-            (engine, network) (ready_engine ready, ready.network)) }
+            (moment engine network) (moment (ready_engine ready) ready.network)) }
     {
         let mut running = Running {
             engine,
@@ -119,7 +120,8 @@ where
         ensures runs { ShowsRun
             (format_of P.cmp M.Digest.cmp M.encoding M.digest_of M.reading)
             (over S.may_answer T.Job.is_of O.Outlet N.Sender V.Receiver B.Provider Q.Requests)
-            W.seen (ready_engine self, self.network) result.cause result.failure result.metrics
+            W.seen (moment (ready_engine self) self.network)
+            result.cause result.failure result.metrics
             self.observer result.observer (turn.Ended result.cause ∷ []) }
     {
         let Ready {
@@ -171,7 +173,8 @@ where
         ensures took { OnOk result (ShowsPolls
             (format_of P.cmp M.Digest.cmp M.encoding M.digest_of M.reading)
             (over S.may_answer T.Job.is_of O.Outlet N.Sender V.Receiver B.Provider Q.Requests)
-            W.seen (self.old.engine, self.old.network) (self.new.engine, self.new.network)
+            W.seen (moment self.old.engine self.old.network)
+            (moment self.new.engine self.new.network)
             self.old.observer self.new.observer) }
         ensures settled { OnOk result (self.new.engine.end ≡ None
             → self.new.engine.job ≡ None) }
@@ -202,7 +205,7 @@ where
         ensures runs { ShowsRun
             (format_of P.cmp M.Digest.cmp M.encoding M.digest_of M.reading)
             (over S.may_answer T.Job.is_of O.Outlet N.Sender V.Receiver B.Provider Q.Requests)
-            W.seen (self.engine, self.network) result.2 result.3 result.0.node.metrics
+            W.seen (moment self.engine self.network) result.2 result.3 result.0.node.metrics
             self.observer result.1 [] }
         ensures ends { result.0.end ≡ Some result.2 }
     {

@@ -1,15 +1,18 @@
 //! A client of a session.
 ghost use Rattle.std.specs.Prelude.{◌≡◌, IfOk, OnErr};
 ghost use Rattle.broadcast_mailbox.specs.Account.{TallyState, capped, is_taken_up, tallied};
-ghost use Rattle.broadcast_mailbox.specs.declared.buffered.ingress.watch.Kind.TheVariants as kind;
+ghost use Rattle.broadcast_mailbox.specs.declared.buffered.ingress.message.Kind.TheVariants as kind;
 
+use crate::buffered::started::Control;
 use broadcast_core::{Digested, Digestible, PublicKey, Recipients};
 use broadcast_mailbox::buffered::{
-    Account, Bookkeeping, Books, Get, Incoming, Mailbox, Stopper, Subscription, Tally, Watch,
+    Account, Bookkeeping, Books, Get, Mailbox, Subscription, Tally, Watch,
 };
 use broadcast_mailbox::{Feedback, MailboxError};
-use std::alloc::AllocError;
+use engine_io::{Metrics, MetricsError};
+use std::alloc::{AllocError, AllocGlobal};
 use std::marker::Model;
+use std::random::RandomSource;
 use std::sync::{Arc, Wait};
 
 /// A client of a node, whose mailbox has the account `B`. It makes requests, and counts those that
@@ -112,9 +115,18 @@ where
         self.tally.accepted()
     }
 
+    /// Returns a copy of the counters that the engine has now, as
+    /// [`Handle::metrics`](crate::buffered::Handle::metrics) does.
+    pub fn metrics(&self, rt: &R) -> Result<Metrics<P>, MetricsError>
+    where
+        R: RandomSource + AllocGlobal,
+    {
+        self.ends.control.metrics(rt)
+    }
+
     /// Asks the engine to stop. Does not wait for its end.
     pub fn stop(&self) {
-        self.ends.stopper.request_stop();
+        self.ends.control.request_stop();
     }
 }
 
@@ -122,7 +134,7 @@ where
 #[derive(Drop)]
 pub(super) struct Ends<P: PublicKey, M: Digestible, R, B: Bookkeeping> {
     pub mailbox: Mailbox<P, M, R, B>,
-    pub stopper: Arc<Stopper<Incoming<P, M>, R, B>>,
+    pub control: Arc<Control<P, M, R, B>>,
 }
 
 /// What the clients of a node that counts requests reach it by.
@@ -137,7 +149,7 @@ impl<P: PublicKey, M: Digestible, R: Clone, B: Bookkeeping> Clone for Ends<P, M,
     fn clone(&self) -> Result<Self, AllocError> {
         Ok(Ends {
             mailbox: self.mailbox.clone()?,
-            stopper: Arc::try_clone(&self.stopper)?,
+            control: Arc::try_clone(&self.control)?,
         })
     }
 }

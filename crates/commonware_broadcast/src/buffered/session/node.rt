@@ -10,13 +10,11 @@ use super::threads::{abandon, join_clients, run_client, start_others};
 use super::{Finished, Session};
 use crate::buffered::config::{Config, Observed};
 use crate::buffered::engine::{Engine, StartError};
-use crate::buffered::front::{WatchedEngine, WatchedNode};
+use crate::buffered::front::WatchedNode;
 use crate::buffered::runtime::Runtime;
 use crate::buffered::started::{Handle, MailboxReport};
 use broadcast_core::{Codec, Digestible, PublicKey};
-use broadcast_mailbox::buffered::{
-    Account, Bookkeeping, Books, Incoming, Ingress, Stopper, Tally, Watch,
-};
+use broadcast_mailbox::buffered::{Account, Bookkeeping, Books, Mailbox, Tally, Watch};
 use digest_strategies::Strategy;
 use engine_io::{Observer, Provider, Receiver, Sender};
 use std::alloc::{AllocError, AllocGlobal, Global};
@@ -77,13 +75,14 @@ where
             drop::<_>((network, session, outputs, observer));
             return Err(StartError::Memory);
         };
-        let (engine, ends, tally) = made;
-        match engine.start_with(rt, network, observer) {
-            Ok(handle) => {
+        let (engine, mailbox, tally) = made;
+        let started = engine.start_with(rt, network, observer);
+        match reach(rt, started, mailbox) {
+            Ok((handle, ends)) => {
                 play::<P, S, M, R, W, A, K>(rt, handle, ends, session, outputs, tally, clients)
             }
             Err(error) => {
-                drop::<_>((ends, session, outputs, tally));
+                drop::<_>((session, outputs, tally));
                 Err(error)
             }
         }
@@ -108,22 +107,15 @@ where
     Ok((Arc::new(alloc, session)?, outputs))
 }
 
-/// An engine, what its clients reach it by, and the tally that has all parts.
-type Made<P, M, B, T, R, A, K, W> = (
-    WatchedEngine<P, M, B, T, R, A, K, W>,
-    WatchedEnds<P, M, R, A, K, W>,
-    Tally<A>,
-);
-
 impl<P: PublicKey, C: Drop, B: Drop, T: Drop> Config<P, C, B, T> {
-    /// Creates an engine and what its clients reach it by.
+    /// Creates an engine, its mailbox, and the tally that has all parts.
     fn make<M, R, A, K, V>(
         self,
         rt: &R,
         clients: NonZeroU32,
         accepted: Blank,
         taken: Blank,
-    ) -> Result<Made<P, M, B, T, R, A, K, V>, AllocError>
+    ) -> Result<WatchedNode<P, M, B, T, R, A, K, V>, AllocError>
     where
         M: Digestible + Codec<Cfg = C>,
         T: Strategy<M>,
@@ -141,37 +133,40 @@ impl<P: PublicKey, C: Drop, B: Drop, T: Drop> Config<P, C, B, T> {
             drop::<_>(self);
             return Err(AllocError);
         };
-        let node: WatchedNode<P, M, B, T, R, A, K, V> = Engine::new_watched(
-            own,
-            rt.alloc(),
-            self,
-            clients,
-            accepted,
-            taken,
-        )?;
-        let (engine, mailbox, tally) = node;
-        match share_stopper(rt.alloc(), engine.requests()) {
-            Ok(stopper) => Ok((engine, Ends { mailbox, stopper }, tally)),
-            Err(error) => {
-                drop::<_>((engine, mailbox, tally));
-                Err(error)
-            }
-        }
+        Engine::new_watched(own, rt.alloc(), self, clients, accepted, taken)
     }
 }
 
-/// Creates a stopper of an engine that takes these requests, for all of its clients.
-fn share_stopper<P, M, R, A>(
-    alloc: Global,
-    requests: &Ingress<Incoming<P, M>, R, A>,
-) -> Result<Arc<Stopper<Incoming<P, M>, R, A>>, AllocError>
+/// Returns the handle of the started engine, and what each client reaches the engine by. After an
+/// error the engine has ended.
+fn reach<P, M, R, W, B>(
+    rt: &R,
+    started: Result<Handle<P, M, R, B, W>, StartError>,
+    mailbox: Mailbox<P, M, R, B>,
+) -> Result<(Handle<P, M, R, B, W>, Ends<P, M, R, B>), StartError>
 where
     P: PublicKey,
     M: Digestible,
-    R: Clone + Drop,
-    A: Bookkeeping,
+    R: Runtime,
+    W: Drop,
+    B: Bookkeeping,
 {
-    Ok(Arc::new(alloc, requests.stopper()?)?)
+    let handle = match started {
+        Ok(handle) => handle,
+        Err(error) => {
+            drop::<_>(mailbox);
+            return Err(error);
+        }
+    };
+    match handle.control() {
+        Ok(control) => Ok((handle, Ends { mailbox, control })),
+        Err(_) => {
+            drop::<_>(mailbox);
+            handle.stop();
+            drop::<_>(handle.join(rt));
+            Err(StartError::Memory)
+        }
+    }
 }
 
 /// Lets the clients use the started engine, and settles their account. If a client can't be

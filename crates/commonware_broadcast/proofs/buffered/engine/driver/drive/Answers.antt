@@ -3,6 +3,7 @@ use Rattle.broadcast_core.specs.Codec.{whole}
 use Rattle.broadcast_core.specs.Content.{same_by}
 use Rattle.engine_io.specs.Sources.{given}
 use Rattle.commonware_broadcast.specs.EngineHistory.{happenings, end_told}
+use Rattle.commonware_broadcast.specs.EngineState.{moment}
 use Rattle.commonware_broadcast.specs.Interfaces.{format, parties, interfaces}
 use Rattle.commonware_broadcast.specs.TakesSteps.{TellsEnd, AlwaysTakes}
 use Rattle.commonware_broadcast.specs.Polls.{Polls}
@@ -18,7 +19,7 @@ use Rattle.commonware_broadcast.proofs.buffered.engine.driver.drive.Goals as goa
 pub loop-poll-init : goal.loop-poll-init
 loop-poll-init g c = record {
   polls = λ count is. subst (λ n. Polls (format (same_by g.P.Ord.cmp g.M.Digest.Ord.cmp) g.M.Write.encoding g.M.Digestible.digest_of (λ cfg. whole (g.M.Read.reading cfg))) (interfaces (parties (λ w b. g.S.Responder.may_answer w.responder b) g.T.Job.Job.is_of g.O.Outlet) g.N.Sender g.R.Receiver g.B.Provider g.Q.Requests)
-      n (c.args.engine.now, c.args.network.now) (c.args.engine.now, c.args.network.now) c.in_ok-turns.turns.items) (sym is) (refl, c.in_ok-turns.ensures.items);
+      n (moment c.args.engine.now c.args.network.now) (moment c.args.engine.now c.args.network.now) c.in_ok-turns.turns.items) (sym is) (refl, c.in_ok-turns.ensures.items);
   priority = refl;
   codec_config = refl;
   strategy = refl;
@@ -41,8 +42,8 @@ loop-poll-preserved g c =
     let at = c.loop-poll.invariant in
     let going : c.poll.new.self.end ≡ None = none_is c.poll.new.self.end (ap (λ k. is_some k.end) (sym c.engine.view_is) ∙ sym c.is_some.ensures ∙ c.if-is_some.false) in record {
       polls = λ count is. subst (λ n. Polls (format (same_by g.P.Ord.cmp g.M.Digest.Ord.cmp) g.M.Write.encoding g.M.Digestible.digest_of (λ cfg. whole (g.M.Read.reading cfg))) (interfaces (parties (λ w b. g.S.Responder.may_answer w.responder b) g.T.Job.Job.is_of g.O.Outlet) g.N.Sender g.R.Receiver g.B.Provider g.Q.Requests)
-          n (c.args.engine.now, c.args.network.now) (c.poll.new.self, c.poll.new.network) c.push_reserved.new.self.items) (let next : suc c.loop-poll._poll ≡ count = omega (arith, is) in next)
-          (Polls-more c.loop-poll._poll (c.args.engine.now, c.args.network.now) (c.loop-poll.engine, c.loop-poll.network) (c.poll.new.self, c.poll.new.network) c.loop-poll.turns.items c.push_reserved.new.self.items
+          n (moment c.args.engine.now c.args.network.now) (moment c.poll.new.self c.poll.new.network) c.push_reserved.new.self.items) (let next : suc c.loop-poll._poll ≡ count = omega (arith, is) in next)
+          (Polls-more c.loop-poll._poll (moment c.args.engine.now c.args.network.now) (moment c.loop-poll.engine c.loop-poll.network) (moment c.poll.new.self c.poll.new.network) c.loop-poll.turns.items c.push_reserved.new.self.items
           (at.polls c.loop-poll._poll refl) (record { result = c.poll.result; polled = c.poll.ensures.polled; all = sym (ap (λ r. c.loop-poll.turns.items ++ given r) c.in-Ready.is ∙ sym c.push_reserved.ensures.items) }));
       priority = c.poll.ensures.polled.keeps_priority ∙ at.priority;
       codec_config = c.poll.ensures.polled.keeps_codec_config ∙ at.codec_config;
@@ -52,7 +53,7 @@ loop-poll-preserved g c =
       going = λ _. going;
       still = λ cause ended.
           let before : c.loop-poll.engine.end ≡ Some cause = ap (λ k. k.end) (at.still cause ended).1 ∙ ended in
-          absurd (let no : None ≡ Some cause = sym going ∙ ap (λ k. k.end) (c.poll.ensures.polled.same_after_end cause before).1 ∙ before in cc);
+          absurd (let no : None ≡ Some cause = sym going ∙ ap (λ k. k.engine.end) (c.poll.ensures.polled.same_after_end cause before).1 ∙ before in cc);
       none_ends = subst (λ l. All (λ t. end_told t ≡ None) l) (sym c.push_reserved.ensures.items) (All-push (λ t. end_told t ≡ None) c.loop-poll.turns.items c.in-Ready.turn at.none_ends
           (no_end c.in-Ready.turn (λ cause is. let no : None ≡ Some cause = sym going ∙ c.poll.ensures.polled.ends_as_told cause (c.in-Ready.is ∙ ap Ready is) in cc)));
       short = λ h. c.poll.ensures.kept _ (at.short (omega (arith, h, ap length c.push_reserved.ensures.items, length-append c.loop-poll.turns.items (c.in-Ready.turn ∷ []))));
@@ -64,8 +65,8 @@ loop-poll-preserved g c =
 pub loop-poll-preserved-in_default : goal.loop-poll-preserved-in_default
 loop-poll-preserved-in_default g c = let at = c.loop-poll.invariant in record {
   polls = λ count is. subst (λ n. Polls (format (same_by g.P.Ord.cmp g.M.Digest.Ord.cmp) g.M.Write.encoding g.M.Digestible.digest_of (λ cfg. whole (g.M.Read.reading cfg))) (interfaces (parties (λ w b. g.S.Responder.may_answer w.responder b) g.T.Job.Job.is_of g.O.Outlet) g.N.Sender g.R.Receiver g.B.Provider g.Q.Requests)
-      n (c.args.engine.now, c.args.network.now) (c.poll.new.self, c.poll.new.network) c.loop-poll.turns.items) (let next : suc c.loop-poll._poll ≡ count = omega (arith, is) in next)
-      (Polls-more c.loop-poll._poll (c.args.engine.now, c.args.network.now) (c.loop-poll.engine, c.loop-poll.network) (c.poll.new.self, c.poll.new.network) c.loop-poll.turns.items c.loop-poll.turns.items
+      n (moment c.args.engine.now c.args.network.now) (moment c.poll.new.self c.poll.new.network) c.loop-poll.turns.items) (let next : suc c.loop-poll._poll ≡ count = omega (arith, is) in next)
+      (Polls-more c.loop-poll._poll (moment c.args.engine.now c.args.network.now) (moment c.loop-poll.engine c.loop-poll.network) (moment c.poll.new.self c.poll.new.network) c.loop-poll.turns.items c.loop-poll.turns.items
       (at.polls c.loop-poll._poll refl) (record { result = c.poll.result; polled = c.poll.ensures.polled; all = sym (ap (λ r. c.loop-poll.turns.items ++ given r) c.in_default.is ∙ append-nil c.loop-poll.turns.items) }));
   priority = c.poll.ensures.polled.keeps_priority ∙ at.priority;
   codec_config = c.poll.ensures.polled.keeps_codec_config ∙ at.codec_config;
@@ -84,9 +85,9 @@ loop-poll-preserved-in_default g c = let at = c.loop-poll.invariant in record {
 pub returns-then-is_some-clause-took : goal.returns-then-is_some-clause-took
 returns-then-is_some-clause-took g c = let at = c.loop-poll.invariant in
     subst (λ l. AlwaysTakes (format (same_by g.P.Ord.cmp g.M.Digest.Ord.cmp) g.M.Write.encoding g.M.Digestible.digest_of (λ cfg. whole (g.M.Read.reading cfg))) (interfaces (parties (λ w b. g.S.Responder.may_answer w.responder b) g.T.Job.Job.is_of g.O.Outlet) g.N.Sender g.R.Receiver g.B.Provider g.Q.Requests)
-    (c.args.engine.now, c.args.network.now) (c.poll.new.self, c.poll.new.network) l) (sym c.push_reserved.ensures.items)
+    (moment c.args.engine.now c.args.network.now) (moment c.poll.new.self c.poll.new.network) l) (sym c.push_reserved.ensures.items)
     (λ s is past has before held.
-    let begun = Polls-take c.loop-poll._poll (c.args.engine.now, c.args.network.now) (c.loop-poll.engine, c.loop-poll.network) c.loop-poll.turns.items (at.polls c.loop-poll._poll refl) at.none_ends s is past has before held in
+    let begun = Polls-take c.loop-poll._poll (moment c.args.engine.now c.args.network.now) (moment c.loop-poll.engine c.loop-poll.network) c.loop-poll.turns.items (at.polls c.loop-poll._poll refl) at.none_ends s is past has before held in
     TakesSteps-more at.unended begun (rw c.in-Ready.is at
     (c.poll.ensures.polled.took s (IsSetting-later is at.codec_config at.priority) (happenings begun.steps ++ past) begun.ran.content begun.pending begun.held).took))
 
@@ -105,12 +106,12 @@ returns-then-is_some-clause-same_after_end g c = λ cause ended.
     let same = c.poll.ensures.polled.same_after_end cause before in
     let told : c.in-Ready.turn ≡ Ended cause = (let e : Ready c.in-Ready.turn ≡ Ready (Ended cause) = sym c.in-Ready.is ∙ same.0 in cc) in
     let none : c.loop-poll.turns.items ≡ [] = none_listed c.loop-poll.turns.items (omega (arith, at.few, still.0)) in
-    (same.1 ∙ still.1, same.2 ∙ still.2, λ _. c.push_reserved.ensures.items ∙ ap (λ l. l ++ c.in-Ready.turn ∷ []) none ∙ ap (λ t. t ∷ []) told)
+    (ap (λ k. k.engine) same.1 ∙ still.1, ap (λ k. (k.sender, k.receiver)) same.1 ∙ still.2, λ _. c.push_reserved.ensures.items ∙ ap (λ l. l ++ c.in-Ready.turn ∷ []) none ∙ ap (λ t. t ∷ []) told)
 
 pub returns-then-is_some-clause-drives : goal.returns-then-is_some-clause-drives
 returns-then-is_some-clause-drives g c = let at = c.loop-poll.invariant in record {
   count = suc c.loop-poll._poll;
-  polls = Polls-more c.loop-poll._poll (c.args.engine.now, c.args.network.now) (c.loop-poll.engine, c.loop-poll.network) (c.poll.new.self, c.poll.new.network) c.loop-poll.turns.items c.push_reserved.new.self.items
+  polls = Polls-more c.loop-poll._poll (moment c.args.engine.now c.args.network.now) (moment c.loop-poll.engine c.loop-poll.network) (moment c.poll.new.self c.poll.new.network) c.loop-poll.turns.items c.push_reserved.new.self.items
       (at.polls c.loop-poll._poll refl) (record { result = c.poll.result; polled = c.poll.ensures.polled; all = sym (ap (λ r. c.loop-poll.turns.items ++ given r) c.in-Ready.is ∙ sym c.push_reserved.ensures.items) });
   at_most = omega (arith, c.loop-poll-test.true);
   all_unless_ended = λ none. absurd (let no : true ≡ false = sym c.if-is_some.true ∙ c.is_some.ensures ∙ ap (λ k. is_some k.end) c.engine.view_is ∙ ap is_some none in cc);
@@ -118,7 +119,7 @@ returns-then-is_some-clause-drives g c = let at = c.loop-poll.invariant in recor
 
 pub returns-clause-took : goal.returns-clause-took
 returns-clause-took g c = let at = c.loop-poll.invariant in
-    Polls-take c.loop-poll._poll (c.args.engine.now, c.args.network.now) (c.loop-poll.engine, c.loop-poll.network) c.loop-poll.turns.items (at.polls c.loop-poll._poll refl) at.none_ends
+    Polls-take c.loop-poll._poll (moment c.args.engine.now c.args.network.now) (moment c.loop-poll.engine c.loop-poll.network) c.loop-poll.turns.items (at.polls c.loop-poll._poll refl) at.none_ends
 
 pub returns-clause-drives : goal.returns-clause-drives
 returns-clause-drives g c = record {

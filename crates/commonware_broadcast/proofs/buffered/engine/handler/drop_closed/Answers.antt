@@ -26,6 +26,6 @@ returns-clause-cleaned g c = λ s e past has.
     (λ f w. elim (c.take_closed.ensures.only_if c.if-take_closed.false (Subscribe d w.responder)) [
       | inl stays ↦ stays
       | inr asked ↦
-          absurd (let both : true ≡ false = not-among (eq_by_cmp g.M.Digest.Ord.cmp d) _ _ _ (c.add_applied.ensures c.if-add_applied.false) asked (ap (λ ds. list_any (eq_by_cmp g.M.Digest.Ord.cmp d) ds) (sym c.as_slice.ensures.value) ∙ f) in cc)
+          absurd (let both : true ≡ false = not-among (eq_by_cmp g.M.Digest.Ord.cmp d) _ _ _ (c.add_applied.ensures.named c.if-add_applied.false) asked (ap (λ ds. list_any (eq_by_cmp g.M.Digest.Ord.cmp d) ds) (sym c.as_slice.ensures.value) ∙ f) in cc)
     ]))
     c.cleanup_each.ensures.distinct c.cleanup_each.ensures.distinct_left c.cleanup_each.ensures.removed

@@ -27,5 +27,11 @@ returns-in-Ok-clause-handled g c = λ s e encodes past has.
       replied = serves.hands.handed;
     }) (ap (λ o. turn.Payload p m.digest o ∷ []) (sym turned) ∙ ap (λ d. turn.Payload p d c.in-Ok.outcome ∷ []) (sym c.digest.ensures))
 
+pub returns-in-Ok-clause-counts_no_payload : goal.returns-in-Ok-clause-counts_no_payload
+returns-in-Ok-clause-counts_no_payload g c = ap (λ (k : Counters g.row.P.Denot). k.peer) (c.count_received.ensures) ∙ ap (λ (k : Counters g.row.P.Denot). k.peer) c.in-Ok.ensures.serves.hands.counted
+
+pub returns-clause-counts_no_payload : goal.returns-clause-counts_no_payload
+returns-clause-counts_no_payload g c = ap (λ n. n.metrics.peer) c.in-Err.ensures.unchanged_on_error
+
 pub returns-clause-handled : goal.returns-clause-handled
 returns-clause-handled g c = λ s e encodes past has. Handles-refused has c.in-Err.ensures.unchanged_on_error tt

@@ -1,4 +1,5 @@
 use Rattle.std.proofs.Common.{◌≡◌, Some, IfOk, IfErr, refl, sym, ap, subst, append-nil, ◌++◌}
+use Rattle.commonware_broadcast.specs.EngineState.{moment}
 use Rattle.commonware_broadcast.specs.Polls.{unended}
 use Rattle.commonware_broadcast.proofs.buffered.engine.running.Running.run_until_end.Goals as goal
 
@@ -19,7 +20,7 @@ returns-in-Err-clause-runs g c = let did = c.run_to_end-running.ensures.took in 
     last = _;
     took = did.took;
     counters = c.end.ensures.counts_none;
-    caused = (refl, ap (λ r. (r.engine, r.network)) (subst (λ r. IfErr r (λ failure. c.run_to_end-running.result.0 ≡ c.args.self)) c.in-Err.is c.run_to_end-running.ensures.unchanged_on_error));
+    caused = (refl, ap (λ r. (moment r.engine r.network)) (subst (λ r. IfErr r (λ failure. c.run_to_end-running.result.0 ≡ c.args.self)) c.in-Err.is c.run_to_end-running.ensures.unchanged_on_error));
   };
   shown = λ turns h. subst (g.W.Observer.seen c.run_to_end-running.result.0.observer) (sym (append-nil (turns ++ unended did.took.turns))) (did.shown turns h);
 }

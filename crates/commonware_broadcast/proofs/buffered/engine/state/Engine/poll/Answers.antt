@@ -14,7 +14,7 @@ pub returns-in-Some-clause-polled : goal.returns-in-Some-clause-polled
 returns-in-Some-clause-polled g c = rw (← c.self.view_is) (record {
   took = λ s is past has before held. PollsOnce-ended has held c.in-Some.is refl;
   attends = λ lives. absurd (let no : None ≡ Some c.in-Some.cause = sym lives ∙ c.in-Some.is in cc);
-  same_after_end = λ cause ended. (let same : Some c.in-Some.cause ≡ Some cause = sym c.in-Some.is ∙ ended in cc, refl, refl);
+  same_after_end = λ cause ended. (let same : Some c.in-Some.cause ≡ Some cause = sym c.in-Some.is ∙ ended in cc, refl);
   tells_its_end = λ cause ended. let same : Some c.in-Some.cause ≡ Some cause = sym c.in-Some.is ∙ ended in cc;
   ends_as_told = λ cause told. let same : Ready (turn.Ended c.in-Some.cause) ≡ Ready (turn.Ended cause) = told in let is = c.in-Some.is in cc;
   keeps_priority = refl;
@@ -27,7 +27,7 @@ returns-in-Stop-clause-polled g c = rw (← c.self.view_is) (
     let over = c.end.ensures.keeps_all_else in
     IsPoll-open c.in_default.is (ap (λ e. e.end) over)
     (λ s is past has before held. PollsOnce-stopped (c.end.ensures.ended s is.same past has)
-    (ap (λ e. e.end) over) (ap (λ e. e.job) over) (ap (λ e. e.provider) over) refl (λ told h. c.end.ensures.tells told (c.comes_first.ensures.tells told h))
+    (ap (λ e. e.end) over) (ap (λ e. e.job) over) (ap (λ e. e.provider) over) refl refl (λ told h. c.end.ensures.tells told (c.comes_first.ensures.tells told h))
     (λ told h. c.end.ensures.tells_outcomes told (c.comes_first.ensures.ended told h)))
     (record {
       stop_first = λ stops. refl;
@@ -52,7 +52,7 @@ returns-in-Job-clause-polled g c = rw (← c.self.view_is) (
     IsPoll-open c.in_default.is (ap (λ e. e.end) keeps ∙ c.in_default.is ∙ sym c.poll_job.ensures.tells_no_end)
     (λ s is past has before held. PollsOnce-job had.0
     (Holds-open g.T.Job.Job.is_of c.self.inside.end c.self.inside.job before c.in_default.is held) (λ m of_job. c.poll_job.ensures.arrives m of_job s is past has)
-    (ap (λ e. e.end) keeps ∙ c.in_default.is) (ap (λ e. e.provider) keeps) refl (Gave-none (ap (λ e. e.provider) keeps)
+    (ap (λ e. e.end) keeps ∙ c.in_default.is) (ap (λ e. e.provider) keeps) refl refl (Gave-none (ap (λ e. e.provider) keeps)
     (λ told h. subst (λ q. g.Q.Requests.told q told) (sym (ap (λ e. e.requests) keeps)) (c.comes_first.ensures.tells told h))
     (λ told h. subst (λ q. g.Q.Requests.ended q told) (sym (ap (λ e. e.requests) keeps)) (c.comes_first.ensures.ended told h)) refl))
     (record {

@@ -6,7 +6,7 @@ use Rattle.commonware_broadcast.proofs.buffered.engine.state.Engine.poll_job.Goa
 
 pub returns-in-Pending-clause-arrives : goal.returns-in-Pending-clause-arrives
 returns-in-Pending-clause-arrives g c = λ m of_job. rw (← c.self.view_is) (λ s is past has.
-    Arrives-pending has refl (_, refl, c.poll.ensures.stays m of_job))
+    Arrives-pending has refl (_, refl, c.in-Pending.ensures.stays m of_job))
 
 pub returns-in-Ready-clause-arrives : goal.returns-in-Ready-clause-arrives
 returns-in-Ready-clause-arrives g c = λ m of_job. rw (← c.self.view_is) (λ s is past has.

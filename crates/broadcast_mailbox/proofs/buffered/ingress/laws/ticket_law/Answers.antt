@@ -1,5 +1,0 @@
-use Rattle.broadcast_mailbox.proofs.TicketRuns.{IsLawful-Runs}
-use Rattle.broadcast_mailbox.proofs.buffered.ingress.laws.ticket_law.Goals as goal
-
-pub returns : goal.returns
-returns g c = IsLawful-Runs g.T.Closable.may_answer

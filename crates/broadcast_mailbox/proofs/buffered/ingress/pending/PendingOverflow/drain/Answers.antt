@@ -1,5 +1,0 @@
-use Rattle.std.proofs.Common.{rules}
-use Rattle.broadcast_mailbox.proofs.buffered.ingress.pending.PendingOverflow.drain.Goals as goal
-
-pub returns : goal.returns
-returns g c = search rules

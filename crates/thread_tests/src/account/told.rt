@@ -1,0 +1,169 @@
+//! What a client of a session is told of its broadcasts, and to whom they are sent.
+ghost use Rattle.std.specs.Prelude.{⊤};
+
+use super::quiet::{Gives, Sets, Wire, config};
+use crate::patient::{LIMIT, pause};
+use broadcast_core::{Items, Recipients, Sent, TestMessage};
+use broadcast_mailbox::{Feedback, MailboxError};
+use commonware_broadcast::buffered::{
+    Account, All, Finished, Runtime, Sender, Sequential, Session, WatchedClient,
+};
+use memory_node::support::message::{To, digest, digested, recipients, sending};
+use std::alloc::{AllocError, AllocGlobal, Global};
+use std::num::NonZeroU32;
+use std::random::RandomSource;
+use std::sync::atomic::{AtomicBool, Ordering};
+use std::sync::{Arc, Mutex, Wait};
+use std::test::Fail;
+use std::time::Clock;
+
+/// The recipients of a message, its letter, and what a client is told of its broadcast.
+struct Row(To, u8, Feedback);
+
+/// The first one is taken by the engine, and the second one has the only place of the ready list.
+static ROWS: [Row; 3] = [
+    Row(To::One(5), b'a', Feedback::Ok),
+    Row(To::Some(&[5, 6]), b'b', Feedback::Ok),
+    Row(To::All, b'c', Feedback::Backoff),
+];
+
+fn rows() -> &'static [Row] {
+    &ROWS
+}
+
+/// What an engine sent, and whether its first send may end.
+#[derive(Drop)]
+struct Record {
+    sent: Mutex<Vec<Sent<u64>>>,
+    goes_on: AtomicBool,
+}
+
+impl Record {
+    /// Creates the record of an engine that has sent nothing.
+    fn new(alloc: Global) -> Result<Arc<Record>, AllocError> {
+        let record = Record {
+            sent: Mutex::new(Vec::new(alloc)),
+            goes_on: AtomicBool::new(false),
+        };
+        Ok(Arc::new(alloc, record)?)
+    }
+
+    /// Waits until the engine sends.
+    fn wait_for_send<R: Wait + Clock>(&self, rt: &R) {
+        for _ in 0..LIMIT {
+            if self.sent.lock(rt).len() > 0 {
+                return;
+            }
+            pause(rt);
+        }
+    }
+
+    /// Waits until the engine may go on.
+    fn wait(&self, clock: &impl Clock) {
+        for _ in 0..LIMIT {
+            if self.goes_on.load(Ordering::SeqCst) {
+                return;
+            }
+            pause(clock);
+        }
+    }
+}
+
+/// Records what is sent. Its first send lasts until the client has made its broadcasts.
+#[derive(Drop)]
+struct Recorder<R> {
+    record: Arc<Record>,
+    rt: R,
+}
+
+impl<R: Wait + Clock> Sender<u64> for Recorder<R> {
+    fn send(&mut self, recipients: Recipients<u64>, bytes: Vec<u8>, priority: bool)
+        ensures { ⊤ }
+    {
+        let sent = Sent {
+            recipients,
+            bytes: Items::from_vec(bytes),
+            priority,
+        };
+        let _recorded = self.record.sent.lock(&self.rt).push(sent);
+        self.record.wait(&self.rt);
+    }
+}
+
+/// A session whose client makes the broadcasts of all rows.
+#[derive(Drop)]
+struct Broadcasting<R> {
+    record: Arc<Record>,
+    rt: R,
+}
+
+/// What a client is told of its broadcasts.
+type Told = Result<Vec<Feedback>, MailboxError>;
+
+impl<R> Session<u64, TestMessage, R> for Broadcasting<R>
+where
+    R: Wait + Clock + RandomSource + AllocGlobal,
+{
+    type Watch = All;
+
+    type Output = Told;
+
+    fn run<A: Account, K: Account>(
+        &self,
+        _number: u32,
+        client: &mut WatchedClient<u64, TestMessage, R, A, K, All>,
+    ) -> Told {
+        let alloc = self.rt.alloc();
+        let mut told = Vec::new(alloc);
+        for row in rows() {
+            let Row(to, letter, _) = row;
+            let message = digested(alloc, *letter, *letter)?;
+            told.reserve(1)?;
+            told.push_reserved(client.broadcast(recipients(alloc, *to)?, message)?);
+            self.record.wait_for_send(&self.rt);
+        }
+        self.record.goes_on.store(true, Ordering::SeqCst);
+        // Requests are taken in order, so the broadcasts are applied before this one.
+        let get = client.get(digest(alloc, b'a')?)?;
+        drop::<_>(get.wait(&self.rt));
+        Ok(told)
+    }
+}
+
+/// Runs the session. Returns what its client was told, and what its engine sent.
+fn run<R>(rt: &R) -> Result<(Vec<Feedback>, Arc<Record>), Fail>
+where
+    R: Runtime,
+{
+    let record = Record::new(rt.alloc())?;
+    let session = Broadcasting {
+        record: Arc::try_clone(&record)?,
+        rt: rt.clone()?,
+    };
+    let sender = Recorder {
+        record: Arc::try_clone(&record)?,
+        rt: rt.clone()?,
+    };
+    let config = config(Sets::new(rt.alloc(), Gives::Nothing)?, Sequential);
+    let network = (sender, Wire::new(rt.alloc(), Gives::Nothing)?);
+    let finished = config.run_session(rt, network, NonZeroU32::MIN, session, ())?;
+    let Finished { mut outputs, .. } = finished;
+    match outputs.pop() {
+        Some(told) => Ok((told?, record)),
+        None => Err("no client leaves anything")?,
+    }
+}
+
+#[test]
+fn a_client_is_told_of_its_broadcasts(rt: HostRuntime) -> Result<(), Fail> {
+    let (told, record) = run(&rt)?;
+    let sent = record.sent.lock(&rt);
+    assert_eq!(rt; (told.len(), sent.len()), (rows().len(), rows().len()));
+    for (place, row) in rows().iter().enumerate() {
+        let Row(to, letter, feedback) = row;
+        assert_eq!(rt; told.get(place), Some(feedback), "row {place}");
+        let expected = sending(rt.alloc(), *to, *letter, false)?;
+        assert_eq!(rt; sent.get(place), Some(&expected), "row {place}");
+    }
+    Ok(())
+}
