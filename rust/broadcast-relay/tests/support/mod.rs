@@ -16,7 +16,7 @@ use std::path::{Path, PathBuf};
 use std::process::{self, Child, ChildStdin, Command, Stdio};
 use std::sync::atomic::{AtomicU32, Ordering};
 use std::sync::{Arc, Mutex};
-use std::thread::{panicking, sleep, spawn};
+use std::thread::{JoinHandle, panicking, sleep, spawn};
 use std::time::{Duration, Instant};
 
 pub const RELAY: &str = env!("CARGO_BIN_EXE_broadcast-relay");
@@ -72,6 +72,8 @@ pub struct Relay {
     process: Option<Child>,
     input: Option<ChildStdin>,
     printed: Arc<Mutex<Vec<Printed>>>,
+    /// Reads what is printed, until the process has ended.
+    reader: Option<JoinHandle<()>>,
 }
 
 /// A port that is free, and below those that the system gives to whoever connects: a stranger would take one of these before
@@ -136,6 +138,7 @@ impl Relay {
             process: None,
             input: None,
             printed: Arc::default(),
+            reader: None,
         }
     }
 
@@ -181,7 +184,7 @@ impl Relay {
         self.input = process.stdin.take();
         let output = process.stdout.take().unwrap();
         let printed = self.printed.clone();
-        spawn(move || {
+        let reader = spawn(move || {
             for line in BufReader::with_capacity(1 << 18, output).lines().map_while(Result::ok) {
                 let at = Instant::now();
                 let mut words = line.splitn(3, ' ').map(str::to_owned);
@@ -192,6 +195,7 @@ impl Relay {
                 }
             }
         });
+        self.reader = Some(reader);
         self.process = Some(process);
         self.wait_until_it_listens();
     }
@@ -248,21 +252,30 @@ impl Relay {
         assert!(status.unwrap().success());
     }
 
-    /// SIGKILL.
+    /// SIGKILL. What it had printed is read then.
     pub fn kill(&mut self) {
         let mut process = self.process.take().unwrap();
         process.kill().unwrap();
         process.wait().unwrap();
         self.input = None;
+        self.read_all();
     }
 
-    /// SIGTERM. Returns whether it ended with success in time.
+    /// Waits until all is read that a process printed before it ended.
+    fn read_all(&mut self) {
+        if let Some(reader) = self.reader.take() {
+            let _ = reader.join();
+        }
+    }
+
+    /// SIGTERM. Returns whether it ended with success in time. What it printed is read then.
     pub fn terminate(&mut self) -> bool {
         self.signal("-TERM");
         let mut process = self.process.take().unwrap();
         let end = Instant::now() + Duration::from_secs(8);
         while Instant::now() < end {
             if let Some(status) = process.try_wait().unwrap() {
+                self.read_all();
                 return status.success();
             }
             sleep(Duration::from_millis(10));
