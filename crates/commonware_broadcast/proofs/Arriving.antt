@@ -15,7 +15,7 @@ use Rattle.engine_io.specs.Replies.{Asker}
 use Rattle.commonware_broadcast.specs.declared.buffered.engine.node.Node.{Node}
 use Rattle.commonware_broadcast.specs.AppliesSteps.{AppliesSteps, Handles, Replying, replying}
 use Rattle.commonware_broadcast.specs.Arrives.{Arrival, Arrives, IsRemote, payload_of, message_of, input_of, reader_of}
-use Rattle.commonware_broadcast.specs.EngineHistory.{Step, decoded, uncounted, inputs, read_from}
+use Rattle.commonware_broadcast.specs.EngineHistory.{Step, decoded, uncounted, inputs}
 use Rattle.commonware_broadcast.specs.EngineState.{EngineState}
 use Rattle.commonware_broadcast.specs.Interfaces.{Parties}
 use Rattle.commonware_broadcast.specs.Taken.{pending_input, HoldsJob}

@@ -57,9 +57,9 @@ module _ {P D : Type 0} where
   later (Ready t) rest none = All-tail (λ (x : Turn P D). end_told x ≡ None) t rest none
   later Pending rest none = none
 
-module _ {P M D S G O J N R B Q C T : Type 0} {f : Format P M D C} {i : Interfaces P M D S G O J N R B Q} where
+module _ {P M D S G O J N V B Q C T : Type 0} {f : Format P M D C} {i : Interfaces P M D S G O J N V B Q} where
   -- the steps of polls of which none ended the engine
-  pub Polls-take : (count : ℕ) (old new : Moment P M S O D J B Q C T N R) (turns : List (Turn P D)) → Polls f i count old new turns
+  pub Polls-take : (count : ℕ) (old new : Moment P M S O D J B Q C T N V) (turns : List (Turn P D)) → Polls f i count old new turns
       → All (λ t. end_told t ≡ None) turns → AlwaysTakes f i old new turns
   Polls-take zero old new turns polls none = λ s has_format past has before held.
       subst (λ n. TakesSteps s i past before old n turns) (sym polls.0)

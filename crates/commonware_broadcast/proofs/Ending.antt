@@ -1,26 +1,51 @@
 -- The causes of ends.
-use Rattle.std.proofs.Common.{◌≡◌, None, Some, sym, ap, ◌∙◌}
+use Rattle.std.proofs.Common.{◌≡◌, true, false, List, None, Some, Result, Ok, Err, refl, sym, ap, ◌∙◌, subst}
+use Rattle.futures.specs.Poll.{OnPending}
 use Rattle.futures.specs.declared.task.Poll.{Poll}
 use Rattle.futures.specs.declared.task.Poll.TheVariants.{Ready, Pending}
 use Rattle.engine_io.specs.declared.input.EndCause.{EndCause}
 use Rattle.engine_io.specs.declared.input.EndCause.TheVariants.{Stopped, PeersClosed, NetworkFailed, WaitFailed}
+use Rattle.engine_io.specs.declared.input.Input.{Input}
+use Rattle.engine_io.specs.declared.input.Input.TheVariants as input
 use Rattle.engine_io.specs.declared.input.Turn.{Turn}
 use Rattle.engine_io.specs.declared.input.Turn.TheVariants as turn
 use Rattle.engine_io.specs.Causes.{HasCause}
+use Rattle.commonware_broadcast.specs.declared.buffered.engine.first.First.{First}
+use Rattle.commonware_broadcast.specs.declared.buffered.engine.first.First.TheVariants.{Stop, Sources}
 use Rattle.commonware_broadcast.specs.EngineHistory.{end_told}
 use Rattle.commonware_broadcast.specs.EngineState.{EngineState, Moment}
 use Rattle.commonware_broadcast.specs.Interfaces.{Format, Interfaces}
-use Rattle.commonware_broadcast.specs.Order.{IfNetwork, end_in}
+use Rattle.commonware_broadcast.specs.FirstSource.{UnlessPeerSet}
+use Rattle.commonware_broadcast.specs.Order.{UnlessPeers, IfNetwork, end_in}
 use Rattle.commonware_broadcast.specs.Polls.{Attends, IsPoll}
 use Rattle.commonware_broadcast.specs.TakesSteps.{PollsOnce, Always}
 
--- a cause stays where more may be one
-pub HasCause-weaker : (asked ended failed more_asked more_ended more_failed : Type 0) → (asked → more_asked) → (ended → more_ended) → (failed → more_failed)
-    → (cause : EndCause) → HasCause cause asked ended failed → HasCause cause more_asked more_ended more_failed
-HasCause-weaker a o f a' o' f' on_a on_e on_f Stopped h = on_a h
-HasCause-weaker a o f a' o' f' on_a on_e on_f PeersClosed h = on_e h
-HasCause-weaker a o f a' o' f' on_a on_e on_f NetworkFailed h = on_f h
-HasCause-weaker a o f a' o' f' on_a on_e on_f WaitFailed h = h
+-- the end of the peer sets is a cause
+pub ended_peers : (asked ended failed : Type 0) (cause : EndCause) → HasCause cause ⊥ ended ⊥ → HasCause cause asked ended failed
+ended_peers asked ended failed Stopped h = absurd h
+ended_peers asked ended failed PeersClosed h = h
+ended_peers asked ended failed NetworkFailed h = absurd h
+ended_peers asked ended failed WaitFailed h = h
+
+-- what can't be
+pub no_true : {A : Type 0} → false ≡ true → A
+no_true h = absurd (let no : false ≡ true = h in cc)
+
+pub no_ready : {A X : Type 0} {x : X} → Pending ≡ Ready x → A
+no_ready {A} {X} {x} h = absurd (let no : Pending ≡ Ready x = h in cc)
+
+pub no_error : {A X E : Type 0} {x : X} {e : E} → Ready (Ok x) ≡ Ready (Err e) → A
+no_error {A} {X} {E} {x} {e} h = absurd (let no : ◌≡◌ {A = Poll (Result X E)} (Ready (Ok x)) (Ready (Err e)) = h in cc)
+
+pub no_stop : {A P J : Type 0} → ◌≡◌ {A = First P J} Sources Stop → A
+no_stop {A} {P} {J} h = absurd (let no : ◌≡◌ {A = First P J} Sources Stop = h in cc)
+
+-- what is the same
+pub same_error : {X E : Type 0} {e f : E} → ◌≡◌ {A = Poll (Result X E)} (Ready (Err e)) (Ready (Err f)) → e ≡ f
+same_error {X} {E} {e} {f} h = let same : ◌≡◌ {A = Poll (Result X E)} (Ready (Err e)) (Ready (Err f)) = h in cc
+
+pub same_cause : {P D : Type 0} {cause other : EndCause} → ◌≡◌ {A = Poll (Turn P D)} (Ready (turn.Ended cause)) (Ready (turn.Ended other)) → cause ≡ other
+same_cause {P} {D} {cause} {other} h = let same : ◌≡◌ {A = Poll (Turn P D)} (Ready (turn.Ended cause)) (Ready (turn.Ended other)) = h in cc
 
 module _ {P D : Type 0} where
   -- a poll that tells no end is that of none
@@ -48,8 +73,8 @@ pub record Keeps {P M S O D J B Q C T : Type 0} (old new : EngineState P M S O D
   pub codec_config : new.codec_config ≡ old.codec_config
   pub strategy : new.strategy ≡ old.strategy
 
-module _ {P M D S G O J N R B Q C T : Type 0} {f : Format P M D C} {i : Interfaces P M D S G O J N R B Q}
-    {old new : Moment P M S O D J B Q C T N R} {result : Poll (Turn P D)} where
+module _ {P M D S G O J N V B Q C T : Type 0} {f : Format P M D C} {i : Interfaces P M D S G O J N V B Q}
+    {old new : Moment P M S O D J B Q C T N V} {result : Poll (Turn P D)} where
   -- a poll of an engine that had not ended
   pub IsPoll-open : old.engine.end ≡ None → new.engine.end ≡ end_in result → Always f i old (λ s past before. PollsOnce s i past before old new result)
       → Attends i.provider i.receiver i.requests old new result → Keeps old.engine new.engine → IsPoll f i old new result
@@ -64,6 +89,33 @@ module _ {P M D S G O J N R B Q C T : Type 0} {f : Format P M D C} {i : Interfac
     keeps_strategy = keeps.strategy;
   }
 
-pub IfNetwork-weaker : {P D : Type 0} (holds more : Type 0) → (holds → more) → (result : Poll (Turn P D)) → IfNetwork result holds → IfNetwork result more
-IfNetwork-weaker holds more then (Ready t) h = λ is. then (h is)
-IfNetwork-weaker holds more then Pending h = then h
+module _ {P D : Type 0} {holds : Type 0} where
+  UnlessPeers-turn : (t : Turn P D) → holds → UnlessPeers (Ready t) holds
+  UnlessPeers-turn turn.Peers h = tt
+  UnlessPeers-turn (turn.Broadcast d out) h = h
+  UnlessPeers-turn turn.Subscribe h = h
+  UnlessPeers-turn turn.Get h = h
+  UnlessPeers-turn (turn.Payload p d out) h = h
+  UnlessPeers-turn (turn.Invalid p error) h = h
+  UnlessPeers-turn (turn.Refused peer why) h = h
+  UnlessPeers-turn (turn.Ended why) h = tt
+
+  -- what holds of any poll holds of this one
+  pub UnlessPeers-holds : (result : Poll (Turn P D)) → holds → UnlessPeers result holds
+  UnlessPeers-holds (Ready t) h = UnlessPeers-turn t h
+  UnlessPeers-holds Pending h = h
+
+  pub IfNetwork-holds : (result : Poll (Turn P D)) → holds → IfNetwork result holds
+  IfNetwork-holds (Ready t) h = λ is. h
+  IfNetwork-holds Pending h = h
+
+pub OnPending-map : {A : Type 0} {holds more : Type 0} (result : Poll A) → (holds → more) → OnPending result holds → OnPending result more
+OnPending-map (Ready a) then h = tt
+OnPending-map Pending then h = then h
+
+-- the turn of an input is that of a peer set if the input is one
+pub UnlessPeers-input : {P M S G D : Type 0} (it : Input P M S G D) (t : Turn P D) (holds : Type 0) → ((ps : List P) → it ≡ input.Peers ps → t ≡ turn.Peers) → UnlessPeerSet (Ready (Ok it)) holds → UnlessPeers (Ready t) holds
+UnlessPeers-input (input.Peers ps) t holds of_peers h = subst (λ u. UnlessPeers (Ready u) holds) (sym (of_peers ps refl)) tt
+UnlessPeers-input (input.Request r) t holds of_peers h = UnlessPeers-turn t h
+UnlessPeers-input (input.Arrived p m) t holds of_peers h = UnlessPeers-turn t h
+UnlessPeers-input (input.Invalid p e) t holds of_peers h = UnlessPeers-turn t h

@@ -11,14 +11,14 @@ use Rattle.commonware_broadcast.specs.Interfaces.{Format, Interfaces}
 use Rattle.commonware_broadcast.specs.Polls.{IsPoll, Polls, TakesPolls, ShowsPolls, RunsTo, unended}
 
 -- a poll after others that had these turns, and what they are with its own
-pub record Next {P M D S G O J N R B Q C T : Type 0} (f : Format P M D C) (i : Interfaces P M D S G O J N R B Q) (mid new : Moment P M S O D J B Q C T N R) (turns listed : List (Turn P D)) : Type 0 where
+pub record Next {P M D S G O J N V B Q C T : Type 0} (f : Format P M D C) (i : Interfaces P M D S G O J N V B Q) (mid new : Moment P M S O D J B Q C T N V) (turns listed : List (Turn P D)) : Type 0 where
   pub result : Poll (Turn P D)
   pub polled : IsPoll f i mid new result
   pub all : listed ≡ turns ++ given result
 
-module _ {P M D S G O J N R B Q C T : Type 0} {f : Format P M D C} {i : Interfaces P M D S G O J N R B Q} where
+module _ {P M D S G O J N V B Q C T : Type 0} {f : Format P M D C} {i : Interfaces P M D S G O J N V B Q} where
   -- polls, and then one more
-  pub Polls-more : (count : ℕ) (old mid new : Moment P M S O D J B Q C T N R) (turns listed : List (Turn P D)) → Polls f i count old mid turns → Next f i mid new turns listed
+  pub Polls-more : (count : ℕ) (old mid new : Moment P M S O D J B Q C T N V) (turns listed : List (Turn P D)) → Polls f i count old mid turns → Next f i mid new turns listed
       → Polls f i (suc count) old new listed
   Polls-more zero old mid new turns listed polls one = let last = given one.result in
       (new, one.result, subst (λ e. IsPoll f i e new one.result) polls.0 one.polled, [], one.all ∙ ap (λ l. l ++ last) polls.1 ∙ sym (append-nil last), (refl, refl))
@@ -69,24 +69,24 @@ module _ {P D : Type 0} where
   unended-end (turn.Refused peer why) cause h = absurd (let no : None ≡ Some cause = h in cc)
   unended-end (turn.Ended why) cause h = refl
 
-module _ {P M D S G O J N R B Q C T : Type 0} {f : Format P M D C} {i : Interfaces P M D S G O J N R B Q} where
-  Polls-append : {mid new : Moment P M S O D J B Q C T N R} (count : ℕ) (old : Moment P M S O D J B Q C T N R) (turns : List (Turn P D)) → Polls f i count old mid turns
+module _ {P M D S G O J N V B Q C T : Type 0} {f : Format P M D C} {i : Interfaces P M D S G O J N V B Q} where
+  Polls-append : {mid new : Moment P M S O D J B Q C T N V} (count : ℕ) (old : Moment P M S O D J B Q C T N V) (turns : List (Turn P D)) → Polls f i count old mid turns
       → (more : TakesPolls f i mid new) → Polls f i (plus count more.count) old new (turns ++ more.turns)
   Polls-append {new = new} zero old turns first more =
       subst (λ ts. Polls f i more.count old new (ts ++ more.turns)) (sym first.1) (subst (λ e. Polls f i more.count e new more.turns) first.0 more.polls)
   Polls-append (suc count) old turns (next, told, poll, rest, is, tail) more =
       (next, told, poll, rest ++ more.turns, ap (λ l. l ++ more.turns) is ∙ append_assoc (given told) rest more.turns, Polls-append count next rest tail more)
 
-module _ {P M D S G O J N R B Q C T W : Type 0} {f : Format P M D C} {i : Interfaces P M D S G O J N R B Q} {seen : W → List (Turn P D) → Type 0} where
+module _ {P M D S G O J N V B Q C T W : Type 0} {f : Format P M D C} {i : Interfaces P M D S G O J N V B Q} {seen : W → List (Turn P D) → Type 0} where
   -- nothing was polled, and nothing shown
-  pub ShowsPolls-none : {old : Moment P M S O D J B Q C T N R} {watching : W} → ShowsPolls f i seen old old watching watching
+  pub ShowsPolls-none : {old : Moment P M S O D J B Q C T N V} {watching : W} → ShowsPolls f i seen old old watching watching
   ShowsPolls-none {old} {watching} = record {
     took = record { count = zero; turns = []; polls = (refl, refl) };
     shown = λ turns h. subst (seen watching) (sym (append-nil turns)) h;
   }
 
   -- some polls, and then some more
-  pub ShowsPolls-more : {old mid new : Moment P M S O D J B Q C T N R × W} → ShowsPolls f i seen old.0 mid.0 old.1 mid.1 → ShowsPolls f i seen mid.0 new.0 mid.1 new.1
+  pub ShowsPolls-more : {old mid new : Moment P M S O D J B Q C T N V × W} → ShowsPolls f i seen old.0 mid.0 old.1 mid.1 → ShowsPolls f i seen mid.0 new.0 mid.1 new.1
       → ShowsPolls f i seen old.0 new.0 old.1 new.1
   ShowsPolls-more {old} {new = new} one more = record {
     took = record {
@@ -99,7 +99,7 @@ module _ {P M D S G O J N R B Q C T W : Type 0} {f : Format P M D C} {i : Interf
   }
 
   -- some polls, and then one more
-  pub ShowsPolls-one : {old mid new : Moment P M S O D J B Q C T N R × W} {result : Poll (Turn P D)} → ShowsPolls f i seen old.0 mid.0 old.1 mid.1 → IsPoll f i mid.0 new.0 result
+  pub ShowsPolls-one : {old mid new : Moment P M S O D J B Q C T N V × W} {result : Poll (Turn P D)} → ShowsPolls f i seen old.0 mid.0 old.1 mid.1 → IsPoll f i mid.0 new.0 result
       → ((turns : List (Turn P D)) → seen mid.1 turns → seen new.1 (turns ++ unended (given result))) → ShowsPolls f i seen old.0 new.0 old.1 new.1
   ShowsPolls-one {new = new} {result} one poll step =
       ShowsPolls-more one (record {
@@ -111,10 +111,10 @@ module _ {P M D S G O J N R B Q C T W : Type 0} {f : Format P M D C} {i : Interf
         shown = λ turns h. subst (λ l. seen new.1 (turns ++ unended l)) (sym (append-nil (given result))) (step turns h);
       })
 
-module _ {P M D S G O J N R B Q C T W A : Type 0} (f : Format P M D C) (i : Interfaces P M D S G O J N R B Q) (seen : W → List (Turn P D) → Type 0)
-    (at : A → Moment P M S O D J B Q C T N R × W) where
+module _ {P M D S G O J N V B Q C T W A : Type 0} (f : Format P M D C) (i : Interfaces P M D S G O J N V B Q) (seen : W → List (Turn P D) → Type 0)
+    (at : A → Moment P M S O D J B Q C T N V × W) where
   -- what a run gives from a moment on, it gives from one that polls took to it
-  pub RunsTo-back : (old mid : Option A) (left : Moment P M S O D J B Q C T N R × W) (cause : EndCause)
+  pub RunsTo-back : (old mid : Option A) (left : Moment P M S O D J B Q C T N V × W) (cause : EndCause)
       → IfSome old (λ p. IsSomeAnd mid (λ q. ShowsPolls f i seen (at p).0 (at q).0 (at p).1 (at q).1)) → IfSome mid (λ q. RunsTo f i seen (at q).0 (at q).1 left cause)
       → IfSome old (λ p. RunsTo f i seen (at p).0 (at p).1 left cause)
   RunsTo-back None mid left cause took ran = tt

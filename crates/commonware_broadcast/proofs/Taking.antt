@@ -19,12 +19,12 @@ use Rattle.engine_io.specs.Replies.{Asker}
 use Rattle.engine_io.specs.Sources.{given}
 use Rattle.commonware_broadcast.specs.declared.buffered.engine.node.Node.{Node}
 use Rattle.commonware_broadcast.specs.AppliesSteps.{AppliesStep, AppliesSteps, Applies, Sends, sinks}
-use Rattle.commonware_broadcast.specs.Arrives.{Arrival, Arrives, message_of, input_of, reader_of}
-use Rattle.commonware_broadcast.specs.EngineHistory.{Step, swept, ended, happenings, inputs, inputs_at, outcomes, outcomes_at, read_from, read_from_at, end_of, sweeps, turns, turns_at}
+use Rattle.commonware_broadcast.specs.Arrives.{Arrival, Arrives, message_of, payload_of, input_of, reader_of}
+use Rattle.commonware_broadcast.specs.EngineHistory.{Step, IsSweptOnce, swept, ended, happenings, inputs, inputs_at, outcomes, outcomes_at, read_from, read_from_at, end_of, sweeps, turns, turns_at}
 use Rattle.commonware_broadcast.specs.EngineState.{Moment}
 use Rattle.commonware_broadcast.specs.Interfaces.{Format, IsSetting, Interfaces}
 use Rattle.commonware_broadcast.specs.Taken.{pending_input, payload_inputs, sender_of, senders_of, HoldsJob, Holds, TakesNone}
-use Rattle.commonware_broadcast.specs.TakesSteps.{TakesSteps, TakesOnly, CleansUpFirst, PollsOnce}
+use Rattle.commonware_broadcast.specs.TakesSteps.{TakesSteps, PollsOnce}
 use Rattle.commonware_broadcast.proofs.Composing.{told-same, AppliesSteps-none, AppliesSteps-more, AreSteps-append}
 use Rattle.commonware_broadcast.proofs.Due.{map-after, all-due}
 use Rattle.commonware_broadcast.proofs.Applying.{AppliesSteps-one}
@@ -86,12 +86,12 @@ flow-append b m n p q i j first second =
     sym (append_assoc b m n) ∙ ap (λ l. l ++ n) first ∙ append_assoc p i n ∙ ap (λ l. p ++ l) second ∙ sym (append_assoc p q j)
 
 -- nothing is taken where the engine and its network stay
-idle : {P M D S G O J N R B Q C T : Type 0} {old new : Moment P M S O D J B Q C T N R} {steps : List (Step P M D S G)} → new.engine.provider ≡ old.engine.provider → new.receiver ≡ old.receiver
+idle : {P M D S G O J N V B Q C T : Type 0} {old new : Moment P M S O D J B Q C T N V} {steps : List (Step P M D S G)} → new.engine.provider ≡ old.engine.provider → new.receiver ≡ old.receiver
     → requests_in (inputs steps) ≡ [] → sweeps steps ≡ 0 → TakesNone old new steps
 idle provider receiver none unasked = record { provider = provider; receiver = receiver; requests = none; asks_none = unasked }
 
 -- what the sources gave: these inputs, none of which is a payload, with these outcomes of its requests, and these payloads
-pub record Gave {P M D S G O J N R B Q C T : Type 0} (i : Interfaces P M D S G O J N R B Q) (old new : Moment P M S O D J B Q C T N R) (given : List (Input P M S G D))
+pub record Gave {P M D S G O J N V B Q C T : Type 0} (i : Interfaces P M D S G O J N V B Q) (old new : Moment P M S O D J B Q C T N V) (given : List (Input P M S G D))
     (refusals : List Bool) (received : List (P × List ℕ)) : Type 0 where
   pub local : payloads_in given ≡ []
   pub sets : (told : List (List P)) → i.provider.told old.engine.provider told → i.provider.told new.engine.provider (told ++ sets_in given)
@@ -99,7 +99,7 @@ pub record Gave {P M D S G O J N R B Q C T : Type 0} (i : Interfaces P M D S G O
   pub outcomes : (told : List Bool) → i.requests.ended old.engine.requests told → i.requests.ended new.engine.requests (told ++ refusals)
   pub payloads : (told : List (P × List ℕ)) → i.receiver.told old.receiver told → i.receiver.told new.receiver (told ++ received)
 
-module _ {P M D S G O J N R B Q C T : Type 0} {i : Interfaces P M D S G O J N R B Q} {old new : Moment P M S O D J B Q C T N R} where
+module _ {P M D S G O J N V B Q C T : Type 0} {i : Interfaces P M D S G O J N V B Q} {old new : Moment P M S O D J B Q C T N V} where
   -- only the network gave
   pub Gave-received : {received : List (P × List ℕ)} → new.engine.provider ≡ old.engine.provider
       → ((told : List (Asked (Message P M S G D))) → i.requests.told old.engine.requests told → i.requests.told new.engine.requests told)
@@ -119,16 +119,27 @@ module _ {P M D S G O J N R B Q C T : Type 0} {i : Interfaces P M D S G O J N R 
   Gave-none provider requests outcomes receiver =
       Gave-received provider requests outcomes (λ told h. subst (λ r. i.receiver.told r (told ++ [])) (sym receiver) (told-same i.receiver.told old.receiver told h))
 
+module _ {P M D S G O J N V B Q C T : Type 0} (s : Setting P M D) (i : Interfaces P M D S G O J N V B Q) where
+  -- so it did, and asked no waiter whether it is closed
+  pub record TakesOnly (past : History P M D (Asker S) (Asker G)) (before : Option (P × M)) (old new : Moment P M S O D J B Q C T N V) (listed : List (Turn P D)) : Type 0 where
+    pub took : TakesSteps s i past before old new listed
+    pub asks_none : sweeps took.steps ≡ 0
+
+  -- so it did, and one cleanup of its waiters came first
+  pub record CleansUpFirst (past : History P M D (Asker S) (Asker G)) (before : Option (P × M)) (old new : Moment P M S O D J B Q C T N V) (listed : List (Turn P D)) : Type 0 where
+    pub took : TakesSteps s i past before old new listed
+    pub swept_once : IsSweptOnce took.steps
+
 -- an engine before and after some polls, whatever happened before, and whatever message it held
-pub record Course (P M D S G O J N R B Q C T : Type 0) : Type 1 where
+pub record Course (P M D S G O J N V B Q C T : Type 0) : Type 1 where
   pub s : Setting P M D
-  pub i : Interfaces P M D S G O J N R B Q
+  pub i : Interfaces P M D S G O J N V B Q
   pub past : History P M D (Asker S) (Asker G)
   pub before : Option (P × M)
-  pub old : Moment P M S O D J B Q C T N R
-  pub new : Moment P M S O D J B Q C T N R
+  pub old : Moment P M S O D J B Q C T N V
+  pub new : Moment P M S O D J B Q C T N V
 
-module _ {P M D S G O J N R B Q C T : Type 0} {x : Course P M D S G O J N R B Q C T} where
+module _ {P M D S G O J N V B Q C T : Type 0} {x : Course P M D S G O J N V B Q C T} where
   -- the engine stays, and the network gives nothing
   abbrev pub TakesSteps-none : {listed : List (Turn P D)} → HasContent x.s x.past x.old.engine.node.core → Holds x.i.of_arrivals.is_of x.old.engine.end x.old.engine.job x.before → (x.old.engine.end ≡ None → listed ≡ [])
       → x.new.engine ≡ x.old.engine → x.new.sender ≡ x.old.sender → ((told : List (P × List ℕ)) → x.i.receiver.told x.old.receiver told → x.i.receiver.told x.new.receiver (told ++ []))
@@ -231,8 +242,20 @@ module _ {P M D S G O J N R B Q C T : Type 0} {x : Course P M D S G O J N R B Q 
     read = one.read_from ∙ reads;
   }
 
+  -- a payload that the network gave, where no job was pending
+  pub TakesOnly-payload : {p : P} {bytes : List ℕ} {result : Poll (Turn P D)} → x.old.engine.end ≡ None → x.old.engine.job ≡ None → Holds x.i.of_arrivals.is_of x.old.engine.end x.old.engine.job x.before
+      → Arrives x.s x.i.of_arrivals x.past (payload_of p (x.s.reading bytes)) x.old.engine.node x.new.engine result → x.new.engine.end ≡ None → x.new.sender ≡ x.old.sender
+      → Gave x.i x.old x.new [] [] ((p, bytes) ∷ []) → TakesOnly x.s x.i x.past x.before x.old x.new (given result)
+  TakesOnly-payload {p} {bytes} lives idle held one lives_on sender gave =
+      let none = no_message x.i.of_arrivals.is_of x.old.engine.end x.old.engine.job x.before lives idle held in
+      record {
+        took = TakesSteps-arrival {received = (p, bytes) ∷ []} one lives_on sender gave
+            (ap (λ b. pending_input x.s b ++ payload_inputs x.s ((p, bytes) ∷ [])) (sym none)) (sym (append-nil (sender_of x.s p (x.s.reading bytes))));
+        asks_none = one.asks_none;
+      }
+
   -- steps, and then more
-  abbrev pub TakesSteps-more : {mid : Moment P M S O D J B Q C T N R} {listed more_listed : List (Turn P D)} → (x.old.engine.end ≡ None → mid.engine.end ≡ None)
+  abbrev pub TakesSteps-more : {mid : Moment P M S O D J B Q C T N V} {listed more_listed : List (Turn P D)} → (x.old.engine.end ≡ None → mid.engine.end ≡ None)
       → (one : TakesSteps x.s x.i x.past x.before x.old mid listed) → TakesSteps x.s x.i (happenings one.steps ++ x.past) one.pending mid x.new more_listed
       → TakesSteps x.s x.i x.past x.before x.old x.new (listed ++ more_listed)
   TakesSteps-more {mid} {listed} lives one more =
@@ -261,7 +284,7 @@ module _ {P M D S G O J N R B Q C T : Type 0} {x : Course P M D S G O J N R B Q 
         read = read_from-append more.steps one.steps ∙ ap (λ ps. ps ++ read_from more.steps) one.read ∙ ap (λ ps. senders_of x.s one.received ++ ps) more.read ∙ sym (senders-append x.s one.received more.received);
       }
 
-  pub CleansUpFirst-more : {mid : Moment P M S O D J B Q C T N R} {listed more_listed : List (Turn P D)} → (x.old.engine.end ≡ None → mid.engine.end ≡ None)
+  pub CleansUpFirst-more : {mid : Moment P M S O D J B Q C T N V} {listed more_listed : List (Turn P D)} → (x.old.engine.end ≡ None → mid.engine.end ≡ None)
       → (one : CleansUpFirst x.s x.i x.past x.before x.old mid listed) → TakesOnly x.s x.i (happenings one.took.steps ++ x.past) one.took.pending mid x.new more_listed
       → CleansUpFirst x.s x.i x.past x.before x.old x.new (listed ++ more_listed)
   CleansUpFirst-more lives one more = record {
@@ -274,13 +297,15 @@ module _ {P M D S G O J N R B Q C T : Type 0} {x : Course P M D S G O J N R B Q 
     };
   }
 
-module _ {P M D S G O J N R B Q C T : Type 0} {x : Course P M D S G O J N R B Q C T} where
-  -- a cleanup, and then more
-  pub CleansUpFirst-before : {test : ℕ → Asker S → Bool} {mid : Node P M S O D} {listed : List (Turn P D)}
-      → AppliesStep x.s x.i.of_arrivals.may_answer x.i.of_arrivals.outlet.told x.past (swept test) x.old.engine.node mid → x.old.engine.end ≡ None → Holds x.i.of_arrivals.is_of x.old.engine.end x.old.engine.job x.before
-      → TakesOnly x.s x.i (cleanup test ∷ x.past) x.before (record x.old { engine = record x.old.engine { node = mid } }) x.new listed → CleansUpFirst x.s x.i x.past x.before x.old x.new listed
-  CleansUpFirst-before {mid = mid} cleaned lives held more =
-      CleansUpFirst-more {mid = (record x.old { engine = record x.old.engine { node = mid } })} (λ _. lives) (CleansUpFirst-alone cleaned lives refl (Gave-none refl (λ told h. h) (λ told h. h) refl) held) more
+module _ {P M D S G O J N V B Q C T : Type 0} {x : Course P M D S G O J N V B Q C T} where
+  -- a cleanup, after which the sources of the node may have been asked, and then more
+  pub CleansUpFirst-then : {test : ℕ → Asker S → Bool} {node : Node P M S O D} {provider : B} {requests : Q} {listed : List (Turn P D)}
+      → AppliesStep x.s x.i.of_arrivals.may_answer x.i.of_arrivals.outlet.told x.past (swept test) x.old.engine.node node → x.old.engine.end ≡ None → Holds x.i.of_arrivals.is_of x.old.engine.end x.old.engine.job x.before
+      → Gave x.i x.old (record x.old { engine = record x.old.engine { node = node; provider = provider; requests = requests } }) [] [] []
+      → TakesOnly x.s x.i (cleanup test ∷ x.past) x.before (record x.old { engine = record x.old.engine { node = node; provider = provider; requests = requests } }) x.new listed
+      → CleansUpFirst x.s x.i x.past x.before x.old x.new listed
+  CleansUpFirst-then {node = node} {provider} {requests} cleaned lives held gave more =
+      CleansUpFirst-more {mid = (record x.old { engine = record x.old.engine { node = node; provider = provider; requests = requests } })} (λ _. lives) (CleansUpFirst-alone cleaned lives refl gave held) more
 
   -- a poll of an engine that has ended
   pub PollsOnce-ended : {cause : EndCause} {result : Poll (Turn P D)} → HasContent x.s x.past x.old.engine.node.core → Holds x.i.of_arrivals.is_of x.old.engine.end x.old.engine.job x.before → x.old.engine.end ≡ Some cause

@@ -18,13 +18,13 @@ pub record EngineState (P M S O D J B Q C T : Type 0) : Type 0 where
   pub strategy : T
 
 -- an engine, and both ends of its network
-pub record Moment (P M S O D J B Q C T N R : Type 0) : Type 0 where
+pub record Moment (P M S O D J B Q C T N V : Type 0) : Type 0 where
   pub engine : EngineState P M S O D J B Q C T
   pub sender : N
-  pub receiver : R
+  pub receiver : V
 
-abbrev pub moment : {P M S O D J B Q C T N R : Type 0} → EngineState P M S O D J B Q C T → N × R
-    → Moment P M S O D J B Q C T N R
+abbrev pub moment : {P M S O D J B Q C T N V : Type 0} → EngineState P M S O D J B Q C T → N × V
+    → Moment P M S O D J B Q C T N V
 moment engine network = record {
   engine = engine;
   sender = network.0;

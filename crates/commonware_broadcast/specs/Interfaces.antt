@@ -57,16 +57,16 @@ parties may_answer is_of outlet = record {
 }
 
 -- these, the network, and where peer sets and requests come from
-pub record Interfaces (P M D S G O J N R B Q : Type 0) : Type 1 where
+pub record Interfaces (P M D S G O J N V B Q : Type 0) : Type 1 where
   pub of_arrivals : Parties M D S G O J
   pub sender : Sender N P
-  pub receiver : Receiver R P
+  pub receiver : Receiver V P
   pub provider : Provider B P
   pub requests : Requests Q (Message P M S G D) D
 
-abbrev pub interfaces : {P M D S G O J N R B Q : Type 0} → Parties M D S G O J → Sender N P
-    → Receiver R P → Provider B P → Requests Q (Message P M S G D) D
-    → Interfaces P M D S G O J N R B Q
+abbrev pub interfaces : {P M D S G O J N V B Q : Type 0} → Parties M D S G O J → Sender N P
+    → Receiver V P → Provider B P → Requests Q (Message P M S G D) D
+    → Interfaces P M D S G O J N V B Q
 interfaces of_arrivals sender receiver provider requests = record {
   of_arrivals = of_arrivals;
   sender = sender;
@@ -90,8 +90,8 @@ abbrev pub parties_of : {M D S G O J : Type 0} → (S → Bool → Type 0) → (
 parties_of may_answer is_of outlet = parties (by_responder may_answer) is_of outlet
 
 -- what an engine is over
-abbrev pub over : {P M D S G O J N R B Q : Type 0} → (S → Bool → Type 0) → (J → M → Type 0)
-    → Outlet O S G (Carried M D) (Option (Carried M D)) → Sender N P → Receiver R P → Provider B P
-    → Requests Q (Message P M S G D) D → Interfaces P M D S G O J N R B Q
+abbrev pub over : {P M D S G O J N V B Q : Type 0} → (S → Bool → Type 0) → (J → M → Type 0)
+    → Outlet O S G (Carried M D) (Option (Carried M D)) → Sender N P → Receiver V P → Provider B P
+    → Requests Q (Message P M S G D) D → Interfaces P M D S G O J N V B Q
 over may_answer is_of outlet sender receiver provider requests =
     interfaces (parties_of may_answer is_of outlet) sender receiver provider requests

@@ -12,6 +12,8 @@ pub mod TakesSteps
 pub mod Arrives
 pub mod Polls
 pub mod Waits
+pub mod First
+pub mod FirstSource
 pub mod Fresh
 pub mod Parts
 pub mod Sessions

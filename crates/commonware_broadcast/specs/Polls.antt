@@ -21,10 +21,10 @@ use Rattle.commonware_broadcast.specs.Interfaces.{Format, Interfaces}
 use Rattle.commonware_broadcast.specs.Order.{UnlessPeers, IfNetwork}
 use Rattle.commonware_broadcast.specs.TakesSteps.{PollsOnce, Always}
 
-module _ {P M S G O D J N R B Q C T : Type 0} (provider : Provider B P) (receiver : Receiver R P)
+module _ {P M S G O D J N V B Q C T : Type 0} (provider : Provider B P) (receiver : Receiver V P)
     (requests : Requests Q (Message P M S G D) D) where
   -- what a poll of an engine that has not ended does with its sources, as far as they tell
-  pub record Attends (old new : Moment P M S O D J B Q C T N R) (result : Poll (Turn P D))
+  pub record Attends (old new : Moment P M S O D J B Q C T N V) (result : Poll (Turn P D))
       : Type 0 where
     -- a stop comes first
     pub stop_first : requests.stops old.engine.requests → result ≡ Ready (Ended Stopped)
@@ -58,10 +58,10 @@ unended [] = []
 unended (Ended cause ∷ turns) = unended turns
 unended (turn ∷ turns) = turn ∷ unended turns
 
-module _ {P M D S G O J N R B Q C T : Type 0} (f : Format P M D C)
-    (i : Interfaces P M D S G O J N R B Q) where
+module _ {P M D S G O J N V B Q C T : Type 0} (f : Format P M D C)
+    (i : Interfaces P M D S G O J N V B Q) where
   -- a poll of an engine, whatever happened to it before
-  pub record IsPoll (old new : Moment P M S O D J B Q C T N R) (result : Poll (Turn P D))
+  pub record IsPoll (old new : Moment P M S O D J B Q C T N V) (result : Poll (Turn P D))
       : Type 0 where
     pub took : Always f i old (λ s past before. PollsOnce s i past before old new result)
     pub attends : old.engine.end ≡ None
@@ -79,15 +79,15 @@ module _ {P M D S G O J N R B Q C T : Type 0} (f : Format P M D C)
     pub keeps_strategy : new.engine.strategy ≡ old.engine.strategy
 
   -- this many polls, one after another, and the turns that were ready
-  abbrev pub Polls : ℕ → Moment P M S O D J B Q C T N R → Moment P M S O D J B Q C T N R
+  abbrev pub Polls : ℕ → Moment P M S O D J B Q C T N V → Moment P M S O D J B Q C T N V
       → List (Turn P D) → Type 0
   Polls zero old new turns = (new ≡ old) × (turns ≡ [])
   Polls (suc count) old new turns =
-      (mid : Moment P M S O D J B Q C T N R) × (result : Poll (Turn P D)) × IsPoll old mid result
+      (mid : Moment P M S O D J B Q C T N V) × (result : Poll (Turn P D)) × IsPoll old mid result
       × (rest : List (Turn P D)) × (turns ≡ given result ++ rest) × Polls count mid new rest
 
   -- as many polls as were asked for, or fewer that ended the engine
-  pub record Drives (limit : ℕ) (old new : Moment P M S O D J B Q C T N R)
+  pub record Drives (limit : ℕ) (old new : Moment P M S O D J B Q C T N V)
       (turns : List (Turn P D)) : Type 0 where
     pub count : ℕ
     pub polls : Polls count old new turns
@@ -95,13 +95,13 @@ module _ {P M D S G O J N R B Q C T : Type 0} (f : Format P M D C)
     pub all_unless_ended : new.engine.end ≡ None → count ≡ limit
 
   -- some polls, one after another
-  pub record TakesPolls (old new : Moment P M S O D J B Q C T N R) : Type 0 where
+  pub record TakesPolls (old new : Moment P M S O D J B Q C T N V) : Type 0 where
     pub count : ℕ
     pub turns : List (Turn P D)
     pub polls : Polls count old new turns
 
   -- an engine took some polls until it had no job, or had ended, and is to have none from then on
-  pub record MakesReady (old new : Moment P M S O D J B Q C T N R) : Type 0 where
+  pub record MakesReady (old new : Moment P M S O D J B Q C T N V) : Type 0 where
     pub last : EngineState P M S O D J B Q C T
     pub took : TakesPolls old (record new { engine = last })
     pub idle : last.end ≡ None → last.job ≡ None
@@ -109,31 +109,31 @@ module _ {P M D S G O J N R B Q C T : Type 0} (f : Format P M D C)
 
   -- an engine took some polls, and left these counters: the last poll ended it for this cause, or
   -- its thread could not wait, and no poll was taken
-  pub record Runs (old : Moment P M S O D J B Q C T N R) (cause : EndCause)
+  pub record Runs (old : Moment P M S O D J B Q C T N V) (cause : EndCause)
       (failure : Option CannotWait) (metrics : Counters P) : Type 0 where
-    pub last : Moment P M S O D J B Q C T N R
+    pub last : Moment P M S O D J B Q C T N V
     pub took : TakesPolls old last
     pub counters : metrics ≡ last.engine.node.metrics
     pub caused : MatchOption failure (last.engine.end ≡ Some cause)
         (λ failed. (cause ≡ WaitFailed) × (last ≡ old))
 
-module _ {P M D S G O J N R B Q C T W : Type 0} (f : Format P M D C)
-    (i : Interfaces P M D S G O J N R B Q) (seen : W → List (Turn P D) → Type 0) where
+module _ {P M D S G O J N V B Q C T W : Type 0} (f : Format P M D C)
+    (i : Interfaces P M D S G O J N V B Q) (seen : W → List (Turn P D) → Type 0) where
   -- some polls, one after another, whose turns were shown to the observer, but no end
-  pub record ShowsPolls (old new : Moment P M S O D J B Q C T N R) (watching watched : W)
+  pub record ShowsPolls (old new : Moment P M S O D J B Q C T N V) (watching watched : W)
       : Type 0 where
     pub took : TakesPolls f i old new
     pub shown : (turns : List (Turn P D)) → seen watching turns
         → seen watched (turns ++ unended took.turns)
 
   -- such polls, which left an engine that has ended for this cause
-  abbrev pub RunsTo : Moment P M S O D J B Q C T N R → W → Moment P M S O D J B Q C T N R × W
+  abbrev pub RunsTo : Moment P M S O D J B Q C T N V → W → Moment P M S O D J B Q C T N V × W
       → EndCause → Type 0
   RunsTo old watching left cause =
       ShowsPolls old left.0 watching left.1 × (left.0.engine.end ≡ Some cause)
 
   -- an engine ran, and its observer was handed its turns, and then these
-  pub record ShowsRun (old : Moment P M S O D J B Q C T N R) (cause : EndCause)
+  pub record ShowsRun (old : Moment P M S O D J B Q C T N V) (cause : EndCause)
       (failure : Option CannotWait) (metrics : Counters P) (watching watched : W) (last : List (Turn P D)) : Type 0 where
     pub ran : Runs f i old cause failure metrics
     pub shown : (turns : List (Turn P D)) → seen watching turns

@@ -17,7 +17,7 @@ use Rattle.engine_io.specs.declared.input.Turn.TheVariants.{Ended}
 use Rattle.engine_io.specs.Inputs.{sets_in, requests_in, payloads_in}
 use Rattle.engine_io.specs.Replies.{Asker, reply_of}
 use Rattle.engine_io.specs.Sources.{given}
-use Rattle.commonware_broadcast.specs.EngineHistory.{Step, happenings, handed_out, inputs, outcomes, read_from, end_of, end_told, turns, sweeps, IsSweptOnce}
+use Rattle.commonware_broadcast.specs.EngineHistory.{Step, happenings, handed_out, inputs, outcomes, read_from, end_of, end_told, turns, IsSweptOnce}
 use Rattle.commonware_broadcast.specs.EngineState.{Moment}
 use Rattle.commonware_broadcast.specs.Interfaces.{Format, Interfaces, IsSetting}
 use Rattle.commonware_broadcast.specs.AppliesSteps.{AppliesSteps, Sends}
@@ -30,12 +30,12 @@ module _ {P D : Type 0} where
   TellsEnd (Some cause) listed = (before : List (Turn P D)) × (listed ≡ before ++ Ended cause ∷ [])
       × All (λ turn. end_told turn ≡ None) before
 
-module _ {P M D S G O J N R B Q C T : Type 0} (s : Setting P M D)
-    (i : Interfaces P M D S G O J N R B Q) where
+module _ {P M D S G O J N V B Q C T : Type 0} (s : Setting P M D)
+    (i : Interfaces P M D S G O J N V B Q) where
   -- after a history, and with this message held before or none, an engine took these steps, and
   -- these turns were ready
   pub record TakesSteps (past : History P M D (Asker S) (Asker G)) (before : Option (P × M))
-      (old new : Moment P M S O D J B Q C T N R) (listed : List (Turn P D)) : Type 0 where
+      (old new : Moment P M S O D J B Q C T N V) (listed : List (Turn P D)) : Type 0 where
     pub steps : List (Step P M D S G)
     pub ran : AppliesSteps s i.of_arrivals.may_answer i.of_arrivals.outlet.told past steps
         old.engine.node new.engine.node
@@ -67,21 +67,9 @@ module _ {P M D S G O J N R B Q C T : Type 0} (s : Setting P M D)
     -- each payload that is a message was decoded once, or refused before it was counted
     pub read : read_from steps ≡ senders_of s received
 
-  -- so it did, and asked no waiter whether it is closed
-  pub record TakesOnly (past : History P M D (Asker S) (Asker G)) (before : Option (P × M))
-      (old new : Moment P M S O D J B Q C T N R) (listed : List (Turn P D)) : Type 0 where
-    pub took : TakesSteps past before old new listed
-    pub asks_none : sweeps took.steps ≡ 0
-
-  -- so it did, and one cleanup of its waiters came first
-  pub record CleansUpFirst (past : History P M D (Asker S) (Asker G)) (before : Option (P × M))
-      (old new : Moment P M S O D J B Q C T N R) (listed : List (Turn P D)) : Type 0 where
-    pub took : TakesSteps past before old new listed
-    pub swept_once : IsSweptOnce took.steps
-
   -- a poll took steps
   pub record PollsOnce (past : History P M D (Asker S) (Asker G)) (before : Option (P × M))
-      (old new : Moment P M S O D J B Q C T N R) (result : Poll (Turn P D)) : Type 0 where
+      (old new : Moment P M S O D J B Q C T N V) (result : Poll (Turn P D)) : Type 0 where
     pub took : TakesSteps past before old new (given result)
     -- while a job is pending, nothing is taken from any source, and no waiter is asked
     pub job_alone : (job : P × J) → old.engine.job ≡ Some job → TakesNone old new took.steps
@@ -90,8 +78,8 @@ module _ {P M D S G O J N R B Q C T : Type 0} (s : Setting P M D)
         → ((result ≡ Ready (Ended Stopped)) × TakesNone old new took.steps)
         ⊎ IsSweptOnce took.steps
 
-module _ {P M D S G O J N R B Q C T : Type 0} (f : Format P M D C)
-    (i : Interfaces P M D S G O J N R B Q) (old : Moment P M S O D J B Q C T N R) where
+module _ {P M D S G O J N V B Q C T : Type 0} (f : Format P M D C)
+    (i : Interfaces P M D S G O J N V B Q) (old : Moment P M S O D J B Q C T N V) where
   -- this holds whatever happened to the engine before, and whatever message it holds
   abbrev pub Always : ((s : Setting P M D) → History P M D (Asker S) (Asker G) → Option (P × M)
       → Type 0) → Type 0
@@ -100,18 +88,8 @@ module _ {P M D S G O J N R B Q C T : Type 0} (f : Format P M D C)
       → (before : Option (P × M)) → Holds i.of_arrivals.is_of old.engine.end old.engine.job before
       → holds s past before
 
-module _ {P M D S G O J N R B Q C T : Type 0} (f : Format P M D C)
-    (i : Interfaces P M D S G O J N R B Q) (old new : Moment P M S O D J B Q C T N R) where
+module _ {P M D S G O J N V B Q C T : Type 0} (f : Format P M D C)
+    (i : Interfaces P M D S G O J N V B Q) (old new : Moment P M S O D J B Q C T N V) where
   -- the steps of some polls
   abbrev pub AlwaysTakes : List (Turn P D) → Type 0
   AlwaysTakes listed = Always f i old (λ s past before. TakesSteps s i past before old new listed)
-
-  -- those of a poll of the network, which asks no waiter
-  abbrev pub AlwaysTakesOnly : List (Turn P D) → Type 0
-  AlwaysTakesOnly listed =
-      Always f i old (λ s past before. TakesOnly s i past before old new listed)
-
-  -- those of a poll of the sources, which cleans up once, and first
-  abbrev pub AlwaysCleans : List (Turn P D) → Type 0
-  AlwaysCleans listed =
-      Always f i old (λ s past before. CleansUpFirst s i past before old new listed)

@@ -9,11 +9,11 @@ use Rattle.engine_io.specs.declared.requests.Requests.{Ghosts as Requests}
 use Rattle.engine_io.specs.Heard.{HearsAll, HearsJob}
 use Rattle.commonware_broadcast.specs.EngineState.{Moment}
 
-module _ {P M S G O D J N R B Q C T : Type 0} (job_needs : J → ℕ → Type 0)
-    (receiver : Receiver R P) (provider : Provider B P)
+module _ {P M S G O D J N V B Q C T : Type 0} (job_needs : J → ℕ → Type 0)
+    (receiver : Receiver V P) (provider : Provider B P)
     (requests : Requests Q (Message P M S G D) D) (cx : Context) where
   -- with each source that wakes it, as far as its sources tell which: always with the order to stop
-  pub record Waits (old_job : Option (P × J)) (new : Moment P M S O D J B Q C T N R)
+  pub record Waits (old_job : Option (P × J)) (new : Moment P M S O D J B Q C T N V)
       : Type 0 where
     pub for_stop : HearsAll cx (requests.needs_stop new.engine.requests)
     -- with the job, if one is pending

@@ -1,8 +1,5 @@
 -- Believed.
 -- Why an engine ends.
-use Rattle.std.specs.Prelude.{Result, Ok, Err, ⊤}
-use Rattle.futures.specs.declared.task.Poll.{Poll}
-use Rattle.futures.specs.declared.task.Poll.TheVariants.{Ready, Pending}
 use Rattle.engine_io.specs.declared.input.EndCause.{EndCause}
 use Rattle.engine_io.specs.declared.input.EndCause.TheVariants.{Stopped, PeersClosed, NetworkFailed, WaitFailed}
 
@@ -13,9 +10,3 @@ HasCause Stopped asked ended failed = asked
 HasCause PeersClosed asked ended failed = ended
 HasCause NetworkFailed asked ended failed = failed
 HasCause WaitFailed asked ended failed = ⊥
-
--- if the poll tells an end, its cause is there
-abbrev pub EndsBy : {A : Type 0} → Poll (Result A EndCause) → (asked ended failed : Type 0) → Type 0
-EndsBy (Ready (Err cause)) asked ended failed = HasCause cause asked ended failed
-EndsBy (Ready (Ok value)) asked ended failed = ⊤
-EndsBy Pending asked ended failed = ⊤

@@ -4,12 +4,10 @@
 #![tactic(auto)]
 
 pub mod asleep;
-pub mod first;
 pub mod input;
 pub mod metrics;
 pub mod mocks;
 pub mod network;
-pub mod next;
 pub mod observer;
 pub mod outlet;
 pub mod reply;
@@ -18,11 +16,9 @@ pub mod snapshots;
 pub mod waiter;
 
 pub use asleep::{CannotWait, Seat, block_on_asleep, may_look};
-pub use first::{First, comes_first};
 pub use input::{EndCause, Input, Turn};
 pub use metrics::{Counter, Metrics, Sequencer, Status};
 pub use network::{NetworkFailed, Provider, Receiver, Sender};
-pub use next::next_input;
 pub use observer::Observer;
 pub use observer::lines::Lines;
 pub use observer::recent::Recent;

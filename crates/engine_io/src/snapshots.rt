@@ -1,5 +1,5 @@
 //! The counters of a running engine, for those who ask for them.
-ghost use Rattle.std.specs.Prelude.{◌≡◌, None, Ok, Err, [], ◌∷◌, ◌++◌, OnOk, OnErr, IfOk, IfErr};
+ghost use Rattle.std.specs.Prelude.{◌≡◌, true, false, None, Ok, Err, [], ◌∷◌, ◌++◌, OnOk, OnErr, IfOk, IfErr};
 ghost use Rattle.std.specs.Ordering.{eq_by_cmp};
 ghost use Rattle.futures.specs.Task.{IsArmed, Keeps};
 ghost use Rattle.engine_io.specs.Counters.{IsCopy};
@@ -31,32 +31,44 @@ pub enum MetricsError {
 /// A copy of the counters, or an allocation failure.
 type Copied<P> = Result<Metrics<P>, AllocError>;
 
-/// The callers that ask for the counters of an engine, and what wakes its thread.
+/// The callers that ask for the counters of an engine, and what wakes its thread. Nobody may ask
+/// once it has ended.
 #[derive(Drop)]
 struct Asking<P: PublicKey> {
     callers: Vec<Sender<Copied<P>>>,
     waker: Option<Waker>,
+    has_ended: bool,
 }
 
 impl<P: PublicKey> Asking<P> {
     fn new(alloc: Global) -> Self
-        ensures { result.callers.items ≡ [] }
+        ensures nobody_asks { result.callers.items ≡ [] }
+        ensures runs { result.has_ended ≡ false }
     {
         Asking {
             callers: Vec::new(alloc),
             waker: None,
+            has_ended: false,
         }
     }
 
     /// Adds a caller. Returns what wakes the thread of the engine.
-    fn add(&mut self, caller: Sender<Copied<P>>) -> Result<Option<Waker>, AllocError>
+    fn add(&mut self, caller: Sender<Copied<P>>) -> Result<Option<Waker>, MetricsError>
+        ensures ended { self.old.has_ended ≡ true → result ≡ Err Ended }
+        ensures memory { self.old.has_ended ≡ false → OnErr result (result ≡ Err Memory) }
+        ensures same_end { self.new.has_ended ≡ self.old.has_ended }
         ensures last { OnOk result
             (self.new.callers.items ≡ self.old.callers.items ++ caller ∷ []) }
         ensures wakes { IfOk result (λ woken. woken ≡ self.old.waker) }
         ensures nobody_waits { OnOk result (self.new.waker ≡ None) }
         ensures unchanged { OnErr result (self.new.callers.items ≡ self.old.callers.items) }
     {
-        self.callers.push(caller)?;
+        if self.has_ended {
+            return Err(MetricsError::Ended);
+        }
+        let Ok(()) = self.callers.push(caller) else {
+            return Err(MetricsError::Memory);
+        };
         Ok(self.waker.take())
     }
 
@@ -69,10 +81,21 @@ impl<P: PublicKey> Asking<P> {
     ) -> Vec<Sender<Copied<P>>>
         ensures all { result.items ≡ self.old.callers.items }
         ensures none_left { self.new.callers.items ≡ [] }
+        ensures same_end { self.new.has_ended ≡ self.old.has_ended }
         ensures armed { IsArmed cx.new }
         ensures kept { Keeps cx.old cx.new }
     {
         let _pending: Poll<()> = cx.register(source, &mut self.waker);
+        mem::replace(&mut self.callers, Vec::new(alloc))
+    }
+
+    /// Takes all callers, and no other from then on.
+    fn end(&mut self, alloc: Global) -> Vec<Sender<Copied<P>>>
+        ensures all { result.items ≡ self.old.callers.items }
+        ensures none_left { self.new.callers.items ≡ [] }
+        ensures ended { self.new.has_ended ≡ true }
+    {
+        self.has_ended = true;
         mem::replace(&mut self.callers, Vec::new(alloc))
     }
 }
@@ -121,13 +144,7 @@ impl<P: PublicKey> Snapshots<P> {
     /// Adds a caller, and wakes the thread of the engine.
     fn put(&self, rt: &impl Wait, caller: Sender<Copied<P>>) -> Result<(), MetricsError> {
         let mut asking = self.asking.lock(rt);
-        // An engine that ends sets this before it drops the callers under the lock.
-        if self.has_ended() {
-            return Err(MetricsError::Ended);
-        }
-        let Ok(woken) = asking.add(caller) else {
-            return Err(MetricsError::Memory);
-        };
+        let woken = asking.add(caller)?;
         self.is_asked.store(true, Ordering::SeqCst);
         drop(asking);
         drop(woken);
@@ -170,8 +187,8 @@ impl<P: PublicKey> Snapshots<P> {
     /// Tells callers that the engine has ended: those who ask, and those who will.
     pub fn end(&self, rt: &impl Wait, alloc: Global) {
         self.has_ended.store(true, Ordering::SeqCst);
-        let asking = mem::replace(&mut *self.asking.lock(rt), Asking::new(alloc));
-        drop::<_>(asking);
+        let callers = self.asking.lock(rt).end(alloc);
+        drop::<_>(callers);
     }
 }
 

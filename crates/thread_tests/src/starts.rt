@@ -199,8 +199,9 @@ where
 #[test]
 fn the_end_of_an_engine_that_is_not_started_is_told(rt: HostRuntime) -> Result<(), Fail> {
     let expected = (Some(StartError::Memory), Some(EndCause::WaitFailed));
-    // There is no copy of the runtime for the thread, or the calling one can't wait for a job.
-    for (copies, randoms) in [(3, 9), (4, 0)] {
+    // There is no copy of the runtime for the engine, its mailbox, its stopper or its thread, or
+    // the calling thread can't wait for a job.
+    for (copies, randoms) in [(0, 9), (1, 9), (2, 9), (3, 9), (4, 0)] {
         assert_eq!(rt; observe(&rt, copies, randoms)?, expected, "{copies} copies");
     }
     Ok(())

@@ -142,7 +142,7 @@ impl<P, MCfg, D, T> Config<P, MCfg, D, T> {
     }
 
     /// Adds an observer. It is handed each turn of the engine that is started with it, and is in
-    /// the engine's report.
+    /// the engine's report. If the start fails it is told that as an end, and dropped.
     pub fn observed_by<W>(self, observer: W) -> Observed<P, MCfg, D, T, W>
         ensures { result ≡ record { config = self; observer = observer } }
     {

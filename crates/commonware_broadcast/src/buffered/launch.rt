@@ -1,6 +1,6 @@
 //! Engines that are made and started by one call, with or without an observer.
 use crate::buffered::config::{Config, Observed};
-use crate::buffered::engine::{Engine, StartError};
+use crate::buffered::engine::{Engine, StartError, give_up};
 use crate::buffered::front::MailboxEngine;
 use crate::buffered::runtime::Runtime;
 use crate::buffered::started::Handle;
@@ -86,7 +86,8 @@ where
     {
         let Observed { config, observer } = self;
         let Ok((engine, mailbox)) = new_engine::<P, M, B, T, R>(rt, config) else {
-            drop::<_>((network, observer));
+            drop::<_>(network);
+            give_up::<P, M::Digest, W>(observer);
             return Err(StartError::Memory);
         };
         let handle = engine.start_with(rt, network, observer)?;
@@ -119,7 +120,8 @@ where
     {
         let Observed { config, observer } = self;
         let Ok((engine, mailbox)) = new_engine::<P, M, B, Threaded<G, R>, R>(rt, config) else {
-            drop::<_>((network, observer));
+            drop::<_>(network);
+            give_up::<P, M::Digest, W>(observer);
             return Err(StartError::Memory);
         };
         match engine.prepare(rt, network, observer) {

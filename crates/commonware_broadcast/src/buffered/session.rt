@@ -52,9 +52,9 @@ pub trait Session<P: PublicKey, M: Digestible, R: Wait> {
 
 /// The result of a session.
 #[derive(Debug, Drop)]
-pub struct Finished<O, P: PublicKey, W = ()> {
+pub struct Finished<Out, P: PublicKey, W = ()> {
     /// What the clients left, in the order of their numbers.
-    pub outputs: Vec<O>,
+    pub outputs: Vec<Out>,
     /// Why the engine ended.
     pub cause: EndCause,
     /// How many requests the clients counted together, and at most `u64::MAX`.
@@ -80,20 +80,20 @@ where
     ///
     /// Fails if something can't be allocated, or a thread can't be started. Then the clients that
     /// run find the mailbox closed, and all threads are joined.
-    pub fn run_session<M, S, N, V, R, W>(
+    pub fn run_session<M, App, N, V, R, W>(
         self,
         rt: &R,
         network: (N, V),
         clients: NonZeroU32,
-        session: S,
+        session: App,
         observer: W,
-    ) -> Result<Finished<S::Output, P, W>, StartError>
+    ) -> Result<Finished<App::Output, P, W>, StartError>
     where
         M: Digestible + Codec<Cfg = C> + Send + Sync + 'static,
         M::Digest: Send + 'static,
-        S: Session<P, M, R> + Send + Sync + Drop + 'static,
-        S::Watch: Send + 'static,
-        S::Output: Send + 'static,
+        App: Session<P, M, R> + Send + Sync + Drop + 'static,
+        App::Watch: Send + 'static,
+        App::Output: Send + 'static,
         T: Strategy<M>,
         T::Job: Send + 'static,
         N: Sender<P> + Send + Drop + 'static,
@@ -101,16 +101,18 @@ where
         R: Runtime,
         W: Observer<P, M::Digest> + Send + Drop + 'static,
         ensures accepted { IfOk result (λ finished.
-            Accepts S.Output.leaves finished.outputs.items finished.accepted) }
+            Accepts App.Output.leaves finished.outputs.items finished.accepted) }
         ensures settled { IfOk result (λ finished. AddsUp finished.accepted finished.settled) }
         ensures broadcasts { IfOk result (λ finished.
-            BroadcastsOnly S.Watch.watched → finished.settled.skipped ≡ 0) }
+            BroadcastsOnly App.Watch.watched → finished.settled.skipped ≡ 0) }
         ensures outputs { IfOk result (λ finished.
             length finished.outputs.items ≡ non_zero_u32_get clients) }
     {
         let accepted = Blank::new(clients.get() as u64);
         let taken = Blank::new(1);
         self.observed_by(observer)
-            .run_with::<M, S, N, V, R, Brand, Brand>(rt, network, clients, session, accepted, taken)
+            .run_with::<M, App, N, V, R, Brand, Brand>(
+                rt, network, clients, session, accepted, taken,
+            )
     }
 }

@@ -1,5 +1,5 @@
 //! A started engine.
-use crate::buffered::engine::{Ready, Report, StartError, spawn};
+use crate::buffered::engine::{Ready, Report, StartError, give_up, spawn};
 use crate::buffered::front::MailboxEngine;
 use crate::buffered::runtime::Runtime;
 use broadcast_core::{Codec, Digestible, PublicKey};
@@ -239,8 +239,8 @@ where
             }
             Err(_) => {
                 self.requests().close();
-                drop::<_>(self);
-                drop::<_>((network, observer));
+                drop::<_>((self, network));
+                give_up::<P, M::Digest, W>(observer);
                 Err(StartError::Memory)
             }
         }

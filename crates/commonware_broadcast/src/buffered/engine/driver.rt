@@ -20,11 +20,11 @@ use std::alloc::{AllocError, Global};
 /// Polls the engine `limit` times, or until it ends. Returns the turns that were ready, in order.
 ///
 /// Fails if the places for the turns can't be allocated, which is tried before the first poll.
-pub fn drive<P, M, S, G, O, B, Q, T, N, R>(
+pub fn drive<P, M, S, G, O, B, Q, T, N, V>(
     alloc: Global,
     engine: &mut Engine<P, M, S, O, B, Q, T>,
     cx: &mut Context<'_>,
-    network: &mut (N, R),
+    network: &mut (N, V),
     limit: usize,
 ) -> Result<Vec<Turn<P, M::Digest>>, AllocError>
 where
@@ -37,14 +37,14 @@ where
     Q: Requests<Message<P, M, S, G>>,
     T: Strategy<M>,
     N: Sender<P>,
-    R: Receiver<P>,
+    V: Receiver<P>,
     ensures took { IfOk result (λ turns. AlwaysTakes
         (format_of P.cmp M.Digest.cmp M.encoding M.digest_of M.reading)
-        (over S.may_answer T.Job.is_of O.Outlet N.Sender R.Receiver B.Provider Q.Requests)
+        (over S.may_answer T.Job.is_of O.Outlet N.Sender V.Receiver B.Provider Q.Requests)
         (moment engine.old network.old) (moment engine.new network.new) turns.items) }
     ensures drives { IfOk result (λ turns. Drives
         (format_of P.cmp M.Digest.cmp M.encoding M.digest_of M.reading)
-        (over S.may_answer T.Job.is_of O.Outlet N.Sender R.Receiver B.Provider Q.Requests)
+        (over S.may_answer T.Job.is_of O.Outlet N.Sender V.Receiver B.Provider Q.Requests)
         limit (moment engine.old network.old) (moment engine.new network.new) turns.items) }
     ensures at_most_limit { IfOk result (λ turns. length turns.items ≤ limit) }
     ensures ends_with_last_turn { IfOk result (λ turns.
@@ -63,7 +63,7 @@ where
 {
     let mut turns = Vec::with_capacity(alloc, limit)?;
     for _poll in 0..limit {
-        let Poll::Ready(turn) = engine.poll::<G, N, R>(alloc, cx, network) else {
+        let Poll::Ready(turn) = engine.poll::<G, N, V>(alloc, cx, network) else {
             continue;
         };
         turns.push_reserved(turn);

@@ -177,8 +177,8 @@ impl<P: PublicKey, M: Digestible + Codec, S, O, B, Q, T: Strategy<M>> Engine<P, 
     }
 
     /// Ends the engine for this cause: its requests are closed, and its waiters and its job are
-    /// dropped.
-    pub(super) fn end<G>(&mut self, cause: EndCause)
+    /// dropped. Returns the turn that tells it.
+    pub(super) fn end<G>(&mut self, cause: EndCause) -> Turn<P, M::Digest>
     where
         S: Responder<Reply<M>> + Drop,
         O: Outlet<S, G, Reply<M>, Option<Reply<M>>>,
@@ -194,6 +194,7 @@ impl<P: PublicKey, M: Digestible + Codec, S, O, B, Q, T: Strategy<M>> Engine<P, 
         ensures tells_outcomes { (outcomes : List Bool)
             → Q.ended self.old.requests outcomes → Q.ended self.new.requests outcomes }
         ensures closes { Q.closed self.new.requests }
+        ensures told { result ≡ turn.Ended cause }
         ensures keeps_all_else { self.new ≡ record self.old {
           node = self.new.node;
           requests = self.new.requests;
@@ -205,6 +206,7 @@ impl<P: PublicKey, M: Digestible + Codec, S, O, B, Q, T: Strategy<M>> Engine<P, 
         drop_waiters(&mut self.node);
         self.job = None;
         self.end = Some(cause);
+        Turn::Ended(cause)
     }
 }
 

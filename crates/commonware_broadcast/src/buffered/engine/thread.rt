@@ -240,6 +240,16 @@ where
     snapshots.end(rt, rt.alloc());
 }
 
+/// Tells the observer of an engine that could not be made or reached that it ended, and drops it.
+pub(crate) fn give_up<P, D, W>(mut observer: W)
+where
+    P: PublicKey,
+    D: Drop,
+    W: Observer<P, D> + Drop,
+{
+    observer.turn(&Turn::Ended(EndCause::WaitFailed));
+}
+
 /// Starts a thread that does `work`, the run of an engine whose mailbox has this stopper. If no
 /// thread can be started, the engine is stopped and ends at once, on the calling thread.
 pub(crate) fn spawn<A, F, I, R, B>(

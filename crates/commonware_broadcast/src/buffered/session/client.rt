@@ -15,13 +15,13 @@ use std::marker::Model;
 use std::random::RandomSource;
 use std::sync::{Arc, Wait};
 
-/// A client of a node, whose mailbox has the account `B`. It makes requests, and counts those that
-/// were accepted and that the watch matches.
+/// A client of a node, whose mailbox has the account `Book`. It makes requests, and counts those
+/// that were accepted and that the watch matches.
 ///
 /// Contracts see what it counted.
 #[derive(Drop)]
-pub struct Client<P: PublicKey, M: Digestible, R, A: Account, B: Bookkeeping> {
-    ends: Ends<P, M, R, B>,
+pub struct Client<P: PublicKey, M: Digestible, R, A: Account, Book: Bookkeeping> {
+    ends: Ends<P, M, R, Book>,
     tally: Tally<A>,
 }
 
@@ -34,7 +34,8 @@ pub type WatchedClient<P, M, R, A, K, V> = Client<
     Books<A, K, V, <M as Digestible>::Digest>,
 >;
 
-impl<P: PublicKey, M: Digestible, R, A: Account, B: Bookkeeping> Model for Client<P, M, R, A, B> {
+impl<P: PublicKey, M: Digestible, R, A: Account, Book: Bookkeeping> Model
+    for Client<P, M, R, A, Book> {
     ghost use Rattle.std.specs.Prelude.{◌≡◌};
     ghost use Rattle.broadcast_mailbox.specs.Account.{TallyState};
 
@@ -45,9 +46,9 @@ impl<P: PublicKey, M: Digestible, R, A: Account, B: Bookkeeping> Model for Clien
     ghost invariant = { λ client. client.tally.parts ≡ 1 };
 }
 
-impl<P: PublicKey, M: Digestible, R: Drop, A: Account, B: Bookkeeping> Client<P, M, R, A, B> {
+impl<P: PublicKey, M: Digestible, R: Drop, A: Account, Book: Bookkeeping> Client<P, M, R, A, Book> {
     /// Creates a client that reaches the node by `ends`, and has one part of the tally.
-    pub(super) fn new(ends: Ends<P, M, R, B>, tally: Tally<A>) -> Self
+    pub(super) fn new(ends: Ends<P, M, R, Book>, tally: Tally<A>) -> Self
         requires { tally.parts ≡ 1 }
         ensures { result ≡ tally }
     {
@@ -132,9 +133,9 @@ where
 
 /// What every client reaches the node by.
 #[derive(Drop)]
-pub(super) struct Ends<P: PublicKey, M: Digestible, R, B: Bookkeeping> {
-    pub mailbox: Mailbox<P, M, R, B>,
-    pub control: Arc<Control<P, M, R, B>>,
+pub(super) struct Ends<P: PublicKey, M: Digestible, R, Book: Bookkeeping> {
+    pub mailbox: Mailbox<P, M, R, Book>,
+    pub control: Arc<Control<P, M, R, Book>>,
 }
 
 /// What the clients of a node that counts requests reach it by.
@@ -145,7 +146,7 @@ pub(super) type WatchedEnds<P, M, R, A, K, V> = Ends<
     Books<A, K, V, <M as Digestible>::Digest>,
 >;
 
-impl<P: PublicKey, M: Digestible, R: Clone, B: Bookkeeping> Clone for Ends<P, M, R, B> {
+impl<P: PublicKey, M: Digestible, R: Clone, Book: Bookkeeping> Clone for Ends<P, M, R, Book> {
     fn clone(&self) -> Result<Self, AllocError> {
         Ok(Ends {
             mailbox: self.mailbox.clone()?,

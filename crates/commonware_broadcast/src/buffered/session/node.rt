@@ -9,7 +9,7 @@ use super::client::{Client, Ends, WatchedEnds};
 use super::threads::{abandon, join_clients, run_client, start_others};
 use super::{Finished, Session};
 use crate::buffered::config::{Config, Observed};
-use crate::buffered::engine::{Engine, StartError};
+use crate::buffered::engine::{Engine, StartError, give_up};
 use crate::buffered::front::WatchedNode;
 use crate::buffered::runtime::Runtime;
 use crate::buffered::started::{Handle, MailboxReport};
@@ -31,21 +31,21 @@ where
     W: Send + Drop + 'static,
 {
     /// Runs the session, whose account has these ledgers.
-    pub(super) fn run_with<M, S, N, V, R, A, K>(
+    pub(super) fn run_with<M, App, N, V, R, A, K>(
         self,
         rt: &R,
         network: (N, V),
         clients: NonZeroU32,
-        session: S,
+        session: App,
         accepted: Blank,
         taken: Blank,
-    ) -> Result<Finished<S::Output, P, W>, StartError>
+    ) -> Result<Finished<App::Output, P, W>, StartError>
     where
         M: Digestible + Codec<Cfg = C> + Send + Sync + 'static,
         M::Digest: Send + 'static,
-        S: Session<P, M, R> + Send + Sync + Drop + 'static,
-        S::Watch: Send + 'static,
-        S::Output: Send + 'static,
+        App: Session<P, M, R> + Send + Sync + Drop + 'static,
+        App::Watch: Send + 'static,
+        App::Output: Send + 'static,
         T: Strategy<M>,
         T::Job: Send + 'static,
         N: Sender<P> + Send + Drop + 'static,
@@ -59,27 +59,29 @@ where
         requires taken { (taken.name ≡ K.name) × (taken.parts ≡ K.parts) }
         requires one { (K.all ≡ K.parts) × (K.parts ≡ 1) }
         ensures accepted { IfOk result (λ finished.
-            Accepts S.Output.leaves finished.outputs.items finished.accepted) }
+            Accepts App.Output.leaves finished.outputs.items finished.accepted) }
         ensures settled { IfOk result (λ finished. AddsUp finished.accepted finished.settled) }
         ensures broadcasts { IfOk result (λ finished.
-            BroadcastsOnly S.Watch.watched → finished.settled.skipped ≡ 0) }
+            BroadcastsOnly App.Watch.watched → finished.settled.skipped ≡ 0) }
         ensures outputs { IfOk result (λ finished.
             length finished.outputs.items ≡ non_zero_u32_get clients) }
     {
         let Observed { config, observer } = self;
         let Ok((session, outputs)) = reserve(rt.alloc(), session, clients.get()) else {
-            drop::<_>((config, network, observer));
+            drop::<_>((config, network));
+            give_up::<P, M::Digest, W>(observer);
             return Err(StartError::Memory);
         };
-        let Ok(made) = config.make::<M, R, A, K, S::Watch>(rt, clients, accepted, taken) else {
-            drop::<_>((network, session, outputs, observer));
+        let Ok(made) = config.make::<M, R, A, K, App::Watch>(rt, clients, accepted, taken) else {
+            drop::<_>((network, session, outputs));
+            give_up::<P, M::Digest, W>(observer);
             return Err(StartError::Memory);
         };
         let (engine, mailbox, tally) = made;
         let started = engine.start_with(rt, network, observer);
         match reach(rt, started, mailbox) {
             Ok((handle, ends)) => {
-                play::<P, S, M, R, W, A, K>(rt, handle, ends, session, outputs, tally, clients)
+                play::<P, App, M, R, W, A, K>(rt, handle, ends, session, outputs, tally, clients)
             }
             Err(error) => {
                 drop::<_>((session, outputs, tally));
@@ -90,14 +92,14 @@ where
 }
 
 /// Shares the session, with room for what `clients` clients leave.
-fn reserve<P, S, R, M>(
+fn reserve<P, App, R, M>(
     alloc: Global,
-    session: S,
+    session: App,
     clients: u32,
-) -> Result<(Arc<S>, Vec<S::Output>), AllocError>
+) -> Result<(Arc<App>, Vec<App::Output>), AllocError>
 where
     P: PublicKey,
-    S: Session<P, M, R> + Drop,
+    App: Session<P, M, R> + Drop,
     M: Digestible,
     R: Wait,
     ensures room { IfOk result (λ both. vec_len both.1 + clients ≤ vec_capacity both.1) }
@@ -139,17 +141,17 @@ impl<P: PublicKey, C: Drop, B: Drop, T: Drop> Config<P, C, B, T> {
 
 /// Returns the handle of the started engine, and what each client reaches the engine by. After an
 /// error the engine has ended.
-fn reach<P, M, R, W, B>(
+fn reach<P, M, R, W, Book>(
     rt: &R,
-    started: Result<Handle<P, M, R, B, W>, StartError>,
-    mailbox: Mailbox<P, M, R, B>,
-) -> Result<(Handle<P, M, R, B, W>, Ends<P, M, R, B>), StartError>
+    started: Result<Handle<P, M, R, Book, W>, StartError>,
+    mailbox: Mailbox<P, M, R, Book>,
+) -> Result<(Handle<P, M, R, Book, W>, Ends<P, M, R, Book>), StartError>
 where
     P: PublicKey,
     M: Digestible,
     R: Runtime,
     W: Drop,
-    B: Bookkeeping,
+    Book: Bookkeeping,
 {
     let handle = match started {
         Ok(handle) => handle,
@@ -171,20 +173,20 @@ where
 
 /// Lets the clients use the started engine, and settles their account. If a client can't be
 /// started, the others and the engine end.
-fn play<P, S, M, R, W, A, K>(
+fn play<P, App, M, R, W, A, K>(
     rt: &R,
-    handle: Handle<P, M, R, Books<A, K, S::Watch, M::Digest>, W>,
-    ends: WatchedEnds<P, M, R, A, K, S::Watch>,
-    session: Arc<S>,
-    outputs: Vec<S::Output>,
+    handle: Handle<P, M, R, Books<A, K, App::Watch, M::Digest>, W>,
+    ends: WatchedEnds<P, M, R, A, K, App::Watch>,
+    session: Arc<App>,
+    outputs: Vec<App::Output>,
     tally: Tally<A>,
     clients: NonZeroU32,
-) -> Result<Finished<S::Output, P, W>, StartError>
+) -> Result<Finished<App::Output, P, W>, StartError>
 where
     P: PublicKey + Send + 'static,
-    S: Session<P, M, R> + Send + Sync + Drop + 'static,
-    S::Watch: Send + 'static,
-    S::Output: Send + 'static,
+    App: Session<P, M, R> + Send + Sync + Drop + 'static,
+    App::Watch: Send + 'static,
+    App::Output: Send + 'static,
     M: Digestible + Send + Sync + 'static,
     M::Digest: Send + 'static,
     R: Runtime,
@@ -196,22 +198,29 @@ where
     requires room { vec_len outputs + non_zero_u32_get clients ≤ vec_capacity outputs }
     requires empty { outputs.items ≡ [] }
     ensures accepted { IfOk result (λ finished.
-        Accepts S.Output.leaves finished.outputs.items finished.accepted) }
+        Accepts App.Output.leaves finished.outputs.items finished.accepted) }
     ensures settled { IfOk result (λ finished. AddsUp finished.accepted finished.settled) }
     ensures broadcasts { IfOk result (λ finished.
-        BroadcastsOnly S.Watch.watched → finished.settled.skipped ≡ 0) }
+        BroadcastsOnly App.Watch.watched → finished.settled.skipped ≡ 0) }
     ensures outputs { IfOk result (λ finished.
         length finished.outputs.items ≡ non_zero_u32_get clients) }
 {
     let mut tally = tally;
     let mut threads = Vec::new(rt.alloc());
     let others = clients.get() - 1;
-    match start_others::<P, S, M, R, A, K>(rt, &session, &ends, &mut tally, &mut threads, others) {
+    match start_others::<P, App, M, R, A, K>(
+        rt,
+        &session,
+        &ends,
+        &mut tally,
+        &mut threads,
+        others,
+    ) {
         Ok(()) => {
-            let first = run_client::<P, S, M, R, A, K>(session, 0, Client::new(ends, tally));
+            let first = run_client::<P, App, M, R, A, K>(session, 0, Client::new(ends, tally));
             let (tally, outputs) = join_clients(rt, first, threads, outputs);
             handle.stop();
-            Ok(Finished::settled::<M, R, A, K, S::Watch>(handle.join(rt), tally, outputs))
+            Ok(Finished::settled::<M, R, A, K, App::Watch>(handle.join(rt), tally, outputs))
         }
         Err(error) => {
             handle.stop();
@@ -223,12 +232,12 @@ where
     }
 }
 
-impl<O, P: PublicKey, W: Drop> Finished<O, P, W> {
+impl<Out, P: PublicKey, W: Drop> Finished<Out, P, W> {
     /// Settles the account.
     fn settled<M, R, A, K, V>(
         report: MailboxReport<P, M, R, Books<A, K, V, M::Digest>, W>,
         tally: Tally<A>,
-        outputs: Vec<O>,
+        outputs: Vec<Out>,
     ) -> Self
     where
         M: Digestible,

@@ -15,28 +15,28 @@ use std::thread::{self, JoinHandle, Threads};
 
 /// The result of a client's thread.
 #[derive(Drop)]
-pub(super) struct Left<A: Account, O: Leaves> {
+pub(super) struct Left<A: Account, Out: Leaves> {
     tally: Tally<A>,
-    output: O,
+    output: Out,
     ghost one_part: { tally.parts ≡ 1 },
-    ghost left: { O.leaves output tally.accepted ≡ true },
+    ghost left: { Out.leaves output tally.accepted ≡ true },
 }
 
 /// Starts the threads of the clients with the numbers from 1, of which there are `others`. Each
 /// gets a part of the tally.
-pub(super) fn start_others<P, S, M, R, A, K>(
+pub(super) fn start_others<P, App, M, R, A, K>(
     rt: &R,
-    session: &Arc<S>,
-    ends: &WatchedEnds<P, M, R, A, K, S::Watch>,
+    session: &Arc<App>,
+    ends: &WatchedEnds<P, M, R, A, K, App::Watch>,
     tally: &mut Tally<A>,
-    threads: &mut Vec<JoinHandle<Left<A, S::Output>>>,
+    threads: &mut Vec<JoinHandle<Left<A, App::Output>>>,
     others: u32,
 ) -> Result<(), StartError>
 where
     P: PublicKey + Send + 'static,
-    S: Session<P, M, R> + Send + Sync + Drop + 'static,
-    S::Watch: Send + 'static,
-    S::Output: Send + 'static,
+    App: Session<P, M, R> + Send + Sync + Drop + 'static,
+    App::Watch: Send + 'static,
+    App::Output: Send + 'static,
     M: Digestible + Send + Sync + 'static,
     M::Digest: Send + 'static,
     R: Runtime,
@@ -52,7 +52,7 @@ where
         let Ok(()) = threads.reserve(1) else {
             return Err(StartError::Memory);
         };
-        threads.push_reserved(start_client::<P, S, M, R, A, K>(
+        threads.push_reserved(start_client::<P, App, M, R, A, K>(
             rt,
             session,
             ends,
@@ -64,18 +64,18 @@ where
 }
 
 /// Starts the thread of the client of this number.
-fn start_client<P, S, M, R, A, K>(
+fn start_client<P, App, M, R, A, K>(
     rt: &R,
-    session: &Arc<S>,
-    ends: &WatchedEnds<P, M, R, A, K, S::Watch>,
+    session: &Arc<App>,
+    ends: &WatchedEnds<P, M, R, A, K, App::Watch>,
     number: u32,
     tally: Tally<A>,
-) -> Result<JoinHandle<Left<A, S::Output>>, StartError>
+) -> Result<JoinHandle<Left<A, App::Output>>, StartError>
 where
     P: PublicKey + Send + 'static,
-    S: Session<P, M, R> + Send + Sync + Drop + 'static,
-    S::Watch: Send + 'static,
-    S::Output: Send + 'static,
+    App: Session<P, M, R> + Send + Sync + Drop + 'static,
+    App::Watch: Send + 'static,
+    App::Output: Send + 'static,
     M: Digestible + Send + Sync + 'static,
     M::Digest: Send + 'static,
     R: Runtime,
@@ -83,13 +83,13 @@ where
     K: Account + Send + Sync + 'static,
     requires { tally.parts ≡ 1 }
 {
-    let Ok((session, ends)) = copies::<P, S, M, R, A, K>(session, ends) else {
+    let Ok((session, ends)) = copies::<P, App, M, R, A, K>(session, ends) else {
         return Err(StartError::Memory);
     };
     let client = Client::new(ends, tally);
     match thread::spawn(
         rt,
-        move || run_client::<P, S, M, R, A, K>(session, number, client),
+        move || run_client::<P, App, M, R, A, K>(session, number, client),
     ) {
         Ok(thread) => Ok(thread),
         Err(refused) => {
@@ -100,13 +100,13 @@ where
 }
 
 /// Copies what a client needs.
-fn copies<P, S, M, R, A, K>(
-    session: &Arc<S>,
-    ends: &WatchedEnds<P, M, R, A, K, S::Watch>,
-) -> Result<(Arc<S>, WatchedEnds<P, M, R, A, K, S::Watch>), AllocError>
+fn copies<P, App, M, R, A, K>(
+    session: &Arc<App>,
+    ends: &WatchedEnds<P, M, R, A, K, App::Watch>,
+) -> Result<(Arc<App>, WatchedEnds<P, M, R, A, K, App::Watch>), AllocError>
 where
     P: PublicKey,
-    S: Session<P, M, R> + Drop,
+    App: Session<P, M, R> + Drop,
     M: Digestible,
     R: Wait + Clone + Drop,
     A: Account,
@@ -117,14 +117,14 @@ where
 }
 
 /// Does what a client does.
-pub(super) fn run_client<P, S, M, R, A, K>(
-    session: Arc<S>,
+pub(super) fn run_client<P, App, M, R, A, K>(
+    session: Arc<App>,
     number: u32,
-    client: WatchedClient<P, M, R, A, K, S::Watch>,
-) -> Left<A, S::Output>
+    client: WatchedClient<P, M, R, A, K, App::Watch>,
+) -> Left<A, App::Output>
 where
     P: PublicKey,
-    S: Session<P, M, R> + Drop,
+    App: Session<P, M, R> + Drop,
     M: Digestible,
     R: Wait + Drop,
     A: Account,
@@ -141,20 +141,20 @@ where
 
 /// Joins the threads of the clients that were started. Returns the tally that is joined of those of
 /// all clients, and what all left.
-pub(super) fn join_clients<A, O, R>(
+pub(super) fn join_clients<A, Out, R>(
     rt: &R,
-    first: Left<A, O>,
-    threads: Vec<JoinHandle<Left<A, O>>>,
-    outputs: Vec<O>,
-) -> (Tally<A>, Vec<O>)
+    first: Left<A, Out>,
+    threads: Vec<JoinHandle<Left<A, Out>>>,
+    outputs: Vec<Out>,
+) -> (Tally<A>, Vec<Out>)
 where
     A: Account,
-    O: Leaves + Drop,
+    Out: Leaves + Drop,
     R: Threads,
     requires parts { A.parts < 2 ^ 64 }
     requires room { vec_len outputs + (length threads.items + 1) ≤ vec_capacity outputs }
     requires empty { outputs.items ≡ [] }
-    ensures left { CountTo O.leaves result.1.items result.0.accepted }
+    ensures left { CountTo Out.leaves result.1.items result.0.accepted }
     ensures parts { result.0.parts ≡ length threads.items + 1 }
     ensures outputs { length result.1.items ≡ length threads.items + 1 }
 {
@@ -174,10 +174,10 @@ where
 }
 
 /// Joins the threads of clients, and drops what they left.
-pub(super) fn abandon<A, O, R>(rt: &R, threads: Vec<JoinHandle<Left<A, O>>>)
+pub(super) fn abandon<A, Out, R>(rt: &R, threads: Vec<JoinHandle<Left<A, Out>>>)
 where
     A: Account,
-    O: Leaves + Drop,
+    Out: Leaves + Drop,
     R: Threads,
 {
     for thread in threads {

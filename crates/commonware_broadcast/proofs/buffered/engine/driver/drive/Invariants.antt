@@ -16,7 +16,7 @@ invariant-loop-poll g l =
     record {
       polls : (count : ℕ) → count ≡ l._poll
           → Polls (format (same_by g.P.Ord.cmp g.M.Digest.Ord.cmp) g.M.Write.encoding g.M.Digestible.digest_of (λ cfg. whole (g.M.Read.reading cfg)))
-          (interfaces (parties (λ w b. g.S.Responder.may_answer w.responder b) g.T.Job.Job.is_of g.O.Outlet) g.N.Sender g.R.Receiver g.B.Provider g.Q.Requests)
+          (interfaces (parties (λ w b. g.S.Responder.may_answer w.responder b) g.T.Job.Job.is_of g.O.Outlet) g.N.Sender g.V.Receiver g.B.Provider g.Q.Requests)
           count (moment l.fn.engine l.fn.network) (moment l.engine l.network) l.turns.items;
       priority : l.engine.priority ≡ l.fn.engine.priority;
       codec_config : l.engine.codec_config ≡ l.fn.engine.codec_config;

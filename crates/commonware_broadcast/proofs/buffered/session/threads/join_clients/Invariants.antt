@@ -10,7 +10,7 @@ invariant-loop-thread g l =
     record {
       left : into_iter_len l.thread-iterator ≡ length (into_iter_items l.thread-iterator);
       fit : vec_len l.outputs + length (into_iter_items l.thread-iterator) ≤ vec_capacity l.outputs;
-      counted : CountTo g.O.Leaves.leaves l.outputs.items l.tally.accepted;
+      counted : CountTo g.Out.Leaves.leaves l.outputs.items l.tally.accepted;
       parts : l.tally.parts + length (into_iter_items l.thread-iterator) ≡ length (into_iter_items l.initial.thread-iterator) + 1;
       outputs : length l.outputs.items + length (into_iter_items l.thread-iterator) ≡ length (into_iter_items l.initial.thread-iterator) + 1;
     }

@@ -1,13 +1,17 @@
-use Rattle.std.proofs.Common.{◌≡◌, inl, inr, Option, None, Some, true, false, refl, ap, sym, ◌∙◌, subst}
+use Rattle.std.proofs.Common.{◌≡◌, inl, inr, Option, None, Some, true, false, [], ◌∷◌, ◌++◌, refl, ap, sym, ◌∙◌, subst}
 use Rattle.futures.specs.declared.task.Poll.TheVariants.{Ready}
+use Rattle.broadcast_core.specs.Happening.{cleanup}
 use Rattle.engine_io.specs.Causes.{HasCause}
-use Rattle.engine_io.specs.declared.first.First.TheVariants.{Stop, Job, Sources}
+use Rattle.engine_io.specs.Refused.{refuses, outcome_of}
 use Rattle.engine_io.specs.declared.input.EndCause.TheVariants.{Stopped}
 use Rattle.engine_io.specs.declared.input.Turn.TheVariants as turn
-use Rattle.commonware_broadcast.specs.EngineHistory.{ended}
+use Rattle.commonware_broadcast.specs.declared.buffered.engine.first.First.TheVariants.{Stop, Job}
+use Rattle.commonware_broadcast.specs.Arrives.{Arrives, payload_of}
+use Rattle.commonware_broadcast.specs.Interfaces.{parties}
 use Rattle.commonware_broadcast.specs.Taken.{Holds}
-use Rattle.commonware_broadcast.proofs.Ending.{IsPoll-open, HasCause-weaker, IfNetwork-weaker, not_ended}
-use Rattle.commonware_broadcast.proofs.Taking.{Holds-open, Gave-none, PollsOnce-ended, PollsOnce-stopped, PollsOnce-job, PollsOnce-sources}
+use Rattle.commonware_broadcast.proofs.Composing.{told-same}
+use Rattle.commonware_broadcast.proofs.Ending.{IsPoll-open, IfNetwork-holds, OnPending-map, UnlessPeers-holds, UnlessPeers-input, ended_peers, no_error, no_ready, no_stop, no_true, not_ended, same_cause, same_error}
+use Rattle.commonware_broadcast.proofs.Taking.{Holds-open, Gave-none, Gave-received, TakesOnly-ended, TakesOnly-input, TakesOnly-payload, TakesSteps-none, CleansUpFirst-then, PollsOnce-ended, PollsOnce-stopped, PollsOnce-job, PollsOnce-sources}
 use Rattle.commonware_broadcast.proofs.buffered.engine.state.Engine.poll.Goals as goal
 
 pub returns-in-Some-clause-polled : goal.returns-in-Some-clause-polled
@@ -23,7 +27,7 @@ returns-in-Some-clause-polled g c = rw (← c.self.view_is) (record {
 })
 
 pub returns-in-Stop-clause-polled : goal.returns-in-Stop-clause-polled
-returns-in-Stop-clause-polled g c = rw (← c.self.view_is) (
+returns-in-Stop-clause-polled g c = rw (← c.self.view_is) (rw c.end.ensures.told (
     let over = c.end.ensures.keeps_all_else in
     IsPoll-open c.in_default.is (ap (λ e. e.end) over)
     (λ s is past has before held. PollsOnce-stopped (c.end.ensures.ended s is.same past has)
@@ -31,7 +35,7 @@ returns-in-Stop-clause-polled g c = rw (← c.self.view_is) (
     (λ told h. c.end.ensures.tells_outcomes told (c.comes_first.ensures.ended told h)))
     (record {
       stop_first = λ stops. refl;
-      has_cause = λ cause is. subst (λ k. HasCause k (g.Q.Requests.may_stop c.self.inside.requests) (g.B.Provider.may_end c.self.inside.provider) (g.R.Receiver.may_fail c.args.network.now.1))
+      has_cause = λ cause is. subst (λ k. HasCause k (g.Q.Requests.may_stop c.self.inside.requests) (g.B.Provider.may_end c.self.inside.provider) (g.V.Receiver.may_fail c.args.network.now.1))
           (let same : Ready (turn.Ended Stopped) ≡ Ready (turn.Ended cause) = is in let e : Stopped ≡ cause = cc in e) (c.in-Stop.ensures.only_if_asked refl);
       closes = λ cause is. c.end.ensures.closes;
       peers_first = λ none. tt;
@@ -42,7 +46,7 @@ returns-in-Stop-clause-polled g c = rw (← c.self.view_is) (
       ends_with_network = λ none failed. inr (refl, tt);
       idle_if_ready = ap (λ e. e.job) over;
     })
-    (record { priority = ap (λ e. e.priority) over; codec_config = ap (λ e. e.codec_config) over; strategy = ap (λ e. e.strategy) over }))
+    (record { priority = ap (λ e. e.priority) over; codec_config = ap (λ e. e.codec_config) over; strategy = ap (λ e. e.strategy) over })))
 
 pub returns-in-Job-clause-polled : goal.returns-in-Job-clause-polled
 returns-in-Job-clause-polled g c = rw (← c.self.view_is) (
@@ -69,27 +73,190 @@ returns-in-Job-clause-polled g c = rw (← c.self.view_is) (
     })
     (record { priority = ap (λ e. e.priority) keeps; codec_config = ap (λ e. e.codec_config) keeps; strategy = ap (λ e. e.strategy) keeps }))
 
-pub returns-in-Sources-clause-polled : goal.returns-in-Sources-clause-polled
-returns-in-Sources-clause-polled g c = rw (← c.self.view_is) (
-    let keeps = c.poll_sources.ensures.keeps_all_else in
+pub returns-in-Ready-Ok-clause-polled : goal.returns-in-Ready-Ok-clause-polled
+returns-in-Ready-Ok-clause-polled g c = rw (← c.self.view_is) (
     let none = c.in-Sources.ensures.job_alone in
-    let did = c.poll_sources.ensures in
-    IsPoll-open c.in_default.is did.ends
-    (λ s is past has before held. PollsOnce-sources none.0
-    (did.took s is past has before (subst (λ j. Holds g.T.Job.Job.is_of c.self.inside.end j before) (none.0 ∙ sym none.1) held))
+    let next = rw c.in-Ready-Ok.field-0-is at c.in-Ready-Ok.ensures in
+    let no_end = c.apply-turn.ensures.tells_no_end in
+    IsPoll-open c.in_default.is (c.in_default.is ∙ sym no_end)
+    (λ s is past has before held.
+    let swept = c.cleanup_waiters.ensures.swept s is.same past has in
+    let holds = subst (λ j. Holds g.T.Job.Job.is_of c.self.inside.end j before) (none.0 ∙ sym none.1) held in
+    PollsOnce-sources {asked = c.comes_first.new.requests} {job = c.comes_first.new.slot} none.0
+    (CleansUpFirst-then swept.1 c.in_default.is holds (Gave-none refl (λ told h. h) (λ told h. h) refl)
+    (TakesOnly-input (c.apply-turn.ensures.applied s is.same is.encoding is.priority (cleanup swept.0 ∷ past) swept.1.content) (record {
+      local = next.no_payload;
+      sets = next.sets;
+      requests = λ told h. c.tell_outcome.ensures.tells _ (next.requests told (subst (λ q. g.Q.Requests.told q told) (sym c.cleanup_waiters.ensures.same) h));
+      outcomes = λ told h. subst (λ b. g.Q.Requests.ended c.tell_outcome.new.requests (told ++ outcome_of b (refuses c.apply-turn.result))) c.is_request-is_request.ensures
+          (subst (λ b. g.Q.Requests.ended c.tell_outcome.new.requests (told ++ outcome_of c.is_request-is_request.result b)) c.is_refused.ensures
+          (c.tell_outcome.ensures.ended told (next.ended told (subst (λ q. g.Q.Requests.ended q told) (sym c.cleanup_waiters.ensures.same) h))));
+      payloads = told-same g.V.Receiver.told c.args.network.now.1;
+    }) c.in_default.is holds))
     c.comes_first.ensures.tells c.comes_first.ensures.ended)
     (record {
-      stop_first = λ stops. absurd (let no : Sources ≡ Stop = c.in-Sources.ensures.stop_first stops in cc);
-      has_cause = λ cause is. HasCause-weaker ⊥ (g.B.Provider.may_end c.self.inside.provider) (g.R.Receiver.may_fail c.args.network.now.1)
-          (g.Q.Requests.may_stop c.self.inside.requests) (g.B.Provider.may_end c.self.inside.provider) (g.R.Receiver.may_fail c.args.network.now.1)
-          (λ h. absurd h) (λ h. h) (λ h. h) cause (did.has_cause cause is);
-      closes = did.closes;
-      peers_first = λ _. did.peers_first;
-      requests_first = λ _. IfNetwork-weaker (g.Q.Requests.quiet c.comes_first.new.requests) (g.Q.Requests.quiet c.self.inside.requests) c.comes_first.ensures.quiet c.poll_sources.result did.requests_first;
-      network_last = elim did.network_last [ inl same ↦ inl same | inr both ↦ inr (both.0, c.comes_first.ensures.quiet both.1) ];
-      network_looked_at = λ _. did.network_looked_at;
-      ends_with_peers = λ _ over. inr (did.ends_with_peers over);
-      ends_with_network = λ _ failed. did.ends_with_network failed;
-      idle_if_ready = did.idle_if_ready;
+      stop_first = λ stops. no_stop (c.in-Sources.ensures.stop_first stops);
+      has_cause = λ cause is. not_ended (Ready c.apply-turn.result) cause no_end is;
+      closes = λ cause is. not_ended (Ready c.apply-turn.result) cause no_end is;
+      peers_first = λ _. UnlessPeers-input c.in-Ready-Ok.input c.apply-turn.result (g.B.Provider.quiet c.self.inside.provider) c.apply-turn.ensures.of_peers next.peers_first;
+      requests_first = λ _ is. no_true (sym (c.apply-turn.ensures.of_request next.no_payload) ∙ is);
+      network_last = inl refl;
+      network_looked_at = λ _. tt;
+      ends_with_peers = λ _ over. no_error (next.ends over);
+      ends_with_network = λ _ failed. inr (refl, tt);
+      idle_if_ready = none.1;
+    })
+    (record { priority = refl; codec_config = refl; strategy = refl }))
+
+pub returns-in-Ready-Err-clause-polled : goal.returns-in-Ready-Err-clause-polled
+returns-in-Ready-Err-clause-polled g c = rw (← c.self.view_is) (rw c.end-in-Ready-Err.ensures.told (
+    let none = c.in-Sources.ensures.job_alone in
+    let next = rw c.in-Ready-Err.field-0-is at c.in-Ready-Err.ensures in
+    let over = c.end-in-Ready-Err.ensures.keeps_all_else in
+    IsPoll-open c.in_default.is (ap (λ e. e.end) over)
+    (λ s is past has before held.
+    let swept = c.cleanup_waiters.ensures.swept s is.same past has in
+    let holds = subst (λ j. Holds g.T.Job.Job.is_of c.self.inside.end j before) (none.0 ∙ sym none.1) held in
+    PollsOnce-sources {asked = c.comes_first.new.requests} {job = c.comes_first.new.slot} none.0
+    (CleansUpFirst-then swept.1 c.in_default.is holds (Gave-none refl (λ told h. h) (λ told h. h) refl)
+    (TakesOnly-ended (c.end-in-Ready-Err.ensures.ended s is.same (cleanup swept.0 ∷ past) swept.1.content) (ap (λ e. e.end) over) (ap (λ e. e.job) over) refl (record {
+      local = refl;
+      sets = λ told h. subst (λ b. g.B.Provider.told b (told ++ [])) (sym (ap (λ e. e.provider) over)) (next.sets told h);
+      requests = λ told h. c.end-in-Ready-Err.ensures.tells _ (next.requests told (subst (λ q. g.Q.Requests.told q told) (sym c.cleanup_waiters.ensures.same) h));
+      outcomes = λ told h. told-same g.Q.Requests.ended c.end-in-Ready-Err.new.self.requests told
+          (c.end-in-Ready-Err.ensures.tells_outcomes told (next.ended told (subst (λ q. g.Q.Requests.ended q told) (sym c.cleanup_waiters.ensures.same) h)));
+      payloads = told-same g.V.Receiver.told c.args.network.now.1;
+    })))
+    c.comes_first.ensures.tells c.comes_first.ensures.ended)
+    (record {
+      stop_first = λ stops. no_stop (c.in-Sources.ensures.stop_first stops);
+      has_cause = λ cause is. subst (λ k. HasCause k (g.Q.Requests.may_stop c.self.inside.requests) (g.B.Provider.may_end c.self.inside.provider) (g.V.Receiver.may_fail c.args.network.now.1))
+          (same_cause is)
+          (ended_peers (g.Q.Requests.may_stop c.self.inside.requests) (g.B.Provider.may_end c.self.inside.provider) (g.V.Receiver.may_fail c.args.network.now.1) c.in-Ready-Err.cause next.has_cause);
+      closes = λ cause is. c.end-in-Ready-Err.ensures.closes;
+      peers_first = λ _. tt;
+      requests_first = λ _ is. no_true is;
+      network_last = inl refl;
+      network_looked_at = λ _. tt;
+      ends_with_peers = λ _ over. inr (ap (λ k. Ready (turn.Ended k)) (same_error (next.ends over)));
+      ends_with_network = λ _ failed. inr (refl, tt);
+      idle_if_ready = ap (λ e. e.job) over;
+    })
+    (record { priority = ap (λ e. e.priority) over; codec_config = ap (λ e. e.codec_config) over; strategy = ap (λ e. e.strategy) over })))
+
+pub returns-in-Ready-Ok-poll_recv-clause-polled : goal.returns-in-Ready-Ok-poll_recv-clause-polled
+returns-in-Ready-Ok-poll_recv-clause-polled g c = rw (← c.self.view_is) (
+    let none = c.in-Sources.ensures.job_alone in
+    let next = c.in-Pending.ensures in
+    let got = rw c.in-Ready-Ok-poll_recv.field-0-is at c.in-Ready-Ok-poll_recv.ensures in
+    let keeps = c.receive.ensures.keeps_all_else in
+    let no_end = c.receive.ensures.tells_no_end in
+    let quiet = c.comes_first.ensures.quiet (subst g.Q.Requests.quiet c.cleanup_waiters.ensures.same next.requests_first) in
+    let p = c.in-Ready-Ok-poll_recv.peer in
+    let bytes = c.in-Ready-Ok-poll_recv.bytes in
+    IsPoll-open c.in_default.is (ap (λ e. e.end) keeps ∙ c.in_default.is ∙ sym no_end)
+    (λ s is past has before held.
+    let swept = c.cleanup_waiters.ensures.swept s is.same past has in
+    let holds = subst (λ j. Holds g.T.Job.Job.is_of c.self.inside.end j before) (none.0 ∙ sym none.1) held in
+    PollsOnce-sources {asked = c.comes_first.new.requests} {job = c.comes_first.new.slot} none.0
+    (CleansUpFirst-then swept.1 c.in_default.is holds
+    (record {
+      local = refl;
+      sets = next.sets;
+      requests = λ told h. next.requests told (subst (λ q. g.Q.Requests.told q told) (sym c.cleanup_waiters.ensures.same) h);
+      outcomes = λ told h. told-same g.Q.Requests.ended c.next_input.new.requests told (next.ended told (subst (λ q. g.Q.Requests.ended q told) (sym c.cleanup_waiters.ensures.same) h));
+      payloads = told-same g.V.Receiver.told c.args.network.now.1;
+    })
+    (TakesOnly-payload c.in_default.is none.1 holds
+    (subst (λ bs. Arrives s (parties (λ w b. g.S.Responder.may_answer w.responder b) g.T.Job.Job.is_of g.O.Outlet) (cleanup swept.0 ∷ past) (payload_of p (s.reading bs)) c.cleanup_waiters.new.node c.receive.new.self c.receive.result) c.as_slice.ensures
+    (c.receive.ensures.arrives s is (cleanup swept.0 ∷ past) swept.1.content))
+    (ap (λ e. e.end) keeps ∙ c.in_default.is) refl
+    (Gave-received (ap (λ e. e.provider) keeps) (λ told h. subst (λ q. g.Q.Requests.told q told) (sym (ap (λ e. e.requests) keeps)) h)
+    (λ told h. subst (λ q. g.Q.Requests.ended q told) (sym (ap (λ e. e.requests) keeps)) h) got.tells)))
+    c.comes_first.ensures.tells c.comes_first.ensures.ended)
+    (record {
+      stop_first = λ stops. no_stop (c.in-Sources.ensures.stop_first stops);
+      has_cause = λ cause is. not_ended c.receive.result cause no_end is;
+      closes = λ cause is. not_ended c.receive.result cause no_end is;
+      peers_first = λ _. UnlessPeers-holds c.receive.result next.peers_first;
+      requests_first = λ _. IfNetwork-holds c.receive.result quiet;
+      network_last = inr (next.peers_first, quiet);
+      network_looked_at = λ _. OnPending-map c.receive.result (λ full idle. absurd (full idle)) c.receive.ensures.held_if_pending;
+      ends_with_peers = λ _ over. no_ready (next.ends over);
+      ends_with_network = λ _ failed. absurd (got.fails failed);
+      idle_if_ready = c.receive.ensures.idle_if_ready;
     })
     (record { priority = ap (λ e. e.priority) keeps; codec_config = ap (λ e. e.codec_config) keeps; strategy = ap (λ e. e.strategy) keeps }))
+
+pub returns-in-Ready-Err-poll_recv-clause-polled : goal.returns-in-Ready-Err-poll_recv-clause-polled
+returns-in-Ready-Err-poll_recv-clause-polled g c = rw (← c.self.view_is) (rw c.end-in-Ready-Err-poll_recv.ensures.told (
+    let none = c.in-Sources.ensures.job_alone in
+    let next = c.in-Pending.ensures in
+    let got = rw c.in-Ready-Err-poll_recv.field-0-is at c.in-Ready-Err-poll_recv.ensures in
+    let over = c.end-in-Ready-Err-poll_recv.ensures.keeps_all_else in
+    let quiet = c.comes_first.ensures.quiet (subst g.Q.Requests.quiet c.cleanup_waiters.ensures.same next.requests_first) in
+    IsPoll-open c.in_default.is (ap (λ e. e.end) over)
+    (λ s is past has before held.
+    let swept = c.cleanup_waiters.ensures.swept s is.same past has in
+    let holds = subst (λ j. Holds g.T.Job.Job.is_of c.self.inside.end j before) (none.0 ∙ sym none.1) held in
+    PollsOnce-sources {asked = c.comes_first.new.requests} {job = c.comes_first.new.slot} none.0
+    (CleansUpFirst-then swept.1 c.in_default.is holds
+    (record {
+      local = refl;
+      sets = next.sets;
+      requests = λ told h. next.requests told (subst (λ q. g.Q.Requests.told q told) (sym c.cleanup_waiters.ensures.same) h);
+      outcomes = λ told h. told-same g.Q.Requests.ended c.next_input.new.requests told (next.ended told (subst (λ q. g.Q.Requests.ended q told) (sym c.cleanup_waiters.ensures.same) h));
+      payloads = told-same g.V.Receiver.told c.args.network.now.1;
+    })
+    (TakesOnly-ended (c.end-in-Ready-Err-poll_recv.ensures.ended s is.same (cleanup swept.0 ∷ past) swept.1.content) (ap (λ e. e.end) over) (ap (λ e. e.job) over) refl
+    (Gave-received (ap (λ e. e.provider) over) c.end-in-Ready-Err-poll_recv.ensures.tells c.end-in-Ready-Err-poll_recv.ensures.tells_outcomes got.tells)))
+    c.comes_first.ensures.tells c.comes_first.ensures.ended)
+    (record {
+      stop_first = λ stops. no_stop (c.in-Sources.ensures.stop_first stops);
+      has_cause = λ cause is. subst (λ k. HasCause k (g.Q.Requests.may_stop c.self.inside.requests) (g.B.Provider.may_end c.self.inside.provider) (g.V.Receiver.may_fail c.args.network.now.1))
+          (same_cause is) got.may_fail;
+      closes = λ cause is. c.end-in-Ready-Err-poll_recv.ensures.closes;
+      peers_first = λ _. tt;
+      requests_first = λ _ is. no_true is;
+      network_last = inr (next.peers_first, quiet);
+      network_looked_at = λ _. tt;
+      ends_with_peers = λ _ over. no_ready (next.ends over);
+      ends_with_network = λ _ failed. inl refl;
+      idle_if_ready = ap (λ e. e.job) over;
+    })
+    (record { priority = ap (λ e. e.priority) over; codec_config = ap (λ e. e.codec_config) over; strategy = ap (λ e. e.strategy) over })))
+
+pub returns-in-Pending-poll_recv-clause-polled : goal.returns-in-Pending-poll_recv-clause-polled
+returns-in-Pending-poll_recv-clause-polled g c = rw (← c.self.view_is) (
+    let none = c.in-Sources.ensures.job_alone in
+    let next = c.in-Pending.ensures in
+    let got = c.in-Pending-poll_recv.ensures in
+    let quiet = c.comes_first.ensures.quiet (subst g.Q.Requests.quiet c.cleanup_waiters.ensures.same next.requests_first) in
+    IsPoll-open c.in_default.is c.in_default.is
+    (λ s is past has before held.
+    let swept = c.cleanup_waiters.ensures.swept s is.same past has in
+    let holds = subst (λ j. Holds g.T.Job.Job.is_of c.self.inside.end j before) (none.0 ∙ sym none.1) held in
+    PollsOnce-sources {asked = c.comes_first.new.requests} {job = c.comes_first.new.slot} none.0
+    (CleansUpFirst-then swept.1 c.in_default.is holds
+    (record {
+      local = refl;
+      sets = next.sets;
+      requests = λ told h. next.requests told (subst (λ q. g.Q.Requests.told q told) (sym c.cleanup_waiters.ensures.same) h);
+      outcomes = λ told h. told-same g.Q.Requests.ended c.next_input.new.requests told (next.ended told (subst (λ q. g.Q.Requests.ended q told) (sym c.cleanup_waiters.ensures.same) h));
+      payloads = told-same g.V.Receiver.told c.args.network.now.1;
+    })
+    (record { took = TakesSteps-none swept.1.content holds (λ _. refl) refl refl got.tells; asks_none = refl }))
+    c.comes_first.ensures.tells c.comes_first.ensures.ended)
+    (record {
+      stop_first = λ stops. no_stop (c.in-Sources.ensures.stop_first stops);
+      has_cause = λ cause is. no_ready is;
+      closes = λ cause is. no_ready is;
+      peers_first = λ _. next.peers_first;
+      requests_first = λ _. quiet;
+      network_last = inr (next.peers_first, quiet);
+      network_looked_at = λ _ _. got.quiet;
+      ends_with_peers = λ _ over. no_ready (next.ends over);
+      ends_with_network = λ _ failed. absurd (got.fails failed);
+      idle_if_ready = tt;
+    })
+    (record { priority = refl; codec_config = refl; strategy = refl }))

@@ -1,26 +1,23 @@
 //! The next input of the node's own sources.
-ghost use Rattle.std.specs.Prelude.{◌≡◌, ℕ, Bool, List, [], ◌∷◌, ◌++◌, Err, IfOk};
-ghost use Rattle.futures.specs.Poll.{IfReady, OnPending};
+ghost use Rattle.std.specs.Prelude.{◌≡◌, ℕ, Bool, List, [], ◌++◌, Err};
+ghost use Rattle.futures.specs.Poll.{OnPending};
 ghost use Rattle.futures.specs.Task.{IsArmed, Keeps};
 ghost use Rattle.futures.specs.declared.task.Poll.TheVariants.{Ready};
 ghost use Rattle.broadcast_mailbox.specs.declared.buffered.ingress.message.Message.{Message};
 ghost use Rattle.broadcast_mailbox.specs.declared.buffered.ingress.message.Request.{Request};
 ghost use Rattle.engine_io.specs.Sources.{given_ok};
 ghost use Rattle.engine_io.specs.Inputs.{sets_in, requests_in, payloads_in};
-ghost use Rattle.engine_io.specs.FirstSource.{UnlessPeerSet};
-ghost use Rattle.engine_io.specs.Causes.{EndsBy};
+ghost use Rattle.commonware_broadcast.specs.FirstSource.{EndsBy, UnlessPeerSet};
 ghost use Rattle.engine_io.specs.Heard.{HearsAll};
 
-use crate::input::{EndCause, Input};
-use crate::network::Provider;
-use crate::requests::Requests;
 use broadcast_core::{Digestible, PublicKey};
 use broadcast_mailbox::buffered::{Message, Reply, Responder};
+use engine_io::{EndCause, Input, Provider, Requests};
 use futures::task::{Context, Poll};
 
 /// Returns the next peer set, or else the next request. Once there are no more peer sets, the
 /// engine ends: `EndCause::PeersClosed`.
-pub fn next_input<P, M, S, G, B, Q>(
+pub(super) fn next_input<P, M, S, G, B, Q>(
     provider: &mut B,
     requests: &mut Q,
     cx: &mut Context<'_>,

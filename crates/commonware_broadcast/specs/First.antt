@@ -1,8 +1,8 @@
--- Believed.
+-- Internal.
 -- What a poll of an engine does first.
 use Rattle.std.specs.Prelude.{◌≡◌, Option, Some, None}
-use Rattle.engine_io.specs.declared.first.First.{First}
-use Rattle.engine_io.specs.declared.first.First.TheVariants.{Stop, Job, Sources}
+use Rattle.commonware_broadcast.specs.declared.buffered.engine.first.First.{First}
+use Rattle.commonware_broadcast.specs.declared.buffered.engine.first.First.TheVariants.{Stop, Job, Sources}
 
 -- the job that stood in the slot before is the one to poll, and is no longer there; for a stop it
 -- stays; the sources are looked at only if there was none

@@ -1,9 +1,10 @@
--- Believed.
+-- Internal.
 -- What is taken before other sources are looked at.
 use Rattle.std.specs.Prelude.{Result, Ok, Err, ⊤}
 use Rattle.futures.specs.declared.task.Poll.{Poll}
-use Rattle.futures.specs.declared.task.Poll.TheVariants.{Ready}
+use Rattle.futures.specs.declared.task.Poll.TheVariants.{Ready, Pending}
 use Rattle.engine_io.specs.declared.input.EndCause.{EndCause}
+use Rattle.engine_io.specs.Causes.{HasCause}
 use Rattle.engine_io.specs.declared.input.Input.{Input}
 use Rattle.engine_io.specs.declared.input.Input.TheVariants as input
 
@@ -13,3 +14,9 @@ abbrev pub UnlessPeerSet : {P M S G D : Type 0} → Poll (Result (Input P M S G 
 UnlessPeerSet (Ready (Ok (input.Peers ps))) holds = ⊤
 UnlessPeerSet (Ready (Err cause)) holds = ⊤
 UnlessPeerSet _ holds = holds
+
+-- if the poll tells an end, its cause is there
+abbrev pub EndsBy : {A : Type 0} → Poll (Result A EndCause) → (asked ended failed : Type 0) → Type 0
+EndsBy (Ready (Err cause)) asked ended failed = HasCause cause asked ended failed
+EndsBy (Ready (Ok value)) asked ended failed = ⊤
+EndsBy Pending asked ended failed = ⊤
