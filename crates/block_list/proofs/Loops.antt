@@ -62,10 +62,10 @@ module _ {A : Type 0} (reading : List ℕ → Result (A × ℕ) CodecError) wher
   refused_first n bytes (Ok a) e is = absurd cc
   refused_first n bytes (Err d) e is = let same : d ≡ e = cc in ap (λ (x : CodecError). Err x) same
 
-  pub layout_more : (whole : Result ℕ CodecError) (count i used more : ℕ) (buf : List ℕ) → i < count → Ok more ≡ layout_of (reading (from used buf))
+  pub layout_more : {whole : Result ℕ CodecError} (count i used : ℕ) {more : ℕ} (buf : List ℕ) → i < count → Ok more ≡ layout_of (reading (from used buf))
       → whole ≡ plus used (layout_of (read_each reading (count - i) (drop used buf)))
       → whole ≡ plus (used + more) (layout_of (read_each reading (count - (i + 1)) (drop (used + more) buf)))
-  layout_more whole count i used more buf lt is so =
+  layout_more count i used {more = more} buf lt is so =
       let n = count - (i + 1) in
       let bytes = drop used buf in
       so ∙ ap (λ (r : Result (List A × ℕ) CodecError). plus used (layout_of r)) (each_left count i bytes lt)
@@ -73,14 +73,14 @@ module _ {A : Type 0} (reading : List ℕ → Result (A × ℕ) CodecError) wher
       ∙ plus_plus used more (layout_of (read_each reading n (drop more bytes)))
       ∙ ap (λ (bs : List ℕ). plus (used + more) (layout_of (read_each reading n bs))) (drop-drop more used buf)
 
-  pub layout_stops : (whole : Result ℕ CodecError) (count i used : ℕ) (e : CodecError) (buf : List ℕ) → i < count → Err e ≡ layout_of (reading (from used buf))
+  pub layout_stops : {whole : Result ℕ CodecError} (count i used : ℕ) {e : CodecError} (buf : List ℕ) → i < count → Err e ≡ layout_of (reading (from used buf))
       → whole ≡ plus used (layout_of (read_each reading (count - i) (drop used buf))) → whole ≡ Err e
-  layout_stops whole count i used e buf lt is so =
+  layout_stops count i used {e = e} buf lt is so =
       let bytes = drop used buf in
       so ∙ ap (λ (r : Result (List A × ℕ) CodecError). plus used (layout_of r)) (each_left count i bytes lt ∙ refused_first (count - (i + 1)) bytes (reading bytes) e (subst (λ (bs : List ℕ). Err e ≡ layout_of (reading bs)) (from_is used buf) is))
 
-  pub layout_within : (used more : ℕ) (buf : List ℕ) → IsWithin reading → used ≤ length buf → Ok more ≡ layout_of (reading (from used buf)) → used + more ≤ length buf
-  layout_within used more buf within fits is =
+  pub layout_within : (used : ℕ) {more : ℕ} (buf : List ℕ) → IsWithin reading → used ≤ length buf → Ok more ≡ layout_of (reading (from used buf)) → used + more ≤ length buf
+  layout_within used {more = more} buf within fits is =
       let rest = layout_fits (reading (from used buf)) more (length (from used buf)) (within (from used buf)) is in
       omega (arith, fits, rest, ap length (from_is used buf), length-drop used buf)
 
@@ -88,15 +88,15 @@ module _ {A : Type 0} (reading : List ℕ → Result (A × ℕ) CodecError) wher
   given x r (inl is) = sym is
   given x r (inr lacks) = absurd (let never = lacks.0 in cc)
 
-  pub read_within : (a : A) (used more : ℕ) (buf : List ℕ) → IsWithin reading → used ≤ length buf → GivesOrLacks (Ok (a, more)) (reading (from used buf)) → used + more ≤ length buf
-  read_within a used more buf within fits is =
+  pub read_within : {a : A} (used : ℕ) {more : ℕ} (buf : List ℕ) → IsWithin reading → used ≤ length buf → GivesOrLacks (Ok (a, more)) (reading (from used buf)) → used + more ≤ length buf
+  read_within {a = a} used {more = more} buf within fits is =
       let rest = within (from used buf) a more (given (a, more) (reading (from used buf)) is) in
       omega (arith, fits, rest, ap length (from_is used buf), length-drop used buf)
 
-  pub read_more : (whole : Result (List A × ℕ) CodecError) (xs : List A) (a : A) (count i used more : ℕ) (buf : List ℕ) → i < count → GivesOrLacks (Ok (a, more)) (reading (from used buf))
+  pub read_more : {whole : Result (List A × ℕ) CodecError} (xs : List A) {a : A} (count i used : ℕ) {more : ℕ} (buf : List ℕ) → i < count → GivesOrLacks (Ok (a, more)) (reading (from used buf))
       → whole ≡ following xs used (read_each reading (count - i) (drop used buf))
       → whole ≡ following (xs ++ a ∷ []) (used + more) (read_each reading (count - (i + 1)) (drop (used + more) buf))
-  read_more whole xs a count i used more buf lt is so =
+  read_more xs {a = a} count i used {more = more} buf lt is so =
       let n = count - (i + 1) in
       let bytes = drop used buf in
       so ∙ ap (following xs used) (each_left count i bytes lt ∙ each_first n bytes (Ok (a, more)) (subst (λ (bs : List ℕ). reading bs ≡ Ok (a, more)) (from_is used buf) (given (a, more) (reading (from used buf)) is)))
@@ -110,16 +110,16 @@ module _ {A : Type 0} (reading : List ℕ → Result (A × ℕ) CodecError) wher
           λ j. Ok (list j, all j)
       moved (Err e) = refl
 
-  pub read_stops : (whole : Result (List A × ℕ) CodecError) (xs : List A) (count i used : ℕ) (e : CodecError) (buf : List ℕ) → i < count → IsOk whole → GivesOrLacks (Err e) (reading (from used buf))
+  pub read_stops : {whole : Result (List A × ℕ) CodecError} (xs : List A) (count i used : ℕ) {e : CodecError} (buf : List ℕ) → i < count → IsOk whole → GivesOrLacks (Err e) (reading (from used buf))
       → whole ≡ following xs used (read_each reading (count - i) (drop used buf)) → GivesOrLacks (Err e) whole
-  read_stops whole xs count i used e buf lt ok (inl is) so =
+  read_stops xs count i used {e = e} buf lt ok (inl is) so =
       let bytes = drop used buf in
       inl (sym (so ∙ ap (following xs used) (each_left count i bytes lt ∙ each_first (count - (i + 1)) bytes (Err e) (subst (λ (bs : List ℕ). reading bs ≡ Err e) (from_is used buf) (sym is)))))
-  read_stops whole xs count i used e buf lt ok (inr lacks) so = let same : e ≡ Memory = cc lacks.0 in inr (ap (λ (x : CodecError). Err x) same, ok)
+  read_stops xs count i used {e = e} buf lt ok (inr lacks) so = let same : e ≡ Memory = cc lacks.0 in inr (ap (λ (x : CodecError). Err x) same, ok)
 
-  pub read_ends : (whole : Result (List A × ℕ) CodecError) (xs : List A) (count i used : ℕ) (buf : List ℕ) → count ≤ i
+  pub read_ends : {whole : Result (List A × ℕ) CodecError} (xs : List A) (count i used : ℕ) (buf : List ℕ) → count ≤ i
       → whole ≡ following xs used (read_each reading (count - i) (drop used buf)) → whole ≡ Ok (xs, used)
-  read_ends whole xs count i used buf le so =
+  read_ends xs count i used buf le so =
       let none : count - i ≡ 0 = omega arith in
       let same : used + 0 ≡ used = omega arith in
       so ∙ ap (λ (n : ℕ). following xs used (read_each reading n (drop used buf))) none ∙ (λ j. Ok (append-nil xs j, same j))

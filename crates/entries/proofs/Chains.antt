@@ -110,36 +110,6 @@ module _ {K D : Type 0} where
         there = there;
       }
 
-  pub pushes : (h k l : ℕ → Option (Entry K D)) (chain next : Chain) (peer : K) (place : ℕ) (digest : D) (entry : Entry K D) → h place ≡ None → k place ≡ Some entry → ((j : ℕ) → j ≢ place → k j ≡ h j) → entry.peer ≡ peer → Links k l chain next place digest → Pushes h l chain next peer place digest
-  pushes h k l chain next peer place digest entry vacant there others owner li = record {
-    free = vacant;
-    chains = λ mine ns owned p.
-        let misses = vacant-misses mine h place None ns None vacant p.linked.run in
-        let v = li.linked mine ns entry (IsLinked-elsewhere mine h k chain place ns others misses p.linked) misses there (ap mine owner ∙ owned) in (
-          record {
-            linked = v.0;
-            all = λ j e now mine_now.
-                let x = li.peers j e now in
-                elim (cases_eq j place) [
-                  | inl same ↦ inl same
-                  | inr differs ↦ inr (p.all j x.0 (sym (others j differs) ∙ x.1) (ap mine x.2 ∙ mine_now))
-                ];
-          },
-          Frame-join mine h k l (record {
-            forth = λ j e was other. elim (cases_eq j place) [
-              | inl same ↦ let no : None ≡ Some e = sym vacant ∙ ap h (sym same) ∙ was in absurd (cc)
-              | inr differs ↦ others j differs ∙ was
-            ];
-            back = λ j e now other. elim (cases_eq j place) [
-              | inl same ↦ let here : Some entry ≡ Some e = sym there ∙ ap k (sym same) ∙ now in
-                  let one : entry ≡ e = cc in
-                  let no : true ≡ false = sym owned ∙ ap mine (sym owner) ∙ ap (λ (x : Entry K D). mine x.peer) one ∙ other in absurd (cc)
-              | inr differs ↦ sym (others j differs) ∙ now
-            ];
-          }) v.1,
-        );
-  }
-
   -- the oldest place is on the chain
   pub on_oldest : (h : ℕ → Option (Entry K D)) (chain : Chain) (place : ℕ) → chain.oldest ≡ Some place → HasNodes h chain → IsOn h chain place
   on_oldest h chain place at has =
@@ -155,44 +125,75 @@ module _ {K D : Type 0} where
   pub pops_none : (h : ℕ → Option (Entry K D)) (chain : Chain) → chain.oldest ≡ None → (mine : K → Bool) (ns : List (Node D)) → IsChain mine h chain ns → (ns ≡ []) × (chain ≡ chain) × SameValues h h
   pops_none h chain none mine ns p = (final_none ns (sym p.linked.oldest ∙ none), refl, λ j. refl)
 
-  pub pops : (h k l : ℕ → Option (Entry K D)) (chain next : Chain) (place : ℕ) (entry : Entry K D) → chain.oldest ≡ Some place → Unlinks h k chain next place → k place ≡ Some entry → l place ≡ None → ((j : ℕ) → j ≢ place → l j ≡ k j) → Pops h l chain next (Some entry.digest)
-  pops h k l chain next place entry at un there gone others mine ns p =
-      let ends = final_some ns place (sym p.linked.oldest ∙ at) in
-      let q : IsLinked mine h chain (ends.front ++ (place, ends.digest) ∷ []) = rw ends.is at p.linked in
-      let here = at_place mine h chain ends.front (place, ends.digest) [] q in
-      let one : here.entry ≡ entry = let same : Some here.entry ≡ Some entry = sym here.there ∙ sym un.kept ∙ there in cc in
-      let read : ends.digest ≡ entry.digest = sym here.digest ∙ ap (λ (x : Entry K D). x.digest) one in
-      let u = un.linked mine ends.front ends.digest [] q in
-      let rest : IsLinked mine k next ends.front = rw append-nil at u.0 in
-      let misses : Misses (Some place) ends.front = Misses-left _ ends.front [] (Misses-taken ends.front _ [] q.apart) in (
-        place,
-        ends.front,
-        ends.is ∙ ap (λ (d : D). ends.front ++ (place, d) ∷ []) read,
-        gone,
-        record {
-          linked = IsLinked-elsewhere mine k l next place ends.front others misses rest;
-          all = λ j e now owned.
-              let away : j ≢ place = λ same. let no : None ≡ Some e = sym gone ∙ ap l (sym same) ∙ now in cc in
-              let x = un.peers j e (sym (others j away) ∙ now) in
-              let was : IsIn j (ends.front ++ (place, ends.digest) ∷ []) = rw ends.is at (p.all j x.0 x.1 (ap mine x.2 ∙ owned)) in
-              elim (IsIn-taken j ends.front (place, ends.digest) [] was) [
-                | inl same ↦ absurd (away same)
-                | inr found ↦ rw append-nil at found
+  module _ {h k l : ℕ → Option (Entry K D)} {chain next : Chain} {place : ℕ} {entry : Entry K D} where
+    pub pushes : {peer : K} {digest : D} → h place ≡ None → k place ≡ Some entry → ((j : ℕ) → j ≢ place → k j ≡ h j) → entry.peer ≡ peer → Links k l chain next place digest → Pushes h l chain next peer place digest
+    pushes vacant there others owner li = record {
+      free = vacant;
+      chains = λ mine ns owned p.
+          let misses = vacant-misses mine h place None ns None vacant p.linked.run in
+          let v = li.linked mine ns entry (IsLinked-elsewhere mine h k chain place ns others misses p.linked) misses there (ap mine owner ∙ owned) in (
+            record {
+              linked = v.0;
+              all = λ j e now mine_now.
+                  let x = li.peers j e now in
+                  elim (cases_eq j place) [
+                    | inl same ↦ inl same
+                    | inr differs ↦ inr (p.all j x.0 (sym (others j differs) ∙ x.1) (ap mine x.2 ∙ mine_now))
+                  ];
+            },
+            Frame-join mine h k l (record {
+              forth = λ j e was other. elim (cases_eq j place) [
+                | inl same ↦ let no : None ≡ Some e = sym vacant ∙ ap h (sym same) ∙ was in absurd (cc)
+                | inr differs ↦ others j differs ∙ was
               ];
-        },
-        Frame-join mine h k l u.1 (record {
-          forth = λ j e was other. elim (cases_eq j place) [
-            | inl same ↦ let this : Some entry ≡ Some e = sym there ∙ ap k (sym same) ∙ was in
-                let that : entry ≡ e = cc in
-                let no : true ≡ false = sym here.owned ∙ ap (λ (x : Entry K D). mine x.peer) (one ∙ that) ∙ other in absurd (cc)
-            | inr differs ↦ others j differs ∙ was
-          ];
-          back = λ j e now other. elim (cases_eq j place) [
-            | inl same ↦ let no : None ≡ Some e = sym gone ∙ ap l (sym same) ∙ now in absurd (cc)
-            | inr differs ↦ sym (others j differs) ∙ now
-          ];
-        }),
-      )
+              back = λ j e now other. elim (cases_eq j place) [
+                | inl same ↦ let here : Some entry ≡ Some e = sym there ∙ ap k (sym same) ∙ now in
+                    let one : entry ≡ e = cc in
+                    let no : true ≡ false = sym owned ∙ ap mine (sym owner) ∙ ap (λ (x : Entry K D). mine x.peer) one ∙ other in absurd (cc)
+                | inr differs ↦ sym (others j differs) ∙ now
+              ];
+            }) v.1,
+          );
+    }
+
+    pub pops : chain.oldest ≡ Some place → Unlinks h k chain next place → k place ≡ Some entry → l place ≡ None → ((j : ℕ) → j ≢ place → l j ≡ k j) → Pops h l chain next (Some entry.digest)
+    pops at un there gone others mine ns p =
+        let ends = final_some ns place (sym p.linked.oldest ∙ at) in
+        let q : IsLinked mine h chain (ends.front ++ (place, ends.digest) ∷ []) = rw ends.is at p.linked in
+        let here = at_place mine h chain ends.front (place, ends.digest) [] q in
+        let one : here.entry ≡ entry = let same : Some here.entry ≡ Some entry = sym here.there ∙ sym un.kept ∙ there in cc in
+        let read : ends.digest ≡ entry.digest = sym here.digest ∙ ap (λ (x : Entry K D). x.digest) one in
+        let u = un.linked mine ends.front ends.digest [] q in
+        let rest : IsLinked mine k next ends.front = rw append-nil at u.0 in
+        let misses : Misses (Some place) ends.front = Misses-left _ ends.front [] (Misses-taken ends.front _ [] q.apart) in (
+          place,
+          ends.front,
+          ends.is ∙ ap (λ (d : D). ends.front ++ (place, d) ∷ []) read,
+          gone,
+          record {
+            linked = IsLinked-elsewhere mine k l next place ends.front others misses rest;
+            all = λ j e now owned.
+                let away : j ≢ place = λ same. let no : None ≡ Some e = sym gone ∙ ap l (sym same) ∙ now in cc in
+                let x = un.peers j e (sym (others j away) ∙ now) in
+                let was : IsIn j (ends.front ++ (place, ends.digest) ∷ []) = rw ends.is at (p.all j x.0 x.1 (ap mine x.2 ∙ owned)) in
+                elim (IsIn-taken j ends.front (place, ends.digest) [] was) [
+                  | inl same ↦ absurd (away same)
+                  | inr found ↦ rw append-nil at found
+                ];
+          },
+          Frame-join mine h k l u.1 (record {
+            forth = λ j e was other. elim (cases_eq j place) [
+              | inl same ↦ let this : Some entry ≡ Some e = sym there ∙ ap k (sym same) ∙ was in
+                  let that : entry ≡ e = cc in
+                  let no : true ≡ false = sym here.owned ∙ ap (λ (x : Entry K D). mine x.peer) (one ∙ that) ∙ other in absurd (cc)
+              | inr differs ↦ others j differs ∙ was
+            ];
+            back = λ j e now other. elim (cases_eq j place) [
+              | inl same ↦ let no : None ≡ Some e = sym gone ∙ ap l (sym same) ∙ now in absurd (cc)
+              | inr differs ↦ sym (others j differs) ∙ now
+            ];
+          }),
+        )
 
   -- what stands at a place of a chain
   pub record Stands (h : ℕ → Option (Entry K D)) (place : ℕ) : Type 0 where

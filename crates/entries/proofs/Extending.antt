@@ -1,5 +1,5 @@
 -- A chain that gets a digest in front, and one that loses its oldest.
-use Rattle.std.proofs.Common.{Bool, true, ◌≡◌, ◌+◌, ◌≤◌, ℕ, List, [], ◌∷◌, length, Option, Some, None, refl, sym, ap, ◌∙◌, arith}
+use Rattle.std.proofs.Common.{Bool, ◌≡◌, ◌+◌, ◌≤◌, ℕ, List, [], ◌∷◌, length, Option, Some, None, refl, sym, ap, ◌∙◌, arith}
 use Rattle.std.specs.Prelude.{MatchOption}
 use Rattle.std.specs.Cmp.{IsEquivalence}
 use Rattle.std.specs.Map.{lookup, set_value}
@@ -10,7 +10,7 @@ use Rattle.entries.specs.declared.entry.Entry.{Entry}
 use Rattle.entries.specs.declared.entry.Chain.{Chain}
 use Rattle.entries.specs.Linked.{HasNodes, Pushes, Pops}
 use Rattle.entries.specs.Store.{Puts, Evicts, Extends, Trims, items_at, nodes, lists_of, bytes_of, IsStore, IsSummed}
-use Rattle.entries.proofs.Stores.{by_test, is_at, written, nodes-is, items_at-chain, list_length, has_nodes, adds, evicts_one}
+use Rattle.entries.proofs.Stores.{by_test, is_at, written, nodes-is, items_at-chain, list_length, has_nodes, adds, evicts}
 use Rattle.entries.proofs.Sums.{adds-summed, evicts-summed, sum_at, bytes_of-append, bytes_of-cons}
 
 -- a value that is set twice
@@ -32,17 +32,15 @@ module _ {K D : Type 0} (h k : ℕ → Option (Entry K (Charged D))) (chain next
   none-oldest pops = has.whole.linked.len ∙ ap length (pops has.mine has.nodes has.whole).0
 
 module _ {K D : Type 0} {same : K → K → Bool} (laws : IsEquivalence same) where
-  module _ (h k : ℕ → Option (Entry K (Charged D))) (es fs : List (K × Chain)) (p : K) (old next : Chain) (store : IsStore same h es) (summed : IsSummed same h es)
+  module _ {h k : ℕ → Option (Entry K (Charged D))} {es fs : List (K × Chain)} {old : Chain} (p : K) (next : Chain) (store : IsStore same h es) (summed : IsSummed same h es)
       (was : lookup (same p) es ≡ Some old) (is : fs ≡ set_value (same p) es next) where
     -- what a chain that is cut makes of all lists
-    pub trims-some : (size : ℕ) (stale : Charged D) → Trims size h k old next (Some stale)
+    trims-some : (size : ℕ) (stale : Charged D) → Trims size h k old next (Some stale)
         → IsStore same k fs × IsSummed same k fs × Evicts same p stale (lists_of h es) (lists_of k fs)
-    trims-some size stale trims =
-        let r = evicts_one laws h k es fs p old next stale store was is trims.1 in
-        (r.0, evicts-summed laws h k es fs p old next stale store summed was is trims.1 trims.2, r.1)
+    trims-some size stale trims = let r = evicts laws p store was is trims.1 in (r.0, evicts-summed laws p store summed was is trims.1 trims.2, r.1)
 
     -- a chain that is not cut leaves all lists
-    pub trims-none : (size : ℕ) → Trims size h k old next None → IsStore same k fs × IsSummed same k fs × (lists_of k fs ≡ lists_of h es)
+    trims-none : (size : ℕ) → Trims size h k old next None → IsStore same k fs × IsSummed same k fs × (lists_of k fs ≡ lists_of h es)
     trims-none size trims =
         let same_entries : fs ≡ es = is ∙ ap (set_value (same p) es) trims.2 ∙ set_value_same (same p) es old was in
         (rw (trims.1, same_entries) store, rw (trims.1, same_entries) summed, rw (trims.1, same_entries) refl)
@@ -56,19 +54,22 @@ module _ {K D : Type 0} {same : K → K → Bool} (laws : IsEquivalence same) wh
         (r.0, r.1, (empty, r.2))
     trims-any (Some stale) trims = trims-some 0 stale trims
 
-  module _ (h k : ℕ → Option (Entry K (Charged D))) (es : List (K × Chain)) (p owner : K) (old between : Chain) (digest : Charged D) (place : ℕ) (store : IsStore same h es) (summed : IsSummed same h es)
-      (was : lookup (same p) es ≡ Some old) (owned : same p owner ≡ true) (pushes : Pushes h k old between owner place digest) (sum : between.bytes ≡ old.bytes + digest.charge) where
+  module _ {h k : ℕ → Option (Entry K (Charged D))} {es : List (K × Chain)} {p : K} {old between : Chain} {digest : Charged D} {place : ℕ} (store : IsStore same h es) (summed : IsSummed same h es)
+      (was : lookup (same p) es ≡ Some old) (pushes : Pushes h k old between p place digest) (sum : between.bytes ≡ old.bytes + digest.charge) where
     abbrev mid : List (K × Chain)
     mid = set_value (same p) es between
 
+    now-at : {fs : List (K × Chain)} (next : Chain) → fs ≡ set_value (same p) es next → lookup (same p) fs ≡ Some next
+    now-at {fs = fs} next is = written laws es fs p old next was is p ∙ is_at (same p p) (Some next) (lookup (same p) es) (laws.refl p)
+
     mid-at : lookup (same p) mid ≡ Some between
-    mid-at = written laws es mid p old between was refl p ∙ is_at (same p p) (Some between) (lookup (same p) es) (laws.refl p)
+    mid-at = now-at between refl
 
     mid-store : IsStore same k mid × Puts same p ((place, digest) ∷ items_at same p (lists_of h es)) (lists_of h es) (lists_of k mid)
-    mid-store = adds laws h k es mid p owner old between digest place store was owned refl pushes
+    mid-store = adds laws p store was refl pushes
 
     mid-summed : IsSummed same k mid
-    mid-summed = (adds-summed laws h k es mid p owner old between digest place store summed was owned refl pushes sum).0
+    mid-summed = adds-summed laws p store summed was refl pushes sum
 
     mid-length : between.len ≡ length (items_at same p (lists_of k mid))
     mid-length = list_length laws k mid p between mid-store.0 mid-at ∙ ap length (sym (items_at-chain laws k mid p between mid-at))
@@ -77,19 +78,16 @@ module _ {K D : Type 0} {same : K → K → Bool} (laws : IsEquivalence same) wh
     pub pushed : HasNodes k between × (between.bytes ≡ bytes_of (nodes k between))
     pushed = (has_nodes laws k mid p between mid-store.0 mid-at, mid-summed.sums p between mid-at)
 
-    module _ (l : ℕ → Option (Entry K (Charged D))) (fs : List (K × Chain)) (next : Chain) (size : ℕ) (is : fs ≡ set_value (same p) es next) where
-      mid-is : fs ≡ set_value (same p) mid next
-      mid-is = is ∙ sym (set_value-twice (same p) es between next)
+    mid-is : {fs : List (K × Chain)} (next : Chain) → fs ≡ set_value (same p) es next → fs ≡ set_value (same p) mid next
+    mid-is next is = is ∙ sym (set_value-twice (same p) es between next)
 
-      -- what a digest in front makes of all lists
+    module _ {l : ℕ → Option (Entry K (Charged D))} {fs : List (K × Chain)} (next : Chain) (size : ℕ) (is : fs ≡ set_value (same p) es next) where
+      -- what a digest in front makes of all lists, and the new sum of its own
       pub extends : (stale : Option (Charged D)) → Trims size k l between next stale
-          → IsStore same l fs × IsSummed same l fs × Extends same p (place, digest) size stale (lists_of h es) (lists_of l fs)
+          → IsStore same l fs × IsSummed same l fs × Extends same p (place, digest) size stale (lists_of h es) (lists_of l fs) × (next.bytes ≡ bytes_of (items_at same p (lists_of l fs)))
       extends None trims =
-          let r = trims-none k l mid fs p between next mid-store.0 mid-summed mid-at mid-is size trims in
-          (r.0, r.1, record { between = lists_of k mid; put = mid-store.1; cut = (omega (arith, mid-length, trims.0), r.2) })
+          let r = trims-none p next mid-store.0 mid-summed mid-at (mid-is next is) size trims in
+          (r.0, r.1, record { between = lists_of k mid; put = mid-store.1; cut = (omega (arith, mid-length, trims.0), r.2) }, sum_at laws l fs p next r.1 (now-at next is))
       extends (Some stale) trims =
-          let r = trims-some k l mid fs p between next mid-store.0 mid-summed mid-at mid-is size stale trims in
-          (r.0, r.1, record { between = lists_of k mid; put = mid-store.1; cut = (omega (arith, mid-length, trims.0), r.2) })
-
-      pub extends-bytes : (stale : Option (Charged D)) → Trims size k l between next stale → next.bytes ≡ bytes_of (items_at same p (lists_of l fs))
-      extends-bytes stale trims = sum_at laws l fs p next (extends stale trims).1 (written laws es fs p old next was is p ∙ is_at (same p p) (Some next) (lookup (same p) es) (laws.refl p))
+          let r = trims-some p next mid-store.0 mid-summed mid-at (mid-is next is) size stale trims in
+          (r.0, r.1, record { between = lists_of k mid; put = mid-store.1; cut = (omega (arith, mid-length, trims.0), r.2) }, sum_at laws l fs p next r.1 (now-at next is))

@@ -16,7 +16,7 @@ use Rattle.entries.specs.Store.{same_number}
 use Rattle.entries.specs.Table.{Tabled, item_at, name_at, items_by, items_of, place_in, IsPlaced, IsTabled, Takes, Leaves}
 use Rattle.entries.specs.declared.table.Found.{Found}
 use Rattle.entries.proofs.Slots.{number_laws}
-use Rattle.entries.proofs.Tables.{by_test, insert_entry-same, joined, cached, left, left_last}
+use Rattle.entries.proofs.Tables.{by_test, insert_entry-same, PutsItem, Rewrites, joined, cached, left, left_last}
 use Rattle.entries.proofs.Tabled.{no_some, no_both, reached, kept-reach, set-here, set-same, lookup-found, lookup-name, lookup-items, one-number, full, only, alike, twins, leads-there, sorted-items, written-items, inserted-items, removed-items}
 
 same-table : {D T : Type 0} (t u : Tabled D T) → u.index ≡ t.index → u.slots ≡ t.slots → u ≡ t
@@ -33,6 +33,25 @@ by_number m n here apart = elim (cases_eq m n) [
   | inr differs ↦ apart differs
 ]
 
+-- an item is written anew at a number, under its name
+record Writes {D T : Type 0} (R : D → D → Ordering) (t u : Tabled D T) (n : ℕ) (d : D) (was now : Placed ℕ T) : Type 0 where
+  index : u.index ≡ t.index
+  there : item_at t n ≡ Some was
+  written : u.slots ≡ slice_set t.slots n (Some now)
+  message : now.message ≡ was.message
+  leads : lookup (eq_by_cmp R d) t.index ≡ Some n
+
+-- the item of a number had no place but that of the list
+pub record HadOne {D T : Type 0} (t : Tabled D T) (n list : ℕ) (slots : List (Option (Placed ℕ T))) : Type 0 where
+  pub was : Placed ℕ T
+  pub there : item_at t n ≡ Some was
+  pub leaves : LeavesItem n list was true t.slots slots
+
+pub had_one : {D T : Type 0} {t : Tabled D T} (n list : ℕ) (slots : List (Option (Placed ℕ T))) (i : Option (Placed ℕ T)) (b : Bool) → item_at t n ≡ i → b ≡ true
+    → MatchOption i ((b ≡ false) × (slots ≡ t.slots)) (λ was. LeavesItem n list was b t.slots slots) → HadOne t n list slots
+had_one n list slots None b none last stays = no_both last stays.0
+had_one n list slots (Some was) b there last leaves = record { was = was; there = there; leaves = rw last at leaves }
+
 module _ {D T : Type 0} {R : D → D → Ordering} {name : T → D} (o : IsTotalOrder R) (t : Tabled D T) (ok : IsTabled R name t) where
   -- the names and what they lead to stay where only places change
   pub same-names : (u : Tabled D T) → u.index ≡ t.index → ((m : ℕ) → name_at name u m ≡ name_at name t m) → IsPlaced (eq_by_cmp R) same_number (items_of u) → IsTabled R name u
@@ -42,51 +61,52 @@ module _ {D T : Type 0} {R : D → D → Ordering} {name : T → D} (o : IsTotal
     placed = placed;
   }
 
-  -- an item is written at a number, under its name
-  module _ (sorted : IsStrictlySortedBy R (keys_of t.index)) (u : Tabled D T) (index : u.index ≡ t.index) (n : ℕ) (d : D) (was now : Placed ℕ T)
-      (there : item_at t n ≡ Some was) (written : u.slots ≡ slice_set t.slots n (Some now)) (message : now.message ≡ was.message)
-      (leads : lookup (eq_by_cmp R d) t.index ≡ Some n) where
+  module _ (sorted : IsStrictlySortedBy R (keys_of t.index)) {u : Tabled D T} {n : ℕ} {d : D} {was now : Placed ℕ T} (w : Writes R t u n d was now) where
     here : item_at u n ≡ Some now
-    here = ap (λ l. slice_index_or l n None) written ∙ set-here t.slots n was now there
+    here = ap (λ l. slice_index_or l n None) w.written ∙ set-here t.slots n was now w.there
 
     others : (m : ℕ) → (m ≡ n → ⊥) → item_at u m ≡ item_at t m
-    others m differs = ap (λ l. slice_index_or l m None) written ∙ get_or-set_other t.slots n m (Some now) None differs
+    others m differs = ap (λ l. slice_index_or l m None) w.written ∙ get_or-set_other t.slots n m (Some now) None differs
 
-    pub names : (m : ℕ) → name_at name u m ≡ name_at name t m
+    names : (m : ℕ) → name_at name u m ≡ name_at name t m
     names m = by_number m n
-        (λ is. ap (name_at name u) is ∙ ap (option_map (λ it. name it.message)) here ∙ ap (λ x. Some (name x)) message ∙ sym (ap (option_map (λ it. name it.message)) there) ∙ sym (ap (name_at name t) is))
+        (λ is. ap (name_at name u) is ∙ ap (option_map (λ it. name it.message)) here ∙ ap (λ x. Some (name x)) w.message ∙ sym (ap (option_map (λ it. name it.message)) w.there) ∙ sym (ap (name_at name t) is))
         (λ differs. ap (option_map (λ it. name it.message)) (others m differs))
-
-    -- what the name finds
-    pub was-found : lookup (eq_by_cmp R d) (items_of t) ≡ Some was
-    was-found = lookup-found o t ok d ∙ ap (reached (item_at t)) leads ∙ there
-
-    pub entries : items_of u ≡ insert_entry R (items_of t) d now
-    entries = ap (items_by (item_at u)) index ∙ written-items o (item_at t) (item_at u) d n others now here t.index sorted (full o t ok sorted) (only o t ok sorted n d leads) leads
 
     still-there : (e : D) (m : ℕ) → lookup (eq_by_cmp R e) u.index ≡ Some m → is_some (item_at u m) ≡ true
     still-there e m found = by_number m n
         (λ is. ap (λ j. is_some (item_at u j)) is ∙ ap is_some here)
-        (λ differs. ap is_some (others m differs) ∙ leads-there o t ok e m (ap (lookup (eq_by_cmp R e)) (sym index) ∙ found))
+        (λ differs. ap is_some (others m differs) ∙ leads-there o t ok e m (ap (lookup (eq_by_cmp R e)) (sym w.index) ∙ found))
 
-    pub finds : (e : D) → lookup (eq_by_cmp R e) (items_of u) ≡ cond (eq_by_cmp R d e) (Some now) (lookup (eq_by_cmp R e) (items_of t))
+    finds : (e : D) → lookup (eq_by_cmp R e) (items_of u) ≡ cond (eq_by_cmp R d e) (Some now) (lookup (eq_by_cmp R e) (items_of t))
     finds e =
         let reaches : lookup (eq_by_cmp R e) (items_of u) ≡ reached (item_at u) (lookup (eq_by_cmp R e) t.index) =
-        lookup-items (eq_by_cmp R e) (item_at u) u.index (still-there e) ∙ ap (λ l. reached (item_at u) (lookup (eq_by_cmp R e) l)) index in
+        lookup-items (eq_by_cmp R e) (item_at u) u.index (still-there e) ∙ ap (λ l. reached (item_at u) (lookup (eq_by_cmp R e) l)) w.index in
         reaches ∙ by_test (eq_by_cmp R d e)
-        (λ same. ap (reached (item_at u)) (one-number o t ok d e n leads same) ∙ here ∙ sym (ap (λ b. cond b (Some now) (lookup (eq_by_cmp R e) (items_of t))) same))
-        (λ differs. kept-reach (item_at t) (item_at u) (lookup (eq_by_cmp R e) t.index) (λ m found. others m (λ is. no_both (twins o t ok d e n leads (found ∙ ap Some is)) differs))
+        (λ same. ap (reached (item_at u)) (one-number o t ok d e n w.leads same) ∙ here ∙ sym (ap (λ b. cond b (Some now) (lookup (eq_by_cmp R e) (items_of t))) same))
+        (λ differs. kept-reach (item_at t) (item_at u) (lookup (eq_by_cmp R e) t.index) (λ m found. others m (λ is. no_both (twins o t ok d e n w.leads (found ∙ ap Some is)) differs))
         ∙ sym (lookup-found o t ok e) ∙ sym (ap (λ b. cond b (Some now) (lookup (eq_by_cmp R e) (items_of t))) differs))
+
+    rewrites : Rewrites R (items_of t) (items_of u) d was now
+    rewrites = record {
+      sorted = sorted-items o t ok sorted;
+      there = lookup-found o t ok d ∙ ap (reached (item_at t)) w.leads ∙ w.there;
+      put = record {
+        entries = ap (items_by (item_at u)) w.index ∙ written-items o d others here t.index sorted (full o t ok sorted) (only o t ok sorted n d w.leads) w.leads;
+        finds = finds;
+      };
+      message = w.message;
+    }
 
   module _ (sorted : IsStrictlySortedBy R (keys_of t.index)) (u : Tabled D T) (index : u.index ≡ t.index) where
     -- an item that is there has the place of a list, or gets one
-    pub joins : {E : Type 0} (is_clone : T → T → Type 0) (x : T) (n list i : ℕ) (r : Result Found E) → lookup (eq_by_cmp R (name x)) t.index ≡ Some n
+    joins : {E : Type 0} {is_clone : T → T → Type 0} {x : T} {n list i : ℕ} (r : Result Found E) → lookup (eq_by_cmp R (name x)) t.index ≡ Some n
         → JoinsItem n list i r t.slots u.slots → Inserts R name is_clone x list i r t u
-    joins is_clone x n list i (Ok f) leads j =
-        let there = was-found sorted u index n (name x) j.was j.now j.there j.written j.message leads in
-        let stay = names sorted u index n (name x) j.was j.now j.there j.written j.message leads in
-        let all = joined o number_laws is_clone (items_of t) (items_of u) (name x) x list i j.was j.now f.place ok.placed (sorted-items o t ok sorted) there
-        (entries sorted u index n (name x) j.was j.now j.there j.written j.message leads) (finds sorted u index n (name x) j.was j.now j.there j.written j.message leads) j.message j.stays j.places in
+    joins {is_clone = is_clone} {x = x} {n = n} {list = list} {i = i} (Ok f) leads j =
+        let w : Writes R t u n (name x) j.was j.now = record { index = index; there = j.there; written = j.written; message = j.message; leads = leads } in
+        let there = (rewrites sorted w).there in
+        let stay = names sorted w in
+        let all = joined o number_laws is_clone x list i f.place ok.placed (rewrites sorted w) j.stays j.places in
         let g = ok.leads (name x) n leads in record {
           place = j.found ∙ ap (place_in (eq_by_cmp R) same_number list) (sym there);
           there = j.item.1 ∙ sym (ap is_some there);
@@ -98,8 +118,8 @@ module _ {D T : Type 0} {R : D → D → Ordering} {name : T → D} (o : IsTotal
           err = tt;
           tabled = same-names u index stay all.0;
         }
-    joins is_clone x n list i (Err e) leads j =
-        let there = was-found sorted u index n (name x) j.was j.now j.there j.written j.message leads in
+    joins {x = x} {n = n} {list = list} (Err e) leads j =
+        let there : lookup (eq_by_cmp R (name x)) (items_of t) ≡ Some j.was = lookup-found o t ok (name x) ∙ ap (reached (item_at t)) leads ∙ j.there in
         let same = same-table t u index (j.written ∙ ap (λ it. slice_set t.slots n (Some it)) j.err ∙ set-same t.slots n j.was j.there) in record {
           place = tt;
           there = tt;
@@ -112,23 +132,23 @@ module _ {D T : Type 0} {R : D → D → Ordering} {name : T → D} (o : IsTotal
           tabled = subst (IsTabled R name) (sym same) ok;
         }
 
-    -- nothing changes where there is no memory
-    pub refuses : {E : Type 0} (is_clone : T → T → Type 0) (x : T) (list i : ℕ) (e : E) → u.slots ≡ t.slots → lookup (eq_by_cmp R (name x)) t.index ≡ None
-        → Inserts R name is_clone x list i (Err e) t u
-    refuses is_clone x list i e slots none = let same = same-table t u index slots in record {
-      place = tt;
-      there = tt;
-      item = tt;
-      stays = tt;
-      joined = tt;
-      names = λ m d named. ap (λ v. name_at name v m) same ∙ named;
-      fails_for_new_places = ap (place_in (eq_by_cmp R) same_number list) (lookup-found o t ok (name x) ∙ ap (reached (item_at t)) none);
-      err = same;
-      tabled = subst (IsTabled R name) (sym same) ok;
-    }
+  -- nothing changes where there is no memory
+  pub refuses : {E : Type 0} {u : Tabled D T} {is_clone : T → T → Type 0} {x : T} {list i : ℕ} {e : E} → u.index ≡ t.index → u.slots ≡ t.slots → lookup (eq_by_cmp R (name x)) t.index ≡ None
+      → Inserts R name is_clone x list i (Err e) t u
+  refuses {u = u} {x = x} {list = list} index slots none = let same = same-table t u index slots in record {
+    place = tt;
+    there = tt;
+    item = tt;
+    stays = tt;
+    joined = tt;
+    names = λ m d named. ap (λ v. name_at name v m) same ∙ named;
+    fails_for_new_places = ap (place_in (eq_by_cmp R) same_number list) (lookup-found o t ok (name x) ∙ ap (reached (item_at t)) none);
+    err = same;
+    tabled = subst (IsTabled R name) (sym same) ok;
+  }
 
   -- a free slot has an item, under a name that was not there
-  module _ (sorted : IsStrictlySortedBy R (keys_of t.index)) (u : Tabled D T) (is_clone : T → T → Type 0) (x : T) (n list i : ℕ)
+  module _ (sorted : IsStrictlySortedBy R (keys_of t.index)) (u : Tabled D T) {is_clone : T → T → Type 0} {x : T} {n list i : ℕ}
       (none : lookup (eq_by_cmp R (name x)) t.index ≡ None) (index : u.index ≡ insert_entry R t.index (name x) n)
       (updates : (e : D) → lookup (eq_by_cmp R e) u.index ≡ cond (eq_by_cmp R (name x) e) (Some n) (lookup (eq_by_cmp R e) t.index))
       (a : AddsItem is_clone x n list i t.slots u.slots) (copies : (y z : T) → is_clone y z → z ≡ y) where
@@ -181,9 +201,10 @@ module _ {D T : Type 0} {R : D → D → Ordering} {name : T → D} (o : IsTotal
       placed = placed;
     }
 
-    pub adds : {E : Type 0} → Inserts R name is_clone x list i (newly {E = E} n) t u
+    adds : {E : Type 0} → Inserts R name is_clone x list i (newly {E = E} n) t u
     adds =
-        let all = cached o number_laws is_clone (items_of t) (items_of u) (name x) x list i a.now ok.placed none-found added added-finds a.cloned a.places in record {
+        let put : PutsItem R (items_of t) (items_of u) (name x) a.now = record { entries = added; finds = added-finds } in
+        let all = cached o number_laws is_clone x list i ok.placed none-found put a.cloned a.places in record {
           place = sym (ap (place_in (eq_by_cmp R) same_number list) none-found);
           there = sym (ap is_some none-found);
           item = record { its = name x; named = own-name; equal = (eq_by_cmp_equiv o).refl (name x) };
@@ -195,33 +216,33 @@ module _ {D T : Type 0} {R : D → D → Ordering} {name : T → D} (o : IsTotal
           tabled = added-tabled all.0;
         }
 
-  module _ (sorted : IsStrictlySortedBy R (keys_of t.index)) (u : Tabled D T) (gs : List (D × ℕ)) (moved : u.index ≡ gs) {E : Type 0} (is_clone : T → T → Type 0) (d : D) (x : T) (own : d ≡ name x) (n list i : ℕ)
-      (is : gs ≡ insert_entry R t.index d n) where
+  module _ (sorted : IsStrictlySortedBy R (keys_of t.index)) {u : Tabled D T} {gs : List (D × ℕ)} {E : Type 0} {is_clone : T → T → Type 0} {d : D} {x : T} {n list i : ℕ}
+      (own : d ≡ name x) (is : gs ≡ insert_entry R t.index d n) (moved : u.index ≡ gs) where
     -- a name of the index is written again
-    pub joins-again : (r : Result Found E) → lookup (eq_by_cmp R d) t.index ≡ Some n → JoinsItem n list i r t.slots u.slots → Inserts R name is_clone x list i r t u
-    joins-again r leads j = joins sorted u (moved ∙ is ∙ insert_entry-same o d n t.index sorted leads) is_clone x n list i r (ap (λ e. lookup (eq_by_cmp R e) t.index) (sym own) ∙ leads) j
+    pub joins-again : {r : Result Found E} → lookup (eq_by_cmp R d) t.index ≡ Some n → JoinsItem n list i r t.slots u.slots → Inserts R name is_clone x list i r t u
+    joins-again {r = r} leads j = joins sorted u (moved ∙ is ∙ insert_entry-same o d n t.index sorted leads) r (ap (λ e. lookup (eq_by_cmp R e) t.index) (sym own) ∙ leads) j
 
     -- a new name is written
     pub adds-new : lookup (eq_by_cmp R d) t.index ≡ None → ((e : D) → lookup (eq_by_cmp R e) gs ≡ cond (eq_by_cmp R d e) (Some n) (lookup (eq_by_cmp R e) t.index))
         → AddsItem is_clone x n list i t.slots u.slots → ((y z : T) → is_clone y z → z ≡ y) → Inserts R name is_clone x list i (newly {E = E} n) t u
-    adds-new none updates a copies = adds sorted u is_clone x n list i (ap (λ e. lookup (eq_by_cmp R e) t.index) (sym own) ∙ none)
+    adds-new none updates a copies = adds sorted u (ap (λ e. lookup (eq_by_cmp R e) t.index) (sym own) ∙ none)
         (moved ∙ is ∙ ap (λ e. insert_entry R t.index e n) own)
         (λ e. ap (lookup (eq_by_cmp R e)) moved ∙ updates e ∙ ap (λ f. cond (eq_by_cmp R f e) (Some n) (lookup (eq_by_cmp R e) t.index)) own) a copies
 
   -- the place of a list leaves an item that is there
-  module _ (sorted : IsStrictlySortedBy R (keys_of t.index)) (u : Tabled D T) (n list : ℕ) (was now : Placed ℕ T) (there : item_at t n ≡ Some was) (message : now.message ≡ was.message)
-      (places : (q : ℕ) → lookup (same_number q) now.places ≡ cond (same_number list q) None (lookup (same_number q) was.places)) where
+  module _ (sorted : IsStrictlySortedBy R (keys_of t.index)) (u : Tabled D T) {n list : ℕ} {was : Placed ℕ T} {b : Bool} {slots : List (Option (Placed ℕ T))}
+      (there : item_at t n ≡ Some was) (l : LeavesItem n list was b t.slots slots) where
     its : name_at name t n ≡ Some (name was.message)
     its = ap (option_map (λ it. name it.message)) there
 
     -- it has others
-    pub quits : u.index ≡ t.index → u.slots ≡ slice_set t.slots n (Some now) → (now.places ≡ [] → ⊥) → Takes R name n list t u
-    quits index written some =
-        let stay = names sorted u index n (name was.message) was now there written message (ok.found n (name was.message) its) in
+    quits : u.index ≡ t.index → u.slots ≡ slots → (l.now.places ≡ [] → ⊥) → Takes R name n list t u
+    quits index same some =
+        let writes : (d : D) → name_at name t n ≡ Some d → Writes R t u n d was l.now = λ d named.
+        record { index = index; there = there; written = same ∙ l.written; message = l.message; leads = ok.found n d named } in
+        let stay = names sorted (writes (name was.message) its) in
         let leaves : (d : D) → name_at name t n ≡ Some d → Leaves (eq_by_cmp R) same_number d list (items_of t) (items_of u) × IsPlaced (eq_by_cmp R) same_number (items_of u) = λ d named.
-        let leads = ok.found n d named in
-        left o number_laws (items_of t) (items_of u) d list was now ok.placed (was-found sorted u index n d was now there written message leads) places (sorted-items o t ok sorted)
-        (entries sorted u index n d was now there written message leads) (finds sorted u index n d was now there written message leads) message some in record {
+        left o number_laws list ok.placed (rewrites sorted (writes d named)) l.places some in record {
           left = λ d named. (leaves d named).0;
           fewer = λ m d named. sym (stay m) ∙ named;
           others = λ m _. stay m;
@@ -232,7 +253,7 @@ module _ {D T : Type 0} {R : D → D → Ordering} {name : T → D} (o : IsTotal
 
     -- it was the last one
     module _ (gone : item_at u n ≡ None) (others : (m : ℕ) → (m ≡ n → ⊥) → item_at u m ≡ item_at t m) (index : u.index ≡ remove_entry (eq_by_cmp R (name was.message)) t.index)
-        (updates : (e : D) → lookup (eq_by_cmp R e) u.index ≡ cond (eq_by_cmp R (name was.message) e) None (lookup (eq_by_cmp R e) t.index)) (empty : now.places ≡ []) where
+        (updates : (e : D) → lookup (eq_by_cmp R e) u.index ≡ cond (eq_by_cmp R (name was.message) e) None (lookup (eq_by_cmp R e) t.index)) (empty : l.now.places ≡ []) where
       own-leads : lookup (eq_by_cmp R (name was.message)) t.index ≡ Some n
       own-leads = ok.found n (name was.message) its
 
@@ -244,7 +265,7 @@ module _ {D T : Type 0} {R : D → D → Ordering} {name : T → D} (o : IsTotal
           rest old (others m (λ is. no_both (twins o t ok (name was.message) e n own-leads (old ∙ ap Some is)) differs)))
 
       removed : items_of u ≡ remove_entry (eq_by_cmp R (name was.message)) (items_of t)
-      removed = ap (items_by (item_at u)) index ∙ removed-items o (item_at t) (item_at u) (name was.message) n others t.index sorted (full o t ok sorted) (only o t ok sorted n (name was.message) own-leads)
+      removed = ap (items_by (item_at u)) index ∙ removed-items o (name was.message) others t.index sorted (full o t ok sorted) (only o t ok sorted n (name was.message) own-leads)
 
       left-finds : (e : D) → lookup (eq_by_cmp R e) (items_of u) ≡ cond (eq_by_cmp R (name was.message) e) None (lookup (eq_by_cmp R e) (items_of t))
       left-finds e =
@@ -261,9 +282,9 @@ module _ {D T : Type 0} {R : D → D → Ordering} {name : T → D} (o : IsTotal
           (λ is. no_some (ap (name_at name u) is ∙ ap (option_map (λ it. name it.message)) gone) named)
           (λ differs. (differs, sym (ap (option_map (λ it. name it.message)) (others m differs)) ∙ named))
 
-      pub leaves-last : Takes R name n list t u
+      leaves-last : Takes R name n list t u
       leaves-last =
-          let all = left_last o number_laws (items_of t) (items_of u) (name was.message) list was now ok.placed (lookup-name o t ok n (name was.message) its ∙ there) places removed left-finds empty in
+          let all = left_last o number_laws (items_of t) (name was.message) list l.now ok.placed (lookup-name o t ok n (name was.message) its ∙ there) l.places empty removed left-finds in
           let same : (d : D) → name_at name t n ≡ Some d → name was.message ≡ d = λ d named. (let both : Some (name was.message) ≡ Some d = sym its ∙ named in cc) in record {
             left = λ d named. subst (λ e. Leaves (eq_by_cmp R) same_number e list (items_of t) (items_of u)) (same d named) all.0;
             fewer = λ m d named. (left-name m d named).1;
@@ -295,29 +316,25 @@ module _ {D T : Type 0} {R : D → D → Ordering} {name : T → D} (o : IsTotal
   }
 
   -- an item that keeps others, or none
-  pub takes-some : IsStrictlySortedBy R (keys_of t.index) → (u : Tabled D T) (n list : ℕ) (i : Option (Placed ℕ T)) (b : Bool) → item_at t n ≡ i → b ≡ false → u.index ≡ t.index
+  pub takes-some : IsStrictlySortedBy R (keys_of t.index) → {u : Tabled D T} {n list : ℕ} (i : Option (Placed ℕ T)) (b : Bool) → item_at t n ≡ i → b ≡ false → u.index ≡ t.index
       → MatchOption i ((b ≡ false) × (u.slots ≡ t.slots)) (λ was. LeavesItem n list was b t.slots u.slots) → Takes R name n list t u
-  takes-some sorted u n list None b none _ index stays = takes-none u n list index stays.1 none
-  takes-some sorted u n list (Some was) b there more index leaves = quits sorted u n list was leaves.now there leaves.message leaves.places index leaves.written (rw more at leaves.last)
+  takes-some sorted {u = u} {n = n} {list = list} None b none _ index stays = takes-none u n list index stays.1 none
+  takes-some sorted {u = u} (Some was) b there more index leaves = quits sorted u there leaves index refl (rw more at leaves.last)
 
   -- an item that keeps none is there
-  pub takes-last : IsStrictlySortedBy R (keys_of t.index) → (u : Tabled D T) (n list : ℕ) (ss : List (Option (Placed ℕ T))) (i : Option (Placed ℕ T)) (b : Bool) → item_at t n ≡ i → b ≡ true
-      → MatchOption i ((b ≡ false) × (ss ≡ t.slots)) (λ was. LeavesItem n list was b t.slots ss)
-      → (it : Placed ℕ T) (d : D) → slice_index_or ss n None ≡ Some it → d ≡ name it.message
-      → item_at u n ≡ None → ((m : ℕ) → (m ≡ n → ⊥) → item_at u m ≡ slice_index_or ss m None)
+  pub takes-last : IsStrictlySortedBy R (keys_of t.index) → {u : Tabled D T} {n list : ℕ} {slots : List (Option (Placed ℕ T))} {it : Placed ℕ T} {d : D} → HadOne t n list slots
+      → slice_index_or slots n None ≡ Some it → d ≡ name it.message → item_at u n ≡ None → ((m : ℕ) → (m ≡ n → ⊥) → item_at u m ≡ slice_index_or slots m None)
       → u.index ≡ remove_entry (eq_by_cmp R d) t.index → ((e : D) → lookup (eq_by_cmp R e) u.index ≡ cond (eq_by_cmp R d e) None (lookup (eq_by_cmp R e) t.index)) → Takes R name n list t u
-  takes-last sorted u n list ss None b none last stays it d _ _ _ _ _ _ = no_both last stays.0
-  takes-last sorted u n list ss (Some was) b there last leaves it d taken own gone others index updates =
-      let written : slice_index_or ss n None ≡ Some leaves.now = ap (λ l. slice_index_or l n None) leaves.written ∙ set-here t.slots n was leaves.now there in
-      let one : it ≡ leaves.now = (let both : Some it ≡ Some leaves.now = sym taken ∙ written in cc) in
-      let same : d ≡ name was.message = own ∙ ap (λ (m : Placed ℕ T). name m.message) one ∙ ap name leaves.message in
-      leaves-last sorted u n list was leaves.now there leaves.message leaves.places gone
-      (λ m differs. others m differs ∙ ap (λ l. slice_index_or l m None) leaves.written ∙ get_or-set_other t.slots n m (Some leaves.now) None differs)
+  takes-last sorted {u = u} {n = n} {it = it} {d = d} h taken own gone others index updates =
+      let now = h.leaves.now in
+      let written : slice_index_or _ n None ≡ Some now = ap (λ l. slice_index_or l n None) h.leaves.written ∙ set-here t.slots n h.was now h.there in
+      let one : it ≡ now = (let both : Some it ≡ Some now = sym taken ∙ written in cc) in
+      let same : d ≡ name h.was.message = own ∙ ap (λ (m : Placed ℕ T). name m.message) one ∙ ap name h.leaves.message in
+      leaves-last sorted u h.there h.leaves gone
+      (λ m differs. others m differs ∙ ap (λ l. slice_index_or l m None) h.leaves.written ∙ get_or-set_other t.slots n m (Some now) None differs)
       (index ∙ ap (λ e. remove_entry (eq_by_cmp R e) t.index) same)
-      (λ e. updates e ∙ ap (λ f. cond (eq_by_cmp R f e) None (lookup (eq_by_cmp R e) t.index)) same) (rw last at leaves.last)
+      (λ e. updates e ∙ ap (λ f. cond (eq_by_cmp R f e) None (lookup (eq_by_cmp R e) t.index)) same) h.leaves.last
 
   -- an item that keeps none is not away
-  pub takes-away : {P : Type 0} (n list : ℕ) (ss : List (Option (Placed ℕ T))) (i : Option (Placed ℕ T)) (b : Bool) → item_at t n ≡ i → b ≡ true
-      → MatchOption i ((b ≡ false) × (ss ≡ t.slots)) (λ was. LeavesItem n list was b t.slots ss) → slice_index_or ss n None ≡ None → P
-  takes-away n list ss None b none last stays gone = no_both last stays.0
-  takes-away n list ss (Some was) b there last leaves gone = no_some gone (ap (λ l. slice_index_or l n None) leaves.written ∙ set-here t.slots n was leaves.now there)
+  pub takes-away : {P : Type 0} {n list : ℕ} {slots : List (Option (Placed ℕ T))} → HadOne t n list slots → slice_index_or slots n None ≡ None → P
+  takes-away {n = n} h gone = no_some gone (ap (λ l. slice_index_or l n None) h.leaves.written ∙ set-here t.slots n h.was h.leaves.now h.there)

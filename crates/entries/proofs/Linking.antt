@@ -47,61 +47,62 @@ module _ {K D : Type 0} where
   pub older_there : (h k : ℕ → Option (Entry K D)) (chain : Chain) (place : ℕ) (e : Entry K D) → h place ≡ Some e → IsOn h chain place → Relinks h k e.newer (with_older e.older) → (j : ℕ) → e.older ≡ Some j → IsSome (k j)
   older_there h k chain place e there on one j same =
       let a = around on.mine h chain place e on.front on.digest on.back there on.linked in
-      let p = Relinks-mine on.mine h k e.newer (with_older e.older) (first on.back None) (λ _. refl) one a.older_mine j (sym a.older ∙ same) in is_there k j p.0 p.1
+      let p = Relinks-mine on.mine (λ _. refl) one a.older_mine j (sym a.older ∙ same) in is_there k j p.0 p.1
 
-  pub unlinks : (h k l : ℕ → Option (Entry K D)) (chain rest : Chain) (place : ℕ) (e : Entry K D) → h place ≡ Some e → IsOn h chain place
-      → Relinks h k e.newer (with_older e.older) → Relinks k l e.older (with_newer e.newer)
-      → rest.newest ≡ pick e.newer chain.newest e.older → rest.oldest ≡ pick e.older chain.oldest e.newer → rest.len ≡ chain.len - 1
-      → Unlinks h l chain rest place
-  unlinks h k l chain rest place e there on one two newest oldest len =
-      let a = around on.mine h chain place e on.front on.digest on.back there on.linked in
-      let misses = Misses-taken on.front (place, on.digest) on.back on.linked.apart in
-      let newer_mine : LeadsToMine on.mine h e.newer = rw a.newer a.newer_mine in
-      let older_mine : LeadsToMine on.mine h e.older = rw a.older a.older_mine in
-      record {
-        linked = λ mine xs d ys p.
-            let b = around mine h chain place e xs d ys there p in
-            let newer_mine : LeadsToMine mine h e.newer = rw b.newer b.newer_mine in
-            let older_mine : LeadsToMine mine h e.older = rw b.older b.older_mine in (
-              taken mine h k l chain rest xs (place, d) ys p
-                  (rw (b.newer, b.older) at one) (rw (b.newer, b.older) at two)
-                  (rw (b.newer, b.older) at newest) (rw (b.newer, b.older) at oldest) len,
-              Frame-join mine h k l
-                  (Relinks-frame mine h k _ _ (λ _. refl) newer_mine one)
-                  (Relinks-frame mine k l _ _ (λ _. refl) (Relinks-mine mine h k _ _ _ (λ _. refl) one older_mine) two),
-            );
-        kept =
-            two.others place (rw a.older (first-misses place on.back (Misses-right (Some place) on.front on.back misses)))
-            ∙ one.others place (rw a.newer (final-misses (Some place) None on.front (λ same. cc) (Misses-left (Some place) on.front on.back misses)));
-        peers = SamePeers-join h k l
-            (Relinks-peers on.mine h k _ _ (λ _. refl) newer_mine one)
-            (Relinks-peers on.mine k l _ _ (λ _. refl) (Relinks-mine on.mine h k _ _ _ (λ _. refl) one older_mine) two);
-      }
+  module _ {h k l : ℕ → Option (Entry K D)} {chain next : Chain} {place : ℕ} where
+    pub unlinks : {e : Entry K D} → h place ≡ Some e → IsOn h chain place
+        → Relinks h k e.newer (with_older e.older) → Relinks k l e.older (with_newer e.newer)
+        → next.newest ≡ pick e.newer chain.newest e.older → next.oldest ≡ pick e.older chain.oldest e.newer → next.len ≡ chain.len - 1
+        → Unlinks h l chain next place
+    unlinks {e = e} there on one two newest oldest len =
+        let a = around on.mine h chain place e on.front on.digest on.back there on.linked in
+        let misses = Misses-taken on.front (place, on.digest) on.back on.linked.apart in
+        let newer_mine : LeadsToMine on.mine h e.newer = rw a.newer a.newer_mine in
+        let older_mine : LeadsToMine on.mine h e.older = rw a.older a.older_mine in
+        record {
+          linked = λ mine xs d ys p.
+              let b = around mine h chain place e xs d ys there p in
+              let newer_mine : LeadsToMine mine h e.newer = rw b.newer b.newer_mine in
+              let older_mine : LeadsToMine mine h e.older = rw b.older b.older_mine in (
+                taken mine xs (place, d) ys p
+                    (rw (b.newer, b.older) at one) (rw (b.newer, b.older) at two)
+                    (rw (b.newer, b.older) at newest) (rw (b.newer, b.older) at oldest) len,
+                Frame-join mine h k l
+                    (Relinks-frame mine (λ _. refl) one newer_mine)
+                    (Relinks-frame mine (λ _. refl) two (Relinks-mine mine (λ _. refl) one older_mine)),
+              );
+          kept =
+              two.others place (rw a.older (first-misses place on.back (Misses-right (Some place) on.front on.back misses)))
+              ∙ one.others place (rw a.newer (final-misses (Some place) None on.front (λ same. cc) (Misses-left (Some place) on.front on.back misses)));
+          peers = SamePeers-join h k l
+              (Relinks-peers on.mine (λ _. refl) one newer_mine)
+              (Relinks-peers on.mine (λ _. refl) two (Relinks-mine on.mine (λ _. refl) one older_mine));
+        }
 
-  pub links : (h k l : ℕ → Option (Entry K D)) (chain more : Chain) (place : ℕ) (d : D) → Admits h chain place
-      → Relinks h k (Some place) (as_newest d chain.newest) → Relinks k l chain.newest (with_newer (Some place))
-      → more.newest ≡ Some place → more.oldest ≡ pick chain.oldest chain.oldest (Some place) → more.len ≡ chain.len + 1
-      → Links h l chain more place d
-  links h k l chain more place d admits one two newest oldest len =
-      let any : LeadsToMine (λ _. true) h (Some place) = λ j same. let here : place ≡ j = cc in (admits.entry, ap h (sym here) ∙ admits.there, refl) in
-      record {
-        linked = λ mine ns e p misses there owned.
-            let place_mine : LeadsToMine mine h (Some place) = λ j same. let here : place ≡ j = cc in (e, ap h (sym here) ∙ there, owned) in
-            let first_mine : LeadsToMine mine h (first ns None) = first-mine mine h None ns None p.run in
-            let newest_mine : LeadsToMine mine h chain.newest = rw p.newest first_mine in (
-              put_first mine h k l chain more place d e ns p misses there owned
-                  (rw p.newest at one) (rw p.newest at two) newest (rw p.oldest at oldest) len,
-              Frame-join mine h k l
-                  (Relinks-frame mine h k _ _ (λ _. refl) place_mine one)
-                  (Relinks-frame mine k l _ _ (λ _. refl) (Relinks-mine mine h k _ _ _ (λ _. refl) one newest_mine) two),
-            );
-        peers = SamePeers-join h k l
-            (Relinks-peers (λ _. true) h k _ _ (λ _. refl) any one)
-            (Relinks-peers (λ _. true) k l _ _ (λ _. refl) (Relinks-mine (λ _. true) h k _ _ _ (λ _. refl) one newest_any) two);
-      }
-    where
-      weaker : (mine : K → Bool) (at : Option ℕ) → LeadsToMine mine h at → LeadsToMine (λ _. true) h at
-      weaker mine at p j same = let x = p j same in (x.0, x.1, refl)
+    pub links : {d : D} → Admits h chain place
+        → Relinks h k (Some place) (as_newest d chain.newest) → Relinks k l chain.newest (with_newer (Some place))
+        → next.newest ≡ Some place → next.oldest ≡ pick chain.oldest chain.oldest (Some place) → next.len ≡ chain.len + 1
+        → Links h l chain next place d
+    links admits one two newest oldest len =
+        let any : LeadsToMine (λ _. true) h (Some place) = λ j same. let here : place ≡ j = cc in (admits.entry, ap h (sym here) ∙ admits.there, refl) in
+        record {
+          linked = λ mine ns e p misses there owned.
+              let place_mine : LeadsToMine mine h (Some place) = λ j same. let here : place ≡ j = cc in (e, ap h (sym here) ∙ there, owned) in
+              let first_mine : LeadsToMine mine h (first ns None) = first-mine mine h None ns None p.run in
+              let newest_mine : LeadsToMine mine h chain.newest = rw p.newest first_mine in (
+                put_first mine p misses there owned
+                    (rw p.newest at one) (rw p.newest at two) newest (rw p.oldest at oldest) len,
+                Frame-join mine h k l
+                    (Relinks-frame mine (λ _. refl) one place_mine)
+                    (Relinks-frame mine (λ _. refl) two (Relinks-mine mine (λ _. refl) one newest_mine)),
+              );
+          peers = SamePeers-join h k l
+              (Relinks-peers (λ _. true) (λ _. refl) one any)
+              (Relinks-peers (λ _. true) (λ _. refl) two (Relinks-mine (λ _. true) (λ _. refl) one newest_any));
+        }
+      where
+        weaker : (mine : K → Bool) (at : Option ℕ) → LeadsToMine mine h at → LeadsToMine (λ _. true) h at
+        weaker mine at p j same = let x = p j same in (x.0, x.1, refl)
 
-      newest_any : LeadsToMine (λ _. true) h chain.newest
-      newest_any = weaker admits.mine chain.newest (rw admits.linked.newest (first-mine admits.mine h None admits.nodes None admits.linked.run))
+        newest_any : LeadsToMine (λ _. true) h chain.newest
+        newest_any = weaker admits.mine chain.newest (rw admits.linked.newest (first-mine admits.mine h None admits.nodes None admits.linked.run))

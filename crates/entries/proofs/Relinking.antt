@@ -50,96 +50,98 @@ module _ {K D : Type 0} (mine : K → Bool) where
   first-mine h before [] after p = none-mine h
   first-mine h before (y ∷ ys) after p = at-mine h y _ _ p.0
 
-  -- a change of links and digest at an entry of mine changes no other's
-  pub Relinks-frame : (h k : ℕ → Option (Entry K D)) (at : Option ℕ) (change : Entry K D → Entry K D) → ((e : Entry K D) → (change e).peer ≡ e.peer) → LeadsToMine h at → Relinks h k at change → Frame mine h k
-  Relinks-frame h k at change peers mine_there relinks = record {
-    forth = λ j e there other. elim (leads at j) [
-      | inl same ↦ let p = mine_there j same in let one : p.0 ≡ e = cc in let no : true ≡ false = sym p.2 ∙ ap (λ (x : Entry K D). mine x.peer) one ∙ other in absurd (cc)
-      | inr differs ↦ relinks.others j differs ∙ there
-    ];
-    back = λ j e there other. elim (leads at j) [
-      | inl same ↦ let p = mine_there j same in
-          let now = relinks.changed j p.0 same p.1 in
-          let one : change p.0 ≡ e = cc in
-          let no : true ≡ false = sym p.2 ∙ ap mine (sym (peers p.0)) ∙ ap (λ (x : Entry K D). mine x.peer) one ∙ other in absurd (cc)
-      | inr differs ↦ sym (relinks.others j differs) ∙ there
-    ];
-  }
-
   pub Frame-join : (h k l : ℕ → Option (Entry K D)) → Frame mine h k → Frame mine k l → Frame mine h l
   Frame-join h k l p q = record {
     forth = λ j e there other. q.forth j e (p.forth j e there other) other;
     back = λ j e there other. p.back j e (q.back j e there other) other;
   }
 
-  pub Relinks-peers : (h k : ℕ → Option (Entry K D)) (at : Option ℕ) (change : Entry K D → Entry K D) → ((e : Entry K D) → (change e).peer ≡ e.peer) → LeadsToMine h at → Relinks h k at change → SamePeers h k
-  Relinks-peers h k at change peers mine_there relinks j e there = elim (leads at j) [
-    | inl same ↦ let p = mine_there j same in
-        let now = relinks.changed j p.0 same p.1 in
-        let one : change p.0 ≡ e = cc in
-        (p.0, p.1, sym (peers p.0) ∙ ap (λ (x : Entry K D). x.peer) one)
-    | inr differs ↦ (e, sym (relinks.others j differs) ∙ there, refl)
-  ]
+  module _ {h k : ℕ → Option (Entry K D)} {at : Option ℕ} {change : Entry K D → Entry K D} (peers : (e : Entry K D) → (change e).peer ≡ e.peer) (relinks : Relinks h k at change) where
+    -- a change of links and digest at an entry of mine changes no other's
+    pub Relinks-frame : LeadsToMine h at → Frame mine h k
+    Relinks-frame mine_there = record {
+      forth = λ j e there other. elim (leads at j) [
+        | inl same ↦ let p = mine_there j same in let one : p.0 ≡ e = cc in let no : true ≡ false = sym p.2 ∙ ap (λ (x : Entry K D). mine x.peer) one ∙ other in absurd (cc)
+        | inr differs ↦ relinks.others j differs ∙ there
+      ];
+      back = λ j e there other. elim (leads at j) [
+        | inl same ↦ let p = mine_there j same in
+            let now = relinks.changed j p.0 same p.1 in
+            let one : change p.0 ≡ e = cc in
+            let no : true ≡ false = sym p.2 ∙ ap mine (sym (peers p.0)) ∙ ap (λ (x : Entry K D). mine x.peer) one ∙ other in absurd (cc)
+        | inr differs ↦ sym (relinks.others j differs) ∙ there
+      ];
+    }
 
-  -- an entry of mine leads to entries of mine after a change
-  pub Relinks-mine : (h k : ℕ → Option (Entry K D)) (at : Option ℕ) (change : Entry K D → Entry K D) (to : Option ℕ) → ((e : Entry K D) → (change e).peer ≡ e.peer) → Relinks h k at change → LeadsToMine h to → LeadsToMine k to
-  Relinks-mine h k at change to peers relinks mine_there j same = let p = mine_there j same in elim (leads at j) [
-    | inl here ↦ (change p.0, relinks.changed j p.0 here p.1, ap mine (peers p.0) ∙ p.2)
-    | inr differs ↦ (p.0, relinks.others j differs ∙ p.1, p.2)
-  ]
+    pub Relinks-peers : LeadsToMine h at → SamePeers h k
+    Relinks-peers mine_there j e there = elim (leads at j) [
+      | inl same ↦ let p = mine_there j same in
+          let now = relinks.changed j p.0 same p.1 in
+          let one : change p.0 ≡ e = cc in
+          (p.0, p.1, sym (peers p.0) ∙ ap (λ (x : Entry K D). x.peer) one)
+      | inr differs ↦ (e, sym (relinks.others j differs) ∙ there, refl)
+    ]
 
-  -- a node taken out of a chain
-  pub taken : (h k l : ℕ → Option (Entry K D)) (chain rest : Chain) (xs : List (Node D)) (n : Node D) (ys : List (Node D)) → IsLinked mine h chain (xs ++ n ∷ ys)
-      → Relinks h k (final None xs) (with_older (first ys None)) → Relinks k l (first ys None) (with_newer (final None xs))
-      → rest.newest ≡ pick (final None xs) chain.newest (first ys None) → rest.oldest ≡ pick (first ys None) chain.oldest (final None xs) → rest.len ≡ chain.len - 1
-      → IsLinked mine l rest (xs ++ ys)
-  taken h k l chain rest xs n ys p one two newest oldest len =
-      let parts = IsRun-split mine h None xs (n ∷ ys) None p.run in
-      let apart = IsApart-without xs n ys p.apart in
-      let later = IsApart-right xs (n ∷ ys) p.apart in
-      let front : IsRun mine k None xs (first ys None) = IsRun-older mine h k None xs _ (first ys None) one (IsApart-left xs (n ∷ ys) p.apart) parts.0 in
-      let back : IsRun mine k (Some n.0) ys None = IsRun-elsewhere mine h k (final None xs) (Some n.0) ys None one.others (final-apart None xs ys (none_misses ys) apart) parts.1.1 in
-      record {
-        run = IsRun-join mine l None xs ys None
-            (IsRun-elsewhere mine k l (first ys None) None xs _ two.others (first-apart xs ys apart) front)
-            (IsRun-newer mine k l (Some n.0) (final None xs) ys None two later.1 back);
-        apart = apart;
-        newest = newest ∙ ap (λ (o : Option ℕ). pick (final None xs) o (first ys None)) p.newest ∙ newest_without xs n ys;
-        oldest = oldest ∙ ap (λ (o : Option ℕ). pick (first ys None) o (final None xs)) p.oldest ∙ oldest_without xs n ys;
-        len = omega (arith, p.len, len, length-append xs (n ∷ ys), length-append xs ys);
-      }
-    where
-      none_misses : (ys : List (Node D)) → Misses None ys
-      none_misses [] = tt
-      none_misses (y ∷ ys) = (λ same. cc, none_misses ys)
+    -- an entry of mine leads to entries of mine after a change
+    pub Relinks-mine : {to : Option ℕ} → LeadsToMine h to → LeadsToMine k to
+    Relinks-mine mine_there j same = let p = mine_there j same in elim (leads at j) [
+      | inl here ↦ (change p.0, relinks.changed j p.0 here p.1, ap mine (peers p.0) ∙ p.2)
+      | inr differs ↦ (p.0, relinks.others j differs ∙ p.1, p.2)
+    ]
 
-  -- a node put in front of a chain
-  pub put_first : (h k l : ℕ → Option (Entry K D)) (chain more : Chain) (place : ℕ) (d : D) (e : Entry K D) (ns : List (Node D)) → IsLinked mine h chain ns → Misses (Some place) ns
-      → h place ≡ Some e → mine e.peer ≡ true
-      → Relinks h k (Some place) (as_newest d (first ns None)) → Relinks k l (first ns None) (with_newer (Some place))
-      → more.newest ≡ Some place → more.oldest ≡ pick (final None ns) (final None ns) (Some place) → more.len ≡ chain.len + 1
-      → IsLinked mine l more ((place, d) ∷ ns)
-  put_first h k l chain more place d e ns p misses there owned one two newest oldest len =
-      let back : IsRun mine k None ns None = IsRun-elsewhere mine h k (Some place) None ns None one.others misses p.run in
-      let here = one.changed place e refl there in
-      record {
-        run = (
-          record {
-            entry = as_newest d (first ns None) e;
-            there = two.others place (first_misses ns misses) ∙ here;
-            owned = owned;
-            digest = refl;
-            newer = refl;
-            older = refl;
-          },
-          IsRun-newer mine k l None (Some place) ns None two p.apart back,
-        );
-        apart = (misses, p.apart);
-        newest = newest;
-        oldest = oldest ∙ pick-first place ns;
-        len = omega (arith, p.len, len);
-      }
-    where
-      first_misses : (ns : List (Node D)) → Misses (Some place) ns → first ns None ≢ Some place
-      first_misses [] misses = λ same. cc
-      first_misses (n ∷ ns) misses = λ same. misses.0 (sym same)
+  module _ {h k l : ℕ → Option (Entry K D)} {chain next : Chain} where
+    -- a node taken out of a chain
+    pub taken : (xs : List (Node D)) (n : Node D) (ys : List (Node D)) → IsLinked mine h chain (xs ++ n ∷ ys)
+        → Relinks h k (final None xs) (with_older (first ys None)) → Relinks k l (first ys None) (with_newer (final None xs))
+        → next.newest ≡ pick (final None xs) chain.newest (first ys None) → next.oldest ≡ pick (first ys None) chain.oldest (final None xs) → next.len ≡ chain.len - 1
+        → IsLinked mine l next (xs ++ ys)
+    taken xs n ys p one two newest oldest len =
+        let parts = IsRun-split mine h None xs (n ∷ ys) None p.run in
+        let apart = IsApart-without xs n ys p.apart in
+        let later = IsApart-right xs (n ∷ ys) p.apart in
+        let front : IsRun mine k None xs (first ys None) = IsRun-older mine h k None xs _ (first ys None) one (IsApart-left xs (n ∷ ys) p.apart) parts.0 in
+        let back : IsRun mine k (Some n.0) ys None = IsRun-elsewhere mine h k (final None xs) (Some n.0) ys None one.others (final-apart None xs ys (none_misses ys) apart) parts.1.1 in
+        record {
+          run = IsRun-join mine l None xs ys None
+              (IsRun-elsewhere mine k l (first ys None) None xs _ two.others (first-apart xs ys apart) front)
+              (IsRun-newer mine k l (Some n.0) (final None xs) ys None two later.1 back);
+          apart = apart;
+          newest = newest ∙ ap (λ (o : Option ℕ). pick (final None xs) o (first ys None)) p.newest ∙ newest_without xs n ys;
+          oldest = oldest ∙ ap (λ (o : Option ℕ). pick (first ys None) o (final None xs)) p.oldest ∙ oldest_without xs n ys;
+          len = omega (arith, p.len, len, length-append xs (n ∷ ys), length-append xs ys);
+        }
+      where
+        none_misses : (ys : List (Node D)) → Misses None ys
+        none_misses [] = tt
+        none_misses (y ∷ ys) = (λ same. cc, none_misses ys)
+
+    -- a node put in front of a chain
+    pub put_first : {place : ℕ} {d : D} {e : Entry K D} {ns : List (Node D)} → IsLinked mine h chain ns → Misses (Some place) ns
+        → h place ≡ Some e → mine e.peer ≡ true
+        → Relinks h k (Some place) (as_newest d (first ns None)) → Relinks k l (first ns None) (with_newer (Some place))
+        → next.newest ≡ Some place → next.oldest ≡ pick (final None ns) (final None ns) (Some place) → next.len ≡ chain.len + 1
+        → IsLinked mine l next ((place, d) ∷ ns)
+    put_first {place = place} {d = d} {e = e} {ns = ns} p misses there owned one two newest oldest len =
+        let back : IsRun mine k None ns None = IsRun-elsewhere mine h k (Some place) None ns None one.others misses p.run in
+        let here = one.changed place e refl there in
+        record {
+          run = (
+            record {
+              entry = as_newest d (first ns None) e;
+              there = two.others place (first_misses ns misses) ∙ here;
+              owned = owned;
+              digest = refl;
+              newer = refl;
+              older = refl;
+            },
+            IsRun-newer mine k l None (Some place) ns None two p.apart back,
+          );
+          apart = (misses, p.apart);
+          newest = newest;
+          oldest = oldest ∙ pick-first place ns;
+          len = omega (arith, p.len, len);
+        }
+      where
+        first_misses : (ns : List (Node D)) → Misses (Some place) ns → first ns None ≢ Some place
+        first_misses [] misses = λ same. cc
+        first_misses (n ∷ ns) misses = λ same. misses.0 (sym same)

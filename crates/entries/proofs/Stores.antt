@@ -1,6 +1,6 @@
 -- What a change of one chain makes of all of them.
 use Rattle.std.proofs.Common.{suc, Result, Ok, Err, Bool, true, false, cond, ◌≡◌, ℕ, inl, inr, List, [], ◌∷◌, ◌++◌, map, length, Option, Some, None, refl, sym, ap, subst, ◌∙◌}
-use Rattle.std.specs.Prelude.{is_some, unwrap_or, not, ◌==◌, ◌||◌, MatchOption, IfOk, OnErr}
+use Rattle.std.specs.Prelude.{is_some, unwrap_or, not, ◌==◌, ◌||◌, OnErr}
 use Rattle.std.specs.Option.{option_map}
 use Rattle.std.specs.Cmp.{IsEquivalence}
 use Rattle.std.specs.List.{IsDistinct}
@@ -223,134 +223,122 @@ module _ {K D : Type 0} {same : K → K → Bool} (laws : IsEquivalence same) wh
     pub distinct : IsDistinct same (keys_of fs)
 
   -- the chain of another key
-  pub other_chain : (h k : ℕ → Option (Entry K D)) (es : List (K × Chain)) (p q : K) (c : Chain) → IsStore same h es → Frame (same p) h k → same p q ≡ false → lookup (same q) es ≡ Some c → IsChain (same q) k c (nodes h c)
-  other_chain h k es p q c store frame apart found = IsChain-frame (same p) (same q) h k c (nodes h c) (differ laws p q apart) frame (store.chains q c found)
+  pub other_chain : {h k : ℕ → Option (Entry K D)} {es : List (K × Chain)} {p q : K} {c : Chain} → IsStore same h es → Frame (same p) h k → same p q ≡ false → lookup (same q) es ≡ Some c → IsChain (same q) k c (nodes h c)
+  other_chain {h = h} {k = k} {p = p} {q = q} {c = c} store frame apart found = IsChain-frame (same p) (same q) h k c (nodes h c) (differ laws p q apart) frame (store.chains q c found)
 
-  -- all chains are as they should be
-  pub Changes-store : (h k : ℕ → Option (Entry K D)) (es fs : List (K × Chain)) (p : K) (next : Chain) (ns : List (Node D)) → IsStore same h es → Changes h k es fs p next ns → IsStore same k fs
-  Changes-store h k es fs p next ns store c = record {
-    chains = λ q d found. by_test (same p q)
-        (λ here.
-        let one : next ≡ d = let e : Some next ≡ Some d = sym (is_at (same p q) (Some next) (lookup (same q) es) here) ∙ sym (c.at q) ∙ found in cc in
-        let mine : IsChain (same q) k next ns = IsChain-mine (same p) (same q) k next ns (λ x. sym (laws.congr p q x here)) c.chain in
-        let seen = nodes-is (same q) k next ns mine.linked in
-        rw (← one, seen) mine)
-        (λ apart.
-        let was : lookup (same q) es ≡ Some d = sym (is_not_at (same p q) (Some next) (lookup (same q) es) apart) ∙ sym (c.at q) ∙ found in
-        let kept = other_chain h k es p q d store c.frame apart was in
-        let seen = nodes-is (same q) k d (nodes h d) kept.linked in
-        rw seen kept);
-    rooted = λ j e there. by_test (same p e.peer)
-        (λ here. ap is_some (c.at e.peer ∙ is_at (same p e.peer) (Some next) (lookup (same e.peer) es) here))
-        (λ apart. ap is_some (c.at e.peer ∙ is_not_at (same p e.peer) (Some next) (lookup (same e.peer) es) apart) ∙ store.rooted j e (c.frame.back j e there apart));
-    distinct = c.distinct;
-  }
+  module _ {h k : ℕ → Option (Entry K D)} {es fs : List (K × Chain)} {p : K} {next : Chain} {ns : List (Node D)} (store : IsStore same h es) (c : Changes h k es fs p next ns) where
+    -- all chains are as they should be
+    pub Changes-store : IsStore same k fs
+    Changes-store = record {
+      chains = λ q d found. by_test (same p q)
+          (λ here.
+          let one : next ≡ d = let e : Some next ≡ Some d = sym (is_at (same p q) (Some next) (lookup (same q) es) here) ∙ sym (c.at q) ∙ found in cc in
+          let mine : IsChain (same q) k next ns = IsChain-mine (same p) (same q) k next ns (λ x. sym (laws.congr p q x here)) c.chain in
+          let seen = nodes-is (same q) k next ns mine.linked in
+          rw (← one, seen) mine)
+          (λ apart.
+          let was : lookup (same q) es ≡ Some d = sym (is_not_at (same p q) (Some next) (lookup (same q) es) apart) ∙ sym (c.at q) ∙ found in
+          let kept = other_chain store c.frame apart was in
+          let seen = nodes-is (same q) k d (nodes h d) kept.linked in
+          rw seen kept);
+      rooted = λ j e there. by_test (same p e.peer)
+          (λ here. ap is_some (c.at e.peer ∙ is_at (same p e.peer) (Some next) (lookup (same e.peer) es) here))
+          (λ apart. ap is_some (c.at e.peer ∙ is_not_at (same p e.peer) (Some next) (lookup (same e.peer) es) apart) ∙ store.rooted j e (c.frame.back j e there apart));
+      distinct = c.distinct;
+    }
 
-  -- the key's list is another, and no other
-  pub Changes-puts : (h k : ℕ → Option (Entry K D)) (es fs : List (K × Chain)) (p : K) (next : Chain) (ns : List (Node D)) → IsStore same h es → Changes h k es fs p next ns → Puts same p ns (lists_of h es) (lists_of k fs)
-  Changes-puts h k es fs p next ns store c = record {
-    lists = λ q. by_test (same p q)
-        (λ here.
-        items_at-chain k fs q next (c.at q ∙ is_at (same p q) (Some next) (lookup (same q) es) here)
-        ∙ nodes-is (same p) k next ns c.chain.linked
-        ∙ sym (is_at (same p q) ns (items_at same q (lists_of h es)) here))
-        (λ apart.
-        items_at-lists k fs q
-        ∙ ap (λ (o : Option Chain). unwrap_or (option_map (nodes k) o) []) (c.at q ∙ is_not_at (same p q) (Some next) (lookup (same q) es) apart)
-        ∙ kept q apart (lookup (same q) es) refl
-        ∙ sym (items_at-lists h es q)
-        ∙ sym (is_not_at (same p q) ns (items_at same q (lists_of h es)) apart));
-    keys = λ q there. sym (exactly q) ∙ there;
-    stays = λ q there. exactly q ∙ ap (λ b. same p q || b) there ∙ or_true (same p q);
-    distinct = listed_distinct same k fs c.distinct;
-  }
-    where
-      or_true : (b : Bool) → (b || true) ≡ true
-      or_true true = refl
-      or_true false = refl
+    -- the key's list is another, and no other
+    pub Changes-puts : Puts same p ns (lists_of h es) (lists_of k fs)
+    Changes-puts = record {
+      lists = λ q. by_test (same p q)
+          (λ here.
+          items_at-chain k fs q next (c.at q ∙ is_at (same p q) (Some next) (lookup (same q) es) here)
+          ∙ nodes-is (same p) k next ns c.chain.linked
+          ∙ sym (is_at (same p q) ns (items_at same q (lists_of h es)) here))
+          (λ apart.
+          items_at-lists k fs q
+          ∙ ap (λ (o : Option Chain). unwrap_or (option_map (nodes k) o) []) (c.at q ∙ is_not_at (same p q) (Some next) (lookup (same q) es) apart)
+          ∙ kept q apart (lookup (same q) es) refl
+          ∙ sym (items_at-lists h es q)
+          ∙ sym (is_not_at (same p q) ns (items_at same q (lists_of h es)) apart));
+      keys = λ q there. sym (exactly q) ∙ there;
+      stays = λ q there. exactly q ∙ ap (λ b. same p q || b) there ∙ or_true (same p q);
+      distinct = listed_distinct same k fs c.distinct;
+    }
+      where
+        or_true : (b : Bool) → (b || true) ≡ true
+        or_true true = refl
+        or_true false = refl
 
-      kept : (q : K) → same p q ≡ false → (o : Option Chain) → lookup (same q) es ≡ o → unwrap_or (option_map (nodes k) o) [] ≡ unwrap_or (option_map (nodes h) o) []
-      kept q apart None found = refl
-      kept q apart (Some d) found = nodes-is (same q) k d (nodes h d) (other_chain h k es p q d store c.frame apart found).linked
+        kept : (q : K) → same p q ≡ false → (o : Option Chain) → lookup (same q) es ≡ o → unwrap_or (option_map (nodes k) o) [] ≡ unwrap_or (option_map (nodes h) o) []
+        kept q apart None found = refl
+        kept q apart (Some d) found = nodes-is (same q) k d (nodes h d) (other_chain store c.frame apart found).linked
 
-      some_map : {A B : Type 0} (f : A → B) (o : Option A) → is_some (option_map f o) ≡ is_some o
-      some_map f None = refl
-      some_map f (Some a) = refl
+        some_map : {A B : Type 0} (f : A → B) (o : Option A) → is_some (option_map f o) ≡ is_some o
+        some_map f None = refl
+        some_map f (Some a) = refl
 
-      put : (b : Bool) (o : Option Chain) → is_some (cond b (Some next) o) ≡ (b || is_some o)
-      put true o = refl
-      put false o = refl
+        put : (b : Bool) (o : Option Chain) → is_some (cond b (Some next) o) ≡ (b || is_some o)
+        put true o = refl
+        put false o = refl
 
-      exactly : (q : K) → is_some (lookup (same q) (lists_of k fs)) ≡ (same p q || is_some (lookup (same q) (lists_of h es)))
-      exactly q = ap is_some (lookup-map_values (nodes k) (same q) fs) ∙ some_map (nodes k) (lookup (same q) fs) ∙ ap is_some (c.at q)
-          ∙ put (same p q) (lookup (same q) es) ∙ ap (λ b. same p q || b) (sym (some_map (nodes h) (lookup (same q) es)) ∙ ap is_some (sym (lookup-map_values (nodes h) (same q) es)))
+        exactly : (q : K) → is_some (lookup (same q) (lists_of k fs)) ≡ (same p q || is_some (lookup (same q) (lists_of h es)))
+        exactly q = ap is_some (lookup-map_values (nodes k) (same q) fs) ∙ some_map (nodes k) (lookup (same q) fs) ∙ ap is_some (c.at q)
+            ∙ put (same p q) (lookup (same q) es) ∙ ap (λ b. same p q || b) (sym (some_map (nodes h) (lookup (same q) es)) ∙ ap is_some (sym (lookup-map_values (nodes h) (same q) es)))
 
   -- the place of a peer is on its chain
-  pub own_parts : (h : ℕ → Option (Entry K D)) (es : List (K × Chain)) (p : K) (c : Chain) (place : ℕ) → IsStore same h es → lookup (same p) es ≡ Some c → IsPlaceOf same h p place → Parts (nodes h c) place
-  own_parts h es p c place store found own = parts place (nodes h c) ((store.chains p c found).all place own.entry own.there own.owned)
+  module _ {h : ℕ → Option (Entry K D)} {es : List (K × Chain)} {p : K} {c : Chain} {place : ℕ} (store : IsStore same h es) (found : lookup (same p) es ≡ Some c) (own : IsPlaceOf same h p place) where
+    pub own_parts : Parts (nodes h c) place
+    own_parts = parts place (nodes h c) ((store.chains p c found).all place own.entry own.there own.owned)
 
-  pub own_on : (h : ℕ → Option (Entry K D)) (es : List (K × Chain)) (p : K) (c : Chain) (place : ℕ) → IsStore same h es → lookup (same p) es ≡ Some c → IsPlaceOf same h p place → IsOn h c place
-  own_on h es p c place store found own =
-      let ps = own_parts h es p c place store found own in
-      record { mine = same p; front = ps.front; digest = ps.digest; back = ps.back; linked = rw ps.is at (store.chains p c found).linked }
+    pub own_on : IsOn h c place
+    own_on = record { mine = same p; front = own_parts.front; digest = own_parts.digest; back = own_parts.back; linked = rw own_parts.is at (store.chains p c found).linked }
 
   pub has_nodes : (h : ℕ → Option (Entry K D)) (es : List (K × Chain)) (p : K) (c : Chain) → IsStore same h es → lookup (same p) es ≡ Some c → HasNodes h c
   has_nodes h es p c store found = record { mine = same p; nodes = nodes h c; whole = store.chains p c found }
 
-  -- the chain after a renewal
-  pub renewed : (h k : ℕ → Option (Entry K D)) (es fs : List (K × Chain)) (p : K) (old next : Chain) (place : ℕ) (digest : D) → (store : IsStore same h es) → (was : lookup (same p) es ≡ Some old) → (own : IsPlaceOf same h p place)
-      → fs ≡ set_value (same p) es next → Promotes h k old next place digest
-      → Changes h k es fs p next (let ps = own_parts h es p old place store was own in (place, digest) ∷ (ps.front ++ ps.back))
-  renewed h k es fs p old next place digest store was own is promotes =
-      let ps = own_parts h es p old place store was own in
-      let c : IsChain (same p) h old (ps.front ++ (place, ps.digest) ∷ ps.back) = rw ps.is at (store.chains p old was) in
-      let r = promotes.chains (same p) ps.front ps.digest ps.back c in
-      record { at = written laws es fs p old next was is; chain = r.0; frame = r.1; distinct = written_distinct laws es fs p next is store.distinct }
+  -- the key has another chain
+  module _ {h k : ℕ → Option (Entry K D)} {es fs : List (K × Chain)} {old next : Chain} (p : K) (store : IsStore same h es) (was : lookup (same p) es ≡ Some old) (is : fs ≡ set_value (same p) es next) where
+    pub changed : {ns : List (Node D)} → IsChain (same p) k next ns → Frame (same p) h k → Changes h k es fs p next ns
+    changed chain frame = record { at = written laws es fs p old next was is; chain = chain; frame = frame; distinct = written_distinct laws es fs p next is store.distinct }
 
-  pub renews : (h k : ℕ → Option (Entry K D)) (es fs : List (K × Chain)) (p : K) (old next : Chain) (place : ℕ) (digest : D) → IsStore same h es → lookup (same p) es ≡ Some old → IsPlaceOf same h p place
-      → fs ≡ set_value (same p) es next → Promotes h k old next place digest
-      → IsStore same k fs × Puts same p (moved place digest (items_at same p (lists_of h es))) (lists_of h es) (lists_of k fs)
-  renews h k es fs p old next place digest store was own is promotes =
-      let ps = own_parts h es p old place store was own in
-      let change = renewed h k es fs p old next place digest store was own is promotes in
-      let is_moved : moved place digest (items_at same p (lists_of h es)) ≡ (place, digest) ∷ (ps.front ++ ps.back) =
-      ap (moved place digest) (items_at-chain h es p old was ∙ ps.is) ∙ moved-parts place digest ps.digest ps.front ps.back (rw ps.is at (store.chains p old was).linked.apart) in (
-        Changes-store h k es fs p next _ store change,
-        rw is_moved (Changes-puts h k es fs p next _ store change),
-      )
+    -- the chain after a renewal
+    pub renewed : {place : ℕ} {digest : D} (own : IsPlaceOf same h p place) → Promotes h k old next place digest
+        → Changes h k es fs p next (let ps = own_parts store was own in (place, digest) ∷ (ps.front ++ ps.back))
+    renewed own promotes =
+        let ps = own_parts store was own in
+        let r = promotes.chains (same p) ps.front ps.digest ps.back (rw ps.is at (store.chains p old was)) in changed r.0 r.1
 
-  pub evicts_one : (h k : ℕ → Option (Entry K D)) (es fs : List (K × Chain)) (p : K) (old next : Chain) (stale : D) → IsStore same h es → lookup (same p) es ≡ Some old
-      → fs ≡ set_value (same p) es next → Pops h k old next (Some stale)
-      → IsStore same k fs × Evicts same p stale (lists_of h es) (lists_of k fs)
-  evicts_one h k es fs p old next stale store was is pops =
-      let r = pops (same p) (nodes h old) (store.chains p old was) in
-      let change : Changes h k es fs p next r.1 = record { at = written laws es fs p old next was is; chain = r.4; frame = r.5; distinct = written_distinct laws es fs p next is store.distinct } in (
-        Changes-store h k es fs p next _ store change,
-        record {
-          place = r.0;
-          rest = r.1;
-          last = items_at-chain h es p old was ∙ r.2;
-          put = Changes-puts h k es fs p next _ store change;
-        },
-      )
+    pub renews : {place : ℕ} {digest : D} → IsPlaceOf same h p place → Promotes h k old next place digest
+        → IsStore same k fs × Puts same p (moved place digest (items_at same p (lists_of h es))) (lists_of h es) (lists_of k fs)
+    renews {place = place} {digest = digest} own promotes =
+        let ps = own_parts store was own in
+        let change = renewed own promotes in
+        let is_moved : moved place digest (items_at same p (lists_of h es)) ≡ (place, digest) ∷ (ps.front ++ ps.back) =
+        ap (moved place digest) (items_at-chain h es p old was ∙ ps.is) ∙ moved-parts place digest ps.digest ps.front ps.back (rw ps.is at (store.chains p old was).linked.apart) in (
+          Changes-store store change,
+          rw is_moved (Changes-puts store change),
+        )
 
-  pub evicts_none : (h k : ℕ → Option (Entry K D)) (es fs : List (K × Chain)) (p : K) (old next : Chain) → IsStore same h es → lookup (same p) es ≡ Some old
-      → fs ≡ set_value (same p) es next → Pops h k old next None
-      → IsStore same k fs × (items_at same p (lists_of h es) ≡ []) × (lists_of k fs ≡ lists_of h es)
-  evicts_none h k es fs p old next store was is pops =
-      let r = pops (same p) (nodes h old) (store.chains p old was) in
-      let same_entries : fs ≡ es = is ∙ ap (set_value (same p) es) r.1 ∙ set_value_same (same p) es old was in
-      let same_heap : k ≡ h = λ i j. r.2 j i in (
-        rw (same_heap, same_entries) store,
-        items_at-chain h es p old was ∙ r.0,
-        rw (same_heap, same_entries) refl,
-      )
+    pub evicts : {stale : D} → Pops h k old next (Some stale) → IsStore same k fs × Evicts same p stale (lists_of h es) (lists_of k fs)
+    evicts pops =
+        let r = pops (same p) (nodes h old) (store.chains p old was) in
+        let change = changed r.4 r.5 in
+        (Changes-store store change, record { place = r.0; rest = r.1; last = items_at-chain h es p old was ∙ r.2; put = Changes-puts store change })
 
-  pub evicts : (h k : ℕ → Option (Entry K D)) (es fs : List (K × Chain)) (p : K) (old next : Chain) (r : Option D) → IsStore same h es → lookup (same p) es ≡ Some old
-      → fs ≡ set_value (same p) es next → Pops h k old next r
-      → IsStore same k fs × MatchOption r ((items_at same p (lists_of h es) ≡ []) × (lists_of k fs ≡ lists_of h es)) (λ stale. Evicts same p stale (lists_of h es) (lists_of k fs))
-  evicts h k es fs p old next None store was is pops = let r = evicts_none h k es fs p old next store was is pops in (r.0, (r.1, r.2))
-  evicts h k es fs p old next (Some stale) store was is pops = evicts_one h k es fs p old next stale store was is pops
+    -- what a push makes of all lists
+    pub adds : {digest : D} {place : ℕ} → Pushes h k old next p place digest → IsStore same k fs × Puts same p ((place, digest) ∷ items_at same p (lists_of h es)) (lists_of h es) (lists_of k fs)
+    adds pushes =
+        let r = pushes.chains (same p) (nodes h old) (laws.refl p) (store.chains p old was) in
+        let change = changed r.0 r.1 in
+        (Changes-store store change, rw (items_at-chain h es p old was) (Changes-puts store change))
+
+    -- what stays, stays for all lists
+    pub stays : next ≡ old → SameValues h k → IsStore same k fs × (lists_of k fs ≡ lists_of h es)
+    stays kept values =
+        let same_entries : fs ≡ es = is ∙ ap (set_value (same p) es) kept ∙ set_value_same (same p) es old was in
+        let same_heap : k ≡ h = λ i j. values j i in
+        (rw (same_heap, same_entries) store, rw (same_heap, same_entries) refl)
 
   -- the peer of a place has a chain
   pub own_chain : (h : ℕ → Option (Entry K D)) (es : List (K × Chain)) (p : K) (place : ℕ) → IsStore same h es → IsPlaceOf same h p place → lookup (same p) es ≡ None → ⊥
@@ -365,79 +353,48 @@ module _ {K D : Type 0} {same : K → K → Bool} (laws : IsEquivalence same) wh
   pub owned_by : (h : ℕ → Option (Entry K D)) (es : List (K × Chain)) (p owner : K) (c : Chain) → IsStore same h es → lookup (same p) es ≡ Some c → same p owner ≡ true → IsOwned h c owner
   owned_by h es p owner c store found owned = record { mine = same p; nodes = nodes h c; linked = (store.chains p c found).linked; owned = owned }
 
-  -- what a push makes of all lists
-  pub adds : (h k : ℕ → Option (Entry K D)) (es fs : List (K × Chain)) (p owner : K) (old next : Chain) (digest : D) (place : ℕ) → IsStore same h es → lookup (same p) es ≡ Some old
-      → same p owner ≡ true → fs ≡ set_value (same p) es next → Pushes h k old next owner place digest
-      → IsStore same k fs × Puts same p ((place, digest) ∷ items_at same p (lists_of h es)) (lists_of h es) (lists_of k fs)
-  adds h k es fs p owner old next digest place store was owned is pushes =
-      let r = pushes.chains (same p) (nodes h old) owned (store.chains p old was) in
-      let change : Changes h k es fs p next ((place, digest) ∷ nodes h old) = record { at = written laws es fs p old next was is; chain = r.0; frame = r.1; distinct = written_distinct laws es fs p next is store.distinct } in
-      (Changes-store h k es fs p next _ store change, rw (items_at-chain h es p old was) (Changes-puts h k es fs p next _ store change))
-
-  -- what stays, stays for all lists
-  pub stays : (h k : ℕ → Option (Entry K D)) (es fs : List (K × Chain)) (p : K) (old next : Chain) → IsStore same h es → lookup (same p) es ≡ Some old
-      → fs ≡ set_value (same p) es next → next ≡ old → SameValues h k
-      → IsStore same k fs × (lists_of k fs ≡ lists_of h es)
-  stays h k es fs p old next store was is kept values =
-      let same_entries : fs ≡ es = is ∙ ap (set_value (same p) es) kept ∙ set_value_same (same p) es old was in
-      let same_heap : k ≡ h = λ i j. values j i in
-      (rw (same_heap, same_entries) store, rw (same_heap, same_entries) refl)
-
-  -- what a push makes of all lists, or leaves
-  pub adds-or-stays : {E : Type 0} (h k : ℕ → Option (Entry K D)) (es fs : List (K × Chain)) (p owner : K) (old next : Chain) (digest : D) (v w : ℕ) (r : Result ℕ E) → IsStore same h es → lookup (same p) es ≡ Some old
-      → same p owner ≡ true → fs ≡ set_value (same p) es next → IfOk r (λ place. Pushes h k old next owner place digest) → OnErr r ((next ≡ old) × SameValues h k × (v ≡ w))
-      → IsStore same k fs × IfOk r (λ place. Puts same p ((place, digest) ∷ items_at same p (lists_of h es)) (lists_of h es) (lists_of k fs)) × OnErr r ((lists_of k fs ≡ lists_of h es) × (v ≡ w))
-  adds-or-stays h k es fs p owner old next digest v w (Ok place) store was owned is pushes kept =
-      let r = adds h k es fs p owner old next digest place store was owned is pushes in (r.0, r.1, tt)
-  adds-or-stays h k es fs p owner old next digest v w (Err e) store was owned is pushes kept =
-      let r = stays h k es fs p old next store was is kept.0 kept.1 in (r.0, tt, (r.1, kept.2))
-
   -- a chain is gone with its places
-  pub closes : (h k : ℕ → Option (Entry K D)) (es fs : List (K × Chain)) (p : K) (old : Chain) → IsStore same h es → lookup (same p) es ≡ Some old → Frees h k old
-      → ((q : K) → lookup (same q) fs ≡ cond (same p q) None (lookup (same q) es)) → IsDistinct same (keys_of fs)
-      → IsStore same k fs × ((q : K) → items_at same q (lists_of k fs) ≡ cond (same p q) [] (items_at same q (lists_of h es)))
-  closes h k es fs p old store was frees at distinct =
-      let frame = frees.frame (same p) (nodes h old) (store.chains p old was) in
-      let gone = frees.gone (same p) (nodes h old) (store.chains p old was) in (
-        record {
-          chains = λ q d found. by_test (same p q)
-              (λ here. let no : None ≡ Some d = sym (is_at (same p q) None (lookup (same q) es) here) ∙ sym (at q) ∙ found in absurd (cc))
+  module _ {h k : ℕ → Option (Entry K D)} {es fs : List (K × Chain)} {old : Chain} (p : K) (store : IsStore same h es) (was : lookup (same p) es ≡ Some old) (frees : Frees h k old)
+      (at : (q : K) → lookup (same q) fs ≡ cond (same p q) None (lookup (same q) es)) (distinct : IsDistinct same (keys_of fs)) where
+    closes : IsStore same k fs × ((q : K) → items_at same q (lists_of k fs) ≡ cond (same p q) [] (items_at same q (lists_of h es)))
+    closes =
+        let frame = frees.frame (same p) (nodes h old) (store.chains p old was) in
+        let gone = frees.gone (same p) (nodes h old) (store.chains p old was) in (
+          record {
+            chains = λ q d found. by_test (same p q)
+                (λ here. let no : None ≡ Some d = sym (is_at (same p q) None (lookup (same q) es) here) ∙ sym (at q) ∙ found in absurd (cc))
+                (λ apart.
+                let before : lookup (same q) es ≡ Some d = sym (is_not_at (same p q) None (lookup (same q) es) apart) ∙ sym (at q) ∙ found in
+                let kept = other_chain store frame apart before in
+                let seen = nodes-is (same q) k d (nodes h d) kept.linked in
+                rw seen kept);
+            rooted = λ j e there.
+                let apart = gone j e there in
+                ap is_some (at e.peer ∙ is_not_at (same p e.peer) None (lookup (same e.peer) es) apart) ∙ store.rooted j e (frame.back j e there apart);
+            distinct = distinct;
+          },
+          λ q. by_test (same p q)
+              (λ here. items_at-none k fs q (at q ∙ is_at (same p q) None (lookup (same q) es) here) ∙ sym (is_at (same p q) [] (items_at same q (lists_of h es)) here))
               (λ apart.
-              let before : lookup (same q) es ≡ Some d = sym (is_not_at (same p q) None (lookup (same q) es) apart) ∙ sym (at q) ∙ found in
-              let kept = other_chain h k es p q d store frame apart before in
-              let seen = nodes-is (same q) k d (nodes h d) kept.linked in
-              rw seen kept);
-          rooted = λ j e there.
-              let apart = gone j e there in
-              ap is_some (at e.peer ∙ is_not_at (same p e.peer) None (lookup (same e.peer) es) apart) ∙ store.rooted j e (frame.back j e there apart);
-          distinct = distinct;
-        },
-        λ q. by_test (same p q)
-            (λ here. items_at-none k fs q (at q ∙ is_at (same p q) None (lookup (same q) es) here) ∙ sym (is_at (same p q) [] (items_at same q (lists_of h es)) here))
-            (λ apart.
-            items_at-lists k fs q
-            ∙ ap (λ (o : Option Chain). unwrap_or (option_map (nodes k) o) []) (at q ∙ is_not_at (same p q) None (lookup (same q) es) apart)
-            ∙ kept frame q apart (lookup (same q) es) refl
-            ∙ sym (items_at-lists h es q)
-            ∙ sym (is_not_at (same p q) [] (items_at same q (lists_of h es)) apart)),
-      )
-    where
-      kept : Frame (same p) h k → (q : K) → same p q ≡ false → (o : Option Chain) → lookup (same q) es ≡ o → unwrap_or (option_map (nodes k) o) [] ≡ unwrap_or (option_map (nodes h) o) []
-      kept frame q apart None found = refl
-      kept frame q apart (Some d) found = nodes-is (same q) k d (nodes h d) (other_chain h k es p q d store frame apart found).linked
+              items_at-lists k fs q
+              ∙ ap (λ (o : Option Chain). unwrap_or (option_map (nodes k) o) []) (at q ∙ is_not_at (same p q) None (lookup (same q) es) apart)
+              ∙ kept frame q apart (lookup (same q) es) refl
+              ∙ sym (items_at-lists h es q)
+              ∙ sym (is_not_at (same p q) [] (items_at same q (lists_of h es)) apart)),
+        )
+      where
+        kept : Frame (same p) h k → (q : K) → same p q ≡ false → (o : Option Chain) → lookup (same q) es ≡ o → unwrap_or (option_map (nodes k) o) [] ≡ unwrap_or (option_map (nodes h) o) []
+        kept frame q apart None found = refl
+        kept frame q apart (Some d) found = nodes-is (same q) k d (nodes h d) (other_chain store frame apart found).linked
+
+    pub removes : IsStore same k fs × Removes same p (lists_of h es) (lists_of k fs)
+    removes = (closes.0, record { lists = closes.1; keys = λ q there. left_keys laws h k es fs p at q there; stays = λ q apart there. kept_keys same h k es fs p at q apart there; distinct = listed_distinct same k fs distinct })
 
   -- a key that has no chain
   pub closes_none : (h : ℕ → Option (Entry K D)) (es fs : List (K × Chain)) (p : K) → lookup (same p) es ≡ None → fs ≡ es → (q : K) → items_at same q (lists_of h fs) ≡ cond (same p q) [] (items_at same q (lists_of h es))
   closes_none h es fs p none is q = by_test (same p q)
       (λ here. ap (λ (gs : List (K × Chain)). items_at same q (lists_of h gs)) is ∙ items_at-none h es q (sym (found_same laws es p q here) ∙ none) ∙ sym (is_at (same p q) [] (items_at same q (lists_of h es)) here))
       (λ apart. ap (λ (gs : List (K × Chain)). items_at same q (lists_of h gs)) is ∙ sym (is_not_at (same p q) [] (items_at same q (lists_of h es)) apart))
-
-  pub removes : (h k : ℕ → Option (Entry K D)) (es fs : List (K × Chain)) (p : K) (old : Chain) → IsStore same h es → lookup (same p) es ≡ Some old → Frees h k old
-      → ((q : K) → lookup (same q) fs ≡ cond (same p q) None (lookup (same q) es)) → IsDistinct same (keys_of fs)
-      → IsStore same k fs × Removes same p (lists_of h es) (lists_of k fs)
-  removes h k es fs p old store was frees at distinct =
-      let r = closes h k es fs p old store was frees at distinct in
-      (r.0, record { lists = r.1; keys = λ q there. left_keys laws h k es fs p at q there; stays = λ q apart there. kept_keys same h k es fs p at q apart there; distinct = listed_distinct same k fs distinct })
 
   pub removes_none : (h : ℕ → Option (Entry K D)) (es fs : List (K × Chain)) (p : K) → lookup (same p) es ≡ None → fs ≡ es
       → ((q : K) → lookup (same q) fs ≡ cond (same p q) None (lookup (same q) es)) → IsDistinct same (keys_of fs) → Removes same p (lists_of h es) (lists_of h fs)

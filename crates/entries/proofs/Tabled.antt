@@ -111,16 +111,16 @@ module _ {D T : Type 0} where
       alike-past [] only none = tt
       alike-past (e ∷ es) only none = (others e.1 (λ is. no_both (only.0 is) none.0), alike-past es only.1 none.1)
 
-module _ {D T : Type 0} {R : D → D → Ordering} (o : IsTotalOrder R) (h k : ℕ → Option (Placed ℕ T)) (d : D) (n : ℕ) (others : (m : ℕ) → (m ≡ n → ⊥) → k m ≡ h m) where
+module _ {D T : Type 0} {R : D → D → Ordering} (o : IsTotalOrder R) {h k : ℕ → Option (Placed ℕ T)} (d : D) {n : ℕ} (others : (m : ℕ) → (m ≡ n → ⊥) → k m ≡ h m) where
   past : (e : D × ℕ) (es : List (D × ℕ)) → IsStrictlySortedBy R (keys_of (e ∷ es)) → eq_by_cmp R d e.0 ≡ true → Only (eq_by_cmp R d) n es → items_by k es ≡ items_by h es
   past e es sorted here only = alike-items h k es (alike-past (eq_by_cmp R d) n h k others es only
       (none_past_head (eq_by_cmp_equiv o) d e es (IsDistinct-from_sorted R (keys_of (e ∷ es)) sorted) here))
 
   -- a write at a slot is one at its name
-  pub written-items : (now : Placed ℕ T) → k n ≡ Some now → (es : List (D × ℕ)) → IsStrictlySortedBy R (keys_of es) → Full h es → Only (eq_by_cmp R d) n es
+  pub written-items : {now : Placed ℕ T} → k n ≡ Some now → (es : List (D × ℕ)) → IsStrictlySortedBy R (keys_of es) → Full h es → Only (eq_by_cmp R d) n es
       → lookup (eq_by_cmp R d) es ≡ Some n → items_by k es ≡ insert_entry R (items_by h es) d now
-  written-items now there [] sorted full only found = no_some refl found
-  written-items now there (e ∷ es) sorted full only found = by_item h e.1 full.0 (λ it is.
+  written-items there [] sorted full only found = no_some refl found
+  written-items {now = now} there (e ∷ es) sorted full only found = by_item h e.1 full.0 (λ it is.
       by_order (R d e.0) (R d e.0) refl
       (λ less. no_some (lookup-none (is_at (R d)) (e ∷ es) (none_below_head o d e es sorted less)) found)
       (λ equal.
@@ -130,7 +130,7 @@ module _ {D T : Type 0} {R : D → D → Ordering} (o : IsTotalOrder R) (h k : �
       (λ more.
       let kept : k e.1 ≡ Some it = others e.1 (λ m. no_both (only.0 m) (ap is_eq more)) ∙ is in
       let rest : lookup (eq_by_cmp R d) es ≡ Some n = sym (ap (λ r. cond (is_eq r) (Some e.1) (lookup (is_at (R d)) es)) more) ∙ found in
-      rw (kept, is, more) (ap (λ l. (e.0, it) ∷ l) (written-items now there es (sorted_tail R e.0 (keys_of es) sorted) full.1 only.1 rest))))
+      rw (kept, is, more) (ap (λ l. (e.0, it) ∷ l) (written-items there es (sorted_tail R e.0 (keys_of es) sorted) full.1 only.1 rest))))
 
   -- a name that leaves the index leaves the items
   pub removed-items : (es : List (D × ℕ)) → IsStrictlySortedBy R (keys_of es) → Full h es → Only (eq_by_cmp R d) n es

@@ -36,12 +36,12 @@ module _ {K D T : Type 0} where
   -- what is taken out, is taken out of the messages
   pub messages_removed : (test : D → Bool) (items : List (D × Placed K T)) → messages_of (remove_entry test items) ≡ remove_entry test (messages_of items)
   messages_removed test [] = refl
-  messages_removed test (e ∷ es) =
-      both (test e.0) (messages_of es) (e.0, e.1.message) (messages_of (remove_entry test es)) (remove_entry test (messages_of es)) es e (remove_entry test es) refl refl (messages_removed test es)
+  messages_removed test (e ∷ es) = at (test e.0) (messages_removed test es)
     where
-      both : (b : Bool) (l : List (D × T)) (x : D × T) (m n : List (D × T)) (us : List (D × Placed K T)) (u : D × Placed K T) (vs : List (D × Placed K T)) → messages_of us ≡ l → messages_of vs ≡ m → m ≡ n → messages_of (cond b us (u ∷ vs)) ≡ cond b l ((u.0, u.1.message) ∷ n)
-      both true l x m n us u vs p q r = p
-      both false l x m n us u vs p q r = ap (λ k. (u.0, u.1.message) ∷ k) (q ∙ r)
+      at : (b : Bool) → messages_of (remove_entry test es) ≡ remove_entry test (messages_of es)
+          → messages_of (cond b es (e ∷ remove_entry test es)) ≡ cond b (messages_of es) ((e.0, e.1.message) ∷ remove_entry test (messages_of es))
+      at true rest = refl
+      at false rest = ap (λ k. (e.0, e.1.message) ∷ k) rest
 
   -- what is put in, is put into the messages
   pub messages_inserted : (R : D → D → Ordering) (items : List (D × Placed K T)) (d : D) (item : Placed K T) → messages_of (insert_entry R items d item) ≡ insert_entry R (messages_of items) d item.message
@@ -66,41 +66,17 @@ module _ {K D T : Type 0} (digest : D → D → Bool) (es gs : List (D × Placed
       lookup-messages (digest e) es ∙ sym (ap (option_map (λ i. i.message)) new) ∙ sym (lookup-messages (digest e) gs) ∙ found)
 
 module _ {K D T : Type 0} {digest : D → D → Bool} (key : K → K → Bool) (equal : IsEquivalence digest) (es : List (D × Placed K T)) (d : D) (p : K) where
-  -- a write at a digest that has a message, where the places change at one key
-  pub places_written : (fs : List (D × Placed K T)) (was now : Placed K T) (place : Option ℕ) → lookup (digest d) es ≡ Some was → ((e : D) → lookup (digest e) fs ≡ cond (digest d e) (Some now) (lookup (digest e) es))
-      → ((q : K) → lookup (key q) now.places ≡ cond (key p q) place (lookup (key q) was.places)) → SetsPlace digest key d p place es fs
-  places_written fs was now place there written changed e q = by_test (digest d e)
+  -- a change at one digest, whose places change at one key
+  places_set : (fs : List (D × Placed K T)) {was : Option (Placed K T)} (now : Option (Placed K T)) (place : Option ℕ) → lookup (digest d) es ≡ was → ((e : D) → lookup (digest e) fs ≡ cond (digest d e) now (lookup (digest e) es))
+      → ((q : K) → place_in digest key q now ≡ cond (key p q) place (place_in digest key q was)) → SetsPlace digest key d p place es fs
+  places_set fs {was = was} now place there written changed e q = by_test (digest d e)
       (λ here.
-      let new : lookup (digest e) fs ≡ Some now = written e ∙ ap (λ b. cond b (Some now) (lookup (digest e) es)) here in
-      let old : lookup (digest e) es ≡ Some was = sym (found_same equal es d e here) ∙ there in
+      let new : lookup (digest e) fs ≡ now = written e ∙ ap (λ b. cond b now (lookup (digest e) es)) here in
+      let old : lookup (digest e) es ≡ was = sym (found_same equal es d e here) ∙ there in
       ap (place_in digest key q) new ∙ changed q ∙ ap (λ o. cond (key p q) place (place_in digest key q o)) (sym old) ∙ sym (at_both (digest d e) (key p q) place (place_at digest key es e q) here))
       (λ apart.
-      let new : lookup (digest e) fs ≡ lookup (digest e) es = written e ∙ ap (λ b. cond b (Some now) (lookup (digest e) es)) apart in
+      let new : lookup (digest e) fs ≡ lookup (digest e) es = written e ∙ ap (λ b. cond b now (lookup (digest e) es)) apart in
       ap (place_in digest key q) new ∙ sym (at_other (digest d e) (key p q) place (place_at digest key es e q) apart))
-
-  -- a digest that has no message gets one, with one place
-  pub places_inserted : (fs : List (D × Placed K T)) (now : Placed K T) (i : ℕ) → lookup (digest d) es ≡ None → ((e : D) → lookup (digest e) fs ≡ cond (digest d e) (Some now) (lookup (digest e) es))
-      → ((q : K) → lookup (key q) now.places ≡ cond (key p q) (Some i) None) → SetsPlace digest key d p (Some i) es fs
-  places_inserted fs now i none written places e q = by_test (digest d e)
-      (λ here.
-      let new : lookup (digest e) fs ≡ Some now = written e ∙ ap (λ b. cond b (Some now) (lookup (digest e) es)) here in
-      let old : lookup (digest e) es ≡ None = sym (found_same equal es d e here) ∙ none in
-      ap (place_in digest key q) new ∙ places q ∙ ap (λ o. cond (key p q) (Some i) (place_in digest key q o)) (sym old) ∙ sym (at_both (digest d e) (key p q) (Some i) (place_at digest key es e q) here))
-      (λ apart.
-      let new : lookup (digest e) fs ≡ lookup (digest e) es = written e ∙ ap (λ b. cond b (Some now) (lookup (digest e) es)) apart in
-      ap (place_in digest key q) new ∙ sym (at_other (digest d e) (key p q) (Some i) (place_at digest key es e q) apart))
-
-  -- the message leaves with its last place
-  pub places_left : (gs : List (D × Placed K T)) (was now : Placed K T) → lookup (digest d) es ≡ Some was → ((q : K) → lookup (key q) now.places ≡ cond (key p q) None (lookup (key q) was.places))
-      → now.places ≡ [] → ((e : D) → lookup (digest e) gs ≡ cond (digest d e) None (lookup (digest e) es)) → SetsPlace digest key d p None es gs
-  places_left gs was now there removed empty left e q = by_test (digest d e)
-      (λ here.
-      let new : lookup (digest e) gs ≡ None = left e ∙ ap (λ b. cond b None (lookup (digest e) es)) here in
-      let old : lookup (digest e) es ≡ Some was = sym (found_same equal es d e here) ∙ there in
-      ap (place_in digest key q) new ∙ sym (ap (λ (l : List (K × ℕ)). lookup (key q) l) empty) ∙ removed q ∙ ap (λ o. cond (key p q) None (place_in digest key q o)) (sym old) ∙ sym (at_both (digest d e) (key p q) None (place_at digest key es e q) here))
-      (λ apart.
-      let new : lookup (digest e) gs ≡ lookup (digest e) es = left e ∙ ap (λ b. cond b None (lookup (digest e) es)) apart in
-      ap (place_in digest key q) new ∙ sym (at_other (digest d e) (key p q) None (place_at digest key es e q) apart))
 
 pub by_order : {G : Type 0} (r s : Ordering) → s ≡ r → (s ≡ Less → G) → (s ≡ Equal → G) → (s ≡ Greater → G) → G
 by_order Less s e l m n = l e
@@ -154,78 +130,89 @@ placed_left digest key es gs d placed left e there = by_test (digest d e)
     let new : lookup (digest e) gs ≡ lookup (digest e) es = left e ∙ ap (λ b. cond b None (lookup (digest e) es)) apart in
     let was = placed e (ap is_some (sym new) ∙ there) in (was.0, was.1, ap (place_in digest key was.0) new ∙ was.2))
 
+module _ {K D T : Type 0} (R : D → D → Ordering) where
+  -- the item is put in at the digest
+  pub record PutsItem (es fs : List (D × Placed K T)) (d : D) (now : Placed K T) : Type 0 where
+    pub entries : fs ≡ insert_entry R es d now
+    pub finds : (e : D) → lookup (eq_by_cmp R e) fs ≡ cond (eq_by_cmp R d e) (Some now) (lookup (eq_by_cmp R e) es)
+
+  -- it takes the place of one with the same message
+  pub record Rewrites (es fs : List (D × Placed K T)) (d : D) (was now : Placed K T) : Type 0 where
+    pub sorted : IsStrictlySortedBy R (keys_of es)
+    pub there : lookup (eq_by_cmp R d) es ≡ Some was
+    pub put : PutsItem es fs d now
+    pub message : now.message ≡ was.message
+
 module _ {K D T : Type 0} {R : D → D → Ordering} {key : K → K → Bool} (o : IsTotalOrder R) (laws : IsEquivalence key) where
+  same_messages : {es fs : List (D × Placed K T)} {d : D} {was now : Placed K T} → Rewrites R es fs d was now → messages_of fs ≡ messages_of es
+  same_messages {es = es} {d = d} {now = now} w = ap messages_of w.put.entries ∙ messages_inserted R es d now
+      ∙ insert_entry-same o d now.message (messages_of es) (subst (IsStrictlySortedBy R) (sym (keys_of-map_values (λ it. it.message) es)) w.sorted)
+      (lookup-messages (eq_by_cmp R d) es ∙ ap (option_map (λ it. it.message)) w.there ∙ ap Some (sym w.message))
+
   -- a message that is cached gets a place, if it has none of the key
-  pub joined : (is_clone : T → T → Type 0) (es fs : List (D × Placed K T)) (d : D) (x : T) (p : K) (i : ℕ) (was now : Placed K T) (f : Option ℕ)
-      → IsPlaced (eq_by_cmp R) key es → IsStrictlySortedBy R (keys_of es) → lookup (eq_by_cmp R d) es ≡ Some was
-      → fs ≡ insert_entry R es d now → ((e : D) → lookup (eq_by_cmp R e) fs ≡ cond (eq_by_cmp R d e) (Some now) (lookup (eq_by_cmp R e) es)) → now.message ≡ was.message
+  pub joined : (is_clone : T → T → Type 0) {es fs : List (D × Placed K T)} {d : D} (x : T) (p : K) (i : ℕ) {was now : Placed K T} (f : Option ℕ)
+      → IsPlaced (eq_by_cmp R) key es → Rewrites R es fs d was now
       → (IsSome f → now ≡ was) → (f ≡ None → (q : K) → lookup (key q) now.places ≡ cond (key p q) (Some i) (lookup (key q) was.places))
       → IsPlaced (eq_by_cmp R) key fs × (f ≡ None → Joins (eq_by_cmp R) key R is_clone d x p i es fs)
-  joined is_clone es fs d x p i was now (Some j) placed sorted there is written same stays places =
-      let all : fs ≡ es = is ∙ ap (insert_entry R es d) (stays refl) ∙ insert_entry-same o d was es sorted there in (
+  joined is_clone {es = es} {fs = fs} {d = d} x p i {was = was} (Some j) placed w stays places =
+      let all : fs ≡ es = w.put.entries ∙ ap (insert_entry R es d) (stays refl) ∙ insert_entry-same o d was es w.sorted w.there in (
         rw all placed,
         λ none. absurd (cc),
       )
-  joined is_clone es fs d x p i was now None placed sorted there is written same stays places = (
-    placed_written laws (eq_by_cmp_equiv o) es fs d now placed written (some_left (key p) i now.places (places refl p ∙ ap (λ b. cond b (Some i) (lookup (key p) was.places)) (laws.refl p))),
+  joined is_clone {es = es} {fs = fs} {d = d} x p i {was = was} {now = now} None placed w stays places = (
+    placed_written laws (eq_by_cmp_equiv o) es fs d now placed w.put.finds (some_left (key p) i now.places (places refl p ∙ ap (λ b. cond b (Some i) (lookup (key p) was.places)) (laws.refl p))),
     λ _. record {
-      places = places_written key (eq_by_cmp_equiv o) es d p fs was now (Some i) there written (places refl);
-      stays = λ _. ap messages_of is ∙ messages_inserted R es d now
-          ∙ insert_entry-same o d now.message (messages_of es) (subst (IsStrictlySortedBy R) (sym (keys_of-map_values (λ it. it.message) es)) sorted)
-          (lookup-messages (eq_by_cmp R d) es ∙ ap (option_map (λ it. it.message)) there ∙ ap Some (sym same));
-      cached = λ none. absurd (let no : None ≡ Some was = sym none ∙ there in cc);
+      places = places_set key (eq_by_cmp_equiv o) es d p fs (Some now) (Some i) w.there w.put.finds (places refl);
+      stays = λ _. same_messages w;
+      cached = λ none. absurd (let no : None ≡ Some was = sym none ∙ w.there in cc);
     },
   )
 
   -- a message that is not cached is put in with a place
-  pub cached : (is_clone : T → T → Type 0) (es fs : List (D × Placed K T)) (d : D) (x : T) (p : K) (i : ℕ) (now : Placed K T)
-      → IsPlaced (eq_by_cmp R) key es → lookup (eq_by_cmp R d) es ≡ None
-      → fs ≡ insert_entry R es d now → ((e : D) → lookup (eq_by_cmp R e) fs ≡ cond (eq_by_cmp R d e) (Some now) (lookup (eq_by_cmp R e) es))
-      → is_clone x now.message → now.places ≡ (p, i) ∷ []
+  pub cached : (is_clone : T → T → Type 0) {es fs : List (D × Placed K T)} {d : D} (x : T) (p : K) (i : ℕ) {now : Placed K T}
+      → IsPlaced (eq_by_cmp R) key es → lookup (eq_by_cmp R d) es ≡ None → PutsItem R es fs d now → is_clone x now.message → now.places ≡ (p, i) ∷ []
       → IsPlaced (eq_by_cmp R) key fs × Joins (eq_by_cmp R) key R is_clone d x p i es fs
-  cached is_clone es fs d x p i now placed none is written cloned places =
+  cached is_clone {es = es} {fs = fs} {d = d} x p i {now = now} placed none put cloned places =
       let one : (q : K) → lookup (key q) now.places ≡ cond (key p q) (Some i) None = λ q.
       ap (lookup (key q)) places ∙ ap (λ b. cond b (Some i) None) (laws.symm q p) in (
-        placed_written laws (eq_by_cmp_equiv o) es fs d now placed written (one_place p i now.places places),
+        placed_written laws (eq_by_cmp_equiv o) es fs d now placed put.finds (one_place p i now.places places),
         record {
-          places = places_inserted key (eq_by_cmp_equiv o) es d p fs now i none written one;
+          places = places_set key (eq_by_cmp_equiv o) es d p fs (Some now) (Some i) none put.finds one;
           stays = λ there. absurd (let no : false ≡ true = sym (ap is_some none) ∙ there in cc);
           cached = λ _. record {
             copy = now.message;
             cloned = cloned;
-            entries = ap messages_of is ∙ messages_inserted R es d now;
-            finds = λ e. lookup-messages (eq_by_cmp R e) fs ∙ ap (option_map (λ it. it.message)) (written e)
+            entries = ap messages_of put.entries ∙ messages_inserted R es d now;
+            finds = λ e. lookup-messages (eq_by_cmp R e) fs ∙ ap (option_map (λ it. it.message)) (put.finds e)
                 ∙ put_message (eq_by_cmp R d e) now now.message (lookup (eq_by_cmp R e) es) refl
                 ∙ ap (λ b. cond (eq_by_cmp R d e) (Some now.message) b) (sym (lookup-messages (eq_by_cmp R e) es));
           };
         },
       )
 
-  module _ (es fs : List (D × Placed K T)) (d : D) (p : K) (was now : Placed K T) (placed : IsPlaced (eq_by_cmp R) key es) (there : lookup (eq_by_cmp R d) es ≡ Some was)
-      (removed : (q : K) → lookup (key q) now.places ≡ cond (key p q) None (lookup (key q) was.places)) where
-    -- a message loses a place that is not its last
-    pub left : IsStrictlySortedBy R (keys_of es) → fs ≡ insert_entry R es d now → ((e : D) → lookup (eq_by_cmp R e) fs ≡ cond (eq_by_cmp R d e) (Some now) (lookup (eq_by_cmp R e) es)) → now.message ≡ was.message
-        → (now.places ≡ [] → ⊥) → Leaves (eq_by_cmp R) key d p es fs × IsPlaced (eq_by_cmp R) key fs
-    left sorted is written same some =
-        let messages : messages_of fs ≡ messages_of es = ap messages_of is ∙ messages_inserted R es d now
-        ∙ insert_entry-same o d now.message (messages_of es) (subst (IsStrictlySortedBy R) (sym (keys_of-map_values (λ it. it.message) es)) sorted)
-        (lookup-messages (eq_by_cmp R d) es ∙ ap (option_map (λ it. it.message)) there ∙ ap Some (sym same)) in (
-          record {
-            places = places_written key (eq_by_cmp_equiv o) es d p fs was now None there written removed;
-            messages = inl messages;
-            fewer = λ e x found. ap (lookup (eq_by_cmp R e)) (sym messages) ∙ found;
-          },
-          placed_written laws (eq_by_cmp_equiv o) es fs d now placed written some,
-        )
+  -- a message loses a place that is not its last
+  pub left : {es fs : List (D × Placed K T)} {d : D} (p : K) {was now : Placed K T} → IsPlaced (eq_by_cmp R) key es → Rewrites R es fs d was now
+      → ((q : K) → lookup (key q) now.places ≡ cond (key p q) None (lookup (key q) was.places)) → (now.places ≡ [] → ⊥)
+      → Leaves (eq_by_cmp R) key d p es fs × IsPlaced (eq_by_cmp R) key fs
+  left {es = es} {fs = fs} {d = d} p {now = now} placed w removed some = (
+    record {
+      places = places_set key (eq_by_cmp_equiv o) es d p fs (Some now) None w.there w.put.finds removed;
+      messages = inl (same_messages w);
+      fewer = λ e x found. ap (lookup (eq_by_cmp R e)) (sym (same_messages w)) ∙ found;
+    },
+    placed_written laws (eq_by_cmp_equiv o) es fs d now placed w.put.finds some,
+  )
 
-    -- a message leaves with its last place
-    pub left_last : fs ≡ remove_entry (eq_by_cmp R d) es → ((e : D) → lookup (eq_by_cmp R e) fs ≡ cond (eq_by_cmp R d e) None (lookup (eq_by_cmp R e) es)) → now.places ≡ []
-        → Leaves (eq_by_cmp R) key d p es fs × IsPlaced (eq_by_cmp R) key fs
-    left_last is gone empty = (
-      record {
-        places = places_left key (eq_by_cmp_equiv o) es d p fs was now there removed empty gone;
-        messages = inr (ap messages_of is ∙ messages_removed (eq_by_cmp R d) es, gone d ∙ ap (λ b. cond b None (lookup (eq_by_cmp R d) es)) ((eq_by_cmp_equiv o).refl d));
-        fewer = fewer_left (eq_by_cmp R) es fs d gone;
-      },
-      placed_left (eq_by_cmp R) key es fs d placed gone,
-    )
+  -- a message leaves with its last place
+  pub left_last : (es : List (D × Placed K T)) {fs : List (D × Placed K T)} (d : D) (p : K) {was : Placed K T} (now : Placed K T) → IsPlaced (eq_by_cmp R) key es → lookup (eq_by_cmp R d) es ≡ Some was
+      → ((q : K) → lookup (key q) now.places ≡ cond (key p q) None (lookup (key q) was.places)) → now.places ≡ []
+      → fs ≡ remove_entry (eq_by_cmp R d) es → ((e : D) → lookup (eq_by_cmp R e) fs ≡ cond (eq_by_cmp R d e) None (lookup (eq_by_cmp R e) es))
+      → Leaves (eq_by_cmp R) key d p es fs × IsPlaced (eq_by_cmp R) key fs
+  left_last es {fs = fs} d p now placed there removed empty is gone = (
+    record {
+      places = places_set key (eq_by_cmp_equiv o) es d p fs None None there gone (λ q. sym (ap (λ (l : List (K × ℕ)). lookup (key q) l) empty) ∙ removed q);
+      messages = inr (ap messages_of is ∙ messages_removed (eq_by_cmp R d) es, gone d ∙ ap (λ b. cond b None (lookup (eq_by_cmp R d) es)) ((eq_by_cmp_equiv o).refl d));
+      fewer = fewer_left (eq_by_cmp R) es fs d gone;
+    },
+    placed_left (eq_by_cmp R) key es fs d placed gone,
+  )

@@ -9,16 +9,16 @@ pub returns-in_err-used-clause-exact : goal.returns-in_err-used-clause-exact
 returns-in_err-used-clause-exact g c =
     let left = err_from_is_err_and c.from_residual.result c.from_residual.ensures.1 in
     let stops : layout_of (read_each (g.A.Read.reading c.args.cfg.now) c.args.count c.args.buf.now) ≡ Err c.in_err-used.field-0.0 =
-    layout_stops (g.A.Read.reading c.args.cfg.now) _ c.args.count c.loop.counter c.loop.used c.in_err-used.field-0.0 c.args.buf.now c.loop-test.true c.in_err-used.ensures c.loop.invariant.so_far in
+    layout_stops (g.A.Read.reading c.args.cfg.now) c.args.count c.loop.counter c.loop.used c.args.buf.now c.loop-test.true c.in_err-used.ensures c.loop.invariant.so_far in
     cc
 
 pub overflow_add-used : goal.overflow_add-used
 overflow_add-used g c =
-    let fits = layout_within (g.A.Read.reading c.args.cfg.now) c.loop.used c.in_ok-used.field-0 c.args.buf.now (g.met.A.Read.within c.args.cfg.now) c.loop.invariant.fits c.in_ok-used.ensures in
+    let fits = layout_within (g.A.Read.reading c.args.cfg.now) c.loop.used c.args.buf.now (g.met.A.Read.within c.args.cfg.now) c.loop.invariant.fits c.in_ok-used.ensures in
     omega (arith, fits)
 
 pub loop-preserved : goal.loop-preserved
 loop-preserved g c = record {
-  fits = layout_within (g.A.Read.reading c.args.cfg.now) c.loop.used c.in_ok-used.field-0 c.args.buf.now (g.met.A.Read.within c.args.cfg.now) c.loop.invariant.fits c.in_ok-used.ensures;
-  so_far = layout_more (g.A.Read.reading c.args.cfg.now) _ c.args.count c.loop.counter c.loop.used c.in_ok-used.field-0 c.args.buf.now c.loop-test.true c.in_ok-used.ensures c.loop.invariant.so_far;
+  fits = layout_within (g.A.Read.reading c.args.cfg.now) c.loop.used c.args.buf.now (g.met.A.Read.within c.args.cfg.now) c.loop.invariant.fits c.in_ok-used.ensures;
+  so_far = layout_more (g.A.Read.reading c.args.cfg.now) c.args.count c.loop.counter c.loop.used c.args.buf.now c.loop-test.true c.in_ok-used.ensures c.loop.invariant.so_far;
 }

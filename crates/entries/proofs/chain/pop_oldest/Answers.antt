@@ -17,4 +17,4 @@ returns-in-None-clause-popped g c = pops_none (get c.args.places.now) c.args.cha
 
 pub returns-in-Some-clause-popped : goal.returns-in-Some-clause-popped
 returns-in-Some-clause-popped g c =
-    pops (get c.args.places.now) (get c.unlink.new.places) (get c.remove-digest.new.self) c.args.chain.now c.unlink.new.chain c.in-Some.place c.remove-digest.result (sym c.get.ensures ∙ c.in-Some.is) c.unlink.ensures.unlinked c.remove-digest.ensures.value c.remove-digest.ensures.updates.changed c.remove-digest.ensures.updates.others
+    pops (sym c.get.ensures ∙ c.in-Some.is) c.unlink.ensures.unlinked c.remove-digest.ensures.value c.remove-digest.ensures.updates.changed c.remove-digest.ensures.updates.others

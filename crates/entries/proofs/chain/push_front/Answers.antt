@@ -9,4 +9,4 @@ link_front-requires-clause-free g c =
 
 pub returns-clause-ok : goal.returns-clause-ok
 returns-clause-ok g c =
-    pushes (get c.args.places.now) (get c.insert.new.self) (get c.link_front.new.places) _ _ _ _ _ _ c.in-Ok.ensures.was_vacant c.in-Ok.ensures.updates.changed c.in-Ok.ensures.updates.others refl c.link_front.ensures.linked
+    pushes c.in-Ok.ensures.was_vacant c.in-Ok.ensures.updates.changed c.in-Ok.ensures.updates.others refl c.link_front.ensures.linked

@@ -18,4 +18,4 @@ set_newer-requires g c = older_there (get c.args.places.now) _ _ _ _ c.index-ent
 
 pub returns-clause-unlinked : goal.returns-clause-unlinked
 returns-clause-unlinked g c =
-    unlinks (get c.args.places.now) (get c.set_older.new.places) _ _ _ _ _ c.index-entry.ensures c.requires c.set_older.ensures c.set_newer.ensures c.pick-chain.ensures c.pick-chain-2.ensures refl
+    unlinks c.index-entry.ensures c.requires c.set_older.ensures c.set_newer.ensures c.pick-chain.ensures c.pick-chain-2.ensures refl

@@ -10,11 +10,11 @@ free-requires g c = has_nodes number_laws (get c.args.places.now) (entries c.arg
 
 pub returns-in-Some-clause-store : goal.returns-in-Some-clause-store
 returns-in-Some-clause-store g c =
-    (removes number_laws (get c.args.places.now) (get c.free.new.places) (entries c.args.chains.now) (entries c.try_remove.new.self) c.args.list _ c.requires.store (found_slot c.args.chains.now c.args.list ∙ sym c.in-Some.ensures.value) c.free.ensures (updated_slot c.args.chains.now c.try_remove.new.self c.args.list None c.try_remove.ensures.updates) (distinct_slots c.try_remove.new.self)).0
+    (removes number_laws c.args.list c.requires.store (found_slot c.args.chains.now c.args.list ∙ sym c.in-Some.ensures.value) c.free.ensures (updated_slot c.args.chains.now c.try_remove.new.self c.args.list None c.try_remove.ensures.updates) (distinct_slots c.try_remove.new.self)).0
 
 pub returns-in-Some-clause-lists : goal.returns-in-Some-clause-lists
 returns-in-Some-clause-lists g c =
-    (removes number_laws (get c.args.places.now) (get c.free.new.places) (entries c.args.chains.now) (entries c.try_remove.new.self) c.args.list _ c.requires.store (found_slot c.args.chains.now c.args.list ∙ sym c.in-Some.ensures.value) c.free.ensures (updated_slot c.args.chains.now c.try_remove.new.self c.args.list None c.try_remove.ensures.updates) (distinct_slots c.try_remove.new.self)).1
+    (removes number_laws c.args.list c.requires.store (found_slot c.args.chains.now c.args.list ∙ sym c.in-Some.ensures.value) c.free.ensures (updated_slot c.args.chains.now c.try_remove.new.self c.args.list None c.try_remove.ensures.updates) (distinct_slots c.try_remove.new.self)).1
 
 pub returns-in-None-clause-lists : goal.returns-in-None-clause-lists
 returns-in-None-clause-lists g c =
@@ -22,4 +22,4 @@ returns-in-None-clause-lists g c =
 
 pub returns-in-Some-clause-summed : goal.returns-in-Some-clause-summed
 returns-in-Some-clause-summed g c =
-    closes-summed number_laws (get c.args.places.now) (get c.free.new.places) (entries c.args.chains.now) (entries c.try_remove.new.self) c.args.list _ c.requires.store c.requires.summed (found_slot c.args.chains.now c.args.list ∙ sym c.in-Some.ensures.value) c.free.ensures (updated_slot c.args.chains.now c.try_remove.new.self c.args.list None c.try_remove.ensures.updates)
+    closes-summed number_laws c.args.list c.requires.store c.requires.summed (found_slot c.args.chains.now c.args.list ∙ sym c.in-Some.ensures.value) c.free.ensures (updated_slot c.args.chains.now c.try_remove.new.self c.args.list None c.try_remove.ensures.updates)

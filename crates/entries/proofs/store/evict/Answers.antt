@@ -1,5 +1,5 @@
 use Rattle.std.proofs.Common.{refl, sym, ◌∙◌}
-use Rattle.slab.specs.Slab.{get, entries, with_value}
+use Rattle.slab.specs.Slab.{get, entries}
 use Rattle.entries.proofs.Slots.{number_laws, found_slot, set_slot}
 use Rattle.entries.proofs.Stores.{has_nodes, items_at-none}
 use Rattle.entries.proofs.Extending.{trims-any}
@@ -12,13 +12,13 @@ pub trim-requires-clause-sum : goal.trim-requires-clause-sum
 trim-requires-clause-sum g c = c.requires.summed.sums c.args.list _ (found_slot c.args.chains.now c.args.list ∙ sym c.in-Some.ensures.value)
 
 pub returns-in-Some-clause-store : goal.returns-in-Some-clause-store
-returns-in-Some-clause-store g c = (trims-any number_laws (get c.args.places.now) (get c.trim.new.places) (entries c.args.chains.now) (entries (with_value c.args.chains.now c.args.list c.trim.new.chain)) c.args.list _ c.trim.new.chain c.requires.store c.requires.summed (found_slot c.args.chains.now c.args.list ∙ sym c.in-Some.ensures.value) (set_slot c.args.chains.now c.args.list _ c.trim.new.chain (sym c.in-Some.ensures.value)) c.trim.result c.trim.ensures).0
+returns-in-Some-clause-store g c = (trims-any number_laws c.args.list c.trim.new.chain c.requires.store c.requires.summed (found_slot c.args.chains.now c.args.list ∙ sym c.in-Some.ensures.value) (set_slot c.args.chains.now c.args.list _ c.trim.new.chain (sym c.in-Some.ensures.value)) c.trim.result c.trim.ensures).0
 
 pub returns-in-Some-clause-summed : goal.returns-in-Some-clause-summed
-returns-in-Some-clause-summed g c = (trims-any number_laws (get c.args.places.now) (get c.trim.new.places) (entries c.args.chains.now) (entries (with_value c.args.chains.now c.args.list c.trim.new.chain)) c.args.list _ c.trim.new.chain c.requires.store c.requires.summed (found_slot c.args.chains.now c.args.list ∙ sym c.in-Some.ensures.value) (set_slot c.args.chains.now c.args.list _ c.trim.new.chain (sym c.in-Some.ensures.value)) c.trim.result c.trim.ensures).1
+returns-in-Some-clause-summed g c = (trims-any number_laws c.args.list c.trim.new.chain c.requires.store c.requires.summed (found_slot c.args.chains.now c.args.list ∙ sym c.in-Some.ensures.value) (set_slot c.args.chains.now c.args.list _ c.trim.new.chain (sym c.in-Some.ensures.value)) c.trim.result c.trim.ensures).1
 
 pub returns-in-Some-clause-lists : goal.returns-in-Some-clause-lists
-returns-in-Some-clause-lists g c = (trims-any number_laws (get c.args.places.now) (get c.trim.new.places) (entries c.args.chains.now) (entries (with_value c.args.chains.now c.args.list c.trim.new.chain)) c.args.list _ c.trim.new.chain c.requires.store c.requires.summed (found_slot c.args.chains.now c.args.list ∙ sym c.in-Some.ensures.value) (set_slot c.args.chains.now c.args.list _ c.trim.new.chain (sym c.in-Some.ensures.value)) c.trim.result c.trim.ensures).2
+returns-in-Some-clause-lists g c = (trims-any number_laws c.args.list c.trim.new.chain c.requires.store c.requires.summed (found_slot c.args.chains.now c.args.list ∙ sym c.in-Some.ensures.value) (set_slot c.args.chains.now c.args.list _ c.trim.new.chain (sym c.in-Some.ensures.value)) c.trim.result c.trim.ensures).2
 
 pub returns-in-None-clause-lists : goal.returns-in-None-clause-lists
 returns-in-None-clause-lists g c = (

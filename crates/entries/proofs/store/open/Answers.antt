@@ -3,21 +3,21 @@ use Rattle.std.specs.Prelude.{is_some}
 use Rattle.slab.specs.Slab.{get, entries}
 use Rattle.entries.specs.Store.{same_number}
 use Rattle.entries.proofs.Slots.{number_laws, distinct_slots, found_slot, updated_slot}
-use Rattle.entries.proofs.Opening.{none_listed, opens}
+use Rattle.entries.proofs.Opening.{none_listed, bare, opens}
 use Rattle.entries.proofs.Stores.{some_listed}
 use Rattle.entries.proofs.store.open.Goals as goal
 
 pub returns-in-Ok-clause-store : goal.returns-in-Ok-clause-store
 returns-in-Ok-clause-store g c =
-    (opens number_laws (get c.args.places.now) (entries c.args.chains.now) (entries c.insert.new.self) c.in-Ok.list _ c.requires.store c.requires.summed (found_slot c.args.chains.now c.in-Ok.list ∙ c.in-Ok.ensures.was_vacant) (updated_slot c.args.chains.now c.insert.new.self c.in-Ok.list (Some _) c.in-Ok.ensures.updates) c.none-nowhere.ensures c.none-nowhere.ensures refl refl (distinct_slots c.insert.new.self)).0
+    (opens number_laws c.in-Ok.list c.requires.store c.requires.summed (found_slot c.args.chains.now c.in-Ok.list ∙ c.in-Ok.ensures.was_vacant) (updated_slot c.args.chains.now c.insert.new.self c.in-Ok.list (Some _) c.in-Ok.ensures.updates) (distinct_slots c.insert.new.self) (bare c.none-nowhere.ensures c.none-nowhere.ensures refl) refl).0
 
 pub returns-in-Ok-clause-summed : goal.returns-in-Ok-clause-summed
 returns-in-Ok-clause-summed g c =
-    (opens number_laws (get c.args.places.now) (entries c.args.chains.now) (entries c.insert.new.self) c.in-Ok.list _ c.requires.store c.requires.summed (found_slot c.args.chains.now c.in-Ok.list ∙ c.in-Ok.ensures.was_vacant) (updated_slot c.args.chains.now c.insert.new.self c.in-Ok.list (Some _) c.in-Ok.ensures.updates) c.none-nowhere.ensures c.none-nowhere.ensures refl refl (distinct_slots c.insert.new.self)).1
+    (opens number_laws c.in-Ok.list c.requires.store c.requires.summed (found_slot c.args.chains.now c.in-Ok.list ∙ c.in-Ok.ensures.was_vacant) (updated_slot c.args.chains.now c.insert.new.self c.in-Ok.list (Some _) c.in-Ok.ensures.updates) (distinct_slots c.insert.new.self) (bare c.none-nowhere.ensures c.none-nowhere.ensures refl) refl).1
 
 pub returns-in-Ok-clause-ok : goal.returns-in-Ok-clause-ok
 returns-in-Ok-clause-ok g c =
-    (opens number_laws (get c.args.places.now) (entries c.args.chains.now) (entries c.insert.new.self) c.in-Ok.list _ c.requires.store c.requires.summed (found_slot c.args.chains.now c.in-Ok.list ∙ c.in-Ok.ensures.was_vacant) (updated_slot c.args.chains.now c.insert.new.self c.in-Ok.list (Some _) c.in-Ok.ensures.updates) c.none-nowhere.ensures c.none-nowhere.ensures refl refl (distinct_slots c.insert.new.self)).2
+    (opens number_laws c.in-Ok.list c.requires.store c.requires.summed (found_slot c.args.chains.now c.in-Ok.list ∙ c.in-Ok.ensures.was_vacant) (updated_slot c.args.chains.now c.insert.new.self c.in-Ok.list (Some _) c.in-Ok.ensures.updates) (distinct_slots c.insert.new.self) (bare c.none-nowhere.ensures c.none-nowhere.ensures refl) refl).2
 
 pub returns-in-Ok-clause-fresh : goal.returns-in-Ok-clause-fresh
 returns-in-Ok-clause-fresh g c = none_listed same_number (get c.args.places.now) (entries c.args.chains.now) c.in-Ok.list (found_slot c.args.chains.now c.in-Ok.list ∙ c.in-Ok.ensures.was_vacant)

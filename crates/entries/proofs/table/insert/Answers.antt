@@ -1,5 +1,5 @@
 use Rattle.std.proofs.Common.{rules, refl, sym, ap, ◌∙◌}
-use Rattle.std.specs.BTreeMap.Entry.{map_with_value, entry_value}
+use Rattle.std.specs.BTreeMap.Entry.{entry_value}
 use Rattle.entries.proofs.Tabled.{leads-there}
 use Rattle.entries.proofs.Joining.{joins-again, adds-new, refuses}
 use Rattle.entries.proofs.table.insert.Goals as goal
@@ -11,25 +11,22 @@ join-requires g c =
 
 pub returns-in-Occupied : goal.returns-in-Occupied
 returns-in-Occupied g c =
-    let n = c.into_mut.result.now in
     joins-again g.met.T.Name.Ord.total (record { index = c.args.index.now.entries; slots = c.args.items.now.slots }) c.requires.tabled c.entry.ensures.ordered
-    _ (map_with_value c.in-Ok.entry n).entries (search rules) g.T.Clone.is_clone c.name.result c.args.message.now c.name.ensures n c.args.list c.args.place (c.in-Ok.ensures.update.1 n)
-    c.join.result (sym c.in-Ok.ensures.value ∙ ap entry_value c.in-Occupied.is ∙ c.into_mut.ensures.value) c.join.ensures
+    c.name.ensures (c.in-Ok.ensures.update.1 c.into_mut.result.now) (search rules) (sym c.in-Ok.ensures.value ∙ ap entry_value c.in-Occupied.is ∙ c.into_mut.ensures.value) c.join.ensures
 
 pub returns-in-Ok-add : goal.returns-in-Ok-add
 returns-in-Ok-add g c =
     let n = c.in-Ok-add.item in
     let u = c.in-Ok.ensures.update in
     adds-new g.met.T.Name.Ord.total (record { index = c.args.index.now.entries; slots = c.args.items.now.slots }) c.requires.tabled c.entry.ensures.ordered
-    _ (map_with_value c.in-Ok.entry n).entries (search rules) g.T.Clone.is_clone c.name.result c.args.message.now c.name.ensures n c.args.list c.args.place (u.1 n)
-    (rw c.in-Vacant.is at c.in-Ok.ensures.found) (u.0 n).0 c.in-Ok-add.ensures.ok c.requires.copies
+    c.name.ensures (u.1 n) (search rules) (rw c.in-Vacant.is at c.in-Ok.ensures.found) (u.0 n).0 c.in-Ok-add.ensures.ok c.requires.copies
 
 pub returns-in-Err-or_try_insert_with : goal.returns-in-Err-or_try_insert_with
 returns-in-Err-or_try_insert_with g c =
-    refuses g.met.T.Name.Ord.total (record { index = c.args.index.now.entries; slots = c.args.items.now.slots }) c.requires.tabled c.entry.ensures.ordered
-    _ (search rules) g.T.Clone.is_clone c.args.message.now c.args.list c.args.place _ c.in-Err-add.ensures.err (rw c.name.ensures at (rw c.in-Vacant.is at c.in-Ok.ensures.found))
+    refuses g.met.T.Name.Ord.total (record { index = c.args.index.now.entries; slots = c.args.items.now.slots }) c.requires.tabled
+    (search rules) c.in-Err-add.ensures.err (rw c.name.ensures at (rw c.in-Vacant.is at c.in-Ok.ensures.found))
 
 pub returns-in-Err : goal.returns-in-Err
 returns-in-Err g c =
-    refuses g.met.T.Name.Ord.total (record { index = c.args.index.now.entries; slots = c.args.items.now.slots }) c.requires.tabled c.entry.ensures.ordered
-    _ (search rules) g.T.Clone.is_clone c.args.message.now c.args.list c.args.place _ refl (rw c.name.ensures at c.in-Err.ensures.absent)
+    refuses g.met.T.Name.Ord.total (record { index = c.args.index.now.entries; slots = c.args.items.now.slots }) c.requires.tabled
+    (search rules) refl (rw c.name.ensures at c.in-Err.ensures.absent)

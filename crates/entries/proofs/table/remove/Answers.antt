@@ -1,23 +1,20 @@
 use Rattle.std.proofs.Common.{refl, sym, ap, ◌∙◌}
 use Rattle.slab.specs.Slab.{get}
-use Rattle.entries.proofs.Joining.{takes-some, takes-last, takes-away}
+use Rattle.entries.proofs.Joining.{had_one, takes-some, takes-last, takes-away}
 use Rattle.entries.proofs.table.remove.Goals as goal
 
 pub returns-in-Some : goal.returns-in-Some
 returns-in-Some g c =
     takes-last g.met.T.Name.Ord.total (record { index = c.args.index.now.entries; slots = c.args.items.now.slots }) c.requires c.len-names.ensures.ordered
-    (record { index = c.remove.new.self.entries; slots = c.try_remove.new.self.slots }) c.args.item c.args.list c.leave.new.items.slots
-    (get c.args.items.now c.args.item) c.leave.result refl c.if-leave.true c.leave.ensures
-    c.in-Some.found c.name.result (sym c.in-Some.ensures.value) (c.name.ensures ∙ ap g.T.Named.name_of c.message.ensures)
+    (had_one c.args.item c.args.list c.leave.new.items.slots (get c.args.items.now c.args.item) c.leave.result refl c.if-leave.true c.leave.ensures) (sym c.in-Some.ensures.value) (c.name.ensures ∙ ap g.T.Named.name_of c.message.ensures)
     c.in-Some.ensures.updates.changed c.in-Some.ensures.updates.others c.remove.ensures.entries c.remove.ensures.updates.0
 
 pub returns-in_default : goal.returns-in_default
 returns-in_default g c =
-    takes-away g.met.T.Name.Ord.total (record { index = c.args.index.now.entries; slots = c.args.items.now.slots }) c.requires c.args.item c.args.list c.leave.new.items.slots
-    (get c.args.items.now c.args.item) c.leave.result refl c.if-leave.true c.leave.ensures (sym c.in_default.ensures.value)
+    takes-away g.met.T.Name.Ord.total (record { index = c.args.index.now.entries; slots = c.args.items.now.slots }) c.requires
+    (had_one c.args.item c.args.list c.leave.new.items.slots (get c.args.items.now c.args.item) c.leave.result refl c.if-leave.true c.leave.ensures) (sym c.in_default.ensures.value)
 
 pub returns-else-leave : goal.returns-else-leave
 returns-else-leave g c =
     takes-some g.met.T.Name.Ord.total (record { index = c.args.index.now.entries; slots = c.args.items.now.slots }) c.requires c.len-names.ensures.ordered
-    (record { index = c.args.index.now.entries; slots = c.leave.new.items.slots }) c.args.item c.args.list
     (get c.args.items.now c.args.item) c.leave.result refl c.if-leave.false refl c.leave.ensures
