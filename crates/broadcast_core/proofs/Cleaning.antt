@@ -149,16 +149,18 @@ lookup-removed R d w es mid fs set removed e = removed e ∙ ap (cond (eq_by_cmp
     twice true x y = refl
     twice false x y = refl
 
-pub none-left : {W : Type 0} (w : List W) → length w ≡ 0 → unwrap_or None [] ≡ w
-none-left w h = sym (nil_from_length w h)
+-- a list of none is taken out
+pub lists-emptied : {D W : Type 0} {R : D → D → Ordering} (o : IsTotalOrder R) (d : D) (w : List W) (es fs : List (D × List W)) → length w ≡ 0
+    → ((e : D) → lookup (eq_by_cmp R e) fs ≡ cond (eq_by_cmp R d e) None (lookup (eq_by_cmp R e) es))
+    → (e : D) → items_at (eq_by_cmp R) e fs ≡ cond (eq_by_cmp R d e) w (items_at (eq_by_cmp R) e es)
+lists-emptied {R = R} o d w es fs none at e = lists-updated o d None es fs at e ∙ ap (λ l. cond (eq_by_cmp R d e) l (items_at (eq_by_cmp R) e es)) (sym (nil_from_length w none))
 
 -- the list of a digest has only those who do not pass
-pub lists-dropped : {D W : Type 0} {R : D → D → Ordering} (o : IsTotalOrder R) (test : W → Bool) (d : D) (v w : List W) (es fs : List (D × List W)) (left : Option (List W))
-    → lookup (eq_by_cmp R d) es ≡ Some v → w ≡ filter (λ x. not (test x)) v → unwrap_or left [] ≡ w
-    → ((e : D) → lookup (eq_by_cmp R e) fs ≡ cond (eq_by_cmp R d e) left (lookup (eq_by_cmp R e) es))
+pub lists-dropped : {D W : Type 0} {R : D → D → Ordering} (o : IsTotalOrder R) (test : W → Bool) (d : D) {v w : List W} (es fs : List (D × List W))
+    → lookup (eq_by_cmp R d) es ≡ Some v → w ≡ filter (λ x. not (test x)) v → ((e : D) → items_at (eq_by_cmp R) e fs ≡ cond (eq_by_cmp R d e) w (items_at (eq_by_cmp R) e es))
     → (e : D) → items_at (eq_by_cmp R) e fs ≡ cond (eq_by_cmp R d e) (filter (λ x. not (test x)) (items_at (eq_by_cmp R) e es)) (items_at (eq_by_cmp R) e es)
-lists-dropped {R = R} o test d v w es fs left was is leaves at e = lists-updated o d left es fs at e ∙ by_test (eq_by_cmp R d e)
-    (λ t. rw t (leaves ∙ is ∙ ap (λ r. filter (λ x. not (test x)) (unwrap_or r [])) (sym was ∙ sym (lookup-equal (eq_by_cmp_equiv o) d e es t))))
+lists-dropped {R = R} o test d es fs was is now e = now e ∙ by_test (eq_by_cmp R d e)
+    (λ t. rw t (is ∙ ap (λ r. filter (λ x. not (test x)) (unwrap_or r [])) (sym was ∙ sym (lookup-equal (eq_by_cmp_equiv o) d e es t))))
     (λ t. rw t refl)
 
 -- nobody passes where nobody passes at any digest

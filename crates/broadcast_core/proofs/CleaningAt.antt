@@ -1,5 +1,5 @@
 -- A cleanup of the waiters of one digest.
-use Rattle.std.proofs.Common.{◌≡◌, ℕ, ◌+◌, ◌-◌, ◌^◌, ◌++◌, Bool, true, false, ◌||◌, cond, List, [], ◌∷◌, length, Option, Some, refl, sym, ap, ◌∙◌, subst, arith, inl, inr}
+use Rattle.std.proofs.Common.{◌≡◌, ℕ, ◌+◌, ◌-◌, ◌^◌, ◌++◌, Bool, true, false, ◌||◌, cond, List, [], ◌∷◌, length, Some, refl, sym, ap, ◌∙◌, subst, arith, inl, inr}
 use Rattle.std.specs.Prelude.{unwrap_or, min}
 use Rattle.std.specs.List.{list_any, IsDistinct}
 use Rattle.std.specs.Option.{option_map}
@@ -13,23 +13,12 @@ use Rattle.broadcast_core.specs.Waiters.{waiting_in, DropsClosed, DropsClosedIf,
 use Rattle.broadcast_core.proofs.Cleaning.{sum-values, counted_more}
 use Rattle.broadcast_core.proofs.Distinct.{list_any-append, or_none}
 use Rattle.broadcast_core.proofs.Entries.{lookup-equal}
-use Rattle.broadcast_core.proofs.WaitersLemmas.{lists-updated}
 
 module _ {W : Type 0} (answers : W → Bool → Type 0) where
   -- by whether the digest is asked
   pub closed-if : (b : Bool) (xs ys zs : List W) → ys ≡ cond b zs xs → (b ≡ true → DropsClosed answers xs zs) → DropsClosedIf b answers xs ys
   closed-if true xs ys zs is h = subst (λ vs. DropsClosed answers xs vs) (sym is) (h refl)
   closed-if false xs ys zs is h = is
-
--- the list of a digest has lost those who answered closed
-pub closed-at : {D W : Type 0} {R : D → D → Ordering} (o : IsTotalOrder R) (answers : W → Bool → Type 0) (d : D) (v w : List W) (es fs : List (D × List W)) (left : Option (List W))
-    → lookup (eq_by_cmp R d) es ≡ Some v → DropsClosed answers v w → unwrap_or left [] ≡ w
-    → ((e : D) → lookup (eq_by_cmp R e) fs ≡ cond (eq_by_cmp R d e) left (lookup (eq_by_cmp R e) es))
-    → (e : D) → DropsClosedIf (eq_by_cmp R d e) answers (items_at (eq_by_cmp R) e es) (items_at (eq_by_cmp R) e fs)
-closed-at {R = R} o answers d v w es fs left was drops leaves at e =
-    closed-if answers (eq_by_cmp R d e) (items_at (eq_by_cmp R) e es) (items_at (eq_by_cmp R) e fs) w
-    (lists-updated o d left es fs at e ∙ ap (λ l. cond (eq_by_cmp R d e) l (items_at (eq_by_cmp R) e es)) leaves)
-    (λ t. subst (λ xs. DropsClosed answers xs w) (ap (λ r. unwrap_or r []) (sym was ∙ sym (lookup-equal (eq_by_cmp_equiv o) d e es t))) drops)
 
 module _ {D W : Type 0} (at : D → Bool) where
   -- the list at a digest becomes another
@@ -61,6 +50,14 @@ module _ {W : Type 0} (answers : W → Bool → Type 0) where
   closed-both false false xs ys zs h k = k ∙ h
 
 module _ {D W : Type 0} {R : D → D → Ordering} (o : IsTotalOrder R) (answers : W → Bool → Type 0) where
+  -- the list of a digest has lost those who answered closed
+  pub closed-at : (d : D) {v : List W} (w : List W) (es fs : List (D × List W)) → lookup (eq_by_cmp R d) es ≡ Some v → DropsClosed answers v w
+      → ((e : D) → items_at (eq_by_cmp R) e fs ≡ cond (eq_by_cmp R d e) w (items_at (eq_by_cmp R) e es))
+      → (e : D) → DropsClosedIf (eq_by_cmp R d e) answers (items_at (eq_by_cmp R) e es) (items_at (eq_by_cmp R) e fs)
+  closed-at d w es fs was drops now e =
+      closed-if answers (eq_by_cmp R d e) (items_at (eq_by_cmp R) e es) (items_at (eq_by_cmp R) e fs) w (now e)
+      (λ t. subst (λ xs. DropsClosed answers xs w) (ap (λ r. unwrap_or r []) (sym was ∙ sym (lookup-equal (eq_by_cmp_equiv o) d e es t))) drops)
+
   -- those who closed have left the lists of the first digests
   pub record Asking (seen : List D) (old now : List (D × List W)) (removed : ℕ) : Type 0 where
     pub lists : (e : D) → DropsClosedIf (list_any (eq_by_cmp R e) seen) answers (items_at (eq_by_cmp R) e old) (items_at (eq_by_cmp R) e now)
@@ -72,17 +69,17 @@ module _ {D W : Type 0} {R : D → D → Ordering} (o : IsTotalOrder R) (answers
   pub Asking-start : (es : List (D × List W)) → IsDistinct (eq_by_cmp R) (keys_of es) → Asking [] es es 0
   Asking-start es apart = record { lists = λ e. refl; gone = 0; fewer = omega arith; counts = refl; apart = apart }
 
-  pub Asking-step : (seen : List D) (d : D) (old now new : List (D × List W)) (removed n : ℕ) → Asking seen old now removed
+  pub Asking-step : (seen : List D) (d : D) {old now : List (D × List W)} (new : List (D × List W)) {removed : ℕ} (n : ℕ) → Asking seen old now removed
       → ((e : D) → DropsClosedIf (eq_by_cmp R d e) answers (items_at (eq_by_cmp R) e now) (items_at (eq_by_cmp R) e new))
       → waiting_in new + n ≡ waiting_in now → IsDistinct (eq_by_cmp R) (keys_of new)
       → Asking (seen ++ d ∷ []) old new (min (removed + n) (2 ^ 64 - 1))
-  Asking-step seen d old now new removed n so_far drops fewer apart = record {
+  Asking-step seen d {old} {now} new n so_far drops fewer apart = record {
     lists = λ e. subst (λ b. DropsClosedIf b answers (items_at (eq_by_cmp R) e old) (items_at (eq_by_cmp R) e new))
         (ap (λ b. list_any (eq_by_cmp R e) seen || b) ((eq_by_cmp_equiv o).symm d e ∙ sym (or_none (eq_by_cmp R e d))) ∙ sym (list_any-append (eq_by_cmp R e) seen (d ∷ [])))
         (closed-both answers (list_any (eq_by_cmp R e) seen) (eq_by_cmp R d e) (items_at (eq_by_cmp R) e old) (items_at (eq_by_cmp R) e now) (items_at (eq_by_cmp R) e new) (so_far.lists e) (drops e));
     gone = so_far.gone + n;
     fewer = omega (arith, so_far.fewer, fewer);
-    counts = counted_more so_far.gone removed n so_far.counts;
+    counts = counted_more so_far.gone _ n so_far.counts;
     apart = apart;
   }
 

@@ -123,11 +123,11 @@ module _ {P M D : Type 0} where
         (subst (λ n. Follows (record s { own = s.own; deque_size = n; byte_budget = old.byte_budget }) e old new a sending) size
         (subst (λ o. Follows (record s { own = o; deque_size = old.deque_size; byte_budget = old.byte_budget }) e old new a sending) own h))
 
-    module _ (lawful : IsLawful s.same) where
+    module _ (lawful : IsLawful s.same) {es : List (Event P M D)} {rs : List (Answer M D)} {sends : List (Sent P)} {old new : Content P M D ℕ} {e : Event P M D} {a : Answer M D} {sending : List (Sent P)}
+        (short : length es ≤ 2 ^ 64 - 1) (before : HasRun s es rs sends old) where
       -- one more
-      HasRun-next : (es : List (Event P M D)) (rs : List (Answer M D)) (sends : List (Sent P)) (old new : Content P M D ℕ) (e : Event P M D) (a : Answer M D) (sending : List (Sent P))
-          → length es ≤ 2 ^ 64 - 1 → HasRun s es rs sends old → Applies s (history_of s es rs) e new a sending → HasRun s (es ++ e ∷ []) (rs ++ a ∷ []) (sends ++ sending) new
-      HasRun-next es rs sends old new e a sending short before step =
+      HasRun-next : Applies s (history_of s es rs) e new a sending → HasRun s (es ++ e ∷ []) (rs ++ a ∷ []) (sends ++ sending) new
+      HasRun-next step =
           let log : log_of (es ++ e ∷ []) (rs ++ a ∷ []) ≡ (e, a) ∷ log_of es rs = log_of-push es rs e a before.one_each in
           let exactly = exact e (history_of s es rs) (omega (arith, length-history_of es rs, short)) in
           let answered : MayAnswer s e (history_of s es rs) a = elim step.answered [ inl is ↦ inl (is ∙ exactly) | inr failed ↦ inr failed ] in
@@ -137,16 +137,10 @@ module _ {P M D : Type 0} where
           (subst (λ l. HasContent s (history s l) new) (sym log) step.content)
           (subst (λ l. sends ++ sending ≡ sent s (history s l)) (sym log) (ap (λ xs. xs ++ sending) before.sent ∙ sym step.sent))
 
-      pub HasRun-follows : (es : List (Event P M D)) (rs : List (Answer M D)) (sends : List (Sent P)) (old new : Content P M D ℕ) (e : Event P M D) (a : Answer M D) (sending : List (Sent P))
-          → length es ≤ 2 ^ 64 - 1 → HasRun s es rs sends old → Follows (record s { own = old.own; deque_size = old.deque_size; byte_budget = old.byte_budget }) e old new a sending
-          → HasRun s (es ++ e ∷ []) (rs ++ a ∷ []) (sends ++ sending) new
-      HasRun-follows es rs sends old new e a sending short before step =
-          HasRun-next es rs sends old new e a sending short before
-          (follows-setting e old new a sending before.content.own before.content.deque_size before.content.byte_budget step (history_of s es rs) before.content)
+      pub HasRun-follows : Follows (record s { own = old.own; deque_size = old.deque_size; byte_budget = old.byte_budget }) e old new a sending → HasRun s (es ++ e ∷ []) (rs ++ a ∷ []) (sends ++ sending) new
+      HasRun-follows step = HasRun-next (follows-setting e old new a sending before.content.own before.content.deque_size before.content.byte_budget step (history_of s es rs) before.content)
 
     -- the same lists, under other names
-    pub HasRun-same : (es fs : List (Event P M D)) (rs qs : List (Answer M D)) (sends others : List (Sent P)) (core : Content P M D ℕ)
+    pub HasRun-same : {es fs : List (Event P M D)} {rs qs : List (Answer M D)} {sends others : List (Sent P)} {core : Content P M D ℕ}
         → HasRun s es rs sends core → es ≡ fs → qs ≡ rs → others ≡ sends → HasRun s fs qs others core
-    HasRun-same es fs rs qs sends others core run events answers sent =
-        subst (λ l. HasRun s l qs others core) events
-        (subst (λ l. HasRun s es l others core) (sym answers) (subst (λ l. HasRun s es rs l core) (sym sent) run))
+    HasRun-same run events answers sent = rw (← events, answers, sent) run

@@ -53,27 +53,28 @@ module _ {P M D : Type 0} (same : Same P D) (key_laws : IsEquivalence same.key) 
           r.1,
         )
 
-    -- a digest that is not on the list
-    pub Shelved-pushed : (i item : ℕ) (mid new : ℕ → Option D) (mid_items new_items : List (D × Placed P (Carried M D))) (R : D → D → Ordering) → ((n : ℕ) (d : D) → names n ≡ Some d → mid n ≡ Some d) → mid item ≡ Some x.digest
-        → place_at same.digest same.key items x.digest p ≡ None → Holds same R p x i items mid_items → IsPlaced same.digest same.key mid_items → IsPlaced same.digest same.key new_items
-        → length (items_at same.key p old) ≤ size → Pushes same p (i, at_charge item charge) size lists new_lists mid new mid_items new_items
-        → IsShelved same new new_lists new_items × Stores same p x cs (stored_of old items) (stored_of (named_lists new new_lists) new_items)
-    Shelved-pushed i item mid new mid_items new_items R more is none holds mid_placed placed fits pushes =
-        let held = Renamed-more same key_laws laws names mid lists items was more in
-        let pushed : Pushed same p (i, c) size old (named_lists mid new_lists) mid_items new_items = subst (λ l. Pushed same p (i, c) size l (named_lists mid new_lists) mid_items new_items) held.is
-        (Pushed-named same key_laws laws mid p i item charge x.digest is size lists new_lists new mid_items new_items held.shelved.named pushes) in
-        let apart = distinct-digests same.key (named_lists mid new_lists) (pushed_distinct same p (i, c) size old (named_lists mid new_lists) mid_items new_items pushed) in
-        let r = Stores-pushed same key_laws laws p x charge size old (named_lists mid new_lists) items was.indexed distinct apart none R i mid_items new_items holds mid_placed placed fits pushed in
-        let left = Renamed-pushed same key_laws laws mid p i item charge x.digest is size lists new_lists new mid_items new_items held.shelved.named pushes r.0 in
-        (left.shelved, subst (λ l. Stores same p x cs (stored_of old items) (stored_of l new_items)) (sym left.is) r.1)
+    module _ {i item : ℕ} {mid new : ℕ → Option D} {mid_items new_items : List (D × Placed P (Carried M D))} {R : D → D → Ordering} where
+      -- a digest that is not on the list
+      pub Shelved-pushed : ((n : ℕ) (d : D) → names n ≡ Some d → mid n ≡ Some d) → mid item ≡ Some x.digest
+          → place_at same.digest same.key items x.digest p ≡ None → Holds same R p x i items mid_items → IsPlaced same.digest same.key mid_items → IsPlaced same.digest same.key new_items
+          → length (items_at same.key p old) ≤ size → Pushes same p (i, at_charge item charge) size lists new_lists mid new mid_items new_items
+          → IsShelved same new new_lists new_items × Stores same p x cs (stored_of old items) (stored_of (named_lists new new_lists) new_items)
+      Shelved-pushed more is none holds mid_placed placed fits pushes =
+          let held = Renamed-more same key_laws laws names mid lists items was more in
+          let pushed : Pushed same p (i, c) size old (named_lists mid new_lists) mid_items new_items = subst (λ l. Pushed same p (i, c) size l (named_lists mid new_lists) mid_items new_items) held.is
+          (Pushed-named same key_laws laws mid p i item charge x.digest is size lists new_lists new mid_items new_items held.shelved.named pushes) in
+          let apart = distinct-digests same.key (named_lists mid new_lists) (pushed_distinct same p (i, c) size old (named_lists mid new_lists) mid_items new_items pushed) in
+          let r = Stores-pushed same key_laws laws p x charge size old (named_lists mid new_lists) items was.indexed distinct apart none R i mid_items new_items holds mid_placed placed fits pushed in
+          let left = Renamed-pushed same key_laws laws mid p i item charge x.digest is size lists new_lists new mid_items new_items held.shelved.named pushes r.0 in
+          (left.shelved, subst (λ l. Stores same p x cs (stored_of old items) (stored_of l new_items)) (sym left.is) r.1)
 
-module _ {P M D : Type 0} {key : P → P → Bool} {R : D → D → Ordering} (key_laws : IsEquivalence key) (order : IsTotalOrder R) where
+module _ {P M D : Type 0} {key : P → P → Bool} {R : D → D → Ordering} (key_laws : IsEquivalence key) (order : IsTotalOrder R)
+    {p : P} {x : Carried M D} {i item : ℕ} {names mid new : ℕ → Option D} {lists : List (P × List (Node (Charged ℕ)))} {items mid_items new_items : List (D × Placed P (Carried M D))} where
   -- a digest that is held, and refused by the lists
-  pub Shelved-refused : (p : P) (x : Carried M D) (i item : ℕ) (names mid new : ℕ → Option D) (lists : List (P × List (Node (Charged ℕ)))) (items mid_items new_items : List (D × Placed P (Carried M D)))
-      → IsShelved (by_order key R) names lists items → ((n : ℕ) (d : D) → names n ≡ Some d → mid n ≡ Some d) → mid item ≡ Some x.digest → place_at (eq_by_cmp R) key items x.digest p ≡ None
+  pub Shelved-refused : IsShelved (by_order key R) names lists items → ((n : ℕ) (d : D) → names n ≡ Some d → mid n ≡ Some d) → mid item ≡ Some x.digest → place_at (eq_by_cmp R) key items x.digest p ≡ None
       → Holds (by_order key R) R p x i items mid_items → Quits (by_order key R) item p mid new mid_items new_items
       → IsShelved (by_order key R) new lists new_items × (stored_of (named_lists new lists) new_items ≡ stored_of (named_lists names lists) items)
-  Shelved-refused p x i item names mid new lists items mid_items new_items was more is none holds quits =
+  Shelved-refused was more is none holds quits =
       let laws = eq_by_cmp_equiv order in
       let leaves = quits.left x.digest is in
       let messages = messages-undone key_laws order p x i items mid_items new_items none holds leaves was.indexed.placed quits.placed in

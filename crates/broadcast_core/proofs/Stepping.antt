@@ -135,7 +135,7 @@ module _ {P M D W V : Type 0} {s : Setting P M D} {same : Same P D} (is : s.same
         test = chosen.test;
         content = content;
         answered = chosen.answered;
-        removed = count ∙ ap counted (named-counted s laws.digest held chosen.test past old new n has content
+        removed = count ∙ ap counted (named-counted s laws.digest held has content
             (subst (λ m. IsDistinct m.digest (keys_of old.waiters)) (sym is) apart) (subst (λ m. IsDistinct m.digest (keys_of new.waiters)) (sym is) apart_left) fewer);
       }
 

@@ -82,15 +82,15 @@ module _ {P M D W V : Type 0} (s : Setting P M D) (laws : IsEquivalence s.same.d
 
   -- a cleanup removes those that it names
   pub named-counted : (held : (d : D) (es : List (Happening P M D W V)) → is_listed s d es ≡ true → is_some (message s d es) ≡ true)
-      → (test : ℕ → W → Bool) (past : List (Happening P M D W V)) (old new : Content P M D W) (n : ℕ) → HasContent s past old → HasContent s (cleanup test ∷ past) new
+      → {test : ℕ → W → Bool} {past : List (Happening P M D W V)} {old new : Content P M D W} {n : ℕ} → HasContent s past old → HasContent s (cleanup test ∷ past) new
       → IsDistinct s.same.digest (keys_of old.waiters) → IsDistinct s.same.digest (keys_of new.waiters) → waiting_in old.waiters ≡ waiting_in new.waiters + n
       → n ≡ named_by test (waiting s past)
-  named-counted held test past old new n has then apart apart_then fewer =
+  named-counted held {test} {past} has then apart apart_then fewer =
       omega (
         arith,
         fewer,
-        waiting-counted past old has apart,
-        waiting-counted (cleanup test ∷ past) new then apart_then,
+        waiting-counted past _ has apart,
+        waiting-counted (cleanup test ∷ past) _ then apart_then,
         ap length (waiting-cleanup s laws held test past),
         length-filter_not (λ w. test w.place w.waiter) (waiting s past),
       )

@@ -48,20 +48,17 @@ take-two_more xs n h =
     (append_assoc (take n xs) (slice_index xs n ∷ []) (slice_index xs (n + 1) ∷ []))
 
 -- one byte more is read
-pub decode_step : (digits bytes : List ℕ) (i b high low : ℕ) → i < length bytes → length digits ≡ 2 * length bytes
-    → high < 16 → low < 16 → b ≡ high * 16 + low
-    → slice_index lower_digits high ≡ slice_index digits (2 * i)
-    → slice_index lower_digits low ≡ slice_index digits (2 * i + 1)
-    → take (2 * i) digits ≡ encode_lower (take i bytes)
-    → take (2 * (i + 1)) digits ≡ encode_lower (take (i + 1) (slice_set bytes i b))
-decode_step digits bytes i b high low h len eh el eb hd ld inv =
+pub decode_step : (digits bytes : List ℕ) (i b : ℕ) (high : IsHexDigit (slice_index digits (2 * i))) (low : IsHexDigit (slice_index digits (2 * i + 1)))
+    → i < length bytes → length digits ≡ 2 * length bytes → b ≡ high.0 * 16 + low.0
+    → IsSpelled digits bytes i → IsSpelled digits (slice_set bytes i b) (i + 1)
+decode_step digits bytes i b high low h len eb spelled =
     let two : 2 * (i + 1) ≡ 2 * i + 2 = omega arith in
-    let hi : b / 16 ≡ high = omega arith in
-    let lo : b % 16 ≡ low = omega arith in
+    let hi : b / 16 ≡ high.0 = omega (arith, high.1, low.1) in
+    let lo : b % 16 ≡ low.0 = omega (arith, high.1, low.1) in
     let front = take-two_more digits (2 * i) (omega arith) in
     let pair : encode_lower (b ∷ []) ≡ slice_index digits (2 * i) ∷ slice_index digits (2 * i + 1) ∷ [] =
-    rw (encode_with-one lower_digits b, hi, lo, hd, ld) refl in
-    rw (two, front, take_more_set bytes i b h, encode_with-append lower_digits (take i bytes) (b ∷ []), pair, inv) refl
+    rw (encode_with-one lower_digits b, hi, lo, high.2, low.2) refl in
+    rw (two, front, take_more_set bytes i b h, encode_with-append lower_digits (take i bytes) (b ∷ []), pair, spelled) refl
 
 -- the digits of the first bytes are the first digits
 encode_with-take : (t xs : List ℕ) (n : ℕ) → encode_with t (take n xs) ≡ take (2 * n) (encode_with t xs)

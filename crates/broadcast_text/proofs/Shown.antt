@@ -14,10 +14,10 @@ content_there (Some other) it cached message there copied same =
     let one : other ≡ it = cc in rw (same, ← one, ← copied) refl
 
 -- one message more is shown
-pub shown_more : (f : List ℕ → List ℕ) (digests : List (List ℕ)) (i : ℕ) (d : List ℕ) (old new : List (Bor Parts)) (it : Bor Parts) → i < length digests
+pub shown_more : (f : List ℕ → List ℕ) (digests : List (List ℕ)) (i : ℕ) (d : List ℕ) (old : List (Bor Parts)) {new : List (Bor Parts)} (it : Bor Parts) → i < length digests
     → new ≡ old ++ it ∷ [] → map (λ m. m.now.content) old ≡ map f (take i digests) → it.now.content ≡ f (get_or digests i d)
     → map (λ m. m.now.content) new ≡ map f (take (i + 1) digests)
-shown_more f digests i d old new it inside more before same =
+shown_more f digests i d old it inside more before same =
     ap (map (λ m. m.now.content)) more ∙ map-append (λ m. m.now.content) old (it ∷ [])
     ∙ ap (λ xs. xs ++ it.now.content ∷ []) before ∙ ap (λ x. map f (take i digests) ++ x ∷ []) same
     ∙ sym (ap (map f) (take_more digests i d inside) ∙ map-append f (take i digests) (get_or digests i d ∷ []))

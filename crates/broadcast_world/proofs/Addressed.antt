@@ -1,5 +1,5 @@
 -- The nodes that a broadcast is addressed to, one key after the other.
-use Rattle.std.proofs.Common.{◌≡◌, ℕ, ◌+◌, ◌<◌, Bool, true, false, ◌||◌, if◌then◌else◌, List, [], ◌∷◌, ◌++◌, length, take, map, get_or, Some, None, refl, sym, ap, ◌∙◌, subst, append-nil}
+use Rattle.std.proofs.Common.{◌≡◌, ℕ, ◌+◌, ◌<◌, Bool, true, false, ◌||◌, if◌then◌else◌, List, [], ◌∷◌, ◌++◌, length, take, get_or, Some, None, refl, sym, ap, ◌∙◌, subst, append-nil}
 use Rattle.std.specs.List.{AllByRecursion, IsDistinct, filter_map, find, list_any}
 use Rattle.std.proofs.lemmas.List.{take_more}
 use Rattle.std.specs.Cmp.{IsEquivalence, IsTotalOrder, eq_by_cmp_equiv}
@@ -115,14 +115,12 @@ module _ {P : Type 0} (cmp : P → P → Ordering) (w : Scene P) where
       ∙ ap (without (eq_by_cmp cmp) n) (first_places-apart (eq_by_cmp cmp) laws w.nodes apart)
 
   -- one packet more
-  pub packets-push : (n : P) (nodes : List P) (i : ℕ) (node sender addressee : P) (bytes shared : List ℕ) (old new : List (Packet P)) → i < length nodes
-      → AreCopies cmp old (packets_to cmp w n (take i nodes) (Some bytes)) → new ≡ old ++ record { sender = sender; addressee = addressee; bytes = shared } ∷ []
-      → node ≡ get_or nodes i node → eq_by_cmp cmp sender n ≡ true → eq_by_cmp cmp addressee node ≡ true → shared ≡ bytes → AreCopies cmp new (packets_to cmp w n (take (i + 1) nodes) (Some bytes))
-  packets-push n nodes i node sender addressee bytes shared old new within was is read from to same =
-      let packet : P → Packet P = λ p. record { sender = n; addressee = p; bytes = bytes } in
-      let more = map_next packet nodes i node within read in
-      subst (λ ps. AreCopies cmp new ps) (sym more) (subst (λ ps. AreCopies cmp ps (map packet (take i nodes) ++ packet node ∷ [])) (sym is)
-      (AllZip-append _ old (map packet (take i nodes)) (record { sender = sender; addressee = addressee; bytes = shared } ∷ []) (packet node ∷ []) was ((from, to, same), tt)))
+  pub packets-push : (n : P) (bytes : List ℕ) (nodes : List P) (i : ℕ) {node : P} (old : List (Packet P)) (packet : Packet P) → i < length nodes → node ≡ get_or nodes i node
+      → AreCopies cmp old (packets_to cmp w n (take i nodes) (Some bytes)) → AreCopies cmp (packet ∷ []) (packets_to cmp w n (node ∷ []) (Some bytes))
+      → AreCopies cmp (old ++ packet ∷ []) (packets_to cmp w n (take (i + 1) nodes) (Some bytes))
+  packets-push n bytes nodes i old packet within read were is =
+      let made : P → Packet P = λ p. record { sender = n; addressee = p; bytes = bytes } in
+      subst (λ ps. AreCopies cmp (old ++ packet ∷ []) ps) (sym (map_next made nodes i _ within read)) (AllZip-append _ old _ (packet ∷ []) _ were is)
 
   -- packets for copies of keys
   pub packets-copied : IsTotalOrder cmp → (n : P) (bytes : List ℕ) (packets : List (Packet P)) (copies given : List P) → AreCopies cmp packets (packets_to cmp w n copies (Some bytes)) → AreEqual (eq_by_cmp cmp) copies given

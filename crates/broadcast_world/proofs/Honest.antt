@@ -97,6 +97,41 @@ answered-until : {P : Type 0} (cmp : P → P → Ordering) (w : Scene P) (later 
 answered-until cmp w [] now may = may
 answered-until cmp w (x ∷ later) now may = answered-until cmp w later now may.1
 
+module _ {P : Type 0} where
+  -- an older moment
+  moment-before : {now log : Log P} (x : Step P × WorldAnswer) → IsMoment (x ∷ now) log → IsMoment now log
+  moment-before {now} x (later, is) = (later ++ x ∷ [], is ∙ sym (append_assoc later (x ∷ []) now))
+
+  pub none-refused : (x : Step P × WorldAnswer) (now : Log P) → NoneRefused (x ∷ now) → (refused_for_memory x.1 ≡ false) × NoneRefused now
+  none-refused x now none = or_false (refused_for_memory x.1) (list_any (λ z. refused_for_memory z.1) now) none
+
+  module _ {log clean_log now clean : Log P} (x : Step P × WorldAnswer) where
+    -- moments correspond one hostile step before too
+    before-hostile : is_hostile x.0 ≡ true → AreMoments log clean_log (x ∷ now) clean → AreMoments log clean_log now clean
+    before-hostile h are = record {
+      reached = moment-before x are.reached;
+      clean_reached = are.clean_reached;
+      same_steps = rw h at are.same_steps;
+      unrefused = (none-refused x now are.unrefused).1;
+      unrefused_clean = are.unrefused_clean;
+    }
+
+    -- and one step before that is not hostile
+    pub before : (y : Step P × WorldAnswer) → is_hostile x.0 ≡ false → AreMoments log clean_log (x ∷ now) (y ∷ clean) → (y.0 ≡ x.0) × AreMoments log clean_log now clean
+    before y h are =
+        let steps : y.0 ∷ map (λ z. z.0) clean ≡ x.0 ∷ without_hostile (map (λ z. z.0) now) = rw h at are.same_steps in
+        let first : y.0 ≡ x.0 = cc in
+        let rest : map (λ z. z.0) clean ≡ without_hostile (map (λ z. z.0) now) = cc in (
+          first,
+          record {
+            reached = moment-before x are.reached;
+            clean_reached = moment-before y are.clean_reached;
+            same_steps = rest;
+            unrefused = (none-refused x now are.unrefused).1;
+            unrefused_clean = (none-refused y clean are.unrefused_clean).1;
+          },
+        )
+
 -- no node has a hostile key
 abbrev pub KeysApart : {P : Type 0} → (P → P → Ordering) → Scene P → Type 0
 KeysApart {P} cmp w = (q : P) → list_any (eq_by_cmp cmp q) w.nodes ≡ true → list_any (eq_by_cmp cmp q) w.hostile ≡ false
@@ -331,64 +366,6 @@ module _ {P : Type 0} (cmp : P → P → Ordering) (total : IsTotalOrder cmp) (w
         (λ t. rw (sends-unless x.1 (event_of cmp w x.0 sent) (attack-sends x.0 sent t)) tt)
         (λ t. honest-sends (accepted cmp w x log) (honest-accepted x.1 (event_of cmp w x.0 sent) (honest-event x.0 sent t (senders log)))))
 
-    honest-next : (older clean : Log P) (x y : Step P × WorldAnswer) (newer newer_clean : Log P) → is_hostile x.0 ≡ false → x.0 ≡ y.0 → MayAnswer cmp w x (newer ++ older) → MayAnswer cmp w y (newer_clean ++ clean)
-        → refused_for_memory x.1 ≡ false → refused_for_memory y.1 ≡ false
-        → SameSince older clean newer newer_clean → SameSince older clean (x ∷ newer) (y ∷ newer_clean)
-    honest-next older clean x y newer newer_clean h is may may_y none none_y same =
-        let now = newer ++ older in
-        let now_clean = newer_clean ++ clean in
-        let one : event_of cmp w y.0 (packets cmp w now_clean) ≡ event_of cmp w x.0 (packets cmp w now) = ap (λ s. event_of cmp w s (packets cmp w now_clean)) (sym is) ∙ ap (event_of cmp w x.0) (sym same.packets) in
-        let alike : accepted cmp w x now ≡ accepted cmp w y now_clean =
-        accepted_same (event_of cmp w x.0 (packets cmp w now)) x.1 y.1 now now_clean may (subst (λ e. IsAnswer cmp w e y.1 now_clean) one may_y) none none_y
-        ∙ ap (unless_refused cmp w y.1) (sym one) in
-        record {
-          packets = ap (λ ps. ps ++ made_by cmp w (accepted cmp w x now)) same.packets ∙ ap (λ e. packets cmp w now_clean ++ made_by cmp w e) alike;
-          merges = λ n.
-              let was = same.merges n in
-              let it = adds n (accepted cmp w x now) (honest-accepted x.1 (event_of cmp w x.0 (packets cmp w now)) (honest-event x.0 (packets cmp w now) h (senders now))) in
-              record {
-                items = it.items ++ was.items;
-                now = all-append it.items was.items ∙ ap (λ es. es ++ all was.items) it.now ∙ ap (λ es. history_with cmp w n (accepted cmp w x now) [] ++ es) was.now;
-                kept = kept-append it.items was.items ∙ ap (λ es. es ++ kept was.items) (it.clean ∙ ap (λ e. history_with cmp w n e []) alike) ∙ ap (λ es. history_with cmp w n (accepted cmp w y now_clean) [] ++ es) was.kept;
-                handed = λ d t. let split = sym (attacked-append d it.items was.items) ∙ t in ap (λ b. hands cmp w n d x.0 || b) (was.handed d (rw (it.none d) at split)) ∙ or_right (hands cmp w n d x.0);
-              };
-        }
-
-    -- a step that is not hostile is the newest of both runs
-    same-honest : (older clean : Log P) (x : Step P × WorldAnswer) (newer newer_clean : Log P) → Corresponds older clean → is_hostile x.0 ≡ false
-        → AreAnswered cmp w (x ∷ newer ++ older) [] → AreAnswered cmp w (newer_clean ++ clean) [] → NoneRefused (x ∷ newer ++ older) → NoneRefused (newer_clean ++ clean)
-        → map (λ y. y.0) (newer_clean ++ clean) ≡ x.0 ∷ without_hostile (map (λ y. y.0) (newer ++ older))
-        → ((before : Log P) → AreAnswered cmp w (before ++ clean) [] → NoneRefused (before ++ clean) → Corresponds (newer ++ older) (before ++ clean) → SameSince older clean newer before)
-        → SameSince older clean (x ∷ newer) newer_clean
-    same-honest older clean x newer [] base h may may_clean none none_clean is so_far = absurd (omega (
-      arith,
-      ap (λ ss. length ss) base,
-      ap (λ ss. length ss) is,
-      length-append (without_hostile (map (λ y. y.0) newer)) (without_hostile (map (λ y. y.0) older)),
-      ap (λ ss. length (without_hostile ss)) (map-append (λ y. y.0) newer older),
-      ap (λ ss. length ss) (without_hostile-append (map (λ y. y.0) newer) (map (λ y. y.0) older)),
-    ))
-    same-honest older clean x newer (y ∷ newer_clean) base h may may_clean none none_clean is so_far =
-        let first : y.0 ≡ x.0 = cc in
-        let rest : map (λ z. z.0) (newer_clean ++ clean) ≡ without_hostile (map (λ z. z.0) (newer ++ older)) = cc in
-        let unrefused = or_false (refused_for_memory x.1) (list_any (λ z. refused_for_memory z.1) (newer ++ older)) none in
-        let unrefused_clean = or_false (refused_for_memory y.1) (list_any (λ z. refused_for_memory z.1) (newer_clean ++ clean)) none_clean in
-        honest-next older clean x y newer newer_clean h (sym first) (answered-last x (newer ++ older) may) (answered-last y (newer_clean ++ clean) may_clean) unrefused.0 unrefused_clean.0
-        (so_far newer_clean may_clean.1 unrefused_clean.1 rest)
-
-    pub same-since : (older clean : Log P) → packets cmp w older ≡ packets cmp w clean → Corresponds older clean → (newer newer_clean : Log P)
-        → AreAnswered cmp w (newer ++ older) [] → AreAnswered cmp w (newer_clean ++ clean) [] → NoneRefused (newer ++ older) → NoneRefused (newer_clean ++ clean) → Corresponds (newer ++ older) (newer_clean ++ clean)
-        → SameSince older clean newer newer_clean
-    same-since older clean sent base [] [] may may_clean none none_clean is = record { packets = sent; merges = λ n. record { items = []; now = refl; kept = refl; handed = λ d h. absurd (let no = h in cc) } }
-    same-since older clean sent base [] (y ∷ newer_clean) may may_clean none none_clean is =
-        absurd (omega (arith, ap (λ ss. length ss) (is ∙ sym base), length-map newer_clean (λ z. z.0), length-map clean (λ z. z.0), length-map (newer_clean ++ clean) (λ z. z.0), length-append newer_clean clean))
-    same-since older clean sent base (x ∷ newer) newer_clean may may_clean none none_clean is =
-        let unrefused = or_false (refused_for_memory x.1) (list_any (λ z. refused_for_memory z.1) (newer ++ older)) none in
-        by_test (is_hostile x.0)
-        (λ t. hostile-next older clean x newer newer_clean t (same-since older clean sent base newer newer_clean may.1 may_clean unrefused.1 none_clean (rw t at is)))
-        (λ t. same-honest older clean x newer newer_clean base t may may_clean none none_clean (rw t at is)
-        (λ before answered unrefused_before corresponds. same-since older clean sent base newer before may.1 answered unrefused.1 unrefused_before corresponds))
-
     -- both histories at corresponding moments
     pub record SameAt (now clean : Log P) (n : P) : Type 0 where
       pub items : Items n
@@ -406,10 +383,57 @@ module _ {P : Type 0} (cmp : P → P → Ordering) (total : IsTotalOrder cmp) (w
       pub until_clean : (now : Log P) → IsMoment now clean_log → AreAnswered cmp w now []
       until_clean now moment = answered-until cmp w moment.0 now (subst (λ l. AreAnswered cmp w l []) moment.1 may_clean)
 
+      honest-next : {older clean newer newer_clean : Log P} (x y : Step P × WorldAnswer) → is_hostile x.0 ≡ false → x.0 ≡ y.0 → AreMoments log clean_log (x ∷ newer ++ older) (y ∷ newer_clean ++ clean)
+          → SameSince older clean newer newer_clean → SameSince older clean (x ∷ newer) (y ∷ newer_clean)
+      honest-next {older} {clean} {newer} {newer_clean} x y h is are same =
+          let now = newer ++ older in
+          let now_clean = newer_clean ++ clean in
+          let may_x = answered-last x now (until (x ∷ now) are.reached) in
+          let may_y = answered-last y now_clean (until_clean (y ∷ now_clean) are.clean_reached) in
+          let one : event_of cmp w y.0 (packets cmp w now_clean) ≡ event_of cmp w x.0 (packets cmp w now) = ap (λ s. event_of cmp w s (packets cmp w now_clean)) (sym is) ∙ ap (event_of cmp w x.0) (sym same.packets) in
+          let alike : accepted cmp w x now ≡ accepted cmp w y now_clean =
+          accepted_same (event_of cmp w x.0 (packets cmp w now)) x.1 y.1 now now_clean may_x (subst (λ e. IsAnswer cmp w e y.1 now_clean) one may_y) (none-refused x now are.unrefused).0 (none-refused y now_clean are.unrefused_clean).0
+          ∙ ap (unless_refused cmp w y.1) (sym one) in
+          record {
+            packets = ap (λ ps. ps ++ made_by cmp w (accepted cmp w x now)) same.packets ∙ ap (λ e. packets cmp w now_clean ++ made_by cmp w e) alike;
+            merges = λ n.
+                let was = same.merges n in
+                let it = adds n (accepted cmp w x now) (honest-accepted x.1 (event_of cmp w x.0 (packets cmp w now)) (honest-event x.0 (packets cmp w now) h (senders now))) in
+                record {
+                  items = it.items ++ was.items;
+                  now = all-append it.items was.items ∙ ap (λ es. es ++ all was.items) it.now ∙ ap (λ es. history_with cmp w n (accepted cmp w x now) [] ++ es) was.now;
+                  kept = kept-append it.items was.items ∙ ap (λ es. es ++ kept was.items) (it.clean ∙ ap (λ e. history_with cmp w n e []) alike) ∙ ap (λ es. history_with cmp w n (accepted cmp w y now_clean) [] ++ es) was.kept;
+                  handed = λ d t. let split = sym (attacked-append d it.items was.items) ∙ t in ap (λ b. hands cmp w n d x.0 || b) (was.handed d (rw (it.none d) at split)) ∙ or_right (hands cmp w n d x.0);
+                };
+          }
+
+      -- a step that is not hostile is the newest of both runs
+      same-honest : (older clean : Log P) (x : Step P × WorldAnswer) (newer newer_clean : Log P) → Corresponds older clean → is_hostile x.0 ≡ false → AreMoments log clean_log (x ∷ newer ++ older) (newer_clean ++ clean)
+          → ((others : Log P) → AreMoments log clean_log (newer ++ older) (others ++ clean) → SameSince older clean newer others)
+          → SameSince older clean (x ∷ newer) newer_clean
+      same-honest older clean x newer [] base h are so_far = absurd (omega (
+        arith,
+        ap (λ ss. length ss) base,
+        ap (λ ss. length ss) (rw h at are.same_steps),
+        length-append (without_hostile (map (λ y. y.0) newer)) (without_hostile (map (λ y. y.0) older)),
+        ap (λ ss. length (without_hostile ss)) (map-append (λ y. y.0) newer older),
+        ap (λ ss. length ss) (without_hostile-append (map (λ y. y.0) newer) (map (λ y. y.0) older)),
+      ))
+      same-honest older clean x newer (y ∷ newer_clean) base h are so_far =
+          let prior = before x y h are in
+          honest-next x y h (sym prior.0) are (so_far newer_clean prior.1)
+
+      same-since : (older clean : Log P) → packets cmp w older ≡ packets cmp w clean → Corresponds older clean → (newer newer_clean : Log P)
+          → AreMoments log clean_log (newer ++ older) (newer_clean ++ clean) → SameSince older clean newer newer_clean
+      same-since older clean sent base [] [] are = record { packets = sent; merges = λ n. record { items = []; now = refl; kept = refl; handed = λ d h. absurd (let no = h in cc) } }
+      same-since older clean sent base [] (y ∷ newer_clean) are =
+          absurd (omega (arith, ap (λ ss. length ss) (are.same_steps ∙ sym base), length-map newer_clean (λ z. z.0), length-map clean (λ z. z.0), length-map (newer_clean ++ clean) (λ z. z.0), length-append newer_clean clean))
+      same-since older clean sent base (x ∷ newer) newer_clean are = by_test (is_hostile x.0)
+          (λ t. hostile-next older clean x newer newer_clean t (same-since older clean sent base newer newer_clean (before-hostile x t are)))
+          (λ t. same-honest older clean x newer newer_clean base t are (λ others moments. same-since older clean sent base newer others moments))
+
       from-new : (now clean : Log P) → AreMoments log clean_log now clean → SameSince [] [] now clean
-      from-new now clean are = same-since [] [] refl refl now clean
-          (rw (append-nil now) (until now are.reached)) (rw (append-nil clean) (until_clean clean are.clean_reached))
-          (rw (append-nil now) are.unrefused) (rw (append-nil clean) are.unrefused_clean) (rw (append-nil now, append-nil clean) are.same_steps)
+      from-new now clean are = same-since [] [] refl refl now clean (rw (append-nil now, append-nil clean) are)
 
       pub packets-at : (now clean : Log P) → AreMoments log clean_log now clean → packets cmp w now ≡ packets cmp w clean
       packets-at now clean are = ap (packets cmp w) (sym (append-nil now)) ∙ (from-new now clean are).packets ∙ ap (packets cmp w) (append-nil clean)
@@ -420,8 +444,7 @@ module _ {P : Type 0} (cmp : P → P → Ordering) (total : IsTotalOrder cmp) (w
           record { items = it.items; first = it.now ∙ happened-all n now; second = it.kept ∙ happened-all n clean; handed = it.handed }
 
       pub same-after : (asked newer clean newer_clean : Log P) → AreMoments log clean_log asked clean → AreMoments log clean_log (newer ++ asked) (newer_clean ++ clean) → (n : P) → Merges asked clean n newer newer_clean
-      same-after asked newer clean newer_clean at_first at_last n = (same-since asked clean (packets-at asked clean at_first) at_first.same_steps newer newer_clean
-          (until (newer ++ asked) at_last.reached) (until_clean (newer_clean ++ clean) at_last.clean_reached) at_last.unrefused at_last.unrefused_clean at_last.same_steps).merges n
+      same-after asked newer clean newer_clean at_first at_last n = (same-since asked clean (packets-at asked clean at_first) at_first.same_steps newer newer_clean at_last).merges n
 
       pub HasHonestLists-from : HasHonestLists cmp w log clean_log
       HasHonestLists-from = λ now clean are n p h.

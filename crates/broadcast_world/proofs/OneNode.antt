@@ -28,22 +28,22 @@ use Rattle.broadcast_world.specs.declared.step.WorldAnswer.TheVariants.{Given, N
 
 module _ {P : Type 0} (cmp : P → P → Ordering) (w : Scene P) where
   -- the node that a key names gives its answer, and no other changes
-  pub AtNode-given : (named : Option P) (n : P) (e : NodeEvent P) (place : ℕ) (old : List (NodeContent P)) (before core : NodeContent P) (a : Answer Parts (List ℕ))
+  pub AtNode-given : {named : Option P} (n : P) {e : NodeEvent P} (place : ℕ) (old : List (NodeContent P)) {before core : NodeContent P} {a : Answer Parts (List ℕ)}
       → named ≡ Some n → slice_get w.nodes place ≡ Some n → slice_get old place ≡ Some before → NodeFollows cmp w n e before core a
       → AtNode cmp w (option_map (λ m. (m, e)) named) old (slice_set old place core) (Given a)
-  AtNode-given named n e place old before core a is node was follows =
-      rw is (a, refl, record { place = place; is_node = node; before = before; was = was; core = core; only = refl; follows = follows })
+  AtNode-given n place old is node was follows =
+      rw is (_, refl, record { place = place; is_node = node; before = _; was = was; core = _; only = refl; follows = follows })
 
   -- a key that names none
   pub AtNode-none : (named : Option P) (e : NodeEvent P) (cores : List (NodeContent P)) → named ≡ None → AtNode cmp w (option_map (λ m. (m, e)) named) cores cores NoSuch
   AtNode-none named e cores is = rw is (refl, refl)
 
   -- the node's content stays
-  pub AtNode-kept : (named : Option P) (n : P) (e : NodeEvent P) (place : ℕ) (cores : List (NodeContent P)) (before : NodeContent P) (a : Answer Parts (List ℕ))
+  pub AtNode-kept : {named : Option P} (n : P) {e : NodeEvent P} (place : ℕ) (cores : List (NodeContent P)) {before : NodeContent P} {a : Answer Parts (List ℕ)}
       → named ≡ Some n → slice_get w.nodes place ≡ Some n → slice_get cores place ≡ Some before → NodeFollows cmp w n e before before a
       → AtNode cmp w (option_map (λ m. (m, e)) named) cores cores (Given a)
-  AtNode-kept named n e place cores before a is node was follows =
-      rw is (a, refl, record { place = place; is_node = node; before = before; was = was; core = before; only = sym (set_same cores place before was); follows = follows })
+  AtNode-kept n place cores is node was follows =
+      rw is (_, refl, record { place = place; is_node = node; before = _; was = was; core = _; only = sym (set_same cores place _ was); follows = follows })
 
   -- an allocation failure changes nothing
   pub NodeFollows-refused : (n : P) (r : Recipients P) (c : Carried Parts (List ℕ)) (core : NodeContent P) → is_some (encoding_of c.message) ≡ true
@@ -76,22 +76,22 @@ module _ {P : Type 0} (cmp : P → P → Ordering) (w : Scene P) where
   nothing_kept own = no_content own 0 0
 
   -- no content changes
-  pub AtNode-refused : (named : Option P) (n : P) (e : NodeEvent P) (place : ℕ) (cores : List (NodeContent P)) (a : Answer Parts (List ℕ))
+  pub AtNode-refused : {named : Option P} (n : P) {e : NodeEvent P} (place : ℕ) (cores : List (NodeContent P)) {a : Answer Parts (List ℕ)}
       → named ≡ Some n → slice_get w.nodes place ≡ Some n → place < length cores → ((core : NodeContent P) → NodeFollows cmp w n e core core a)
       → AtNode cmp w (option_map (λ m. (m, e)) named) cores cores (Given a)
-  AtNode-refused named n e place cores a is node within follows =
+  AtNode-refused n place cores is node within follows =
       let before = get_or cores place (nothing_kept n) in
-      AtNode-kept named n e place cores before a is node (slice_get-get_or cores place (nothing_kept n) within) (follows before)
+      AtNode-kept n place cores is node (slice_get-get_or cores place (nothing_kept n) within) (follows before)
 
   -- the event at the node that a key names, and at that which an equal key names
   pub event_at-equal : IsTotalOrder cmp → (p q : P) (e : NodeEvent P) → eq_by_cmp cmp p q ≡ true → event_at cmp w p e ≡ event_at cmp w q e
   event_at-equal total p q e h = ap (option_map (λ m. (m, e))) (find-equal (eq_by_cmp cmp) (eq_by_cmp_equiv total) p q w.nodes h)
 
   -- the packets of a broadcast at the node that a key names
-  pub made_by-broadcast : (named : Option P) (n sender : P) (r : Recipients P) (c : Carried Parts (List ℕ)) (bytes : List ℕ) (made : List (Packet P))
+  pub made_by-broadcast : (named : Option P) (n : P) {sender : P} (r : Recipients P) (c : Carried Parts (List ℕ)) {bytes : List ℕ} (made : List (Packet P))
       → named ≡ Some n → sender ≡ n → encoding_of c.message ≡ Some bytes → AreCopies cmp made (packets_to cmp w sender (addressed cmp w sender r) (Some bytes))
       → AreCopies cmp made (made_by cmp w (option_map (λ m. (m, Broadcast r c)) named))
-  made_by-broadcast named n sender r c bytes made is from encoded h = rw is (rw encoded (subst (λ m. AreCopies cmp made (packets_to cmp w m (addressed cmp w m r) (Some bytes))) from h))
+  made_by-broadcast named n r c {bytes} made is from encoded h = rw is (rw encoded (subst (λ m. AreCopies cmp made (packets_to cmp w m (addressed cmp w m r) (Some bytes))) from h))
 
   unless-cases : (a : WorldAnswer) (e : Option (P × NodeEvent P)) → (unless_refused cmp w a e ≡ e) ⊎ (unless_refused cmp w a e ≡ None)
   unless-cases NoSuch e = inl refl

@@ -198,39 +198,38 @@ module _ {P : Type 0} (cmp : P → P → Ordering) (total : IsTotalOrder cmp) (w
       let got = reads_as m bytes (read_message w.range bytes) read in
       sym (message_reads_back w.range v m bytes [] got.0 encoded (ap (read_message w.range) (append-nil bytes) ∙ got.1)).0
 
-  -- a packet that was delivered
-  delivered : (n p : P) (b : List ℕ) (m : Parts) (log : Log P) (k : ℕ) (o : Option (Packet P)) (x : P × NodeEvent P) → slice_get (packets cmp w log) k ≡ o → delivery cmp w o ≡ Some x
-      → x.1 ≡ event.Payload p b → eq_by_cmp cmp n x.0 ≡ true → whole (read_message w.range) b ≡ Ok m → Origin n log p m
-  delivered n p b m log k None x there is load to read = absurd (let no = is in cc)
-  delivered n p b m log k (Some pk) x there is load to read =
-      let laws = eq_by_cmp_equiv total in
-      let named = event-is (node cmp w pk.addressee) (event.Payload pk.sender pk.bytes) x is in
-      let e = named.1 in
-      let sender : pk.sender ≡ p = cc in
-      let bytes : pk.bytes ≡ b = cc in
-      let was = at_place (WasSent log) (packets cmp w log) k pk there (packets-sent log) in
-      let its : eq_by_cmp cmp pk.addressee x.0 ≡ true = found-passes (eq_by_cmp cmp pk.addressee) w.nodes x.0 named.0 in
-      let one : eq_by_cmp cmp n pk.addressee ≡ true = laws.symm n pk.addressee ∙ laws.congr pk.addressee x.0 n its ∙ laws.symm x.0 n ∙ to in
-      inr (record {
-        by = was.by;
-        in_log = was.in_log;
-        sender = was.sender ∙ sender;
-        addressed = any-equal (eq_by_cmp cmp) laws n pk.addressee (addressed cmp w was.by.node was.by.recipients) one ∙ was.addressed;
-        message = read-back was.by.message m pk.bytes was.encoded (ap (whole (read_message w.range)) bytes ∙ read);
-      })
+  module _ (n p : P) {b : List ℕ} (m : Parts) (log : Log P) (read : whole (read_message w.range) b ≡ Ok m) where
+    -- a packet that was delivered
+    delivered : (k : ℕ) (o : Option (Packet P)) (x : P × NodeEvent P) → slice_get (packets cmp w log) k ≡ o → delivery cmp w o ≡ Some x → x.1 ≡ event.Payload p b → eq_by_cmp cmp n x.0 ≡ true → Origin n log p m
+    delivered k None x there is load to = absurd (let no = is in cc)
+    delivered k (Some pk) x there is load to =
+        let laws = eq_by_cmp_equiv total in
+        let named = event-is (node cmp w pk.addressee) (event.Payload pk.sender pk.bytes) x is in
+        let e = named.1 in
+        let sender : pk.sender ≡ p = cc in
+        let bytes : pk.bytes ≡ b = cc in
+        let was = at_place (WasSent log) (packets cmp w log) k pk there (packets-sent log) in
+        let its : eq_by_cmp cmp pk.addressee x.0 ≡ true = found-passes (eq_by_cmp cmp pk.addressee) w.nodes x.0 named.0 in
+        let one : eq_by_cmp cmp n pk.addressee ≡ true = laws.symm n pk.addressee ∙ laws.congr pk.addressee x.0 n its ∙ laws.symm x.0 n ∙ to in
+        inr (record {
+          by = was.by;
+          in_log = was.in_log;
+          sender = was.sender ∙ sender;
+          addressed = any-equal (eq_by_cmp cmp) laws n pk.addressee (addressed cmp w was.by.node was.by.recipients) one ∙ was.addressed;
+          message = read-back was.by.message m pk.bytes was.encoded (ap (whole (read_message w.range)) bytes ∙ read);
+        })
 
-  -- where a payload comes from
-  payload-origin : (n p : P) (b : List ℕ) (m : Parts) (log : Log P) (step : Step P) (x : P × NodeEvent P) → event_of cmp w step (packets cmp w log) ≡ Some x
-      → x.1 ≡ event.Payload p b → eq_by_cmp cmp n x.0 ≡ true → whole (read_message w.range) b ≡ Ok m → Origin n log p m
-  payload-origin n p b m log (Peers key ps) x is load to read = absurd (let e = (event-is (node cmp w key) (event.Peers ps) x is).1 in cc)
-  payload-origin n p b m log (Broadcast key r c) x is load to read = absurd (let e = (event-is (node cmp w key) (event.Broadcast r c) x is).1 in cc)
-  payload-origin n p b m log (Subscribe key t d) x is load to read = absurd (let e = (event-is (node cmp w key) (event.Subscribe t d) x is).1 in cc)
-  payload-origin n p b m log (Get key t d) x is load to read = absurd (let e = (event-is (node cmp w key) (event.Get t d) x is).1 in cc)
-  payload-origin n p b m log (Cleanup key gone) x is load to read = absurd (let e = (event-is (node cmp w key) (event.Cleanup gone) x is).1 in cc)
-  payload-origin n p b m log (Deliver k) x is load to read = delivered n p b m log k (slice_get (packets cmp w log) k) x refl is load to read
-  payload-origin n p b m log (Hostile from key bytes) x is load to read = by_test (list_any (eq_by_cmp cmp from) w.hostile)
-      (λ t. let e = (event-is (node cmp w key) (event.Payload from bytes) x (rw t at is)).1 in let same : from ≡ p = cc in inl (ap (λ q. list_any (eq_by_cmp cmp q) w.hostile) (sym same) ∙ t))
-      (λ t. absurd (let no = rw t at is in cc))
+    -- where a payload comes from
+    payload-origin : (step : Step P) (x : P × NodeEvent P) → event_of cmp w step (packets cmp w log) ≡ Some x → x.1 ≡ event.Payload p b → eq_by_cmp cmp n x.0 ≡ true → Origin n log p m
+    payload-origin (Peers key ps) x is load to = absurd (let e = (event-is (node cmp w key) (event.Peers ps) x is).1 in cc)
+    payload-origin (Broadcast key r c) x is load to = absurd (let e = (event-is (node cmp w key) (event.Broadcast r c) x is).1 in cc)
+    payload-origin (Subscribe key t d) x is load to = absurd (let e = (event-is (node cmp w key) (event.Subscribe t d) x is).1 in cc)
+    payload-origin (Get key t d) x is load to = absurd (let e = (event-is (node cmp w key) (event.Get t d) x is).1 in cc)
+    payload-origin (Cleanup key gone) x is load to = absurd (let e = (event-is (node cmp w key) (event.Cleanup gone) x is).1 in cc)
+    payload-origin (Deliver k) x is load to = delivered k (slice_get (packets cmp w log) k) x refl is load to
+    payload-origin (Hostile from key bytes) x is load to = by_test (list_any (eq_by_cmp cmp from) w.hostile)
+        (λ t. let e = (event-is (node cmp w key) (event.Payload from bytes) x (rw t at is)).1 in let same : from ≡ p = cc in inl (ap (λ q. list_any (eq_by_cmp cmp q) w.hostile) (sym same) ∙ t))
+        (λ t. absurd (let no = rw t at is in cc))
 
   -- what an accepted event makes of the history
   came-payload : (n p : P) (past : NodeHistory P) (log : Log P) (r : Result Parts CodecError) → ((m : Parts) → r ≡ Ok m → Origin n log p m)
@@ -252,7 +251,7 @@ module _ {P : Type 0} (cmp : P → P → Ordering) (total : IsTotalOrder cmp) (w
   came-with n x log None past is all = all
   came-with n x log (Some e) past is all = by_test (eq_by_cmp cmp n e.0)
       (λ t. rw t (came-after n e.1 past (x ∷ log)
-      (λ p b m load read. origin-later n x log p m (payload-origin n p b m log x.0 e (accepted-is x.1 (event_of cmp w x.0 (packets cmp w log)) e is) load t read)) all))
+      (λ p b m load read. origin-later n x log p m (payload-origin n p m log read x.0 e (accepted-is x.1 (event_of cmp w x.0 (packets cmp w log)) e is) load t)) all))
       (λ t. rw t all)
 
   pub history-came : (n : P) (log : Log P) → AllByRecursion (Came n log) (history cmp w n log)

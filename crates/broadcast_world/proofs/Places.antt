@@ -159,7 +159,7 @@ module _ {P B : Type 0} (same : P → P → Bool) (laws : IsEquivalence same) wh
 -- the same, by what a search found
 pub found-zip : {P B : Type 0} {cmp : P → P → Ordering} (o : IsTotalOrder cmp) (p : P) (keys : List P) (ys : List B) (i : ℕ) → IsStrictlySortedBy cmp keys → length ys ≡ length keys
     → IsSomeAnd (slice_get keys i) (λ q. eq_by_cmp cmp p q ≡ true) → option_map (λ e. e.1) (find (λ e. eq_by_cmp cmp p e.0) (zip keys ys)) ≡ slice_get ys i
-found-zip {P} {B} {cmp} o p keys ys i rises long place =
+found-zip {cmp = cmp} o p keys ys i rises long place =
     let placed = some_at (slice_get keys i) _ place in
     find-zip (eq_by_cmp cmp) (eq_by_cmp_equiv o) p keys ys i placed.0 (IsDistinct-from_sorted cmp keys rises) long placed.1 placed.2
 

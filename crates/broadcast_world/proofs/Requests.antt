@@ -1,5 +1,5 @@
 -- The answers of two runs, at corresponding moments.
-use Rattle.std.proofs.Common.{◌≡◌, ℕ, ◌-◌, true, false, ◌||◌, List, [], ◌∷◌, ◌++◌, length, map, reverse, is_some, Option, Some, None, inl, inr, refl, sym, ap, ◌∙◌, subst, append_assoc}
+use Rattle.std.proofs.Common.{◌≡◌, ℕ, ◌-◌, true, false, ◌||◌, List, [], ◌∷◌, ◌++◌, length, reverse, is_some, Option, Some, None, inl, inr, refl, sym, ap, ◌∙◌, subst}
 use Rattle.std.specs.List.{AllByRecursion, list_any}
 use Rattle.std.specs.Cmp.{IsEquivalence, IsTotalOrder, eq_by_cmp_equiv}
 use Rattle.std.specs.Cmp.Lexicographic.{slice_cmp}
@@ -9,7 +9,7 @@ use Rattle.std.specs.declared.cmp.Ordering.TheVariants.{Less, Equal, Greater}
 use Rattle.std.proofs.lemmas.Cmp.{nat_list_cmp_total}
 use Rattle.std.proofs.lemmas.Map.Lookups.{exact_bytes}
 use Rattle.sha2.specs.Sha256.{sha256}
-use Rattle.broadcast_core.proofs.Distinct.{by_test, list_any-append, or_false, or_right}
+use Rattle.broadcast_core.proofs.Distinct.{by_test, list_any-append, or_right}
 use Rattle.broadcast_core.proofs.Following.{message-none, message-some}
 use Rattle.broadcast_core.specs.Carried.{Carried}
 use Rattle.broadcast_core.specs.TestMessage.{Parts}
@@ -17,11 +17,10 @@ use Rattle.broadcast_core.specs.Happening.{peers, broadcast, arrival, subscribe,
 use Rattle.broadcast_core.specs.Cache.{is_listed, message}
 use Rattle.broadcast_core.specs.Waiting.{reply}
 use Rattle.broadcast_core.specs.declared.event.Event.TheVariants as event
-use Rattle.broadcast_world.specs.Scene.{Scene, State}
-use Rattle.broadcast_world.specs.Steps.{TakesSteps}
+use Rattle.broadcast_world.specs.Scene.{Scene}
 use Rattle.broadcast_world.specs.Packet.{Packet}
-use Rattle.broadcast_world.specs.World.{Log, log_of, NodeEvent, NodeHistory, AreAnswered, IsAnswer, accepted, at, event_of, history, history_with, node, packets}
-use Rattle.broadcast_world.specs.TwoRuns.{AreMoments, HasCleanCaches, HasCleanDigests, HasFewMoreDigests, HasHonestLists, admits, is_hostile, refused_for_memory, without_hostile}
+use Rattle.broadcast_world.specs.World.{Log, NodeEvent, NodeHistory, AreAnswered, IsAnswer, accepted, at, event_of, history, history_with, node, packets}
+use Rattle.broadcast_world.specs.TwoRuns.{HasCleanCaches, HasCleanDigests, HasFewMoreDigests, HasHonestLists, admits, is_hostile, refused_for_memory}
 use Rattle.broadcast_world.specs.declared.step.Step.{Step}
 use Rattle.broadcast_world.specs.declared.step.Step.TheVariants.{Peers, Broadcast, Subscribe, Get, Cleanup, Deliver, Hostile}
 use Rattle.broadcast_world.specs.declared.step.WorldAnswer.{WorldAnswer}
@@ -32,7 +31,7 @@ use Rattle.broadcast_world.specs.SameAnswers.{AddsHostileAnswers, HasCleanGets, 
 use Rattle.broadcast_world.proofs.Origins.{Came, accepted-is, event-is, history-came}
 use Rattle.broadcast_world.proofs.Merging.{both, message-same, all, kept, attacked, all-append, kept-append, listed-added, listed-kept}
 use Rattle.broadcast_world.proofs.Answering.{IsIn, asking, all-reverse, attacked-reverse, in-all, in-left, in-reverse, in-right, is-some, is_some-map, kept-reverse, message-for, message_of, reply-added, reply-for, reply-kept, waits-kept}
-use Rattle.broadcast_world.proofs.Honest.{HasCleanCaches-from, HasCleanDigests-from, HasFewMoreDigests-from, HasHonestLists-from, Items, KeysApart, answered-last, history-append, hostile, hostile-alike, packets-at, same-after, same-at, until, until_clean}
+use Rattle.broadcast_world.proofs.Honest.{HasCleanCaches-from, HasCleanDigests-from, HasFewMoreDigests-from, HasHonestLists-from, Items, KeysApart, answered-last, before, history-append, hostile, hostile-alike, none-refused, packets-at, same-after, same-at, until, until_clean}
 
 equal : (o : Ordering) → is_eq o ≡ true → o ≡ Equal
 equal Less h = absurd (let no = h in cc)
@@ -176,6 +175,17 @@ module _ {P : Type 0} (cmp : P → P → Ordering) (total : IsTotalOrder cmp) (w
       → a ≡ Given (answer.Got (message (at cmp w n) d (get t d ∷ history cmp w n log)))
   got t d e a log is may none = given-get t d a log none (subst (λ o. IsAnswer cmp w o a log) is may)
 
+-- all that is promised of two runs, at their logs
+pub record Laws {P : Type 0} (cmp : P → P → Ordering) (w : Scene P) (log clean_log : Log P) : Type 0 where
+  pub honest_lists : HasHonestLists cmp w log clean_log
+  pub clean_digests : HasCleanDigests cmp w log clean_log
+  pub few_more_digests : HasFewMoreDigests cmp w log clean_log
+  pub clean_caches : HasCleanCaches cmp w log clean_log
+  pub clean_gets : HasCleanGets cmp w log clean_log
+  pub answers_kept : KeepsAnswers cmp w log clean_log
+  pub waits_in_both : WaitsInBoth cmp w log clean_log
+  pub added_answers : AddsHostileAnswers cmp w log clean_log
+
 module _ {P : Type 0} (cmp : P → P → Ordering) (total : IsTotalOrder cmp) (w : Scene P) (keys_apart : KeysApart cmp w)
     (log clean_log : Log P) (may : AreAnswered cmp w log []) (may_clean : AreAnswered cmp w clean_log []) where
   KeepsAnswers-from : KeepsAnswers cmp w log clean_log
@@ -203,22 +213,6 @@ module _ {P : Type 0} (cmp : P → P → Ordering) (total : IsTotalOrder cmp) (w
       let both = waits-both cmp total w n e xs.items ys.items (rw (xs.first, ys.now) waits) in
       ap (λ es. waits_from cmp w n e es (reverse (happened cmp w n newer_clean clean))) (sym xs.second) ∙ ap (λ es. waits_from cmp w n e (kept xs.items) (reverse es)) (sym ys.kept) ∙ both
 
-  -- moments correspond one step before too
-  before : (x y : Step P × WorldAnswer) (now clean : Log P) → is_hostile x.0 ≡ false → AreMoments log clean_log (x ∷ now) (y ∷ clean) → (y.0 ≡ x.0) × AreMoments log clean_log now clean
-  before x y now clean h are =
-      let steps : y.0 ∷ map (λ z. z.0) clean ≡ x.0 ∷ without_hostile (map (λ z. z.0) now) = rw h at are.same_steps in
-      let first : y.0 ≡ x.0 = cc in
-      let rest : map (λ z. z.0) clean ≡ without_hostile (map (λ z. z.0) now) = cc in (
-        first,
-        record {
-          reached = (are.reached.0 ++ x ∷ [], are.reached.1 ∙ sym (append_assoc are.reached.0 (x ∷ []) now));
-          clean_reached = (are.clean_reached.0 ++ y ∷ [], are.clean_reached.1 ∙ sym (append_assoc are.clean_reached.0 (y ∷ []) clean));
-          same_steps = rest;
-          unrefused = (or_false (refused_for_memory x.1) (list_any (λ z. refused_for_memory z.1) now) are.unrefused).1;
-          unrefused_clean = (or_false (refused_for_memory y.1) (list_any (λ z. refused_for_memory z.1) clean) are.unrefused_clean).1;
-        },
-      )
-
   -- a get is no hostile step
   get-honest : (n : P) (t : ℕ) (d : List ℕ) (step : Step P) (sent : List (Packet P)) → event_of cmp w step sent ≡ Some (n, event.Get t d) → is_hostile step ≡ false
   get-honest n t d (Hostile from to bytes) sent h = by_test (list_any (eq_by_cmp cmp from) w.hostile)
@@ -239,15 +233,15 @@ module _ {P : Type 0} (cmp : P → P → Ordering) (total : IsTotalOrder cmp) (w
   HasCleanGets-from : HasCleanGets cmp w log clean_log
   HasCleanGets-from = λ x y now clean are n t d is admitted.
       let event = accepted-is cmp total w x.1 (event_of cmp w x.0 (packets cmp w now)) (n, event.Get t d) is in
-      let prior = before x y now clean (get-honest n t d x.0 (packets cmp w now) event) are in
+      let prior = before x y (get-honest n t d x.0 (packets cmp w now) event) are in
       let sent = packets-at cmp total w keys_apart log clean_log may may_clean now clean prior.1 in
       let event_clean = ap (λ s. event_of cmp w s (packets cmp w clean)) prior.0 ∙ ap (event_of cmp w x.0) (sym sent) ∙ event in
       let it = same-at cmp total w keys_apart log clean_log may may_clean now clean prior.1 n in
       let none = admits-older n t d (accepted cmp w x now) (history cmp w n now) is admitted in
       let same = message-same ℕ ℕ (at cmp w n) (hostile cmp total w) (hostile-alike cmp total w) d (both (get t d) tt ∷ it.items) (ap (list_any (admits cmp w)) it.first ∙ none) in
-      got cmp total w n t d (event_of cmp w x.0 (packets cmp w now)) x.1 now event (answered-last cmp total w x now (until cmp total w keys_apart log clean_log may may_clean (x ∷ now) are.reached)) (or_false (refused_for_memory x.1) (list_any (λ z. refused_for_memory z.1) now) are.unrefused).0
+      got cmp total w n t d (event_of cmp w x.0 (packets cmp w now)) x.1 now event (answered-last cmp total w x now (until cmp total w keys_apart log clean_log may may_clean (x ∷ now) are.reached)) (none-refused x now are.unrefused).0
       ∙ ap (λ m. Given (answer.Got m)) (ap (λ es. message (at cmp w n) d (get t d ∷ es)) (sym it.first) ∙ same ∙ ap (λ es. message (at cmp w n) d (get t d ∷ es)) it.second)
-      ∙ sym (got cmp total w n t d (event_of cmp w y.0 (packets cmp w clean)) y.1 clean event_clean (answered-last cmp total w y clean (until_clean cmp total w keys_apart log clean_log may may_clean (y ∷ clean) are.clean_reached)) (or_false (refused_for_memory y.1) (list_any (λ z. refused_for_memory z.1) clean) are.unrefused_clean).0)
+      ∙ sym (got cmp total w n t d (event_of cmp w y.0 (packets cmp w clean)) y.1 clean event_clean (answered-last cmp total w y clean (until_clean cmp total w keys_apart log clean_log may may_clean (y ∷ clean) are.clean_reached)) (none-refused y clean are.unrefused_clean).0)
 
   AddsHostileAnswers-from : AddsHostileAnswers cmp w log clean_log
   AddsHostileAnswers-from = λ n e asked newer clean newer_clean is a some none.
@@ -258,34 +252,14 @@ module _ {P : Type 0} (cmp : P → P → Ordering) (total : IsTotalOrder cmp) (w
       (λ u. rw (ys.handed (asked_for e) u) refl)
       (λ u. ap (λ b. list_any (λ x. hands cmp w n (asked_for e) x.0) newer || b) (xs.handed (asked_for e) (rw u at either)) ∙ or_right (list_any (λ x. hands cmp w n (asked_for e) x.0) newer))
 
--- all that is promised of two runs, at their logs
-pub record Laws {P : Type 0} (cmp : P → P → Ordering) (w : Scene P) (log clean_log : Log P) : Type 0 where
-  pub honest_lists : HasHonestLists cmp w log clean_log
-  pub clean_digests : HasCleanDigests cmp w log clean_log
-  pub few_more_digests : HasFewMoreDigests cmp w log clean_log
-  pub clean_caches : HasCleanCaches cmp w log clean_log
-  pub clean_gets : HasCleanGets cmp w log clean_log
-  pub answers_kept : KeepsAnswers cmp w log clean_log
-  pub waits_in_both : WaitsInBoth cmp w log clean_log
-  pub added_answers : AddsHostileAnswers cmp w log clean_log
-
-pub Laws-from : {P : Type 0} (cmp : P → P → Ordering) (total : IsTotalOrder cmp) (steps clean_steps : List (Step P)) (answers clean_answers : List WorldAnswer) (old new clean_old clean_new : State P)
-    → TakesSteps cmp [] steps answers old new → TakesSteps cmp [] clean_steps clean_answers clean_old clean_new → clean_old.scene ≡ old.scene → KeysApart cmp old.scene
-    → Laws cmp new.scene (log_of steps answers) (log_of clean_steps clean_answers)
-Laws-from cmp total steps clean_steps answers clean_answers old new clean_old clean_new with without is apart =
-    let log = log_of steps answers in
-    let clean_log = log_of clean_steps clean_answers in
-    let scene = is ∙ sym with.scene in
-    let may : AreAnswered cmp new.scene log [] = subst (λ w. AreAnswered cmp w log []) (sym with.scene) with.answered in
-    let may_clean : AreAnswered cmp new.scene clean_log [] = subst (λ w. AreAnswered cmp w clean_log []) scene without.answered in
-    let keys_apart = subst (λ w. KeysApart cmp w) (sym with.scene) apart in
-    record {
-      honest_lists = HasHonestLists-from cmp total new.scene keys_apart log clean_log may may_clean;
-      clean_digests = HasCleanDigests-from cmp total new.scene keys_apart log clean_log may may_clean;
-      few_more_digests = HasFewMoreDigests-from cmp total new.scene keys_apart log clean_log may may_clean;
-      clean_caches = HasCleanCaches-from cmp total new.scene keys_apart log clean_log may may_clean;
-      clean_gets = HasCleanGets-from cmp total new.scene keys_apart log clean_log may may_clean;
-      answers_kept = KeepsAnswers-from cmp total new.scene keys_apart log clean_log may may_clean;
-      waits_in_both = WaitsInBoth-from cmp total new.scene keys_apart log clean_log may may_clean;
-      added_answers = AddsHostileAnswers-from cmp total new.scene keys_apart log clean_log may may_clean;
-    }
+  pub Laws-from : Laws cmp w log clean_log
+  Laws-from = record {
+    honest_lists = HasHonestLists-from cmp total w keys_apart log clean_log may may_clean;
+    clean_digests = HasCleanDigests-from cmp total w keys_apart log clean_log may may_clean;
+    few_more_digests = HasFewMoreDigests-from cmp total w keys_apart log clean_log may may_clean;
+    clean_caches = HasCleanCaches-from cmp total w keys_apart log clean_log may may_clean;
+    clean_gets = HasCleanGets-from;
+    answers_kept = KeepsAnswers-from;
+    waits_in_both = WaitsInBoth-from;
+    added_answers = AddsHostileAnswers-from;
+  }

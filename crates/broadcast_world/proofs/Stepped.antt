@@ -48,19 +48,19 @@ module _ {P : Type 0} (cmp : P → P → Ordering) (w : Scene P) where
 
     -- a step that gives a node an event, or gives none
     pub TakesStep-at : (log : Log P) (step : Step P) (answer : WorldAnswer) (e : Option (P × NodeEvent P))
-        (old_cores new_cores : List (NodeContent P)) (old_packets new_packets : List (Packet P))
+        {old_cores new_cores : List (NodeContent P)} {old_packets new_packets : List (Packet P)}
         → event_of cmp w step (packets cmp w log) ≡ e
         → AtNode cmp w e old_cores new_cores answer
         → AreCopies cmp new_packets (packets cmp w log ++ made_by cmp w (unless_refused cmp w answer (event_of cmp w step (packets cmp w log))))
         → HasWorld cmp log (record { scene = w; cores = old_cores; packets = old_packets })
         → TakesStep cmp log step answer (record { scene = w; cores = old_cores; packets = old_packets }) (record { scene = w; cores = new_cores; packets = new_packets })
-    TakesStep-at log step answer None old_cores new_cores old_packets new_packets is done made has =
+    TakesStep-at log step answer None is done made has =
         record {
           scene = refl;
           answered = rw is done.0;
           world = record { cores = rw (done.0, is, done.1) has.cores; packets = made };
         }
-    TakesStep-at log step answer (Some e) old_cores new_cores old_packets new_packets is done made has =
+    TakesStep-at log step answer (Some e) {old_cores} {new_cores} is done made has =
         let was = AllZip-at (λ q core. HasNode cmp w q (history cmp w q log) core) w.nodes old_cores done.2.place e.0 done.2.before has.cores done.2.is_node done.2.was in
         let now = done.2.follows (history cmp w e.0 log) was in
         record {

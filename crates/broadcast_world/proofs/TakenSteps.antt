@@ -21,10 +21,10 @@ module _ {P : Type 0} (cmp : P → P → Ordering) where
   log_of-push steps answers step a h = ap (λ zs. reverse zs) (zip-push steps answers step a h) ∙ reverse-append (zip steps answers) ((step, a) ∷ [])
 
   -- one step more
-  pub TakesSteps-push : (log : Log P) (steps : List (Step P)) (answers : List WorldAnswer) (step : Step P) (a : WorldAnswer) (old now new : State P)
+  pub TakesSteps-push : {log : Log P} {steps : List (Step P)} {answers : List WorldAnswer} {step : Step P} {a : WorldAnswer} {old now new : State P}
       → TakesSteps cmp log steps answers old now → ((past : Log P) → HasWorld cmp past now → TakesStep cmp past step a now new)
       → TakesSteps cmp log (steps ++ step ∷ []) (answers ++ a ∷ []) old new
-  TakesSteps-push log steps answers step a old now new before next =
+  TakesSteps-push {log} {steps} {answers} {step} {a} {old} {now} {new} before next =
       let taken = next (log_of steps answers ++ log) before.world in
       let more : log_of (steps ++ step ∷ []) (answers ++ a ∷ []) ≡ (step, a) ∷ log_of steps answers = log_of-push steps answers step a before.one_each in
       let given : MayAnswer cmp old.scene (step, a) (log_of steps answers ++ log) = subst (λ w. MayAnswer cmp w (step, a) (log_of steps answers ++ log)) before.scene taken.answered in
@@ -36,10 +36,10 @@ module _ {P : Type 0} (cmp : P → P → Ordering) where
       }
 
   -- the step at the next place
-  pub TakesSteps-next : (log : Log P) (all : List (Step P)) (i : ℕ) (answers others : List WorldAnswer) (step : Step P) (a : WorldAnswer) (old now new : State P)
+  pub TakesSteps-next : {log : Log P} (all : List (Step P)) (i : ℕ) {answers others : List WorldAnswer} {step : Step P} {a : WorldAnswer} {old now new : State P}
       → i < length all → step ≡ get_or all i step → others ≡ answers ++ a ∷ []
       → TakesSteps cmp log (take i all) answers old now → ((past : Log P) → HasWorld cmp past now → TakesStep cmp past step a now new)
       → TakesSteps cmp log (take (i + 1) all) others old new
-  TakesSteps-next log all i answers others step a old now new within is pushed before next =
+  TakesSteps-next all i {step = step} within is pushed before next =
       let more : take (i + 1) all ≡ take i all ++ step ∷ [] = take_more all i step within ∙ ap (λ s. take i all ++ s ∷ []) (sym is) in
-      rw (more, pushed) (TakesSteps-push log (take i all) answers step a old now new before next)
+      rw (more, pushed) (TakesSteps-push before next)

@@ -1,4 +1,4 @@
-use Rattle.std.proofs.Common.{[], arith, refl}
+use Rattle.std.proofs.Common.{arith, refl}
 use Rattle.broadcast_core.proofs.Lawful.{same_by-lawful}
 use Rattle.broadcast_core.proofs.Running.{HasRun-none, HasRun-same}
 use Rattle.broadcast_core.proofs.runner.run.Goals as goal
@@ -12,8 +12,7 @@ run_each-requires-clause-sent_fit g c κs within = omega (arith, c.args.events.o
 pub run_each-requires-clause-none_run : goal.run_each-requires-clause-none_run
 run_each-requires-clause-none_run g c κs within =
     let lawful = same_by-lawful g.met.P.Ord.total (g.met.M.Digest.Ord g.world.𝓛 g.world.𝓜 g.world.𝓡 (λ s x. x, λ x. x, λ x. x, λ x. x)).total in
-    rw c.new-core.ensures (HasRun-same _ [] [] [] c.in_ok-answers.answers.items [] c.in_ok-sent.sent.items _ (HasRun-none _ lawful refl)
-    refl c.in_ok-answers.ensures.items c.in_ok-sent.ensures.items)
+    rw c.new-core.ensures (HasRun-same _ (HasRun-none _ lawful refl) refl c.in_ok-answers.ensures.items c.in_ok-sent.ensures.items)
 
 pub returns : goal.returns
 returns g c = rw c.new-core.ensures at c.run_each.ensures

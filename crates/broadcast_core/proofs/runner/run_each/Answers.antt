@@ -1,5 +1,4 @@
 use Rattle.std.proofs.Common.{◌≡◌, length, arith, refl, sym, ap, ◌∙◌, length-append}
-use Rattle.std.specs.Option.{option_to_list}
 use Rattle.std.specs.Vec.Iter.{into_iter_items}
 use Rattle.broadcast_core.proofs.Lawful.{same_by-lawful}
 use Rattle.broadcast_core.proofs.Running.{HasRun-same, HasRun-follows, one_come, none_left}
@@ -23,7 +22,6 @@ loop-event-preserved g c =
     let e = c.in-Some.event in
     let steps = c.in-Some.ensures.steps in
     let gives = c.into_iter-event-iterator.ensures.into_iter_gives in
-    let applied = c.apply-answer.result in
     let answers_push = c.push_reserved.ensures in
     let sent_push = c.push_sent.ensures in
     record {
@@ -31,11 +29,9 @@ loop-event-preserved g c =
       left = omega (arith, ap length steps.0, steps.1, at.invariant.left);
       answers_fit = omega (arith, answers_push.len, answers_push.capacity, ap length steps.0, at.invariant.answers_fit);
       sent_fit = omega (arith, sent_push.len, sent_push.capacity, ap length steps.0, at.invariant.sent_fit);
-      has_run = HasRun-same _ _ _ _ _ _ _ _
-          (HasRun-follows _ lawful at.yielded at.answers.items at.sent.items at.core c.apply-answer.new.core e applied.0 (option_to_list applied.1)
+      has_run = HasRun-same _ (HasRun-follows _ lawful
           (omega (arith, ap length at.invariant.rest, length-append at.yielded (into_iter_items at.event-iterator), ap length gives.0, gives.1, gives.2, c.args.events.ok))
-          at.invariant.has_run c.apply-answer.ensures.follows)
-          refl answers_push.items sent_push.items;
+          at.invariant.has_run c.apply-answer.ensures.follows) refl answers_push.items sent_push.items;
     }
 
 pub returns : goal.returns
@@ -43,4 +39,4 @@ returns g c =
     let at = c.loop-event in
     let all : at.yielded ≡ c.args.events.items =
     none_left at.yielded (into_iter_items at.event-iterator) _ (sym at.invariant.left ∙ c.in-None.ensures.steps.0) at.invariant.rest ∙ c.into_iter-event-iterator.ensures.into_iter_gives.0 in
-    HasRun-same _ _ _ _ _ _ _ _ at.invariant.has_run all c.from_vec.ensures c.from_vec-2.ensures
+    HasRun-same _ at.invariant.has_run all c.from_vec.ensures c.from_vec-2.ensures

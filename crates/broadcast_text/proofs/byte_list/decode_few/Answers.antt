@@ -15,8 +15,8 @@ loop-i-preserved c =
     record {
       found = λ h. let a : high < 16 = omega arith in
           let b : low < 16 = omega arith in
-          decode_step c.args.digits.now bytes c.loop-i.i _ high low (omega arith) (omega arith) a b (omega arith)
-          (c.digit_value-high.ensures.spelled_so a) (c.digit_value-low.ensures.spelled_so b) (c.loop-i.invariant.found (omega arith));
+          decode_step c.args.digits.now bytes c.loop-i.i _ (high, a, c.digit_value-high.ensures.spelled_so a) (low, b, c.digit_value-low.ensures.spelled_so b)
+          (omega arith) (omega arith) (omega arith) (c.loop-i.invariant.found (omega arith));
       only = λ bs fits e.
           let len : length c.args.digits.now ≡ 2 * length bs = ap length e ∙ length-encode_with lower_digits bs in
           let both = digit_found bs c.args.digits.now c.loop-i.i high low fits e (omega arith) c.digit_value-high.ensures.reads_each_digit c.digit_value-low.ensures.reads_each_digit in

@@ -23,8 +23,8 @@ loop-i-preserved c =
       found = λ before h. let a : high < 16 = omega arith in
           let b : low < 16 = omega arith in
           let byte = (high * 16 % 256 + low) % 256 in
-          rw more at (decode_step digits c.loop-i.bytes at byte high low (omega arith) (omega arith) a b (omega arith)
-          (reads_high.spelled_so a) (reads_low.spelled_so b) (c.loop-i.invariant.found before (omega arith)));
+          rw more at (decode_step digits c.loop-i.bytes at byte (high, a, reads_high.spelled_so a) (low, b, reads_low.spelled_so b)
+          (omega arith) (omega arith) (omega arith) (c.loop-i.invariant.found before (omega arith)));
       only = λ bs fits e.
           let len : length digits ≡ 2 * length bs = ap length e ∙ length-encode_with lower_digits bs in
           let both = digit_found bs digits at high low fits e (omega arith) reads_high.reads_each_digit reads_low.reads_each_digit in

@@ -29,7 +29,7 @@ loop-digest-init c = ap (map (λ m. m.now.content)) c.in_ok-messages.ensures.ite
 pub loop-digest-preserved : goal.loop-digest-preserved
 loop-digest-preserved c =
     let content = content_there c.get.result c.unwrap.result _ c.inner.result c.unwrap.ensures c.get.ensures.message c.inner.ensures in
-    shown_more (shown c.args.core.now) _ c.loop-digest.digest-index c.digest-item.result _ _ c.inner.result c.loop-digest-test.true c.in_ok-push.ensures.items c.loop-digest.invariant (content ∙ ap (shown c.args.core.now) c.digest-item.is)
+    shown_more (shown c.args.core.now) _ c.loop-digest.digest-index c.digest-item.result _ c.inner.result c.loop-digest-test.true c.in_ok-push.ensures.items c.loop-digest.invariant (content ∙ ap (shown c.args.core.now) c.digest-item.is)
 
 pub returns : goal.returns
 returns c =

@@ -10,8 +10,8 @@ pub loop-node-preserved : goal.loop-node-preserved
 loop-node-preserved g c = λ w.
     let laws = eq_by_cmp_equiv g.met.P.Ord.total in
     let copies = g.met.P.PublicKey.copies in
-    packets-push g.P.Ord.cmp w c.args.sender.now c.args.nodes.now c.loop-node.node-index c.node-item.result _ _ c.in_ok-encoded.encoded.value.bytes _ c.loop-node.packets.items c.push.new.self.items
-    c.loop-node-test.true (c.loop-node.invariant w) c.in_ok-push.ensures.items c.node-item.is (laws.symm _ _ ∙ copies _ _ c.in_ok-clone.ensures.cases) (laws.symm _ _ ∙ copies _ _ c.in_ok-clone-2.ensures.cases) (ap (λ e. e.bytes) c.in_ok-try_clone.ensures)
+    rw c.in_ok-push.ensures.items (packets-push g.P.Ord.cmp w c.args.sender.now c.in_ok-encoded.encoded.value.bytes c.args.nodes.now c.loop-node.node-index c.loop-node.packets.items _ c.loop-node-test.true c.node-item.is (c.loop-node.invariant w)
+    ((laws.symm _ _ ∙ copies _ _ c.in_ok-clone.ensures.cases, laws.symm _ _ ∙ copies _ _ c.in_ok-clone-2.ensures.cases, ap (λ e. e.bytes) c.in_ok-try_clone.ensures), tt))
 
 pub returns : goal.returns
 returns g c = λ w to is.

@@ -11,8 +11,7 @@ loop-step-preserved g c =
     let at = c.loop-step in
     record {
       room = omega (arith, c.push_reserved.ensures.len, c.push_reserved.ensures.capacity, at.invariant.room, c.loop-step-test.true);
-      taken = λ log has. TakesSteps-next g.P.Ord.cmp log c.args.steps.now at.step-index at.answers.items c.push_reserved.new.self.items c.step-item.result c.take.result c.args.world.now at.world c.take.new.self
-          c.loop-step-test.true c.step-item.is c.push_reserved.ensures.items (at.invariant.taken log has) (λ past now. c.take.ensures past now);
+      taken = λ log has. TakesSteps-next g.P.Ord.cmp c.args.steps.now at.step-index c.loop-step-test.true c.step-item.is c.push_reserved.ensures.items (at.invariant.taken log has) c.take.ensures;
     }
 
 pub returns-clause-ok : goal.returns-clause-ok

@@ -1,10 +1,10 @@
-use Rattle.std.proofs.Common.{◌≡◌, [], sym, ap, ◌∙◌}
+use Rattle.std.proofs.Common.{◌≡◌, [], sym, ap, ◌∙◌, subst}
 use Rattle.std.specs.List.{list_any}
 use Rattle.std.specs.Ordering.{eq_by_cmp}
 use Rattle.broadcast_world.specs.TwoRuns.{without_hostile}
 use Rattle.broadcast_world.proofs.Honest.{IsRun-from}
 use Rattle.broadcast_world.proofs.Origins.{HasOrigins-from}
-use Rattle.broadcast_world.specs.World.{log_of}
+use Rattle.broadcast_world.specs.World.{log_of, AreAnswered}
 use Rattle.broadcast_world.proofs.Requests.{Laws, Laws-from}
 use Rattle.broadcast_world.proofs.two_runs.compare.Given as given
 use Rattle.broadcast_world.proofs.two_runs.compare.Goals as goal
@@ -55,10 +55,8 @@ returns-clause-clean_origins g c =
 laws : (g : given.Over) (c : goal.In_ok-both g)
     → Laws g.P.Ord.cmp c.in_ok-both.both.with_world.scene (log_of c.args.steps.now c.in_ok-both.both.with_log.answers) (log_of (without_hostile c.args.steps.now) c.in_ok-both.both.without_log.answers)
 laws g c =
-    Laws-from g.P.Ord.cmp g.met.P.Ord.total
-    c.args.steps.now (without_hostile c.args.steps.now) c.in_ok-both.both.with_log.answers c.in_ok-both.both.without_log.answers _ _ _ _
-    (c.in_ok-both.ensures.with_run [] c.in_ok-with_world.ensures.empty) (c.in_ok-both.ensures.without_run [] c.in_ok-without_world.ensures.empty)
-    c.in_ok-without_world.ensures.scene c.in_ok-with_world.ensures.apart
+    Laws-from g.P.Ord.cmp g.met.P.Ord.total c.in_ok-both.both.with_world.scene (returns-clause-apart g c) _ _ (returns-clause-with_run g c).answered
+    (subst (λ w. AreAnswered g.P.Ord.cmp w (log_of (without_hostile c.args.steps.now) c.in_ok-both.both.without_log.answers) []) (returns-clause-same_scene g c) (returns-clause-without_run g c).answered)
 
 pub returns-clause-honest_lists : goal.returns-clause-honest_lists
 returns-clause-honest_lists g c = (laws g c).honest_lists

@@ -17,7 +17,7 @@ loop-step-preserved g c =
       taken = λ log has.
           subst (λ steps. TakesSteps cmp log steps c.push_reserved.new.self.items c.args.world.now c.take.new.self) (sym more)
           (subst (λ answers. TakesSteps cmp log (before ++ step.now ∷ []) answers c.args.world.now c.take.new.self) (sym c.push_reserved.ensures.items)
-          (TakesSteps-push cmp log before at.answers.items step.now c.take.result c.args.world.now at.world c.take.new.self (at.invariant.taken log has) (λ past now. c.take.ensures past now)));
+          (TakesSteps-push cmp (at.invariant.taken log has) c.take.ensures));
     }
 
 pub returns : goal.returns

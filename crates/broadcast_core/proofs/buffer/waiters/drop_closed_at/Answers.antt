@@ -1,8 +1,8 @@
 use Rattle.std.proofs.Common.{◌≡◌, ◌+◌, None, Some, length, refl, sym, arith}
 use Rattle.std.specs.Ordering.{eq_by_cmp}
 use Rattle.broadcast_core.specs.Waiters.{waiting_in}
-use Rattle.broadcast_core.proofs.WaitersLemmas.{AreAwaited-written, AreAwaited-updated, length-DropsClosed}
-use Rattle.broadcast_core.proofs.Cleaning.{lookup-removed, none-left}
+use Rattle.broadcast_core.proofs.WaitersLemmas.{AreAwaited-written, AreAwaited-updated, length-DropsClosed, lists-updated}
+use Rattle.broadcast_core.proofs.Cleaning.{lists-emptied, lookup-removed}
 use Rattle.broadcast_core.proofs.CleaningAt.{closed-at, waiting-set, waiting-removed}
 use Rattle.broadcast_core.proofs.buffer.waiters.drop_closed_at.Goals as goal
 use Rattle.broadcast_core.proofs.buffer.waiters.drop_closed_at.Goals.{then-left-eq0+in-Some-1, then-left-eq0+in-None-1, else-left-eq0}
@@ -36,11 +36,11 @@ returns-clause-lists g c =
     let at = (written.3 (rw was refl)).0 in
     let answers = g.W.Closable.may_answer in
     elim c.if-left-eq0.branch [
-      | then-left-eq0+in-Some-1 w ↦ rw w.by_digest-is (closed-at g.met.D.Ord.total answers d c.in-Some.waiters.now c.retain_open.new.waiters es w.remove.new.self.entries None was c.retain_open.ensures
-          (none-left c.retain_open.new.waiters (omega (arith, c.len-left.ensures, w.if-left-eq0.true))) (lookup-removed R d c.retain_open.new.waiters es mid w.remove.new.self.entries at w.remove.ensures.updates.0))
-      | then-left-eq0+in-None-1 w ↦ rw w.by_digest-is (closed-at g.met.D.Ord.total answers d c.in-Some.waiters.now c.retain_open.new.waiters es w.remove.new.self.entries None was c.retain_open.ensures
-          (none-left c.retain_open.new.waiters (omega (arith, c.len-left.ensures, w.if-left-eq0.true))) (lookup-removed R d c.retain_open.new.waiters es mid w.remove.new.self.entries at w.remove.ensures.updates.0))
-      | else-left-eq0 w ↦ rw w.by_digest-is (closed-at g.met.D.Ord.total answers d c.in-Some.waiters.now c.retain_open.new.waiters es mid (Some c.retain_open.new.waiters) was c.retain_open.ensures refl at)
+      | then-left-eq0+in-Some-1 w ↦ rw w.by_digest-is (closed-at g.met.D.Ord.total answers d c.retain_open.new.waiters es w.remove.new.self.entries was c.retain_open.ensures
+          (lists-emptied g.met.D.Ord.total d c.retain_open.new.waiters es w.remove.new.self.entries (omega (arith, c.len-left.ensures, w.if-left-eq0.true)) (lookup-removed R d c.retain_open.new.waiters es mid w.remove.new.self.entries at w.remove.ensures.updates.0)))
+      | then-left-eq0+in-None-1 w ↦ rw w.by_digest-is (closed-at g.met.D.Ord.total answers d c.retain_open.new.waiters es w.remove.new.self.entries was c.retain_open.ensures
+          (lists-emptied g.met.D.Ord.total d c.retain_open.new.waiters es w.remove.new.self.entries (omega (arith, c.len-left.ensures, w.if-left-eq0.true)) (lookup-removed R d c.retain_open.new.waiters es mid w.remove.new.self.entries at w.remove.ensures.updates.0)))
+      | else-left-eq0 w ↦ rw w.by_digest-is (closed-at g.met.D.Ord.total answers d c.retain_open.new.waiters es mid was c.retain_open.ensures (lists-updated g.met.D.Ord.total d (Some c.retain_open.new.waiters) es mid at))
     ]
 
 pub returns-clause-removed : goal.returns-clause-removed

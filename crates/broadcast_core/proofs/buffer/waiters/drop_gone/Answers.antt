@@ -3,8 +3,8 @@ use Rattle.std.specs.Prelude.{unwrap_or}
 use Rattle.std.specs.List.{count_by}
 use Rattle.std.specs.Ordering.{eq_by_cmp}
 use Rattle.broadcast_core.specs.Waiters.{is_gone}
-use Rattle.broadcast_core.proofs.WaitersLemmas.{AreAwaited-written, AreAwaited-updated, length-filter_not}
-use Rattle.broadcast_core.proofs.Cleaning.{passing, passing-set, passing-removed, lists-dropped, lookup-removed, none-left}
+use Rattle.broadcast_core.proofs.WaitersLemmas.{AreAwaited-written, AreAwaited-updated, length-filter_not, lists-updated}
+use Rattle.broadcast_core.proofs.Cleaning.{passing, passing-set, passing-removed, lists-dropped, lists-emptied, lookup-removed}
 use Rattle.broadcast_core.proofs.buffer.waiters.drop_gone.Goals as goal
 use Rattle.broadcast_core.proofs.buffer.waiters.drop_gone.Goals.{then-left-eq0+in-Some-1, then-left-eq0+in-None-1, else-left-eq0}
 
@@ -37,11 +37,11 @@ returns-clause-lists g c =
     let at = (written.3 (rw was refl)).0 in
     let test = is_gone g.W.Ticketed.ticket_of c.args.gone.now in
     elim c.if-left-eq0.branch [
-      | then-left-eq0+in-Some-1 w ↦ rw w.by_digest-is (lists-dropped g.met.D.Ord.total test d c.in-Some.waiters.now c.retain_waiting.new.waiters es w.remove.new.self.entries None was c.retain_waiting.ensures
-          (none-left c.retain_waiting.new.waiters (omega (arith, c.len-left.ensures, w.if-left-eq0.true))) (lookup-removed R d c.retain_waiting.new.waiters es mid w.remove.new.self.entries at w.remove.ensures.updates.0))
-      | then-left-eq0+in-None-1 w ↦ rw w.by_digest-is (lists-dropped g.met.D.Ord.total test d c.in-Some.waiters.now c.retain_waiting.new.waiters es w.remove.new.self.entries None was c.retain_waiting.ensures
-          (none-left c.retain_waiting.new.waiters (omega (arith, c.len-left.ensures, w.if-left-eq0.true))) (lookup-removed R d c.retain_waiting.new.waiters es mid w.remove.new.self.entries at w.remove.ensures.updates.0))
-      | else-left-eq0 w ↦ rw w.by_digest-is (lists-dropped g.met.D.Ord.total test d c.in-Some.waiters.now c.retain_waiting.new.waiters es mid (Some c.retain_waiting.new.waiters) was c.retain_waiting.ensures refl at)
+      | then-left-eq0+in-Some-1 w ↦ rw w.by_digest-is (lists-dropped g.met.D.Ord.total test d es w.remove.new.self.entries was c.retain_waiting.ensures
+          (lists-emptied g.met.D.Ord.total d c.retain_waiting.new.waiters es w.remove.new.self.entries (omega (arith, c.len-left.ensures, w.if-left-eq0.true)) (lookup-removed R d c.retain_waiting.new.waiters es mid w.remove.new.self.entries at w.remove.ensures.updates.0)))
+      | then-left-eq0+in-None-1 w ↦ rw w.by_digest-is (lists-dropped g.met.D.Ord.total test d es w.remove.new.self.entries was c.retain_waiting.ensures
+          (lists-emptied g.met.D.Ord.total d c.retain_waiting.new.waiters es w.remove.new.self.entries (omega (arith, c.len-left.ensures, w.if-left-eq0.true)) (lookup-removed R d c.retain_waiting.new.waiters es mid w.remove.new.self.entries at w.remove.ensures.updates.0)))
+      | else-left-eq0 w ↦ rw w.by_digest-is (lists-dropped g.met.D.Ord.total test d es mid was c.retain_waiting.ensures (lists-updated g.met.D.Ord.total d (Some c.retain_waiting.new.waiters) es mid at))
     ]
 
 pub returns-clause-dropped : goal.returns-clause-dropped

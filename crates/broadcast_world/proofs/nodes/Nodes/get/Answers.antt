@@ -1,6 +1,4 @@
 use Rattle.std.proofs.Common.{arith}
-use Rattle.broadcast_core.specs.declared.event.Event.TheVariants as event
-use Rattle.broadcast_world.specs.World.{node}
 use Rattle.broadcast_world.proofs.OneNode.{AtNode-kept, AtNode-none}
 use Rattle.broadcast_world.proofs.Places.{read_at}
 use Rattle.broadcast_world.proofs.nodes.Nodes.get.Goals as goal
@@ -17,5 +15,4 @@ returns g c = λ w is.
     let x = c.in-Some.ensures.node.0 in
     let core = c.index.result.now in
     let was = read_at cores c.in-Some.place core c.in-Some.ensures.core c.index.ensures in
-    AtNode-kept g.P.Ord.cmp w (node g.P.Ord.cmp w c.args.key.now) x (event.Get c.args.ticket c.args.digest.now) c.in-Some.place cores core c.get.result
-    (rw is c.in-Some.ensures.node.2) (rw is c.in-Some.ensures.node.1) was (c.get.ensures w x)
+    AtNode-kept g.P.Ord.cmp w x c.in-Some.place cores (rw is c.in-Some.ensures.node.2) (rw is c.in-Some.ensures.node.1) was (c.get.ensures w x)

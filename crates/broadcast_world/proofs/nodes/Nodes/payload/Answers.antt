@@ -1,7 +1,6 @@
 use Rattle.std.proofs.Common.{arith, sym, subst}
 use Rattle.std.specs.Prelude.{slice_set}
 use Rattle.broadcast_core.specs.declared.event.Event.TheVariants as event
-use Rattle.broadcast_world.specs.World.{node}
 use Rattle.broadcast_world.specs.Steps.{AtNode}
 use Rattle.broadcast_world.specs.declared.step.WorldAnswer.TheVariants.{Given, NoSuch}
 use Rattle.broadcast_world.proofs.OneNode.{AtNode-given, AtNode-none, event_at-equal}
@@ -22,6 +21,5 @@ returns-clause-node g c = λ w n p is ranged named from.
     let total = g.met.P.Ord.total in
     let cores = c.args.self.now.cores.items in
     subst (λ e. AtNode g.P.Ord.cmp w e cores (slice_set cores c.in-Some.place c.payload.new.core) (Given c.payload.result)) (sym (event_at-equal g.P.Ord.cmp w total n c.args.key.now (event.Payload p c.args.bytes.now) named))
-    (AtNode-given g.P.Ord.cmp w (node g.P.Ord.cmp w c.args.key.now) c.in-Some.ensures.node.0 (event.Payload p c.args.bytes.now) c.in-Some.place cores c.index_mut.result.now c.payload.new.core c.payload.result
-    (rw is c.in-Some.ensures.node.2) (rw is c.in-Some.ensures.node.1) (read_at cores c.in-Some.place c.index_mut.result.now c.in-Some.ensures.core c.index_mut.ensures.value)
+    (AtNode-given g.P.Ord.cmp w c.in-Some.ensures.node.0 c.in-Some.place cores (rw is c.in-Some.ensures.node.2) (rw is c.in-Some.ensures.node.1) (read_at cores c.in-Some.place c.index_mut.result.now c.in-Some.ensures.core c.index_mut.ensures.value)
     (c.payload.ensures w c.in-Some.ensures.node.0 p ranged from))

@@ -1,6 +1,4 @@
 use Rattle.std.proofs.Common.{arith}
-use Rattle.broadcast_core.specs.declared.event.Event.TheVariants as event
-use Rattle.broadcast_world.specs.World.{node}
 use Rattle.broadcast_world.proofs.OneNode.{AtNode-given, AtNode-none}
 use Rattle.broadcast_world.proofs.Places.{read_at}
 use Rattle.broadcast_world.proofs.nodes.Nodes.subscribe.Goals as goal
@@ -14,6 +12,5 @@ index_mut-requires g c = omega (arith, c.in-Some.ensures.core, c.args.self.now.c
 pub returns-clause-node : goal.returns-clause-node
 returns-clause-node g c = λ w is.
     let cores = c.args.self.now.cores.items in
-    AtNode-given g.P.Ord.cmp w (node g.P.Ord.cmp w c.args.key.now) c.in-Some.ensures.node.0 (event.Subscribe c.args.ticket c.args.digest.now) c.in-Some.place cores c.index_mut.result.now c.subscribe.new.core c.subscribe.result
-    (rw is c.in-Some.ensures.node.2) (rw is c.in-Some.ensures.node.1) (read_at cores c.in-Some.place c.index_mut.result.now c.in-Some.ensures.core c.index_mut.ensures.value)
+    AtNode-given g.P.Ord.cmp w c.in-Some.ensures.node.0 c.in-Some.place cores (rw is c.in-Some.ensures.node.2) (rw is c.in-Some.ensures.node.1) (read_at cores c.in-Some.place c.index_mut.result.now c.in-Some.ensures.core c.index_mut.ensures.value)
     (c.subscribe.ensures w c.in-Some.ensures.node.0)

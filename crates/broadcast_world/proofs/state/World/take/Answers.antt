@@ -19,5 +19,4 @@ returns g c = λ log has.
     subst (λ ks. TakesStep cmp log step c.apply.result c.args.self.now (record { scene = record { nodes = arc_value ks; hostile = arc_value c.self.inside.hostile; deque_size = c.self.inside.deque_size; byte_budget = c.self.inside.byte_budget; range = c.self.inside.range }; cores = c.apply.new.nodes.cores.items; packets = c.apply.new.packets.items })) (sym c.apply.ensures.keys)
     (subst (λ old. TakesStep cmp log step c.apply.result old (record { scene = w; cores = c.apply.new.nodes.cores.items; packets = c.apply.new.packets.items })) c.self.view_is
     (TakesStep-at cmp w total (subst (λ ns. IsDistinct (eq_by_cmp cmp) ns) c.deref-nodes.ensures (IsDistinct-from_sorted cmp c.deref-nodes.result.now c.as_slice-sorted.ensures.sorted)) log step c.apply.result (event_of cmp w step (packets cmp w log))
-    c.self.inside.nodes.cores.items c.apply.new.nodes.cores.items c.self.inside.packets.items c.apply.new.packets.items
     refl (c.apply.ensures.node w (packets cmp w log) refl (sym c.deref-hostile.ensures) refl was.packets) (c.apply.ensures.packets w (packets cmp w log) refl (sym c.deref-hostile.ensures) refl was.packets) was))

@@ -51,8 +51,7 @@ invariant_of-self-in_err-bytes-in-None g c =
     let order = (g.met.M.Digest.Ord g.world.𝓛 g.world.𝓜 g.world.𝓡 (λ s x. x, λ x. x, λ x. x, λ x. x)).total in
     let none = sym c.in_ok-found.ensures.found ∙ c.in-None.is in
     let quits = quits-item g.M.Digest.Ord.cmp c.in_ok-found.found.item c.args.list c.hold.new.table c.push.new.table c.in_err-bytes-in-None.ensures.err in
-    rw c.in_err-bytes-in-None.ensures.stays (Shelved-refused number_laws order c.args.list c.args.message.now c.vacant.result c.in_ok-found.found.item (names_of c.self.inside.table) (names_of c.hold.new.table) (names_of c.push.new.table)
-    c.self.inside.lists.lists (items_of c.self.inside.table) (items_of c.hold.new.table) (items_of c.push.new.table) c.self.invariant c.in_ok-found.ensures.names c.in_ok-found.ensures.item none (c.in_ok-found.ensures.held c.in-None.is) quits).0
+    rw c.in_err-bytes-in-None.ensures.stays (Shelved-refused number_laws order c.self.invariant c.in_ok-found.ensures.names c.in_ok-found.ensures.item none (c.in_ok-found.ensures.held c.in-None.is) quits).0
 
 on_err : {A E Q : Type 0} (r : Result A E) → Q → OnErr r Q
 on_err (Ok a) q = tt
@@ -63,9 +62,7 @@ returns-in_err-bytes-in-None-clause-err g c =
     let order = (g.met.M.Digest.Ord g.world.𝓛 g.world.𝓜 g.world.𝓡 (λ s x. x, λ x. x, λ x. x, λ x. x)).total in
     let none = sym c.in_ok-found.ensures.found ∙ c.in-None.is in
     let quits = quits-item g.M.Digest.Ord.cmp c.in_ok-found.found.item c.args.list c.hold.new.table c.push.new.table c.in_err-bytes-in-None.ensures.err in
-    let kept : shelved_of c.push.new.lists.lists c.push.new.table ≡ c.args.self.now = rw (c.in_err-bytes-in-None.ensures.stays, ← c.self.view_is) (Shelved-refused number_laws order c.args.list c.args.message.now c.vacant.result
-    c.in_ok-found.found.item (names_of c.self.inside.table) (names_of c.hold.new.table) (names_of c.push.new.table) c.self.inside.lists.lists (items_of c.self.inside.table) (items_of c.hold.new.table) (items_of c.push.new.table)
-    c.self.invariant c.in_ok-found.ensures.names c.in_ok-found.ensures.item none (c.in_ok-found.ensures.held c.in-None.is) quits).1 in
+    let kept : shelved_of c.push.new.lists.lists c.push.new.table ≡ c.args.self.now = rw (c.in_err-bytes-in-None.ensures.stays, ← c.self.view_is) (Shelved-refused number_laws order c.self.invariant c.in_ok-found.ensures.names c.in_ok-found.ensures.item none (c.in_ok-found.ensures.held c.in-None.is) quits).1 in
     on_err _ kept
 
 pub returns-in_err-bytes-in-None-clause-succeeds_on_duplicate : goal.returns-in_err-bytes-in-None-clause-succeeds_on_duplicate
@@ -97,8 +94,7 @@ made g c =
           let pushes = pushes-item g.M.Digest.Ord.cmp c.args.list _ c.args.size c.self.inside.lists.lists w.push.new.lists.lists c.hold.new.table w.push.new.table (subst (λ i. Pushes g.M.Digest.Ord.cmp c.args.list (i, at_charge c.in_ok-found.found.item c.args.charge) c.args.size c.self.inside.lists.lists w.push.new.lists.lists c.hold.new.table w.push.new.table)
           (sym c.vacant.ensures) w.in_ok-bytes-in-None.ensures.ok) in
           rw w.self-inside-is (Shelved-pushed same number_laws laws c.args.list c.args.message.now c.args.charge c.args.size names c.self.inside.lists.lists w.push.new.lists.lists items c.self.invariant
-          c.vacant.result c.in_ok-found.found.item (names_of c.hold.new.table) (names_of w.push.new.table) (items_of c.hold.new.table) (items_of w.push.new.table) g.M.Digest.Ord.cmp c.in_ok-found.ensures.names c.in_ok-found.ensures.item
-          none (c.in_ok-found.ensures.held w.in-None.is) c.in_ok-found.ensures.tabled.placed w.push.ensures.tabled.placed (omega (arith, fits, length-digests same.key c.args.list (named_lists names c.self.inside.lists.lists))) pushes)
+          c.in_ok-found.ensures.names c.in_ok-found.ensures.item none (c.in_ok-found.ensures.held w.in-None.is) c.in_ok-found.ensures.tabled.placed w.push.ensures.tabled.placed (omega (arith, fits, length-digests same.key c.args.list (named_lists names c.self.inside.lists.lists))) pushes)
     ]
 
 pub invariant_of-self-2 : goal.invariant_of-self-2

@@ -16,8 +16,7 @@ loop-digest-preserved g c =
     let more : take (c.loop-digest.digest-index + 1) c.args.digests.now ≡ seen ++ c.digest-item.result ∷ [] =
     take_more c.args.digests.now c.loop-digest.digest-index c.digest-item.result c.loop-digest-test.true ∙ ap (λ p. seen ++ p ∷ []) (sym c.digest-item.is) in
     rw c.saturating_add-removed.ensures (subst (λ ds. Asking o answers ds c.args.self.now c.cleanup_at.new.self (min (c.loop-digest.removed + c.cleanup_at.result) (2 ^ 64 - 1))) (sym more)
-    (Asking-step o answers seen c.digest-item.result c.args.self.now c.loop-digest.self c.cleanup_at.new.self c.loop-digest.removed c.cleanup_at.result
-    c.loop-digest.invariant c.cleanup_at.ensures.kept c.cleanup_at.ensures.removed c.cleanup_at.ensures.distinct_left))
+    (Asking-step o answers seen c.digest-item.result c.cleanup_at.new.self c.cleanup_at.result c.loop-digest.invariant c.cleanup_at.ensures.kept c.cleanup_at.ensures.removed c.cleanup_at.ensures.distinct_left))
 
 pub returns-clause-distinct : goal.returns-clause-distinct
 returns-clause-distinct g c = rw (← c.self.view_is) (digests_apart c.self.inside.by_digest.entries c.self.invariant)
