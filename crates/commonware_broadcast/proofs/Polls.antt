@@ -1,5 +1,5 @@
 -- Polls, one after another.
-use Rattle.std.proofs.Common.{◌≡◌, ℕ, zero, suc, List, [], ◌∷◌, ◌++◌, Option, None, Some, IfSome, IsSomeAnd, refl, sym, ap, ◌∙◌, subst, append_assoc, append-nil}
+use Rattle.std.proofs.Common.{◌≡◌, ℕ, zero, suc, Bool, true, false, List, [], ◌∷◌, ◌++◌, Option, None, Some, IfSome, IsSomeAnd, MatchOption, refl, sym, ap, ◌∙◌, subst, append_assoc, append-nil}
 use Rattle.futures.specs.declared.task.Poll.{Poll}
 use Rattle.engine_io.specs.declared.input.EndCause.{EndCause}
 use Rattle.engine_io.specs.declared.input.Turn.{Turn}
@@ -8,7 +8,7 @@ use Rattle.engine_io.specs.Sources.{given}
 use Rattle.commonware_broadcast.specs.EngineHistory.{end_told}
 use Rattle.commonware_broadcast.specs.EngineState.{Moment}
 use Rattle.commonware_broadcast.specs.Interfaces.{Format, Interfaces}
-use Rattle.commonware_broadcast.specs.Polls.{IsPoll, Polls, TakesPolls, ShowsPolls, RunsTo, unended}
+use Rattle.commonware_broadcast.specs.Polls.{IsPoll, Polls, TakesPolls, ShowsPolls, RunsTo, StopsAt, unended}
 
 -- a poll after others that had these turns, and what they are with its own
 pub record Next {P M D S G O J N V B Q C T : Type 0} (f : Format P M D C) (i : Interfaces P M D S G O J N V B Q) (mid new : Moment P M S O D J B Q C T N V) (turns listed : List (Turn P D)) : Type 0 where
@@ -112,11 +112,21 @@ module _ {P M D S G O J N V B Q C T W : Type 0} {f : Format P M D C} {i : Interf
       })
 
 module _ {P M D S G O J N V B Q C T W A : Type 0} (f : Format P M D C) (i : Interfaces P M D S G O J N V B Q) (seen : W → List (Turn P D) → Type 0)
-    (at : A → Moment P M S O D J B Q C T N V × W) where
+    (until_idle : Bool) (at : A → Moment P M S O D J B Q C T N V × W) where
   -- what a run gives from a moment on, it gives from one that polls took to it
-  pub RunsTo-back : (old mid : Option A) (left : Moment P M S O D J B Q C T N V × W) (cause : EndCause)
-      → IfSome old (λ p. IsSomeAnd mid (λ q. ShowsPolls f i seen (at p).0 (at q).0 (at p).1 (at q).1)) → IfSome mid (λ q. RunsTo f i seen (at q).0 (at q).1 left cause)
-      → IfSome old (λ p. RunsTo f i seen (at p).0 (at p).1 left cause)
-  RunsTo-back None mid left cause took ran = tt
-  RunsTo-back (Some p) None left cause took ran = absurd took
-  RunsTo-back (Some p) (Some q) left cause took ran = (ShowsPolls-more took ran.0, ran.1)
+  pub RunsTo-back : (old mid : Option A) (left : Moment P M S O D J B Q C T N V × W) (end : Option EndCause) → {again : Bool} → again ≡ until_idle
+      → IfSome old (λ p. IsSomeAnd mid (λ q. ShowsPolls f i seen (at p).0 (at q).0 (at p).1 (at q).1)) → IfSome mid (λ q. RunsTo f i seen again (at q).0 (at q).1 left end)
+      → IfSome old (λ p. RunsTo f i seen until_idle (at p).0 (at p).1 left end)
+  RunsTo-back None mid left end same took ran = tt
+  RunsTo-back (Some p) None left end same took ran = absurd took
+  RunsTo-back (Some p) (Some q) left end same took ran = (ShowsPolls-more took ran.0, subst (λ b. StopsAt b left.0.engine end) same ran.1)
+
+-- an engine that was to run until it is idle has no job, unless it ended
+pub stops-idle : {J : Type 0} {job : Option J} {ended : Option EndCause} (end : Option EndCause)
+    → MatchOption end ((true ≡ true) × (job ≡ None)) (λ cause. ended ≡ Some cause) → ended ≡ None → job ≡ None
+stops-idle None h lives = h.1
+stops-idle (Some cause) h lives = absurd (let no : None ≡ Some cause = sym lives ∙ h in cc)
+
+-- one that was not to has ended
+pub stops-ended : {A X : Type 0} → (false ≡ true) × X → A
+stops-ended h = absurd (let no : false ≡ true = h.0 in cc)

@@ -1,6 +1,6 @@
 -- Believed.
 -- Polls of an engine, one after another.
-use Rattle.std.specs.Prelude.{◌≡◌, ◌≤◌, ◌⊎◌, ℕ, zero, suc, List, [], ◌∷◌, ◌++◌, Option, None, Some, MatchOption}
+use Rattle.std.specs.Prelude.{◌≡◌, ◌≤◌, ◌⊎◌, ℕ, zero, suc, Bool, true, List, [], ◌∷◌, ◌++◌, Option, None, Some, MatchOption}
 use Rattle.futures.specs.Poll.{IfReady, OnPending}
 use Rattle.futures.specs.declared.task.Poll.{Poll}
 use Rattle.futures.specs.declared.task.Poll.TheVariants.{Ready}
@@ -117,6 +117,12 @@ module _ {P M D S G O J N V B Q C T : Type 0} (f : Format P M D C)
     pub caused : MatchOption failure (last.engine.end ≡ Some cause)
         (λ failed. (cause ≡ WaitFailed) × (last ≡ old))
 
+-- an engine has ended for this cause, or, if it was to run until it is idle, has no job
+abbrev pub StopsAt : {P M S O D J B Q C T : Type 0} → Bool → EngineState P M S O D J B Q C T
+    → Option EndCause → Type 0
+StopsAt until_idle engine end = MatchOption end
+    ((until_idle ≡ true) × (engine.job ≡ None)) (λ cause. engine.end ≡ Some cause)
+
 module _ {P M D S G O J N V B Q C T W : Type 0} (f : Format P M D C)
     (i : Interfaces P M D S G O J N V B Q) (seen : W → List (Turn P D) → Type 0) where
   -- some polls, one after another, whose turns were shown to the observer, but no end
@@ -126,11 +132,11 @@ module _ {P M D S G O J N V B Q C T W : Type 0} (f : Format P M D C)
     pub shown : (turns : List (Turn P D)) → seen watching turns
         → seen watched (turns ++ unended took.turns)
 
-  -- such polls, which left an engine that has ended for this cause
-  abbrev pub RunsTo : Moment P M S O D J B Q C T N V → W → Moment P M S O D J B Q C T N V × W
-      → EndCause → Type 0
-  RunsTo old watching left cause =
-      ShowsPolls old left.0 watching left.1 × (left.0.engine.end ≡ Some cause)
+  -- such polls, which left an engine that is to run no longer
+  abbrev pub RunsTo : Bool → Moment P M S O D J B Q C T N V → W → Moment P M S O D J B Q C T N V × W
+      → Option EndCause → Type 0
+  RunsTo until_idle old watching left end =
+      ShowsPolls old left.0 watching left.1 × StopsAt until_idle left.0.engine end
 
   -- an engine ran, and its observer was handed its turns, and then these
   pub record ShowsRun (old : Moment P M S O D J B Q C T N V) (cause : EndCause)

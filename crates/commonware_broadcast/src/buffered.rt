@@ -27,6 +27,6 @@ pub use engine_io::{
 };
 pub use front::{MailboxEngine, WatchedEngine, WatchedNode};
 pub use launch::{start, start_threaded};
-pub use runtime::Runtime;
+pub use runtime::{Movable, Runtime};
 pub use session::{Client, Finished, Leaves, Session, WatchedClient};
 pub use started::{Handle, MailboxReport};

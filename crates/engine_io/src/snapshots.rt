@@ -89,14 +89,17 @@ impl<P: PublicKey> Asking<P> {
         mem::replace(&mut self.callers, Vec::new(alloc))
     }
 
-    /// Takes all callers, and no other from then on.
-    fn end(&mut self, alloc: Global) -> Vec<Sender<Copied<P>>>
-        ensures all { result.items ≡ self.old.callers.items }
+    /// Takes all callers and what wakes the thread of the engine, and no caller from then on.
+    fn end(&mut self, alloc: Global) -> (Vec<Sender<Copied<P>>>, Option<Waker>)
+        ensures all { result.0.items ≡ self.old.callers.items }
         ensures none_left { self.new.callers.items ≡ [] }
+        ensures waker { result.1 ≡ self.old.waker }
+        ensures wakes_nobody { self.new.waker ≡ None }
         ensures ended { self.new.has_ended ≡ true }
     {
         self.has_ended = true;
-        mem::replace(&mut self.callers, Vec::new(alloc))
+        let callers = mem::replace(&mut self.callers, Vec::new(alloc));
+        (callers, self.waker.take())
     }
 }
 
@@ -187,8 +190,8 @@ impl<P: PublicKey> Snapshots<P> {
     /// Tells callers that the engine has ended: those who ask, and those who will.
     pub fn end(&self, rt: &impl Wait, alloc: Global) {
         self.has_ended.store(true, Ordering::SeqCst);
-        let callers = self.asking.lock(rt).end(alloc);
-        drop::<_>(callers);
+        let (callers, waker) = self.asking.lock(rt).end(alloc);
+        drop::<_>((callers, waker));
     }
 }
 

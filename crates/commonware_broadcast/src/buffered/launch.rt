@@ -2,7 +2,7 @@
 use crate::buffered::config::{Config, Observed};
 use crate::buffered::engine::{Engine, StartError, give_up};
 use crate::buffered::front::MailboxEngine;
-use crate::buffered::runtime::Runtime;
+use crate::buffered::runtime::{Movable, Runtime};
 use crate::buffered::started::Handle;
 use broadcast_core::{Codec, Digestible, PublicKey};
 use broadcast_mailbox::buffered::Mailbox;
@@ -24,11 +24,11 @@ where
     M: Digestible + Codec + Send + Sync + 'static,
     M::Digest: 'static,
     M::Cfg: Send + Drop + 'static,
-    B: Provider<P> + Send + Drop + 'static,
-    T: Strategy<M> + Send + Drop + 'static,
+    B: Provider<P> + Movable,
+    T: Strategy<M> + Movable,
     T::Job: Send + 'static,
-    N: Sender<P> + Send + Drop + 'static,
-    V: Receiver<P> + Send + Drop + 'static,
+    N: Sender<P> + Movable,
+    V: Receiver<P> + Movable,
     R: Runtime,
 {
     cfg.observed_by(()).start(rt, network)
@@ -48,10 +48,10 @@ where
     M: Digestible + Codec + Work<G, R> + Send + Sync + 'static,
     M::Digest: 'static,
     M::Cfg: Send + Drop + 'static,
-    B: Provider<P> + Send + Drop + 'static,
+    B: Provider<P> + Movable,
     G: Send + Sync + Drop + 'static,
-    N: Sender<P> + Send + Drop + 'static,
-    V: Receiver<P> + Send + Drop + 'static,
+    N: Sender<P> + Movable,
+    V: Receiver<P> + Movable,
     R: Runtime,
 {
     cfg.observed_by(()).start_threaded(rt, network)
@@ -63,10 +63,10 @@ type Started<P, M, R, W> = (Handle<P, M, R, (), W>, Mailbox<P, M, R>);
 impl<P, C, B, T, W> Observed<P, C, B, T, W>
 where
     P: PublicKey + Send + 'static,
-    C: Send + Drop + 'static,
-    B: Provider<P> + Send + Drop + 'static,
-    T: Send + Drop + 'static,
-    W: Send + Drop + 'static,
+    C: Movable,
+    B: Provider<P> + Movable,
+    T: Movable,
+    W: Movable,
 {
     /// Creates an engine and its mailbox, and starts it, as [`start`] does.
     pub fn start<M, N, V, R>(
@@ -79,8 +79,8 @@ where
         M::Digest: 'static,
         T: Strategy<M>,
         T::Job: Send + 'static,
-        N: Sender<P> + Send + Drop + 'static,
-        V: Receiver<P> + Send + Drop + 'static,
+        N: Sender<P> + Movable,
+        V: Receiver<P> + Movable,
         R: Runtime,
         W: Observer<P, M::Digest>,
     {
@@ -98,11 +98,11 @@ where
 impl<P, C, B, G, R, W> Observed<P, C, B, Threaded<G, R>, W>
 where
     P: PublicKey + Send + 'static,
-    C: Send + Drop + 'static,
-    B: Provider<P> + Send + Drop + 'static,
+    C: Movable,
+    B: Provider<P> + Movable,
     G: Send + Sync + Drop + 'static,
     R: Runtime,
-    W: Send + Drop + 'static,
+    W: Movable,
 {
     /// Creates an engine whose messages are digested on other threads, and its mailbox, and starts
     /// it, as [`start_threaded`] does.
@@ -114,8 +114,8 @@ where
     where
         M: Digestible + Codec<Cfg = C> + Work<G, R> + Send + Sync + 'static,
         M::Digest: 'static,
-        N: Sender<P> + Send + Drop + 'static,
-        V: Receiver<P> + Send + Drop + 'static,
+        N: Sender<P> + Movable,
+        V: Receiver<P> + Movable,
         W: Observer<P, M::Digest>,
     {
         let Observed { config, observer } = self;

@@ -1,4 +1,4 @@
-//! What a started node needs of its runtime.
+//! What a started node needs of its runtime, and of what moves to its thread.
 use std::alloc::AllocGlobal;
 use std::random::RandomSource;
 use std::sync::Wait;
@@ -22,3 +22,8 @@ impl<R> Runtime for R
 where
     R: Threads + Wait + Clock + RandomSource + AllocGlobal + Clone + Send + Sync + Drop + 'static,
 {}
+
+/// What may move to another thread, and be dropped there.
+pub trait Movable: Send + Drop + 'static {}
+
+impl<T: Send + Drop + 'static> Movable for T {}

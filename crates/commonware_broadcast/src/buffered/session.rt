@@ -11,7 +11,7 @@ mod threads;
 
 use crate::buffered::config::Config;
 use crate::buffered::engine::StartError;
-use crate::buffered::runtime::Runtime;
+use crate::buffered::runtime::{Movable, Runtime};
 use broadcast_core::{Codec, Digestible, PublicKey};
 use broadcast_mailbox::buffered::{Account, Settled, Watch};
 pub use client::{Client, WatchedClient};
@@ -70,9 +70,9 @@ pub struct Finished<Out, P: PublicKey, W = ()> {
 impl<P, C, B, T> Config<P, C, B, T>
 where
     P: PublicKey + Send + 'static,
-    C: Send + Drop + 'static,
-    B: Provider<P> + Send + Drop + 'static,
-    T: Send + Drop + 'static,
+    C: Movable,
+    B: Provider<P> + Movable,
+    T: Movable,
 {
     /// Runs the session with a new engine, whose network this is, and with this many clients. The
     /// first client runs on the calling thread. The engine is asked to stop once all clients have
@@ -96,10 +96,10 @@ where
         App::Output: Send + 'static,
         T: Strategy<M>,
         T::Job: Send + 'static,
-        N: Sender<P> + Send + Drop + 'static,
-        V: Receiver<P> + Send + Drop + 'static,
+        N: Sender<P> + Movable,
+        V: Receiver<P> + Movable,
         R: Runtime,
-        W: Observer<P, M::Digest> + Send + Drop + 'static,
+        W: Observer<P, M::Digest> + Movable,
         ensures accepted { IfOk result (λ finished.
             Accepts App.Output.leaves finished.outputs.items finished.accepted) }
         ensures settled { IfOk result (λ finished. AddsUp finished.accepted finished.settled) }

@@ -1,7 +1,7 @@
 //! A started engine.
 use crate::buffered::engine::{Ready, Report, StartError, give_up, spawn};
 use crate::buffered::front::MailboxEngine;
-use crate::buffered::runtime::Runtime;
+use crate::buffered::runtime::{Movable, Runtime};
 use broadcast_core::{Codec, Digestible, PublicKey};
 use broadcast_mailbox::buffered::{Answering, Bookkeeping, Incoming, Ingress, Reply, Stopper};
 use digest_strategies::{Strategy, Threaded, Work};
@@ -137,9 +137,9 @@ where
     M: Digestible + Codec + Send + Sync + 'static,
     M::Digest: 'static,
     M::Cfg: Send + Drop + 'static,
-    B: Provider<P> + Send + Drop + 'static,
+    B: Provider<P> + Movable,
     R: Runtime,
-    T: Strategy<M> + Send + Drop + 'static,
+    T: Strategy<M> + Movable,
     A: Bookkeeping + Send + 'static,
     A::Taker: Send + 'static,
 {
@@ -150,8 +150,8 @@ where
     pub fn start<N, V>(self, rt: &R, network: (N, V)) -> Result<Handle<P, M, R, A>, StartError>
     where
         T::Job: Send + 'static,
-        N: Sender<P> + Send + Drop + 'static,
-        V: Receiver<P> + Send + Drop + 'static,
+        N: Sender<P> + Movable,
+        V: Receiver<P> + Movable,
     {
         self.start_with(rt, network, ())
     }
@@ -165,9 +165,9 @@ where
     ) -> Result<Handle<P, M, R, A, W>, StartError>
     where
         T::Job: Send + 'static,
-        N: Sender<P> + Send + Drop + 'static,
-        V: Receiver<P> + Send + Drop + 'static,
-        W: Observer<P, M::Digest> + Send + Drop + 'static,
+        N: Sender<P> + Movable,
+        V: Receiver<P> + Movable,
+        W: Observer<P, M::Digest> + Movable,
     {
         match self.prepare(rt, network, observer) {
             Ok(Prepared { ready, control }) => {
@@ -253,14 +253,14 @@ where
     M: Digestible + Codec + Work<G, R> + Send + Sync + 'static,
     M::Digest: 'static,
     M::Cfg: Send + Drop + 'static,
-    B: Provider<P> + Send + Drop + 'static,
+    B: Provider<P> + Movable,
     G: Send + Sync + Drop + 'static,
-    N: Sender<P> + Send + Drop + 'static,
-    V: Receiver<P> + Send + Drop + 'static,
+    N: Sender<P> + Movable,
+    V: Receiver<P> + Movable,
     R: Runtime,
     A: Bookkeeping + Send + 'static,
     A::Taker: Send + 'static,
-    W: Observer<P, M::Digest> + Send + Drop + 'static,
+    W: Observer<P, M::Digest> + Movable,
 {
     /// Starts the engine in a thread of its own, which starts those that digest its messages. Jobs
     /// of [`Threaded`] may not move to another thread, so `Engine::start` is not for them.

@@ -1,11 +1,9 @@
 //! An engine that runs until it ends.
-ghost use Rattle.std.specs.Prelude.{◌≡◌, true, Some, None, Ok, IfSome, IsSomeAnd, IfOk, IfErr};
-ghost use Rattle.futures.specs.declared.task.Poll.TheVariants.{Ready};
+ghost use Rattle.std.specs.Prelude.{◌≡◌, IfSome, IsSomeAnd, IfOk, IfErr};
 ghost use Rattle.futures.specs.Poll.{IfReady, OnPending};
 ghost use Rattle.futures.specs.Task.{IsArmed, Keeps};
-ghost use Rattle.engine_io.specs.declared.input.EndCause.{EndCause};
 ghost use Rattle.commonware_broadcast.specs.EngineHistory.{end_told};
-ghost use Rattle.commonware_broadcast.specs.Polls.{RunsTo, ShowsPolls};
+ghost use Rattle.commonware_broadcast.specs.Polls.{RunsTo, ShowsPolls, StopsAt};
 ghost use Rattle.commonware_broadcast.specs.EngineState.{moment};
 ghost use Rattle.commonware_broadcast.specs.Interfaces.{format_of, over};
 
@@ -19,9 +17,8 @@ use engine_io::{
 };
 use futures::Future;
 use futures::future::{PollFn, poll_fn};
-use futures::task::{Context, Doorbell, Poll, Queue};
+use futures::task::{Context, Poll};
 use std::alloc::{AllocGlobal, Global};
-use std::io;
 use std::random::RandomSource;
 use std::sync::Wait;
 use std::time::Clock;
@@ -78,10 +75,7 @@ where
             W.seen (moment self.old.engine self.old.network)
             (moment self.new.engine self.new.network)
             self.old.observer self.new.observer }
-        ensures ended { (cause : EndCause) → result ≡ Ready (Some cause)
-            → self.new.engine.end ≡ Some cause }
-        ensures idle { result ≡ Ready None
-            → (until_idle ≡ true) × (self.new.engine.job ≡ None) }
+        ensures stopped { IfReady result (StopsAt until_idle self.new.engine) }
         ensures armed { OnPending result (IsArmed cx.new) }
         ensures kept { Keeps cx.old cx.new }
     {
@@ -100,60 +94,14 @@ where
         cx.yield_now()
     }
 
-    /// Runs the engine until it ends, or, if `until_idle`, until it has no job. Returns the cause
-    /// of its end, if it ended. If the thread can't wait, the engine stays as its polls left it.
-    ///
-    /// The observer is handed the turns, but not the end.
-    pub(super) fn run_turns<G, R>(
-        &mut self,
-        rt: &R,
-        snapshots: &Snapshots<P>,
-        until_idle: bool,
-    ) -> io::Result<Option<EndCause>>
-    where
-        G: Drop,
-        O: Outlet<S, G, Reply<M>, Option<Reply<M>>>,
-        Q: Requests<Message<P, M, S, G>>,
-        R: Wait + Clock + RandomSource + AllocGlobal,
-        ensures took { ShowsPolls
-            (format_of P.cmp M.Digest.cmp M.encoding M.digest_of M.reading)
-            (over S.may_answer T.Job.is_of O.Outlet N.Sender V.Receiver B.Provider Q.Requests)
-            W.seen (moment self.old.engine self.old.network)
-            (moment self.new.engine self.new.network)
-            self.old.observer self.new.observer }
-        ensures ended { (cause : EndCause) → result ≡ Ok (Some cause)
-            → self.new.engine.end ≡ Some cause }
-        ensures idle { result ≡ Ok None
-            → (until_idle ≡ true) × (self.new.engine.job ≡ None) }
-    {
-        let alloc = rt.alloc();
-        let (queue, asked) = queue_of_two(rt)?;
-        for _ in rt.forever() {
-            let Some(mut cx) = queue.next(rt) else {
-                return Err(io::Error::other("the queue of an engine was shut down"));
-            };
-            if cx.task() == asked {
-                snapshots.answer(rt, alloc, self.engine.metrics(), &mut cx);
-                cx.park();
-                continue;
-            }
-            let polled = self.poll_turns::<G>(alloc, &mut cx, until_idle);
-            cx.end(&polled);
-            if let Poll::Ready(cause) = polled {
-                return Ok(cause);
-            }
-        }
-        unreachable!()
-    }
-
-    /// Polls the engine until it ends, or until it is pending, after those who asked for its
-    /// counters were answered. The observer is handed the turns, but not the end.
+    /// Polls the engine as `poll_turns` does, after those who asked for its counters were answered.
     fn poll_asked<G, R>(
         &mut self,
         rt: &R,
         snapshots: &Snapshots<P>,
+        until_idle: bool,
         cx: &mut Context<'_>,
-    ) -> Poll<EndCause>
+    ) -> Poll<Option<EndCause>>
     where
         G: Drop,
         O: Outlet<S, G, Reply<M>, Option<Reply<M>>>,
@@ -165,15 +113,14 @@ where
             W.seen (moment self.old.engine self.old.network)
             (moment self.new.engine self.new.network)
             self.old.observer self.new.observer }
-        ensures ended { IfReady result (λ cause. self.new.engine.end ≡ Some cause) }
+        ensures stopped { IfReady result (StopsAt until_idle self.new.engine) }
         ensures armed { OnPending result (IsArmed cx.new) }
         ensures kept { Keeps cx.old cx.new }
     {
         let alloc = rt.alloc();
         snapshots.answer_asked(rt, alloc, self.engine.metrics(), cx);
-        match self.poll_turns::<G>(alloc, cx, false) {
-            Poll::Ready(Some(cause)) => Poll::Ready(cause),
-            Poll::Ready(None) => cx.yield_now(),
+        match self.poll_turns::<G>(alloc, cx, until_idle) {
+            Poll::Ready(end) => Poll::Ready(end),
             Poll::Pending => {
                 let is_asked = self.engine.requests().look(rt);
                 if is_asked {
@@ -185,23 +132,24 @@ where
         }
     }
 
-    /// Polls the engine as `poll_asked` does, and takes it once it has ended.
+    /// Polls the engine as `poll_asked` does, and takes it once a poll is ready.
     fn poll_to_end<G, R>(
         running: &mut Option<Box<Self>>,
         rt: &R,
         snapshots: &Snapshots<P>,
+        until_idle: bool,
         cx: &mut Context<'_>,
-    ) -> Poll<(Box<Self>, EndCause)>
+    ) -> Poll<(Box<Self>, Option<EndCause>)>
     where
         G: Drop,
         O: Outlet<S, G, Reply<M>, Option<Reply<M>>> + Drop,
         Q: Requests<Message<P, M, S, G>> + Drop,
         R: Wait + Clock + AllocGlobal,
-        ensures ready { IfReady result (λ end. IfSome running.old (λ old. RunsTo
+        ensures ready { IfReady result (λ left. IfSome running.old (λ old. RunsTo
             (format_of P.cmp M.Digest.cmp M.encoding M.digest_of M.reading)
             (over S.may_answer T.Job.is_of O.Outlet N.Sender V.Receiver B.Provider Q.Requests)
-            W.seen (moment old.value.engine old.value.network) old.value.observer
-            (moment end.0.value.engine end.0.value.network, end.0.value.observer) end.1)) }
+            W.seen until_idle (moment old.value.engine old.value.network) old.value.observer
+            (moment left.0.value.engine left.0.value.network, left.0.value.observer) left.1)) }
         ensures pending { OnPending result (IfSome running.old (λ old.
             IsSomeAnd running.new (λ new. ShowsPolls
             (format_of P.cmp M.Digest.cmp M.encoding M.digest_of M.reading)
@@ -215,23 +163,26 @@ where
         let Some(it) = running else {
             return cx.yield_now();
         };
-        let Poll::Ready(cause) = it.poll_asked::<G, R>(rt, snapshots, cx) else {
+        let Poll::Ready(end) = it.poll_asked::<G, R>(rt, snapshots, until_idle, cx) else {
             return Poll::Pending;
         };
         match running.take() {
-            Some(it) => Poll::Ready((it, cause)),
+            Some(it) => Poll::Ready((it, end)),
             None => cx.yield_now(),
         }
     }
 
-    /// Runs the engine until it ends, on a thread that sleeps at once while there is nothing to do.
-    /// Returns it with its network and its observer, and the cause of its end. If the thread can't
-    /// wait, no poll was taken. The observer was handed the turns, but not the end.
-    pub(super) fn run_to_end<G, R>(
+    /// Runs the engine until it ends, or, if `until_idle`, until it has no job, on a thread that
+    /// sleeps at once while there is nothing to do. Returns it with its network and its observer,
+    /// and the cause of its end, if it ended. If the thread can't wait, no poll was taken.
+    ///
+    /// The observer was handed the turns, but not the end.
+    pub(super) fn run<G, R>(
         self,
         rt: &R,
         snapshots: &Snapshots<P>,
-    ) -> (Self, Result<EndCause, CannotWait>)
+        until_idle: bool,
+    ) -> (Self, Result<Option<EndCause>, CannotWait>)
     where
         G: Drop,
         O: Outlet<S, G, Reply<M>, Option<Reply<M>>> + Drop,
@@ -242,7 +193,7 @@ where
             (over S.may_answer T.Job.is_of O.Outlet N.Sender V.Receiver B.Provider Q.Requests)
             W.seen (moment self.engine self.network) (moment result.0.engine result.0.network)
             self.observer result.0.observer }
-        ensures ended { IfOk result.1 (λ cause. result.0.engine.end ≡ Some cause) }
+        ensures stopped { IfOk result.1 (StopsAt until_idle result.0.engine) }
         ensures unchanged_on_error { IfErr result.1 (λ failure. result.0 ≡ self) }
     {
         // A poll that is pending moves no engine in a box.
@@ -251,17 +202,18 @@ where
             Err((failure, running)) => return (running, Err(failure)),
         };
         snapshots.look_again();
-        let (running, cause) = Self::run_on::<G, R>(running, seat, rt, snapshots);
-        (Box::into_inner(running), Ok(cause))
+        let (running, end) = Self::run_on::<G, R>(running, seat, rt, snapshots, until_idle);
+        (Box::into_inner(running), Ok(end))
     }
 
-    /// Runs the engine on the seat until it ends.
+    /// Runs the engine on the seat, as `run` does.
     fn run_on<G, R>(
         running: Box<Self>,
         seat: Seat,
         rt: &R,
         snapshots: &Snapshots<P>,
-    ) -> (Box<Self>, EndCause)
+        until_idle: bool,
+    ) -> (Box<Self>, Option<EndCause>)
     where
         G: Drop,
         O: Outlet<S, G, Reply<M>, Option<Reply<M>>> + Drop,
@@ -270,17 +222,19 @@ where
         ensures ran { RunsTo
             (format_of P.cmp M.Digest.cmp M.encoding M.digest_of M.reading)
             (over S.may_answer T.Job.is_of O.Outlet N.Sender V.Receiver B.Provider Q.Requests)
-            W.seen (moment running.value.engine running.value.network) running.value.observer
+            W.seen until_idle (moment running.value.engine running.value.network)
+            running.value.observer
             (moment result.0.value.engine result.0.value.network, result.0.value.observer)
             result.1 }
     {
         let mut running = Some(running);
-        let poll = move |cx: &mut Context<'_>| -> Poll<(Box<Self>, EndCause)>
-            ensures ready { IfReady result (λ end. IfSome running.entry (λ old. RunsTo
+        let poll = move |cx: &mut Context<'_>| -> Poll<(Box<Self>, Option<EndCause>)>
+            ensures ready { IfReady result (λ left. IfSome running.entry (λ old. RunsTo
                 (format_of P.cmp M.Digest.cmp M.encoding M.digest_of M.reading)
                 (over S.may_answer T.Job.is_of O.Outlet N.Sender V.Receiver B.Provider Q.Requests)
-                W.seen (moment old.value.engine old.value.network) old.value.observer
-                (moment end.0.value.engine end.0.value.network, end.0.value.observer) end.1)) }
+                W.seen until_idle (moment old.value.engine old.value.network) old.value.observer
+                (moment left.0.value.engine left.0.value.network, left.0.value.observer)
+                left.1)) }
             ensures pending { OnPending result (IfSome running.entry (λ old.
                 IsSomeAnd running.exit (λ new. ShowsPolls
                 (format_of P.cmp M.Digest.cmp M.encoding M.digest_of M.reading)
@@ -290,7 +244,7 @@ where
                 old.value.observer new.value.observer))) }
             ensures armed { OnPending result (IsArmed cx.new) }
             ensures kept { Keeps cx.old cx.new }
-        { Self::poll_to_end::<G, R>(&mut running, rt, snapshots, cx) };
+        { Self::poll_to_end::<G, R>(&mut running, rt, snapshots, until_idle, cx) };
         block_on_polls(seat, rt, poll)
     }
 }
@@ -323,18 +277,4 @@ fn end_told<P, D>(turn: &Turn<P, D>) -> Option<EndCause>
         | Turn::Invalid(_, _)
         | Turn::Refused(_, _) => None,
     }
-}
-
-/// Creates the queue of the thread of an engine. Its first task polls the engine. It also returns
-/// the number of the second, which hands the counters to those who ask for them.
-fn queue_of_two<R>(rt: &R) -> io::Result<(Queue, usize)>
-where
-    R: RandomSource + AllocGlobal,
-{
-    let queue = Queue::new(rt, Doorbell::parking())?;
-    queue.add()?.schedule();
-    let vacancy = queue.add()?;
-    let asked = vacancy.task();
-    vacancy.schedule();
-    Ok((queue, asked))
 }

@@ -1,5 +1,5 @@
 //! An engine that runs in a thread of its own: what moves there, and what the thread does.
-ghost use Rattle.std.specs.Prelude.{◌≡◌, true, List, [], ◌∷◌, ◌++◌, Some, None, IfOk, OnOk};
+ghost use Rattle.std.specs.Prelude.{◌≡◌, true, List, [], ◌∷◌, ◌++◌, Some, None, IfOk};
 ghost use Rattle.engine_io.specs.declared.input.Turn.{Turn};
 ghost use Rattle.engine_io.specs.declared.input.Turn.TheVariants as turn;
 ghost use Rattle.commonware_broadcast.specs.Parts.{joined, ready_engine};
@@ -83,13 +83,13 @@ where
             (over S.may_answer T.Job.is_of O.Outlet N.Sender V.Receiver B.Provider Q.Requests)
             (moment engine network) (moment (ready_engine ready) ready.network)) }
     {
-        let mut running = Running {
+        let running = Running {
             engine,
             network,
             observer,
         };
         match running.finish_job::<G, R>(rt, &snapshots) {
-            Ok(rt) => {
+            Ok((running, rt)) => {
                 let Running {
                     engine,
                     network,
@@ -104,7 +104,6 @@ where
                 })
             }
             Err(error) => {
-                drop::<_>(running);
                 drop::<_>(snapshots);
                 Err(error)
             }
@@ -162,31 +161,31 @@ where
     V: Receiver<P> + Drop,
     W: Observer<P, M::Digest> + Drop,
 {
-    /// Finishes the job, and returns the handle of the engine's thread. After an error the engine
+    /// Finishes the job. Returns the handle of the engine's thread, too. After an error the engine
     /// has ended.
-    fn finish_job<G, R>(&mut self, rt: &R, snapshots: &Snapshots<P>) -> Result<R, StartError>
+    fn finish_job<G, R>(self, rt: &R, snapshots: &Snapshots<P>) -> Result<(Self, R), StartError>
     where
         G: Drop,
-        O: Outlet<S, G, Reply<M>, Option<Reply<M>>>,
-        Q: Requests<Message<P, M, S, G>>,
-        R: Wait + Clock + RandomSource + AllocGlobal + Clone,
-        ensures took { OnOk result (ShowsPolls
+        O: Outlet<S, G, Reply<M>, Option<Reply<M>>> + Drop,
+        Q: Requests<Message<P, M, S, G>> + Drop,
+        R: Wait + Clock + RandomSource + AllocGlobal + Clone + Drop,
+        ensures took { IfOk result (λ left. ShowsPolls
             (format_of P.cmp M.Digest.cmp M.encoding M.digest_of M.reading)
             (over S.may_answer T.Job.is_of O.Outlet N.Sender V.Receiver B.Provider Q.Requests)
-            W.seen (moment self.old.engine self.old.network)
-            (moment self.new.engine self.new.network)
-            self.old.observer self.new.observer) }
-        ensures settled { OnOk result (self.new.engine.end ≡ None
-            → self.new.engine.job ≡ None) }
+            W.seen (moment self.engine self.network) (moment left.0.engine left.0.network)
+            self.observer left.0.observer) }
+        ensures settled { IfOk result (λ left. left.0.engine.end ≡ None
+            → left.0.engine.job ≡ None) }
     {
-        let ran = self.run_turns::<G, R>(rt, snapshots, true);
+        let (mut running, ran) = self.run::<G, R>(rt, snapshots, true);
         if ran.is_ok() {
             if let Ok(own) = rt.clone() {
-                return Ok(own);
+                return Ok((running, own));
             }
         }
-        self.engine.end::<G>(EndCause::WaitFailed);
-        tell_end(rt, EndCause::WaitFailed, &mut self.observer, snapshots);
+        running.engine.end::<G>(EndCause::WaitFailed);
+        tell_end(rt, EndCause::WaitFailed, &mut running.observer, snapshots);
+        drop::<_>(running);
         Err(StartError::Memory)
     }
 
@@ -209,15 +208,18 @@ where
             self.observer result.1 [] }
         ensures ends { result.0.end ≡ Some result.2 }
     {
-        let (running, ended) = self.run_to_end::<G, R>(rt, snapshots);
+        let (running, ran) = self.run::<G, R>(rt, snapshots, false);
         let Running {
             mut engine,
             network,
             observer,
         } = running;
         drop::<_>(network);
-        match ended {
-            Ok(cause) => (engine, observer, cause, None),
+        match ran {
+            Ok(end) => match end {
+                Some(cause) => (engine, observer, cause, None),
+                None => unreachable!(),
+            },
             Err(failure) => {
                 engine.end::<G>(EndCause::WaitFailed);
                 (engine, observer, EndCause::WaitFailed, Some(failure))

@@ -11,7 +11,7 @@ use super::{Finished, Session};
 use crate::buffered::config::{Config, Observed};
 use crate::buffered::engine::{Engine, StartError, give_up};
 use crate::buffered::front::WatchedNode;
-use crate::buffered::runtime::Runtime;
+use crate::buffered::runtime::{Movable, Runtime};
 use crate::buffered::started::{Handle, MailboxReport};
 use broadcast_core::{Codec, Digestible, PublicKey};
 use broadcast_mailbox::buffered::{Account, Bookkeeping, Books, Mailbox, Tally, Watch};
@@ -25,10 +25,10 @@ use std::sync::{Arc, Wait};
 impl<P, C, B, T, W> Observed<P, C, B, T, W>
 where
     P: PublicKey + Send + 'static,
-    C: Send + Drop + 'static,
-    B: Provider<P> + Send + Drop + 'static,
-    T: Send + Drop + 'static,
-    W: Send + Drop + 'static,
+    C: Movable,
+    B: Provider<P> + Movable,
+    T: Movable,
+    W: Movable,
 {
     /// Runs the session, whose account has these ledgers.
     pub(super) fn run_with<M, App, N, V, R, A, K>(
@@ -48,8 +48,8 @@ where
         App::Output: Send + 'static,
         T: Strategy<M>,
         T::Job: Send + 'static,
-        N: Sender<P> + Send + Drop + 'static,
-        V: Receiver<P> + Send + Drop + 'static,
+        N: Sender<P> + Movable,
+        V: Receiver<P> + Movable,
         R: Runtime,
         W: Observer<P, M::Digest>,
         A: Account + Send + Sync + 'static,

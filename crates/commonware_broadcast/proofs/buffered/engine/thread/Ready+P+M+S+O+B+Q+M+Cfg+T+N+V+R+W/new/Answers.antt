@@ -3,8 +3,8 @@ use Rattle.commonware_broadcast.proofs.buffered.engine.thread.Ready+P+M+S+O+B+Q+
 
 pub returns-in-Ok : goal.returns-in-Ok
 returns-in-Ok g c = record {
-  last = c.finish_job.new.self.engine;
+  last = c.in-Ok.running.engine;
   took = c.in-Ok.ensures.took.took;
   idle = c.in-Ok.ensures.settled;
-  without_job = joined-idle c.finish_job.new.self.engine c.into_parts.result c.finish_job.new.self.engine.job c.into_parts.ensures;
+  without_job = joined-idle c.in-Ok.running.engine c.into_parts.result c.in-Ok.running.engine.job c.into_parts.ensures;
 }
