@@ -6,7 +6,7 @@ ghost use Rattle.broadcast_mailbox.specs.Account.{TallyState};
 use crate::fault::Fault;
 use broadcast_core::{Codec, Digestible, Key, RangeCfg, Set};
 use commonware_broadcast::buffered::{
-    Account, All, Books, Config, Engine, Handle, Mailbox, Runtime, Sequential, StartError,
+    Account, All, Books, Config, Engine, Handle, Mailbox, Movable, Runtime, Sequential, StartError,
     Strategy, Tally, WatchedNode,
 };
 use memory_network::{Ends, Inbound, Network, Outbound, PeerSets};
@@ -80,7 +80,7 @@ where
     M: Digestible + Codec + Send + Sync + 'static,
     M::Digest: 'static,
     M::Cfg: Send + Drop + 'static,
-    T: Strategy<M> + Send + Drop + 'static,
+    T: Strategy<M> + Movable,
     T::Job: Send + 'static,
     R: Runtime,
     A: Account + Send + Sync + 'static,

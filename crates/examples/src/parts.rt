@@ -1,6 +1,6 @@
 //! Helpers that several examples share.
 use commonware_broadcast::buffered::{
-    Config, Handle, Mailbox, Observer, Runtime, Sequential, StartError,
+    Config, Handle, Mailbox, Movable, Observer, Runtime, Sequential, StartError,
 };
 use commonware_broadcast::{Codec, Digestible, Key};
 use memory_network::Ends;
@@ -37,7 +37,7 @@ where
     M::Digest: 'static,
     M::Cfg: Send + Drop + 'static,
     R: Runtime,
-    W: Observer<Key, M::Digest> + Send + Drop + 'static,
+    W: Observer<Key, M::Digest> + Movable,
 {
     let config = config(ends.mail.key, codec_config, ends.provider);
     let network = (ends.sender, ends.receiver);

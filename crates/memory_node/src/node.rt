@@ -4,7 +4,8 @@ ghost use Rattle.std.specs.NonZero.{non_zero_usize_get};
 
 use broadcast_core::{Codec, Digestible, Key};
 use commonware_broadcast::buffered::{
-    Config, Engine, Handle, Mailbox, MailboxEngine, MailboxReport, Runtime, StartError, Strategy,
+    Config, Engine, Handle, Mailbox, MailboxEngine, MailboxReport, Movable, Runtime, StartError,
+    Strategy,
 };
 use memory_network::{Inbound, Mail, Outbound, PeerSets};
 use std::alloc::{AllocError, AllocGlobal};
@@ -94,7 +95,7 @@ where
         M: Send + Sync + 'static,
         M::Digest: 'static,
         M::Cfg: Send + Drop + 'static,
-        T: Send + Drop + 'static,
+        T: Movable,
         T::Job: Send + 'static,
         R: Runtime,
     {
@@ -156,7 +157,7 @@ where
     M: Digestible + Codec + Send + Sync + 'static,
     M::Digest: 'static,
     M::Cfg: Send + Drop + 'static,
-    T: Strategy<M> + Send + Drop + 'static,
+    T: Strategy<M> + Movable,
     T::Job: Send + 'static,
     R: Runtime,
 {

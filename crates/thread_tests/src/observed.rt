@@ -1,8 +1,8 @@
 //! What the observers of a started engine see.
 use broadcast_core::{Cause, CodecError, Digest, Key, Outcome, RangeCfg, TestMessage};
 use commonware_broadcast::buffered::{
-    EndCause, Lines, Mailbox, Observer, Open, Recent, Runtime, Sequential, SetNumber, Threaded,
-    Turn,
+    EndCause, Lines, Mailbox, Movable, Observer, Open, Recent, Runtime, Sequential, SetNumber,
+    Threaded, Turn,
 };
 use memory_network::{Mail, Network};
 use memory_node::keys::key_of;
@@ -17,7 +17,7 @@ use std::test::Fail;
 fn observe<R, W>(rt: &R, observer: W) -> Result<W, Fail>
 where
     R: Runtime,
-    W: Observer<Key, Digest> + Send + Drop + 'static,
+    W: Observer<Key, Digest> + Movable,
 {
     let network = Network::between(rt, &[key_of(1), key_of(5)])?;
     let ends = network.join(rt, &key_of(1))?;
@@ -32,7 +32,7 @@ where
 fn observe_threaded<R, W>(rt: &R, observer: W) -> Result<W, Fail>
 where
     R: Runtime,
-    W: Observer<Key, Digest> + Send + Drop + 'static,
+    W: Observer<Key, Digest> + Movable,
 {
     let strategy = Threaded::new(rt.clone()?, rt.alloc(), Arc::new(rt.alloc(), Open)?);
     let network = Network::between(rt, &[key_of(1), key_of(5)])?;

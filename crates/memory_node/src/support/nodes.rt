@@ -3,7 +3,7 @@ use crate::keys::key_of;
 use crate::node::{self, Node};
 use broadcast_core::{Digest, Digested, Digestible, Key, RangeCfg, Recipients, Set, TestMessage};
 use broadcast_mailbox::MailboxError;
-use commonware_broadcast::buffered::{Mailbox, Runtime, Strategy, Subscription};
+use commonware_broadcast::buffered::{Mailbox, Movable, Runtime, Strategy, Subscription};
 use commonware_broadcast::{Broadcaster, Feedback};
 use memory_network::{Inbound, Mail, Outbound};
 use std::alloc::{AllocError, AllocGlobal, Global};
@@ -13,7 +13,7 @@ use std::test::Fail;
 /// Starts the node of number 1. It has no peers and no payloads yet.
 pub fn start<T, R>(rt: &R, strategy: T) -> Result<Node<TestMessage, R>, Fail>
 where
-    T: Strategy<TestMessage> + Send + Drop + 'static,
+    T: Strategy<TestMessage> + Movable,
     T::Job: Send + 'static,
     R: Runtime,
 {

@@ -8,8 +8,8 @@ use crate::mute::Mute;
 use broadcast_core::{Codec, Digested, Digestible, Recipients};
 use broadcast_mailbox::{Feedback, MailboxError};
 use commonware_broadcast::buffered::{
-    Account, All, Books, Config, Engine, Get, MailboxReport, Runtime, Settled, Status, Strategy,
-    Subscription, Tally, WatchedEngine, WatchedMailbox, WatchedNode, drive,
+    Account, All, Books, Config, Engine, Get, MailboxReport, Movable, Runtime, Settled, Status,
+    Strategy, Subscription, Tally, WatchedEngine, WatchedMailbox, WatchedNode, drive,
 };
 use commonware_broadcast::mocks::Slow;
 use futures::task::{Doorbell, Poll, Solo};
@@ -56,7 +56,7 @@ fn end<M, T, R>(
     message: Digested<M>,
 ) -> Result<Ending, Fail>
 where
-    T: Strategy<M> + Send + Drop + 'static,
+    T: Strategy<M> + Movable,
     T::Job: Send + 'static,
     M: Digestible + Codec + Send + Sync + 'static,
     M::Digest: Send + 'static,
@@ -81,7 +81,7 @@ fn end_with<M, T, R, A, K>(
     taken: Blank,
 ) -> Result<Ending, Fail>
 where
-    T: Strategy<M> + Send + Drop + 'static,
+    T: Strategy<M> + Movable,
     T::Job: Send + 'static,
     M: Digestible + Codec + Send + Sync + 'static,
     M::Digest: Send + 'static,
@@ -191,7 +191,7 @@ fn run<M, T, R, A, K>(
     network: Network,
 ) -> Result<Left<M, R, A, K>, Fail>
 where
-    T: Strategy<M> + Send + Drop + 'static,
+    T: Strategy<M> + Movable,
     T::Job: Send + 'static,
     M: Digestible + Codec + Send + Sync + 'static,
     M::Digest: Send + 'static,
