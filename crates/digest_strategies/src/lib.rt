@@ -9,6 +9,7 @@ pub mod mocks;
 pub mod pool;
 pub mod strategy;
 pub mod threaded;
+mod waiting;
 pub mod worker;
 
 pub use gate::{Gate, Open};

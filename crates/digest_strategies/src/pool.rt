@@ -4,10 +4,11 @@ ghost use Rattle.std.specs.Arc.{arc_value};
 ghost use Rattle.futures.specs.Poll.{OnPending};
 ghost use Rattle.futures.specs.Task.{Hears, IsArmed, Keeps};
 
+use crate::waiting::{Leaving, Left, Waiting};
 use crate::worker::Work;
 use broadcast_core::{Digest, Digestible, TestMessage};
 use counted_slot::{Counted, Fits, TAKEN};
-use futures::task::{Context, Poll, Source, Waker};
+use futures::task::{Context, Poll};
 use std::alloc::{AllocError, Global};
 use std::hint::spin_loop;
 use std::marker::Model;
@@ -42,8 +43,8 @@ impl<M: Digestible> Fits for Answer<M> {
 struct Slot<M: Digestible> {
     answer: Counted<Option<Answer<M>>>,
     // Fires once the message is left.
-    digested: Source,
-    waker: Mutex<Option<Waker>>,
+    digested: Leaving,
+    waiting: Mutex<Waiting>,
     // Who waits without a task sleeps here, until the message is left.
     left: Parker,
 }
@@ -53,7 +54,7 @@ impl<M: Digestible> Model for Slot<M> {
 
     ghost Value = { Pooling M };
 
-    ghost view = { λ it. record { message = it.answer; source = it.digested.id } };
+    ghost view = { λ it. record { message = it.answer; source = it.digested.source.id } };
 }
 
 impl<M: Digestible> Slot<M> {
@@ -63,8 +64,8 @@ impl<M: Digestible> Slot<M> {
     {
         Slot {
             answer: Counted::new(None, message),
-            digested: Source::new(),
-            waker: Mutex::new(None),
+            digested: Leaving::new(),
+            waiting: Mutex::new(Waiting::new()),
             left: Parker::new(),
         }
     }
@@ -82,7 +83,7 @@ impl<M: Digestible> Slot<M> {
         } else {
             claim.done();
         }
-        let woken = self.waker.lock(rt).take();
+        let woken = self.waiting.lock(rt).leave();
         drop(woken);
         self.left.unpark();
     }
@@ -100,29 +101,17 @@ impl<M: Digestible> Slot<M> {
         None
     }
 
-    /// Returns whether the message was left.
-    fn is_digested(&self) -> bool {
-        self.answer.load() == FILLED
-    }
-
     /// Returns whether the message was left. If not, the task is woken once it is.
-    fn poll(&self, cx: &mut Context<'_>) -> Poll<()>
+    fn poll(&self, cx: &mut Context<'_>) -> Poll<Left>
         ensures heard { OnPending result (Hears cx.new self.now.source) }
         ensures armed { OnPending result (IsArmed cx.new) }
         ensures kept { Keeps cx.old cx.new }
     {
-        if self.is_digested() {
-            return Poll::Ready(());
+        match self.waiting.try_lock() {
+            Some(mut waiting) => waiting.poll(&self.digested, cx),
+            // Who leaves the message has the lock, and lets it go soon.
+            None => cx.yield_now(),
         }
-        let Some(mut waker) = self.waker.try_lock() else {
-            return cx.yield_now();
-        };
-        let pending = cx.register(&self.digested, &mut *waker);
-        drop(waker);
-        if self.is_digested() {
-            return Poll::Ready(());
-        }
-        pending
     }
 }
 
@@ -311,7 +300,10 @@ impl<M: Digestible> Pooled<M> {
         ensures armed { OnPending result (IsArmed cx.new) }
         ensures kept { Keeps cx.old cx.new }
     {
-        self.slot.poll(cx)
+        match self.slot.poll(cx) {
+            Poll::Ready(_left) => Poll::Ready(()),
+            Poll::Pending => Poll::Pending,
+        }
     }
 
     /// Waits until the message is digested. Returns it with its own digest.
