@@ -14,11 +14,11 @@ module _ {T F : Type 0} (answers : T → Bool → Type 0) (push : F → T → Op
       subst (λ (zs : List T). Drains answers push first zs (x ∷ skipped) new last) (sym is) (inl (closed, (skipped, refl, d)))
 
   -- a message that is pushed
-  pub Drains-push : (all xs skipped new : List T) (x : T) (first mid last : F) → all ≡ x ∷ xs → answers x false → push first x None mid → Drains answers push mid xs skipped new last → Drains answers push first all skipped new last
-  Drains-push all xs skipped new x first mid last is opened p d =
+  pub Drains-push : {all : List T} {first : F} (xs skipped new : List T) (x : T) (mid last : F) → all ≡ x ∷ xs → answers x false → push first x None mid → Drains answers push mid xs skipped new last → Drains answers push first all skipped new last
+  Drains-push {first} xs skipped new x mid last is opened p d =
       subst (λ (zs : List T). Drains answers push first zs skipped new last) (sym is) (inr (inl (opened, (mid, p, d))))
 
   -- a message that is handed back
-  pub Drains-back : (all xs new : List T) (x back : T) (first last : F) → all ≡ x ∷ xs → answers x false → push first x (Some back) last → new ≡ back ∷ xs → Drains answers push first all [] new last
-  Drains-back all xs new x back first last is opened p stands =
+  pub Drains-back : {all : List T} {first : F} (xs new : List T) (x back : T) (last : F) → all ≡ x ∷ xs → answers x false → push first x (Some back) last → new ≡ back ∷ xs → Drains answers push first all [] new last
+  Drains-back {first} xs new x back last is opened p stands =
       subst (λ (zs : List T). Drains answers push first zs [] new last) (sym is) (inr (inr (opened, refl, (back, p, stands))))

@@ -70,10 +70,10 @@ module _ {T : Type 0} where
       })
 
   -- a request that finds no room, handled with no error
-  pub IsSound-handled : {E : Type 0} (answers : Request T → Bool → Type 0) (queue : QueueState T) (overflow : List (Request T)) (message : T) (counted : Bool) (r : Result Unit E)
+  pub IsSound-handled : {E : Type 0} {queue : QueueState T} (answers : Request T → Bool → Type 0) (overflow : List (Request T)) (message : T) (counted : Bool) (r : Result Unit E)
       → IsSound queue → Draws queue queue.next → (¬ HasRoom queue) → false ≡ is_err r → Handles answers queue.overflow (record { ticket = queue.next; message = message; counted = counted }) r overflow
       → IsSound (record queue { overflow = overflow; next = queue.next + 1 })
-  IsSound-handled answers queue overflow message counted r sound draws no_room fine handles =
+  IsSound-handled {queue} answers overflow message counted r sound draws no_room fine handles =
       elim (handled-ok answers queue.overflow (record { ticket = queue.next; message = message; counted = counted }) r overflow fine handles) [
         | inl dropped ↦ IsSound-drawn queue overflow sound draws dropped.1
         | inr kept ↦ IsSound-overflow queue overflow message counted sound draws no_room kept.1

@@ -7,7 +7,7 @@ use Rattle.broadcast_mailbox.specs.declared.broadcaster.MailboxError.TheVariants
 use Rattle.broadcast_mailbox.specs.Overflow.{Drains, PutsWithin}
 use Rattle.broadcast_mailbox.specs.Queue.{QueueState, IsRising, Pops, tickets_of, waiting, request_of, with_ready, with_overflow}
 use Rattle.broadcast_mailbox.specs.Mailbox.{MailboxState, mailbox_after}
-use Rattle.broadcast_mailbox.specs.Tickets.{Step, Enqueued, Took, StopRequested, GaveUp, times, drawn_by, taken_by, skipped_by, given_up_by, ends, Moves, Runs, IsLawful}
+use Rattle.broadcast_mailbox.specs.Tickets.{Call, Enqueued, Took, StopRequested, GaveUp, times, drawn_by, taken_by, skipped_by, given_up_by, ends, Moves, Runs, IsLawful}
 use Rattle.broadcast_mailbox.proofs.Rising.{IsRising-append, IsRising-higher, IsRising-onward, length-IsRising, length-tickets_of, rising-ready, rising-overflow}
 use Rattle.broadcast_mailbox.proofs.Refilling.{Pops-next, Refills-rising}
 use Rattle.broadcast_mailbox.proofs.TicketCounts.{times-append, times-Contains, times-none}
@@ -44,7 +44,7 @@ module _ {T : Type 0} (ticket : ℕ) where
 
 module _ {T : Type 0} (answers : T → Bool → Type 0) where
   -- one step keeps each ticket
-  times-Moves : (ticket : ℕ) (old : MailboxState T) (step : Step T) (new : MailboxState T) → Moves answers old step new
+  times-Moves : (ticket : ℕ) (old : MailboxState T) (step : Call T) (new : MailboxState T) → Moves answers old step new
       → held ticket (waiting old.queue) + times ticket (drawn_by step) ≡ times ticket (taken_by step) + times ticket (skipped_by step) + held ticket (waiting new.queue) + times ticket (given_up_by step)
   times-Moves ticket old (Enqueued message counted (Ok (queued.Ready k))) new ((draws, room, same), state) =
       omega (arith, ap (λ (q : QueueState T). held ticket (waiting q)) same, held-ready ticket old.queue message counted, ap (λ (n : ℕ). times ticket (n ∷ [])) draws.next)
@@ -72,7 +72,7 @@ module _ {T : Type 0} (answers : T → Bool → Type 0) where
   rising-Took old (Some request) skipped new pops = omega (arith, Pops-next answers old (Some request) skipped new pops)
 
   -- one step hands out the next tickets
-  rising-Moves : (old : MailboxState T) (step : Step T) (new : MailboxState T) → Moves answers old step new → IsRising old.queue.next (drawn_by step) new.queue.next
+  rising-Moves : (old : MailboxState T) (step : Call T) (new : MailboxState T) → Moves answers old step new → IsRising old.queue.next (drawn_by step) new.queue.next
   rising-Moves old (Enqueued message counted (Ok (queued.Ready k))) new ((draws, room, same), state) =
       (omega (arith, draws.next), omega (arith, draws.next, ap (λ (q : QueueState T). q.next) same))
   rising-Moves old (Enqueued message counted (Ok (queued.Overflow k))) new ((draws, no_room, opened, same), state) =
@@ -87,7 +87,7 @@ module _ {T : Type 0} (answers : T → Bool → Type 0) where
   rising-Moves old (GaveUp requests) new (all, (len, same)) = omega (arith, ap (λ (s : MailboxState T). s.queue.next) same)
 
   -- one step counts what it takes, skips and gives up
-  counted-Moves : (old : MailboxState T) (step : Step T) (new : MailboxState T) → Moves answers old step new
+  counted-Moves : (old : MailboxState T) (step : Call T) (new : MailboxState T) → Moves answers old step new
       → (new.taken ≡ old.taken + length (taken_by step)) × (new.skipped ≡ old.skipped + length (skipped_by step)) × (new.given_up ≡ old.given_up + length (given_up_by step))
   counted-Moves old (Enqueued message counted (Ok (queued.Ready k))) new (step, same) =
       (omega (arith, ap (λ (s : MailboxState T). s.taken) same), omega (arith, ap (λ (s : MailboxState T). s.skipped) same), omega (arith, ap (λ (s : MailboxState T). s.given_up) same))
@@ -111,7 +111,7 @@ module _ {T : Type 0} (answers : T → Bool → Type 0) where
       (omega (arith, ap (λ (s : MailboxState T). s.taken) same, length-tickets_of requests), omega (arith, ap (λ (s : MailboxState T). s.skipped) same, length-tickets_of requests), omega (arith, ap (λ (s : MailboxState T). s.given_up) same, length-tickets_of requests))
 
   -- a step leaves the tickets that wait rising, behind those that it takes
-  waiting-Moves : (low : ℕ) (old : MailboxState T) (step : Step T) (new : MailboxState T) → IsRising low (tickets_of (waiting old.queue)) old.queue.next → Moves answers old step new → IsRising low (taken_by step ++ tickets_of (waiting new.queue)) new.queue.next
+  waiting-Moves : (low : ℕ) (old : MailboxState T) (step : Call T) (new : MailboxState T) → IsRising low (tickets_of (waiting old.queue)) old.queue.next → Moves answers old step new → IsRising low (taken_by step ++ tickets_of (waiting new.queue)) new.queue.next
   waiting-Moves low old (Enqueued message counted (Ok (queued.Ready k))) new rises ((draws, room, same), state) =
       subst (λ (q : QueueState T). IsRising low (tickets_of (waiting q)) q.next) (sym same) (rising-ready low old.queue message counted room.0 rises)
   waiting-Moves low old (Enqueued message counted (Ok (queued.Overflow k))) new rises ((draws, no_room, opened, same), state) =
@@ -137,7 +137,7 @@ module _ {T : Type 0} (answers : T → Bool → Type 0) where
       subst (λ (s : MailboxState T). IsRising low (tickets_of (waiting s.queue)) s.queue.next) (sym same) within
 
   -- a step draws the next tickets
-  drawn-Moves : (old : MailboxState T) (step : Step T) (new : MailboxState T) → Moves answers old step new → new.queue.next ≡ old.queue.next + length (drawn_by step)
+  drawn-Moves : (old : MailboxState T) (step : Call T) (new : MailboxState T) → Moves answers old step new → new.queue.next ≡ old.queue.next + length (drawn_by step)
   drawn-Moves old (Enqueued message counted (Ok (queued.Ready k))) new ((draws, room, same), state) = omega (arith, ap (λ (q : QueueState T). q.next) same)
   drawn-Moves old (Enqueued message counted (Ok (queued.Overflow k))) new ((draws, no_room, opened, same), state) = omega (arith, ap (λ (q : QueueState T). q.next) same)
   drawn-Moves old (Enqueued message counted (Ok (queued.Skipped k))) new ((draws, no_room, closed, same), state) = omega (arith, ap (λ (q : QueueState T). q.next) same)
@@ -149,19 +149,19 @@ module _ {T : Type 0} (answers : T → Bool → Type 0) where
   drawn-Moves old (GaveUp requests) new (all, (len, same)) = omega (arith, ap (λ (s : MailboxState T). s.queue.next) same)
 
   -- a run keeps each ticket
-  times-Runs : (ticket : ℕ) (old : MailboxState T) (steps : List (Step T)) (new : MailboxState T) → Runs answers old steps new → held ticket (waiting old.queue) + times ticket (flat_map drawn_by steps) ≡ ends ticket steps new
+  times-Runs : (ticket : ℕ) (old : MailboxState T) (steps : List (Call T)) (new : MailboxState T) → Runs answers old steps new → held ticket (waiting old.queue) + times ticket (flat_map drawn_by steps) ≡ ends ticket steps new
   times-Runs ticket old [] new same = omega (arith, ap (λ (s : MailboxState T). held ticket (waiting s.queue)) same)
   times-Runs ticket old (step ∷ steps) new (mid, moves, runs) =
       omega (arith, times-Moves ticket old step mid moves, times-Runs ticket mid steps new runs, times-append ticket (drawn_by step) (flat_map drawn_by steps), times-append ticket (taken_by step) (flat_map taken_by steps), times-append ticket (skipped_by step) (flat_map skipped_by steps), times-append ticket (given_up_by step) (flat_map given_up_by steps))
 
   -- a run hands out the next tickets
-  rising-Runs : (old : MailboxState T) (steps : List (Step T)) (new : MailboxState T) → Runs answers old steps new → IsRising old.queue.next (flat_map drawn_by steps) new.queue.next
+  rising-Runs : (old : MailboxState T) (steps : List (Call T)) (new : MailboxState T) → Runs answers old steps new → IsRising old.queue.next (flat_map drawn_by steps) new.queue.next
   rising-Runs old [] new same = omega (arith, ap (λ (s : MailboxState T). s.queue.next) same)
   rising-Runs old (step ∷ steps) new (mid, moves, runs) =
       IsRising-append old.queue.next (drawn_by step) mid.queue.next (flat_map drawn_by steps) new.queue.next (rising-Moves old step mid moves) (rising-Runs mid steps new runs)
 
   -- a run counts what it takes, skips and gives up
-  counted-Runs : (old : MailboxState T) (steps : List (Step T)) (new : MailboxState T) → Runs answers old steps new
+  counted-Runs : (old : MailboxState T) (steps : List (Call T)) (new : MailboxState T) → Runs answers old steps new
       → (new.taken ≡ old.taken + length (flat_map taken_by steps)) × (new.skipped ≡ old.skipped + length (flat_map skipped_by steps)) × (new.given_up ≡ old.given_up + length (flat_map given_up_by steps))
   counted-Runs old [] new same =
       (omega (arith, ap (λ (s : MailboxState T). s.taken) same), omega (arith, ap (λ (s : MailboxState T). s.skipped) same), omega (arith, ap (λ (s : MailboxState T). s.given_up) same))
@@ -174,7 +174,7 @@ module _ {T : Type 0} (answers : T → Bool → Type 0) where
       )
 
   -- a run leaves the tickets that wait rising, behind those that it takes
-  waiting-Runs : (low : ℕ) (old : MailboxState T) (steps : List (Step T)) (new : MailboxState T) → IsRising low (tickets_of (waiting old.queue)) old.queue.next → Runs answers old steps new → IsRising low (flat_map taken_by steps ++ tickets_of (waiting new.queue)) new.queue.next
+  waiting-Runs : (low : ℕ) (old : MailboxState T) (steps : List (Call T)) (new : MailboxState T) → IsRising low (tickets_of (waiting old.queue)) old.queue.next → Runs answers old steps new → IsRising low (flat_map taken_by steps ++ tickets_of (waiting new.queue)) new.queue.next
   waiting-Runs low old [] new rises same =
       subst (λ (s : MailboxState T). IsRising low (tickets_of (waiting s.queue)) s.queue.next) (sym same) rises
   waiting-Runs low old (step ∷ steps) new rises (mid, moves, runs) =
@@ -182,13 +182,13 @@ module _ {T : Type 0} (answers : T → Bool → Type 0) where
       subst (λ (xs : List ℕ). IsRising low xs new.queue.next) (sym (append_assoc (taken_by step) (flat_map taken_by steps) (tickets_of (waiting new.queue)))) all
 
   -- a run draws the next tickets
-  drawn-Runs : (old : MailboxState T) (steps : List (Step T)) (new : MailboxState T) → Runs answers old steps new → new.queue.next ≡ old.queue.next + length (flat_map drawn_by steps)
+  drawn-Runs : (old : MailboxState T) (steps : List (Call T)) (new : MailboxState T) → Runs answers old steps new → new.queue.next ≡ old.queue.next + length (flat_map drawn_by steps)
   drawn-Runs old [] new same = omega (arith, ap (λ (s : MailboxState T). s.queue.next) same)
   drawn-Runs old (step ∷ steps) new (mid, moves, runs) =
       omega (arith, drawn-Moves old step mid moves, drawn-Runs mid steps new runs, length-append (drawn_by step) (flat_map drawn_by steps))
 
   -- every list of steps is lawful
-  pub IsLawful-Runs : (size before : ℕ) (steps : List (Step T)) (last : MailboxState T) → Runs answers (mailbox_after size before) steps last → IsLawful before steps last
+  pub IsLawful-Runs : (size before : ℕ) (steps : List (Call T)) (last : MailboxState T) → Runs answers (mailbox_after size before) steps last → IsLawful before steps last
   IsLawful-Runs size before steps last runs =
       let rises = rising-Runs (mailbox_after size before) steps last runs in
       let counted = counted-Runs (mailbox_after size before) steps last runs in

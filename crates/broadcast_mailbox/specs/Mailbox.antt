@@ -85,14 +85,14 @@ module _ {T : Type 0} where
 
     -- the oldest request is taken, and of the requests that are skipped the counted ones are booked:
     -- `before` were so before, and `after` are so after
-    abbrev pub Gives : MailboxState T → ℕ → Option (Request T) → MailboxState T → ℕ → Type 0
-    Gives old before result new after =
+    abbrev pub TakesBooked : MailboxState T → ℕ → Option (Request T) → MailboxState T → ℕ → Type 0
+    TakesBooked old before result new after =
         (skipped : List (Request T)) × Takes old result skipped new × (after ≡ before + counted_in skipped)
 
     -- and its ticket and message are given
-    abbrev pub GivesOut : MailboxState T → ℕ → Option (ℕ × T) → MailboxState T → ℕ → Type 0
-    GivesOut old before result new after =
-        (request : Option (Request T)) × Gives old before request new after × (result ≡ taken_of request)
+    abbrev pub TakesOut : MailboxState T → ℕ → Option (ℕ × T) → MailboxState T → ℕ → Type 0
+    TakesOut old before result new after =
+        (request : Option (Request T)) × TakesBooked old before request new after × (result ≡ taken_of request)
 
   -- a stop is asked for
   abbrev pub RequestsStop : MailboxState T → MailboxState T → Type 0

@@ -9,6 +9,6 @@ abbrev pub no_skips : Skips
 no_skips = record { all = 0; counted = 0 }
 
 -- the numbers of these requests
-pub record IsOf {T : Type 0} (skips : Skips) (skipped : List (Request T)) : Type 0 where
+pub record CountsSkipped {T : Type 0} (skips : Skips) (skipped : List (Request T)) : Type 0 where
   pub all : skips.all ≡ length skipped
   pub counted : skips.counted ≡ counted_in skipped

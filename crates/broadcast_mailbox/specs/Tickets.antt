@@ -12,11 +12,11 @@ use Rattle.broadcast_mailbox.specs.Mailbox.{MailboxState, Enqueues, Takes, Reque
 use Rattle.broadcast_mailbox.specs.Mailbox.{counts_of}
 
 -- a call of a mailbox with its result, and with the requests that it skipped or gave up
-pub data Step (T : Type 0) : Type 0 where
-  Enqueued : T → Bool → Result Queued MailboxError → Step T
-  Took : Option (Request T) → List (Request T) → Step T
-  StopRequested : Step T
-  GaveUp : List (Request T) → Step T
+pub data Call (T : Type 0) : Type 0 where
+  Enqueued : T → Bool → Result Queued MailboxError → Call T
+  Took : Option (Request T) → List (Request T) → Call T
+  StopRequested : Call T
+  GaveUp : List (Request T) → Call T
 
 -- how often a ticket stands in a list
 abbrev pub times : ℕ → List ℕ → ℕ
@@ -25,64 +25,64 @@ times ticket (first ∷ tickets) = (if first == ticket then 1 else 0) + times ti
 
 module _ {T : Type 0} where
   -- the tickets that a call hands out
-  abbrev pub drawn_by : Step T → List ℕ
+  abbrev pub drawn_by : Call T → List ℕ
   drawn_by (Enqueued message counted (Ok (queued.Ready ticket))) = ticket ∷ []
   drawn_by (Enqueued message counted (Ok (queued.Overflow ticket))) = ticket ∷ []
   drawn_by (Enqueued message counted (Ok (queued.Skipped ticket))) = ticket ∷ []
   drawn_by _ = []
 
   -- the tickets of the requests that a call takes
-  abbrev pub taken_by : Step T → List ℕ
+  abbrev pub taken_by : Call T → List ℕ
   taken_by (Took (Some request) skipped) = request.ticket ∷ []
   taken_by _ = []
 
   -- the tickets of the requests that a call skips
-  abbrev pub skipped_by : Step T → List ℕ
+  abbrev pub skipped_by : Call T → List ℕ
   skipped_by (Enqueued message counted (Ok (queued.Skipped ticket))) = ticket ∷ []
   skipped_by (Took result skipped) = tickets_of skipped
   skipped_by _ = []
 
   -- the tickets of the requests that a call gives up
-  abbrev pub given_up_by : Step T → List ℕ
+  abbrev pub given_up_by : Call T → List ℕ
   given_up_by (GaveUp requests) = tickets_of requests
   given_up_by _ = []
 
   -- how often a ticket is taken, is skipped, waits at the end or is given up
-  abbrev pub ends : ℕ → List (Step T) → MailboxState T → ℕ
-  ends ticket steps last =
-      times ticket (flat_map taken_by steps) + times ticket (flat_map skipped_by steps)
-      + times ticket (tickets_of (waiting last.queue)) + times ticket (flat_map given_up_by steps)
+  abbrev pub ends : ℕ → List (Call T) → MailboxState T → ℕ
+  ends ticket calls last =
+      times ticket (flat_map taken_by calls) + times ticket (flat_map skipped_by calls)
+      + times ticket (tickets_of (waiting last.queue)) + times ticket (flat_map given_up_by calls)
 
   module _ (answers : T → Bool → Type 0) where
-    -- the mailbox may do this step
-    abbrev pub Moves : MailboxState T → Step T → MailboxState T → Type 0
+    -- the mailbox may take this call
+    abbrev pub Moves : MailboxState T → Call T → MailboxState T → Type 0
     Moves old (Enqueued message counted result) new = Enqueues answers old message counted result new
     Moves old (Took result skipped) new = Takes answers old result skipped new
     Moves old StopRequested new = RequestsStop old new
     Moves old (GaveUp requests) new =
         (requests ≡ waiting old.queue) × Closes old (length requests) new
 
-    -- the mailbox may do these steps, one after another
-    abbrev pub Runs : MailboxState T → List (Step T) → MailboxState T → Type 0
+    -- the mailbox may take these calls, one after another
+    abbrev pub Runs : MailboxState T → List (Call T) → MailboxState T → Type 0
     Runs old [] new = new ≡ old
-    Runs old (step ∷ steps) new = (mid : MailboxState T) × Moves old step mid × Runs mid steps new
+    Runs old (call ∷ calls) new = (mid : MailboxState T) × Moves old call mid × Runs mid calls new
 
-  -- the law of the tickets, over every list of steps of a mailbox that begins empty, after `before`
+  -- the law of the tickets, over every list of calls of a mailbox that begins empty, after `before`
   -- requests that were taken
-  pub record IsLawful (before : ℕ) (steps : List (Step T)) (last : MailboxState T) : Type 0 where
+  pub record IsLawful (before : ℕ) (calls : List (Call T)) (last : MailboxState T) : Type 0 where
     -- the tickets rise in the order in which they are drawn
-    pub drawn_rise : IsRising before (flat_map drawn_by steps) last.queue.next
+    pub drawn_rise : IsRising before (flat_map drawn_by calls) last.queue.next
     -- they rise in the order in which they are taken, and those that still wait are higher
     pub taken_rise :
-        IsRising before (flat_map taken_by steps ++ tickets_of (waiting last.queue)) last.queue.next
+        IsRising before (flat_map taken_by calls ++ tickets_of (waiting last.queue)) last.queue.next
     -- a drawn ticket has one end: its request is taken, is skipped, waits or is given up
     pub drawn_end_once :
-        (ticket : ℕ) → Contains (flat_map drawn_by steps) ticket → ends ticket steps last ≡ 1
+        (ticket : ℕ) → Contains (flat_map drawn_by calls) ticket → ends ticket calls last ≡ 1
     -- a ticket that was not drawn has no end
     pub others_never_end :
-        (ticket : ℕ) → (¬ Contains (flat_map drawn_by steps) ticket) → ends ticket steps last ≡ 0
+        (ticket : ℕ) → (¬ Contains (flat_map drawn_by calls) ticket) → ends ticket calls last ≡ 0
     -- each count is the number of those tickets, and of the requests before
-    pub accepted : (counts_of last).accepted ≡ before + length (flat_map drawn_by steps)
-    pub taken : (counts_of last).taken ≡ before + length (flat_map taken_by steps)
-    pub skipped : (counts_of last).skipped ≡ length (flat_map skipped_by steps)
-    pub given_up : (counts_of last).given_up ≡ length (flat_map given_up_by steps)
+    pub accepted : (counts_of last).accepted ≡ before + length (flat_map drawn_by calls)
+    pub taken : (counts_of last).taken ≡ before + length (flat_map taken_by calls)
+    pub skipped : (counts_of last).skipped ≡ length (flat_map skipped_by calls)
+    pub given_up : (counts_of last).given_up ≡ length (flat_map given_up_by calls)

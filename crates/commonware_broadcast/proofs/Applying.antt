@@ -21,7 +21,7 @@ use Rattle.engine_io.specs.Replies.{Asker, Replies}
 use Rattle.commonware_broadcast.specs.EngineHistory.{Step, applied, refused, happenings_at, happenings, peer_of, turns_at}
 use Rattle.commonware_broadcast.specs.StepLaws.{MayRefuse, MayRefuseRequest}
 use Rattle.commonware_broadcast.proofs.Counting.{IsNotDecoded, step-counted, step-waits}
-use Rattle.commonware_broadcast.specs.AppliesSteps.{AppliesStep, AppliesSteps, Handles, Applies, Replying, Sinks, requested}
+use Rattle.commonware_broadcast.specs.AppliesSteps.{AppliesStep, AppliesSteps, AppliesInput, AppliesAndSends, Replying, Sinks, requested}
 use Rattle.commonware_broadcast.proofs.Composing.{told-same}
 use Rattle.commonware_broadcast.proofs.Sending.{Sends-silent, Sends-input}
 use Rattle.engine_io.specs.Inputs.{requests_in}
@@ -37,13 +37,13 @@ module _ {P M D S G O : Type 0} {s : Setting P M D} {r : Replying M D S G O} {pa
     replied = one.replied;
   }
 
-  abbrev pub Handles-applied : {input : Input P M S G D} {replies : Replies S G M D} {result : Turn P D} {old new : Node P M S O D}
-      → AppliesStep s r.may_answer r.told past (applied input replies) old new → turns_at s (applied input replies) past ≡ result ∷ [] → Handles s r past input result old new
-  Handles-applied {input} {replies} one turned = record { step = applied input replies; of_input = refl; turned = turned; ran = AppliesSteps-one one tt }
+  abbrev pub AppliesInput-applied : {input : Input P M S G D} {replies : Replies S G M D} {result : Turn P D} {old new : Node P M S O D}
+      → AppliesStep s r.may_answer r.told past (applied input replies) old new → turns_at s (applied input replies) past ≡ result ∷ [] → AppliesInput s r past input result old new
+  AppliesInput-applied {input} {replies} one turned = record { step = applied input replies; of_input = refl; turned = turned; ran = AppliesSteps-one one tt }
 
-  abbrev pub Handles-refused : {input : Input P M S G D} {cause : Cause} {old new : Node P M S O D} → HasContent s past old.core → new ≡ old → MayRefuse s input cause past
-      → Handles s r past input (turn.Refused (peer_of input) cause) old new
-  Handles-refused {input} {cause} {old} has same may = record {
+  abbrev pub AppliesInput-refused : {input : Input P M S G D} {cause : Cause} {old new : Node P M S O D} → HasContent s past old.core → new ≡ old → MayRefuse s input cause past
+      → AppliesInput s r past input (turn.Refused (peer_of input) cause) old new
+  AppliesInput-refused {input} {cause} {old} has same may = record {
     step = refused input cause;
     of_input = refl;
     turned = refl;
@@ -53,19 +53,19 @@ module _ {P M D S G O : Type 0} {s : Setting P M D} {r : Replying M D S G O} {pa
 
 module _ {P M D S G O N : Type 0} {s : Setting P M D} {k : Sinks P M D S G O N} {past : History P M D (Asker S) (Asker G)} where
   -- an input at which nothing is sent
-  pub Applies-silent : {input : Input P M S G D} {result : Turn P D} {old new : Node P M S O D} {sender : N} → (one : Handles s k.of_replies past input result old new)
-      → sent s (happenings (one.step ∷ [])) ≡ [] → Applies s k past input result (old, sender) (new, sender)
-  Applies-silent {sender = sender} one none = record { handled = one; sends = Sends-silent s k.sender_told (one.step ∷ []) sender none }
+  pub AppliesAndSends-silent : {input : Input P M S G D} {result : Turn P D} {old new : Node P M S O D} {sender : N} → (one : AppliesInput s k.of_replies past input result old new)
+      → sent s (happenings (one.step ∷ [])) ≡ [] → AppliesAndSends s k past input result (old, sender) (new, sender)
+  AppliesAndSends-silent {sender = sender} one none = record { handled = one; sends = Sends-silent s k.sender_told (one.step ∷ []) sender none }
 
   -- an input that is no request
-  pub Applies-handled : {input : Input P M S G D} {result : Turn P D} {old new : Node P M S O D} {sender : N} → requests_in (input ∷ []) ≡ []
-      → Handles s k.of_replies past input result old new → Applies s k past input result (old, sender) (new, sender)
-  Applies-handled {input} {sender = sender} none one = record { handled = one; sends = Sends-input s k.sender_told input one.step sender one.of_input none }
+  pub AppliesAndSends-handled : {input : Input P M S G D} {result : Turn P D} {old new : Node P M S O D} {sender : N} → requests_in (input ∷ []) ≡ []
+      → AppliesInput s k.of_replies past input result old new → AppliesAndSends s k past input result (old, sender) (new, sender)
+  AppliesAndSends-handled {input} {sender = sender} none one = record { handled = one; sends = Sends-input s k.sender_told input one.step sender one.of_input none }
 
   -- the same request, its message written otherwise
-  pub Applies-message : {request : RequestOf (Message P M S G D)} {message : Message P M S G D} {result : Turn P D} {old new : Node P M S O D × N} → request.message ≡ message
-      → Applies s k past (requested request.ticket request.counted message) result old new → Applies s k past (Request request) result old new
-  Applies-message {request} {result = result} {old} {new} is one = subst (λ m. Applies s k past (requested request.ticket request.counted m) result old new) (sym is) one
+  pub AppliesAndSends-message : {request : RequestOf (Message P M S G D)} {message : Message P M S G D} {result : Turn P D} {old new : Node P M S O D × N} → request.message ≡ message
+      → AppliesAndSends s k past (requested request.ticket request.counted message) result old new → AppliesAndSends s k past (Request request) result old new
+  AppliesAndSends-message {request} {result = result} {old} {new} is one = subst (λ m. AppliesAndSends s k past (requested request.ticket request.counted m) result old new) (sym is) one
 
 -- a broadcast whose encoding was refused
 pub may-refuse : {P M D S G : Type 0} (s : Setting P M D) (past : History P M D (Asker S) (Asker G)) (r : Recipients P) (c : Carried M D) (cause : Cause)

@@ -13,7 +13,7 @@ use Rattle.engine_io.specs.declared.input.Turn.TheVariants as turn
 use Rattle.engine_io.specs.Counters.{Counters, Totals, number_at}
 use Rattle.engine_io.specs.Replies.{Asker}
 use Rattle.commonware_broadcast.specs.declared.buffered.engine.node.Node.{Node}
-use Rattle.commonware_broadcast.specs.AppliesSteps.{AppliesSteps, Handles, Replying, replying}
+use Rattle.commonware_broadcast.specs.AppliesSteps.{AppliesSteps, AppliesInput, Replying, replying}
 use Rattle.commonware_broadcast.specs.Arrives.{Arrival, Arrives, IsRemote, payload_of, message_of, input_of, reader_of}
 use Rattle.commonware_broadcast.specs.EngineHistory.{Step, decoded, uncounted, inputs}
 use Rattle.commonware_broadcast.specs.EngineState.{EngineState}
@@ -49,7 +49,7 @@ decoding {s = s} {r} {past} {p = p} {old} {counters} is has counts = record {
 module _ {P M D S G O J B Q C T : Type 0} {s : Setting P M D} {i : Parties M D S G O J} {past : History P M D (Asker S) (Asker G)} {old : Node P M S O D}
     {new : EngineState P M S O D J B Q C T} where
   -- its input was applied or refused
-  pub Arrives-handled : {arrival : Arrival P M} {turn : Turn P D} → reader_of s arrival ≡ [] → Handles s (replying i.may_answer i.outlet.told) past (input_of s arrival) turn old new.node
+  pub Arrives-handled : {arrival : Arrival P M} {turn : Turn P D} → reader_of s arrival ≡ [] → AppliesInput s (replying i.may_answer i.outlet.told) past (input_of s arrival) turn old new.node
       → new.job ≡ None → Arrives s i past arrival old new (Ready turn)
   Arrives-handled {arrival} silent one idle =
       let input = input_of s arrival in

@@ -1,5 +1,5 @@
 -- The causes of ends.
-use Rattle.std.proofs.Common.{◌≡◌, true, false, List, None, Some, Result, Ok, Err, refl, sym, ap, ◌∙◌, subst}
+use Rattle.std.proofs.Common.{◌≡◌, Bool, true, false, List, None, Some, Result, Ok, Err, refl, sym, ap, ◌∙◌, subst}
 use Rattle.futures.specs.Poll.{OnPending}
 use Rattle.futures.specs.declared.task.Poll.{Poll}
 use Rattle.futures.specs.declared.task.Poll.TheVariants.{Ready, Pending}
@@ -15,17 +15,33 @@ use Rattle.commonware_broadcast.specs.declared.buffered.engine.first.First.TheVa
 use Rattle.commonware_broadcast.specs.EngineHistory.{end_told}
 use Rattle.commonware_broadcast.specs.EngineState.{EngineState, Moment}
 use Rattle.commonware_broadcast.specs.Interfaces.{Format, Interfaces}
-use Rattle.commonware_broadcast.specs.FirstSource.{UnlessPeerSet}
+use Rattle.commonware_broadcast.specs.FirstSource.{UnlessPeerSet, EndsBy}
 use Rattle.commonware_broadcast.specs.Order.{UnlessPeers, IfNetwork, end_in}
-use Rattle.commonware_broadcast.specs.Polls.{Attends, IsPoll}
-use Rattle.commonware_broadcast.specs.TakesSteps.{PollsOnce, Always}
+use Rattle.commonware_broadcast.specs.Polls.{KeepsOrder, IsPoll}
+use Rattle.commonware_broadcast.specs.TakesSteps.{TakesPoll, Always}
 
--- the end of the peer sets is a cause
-pub ended_peers : (asked ended failed : Type 0) (cause : EndCause) → HasCause cause ⊥ ended ⊥ → HasCause cause asked ended failed
-ended_peers asked ended failed Stopped h = absurd h
-ended_peers asked ended failed PeersClosed h = h
-ended_peers asked ended failed NetworkFailed h = absurd h
-ended_peers asked ended failed WaitFailed h = h
+module _ {asked before ended closed : Type 0} (stop : before → asked) (peers : closed → ended) where
+  -- a cause of the node's own sources is a cause
+  pub HasCause-map : (failed : Type 0) (cause : EndCause) → HasCause cause before closed ⊥ → HasCause cause asked ended failed
+  HasCause-map failed Stopped h = stop h
+  HasCause-map failed PeersClosed h = peers h
+  HasCause-map failed NetworkFailed h = absurd h
+  HasCause-map failed WaitFailed h = h
+
+  -- what ends a poll has its cause earlier, too
+  pub EndsBy-map : {A : Type 0} (result : Poll (Result A EndCause)) → EndsBy result before closed ⊥ → EndsBy result asked ended ⊥
+  EndsBy-map (Ready (Ok value)) h = tt
+  EndsBy-map (Ready (Err cause)) h = HasCause-map ⊥ cause h
+  EndsBy-map Pending h = tt
+
+-- what holds of any input holds of this one
+pub UnlessPeerSet-holds : {P M S G D holds : Type 0} (result : Poll (Result (Input P M S G D) EndCause)) → holds → UnlessPeerSet result holds
+UnlessPeerSet-holds (Ready (Ok (input.Peers ps))) h = tt
+UnlessPeerSet-holds (Ready (Ok (input.Request r))) h = h
+UnlessPeerSet-holds (Ready (Ok (input.Arrived p m))) h = h
+UnlessPeerSet-holds (Ready (Ok (input.Invalid p e))) h = h
+UnlessPeerSet-holds (Ready (Err cause)) h = tt
+UnlessPeerSet-holds Pending h = h
 
 -- what can't be
 pub no_true : {A : Type 0} → false ≡ true → A
@@ -37,8 +53,8 @@ no_ready {A} {X} {x} h = absurd (let no : Pending ≡ Ready x = h in cc)
 pub no_error : {A X E : Type 0} {x : X} {e : E} → Ready (Ok x) ≡ Ready (Err e) → A
 no_error {A} {X} {E} {x} {e} h = absurd (let no : ◌≡◌ {A = Poll (Result X E)} (Ready (Ok x)) (Ready (Err e)) = h in cc)
 
-pub no_stop : {A P J : Type 0} → ◌≡◌ {A = First P J} Sources Stop → A
-no_stop {A} {P} {J} h = absurd (let no : ◌≡◌ {A = First P J} Sources Stop = h in cc)
+pub no_stop : {A P J : Type 0} {heard : Bool} → ◌≡◌ {A = First P J} (Sources heard) Stop → A
+no_stop {A} {P} {J} {heard} h = absurd (let no : ◌≡◌ {A = First P J} (Sources heard) Stop = h in cc)
 
 -- what is the same
 pub same_error : {X E : Type 0} {e f : E} → ◌≡◌ {A = Poll (Result X E)} (Ready (Err e)) (Ready (Err f)) → e ≡ f
@@ -76,8 +92,8 @@ pub record Keeps {P M S O D J B Q C T : Type 0} (old new : EngineState P M S O D
 module _ {P M D S G O J N V B Q C T : Type 0} {f : Format P M D C} {i : Interfaces P M D S G O J N V B Q}
     {old new : Moment P M S O D J B Q C T N V} {result : Poll (Turn P D)} where
   -- a poll of an engine that had not ended
-  pub IsPoll-open : old.engine.end ≡ None → new.engine.end ≡ end_in result → Always f i old (λ s past before. PollsOnce s i past before old new result)
-      → Attends i.provider i.receiver i.requests old new result → Keeps old.engine new.engine → IsPoll f i old new result
+  pub IsPoll-open : old.engine.end ≡ None → new.engine.end ≡ end_in result → Always f i old (λ s past before. TakesPoll s i past before old new result)
+      → KeepsOrder i.provider i.receiver i.requests old new result → Keeps old.engine new.engine → IsPoll f i old new result
   IsPoll-open lives ends took attends keeps = record {
     took = took;
     attends = λ _. attends;

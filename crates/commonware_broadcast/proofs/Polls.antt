@@ -1,5 +1,5 @@
 -- Polls, one after another.
-use Rattle.std.proofs.Common.{◌≡◌, ℕ, zero, suc, Bool, true, false, List, [], ◌∷◌, ◌++◌, Option, None, Some, IfSome, IsSomeAnd, MatchOption, refl, sym, ap, ◌∙◌, subst, append_assoc, append-nil}
+use Rattle.std.proofs.Common.{◌≡◌, ℕ, zero, suc, Bool, true, false, List, [], ◌∷◌, ◌++◌, Option, None, Some, IfSome, IsSomeAnd, MatchOption, Result, Ok, Err, IfOk, is_ok, refl, sym, ap, ◌∙◌, subst, append_assoc, append-nil}
 use Rattle.futures.specs.declared.task.Poll.{Poll}
 use Rattle.engine_io.specs.declared.input.EndCause.{EndCause}
 use Rattle.engine_io.specs.declared.input.Turn.{Turn}
@@ -8,7 +8,7 @@ use Rattle.engine_io.specs.Sources.{given}
 use Rattle.commonware_broadcast.specs.EngineHistory.{end_told}
 use Rattle.commonware_broadcast.specs.EngineState.{Moment}
 use Rattle.commonware_broadcast.specs.Interfaces.{Format, Interfaces}
-use Rattle.commonware_broadcast.specs.Polls.{IsPoll, Polls, TakesPolls, ShowsPolls, RunsTo, StopsAt, unended}
+use Rattle.commonware_broadcast.specs.Polls.{IsPoll, Polls, SomePolls, ShowsPolls, ShowsPollsTo, StopsAt, unended}
 
 -- a poll after others that had these turns, and what they are with its own
 pub record Next {P M D S G O J N V B Q C T : Type 0} (f : Format P M D C) (i : Interfaces P M D S G O J N V B Q) (mid new : Moment P M S O D J B Q C T N V) (turns listed : List (Turn P D)) : Type 0 where
@@ -71,7 +71,7 @@ module _ {P D : Type 0} where
 
 module _ {P M D S G O J N V B Q C T : Type 0} {f : Format P M D C} {i : Interfaces P M D S G O J N V B Q} where
   Polls-append : {mid new : Moment P M S O D J B Q C T N V} (count : ℕ) (old : Moment P M S O D J B Q C T N V) (turns : List (Turn P D)) → Polls f i count old mid turns
-      → (more : TakesPolls f i mid new) → Polls f i (plus count more.count) old new (turns ++ more.turns)
+      → (more : SomePolls f i mid new) → Polls f i (plus count more.count) old new (turns ++ more.turns)
   Polls-append {new = new} zero old turns first more =
       subst (λ ts. Polls f i more.count old new (ts ++ more.turns)) (sym first.1) (subst (λ e. Polls f i more.count e new more.turns) first.0 more.polls)
   Polls-append (suc count) old turns (next, told, poll, rest, is, tail) more =
@@ -114,12 +114,12 @@ module _ {P M D S G O J N V B Q C T W : Type 0} {f : Format P M D C} {i : Interf
 module _ {P M D S G O J N V B Q C T W A : Type 0} (f : Format P M D C) (i : Interfaces P M D S G O J N V B Q) (seen : W → List (Turn P D) → Type 0)
     (until_idle : Bool) (at : A → Moment P M S O D J B Q C T N V × W) where
   -- what a run gives from a moment on, it gives from one that polls took to it
-  pub RunsTo-back : (old mid : Option A) (left : Moment P M S O D J B Q C T N V × W) (end : Option EndCause) → {again : Bool} → again ≡ until_idle
-      → IfSome old (λ p. IsSomeAnd mid (λ q. ShowsPolls f i seen (at p).0 (at q).0 (at p).1 (at q).1)) → IfSome mid (λ q. RunsTo f i seen again (at q).0 (at q).1 left end)
-      → IfSome old (λ p. RunsTo f i seen until_idle (at p).0 (at p).1 left end)
-  RunsTo-back None mid left end same took ran = tt
-  RunsTo-back (Some p) None left end same took ran = absurd took
-  RunsTo-back (Some p) (Some q) left end same took ran = (ShowsPolls-more took ran.0, subst (λ b. StopsAt b left.0.engine end) same ran.1)
+  pub ShowsPollsTo-back : (old mid : Option A) (left : Moment P M S O D J B Q C T N V × W) (end : Option EndCause) → {again : Bool} → again ≡ until_idle
+      → IfSome old (λ p. IsSomeAnd mid (λ q. ShowsPolls f i seen (at p).0 (at q).0 (at p).1 (at q).1)) → IfSome mid (λ q. ShowsPollsTo f i seen again (at q).0 (at q).1 left end)
+      → IfSome old (λ p. ShowsPollsTo f i seen until_idle (at p).0 (at p).1 left end)
+  ShowsPollsTo-back None mid left end same took ran = tt
+  ShowsPollsTo-back (Some p) None left end same took ran = absurd took
+  ShowsPollsTo-back (Some p) (Some q) left end same took ran = (ShowsPolls-more took ran.0, subst (λ b. StopsAt b left.0.engine end) same ran.1)
 
 -- an engine that was to run until it is idle has no job, unless it ended
 pub stops-idle : {J : Type 0} {job : Option J} {ended : Option EndCause} (end : Option EndCause)
@@ -130,3 +130,14 @@ stops-idle (Some cause) h lives = absurd (let no : None ≡ Some cause = sym liv
 -- one that was not to has ended
 pub stops-ended : {A X : Type 0} → (false ≡ true) × X → A
 stops-ended h = absurd (let no : false ≡ true = h.0 in cc)
+
+-- the requests that a run left are those that were taken out of its engine
+pub Caused-same : {Q F : Type 0} {left requests : Q} (at : Q) (ended : Type 0) (failed : F → Type 0) (failure : Option F) → left ≡ requests
+    → MatchOption failure (ended × (requests ≡ at)) failed → MatchOption failure (ended × (left ≡ at)) failed
+Caused-same at ended failed None same h = (h.0, same ∙ h.1)
+Caused-same at ended failed (Some f) same h = h
+
+-- what a result has if it is a value, it has if it is known to be one
+pub holds-if-ok : {A E : Type 0} (X : Type 0) (r : Result A E) → is_ok r ≡ true → IfOk r (λ a. X) → X
+holds-if-ok X (Ok a) fine h = h
+holds-if-ok X (Err e) fine h = absurd (let no : false ≡ true = fine in cc)

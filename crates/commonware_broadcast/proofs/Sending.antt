@@ -8,7 +8,7 @@ use Rattle.engine_io.specs.declared.input.Input.{Input}
 use Rattle.engine_io.specs.declared.input.Input.TheVariants.{Peers, Request, Arrived, Invalid}
 use Rattle.engine_io.specs.Inputs.{requests_in}
 use Rattle.commonware_broadcast.specs.EngineHistory.{Step, swept, applied, refused, decoded, uncounted, ended, happenings_at, happenings, inputs, inputs_at, outcomes, outcomes_at}
-use Rattle.commonware_broadcast.specs.AppliesSteps.{Sends, IsOf}
+use Rattle.commonware_broadcast.specs.AppliesSteps.{Sends, IsStepOf}
 use Rattle.commonware_broadcast.proofs.Composing.{happenings-append}
 use Rattle.commonware_broadcast.proofs.Telling.{input-at, none-before, none-after}
 
@@ -78,7 +78,7 @@ module _ {P M D S G N : Type 0} (s : Setting P M D) (sender_told : N → List (S
   pub Sends-none : (steps : List (Step P M D S G)) (sender : N) → requests_in (inputs steps) ≡ [] → Sends s sender_told steps sender sender
   Sends-none steps sender none = Sends-silent steps sender (sent-none s steps none)
 
-  pub Sends-input : (input : Input P M S G D) (step : Step P M D S G) (sender : N) → IsOf input step → requests_in (input ∷ []) ≡ [] → Sends s sender_told (step ∷ []) sender sender
+  pub Sends-input : (input : Input P M S G D) (step : Step P M D S G) (sender : N) → IsStepOf input step → requests_in (input ∷ []) ≡ [] → Sends s sender_told (step ∷ []) sender sender
   Sends-input input step sender of_input none = Sends-none (step ∷ []) sender (ap requests_in (input-at input step of_input) ∙ none)
 
   -- steps, and then more

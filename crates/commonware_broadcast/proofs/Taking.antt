@@ -18,13 +18,13 @@ use Rattle.engine_io.specs.Refused.{refuses, is_request, outcome_of}
 use Rattle.engine_io.specs.Replies.{Asker}
 use Rattle.engine_io.specs.Sources.{given}
 use Rattle.commonware_broadcast.specs.declared.buffered.engine.node.Node.{Node}
-use Rattle.commonware_broadcast.specs.AppliesSteps.{AppliesStep, AppliesSteps, Applies, Sends, sinks}
+use Rattle.commonware_broadcast.specs.AppliesSteps.{AppliesStep, AppliesSteps, AppliesAndSends, Sends, sinks}
 use Rattle.commonware_broadcast.specs.Arrives.{Arrival, Arrives, message_of, payload_of, input_of, reader_of}
 use Rattle.commonware_broadcast.specs.EngineHistory.{Step, IsSweptOnce, swept, ended, happenings, inputs, inputs_at, outcomes, outcomes_at, read_from, read_from_at, end_of, sweeps, turns, turns_at}
 use Rattle.commonware_broadcast.specs.EngineState.{Moment}
 use Rattle.commonware_broadcast.specs.Interfaces.{Format, IsSetting, Interfaces}
 use Rattle.commonware_broadcast.specs.Taken.{pending_input, payload_inputs, sender_of, senders_of, HoldsJob, Holds, TakesNone}
-use Rattle.commonware_broadcast.specs.TakesSteps.{TakesSteps, PollsOnce}
+use Rattle.commonware_broadcast.specs.TakesSteps.{TakesSteps, TakesPoll}
 use Rattle.commonware_broadcast.proofs.Composing.{told-same, AppliesSteps-none, AppliesSteps-more, AreSteps-append}
 use Rattle.commonware_broadcast.proofs.Due.{map-after, all-due}
 use Rattle.commonware_broadcast.proofs.Applying.{AppliesSteps-one}
@@ -96,26 +96,26 @@ pub record Gave {P M D S G O J N V B Q C T : Type 0} (i : Interfaces P M D S G O
   pub local : payloads_in given ≡ []
   pub sets : (told : List (List P)) → i.provider.told old.engine.provider told → i.provider.told new.engine.provider (told ++ sets_in given)
   pub requests : (told : List (Asked (Message P M S G D))) → i.requests.told old.engine.requests told → i.requests.told new.engine.requests (told ++ requests_in given)
-  pub outcomes : (told : List Bool) → i.requests.ended old.engine.requests told → i.requests.ended new.engine.requests (told ++ refusals)
+  pub outcomes : (told : List Bool) → i.requests.outcomes old.engine.requests told → i.requests.outcomes new.engine.requests (told ++ refusals)
   pub payloads : (told : List (P × List ℕ)) → i.receiver.told old.receiver told → i.receiver.told new.receiver (told ++ received)
 
 module _ {P M D S G O J N V B Q C T : Type 0} {i : Interfaces P M D S G O J N V B Q} {old new : Moment P M S O D J B Q C T N V} where
   -- only the network gave
   pub Gave-received : {received : List (P × List ℕ)} → new.engine.provider ≡ old.engine.provider
       → ((told : List (Asked (Message P M S G D))) → i.requests.told old.engine.requests told → i.requests.told new.engine.requests told)
-      → ((told : List Bool) → i.requests.ended old.engine.requests told → i.requests.ended new.engine.requests told)
+      → ((told : List Bool) → i.requests.outcomes old.engine.requests told → i.requests.outcomes new.engine.requests told)
       → ((told : List (P × List ℕ)) → i.receiver.told old.receiver told → i.receiver.told new.receiver (told ++ received)) → Gave i old new [] [] received
   Gave-received provider requests outcomes payloads = record {
     local = refl;
     sets = λ told h. subst (λ b. i.provider.told b (told ++ [])) (sym provider) (told-same i.provider.told old.engine.provider told h);
     requests = λ told h. told-same i.requests.told new.engine.requests told (requests told h);
-    outcomes = λ told h. told-same i.requests.ended new.engine.requests told (outcomes told h);
+    outcomes = λ told h. told-same i.requests.outcomes new.engine.requests told (outcomes told h);
     payloads = payloads;
   }
 
   -- nothing was given
   pub Gave-none : new.engine.provider ≡ old.engine.provider → ((told : List (Asked (Message P M S G D))) → i.requests.told old.engine.requests told → i.requests.told new.engine.requests told)
-      → ((told : List Bool) → i.requests.ended old.engine.requests told → i.requests.ended new.engine.requests told) → new.receiver ≡ old.receiver → Gave i old new [] [] []
+      → ((told : List Bool) → i.requests.outcomes old.engine.requests told → i.requests.outcomes new.engine.requests told) → new.receiver ≡ old.receiver → Gave i old new [] [] []
   Gave-none provider requests outcomes receiver =
       Gave-received provider requests outcomes (λ told h. subst (λ r. i.receiver.told r (told ++ [])) (sym receiver) (told-same i.receiver.told old.receiver told h))
 
@@ -153,7 +153,7 @@ module _ {P M D S G O J N V B Q C T : Type 0} {x : Course P M D S G O J N V B Q 
     ends = λ lives. ap (λ e. e.end) same ∙ lives;
     sets = λ told h. subst (λ e. x.i.provider.told e.provider (told ++ [])) (sym same) (told-same x.i.provider.told x.old.engine.provider told h);
     requests = λ told h. subst (λ e. x.i.requests.told e.requests (told ++ [])) (sym same) (told-same x.i.requests.told x.old.engine.requests told h);
-    outcomes = λ told h. subst (λ e. x.i.requests.ended e.requests (told ++ [])) (sym same) (told-same x.i.requests.ended x.old.engine.requests told h);
+    outcomes = λ told h. subst (λ e. x.i.requests.outcomes e.requests (told ++ [])) (sym same) (told-same x.i.requests.outcomes x.old.engine.requests told h);
     received = [];
     given = gives;
     pending = x.before;
@@ -186,7 +186,7 @@ module _ {P M D S G O J N V B Q C T : Type 0} {x : Course P M D S G O J N V B Q 
 
   -- one input, which was applied or refused
   pub TakesOnly-input : {input : Input P M S G D} {turn : Turn P D}
-      → Applies x.s (sinks x.i.of_arrivals.may_answer x.i.of_arrivals.outlet.told x.i.sender.told) x.past input turn (x.old.engine.node, x.old.sender) (x.new.engine.node, x.new.sender)
+      → AppliesAndSends x.s (sinks x.i.of_arrivals.may_answer x.i.of_arrivals.outlet.told x.i.sender.told) x.past input turn (x.old.engine.node, x.old.sender) (x.new.engine.node, x.new.sender)
       → Gave x.i x.old x.new (input ∷ []) (outcome_of (is_request input) (refuses turn)) [] → x.new.engine.end ≡ None → Holds x.i.of_arrivals.is_of x.new.engine.end x.new.engine.job x.before
       → TakesOnly x.s x.i x.past x.before x.old x.new (turn ∷ [])
   TakesOnly-input {input} {turn} one gave lives held =
@@ -233,7 +233,7 @@ module _ {P M D S G O J N V B Q C T : Type 0} {x : Course P M D S G O J N V B Q 
     ends = λ _. lives ∙ sym one.goes_on;
     sets = λ told h. subst (λ l. x.i.provider.told x.new.engine.provider (told ++ l)) (sym one.remote.no_sets) (gave.sets told h);
     requests = λ told h. subst (λ l. x.i.requests.told x.new.engine.requests (told ++ l)) (sym one.remote.no_requests) (gave.requests told h);
-    outcomes = λ told h. subst (λ l. x.i.requests.ended x.new.engine.requests (told ++ l)) (sym (outcomes-none one.steps one.remote.no_requests)) (gave.outcomes told h);
+    outcomes = λ told h. subst (λ l. x.i.requests.outcomes x.new.engine.requests (told ++ l)) (sym (outcomes-none one.steps one.remote.no_requests)) (gave.outcomes told h);
     received = received;
     given = gave.payloads;
     pending = one.pending;
@@ -271,7 +271,7 @@ module _ {P M D S G O J N V B Q C T : Type 0} {x : Course P M D S G O J N V B Q 
             ∙ ap (λ l. told ++ l) (sym (ap sets_in all ∙ sets-append (inputs one.steps) (inputs more.steps)))) (more.sets (told ++ sets_in (inputs one.steps)) (one.sets told h));
         requests = λ told h. subst (x.i.requests.told x.new.engine.requests) (append_assoc told (requests_in (inputs one.steps)) (requests_in (inputs more.steps))
             ∙ ap (λ l. told ++ l) (sym (ap requests_in all ∙ requests-append (inputs one.steps) (inputs more.steps)))) (more.requests (told ++ requests_in (inputs one.steps)) (one.requests told h));
-        outcomes = λ told h. subst (x.i.requests.ended x.new.engine.requests) (append_assoc told (outcomes one.steps) (outcomes more.steps)
+        outcomes = λ told h. subst (x.i.requests.outcomes x.new.engine.requests) (append_assoc told (outcomes one.steps) (outcomes more.steps)
             ∙ ap (λ l. told ++ l) (sym (outcomes-append more.steps one.steps))) (more.outcomes (told ++ outcomes one.steps) (one.outcomes told h));
         received = one.received ++ more.received;
         given = λ told h. subst (x.i.receiver.told x.new.receiver) (append_assoc told one.received more.received) (more.given (told ++ one.received) (one.given told h));
@@ -308,31 +308,31 @@ module _ {P M D S G O J N V B Q C T : Type 0} {x : Course P M D S G O J N V B Q 
       CleansUpFirst-more {mid = (record x.old { engine = record x.old.engine { node = node; provider = provider; requests = requests } })} (λ _. lives) (CleansUpFirst-alone cleaned lives refl gave held) more
 
   -- a poll of an engine that has ended
-  pub PollsOnce-ended : {cause : EndCause} {result : Poll (Turn P D)} → HasContent x.s x.past x.old.engine.node.core → Holds x.i.of_arrivals.is_of x.old.engine.end x.old.engine.job x.before → x.old.engine.end ≡ Some cause
-      → x.new ≡ x.old → PollsOnce x.s x.i x.past x.before x.old x.new result
-  PollsOnce-ended {cause} {result} has held at same = subst (λ n. PollsOnce x.s x.i x.past x.before x.old n result) (sym same) (record {
+  pub TakesPoll-ended : {cause : EndCause} {result : Poll (Turn P D)} → HasContent x.s x.past x.old.engine.node.core → Holds x.i.of_arrivals.is_of x.old.engine.end x.old.engine.job x.before → x.old.engine.end ≡ Some cause
+      → x.new ≡ x.old → TakesPoll x.s x.i x.past x.before x.old x.new result
+  TakesPoll-ended {cause} {result} has held at same = subst (λ n. TakesPoll x.s x.i x.past x.before x.old n result) (sym same) (record {
     took = TakesSteps-none has held (λ lives. absurd (let no : Some cause ≡ None = sym at ∙ lives in cc)) refl refl (λ told h. told-same x.i.receiver.told x.old.receiver told h);
     job_alone = λ job is. record { provider = refl; receiver = refl; requests = refl; asks_none = refl };
     swept_once = λ lives. absurd (let no : Some cause ≡ None = sym at ∙ lives in cc);
   })
 
   -- a stop was asked for, and the engine ended
-  pub PollsOnce-stopped : AppliesStep x.s x.i.of_arrivals.may_answer x.i.of_arrivals.outlet.told x.past (ended Stopped) x.old.engine.node x.new.engine.node
+  pub TakesPoll-stopped : AppliesStep x.s x.i.of_arrivals.may_answer x.i.of_arrivals.outlet.told x.past (ended Stopped) x.old.engine.node x.new.engine.node
       → x.new.engine.end ≡ Some Stopped → x.new.engine.job ≡ None → x.new.engine.provider ≡ x.old.engine.provider → x.new.sender ≡ x.old.sender → x.new.receiver ≡ x.old.receiver
       → ((told : List (Asked (Message P M S G D))) → x.i.requests.told x.old.engine.requests told → x.i.requests.told x.new.engine.requests told)
-      → ((told : List Bool) → x.i.requests.ended x.old.engine.requests told → x.i.requests.ended x.new.engine.requests told)
-      → PollsOnce x.s x.i x.past x.before x.old x.new (Ready (Ended Stopped))
-  PollsOnce-stopped one end empty provider sender receiver tells outcomes = record {
+      → ((told : List Bool) → x.i.requests.outcomes x.old.engine.requests told → x.i.requests.outcomes x.new.engine.requests told)
+      → TakesPoll x.s x.i x.past x.before x.old x.new (Ready (Ended Stopped))
+  TakesPoll-stopped one end empty provider sender receiver tells outcomes = record {
     took = (TakesOnly-ended one end empty sender (Gave-none provider tells outcomes receiver)).took;
     job_alone = λ job is. idle provider receiver refl refl;
     swept_once = λ lives none. inl (refl, idle provider receiver refl refl);
   }
 
   -- the job that was pending was polled
-  pub PollsOnce-job : {job : P × J} {result : Poll (Turn P D)} → x.old.engine.job ≡ Some job → HoldsJob x.i.of_arrivals.is_of x.old.engine.job x.before
+  pub TakesPoll-job : {job : P × J} {result : Poll (Turn P D)} → x.old.engine.job ≡ Some job → HoldsJob x.i.of_arrivals.is_of x.old.engine.job x.before
       → ((m : M) → x.i.of_arrivals.is_of job.1 m → Arrives x.s x.i.of_arrivals x.past (message_of job.0 m) x.old.engine.node x.new.engine result) → x.new.engine.end ≡ None → x.new.engine.provider ≡ x.old.engine.provider
-      → x.new.sender ≡ x.old.sender → x.new.receiver ≡ x.old.receiver → Gave x.i x.old x.new [] [] [] → PollsOnce x.s x.i x.past x.before x.old x.new result
-  PollsOnce-job {job} at held arrives lives provider sender receiver gave =
+      → x.new.sender ≡ x.old.sender → x.new.receiver ≡ x.old.receiver → Gave x.i x.old x.new [] [] [] → TakesPoll x.s x.i x.past x.before x.old x.new result
+  TakesPoll-job {job} at held arrives lives provider sender receiver gave =
       let m = Holds-some x.i.of_arrivals.is_of job.0 job.1 x.before (subst (λ j. HoldsJob x.i.of_arrivals.is_of j x.before) at held) in
       let one = arrives m.0 m.2 in
       record {
@@ -342,11 +342,11 @@ module _ {P M D S G O J N V B Q C T : Type 0} {x : Course P M D S G O J N V B Q 
       }
 
   -- no job was pending, and the sources were polled, once the requests had told what comes first
-  pub PollsOnce-sources : {asked : Q} {job : Option (P × J)} {result : Poll (Turn P D)} → x.old.engine.job ≡ None
+  pub TakesPoll-sources : {asked : Q} {job : Option (P × J)} {result : Poll (Turn P D)} → x.old.engine.job ≡ None
       → CleansUpFirst x.s x.i x.past x.before (record x.old { engine = record x.old.engine { requests = asked; job = job } }) x.new (given result)
       → ((told : List (Asked (Message P M S G D))) → x.i.requests.told x.old.engine.requests told → x.i.requests.told asked told)
-      → ((told : List Bool) → x.i.requests.ended x.old.engine.requests told → x.i.requests.ended asked told) → PollsOnce x.s x.i x.past x.before x.old x.new result
-  PollsOnce-sources none one tells outcomes = let took = one.took in record {
+      → ((told : List Bool) → x.i.requests.outcomes x.old.engine.requests told → x.i.requests.outcomes asked told) → TakesPoll x.s x.i x.past x.before x.old x.new result
+  TakesPoll-sources none one tells outcomes = let took = one.took in record {
     took = record {
       steps = took.steps;
       ran = took.ran;

@@ -11,7 +11,7 @@ use Rattle.engine_io.specs.declared.input.Turn.TheVariants as tell
 use Rattle.engine_io.specs.Refused.{refuses, is_request, outcome_of}
 use Rattle.engine_io.specs.Replies.{Asker}
 use Rattle.commonware_broadcast.specs.EngineHistory.{Step, swept, applied, refused, decoded, uncounted, ended, happenings, inputs, inputs_at, outcomes, outcomes_at, turn_of_request, read_from, read_from_at, end_of, sweeps, sweeps_at, turns, turns_at}
-use Rattle.commonware_broadcast.specs.AppliesSteps.{IsOf}
+use Rattle.commonware_broadcast.specs.AppliesSteps.{IsStepOf}
 use Rattle.commonware_broadcast.proofs.Composing.{history-append}
 
 -- what follows an empty list is the whole
@@ -51,7 +51,7 @@ module _ {P M D S G : Type 0} where
   end_of-append (ended cause ∷ later) earlier h = refl
 
   -- the step of an input
-  pub input-at : (input : Input P M S G D) (step : Step P M D S G) → IsOf input step → inputs_at step ≡ input ∷ []
+  pub input-at : (input : Input P M S G D) (step : Step P M D S G) → IsStepOf input step → inputs_at step ≡ input ∷ []
   input-at input (applied given replies) h = ap (λ i. i ∷ []) h
   input-at input (refused given cause) h = ap (λ i. i ∷ []) h
   input-at input (swept other) h = absurd h
@@ -59,7 +59,7 @@ module _ {P M D S G : Type 0} where
   input-at input (uncounted p c) h = absurd h
   input-at input (ended cause) h = absurd h
 
-  pub reads-none : (input : Input P M S G D) (step : Step P M D S G) → IsOf input step → read_from_at step ≡ []
+  pub reads-none : (input : Input P M S G D) (step : Step P M D S G) → IsStepOf input step → read_from_at step ≡ []
   reads-none input (applied given replies) h = refl
   reads-none input (refused given cause) h = refl
   reads-none input (swept other) h = absurd h
@@ -67,7 +67,7 @@ module _ {P M D S G : Type 0} where
   reads-none input (uncounted p c) h = absurd h
   reads-none input (ended cause) h = absurd h
 
-  pub sweeps-none : (input : Input P M S G D) (step : Step P M D S G) → IsOf input step → sweeps_at step ≡ 0
+  pub sweeps-none : (input : Input P M S G D) (step : Step P M D S G) → IsStepOf input step → sweeps_at step ≡ 0
   sweeps-none input (applied given replies) h = refl
   sweeps-none input (refused given cause) h = refl
   sweeps-none input (swept other) h = absurd h
@@ -75,7 +75,7 @@ module _ {P M D S G : Type 0} where
   sweeps-none input (uncounted p c) h = absurd h
   sweeps-none input (ended cause) h = absurd h
 
-  pub goes-on-at : (input : Input P M S G D) (step : Step P M D S G) (steps : List (Step P M D S G)) → IsOf input step → end_of (step ∷ steps) ≡ None
+  pub goes-on-at : (input : Input P M S G D) (step : Step P M D S G) (steps : List (Step P M D S G)) → IsStepOf input step → end_of (step ∷ steps) ≡ None
   goes-on-at input (applied given replies) steps h = refl
   goes-on-at input (refused given cause) steps h = refl
   goes-on-at input (swept other) steps h = absurd h
@@ -91,7 +91,7 @@ module _ {P M D S G : Type 0} (s : Setting P M D) where
   applied-not (Get d responder) past = refl
 
   -- of a request that was applied or refused it is told which
-  pub outcome-at : (past : History P M D (Asker S) (Asker G)) (input : Input P M S G D) (turn : Turn P D) (step : Step P M D S G) → IsOf input step → turns_at s step past ≡ turn ∷ []
+  pub outcome-at : (past : History P M D (Asker S) (Asker G)) (input : Input P M S G D) (turn : Turn P D) (step : Step P M D S G) → IsStepOf input step → turns_at s step past ≡ turn ∷ []
       → outcomes_at step ≡ outcome_of (is_request input) (refuses turn)
   outcome-at past input turn (applied (Peers ps) replies) h t = ap (λ (i : Input P M S G D). outcome_of (is_request i) (refuses turn)) h
   outcome-at past input turn (applied (Request r) replies) h t =

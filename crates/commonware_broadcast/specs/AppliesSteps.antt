@@ -25,10 +25,10 @@ requested ticket counted message =
     Request (record { ticket = ticket; message = message; counted = counted })
 
 -- the step of an input: it was applied, or refused
-abbrev pub IsOf : {P M D S G : Type 0} → Input P M S G D → Step P M D S G → Type 0
-IsOf input (applied given replies) = given ≡ input
-IsOf input (refused given cause) = given ≡ input
-IsOf input _ = ⊥
+abbrev pub IsStepOf : {P M D S G : Type 0} → Input P M S G D → Step P M D S G → Type 0
+IsStepOf input (applied given replies) = given ≡ input
+IsStepOf input (refused given cause) = given ≡ input
+IsStepOf input _ = ⊥
 
 module _ {P M D S G O : Type 0} (s : Setting P M D) (may_answer : Asker S → Bool → Type 0)
     (outlet_told : O → Replies S G M D → Type 0) where
@@ -88,16 +88,16 @@ sinks may_answer told sender_told = record {
 
 module _ {P M D S G O : Type 0} (s : Setting P M D) (r : Replying M D S G O) where
   -- an input was applied or refused, with this turn
-  pub record Handles (past : History P M D (Asker S) (Asker G)) (input : Input P M S G D)
+  pub record AppliesInput (past : History P M D (Asker S) (Asker G)) (input : Input P M S G D)
       (turn : Turn P D) (old new : Node P M S O D) : Type 0 where
     pub step : Step P M D S G
-    pub of_input : IsOf input step
+    pub of_input : IsStepOf input step
     pub turned : turns_at s step past ≡ turn ∷ []
     pub ran : AppliesSteps s r.may_answer r.told past (step ∷ []) old new
 
 module _ {P M D S G O N : Type 0} (s : Setting P M D) (k : Sinks P M D S G O N) where
   -- so it was, and the sender was handed its broadcast
-  pub record Applies (past : History P M D (Asker S) (Asker G)) (input : Input P M S G D)
+  pub record AppliesAndSends (past : History P M D (Asker S) (Asker G)) (input : Input P M S G D)
       (turn : Turn P D) (old new : Node P M S O D × N) : Type 0 where
-    pub handled : Handles s k.of_replies past input turn old.0 new.0
+    pub handled : AppliesInput s k.of_replies past input turn old.0 new.0
     pub sends : Sends s k.sender_told (handled.step ∷ []) old.1 new.1

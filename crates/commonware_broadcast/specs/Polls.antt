@@ -19,12 +19,12 @@ use Rattle.engine_io.specs.declared.asleep.CannotWait.{CannotWait}
 use Rattle.commonware_broadcast.specs.EngineState.{EngineState, Moment}
 use Rattle.commonware_broadcast.specs.Interfaces.{Format, Interfaces}
 use Rattle.commonware_broadcast.specs.Order.{UnlessPeers, IfNetwork}
-use Rattle.commonware_broadcast.specs.TakesSteps.{PollsOnce, Always}
+use Rattle.commonware_broadcast.specs.TakesSteps.{TakesPoll, Always}
 
 module _ {P M S G O D J N V B Q C T : Type 0} (provider : Provider B P) (receiver : Receiver V P)
     (requests : Requests Q (Message P M S G D) D) where
   -- what a poll of an engine that has not ended does with its sources, as far as they tell
-  pub record Attends (old new : Moment P M S O D J B Q C T N V) (result : Poll (Turn P D))
+  pub record KeepsOrder (old new : Moment P M S O D J B Q C T N V) (result : Poll (Turn P D))
       : Type 0 where
     -- a stop comes first
     pub stop_first : requests.stops old.engine.requests → result ≡ Ready (Ended Stopped)
@@ -63,9 +63,9 @@ module _ {P M D S G O J N V B Q C T : Type 0} (f : Format P M D C)
   -- a poll of an engine, whatever happened to it before
   pub record IsPoll (old new : Moment P M S O D J B Q C T N V) (result : Poll (Turn P D))
       : Type 0 where
-    pub took : Always f i old (λ s past before. PollsOnce s i past before old new result)
+    pub took : Always f i old (λ s past before. TakesPoll s i past before old new result)
     pub attends : old.engine.end ≡ None
-        → Attends i.provider i.receiver i.requests old new result
+        → KeepsOrder i.provider i.receiver i.requests old new result
     -- once it has ended, every poll returns that end, and changes nothing
     pub same_after_end : (cause : EndCause) → old.engine.end ≡ Some cause
         → (result ≡ Ready (Ended cause)) × (new ≡ old)
@@ -95,27 +95,10 @@ module _ {P M D S G O J N V B Q C T : Type 0} (f : Format P M D C)
     pub all_unless_ended : new.engine.end ≡ None → count ≡ limit
 
   -- some polls, one after another
-  pub record TakesPolls (old new : Moment P M S O D J B Q C T N V) : Type 0 where
+  pub record SomePolls (old new : Moment P M S O D J B Q C T N V) : Type 0 where
     pub count : ℕ
     pub turns : List (Turn P D)
     pub polls : Polls count old new turns
-
-  -- an engine took some polls until it had no job, or had ended, and is to have none from then on
-  pub record MakesReady (old new : Moment P M S O D J B Q C T N V) : Type 0 where
-    pub last : EngineState P M S O D J B Q C T
-    pub took : TakesPolls old (record new { engine = last })
-    pub idle : last.end ≡ None → last.job ≡ None
-    pub without_job : new.engine ≡ record last { job = None }
-
-  -- an engine took some polls, and left these counters: the last poll ended it for this cause, or
-  -- its thread could not wait, and no poll was taken
-  pub record Runs (old : Moment P M S O D J B Q C T N V) (cause : EndCause)
-      (failure : Option CannotWait) (metrics : Counters P) : Type 0 where
-    pub last : Moment P M S O D J B Q C T N V
-    pub took : TakesPolls old last
-    pub counters : metrics ≡ last.engine.node.metrics
-    pub caused : MatchOption failure (last.engine.end ≡ Some cause)
-        (λ failed. (cause ≡ WaitFailed) × (last ≡ old))
 
 -- an engine has ended for this cause, or, if it was to run until it is idle, has no job
 abbrev pub StopsAt : {P M S O D J B Q C T : Type 0} → Bool → EngineState P M S O D J B Q C T
@@ -128,19 +111,38 @@ module _ {P M D S G O J N V B Q C T W : Type 0} (f : Format P M D C)
   -- some polls, one after another, whose turns were shown to the observer, but no end
   pub record ShowsPolls (old new : Moment P M S O D J B Q C T N V) (watching watched : W)
       : Type 0 where
-    pub took : TakesPolls f i old new
+    pub took : SomePolls f i old new
     pub shown : (turns : List (Turn P D)) → seen watching turns
         → seen watched (turns ++ unended took.turns)
 
   -- such polls, which left an engine that is to run no longer
-  abbrev pub RunsTo : Bool → Moment P M S O D J B Q C T N V → W → Moment P M S O D J B Q C T N V × W
+  abbrev pub ShowsPollsTo : Bool → Moment P M S O D J B Q C T N V → W → Moment P M S O D J B Q C T N V × W
       → Option EndCause → Type 0
-  RunsTo until_idle old watching left end =
+  ShowsPollsTo until_idle old watching left end =
       ShowsPolls old left.0 watching left.1 × StopsAt until_idle left.0.engine end
 
-  -- an engine ran, and its observer was handed its turns, and then these
+  -- an engine took some polls until it had no job, or had ended, and is to have none from then on;
+  -- one that had none took none
+  pub record MakesReady (old new : Moment P M S O D J B Q C T N V) (watching watched : W)
+      : Type 0 where
+    pub last : EngineState P M S O D J B Q C T
+    pub took : ShowsPolls old (record new { engine = last }) watching watched
+    pub idle : last.end ≡ None → last.job ≡ None
+    pub same_if_idle : old.engine.job ≡ None
+        → (record new { engine = last } ≡ old) × (watched ≡ watching)
+    pub without_job : new.engine ≡ record last { job = None }
+
+  -- an engine took some polls, and left these counters and requests: the last poll ended it for
+  -- this cause, or its thread could not wait, and no poll was taken. Its observer was handed the
+  -- turns, and then these
   pub record ShowsRun (old : Moment P M S O D J B Q C T N V) (cause : EndCause)
-      (failure : Option CannotWait) (metrics : Counters P) (watching watched : W) (last : List (Turn P D)) : Type 0 where
-    pub ran : Runs f i old cause failure metrics
+      (failure : Option CannotWait) (metrics : Counters P) (requests : Q) (watching watched : W)
+      (more : List (Turn P D)) : Type 0 where
+    pub last : Moment P M S O D J B Q C T N V
+    pub took : SomePolls f i old last
+    pub counters : metrics ≡ last.engine.node.metrics
+    pub caused : MatchOption failure
+        ((last.engine.end ≡ Some cause) × (requests ≡ last.engine.requests))
+        (λ failed. (cause ≡ WaitFailed) × (last ≡ old))
     pub shown : (turns : List (Turn P D)) → seen watching turns
-        → seen watched ((turns ++ unended ran.took.turns) ++ last)
+        → seen watched ((turns ++ unended took.turns) ++ more)

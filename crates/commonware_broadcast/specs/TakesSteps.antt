@@ -53,8 +53,8 @@ module _ {P M D S G O J N V B Q C T : Type 0} (s : Setting P M D)
         → i.requests.told old.engine.requests told
         → i.requests.told new.engine.requests (told ++ requests_in (inputs steps))
     -- of each of those requests it was told, in order, whether it was refused
-    pub outcomes : (told : List Bool) → i.requests.ended old.engine.requests told
-        → i.requests.ended new.engine.requests (told ++ outcomes steps)
+    pub outcomes : (told : List Bool) → i.requests.outcomes old.engine.requests told
+        → i.requests.outcomes new.engine.requests (told ++ outcomes steps)
     -- the message held before, and then the payloads that were given, are, in order, those of its
     -- inputs and then the message that is held now
     pub received : List (P × List ℕ)
@@ -68,7 +68,7 @@ module _ {P M D S G O J N V B Q C T : Type 0} (s : Setting P M D)
     pub read : read_from steps ≡ senders_of s received
 
   -- a poll took steps
-  pub record PollsOnce (past : History P M D (Asker S) (Asker G)) (before : Option (P × M))
+  pub record TakesPoll (past : History P M D (Asker S) (Asker G)) (before : Option (P × M))
       (old new : Moment P M S O D J B Q C T N V) (result : Poll (Turn P D)) : Type 0 where
     pub took : TakesSteps past before old new (given result)
     -- while a job is pending, nothing is taken from any source, and no waiter is asked

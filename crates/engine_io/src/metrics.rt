@@ -264,12 +264,12 @@ impl<P: PublicKey> Metrics<P> {
 }
 
 // Adds one to the number of the key, which is 0 if it has none.
-fn count_key<K: PublicKey>(numbers: &mut BTreeMap<K, u64>, key: &K) -> Result<(), AllocError>
-    ensures ok { OnOk result ((q : K) → let same = eq_by_cmp K.cmp in
+fn count_key<P: PublicKey>(numbers: &mut BTreeMap<P, u64>, key: &P) -> Result<(), AllocError>
+    ensures ok { OnOk result ((q : P) → let same = eq_by_cmp P.cmp in
         count_of same q numbers.new.entries
         ≡ (if same key.now q then raised (count_of same q numbers.old.entries) 1
         else count_of same q numbers.old.entries)) }
-    ensures known { has_count (eq_by_cmp K.cmp) key.now numbers.old.entries ≡ true → IsOk result }
+    ensures known { has_count (eq_by_cmp P.cmp) key.now numbers.old.entries ≡ true → IsOk result }
     ensures err { OnErr result (numbers.new.entries ≡ numbers.old.entries) }
 {
     if let Some(number) = numbers.get_mut(key) {

@@ -1,5 +1,5 @@
 //! The peers and the network of an engine.
-ghost use Rattle.std.specs.Prelude.{◌≡◌, ⊤, ℕ, List, None, [], ◌∷◌, ◌++◌, OnErr, IfNone};
+ghost use Rattle.std.specs.Prelude.{◌≡◌, true, false, ⊤, ℕ, List, None, [], ◌∷◌, ◌++◌, OnErr, IfNone};
 ghost use Rattle.futures.specs.Poll.{IfReady, OnPending};
 ghost use Rattle.futures.specs.declared.task.Poll.TheVariants.{Ready};
 ghost use Rattle.futures.specs.Task.{IsArmed, Keeps};
@@ -34,6 +34,16 @@ pub trait Provider<P: PublicKey> {
     /// Holds of each source that wakes who waits for a peer set: of none if none ever does, or if a
     /// pending poll always asks for another one.
     ghost needs: { Self → ℕ → Type 0 };
+
+    /// Returns whether there may be a set, or no more sets. If not, `poll_update` has nothing to
+    /// give. Registers nobody, so an engine that has something to do calls that only if this
+    /// returns so. A provider that does not tell always returns so.
+    fn may_have_update(&self) -> bool
+        ensures quiet { result ≡ false → quiet self.now }
+        ensures goes_on { ends self.now → result ≡ true }
+    {
+        true
+    }
 
     /// Returns the next set of primary peers, or `None` once there are no more.
     fn poll_update(&mut self, cx: &mut Context<'_>) -> Poll<Option<Set<P>>>

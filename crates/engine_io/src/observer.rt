@@ -25,8 +25,8 @@ impl<P, D> Observer<P, D> for () {
 }
 
 /// Lets both see each turn.
-impl<P, D, A: Observer<P, D>, B: Observer<P, D>> Observer<P, D> for (A, B) {
-    ghost seen = { λ both turns. A.seen both.0 turns × B.seen both.1 turns };
+impl<P, D, One: Observer<P, D>, Other: Observer<P, D>> Observer<P, D> for (One, Other) {
+    ghost seen = { λ both turns. One.seen both.0 turns × Other.seen both.1 turns };
 
     fn turn(&mut self, turn: &Turn<P, D>) {
         self.0.turn(turn);

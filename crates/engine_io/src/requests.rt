@@ -24,7 +24,7 @@ pub trait Requests<T: Awaits> {
 
     /// Whether this may be the list of what was told of the requests that were given, oldest first:
     /// whether each was refused. By default any list may be.
-    ghost ended: { Self → List Bool → Type 0 } = { λ _ _. ⊤ };
+    ghost outcomes: { Self → List Bool → Type 0 } = { λ _ _. ⊤ };
 
     /// Whether there may be no request to give.
     ghost quiet: { Self → Type 0 } = { λ _. ⊤ };
@@ -45,14 +45,26 @@ pub trait Requests<T: Awaits> {
     /// Holds of each source that wakes who waits for the order to stop, likewise.
     ghost needs_stop: { Self → ℕ → Type 0 };
 
+    /// Returns whether a stop may have been asked for. If not, none was. Registers nobody, so an
+    /// engine that has something to do calls `stopped` only if this returns so. A source that does
+    /// not tell always returns so.
+    fn may_be_stopped(&self) -> bool
+        ensures { stops self.now → result ≡ true }
+    {
+        true
+    }
+
     /// Returns whether the engine is to stop. If not, the task is woken once it is.
     fn stopped(&mut self, cx: &mut Context<'_>) -> bool
         ensures stops { stops self.old → result ≡ true }
         ensures only_if_asked { result ≡ true → may_stop self.old }
         ensures tells { (requests : List (Request T))
             → told self.old requests → told self.new requests }
-        ensures ended { (outcomes : List Bool) → ended self.old outcomes → ended self.new outcomes }
+        ensures outcomes { (before : List Bool)
+            → outcomes self.old before → outcomes self.new before }
         ensures heard { result ≡ false → HearsAll cx.new (needs_stop self.new) }
+        ensures same_needs { result ≡ false
+            → (source : ℕ) → needs self.new source → needs self.old source }
         ensures armed { result ≡ false → IsArmed cx.new }
         ensures quiet { quiet self.new → quiet self.old }
         ensures kept { Keeps cx.old cx.new };
@@ -61,18 +73,20 @@ pub trait Requests<T: Awaits> {
     fn poll_next(&mut self, cx: &mut Context<'_>) -> Poll<Request<T>>
         ensures tells { (requests : List (Request T))
             → told self.old requests → told self.new (requests ++ given result) }
-        ensures ended { (outcomes : List Bool) → ended self.old outcomes → ended self.new outcomes }
+        ensures outcomes { (before : List Bool)
+            → outcomes self.old before → outcomes self.new before }
         ensures quiet { OnPending result (quiet self.old) }
         ensures heard { OnPending result (HearsAll cx.new (needs self.new)) }
         ensures same_stop { OnPending result
             ((source : ℕ) → needs_stop self.new source → needs_stop self.old source) }
+        ensures no_later_stop { OnPending result (may_stop self.new → may_stop self.old) }
         ensures armed { OnPending result (IsArmed cx.new) }
         ensures kept { Keeps cx.old cx.new };
 
     /// Looks for some microseconds whether a request or the order to stop came since the last poll
     /// for a request. Returns whether one may have come. A source that does not tell returns at
     /// once.
-    fn look<C: Clock>(&self, _clock: &C) -> bool {
+    fn look<Time: Clock>(&self, _clock: &Time) -> bool {
         false
     }
 
@@ -89,19 +103,19 @@ pub trait Requests<T: Awaits> {
     }
 
     /// Tells that the request that was given last was refused, or else applied.
-    fn end(&mut self, refused: bool)
+    fn tell_outcome(&mut self, refused: bool)
         ensures tells { (requests : List (Request T))
             → told self.old requests → told self.new requests }
-        ensures ended { (outcomes : List Bool)
-            → ended self.old outcomes → ended self.new (outcomes ++ refused ∷ []) };
+        ensures outcomes { (before : List Bool)
+            → outcomes self.old before → outcomes self.new (before ++ refused ∷ []) };
 
     /// Refuses later requests, and gives up those that wait.
     fn close(&mut self)
         ensures closes { closed self.new }
         ensures tells { (requests : List (Request T))
             → told self.old requests → told self.new requests }
-        ensures ended { (outcomes : List Bool)
-            → ended self.old outcomes → ended self.new outcomes };
+        ensures outcomes { (before : List Bool)
+            → outcomes self.old before → outcomes self.new before };
 }
 
 /// Other threads queue the requests, so of those only is told how many counted ones were given. No
@@ -116,11 +130,15 @@ where
 {
     ghost told = { λ it requests. it.taken ≡ counted_in requests };
 
-    ghost ended = { λ it outcomes. it.refused ≤ refusals outcomes };
+    ghost outcomes = { λ it told. it.refused ≤ refusals told };
 
     ghost needs = { λ it source. source ≡ it.inbox.queued };
 
     ghost needs_stop = { λ it source. source ≡ it.inbox.stopped };
+
+    fn may_be_stopped(&self) -> bool {
+        self.stop_requested()
+    }
 
     fn stopped(&mut self, cx: &mut Context<'_>) -> bool {
         self.poll_stopped(cx)
@@ -130,7 +148,7 @@ where
         self.poll_request(cx)
     }
 
-    fn look<C: Clock>(&self, clock: &C) -> bool {
+    fn look<Time: Clock>(&self, clock: &Time) -> bool {
         Ingress::look(self, clock)
     }
 
@@ -139,16 +157,16 @@ where
         self.take_dropped(digests)
     }
 
-    fn end(&mut self, refused: bool)
+    fn tell_outcome(&mut self, refused: bool)
         ensures tells { (requests : List (Request (Message P M ℕ ℕ M.Digest)))
             → self.old.taken ≡ counted_in requests → self.new.taken ≡ counted_in requests }
-        ensures ended { (outcomes : List Bool) → self.old.refused ≤ refusals outcomes
-            → self.new.refused ≤ refusals (outcomes ++ refused ∷ []) }
+        ensures outcomes { (before : List Bool) → self.old.refused ≤ refusals before
+            → self.new.refused ≤ refusals (before ++ refused ∷ []) }
         ensures counts { self.new.refused
             ≡ self.old.refused + one_if (self.old.undecided && refused) }
         ensures decided { self.new.undecided ≡ false }
     {
-        Ingress::end(self, refused);
+        Ingress::tell_outcome(self, refused);
     }
 
     fn close(&mut self) {

@@ -183,7 +183,7 @@ impl<M: Digestible, R: Wait> Requests<Wanted<M>> for Telling<M, R> {
         Requests::take_closed(&mut self.ingress, digests)
     }
 
-    fn end(&mut self, _refused: bool) {}
+    fn tell_outcome(&mut self, _refused: bool) {}
 
     fn close(&mut self) {}
 }

@@ -8,7 +8,7 @@ use commonware_broadcast::buffered::{EndCause, Status, Turn};
 use memory_node::support::message::To;
 use std::test::Fail;
 
-static ROWS: [Row; 12] = [
+static ROWS: [Row; 13] = [
     Row {
         name: "a peer set comes before a request, and a request before a payload",
         nodes: 1,
@@ -218,6 +218,19 @@ static ROWS: [Row; 12] = [
             Act::Poll(1, Some(&Turn::Ended(EndCause::Stopped))),
             Act::Counts(1, Metric::Peer(5), 1),
             Act::Counts(1, Metric::Receive(Status::Success), 0),
+        ],
+    },
+    Row {
+        name: "a stop comes before a peer set, a request and a payload that wait",
+        nodes: 1,
+        sizes: (1024, 10),
+        acts: &[
+            Act::Get(1, b'a'),
+            Act::Track(1, &[5]),
+            Act::Comes(1, 5, b'a'),
+            Act::Stop(1),
+            Act::Poll(1, Some(&Turn::Ended(EndCause::Stopped))),
+            Act::Gives(0, Given::Nothing),
         ],
     },
     Row {

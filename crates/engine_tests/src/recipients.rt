@@ -2,7 +2,7 @@
 use commonware_broadcast::buffered::{Provider, Sender};
 use futures::task::Poll;
 use memory_network::{Mail, Network};
-use memory_node::support::message::{To, recipients};
+use memory_node::support::message::{To, peers, recipients};
 use memory_node::support::task::Task;
 use std::alloc::{AllocError, AllocGlobal};
 use std::random::RandomSource;
@@ -75,25 +75,40 @@ fn recipients_alone_are_handed_a_payload(rt: HostRuntime) -> Result<(), Fail> {
     Ok(())
 }
 
-/// Asks a node three times for a peer set. Returns how often it was asked after each of them.
-fn polls<R>(rt: &R) -> Result<[u64; 3], Fail>
+/// Asks a node whether it has a peer set, before and after it is given one more, and after each of
+/// two polls. Returns whether it had one each time, and how often it was asked by then.
+fn asked<R>(rt: &R) -> Result<[(bool, u64); 4], Fail>
 where
     R: Wait + RandomSource + AllocGlobal + Clone + Drop,
 {
     let mut ends = Network::between(rt, &[1])?.join(rt, &1)?;
     let mut task = Task::new(rt)?;
-    let mut polls = [0; 3];
-    for place in &mut polls {
-        let mut cx = task.solo.begin();
-        let _polled = ends.provider.poll_update(&mut cx);
-        task.rest.end(cx);
-        *place = ends.mail.polls.load(Ordering::SeqCst);
-    }
-    Ok(polls)
+    let first = ask(&ends.provider, &ends.mail);
+    ends.mail.set_peers(rt, peers(rt.alloc(), &[1, 2])?)?;
+    let second = ask(&ends.provider, &ends.mail);
+    poll(&mut ends.provider, &mut task);
+    let third = ask(&ends.provider, &ends.mail);
+    poll(&mut ends.provider, &mut task);
+    let fourth = ask(&ends.provider, &ends.mail);
+    Ok([first, second, third, fourth])
+}
+
+/// Asks the provider whether it has a peer set. Returns that, and how often the node was asked.
+fn ask<B: Provider<u64>>(provider: &B, mail: &Mail<u64>) -> (bool, u64) {
+    let has_set = provider.may_have_update();
+    (has_set, mail.polls.load(Ordering::SeqCst))
+}
+
+/// Polls the provider for a peer set.
+fn poll<B: Provider<u64>>(provider: &mut B, task: &mut Task) {
+    let mut cx = task.solo.begin();
+    let _polled = provider.poll_update(&mut cx);
+    task.rest.end(cx);
 }
 
 #[test]
-fn each_poll_for_a_peer_set_is_counted(rt: HostRuntime) -> Result<(), Fail> {
-    assert_eq!(rt; polls(&rt)?, [1, 2, 3]);
+fn a_node_tells_whether_it_has_a_peer_set(rt: HostRuntime) -> Result<(), Fail> {
+    let expected = [(true, 1), (true, 2), (true, 3), (false, 4)];
+    assert_eq!(rt; asked(&rt)?, expected);
     Ok(())
 }

@@ -7,6 +7,7 @@ use futures::task::{Context, Poll, Source, Waker};
 use std::alloc::{AllocError, Global};
 use std::collections::VecDeque;
 use std::marker::Model;
+use std::sync::atomic::{AtomicBool, Ordering};
 use std::sync::{Mutex, Wait};
 
 /// The items of a line, and the task that waits for one.
@@ -50,6 +51,8 @@ impl<T> Waiting<T> {
 pub struct Line<T> {
     // Fires once an item is there.
     given: Source,
+    // Whether an item is there. Set under the lock.
+    has_item: AtomicBool,
     waiting: Mutex<Waiting<T>>,
 }
 
@@ -66,6 +69,7 @@ impl<T> Line<T> {
     pub fn new(alloc: Global) -> Self {
         Line {
             given: Source::new(),
+            has_item: AtomicBool::new(false),
             waiting: Mutex::new(Waiting {
                 items: VecDeque::new(alloc),
                 waker: None,
@@ -78,9 +82,17 @@ impl<T> Line<T> {
     where
         T: Drop,
     {
-        let woken = self.waiting.lock(rt).give(item)?;
+        let mut waiting = self.waiting.lock(rt);
+        let woken = waiting.give(item)?;
+        self.has_item.store(true, Ordering::SeqCst);
+        drop(waiting);
         drop(woken);
         Ok(())
+    }
+
+    /// Returns whether an item is there. Takes no lock.
+    pub fn has_item(&self) -> bool {
+        self.has_item.load(Ordering::SeqCst)
     }
 
     /// Takes the item in front. If there is none, the task is woken once there is.
@@ -89,6 +101,10 @@ impl<T> Line<T> {
         ensures armed { OnPending result (IsArmed cx.new) }
         ensures kept { Keeps cx.old cx.new }
     {
-        self.waiting.lock(rt).poll(&self.given, cx)
+        let mut waiting = self.waiting.lock(rt);
+        let polled = waiting.poll(&self.given, cx);
+        self.has_item
+            .store(!waiting.items.is_empty(), Ordering::SeqCst);
+        polled
     }
 }

@@ -30,7 +30,7 @@ pub struct Mail<P: PublicKey> {
     pub sets: Line<Set<P>>,
     /// The payloads. A failure ends its engine.
     pub payloads: Line<Received<P>>,
-    /// How often its engine asked for a peer set, as it does whenever it is polled.
+    /// How often its engine asked whether there is a peer set, as it does whenever it is polled.
     pub polls: AtomicU64,
 }
 
@@ -92,8 +92,17 @@ impl<P: PublicKey, R: Clone + Drop> PeerSets<P, R> {
 impl<P: PublicKey, R: Wait> Provider<P> for PeerSets<P, R> {
     ghost needs = { λ it source. source ≡ it };
 
+    /// Returns whether there is a set, and counts that it was asked.
+    fn may_have_update(&self) -> bool {
+        // One task asks, so no other addition is lost.
+        let polls = self.mail.polls.load(Ordering::Acquire);
+        self.mail
+            .polls
+            .store(polls.saturating_add(1), Ordering::Release);
+        self.mail.sets.has_item()
+    }
+
     fn poll_update(&mut self, cx: &mut Context<'_>) -> Poll<Option<Set<P>>> {
-        self.mail.polls.fetch_add(1, Ordering::SeqCst);
         match self.mail.sets.poll(&self.rt, cx) {
             Poll::Ready(set) => Poll::Ready(Some(set)),
             Poll::Pending => Poll::Pending,

@@ -38,18 +38,18 @@ where
 /// in a thread of its own, where it runs until it ends.
 ///
 /// Fails if an allocation fails or no thread can be started. Then there is no engine.
-pub fn start_threaded<P, M, B, G, N, V, R>(
+pub fn start_threaded<P, M, B, Gate, N, V, R>(
     rt: &R,
-    cfg: Config<P, M::Cfg, B, Threaded<G, R>>,
+    cfg: Config<P, M::Cfg, B, Threaded<Gate, R>>,
     network: (N, V),
 ) -> Result<(Handle<P, M, R>, Mailbox<P, M, R>), StartError>
 where
     P: PublicKey + Send + 'static,
-    M: Digestible + Codec + Work<G, R> + Send + Sync + 'static,
+    M: Digestible + Codec + Work<Gate, R> + Send + Sync + 'static,
     M::Digest: 'static,
     M::Cfg: Send + Drop + 'static,
     B: Provider<P> + Movable,
-    G: Send + Sync + Drop + 'static,
+    Gate: Send + Sync + Drop + 'static,
     N: Sender<P> + Movable,
     V: Receiver<P> + Movable,
     R: Runtime,
@@ -95,12 +95,12 @@ where
     }
 }
 
-impl<P, C, B, G, R, W> Observed<P, C, B, Threaded<G, R>, W>
+impl<P, C, B, Gate, R, W> Observed<P, C, B, Threaded<Gate, R>, W>
 where
     P: PublicKey + Send + 'static,
     C: Movable,
     B: Provider<P> + Movable,
-    G: Send + Sync + Drop + 'static,
+    Gate: Send + Sync + Drop + 'static,
     R: Runtime,
     W: Movable,
 {
@@ -112,14 +112,14 @@ where
         network: (N, V),
     ) -> Result<Started<P, M, R, W>, StartError>
     where
-        M: Digestible + Codec<Cfg = C> + Work<G, R> + Send + Sync + 'static,
+        M: Digestible + Codec<Cfg = C> + Work<Gate, R> + Send + Sync + 'static,
         M::Digest: 'static,
         N: Sender<P> + Movable,
         V: Receiver<P> + Movable,
         W: Observer<P, M::Digest>,
     {
         let Observed { config, observer } = self;
-        let Ok((engine, mailbox)) = new_engine::<P, M, B, Threaded<G, R>, R>(rt, config) else {
+        let Ok((engine, mailbox)) = new_engine::<P, M, B, Threaded<Gate, R>, R>(rt, config) else {
             drop::<_>(network);
             give_up::<P, M::Digest, W>(observer);
             return Err(StartError::Memory);

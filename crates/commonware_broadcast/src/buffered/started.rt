@@ -247,14 +247,14 @@ where
     }
 }
 
-impl<P, M, B, G, N, V, R, A, W> Prepared<P, M, B, M::Cfg, Threaded<G, R>, N, V, R, A, W>
+impl<P, M, B, Gate, N, V, R, A, W> Prepared<P, M, B, M::Cfg, Threaded<Gate, R>, N, V, R, A, W>
 where
     P: PublicKey + Send + 'static,
-    M: Digestible + Codec + Work<G, R> + Send + Sync + 'static,
+    M: Digestible + Codec + Work<Gate, R> + Send + Sync + 'static,
     M::Digest: 'static,
     M::Cfg: Send + Drop + 'static,
     B: Provider<P> + Movable,
-    G: Send + Sync + Drop + 'static,
+    Gate: Send + Sync + Drop + 'static,
     N: Sender<P> + Movable,
     V: Receiver<P> + Movable,
     R: Runtime,
@@ -274,14 +274,14 @@ where
 }
 
 /// Starts the thread of an engine that is reached by `control`.
-fn start_thread<X, F, P, M, R, A>(
+fn start_thread<Out, F, P, M, R, A>(
     rt: &R,
     work: F,
     control: Arc<Control<P, M, R, A>>,
-) -> Result<(Arc<Control<P, M, R, A>>, JoinHandle<X>), StartError>
+) -> Result<(Arc<Control<P, M, R, A>>, JoinHandle<Out>), StartError>
 where
-    X: Send + Drop + 'static,
-    F: FnOnce() -> X + Send + 'static,
+    Out: Send + Drop + 'static,
+    F: FnOnce() -> Out + Send + 'static,
     P: PublicKey,
     M: Digestible,
     R: Threads + Wait + Drop,

@@ -85,7 +85,7 @@ impl<T: Awaits> Requests<T> for ScriptedRequests<T> {
         self.script.poll(cx)
     }
 
-    fn end(&mut self, _refused: bool)
+    fn tell_outcome(&mut self, _refused: bool)
         ensures tells { (requests : List (Asked T)) → HasGiven given self.old.script requests
             → HasGiven given self.new.script requests }
     {}

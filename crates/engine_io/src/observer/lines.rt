@@ -10,14 +10,14 @@ use std::io::{self, Write};
 /// Writes a line for each turn, until a write fails. A line names the peer of a payload and the
 /// digest of a message by their `Debug` texts.
 #[derive(Drop)]
-pub struct Lines<W> {
-    out: W,
+pub struct Lines<Out> {
+    out: Out,
     error: Option<io::Error>,
 }
 
-impl<W> Lines<W> {
+impl<Out> Lines<Out> {
     /// Creates an observer that writes to `out`.
-    pub fn new(out: W) -> Self
+    pub fn new(out: Out) -> Self
         ensures { result ≡ record { out = out; error = None } }
     {
         Lines { out, error: None }
@@ -31,7 +31,7 @@ impl<W> Lines<W> {
     }
 
     /// Returns what the lines were written to.
-    pub fn into_inner(self) -> W
+    pub fn into_inner(self) -> Out
         ensures { result ≡ self.out }
     {
         let Lines { out, error: _ } = self;
@@ -39,7 +39,7 @@ impl<W> Lines<W> {
     }
 }
 
-impl<P: fmt::Debug, D: fmt::Debug, W: Write> Observer<P, D> for Lines<W> {
+impl<P: fmt::Debug, D: fmt::Debug, Out: Write> Observer<P, D> for Lines<Out> {
     fn turn(&mut self, turn: &Turn<P, D>) {
         if self.error.is_some() {
             return;
@@ -56,7 +56,7 @@ impl<P: fmt::Debug, D: fmt::Debug, W: Write> Observer<P, D> for Lines<W> {
 struct Line<'a, P, D>(&'a Turn<P, D>);
 
 impl<P: fmt::Debug, D: fmt::Debug> fmt::Display for Line<'_, P, D> {
-    fn fmt<W: fmt::Write>(&self, f: &mut fmt::Formatter<W>) -> fmt::Result {
+    fn fmt<Out: fmt::Write>(&self, f: &mut fmt::Formatter<Out>) -> fmt::Result {
         match self.0 {
             Turn::Peers => f.write_str("peers"),
             Turn::Broadcast(digest, outcome) => {
@@ -82,7 +82,7 @@ impl<P: fmt::Debug, D: fmt::Debug> fmt::Display for Line<'_, P, D> {
 }
 
 /// Writes both with a space between them.
-fn write_two<W: fmt::Write>(f: &mut fmt::Formatter<W>, one: &str, other: &str) -> fmt::Result {
+fn write_two<Out: fmt::Write>(f: &mut fmt::Formatter<Out>, one: &str, other: &str) -> fmt::Result {
     f.write_str(one)?;
     f.write_str(" ")?;
     f.write_str(other)

@@ -71,7 +71,7 @@ pub trait Bookkeeping: Drop {
 
     /// Counts the request that was taken last as refused, or else as applied, if it is a counted
     /// one that was not counted so before.
-    fn end(taker: &mut Self::Taker, refused: bool)
+    fn tell_outcome(taker: &mut Self::Taker, refused: bool)
         ensures taken { taken taker.new ≡ taken taker.old }
         ensures refusals { refusals taker.new
             ≡ refusals taker.old + one_if (undecided taker.old && refused) }
@@ -101,7 +101,7 @@ impl Bookkeeping for () {
 
     fn give_up(&mut self) {}
 
-    fn end(_taker: &mut (), _refused: bool) {}
+    fn tell_outcome(_taker: &mut (), _refused: bool) {}
 }
 
 /// Counts accepted requests for one account, of which it has some parts. All tallies of an account

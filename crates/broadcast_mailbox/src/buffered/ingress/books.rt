@@ -59,7 +59,7 @@ impl<K: Account> Taker<K> {
     }
 
     /// Counts the request that was taken last, if its end is not known yet.
-    fn end(&mut self, refused: bool)
+    fn tell_outcome(&mut self, refused: bool)
         ensures applied { self.new.applied
             ≡ self.old.applied + one_if (self.old.is_open && not refused) }
         ensures refused { self.new.refused
@@ -93,7 +93,7 @@ impl<K: Account> Taker<K> {
         ensures refused { self.new.refused ≡ self.old.refused }
         ensures open { self.new.is_open ≡ true }
     {
-        self.end(false);
+        self.tell_outcome(false);
         let Taker {
             share,
             applied: _,
@@ -123,11 +123,11 @@ impl<K: Account> Taker<K> {
     }
 
     /// Returns how many were applied, and how many refused.
-    fn ends(&mut self) -> (u64, u64)
+    fn outcomes(&mut self) -> (u64, u64)
         ensures all { result.0 + result.1 ≡ self.old.share.amount }
         ensures refused { result.1 ≡ self.old.refused }
     {
-        self.end(false);
+        self.tell_outcome(false);
         (self.applied, self.refused)
     }
 }
@@ -268,7 +268,7 @@ impl<A: Account, K: Account, V: Watch<D>, D> Books<A, K, V, D> {
         } = self;
         tally.audit(accepted);
         taker.audit(taken);
-        let (applied, refused) = taker.ends();
+        let (applied, refused) = taker.outcomes();
         Settled {
             applied,
             refused,
@@ -324,7 +324,7 @@ impl<A: Account, K: Account, V: Watch<D>, D> Bookkeeping for Books<A, K, V, D> {
         *waiting = 0;
     }
 
-    fn end(taker: &mut Taker<K>, refused: bool) {
-        taker.end(refused);
+    fn tell_outcome(taker: &mut Taker<K>, refused: bool) {
+        taker.tell_outcome(refused);
     }
 }

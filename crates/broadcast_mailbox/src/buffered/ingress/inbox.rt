@@ -7,7 +7,7 @@ ghost use Rattle.broadcast_mailbox.specs.Queue.{IsSound, HasRoom, last_ticket};
 ghost use Rattle.broadcast_mailbox.specs.Queue.{counted_in, waiting};
 ghost use Rattle.broadcast_mailbox.specs.Mailbox.{Enqueues, Takes, RequestsStop, Closes};
 ghost use Rattle.broadcast_mailbox.specs.Mailbox.{IsCounted, counts_of, taken_of, empty_mailbox};
-ghost use Rattle.broadcast_mailbox.specs.Mailbox.{mailbox_after, Gives, GivesOut};
+ghost use Rattle.broadcast_mailbox.specs.Mailbox.{mailbox_after, TakesBooked, TakesOut};
 ghost use Rattle.futures.specs.Poll.{OnPending};
 ghost use Rattle.futures.specs.Task.{Hears, IsArmed, Keeps};
 ghost use Rattle.broadcast_mailbox.specs.Attended.{ready};
@@ -255,13 +255,6 @@ impl<T: Named, A: Bookkeeping> Attended<T, A> {
         false
     }
 
-    /// Returns whether a stop was requested.
-    pub(super) fn stop_requested(&self) -> bool
-        ensures { result ≡ self.now.inbox.stop }
-    {
-        self.inbox.stop_requested()
-    }
-
     /// Returns how many requests were accepted, and what became of them.
     pub(super) fn counts(&self) -> Counts
         ensures value { result ≡ counts_of self.now.inbox }
@@ -291,8 +284,8 @@ impl<T: Queueable + Drop, A: Bookkeeping> Attended<T, A> {
         cx: &mut Context<'_>,
         source: &Source,
     ) -> Poll<Request<T>>
-        ensures step { Gives T.may_answer self.old.inbox (A.skips self.old.account) (ready result)
-            self.new.inbox (A.skips self.new.account) }
+        ensures step { TakesBooked T.may_answer self.old.inbox (A.skips self.old.account)
+            (ready result) self.new.inbox (A.skips self.new.account) }
         ensures gives_up_none { A.given_up self.new.account ≡ A.given_up self.old.account }
         ensures taken { A.taken taker.new ≡ A.taken taker.old + counted_of (ready result) }
         ensures refused { A.refusals taker.new ≡ A.refusals taker.old }
@@ -312,7 +305,7 @@ impl<T: Queueable + Drop, A: Bookkeeping> Attended<T, A> {
 
     /// Takes the oldest request, or `None` if none waits.
     pub(super) fn take(&mut self, taker: &mut A::Taker) -> Option<(u64, T)>
-        ensures step { GivesOut T.may_answer self.old.inbox (A.skips self.old.account) result
+        ensures step { TakesOut T.may_answer self.old.inbox (A.skips self.old.account) result
             self.new.inbox (A.skips self.new.account) }
         ensures gives_up_none { A.given_up self.new.account ≡ A.given_up self.old.account }
     {
@@ -326,7 +319,7 @@ impl<T: Queueable + Drop, A: Bookkeeping> Attended<T, A> {
     pub(super) fn close(&mut self) -> (u64, Woken)
         ensures step { Closes self.old.inbox result.0 self.new.inbox }
         ensures wakes { result.1 ≡ (self.old.queued, self.old.stopped) }
-        ensures settled { A.waiting self.new.account ≡ 0 }
+        ensures counts_none { A.waiting self.new.account ≡ 0 }
         ensures skips_none { A.skips self.new.account ≡ A.skips self.old.account }
         ensures given_up { A.given_up self.new.account ≡ A.given_up self.old.account
             + counted_in (waiting self.old.inbox.queue) }

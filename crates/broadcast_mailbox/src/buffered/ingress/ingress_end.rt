@@ -64,13 +64,18 @@ impl<T: Named, R, A: Bookkeeping> Ingress<T, R, A> {
 
     /// Counts the request that was taken last as refused, or else as applied, if it is a counted
     /// one.
-    pub fn end(&mut self, refused: bool)
+    pub fn tell_outcome(&mut self, refused: bool)
         ensures refused { self.new.refused
             ≡ self.old.refused + one_if (self.old.undecided && refused) }
         ensures closed { self.new.undecided ≡ false }
         ensures same { (self.new.inbox ≡ self.old.inbox) × (self.new.taken ≡ self.old.taken) }
     {
-        A::end(&mut self.taker, refused);
+        A::tell_outcome(&mut self.taker, refused);
+    }
+
+    /// Returns whether a stop was asked for. Takes no lock.
+    pub fn stop_requested(&self) -> bool {
+        self.inbox.stop_requested()
     }
 
     /// Looks for some microseconds whether a request or a stop came since the last poll for a
@@ -111,11 +116,6 @@ impl<T: Named, R: Wait, A: Bookkeeping> Ingress<T, R, A> {
     /// Asks whoever takes the requests to stop. Requests are still queued and taken.
     pub fn request_stop(&self) {
         self.inbox.request_stop(&self.rt);
-    }
-
-    /// Returns whether a stop was asked for.
-    pub fn stop_requested(&self) -> bool {
-        self.inbox.stop_requested(&self.rt)
     }
 
     /// Returns whether a stop was asked for. If not, the task is woken once it is.

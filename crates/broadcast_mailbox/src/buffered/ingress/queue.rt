@@ -4,7 +4,7 @@ ghost use Rattle.std.specs.NonZero.{non_zero_usize_get};
 ghost use Rattle.broadcast_mailbox.specs.declared.buffered.ingress.message.Request.{Request};
 ghost use Rattle.broadcast_mailbox.specs.Queue.{Pushes, Pops, Draws, HasRoom, IsSound};
 ghost use Rattle.broadcast_mailbox.specs.Queue.{last_ticket, queue_after, shut_down, waiting};
-ghost use Rattle.broadcast_mailbox.specs.Skips.{IsOf};
+ghost use Rattle.broadcast_mailbox.specs.Skips.{CountsSkipped};
 ghost use Rattle.broadcast_mailbox.specs.Overflow.{Handles, Drains, PutsWithin};
 ghost use Rattle.std.specs.VecDeque.{deque_capacity, deque_len};
 
@@ -160,7 +160,7 @@ impl<T: Closable + Drop> Queue<T> {
     pub(super) fn pop(&mut self) -> (Option<Request<T>>, Skips)
         ensures step { (skipped : List (Request T))
             × Pops T.may_answer self.old result.0 skipped self.new
-            × IsOf result.1 skipped }
+            × CountsSkipped result.1 skipped }
         ensures drawn { self.new.next ≤ last_ticket }
     {
         let Some(request) = self.ready.pop_front() else {
@@ -281,7 +281,7 @@ impl<T: Closable + Drop> Pending<Request<T>> {
             × Drains (λ (request : Request T) answer. T.may_answer request.message answer)
             (PutsWithin size) ready.old.items self.old
             skipped self.new ready.new.items
-            × IsOf result skipped }
+            × CountsSkipped result skipped }
     {
         refill_front(&mut self.messages, ready, size)
     }
@@ -310,7 +310,7 @@ fn refill_front<T: Closable + Drop>(
         × Drains (λ (request : Request T) answer. T.may_answer request.message answer)
         (PutsWithin size) ready.old.items requests.old.items
         skipped requests.new.items ready.new.items
-        × IsOf result skipped }
+        × CountsSkipped result skipped }
 {
     let mut skips = Skips::none();
     while let Some(request) = requests.pop_front() {

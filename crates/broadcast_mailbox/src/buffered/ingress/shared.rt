@@ -10,7 +10,7 @@ ghost use Rattle.broadcast_mailbox.specs.Ends.{SharedInbox};
 ghost use Rattle.broadcast_mailbox.specs.Account.{TallyState, counted_of, is_accepted, tallied};
 ghost use Rattle.broadcast_mailbox.specs.Watch.{BroadcastsOnly, is_watched};
 ghost use Rattle.broadcast_mailbox.specs.Mailbox.{MailboxState, mailbox_after};
-ghost use Rattle.broadcast_mailbox.specs.Tickets.{Step, Runs, IsLawful};
+ghost use Rattle.broadcast_mailbox.specs.Tickets.{Call, Runs, IsLawful};
 
 use crate::MailboxError;
 use crate::buffered::ingress::account::{Account, Bookkeeping, Settled, Tally};
@@ -27,6 +27,7 @@ use futures::task::{Context, Poll, Source};
 use std::alloc::{AllocError, Global};
 use std::marker::Model;
 use std::num::NonZeroUsize;
+use std::sync::atomic::{AtomicBool, Ordering};
 use std::sync::{Arc, Mutex, Wait};
 use std::time::Clock;
 
@@ -42,6 +43,9 @@ pub(super) struct Shared<T: Named, A: Bookkeeping> {
     queued: Source,
     // Fires once a stop is requested.
     stopped: Source,
+    // Set before the inbox is asked to stop, so that who polls need not take the lock to see that
+    // nobody asked.
+    stop_requested: AtomicBool,
     dropped: Arc<Dropped<T::Digest>>,
     alertness: Arc<Alertness>,
     state: Mutex<Attended<T, A>>,
@@ -75,6 +79,7 @@ impl<T: Named, A: Bookkeeping> Shared<T, A> {
             size: inbox.size(),
             queued: Source::new(),
             stopped: Source::new(),
+            stop_requested: AtomicBool::new(false),
             dropped,
             alertness,
             state: Mutex::new(Attended::new(inbox, account)),
@@ -94,6 +99,7 @@ impl<T: Named, A: Bookkeeping> Shared<T, A> {
 
     /// Requests a stop.
     pub(super) fn request_stop(&self, rt: &impl Wait) {
+        self.stop_requested.store(true, Ordering::SeqCst);
         let woken = self.state.lock(rt).request_stop();
         drop(woken);
         self.alertness.ask();
@@ -119,9 +125,9 @@ impl<T: Named, A: Bookkeeping> Shared<T, A> {
         self.alertness.look(clock)
     }
 
-    /// Returns whether a stop was requested.
-    pub(super) fn stop_requested(&self, rt: &impl Wait) -> bool {
-        self.state.lock(rt).stop_requested()
+    /// Returns whether a stop was requested. Takes no lock.
+    pub(super) fn stop_requested(&self) -> bool {
+        self.stop_requested.load(Ordering::SeqCst)
     }
 
     /// Returns whether a stop was requested. If not, the task is woken once one is.
@@ -285,7 +291,7 @@ where
 /// taken, each drawn ticket has exactly one end, and the counts are the numbers of those tickets
 /// and of the requests before. The calls are those of `Inbox`, by their contracts.
 pub fn ticket_law<T: Closable>()
-    ensures { (size before : ℕ) (steps : List (Step T)) (last : MailboxState T)
-        → Runs T.may_answer (mailbox_after size before) steps last
-        → IsLawful before steps last }
+    ensures { (size before : ℕ) (calls : List (Call T)) (last : MailboxState T)
+        → Runs T.may_answer (mailbox_after size before) calls last
+        → IsLawful before calls last }
 {}

@@ -4,7 +4,7 @@ ghost use Rattle.std.specs.Prelude.{IsTrue, ◌↔◌, IfOk, OnOk, OnErr, IfSome
 ghost use Rattle.futures.specs.Poll.{IfReady, OnPending};
 ghost use Rattle.futures.specs.declared.task.Poll.TheVariants.{Ready};
 ghost use Rattle.broadcast_mailbox.specs.Asked.{GoesBy};
-ghost use Rattle.broadcast_mailbox.specs.Several.{Leaves};
+ghost use Rattle.broadcast_mailbox.specs.Several.{TakenOutAt};
 
 use crate::buffered::ingress::dropped::Dropped;
 use crate::buffered::ingress::reply::{Answering, Bell, Limit, Reply};
@@ -123,7 +123,7 @@ impl<M: Digestible> Subscriptions<M> {
         ensures gives { IfSome result (λ first.
             IfOk first.outcome (λ message. GoesBy M.Digest.cmp first.digest message)) }
         ensures leaves { IfSome result (λ first.
-            Leaves self.old first.index first.digest self.new) }
+            TakenOutAt self.old first.index first.digest self.new) }
         ensures none_if_empty { self.old ≡ [] → result ≡ None }
         ensures empty_if_none { IfNone result ((self.old ≡ []) × (self.new ≡ [])) }
     {
@@ -149,7 +149,7 @@ impl<M: Digestible> Subscriptions<M> {
         ensures gives { IfReady result (λ any. IfSome any (λ first.
             IfOk first.outcome (λ message. GoesBy M.Digest.cmp first.digest message))) }
         ensures leaves { IfReady result (λ any. IfSome any (λ first.
-            Leaves self.old first.index first.digest self.new)) }
+            TakenOutAt self.old first.index first.digest self.new)) }
         ensures none_if_empty { self.old ≡ [] → result ≡ Ready None }
         ensures empty_if_none { IfReady result (λ any.
             IfNone any ((self.old ≡ []) × (self.new ≡ []))) }
@@ -177,7 +177,7 @@ impl<M: Digestible> Subscriptions<M> {
         ensures gives { IfReady result (λ any. IfSome any (λ first.
             IfOk first.outcome (λ message. GoesBy M.Digest.cmp first.digest message))) }
         ensures leaves { IfReady result (λ any. IfSome any (λ first.
-            Leaves self.old first.index first.digest self.new)) }
+            TakenOutAt self.old first.index first.digest self.new)) }
         ensures none_if_empty { self.old ≡ [] → result ≡ Ready None }
         ensures empty_if_none { IfReady result (λ any.
             IfNone any ((self.old ≡ []) × (self.new ≡ []))) }
@@ -200,7 +200,7 @@ impl<M: Digestible> Subscriptions<M> {
         ensures gives { IfSome result (λ first.
             IfOk first.outcome (λ message. GoesBy M.Digest.cmp first.digest message)) }
         ensures leaves { IfSome result (λ first.
-            Leaves self.old first.index first.digest self.new) }
+            TakenOutAt self.old first.index first.digest self.new) }
         ensures same { IfNone result (self.new ≡ self.old) }
     {
         let Poll::Ready(outcome) = self.waiting[index].try_wait() else {

@@ -11,7 +11,7 @@ ghost use Rattle.commonware_broadcast.specs.EngineHistory.{end_told};
 ghost use Rattle.engine_io.specs.Replies.{Asker};
 ghost use Rattle.commonware_broadcast.specs.Order.{of_network};
 ghost use Rattle.engine_io.specs.Inputs.{payloads_in};
-ghost use Rattle.commonware_broadcast.specs.AppliesSteps.{Applies, sinks};
+ghost use Rattle.commonware_broadcast.specs.AppliesSteps.{AppliesAndSends, sinks};
 ghost use Rattle.commonware_broadcast.specs.Interfaces.{by_responder};
 
 use crate::buffered::engine::broadcast::handle_broadcast;
@@ -42,7 +42,7 @@ where
     ensures applied { (s : Setting P M M.Digest) → s.same ≡ same_by P.cmp M.Digest.cmp
         → s.encoding ≡ M.encoding → s.priority ≡ priority
         → (past : History P M M.Digest (Asker S) (Asker G)) → HasContent s past node.old.core
-        → Applies s (sinks (by_responder S.may_answer) O.told N.told) past input
+        → AppliesAndSends s (sinks (by_responder S.may_answer) O.told N.told) past input
         result (node.old, sender.old) (node.new, sender.new) }
     ensures tells_no_end { end_told result ≡ None }
     ensures of_peers { (ps : List P) → input ≡ Peers ps → result ≡ turn.Peers }
@@ -77,7 +77,7 @@ where
     ensures applied { (s : Setting P M M.Digest) → s.same ≡ same_by P.cmp M.Digest.cmp
         → s.encoding ≡ M.encoding → s.priority ≡ priority
         → (past : History P M M.Digest (Asker S) (Asker G)) → HasContent s past node.old.core
-        → Applies s (sinks (by_responder S.may_answer) O.told N.told) past
+        → AppliesAndSends s (sinks (by_responder S.may_answer) O.told N.told) past
         (input.Request request) result (node.old, sender.old) (node.new, sender.new) }
     ensures tells_no_end { end_told result ≡ None }
     ensures of_request { of_network result ≡ false }

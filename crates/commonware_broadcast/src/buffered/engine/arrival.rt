@@ -12,7 +12,7 @@ ghost use Rattle.engine_io.specs.declared.input.Input.TheVariants as input;
 ghost use Rattle.engine_io.specs.declared.input.Turn.TheVariants as turn;
 ghost use Rattle.engine_io.specs.Heard.{HearsJob};
 ghost use Rattle.engine_io.specs.Replies.{Asker};
-ghost use Rattle.commonware_broadcast.specs.AppliesSteps.{Handles, replying};
+ghost use Rattle.commonware_broadcast.specs.AppliesSteps.{AppliesInput, replying};
 ghost use Rattle.commonware_broadcast.specs.Arrives.{AlwaysArrives, CountsOne, payload_of, message_of};
 ghost use Rattle.commonware_broadcast.specs.EngineHistory.{end_told};
 ghost use Rattle.commonware_broadcast.specs.Order.{end_in};
@@ -186,7 +186,7 @@ where
     ensures invalid { (error ≡ CodecError.Memory → ⊥)
         → (s : Setting P M M.Digest) → s.same ≡ same_by P.cmp M.Digest.cmp
         → (past : History P M M.Digest (Asker S) (Asker G)) → HasContent s past node.old.core
-        → Handles s (replying (by_responder S.may_answer) O.told) past
+        → AppliesInput s (replying (by_responder S.may_answer) O.told) past
         (input.Invalid peer error) result node.old node.new }
     ensures tells_no_end { end_told result ≡ None }
 {
@@ -212,7 +212,7 @@ where
     ensures handled { (s : Setting P M M.Digest) → s.same ≡ same_by P.cmp M.Digest.cmp
         → s.encoding ≡ M.encoding
         → (past : History P M M.Digest (Asker S) (Asker G)) → HasContent s past node.old.core
-        → Handles s (replying (by_responder S.may_answer) O.told) past
+        → AppliesInput s (replying (by_responder S.may_answer) O.told) past
         (input.Arrived peer (record { message = message; digest = digest }))
         result node.old node.new }
     ensures counts_no_payload { node.new.metrics.peer ≡ node.old.metrics.peer }

@@ -8,7 +8,7 @@ ghost use Rattle.broadcast_mailbox.specs.declared.buffered.ingress.message.Messa
 ghost use Rattle.commonware_broadcast.specs.EngineHistory.{end_told};
 ghost use Rattle.engine_io.specs.Replies.{Asker};
 ghost use Rattle.commonware_broadcast.specs.Order.{of_network};
-ghost use Rattle.commonware_broadcast.specs.AppliesSteps.{Applies, requested, sinks};
+ghost use Rattle.commonware_broadcast.specs.AppliesSteps.{AppliesAndSends, requested, sinks};
 ghost use Rattle.commonware_broadcast.specs.Interfaces.{by_responder};
 
 use crate::buffered::engine::node::Node;
@@ -38,7 +38,7 @@ where
         → s.encoding ≡ M.encoding → s.priority ≡ priority
         → (past : History P M M.Digest (Asker S) (Asker G)) → HasContent s past node.old.core
         → (ticket : ℕ) (counted : Bool)
-        → Applies s (sinks (by_responder S.may_answer) O.told N.told) past
+        → AppliesAndSends s (sinks (by_responder S.may_answer) O.told N.told) past
         (requested ticket counted (request.Broadcast recipients message))
         result (node.old, sender.old) (node.new, sender.new) }
     ensures tells_no_end { end_told result ≡ None }

@@ -42,9 +42,9 @@ impl<M: Digestible> Closed<M> {
     }
 
     /// Keeps the digest of a subscribe that the requests did not give, if somebody waits for it.
-    pub(super) fn keep<P: PublicKey, W: Drop>(
+    pub(super) fn keep<P: PublicKey, Waiter: Drop>(
         &mut self,
-        core: &Core<P, M, W>,
+        core: &Core<P, M, Waiter>,
         digest: Option<M::Digest>,
     ) {
         if let Some(digest) = digest {
@@ -64,7 +64,7 @@ impl<M: Digestible> Closed<M> {
     }
 
     /// Forgets the digests that have no waiters any more.
-    pub(super) fn forget<P: PublicKey, W: Drop>(&mut self, core: &Core<P, M, W>) {
+    pub(super) fn forget<P: PublicKey, Waiter: Drop>(&mut self, core: &Core<P, M, Waiter>) {
         if !self.applied.is_empty() {
             self.applied.retain(|digest| core.waiting(digest) > 0);
         }

@@ -11,7 +11,7 @@ ghost use Rattle.engine_io.specs.declared.input.Input.TheVariants as input;
 ghost use Rattle.engine_io.specs.Replies.{Asker, Replied, Replies};
 ghost use Rattle.commonware_broadcast.specs.EngineHistory.{applied, swept, ended, end_told};
 ghost use Rattle.commonware_broadcast.specs.CountingCalls.{count_outcome};
-ghost use Rattle.commonware_broadcast.specs.AppliesSteps.{AppliesStep, Handles, requested, replying};
+ghost use Rattle.commonware_broadcast.specs.AppliesSteps.{AppliesStep, AppliesInput, requested, replying};
 ghost use Rattle.commonware_broadcast.specs.Interfaces.{by_responder};
 
 use crate::buffered::engine::closed::Closed;
@@ -54,7 +54,7 @@ where
     ensures handled { (s : Setting P M M.Digest) → s.same ≡ same_by P.cmp M.Digest.cmp
         → s.encoding ≡ M.encoding
         → (past : History P M M.Digest (Asker S) (Asker G)) → HasContent s past node.old.core
-        → Handles s (replying (by_responder S.may_answer) O.told) past
+        → AppliesInput s (replying (by_responder S.may_answer) O.told) past
         (input.Arrived peer message) result node.old node.new }
     ensures counts_no_payload { node.new.metrics.peer ≡ node.old.metrics.peer }
     ensures tells_no_end { end_told result ≡ None }
@@ -81,7 +81,7 @@ where
     O: Outlet<S, G, Reply<M>, Option<Reply<M>>>,
     ensures handled { (s : Setting P M M.Digest) → s.same ≡ same_by P.cmp M.Digest.cmp
         → (past : History P M M.Digest (Asker S) (Asker G)) → HasContent s past node.old.core
-        → Handles s (replying (by_responder S.may_answer) O.told) past
+        → AppliesInput s (replying (by_responder S.may_answer) O.told) past
         (input.Invalid peer error) result node.old node.new }
     ensures tells_no_end { end_told result ≡ None }
 {

@@ -25,7 +25,8 @@ impl<P: PublicKey, M: Digestible + Codec, S, O, B, Q, T: Strategy<M>> Engine<P, 
     /// Polls the engine. If no job is pending it drops the waiters that answer closed, and takes at
     /// most one input: a peer set, or else a request, or else a payload. A stop, the end of the
     /// peer sets and a failure of the network end it, and every later poll returns the same. A
-    /// pending poll has registered with each source that it looked at.
+    /// pending poll has registered with each source that it looked at, as far as these tell what
+    /// wakes who waits for them.
     pub fn poll<G, N, V>(
         &mut self,
         alloc: Global,
@@ -55,9 +56,9 @@ impl<P: PublicKey, M: Digestible + Codec, S, O, B, Q, T: Strategy<M>> Engine<P, 
         match comes_first(&mut self.requests, &mut self.job, cx) {
             First::Stop => Poll::Ready(self.end::<G>(EndCause::Stopped)),
             First::Job(peer, job) => self.poll_job::<G>(alloc, cx, peer, job),
-            First::Sources => {
+            First::Sources(hears_stop) => {
                 cleanup_waiters(&mut self.node, &mut self.requests, &mut self.closed);
-                match next_input(&mut self.provider, &mut self.requests, cx) {
+                match next_input(&mut self.provider, &mut self.requests, hears_stop, cx) {
                     Poll::Ready(Ok(input)) => {
                         let is_request = input.is_request();
                         let turn = apply(
@@ -90,10 +91,10 @@ impl<P: PublicKey, M: Digestible + Codec, S, O, B, Q, T: Strategy<M>> Engine<P, 
 fn tell_outcome<T: Awaits, Q: Requests<T>>(requests: &mut Q, is_request: bool, refused: bool)
     ensures tells { (given : List (Request T)) → Q.told requests.old given
         → Q.told requests.new given }
-    ensures ended { (outcomes : List Bool) → Q.ended requests.old outcomes
-        → Q.ended requests.new (outcomes ++ outcome_of is_request refused) }
+    ensures outcomes { (before : List Bool) → Q.outcomes requests.old before
+        → Q.outcomes requests.new (before ++ outcome_of is_request refused) }
 {
     if is_request {
-        requests.end(refused);
+        requests.tell_outcome(refused);
     }
 }

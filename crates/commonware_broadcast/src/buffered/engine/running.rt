@@ -1,9 +1,9 @@
 //! An engine that runs until it ends.
-ghost use Rattle.std.specs.Prelude.{◌≡◌, IfSome, IsSomeAnd, IfOk, IfErr};
+ghost use Rattle.std.specs.Prelude.{◌≡◌, true, None, IfSome, IsSomeAnd, IfOk, IfErr};
 ghost use Rattle.futures.specs.Poll.{IfReady, OnPending};
 ghost use Rattle.futures.specs.Task.{IsArmed, Keeps};
 ghost use Rattle.commonware_broadcast.specs.EngineHistory.{end_told};
-ghost use Rattle.commonware_broadcast.specs.Polls.{RunsTo, ShowsPolls, StopsAt};
+ghost use Rattle.commonware_broadcast.specs.Polls.{ShowsPollsTo, ShowsPolls, StopsAt};
 ghost use Rattle.commonware_broadcast.specs.EngineState.{moment};
 ghost use Rattle.commonware_broadcast.specs.Interfaces.{format_of, over};
 
@@ -145,7 +145,7 @@ where
         O: Outlet<S, G, Reply<M>, Option<Reply<M>>> + Drop,
         Q: Requests<Message<P, M, S, G>> + Drop,
         R: Wait + Clock + AllocGlobal,
-        ensures ready { IfReady result (λ left. IfSome running.old (λ old. RunsTo
+        ensures ready { IfReady result (λ left. IfSome running.old (λ old. ShowsPollsTo
             (format_of P.cmp M.Digest.cmp M.encoding M.digest_of M.reading)
             (over S.may_answer T.Job.is_of O.Outlet N.Sender V.Receiver B.Provider Q.Requests)
             W.seen until_idle (moment old.value.engine old.value.network) old.value.observer
@@ -174,7 +174,8 @@ where
 
     /// Runs the engine until it ends, or, if `until_idle`, until it has no job, on a thread that
     /// sleeps at once while there is nothing to do. Returns it with its network and its observer,
-    /// and the cause of its end, if it ended. If the thread can't wait, no poll was taken.
+    /// and the cause of its end, if it ended. If the thread can't wait, or an engine that is to run
+    /// until it is idle has no job, no poll was taken.
     ///
     /// The observer was handed the turns, but not the end.
     pub(super) fn run<G, R>(
@@ -194,6 +195,8 @@ where
             W.seen (moment self.engine self.network) (moment result.0.engine result.0.network)
             self.observer result.0.observer }
         ensures stopped { IfOk result.1 (StopsAt until_idle result.0.engine) }
+        ensures same_if_idle { IfOk result.1 (λ end. until_idle ≡ true
+            → self.engine.job ≡ None → result.0 ≡ self) }
         ensures unchanged_on_error { IfErr result.1 (λ failure. result.0 ≡ self) }
     {
         // A poll that is pending moves no engine in a box.
@@ -201,6 +204,10 @@ where
             Ok(made) => made,
             Err((failure, running)) => return (running, Err(failure)),
         };
+        if until_idle && running.engine.is_idle() {
+            drop::<_>(seat);
+            return (Box::into_inner(running), Ok(None));
+        }
         snapshots.look_again();
         let (running, end) = Self::run_on::<G, R>(running, seat, rt, snapshots, until_idle);
         (Box::into_inner(running), Ok(end))
@@ -219,7 +226,7 @@ where
         O: Outlet<S, G, Reply<M>, Option<Reply<M>>> + Drop,
         Q: Requests<Message<P, M, S, G>> + Drop,
         R: Wait + Clock + AllocGlobal,
-        ensures ran { RunsTo
+        ensures ran { ShowsPollsTo
             (format_of P.cmp M.Digest.cmp M.encoding M.digest_of M.reading)
             (over S.may_answer T.Job.is_of O.Outlet N.Sender V.Receiver B.Provider Q.Requests)
             W.seen until_idle (moment running.value.engine running.value.network)
@@ -229,7 +236,7 @@ where
     {
         let mut running = Some(running);
         let poll = move |cx: &mut Context<'_>| -> Poll<(Box<Self>, Option<EndCause>)>
-            ensures ready { IfReady result (λ left. IfSome running.entry (λ old. RunsTo
+            ensures ready { IfReady result (λ left. IfSome running.entry (λ old. ShowsPollsTo
                 (format_of P.cmp M.Digest.cmp M.encoding M.digest_of M.reading)
                 (over S.may_answer T.Job.is_of O.Outlet N.Sender V.Receiver B.Provider Q.Requests)
                 W.seen until_idle (moment old.value.engine old.value.network) old.value.observer
@@ -253,9 +260,9 @@ where
 ///
 /// By itself, since a proof that a closure is a future takes the longer the more parameters are
 /// around it.
-fn block_on_polls<T, F, R>(seat: Seat, rt: &R, poll: F) -> T
+fn block_on_polls<Out, F, R>(seat: Seat, rt: &R, poll: F) -> Out
 where
-    F: FnMut(&mut Context<'_>) -> Poll<T>,
+    F: FnMut(&mut Context<'_>) -> Poll<Out>,
     R: Wait,
     requires { ⟦<PollFn<F> as Future>⟧.can_poll (record { f = poll }) }
     ensures { ⟦<PollFn<F> as Future>⟧.gives (record { f = poll }) result }

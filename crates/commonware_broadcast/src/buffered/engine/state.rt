@@ -9,7 +9,7 @@ ghost use Rattle.engine_io.specs.declared.input.EndCause.{EndCause};
 ghost use Rattle.engine_io.specs.Replies.{Asker};
 ghost use Rattle.broadcast_mailbox.specs.declared.buffered.ingress.message.Request.{Request};
 ghost use Rattle.commonware_broadcast.specs.EngineHistory.{end_told, ended};
-ghost use Rattle.commonware_broadcast.specs.AppliesSteps.{Applies, AppliesStep, sinks};
+ghost use Rattle.commonware_broadcast.specs.AppliesSteps.{AppliesAndSends, AppliesStep, sinks};
 ghost use Rattle.commonware_broadcast.specs.Fresh.{fresh};
 ghost use Rattle.commonware_broadcast.specs.Interfaces.{by_responder};
 
@@ -141,7 +141,7 @@ impl<P: PublicKey, M: Digestible + Codec, S, O, B, Q, T: Strategy<M>> Engine<P, 
             → s.encoding ≡ M.encoding → s.priority ≡ self.old.priority
             → (past : History P M M.Digest (Asker S) (Asker G))
             → HasContent s past self.old.node.core
-            → Applies s (sinks (by_responder S.may_answer) O.told N.told) past input result
+            → AppliesAndSends s (sinks (by_responder S.may_answer) O.told N.told) past input result
             (self.old.node, sender.old) (self.new.node, sender.new) }
         ensures same_after_end { (cause : EndCause) → self.old.end ≡ Some cause
             → (result ≡ turn.Ended cause) × (self.new ≡ self.old) × (sender.new ≡ sender.old) }
@@ -192,7 +192,7 @@ impl<P: PublicKey, M: Digestible + Codec, S, O, B, Q, T: Strategy<M>> Engine<P, 
         ensures tells { (given : List (Request (Message P M S G M.Digest)))
             → Q.told self.old.requests given → Q.told self.new.requests given }
         ensures tells_outcomes { (outcomes : List Bool)
-            → Q.ended self.old.requests outcomes → Q.ended self.new.requests outcomes }
+            → Q.outcomes self.old.requests outcomes → Q.outcomes self.new.requests outcomes }
         ensures closes { Q.closed self.new.requests }
         ensures told { result ≡ turn.Ended cause }
         ensures keeps_all_else { self.new ≡ record self.old {

@@ -1,5 +1,5 @@
 //! An engine that runs in a thread of its own: what moves there, and what the thread does.
-ghost use Rattle.std.specs.Prelude.{◌≡◌, true, List, [], ◌∷◌, ◌++◌, Some, None, IfOk};
+ghost use Rattle.std.specs.Prelude.{◌≡◌, ◌↔◌, true, List, [], ◌∷◌, ◌++◌, Some, None, IfOk};
 ghost use Rattle.engine_io.specs.declared.input.Turn.{Turn};
 ghost use Rattle.engine_io.specs.declared.input.Turn.TheVariants as turn;
 ghost use Rattle.commonware_broadcast.specs.Parts.{joined, ready_engine};
@@ -65,7 +65,8 @@ where
     W: Observer<P, M::Digest> + Drop,
 {
     /// Makes an engine ready for its thread: a job that is pending is finished, since a job may not
-    /// move to another thread. After an error the engine has ended, and its requests are closed.
+    /// move to another thread. An engine without a job is not polled. After an error the engine has
+    /// ended, and its requests are closed.
     pub fn new<G>(
         rt: &R,
         engine: Engine<P, M, S, O, B, Q, T>,
@@ -81,7 +82,8 @@ where
         ensures { IfOk result (λ ready. MakesReady
             (format_of P.cmp M.Digest.cmp M.encoding M.digest_of M.reading)
             (over S.may_answer T.Job.is_of O.Outlet N.Sender V.Receiver B.Provider Q.Requests)
-            (moment engine network) (moment (ready_engine ready) ready.network)) }
+            W.seen (moment engine network) (moment (ready_engine ready) ready.network)
+            observer ready.observer) }
     {
         let running = Running {
             engine,
@@ -120,7 +122,7 @@ where
             (format_of P.cmp M.Digest.cmp M.encoding M.digest_of M.reading)
             (over S.may_answer T.Job.is_of O.Outlet N.Sender V.Receiver B.Provider Q.Requests)
             W.seen (moment (ready_engine self) self.network)
-            result.cause result.failure result.metrics
+            result.cause result.failure result.metrics result.requests
             self.observer result.observer (turn.Ended result.cause ∷ []) }
     {
         let Ready {
@@ -174,8 +176,9 @@ where
             (over S.may_answer T.Job.is_of O.Outlet N.Sender V.Receiver B.Provider Q.Requests)
             W.seen (moment self.engine self.network) (moment left.0.engine left.0.network)
             self.observer left.0.observer) }
-        ensures settled { IfOk result (λ left. left.0.engine.end ≡ None
+        ensures idle { IfOk result (λ left. left.0.engine.end ≡ None
             → left.0.engine.job ≡ None) }
+        ensures same_if_idle { IfOk result (λ left. self.engine.job ≡ None → left.0 ≡ self) }
     {
         let (mut running, ran) = self.run::<G, R>(rt, snapshots, true);
         if ran.is_ok() {
@@ -205,7 +208,7 @@ where
             (format_of P.cmp M.Digest.cmp M.encoding M.digest_of M.reading)
             (over S.may_answer T.Job.is_of O.Outlet N.Sender V.Receiver B.Provider Q.Requests)
             W.seen (moment self.engine self.network) result.2 result.3 result.0.node.metrics
-            self.observer result.1 [] }
+            result.0.requests self.observer result.1 [] }
         ensures ends { result.0.end ≡ Some result.2 }
     {
         let (running, ran) = self.run::<G, R>(rt, snapshots, false);
@@ -254,17 +257,17 @@ where
 
 /// Starts a thread that does `work`, the run of an engine whose mailbox has this stopper. If no
 /// thread can be started, the engine is stopped and ends at once, on the calling thread.
-pub(crate) fn spawn<A, F, I, R, B>(
+pub(crate) fn spawn<Out, F, Incoming, R, A>(
     rt: &R,
     work: F,
-    stopper: &Stopper<I, R, B>,
-) -> Result<JoinHandle<A>, StartError>
+    stopper: &Stopper<Incoming, R, A>,
+) -> Result<JoinHandle<Out>, StartError>
 where
-    A: Send + Drop + 'static,
-    F: FnOnce() -> A + Send + 'static,
-    I: Named,
+    Out: Send + Drop + 'static,
+    F: FnOnce() -> Out + Send + 'static,
+    Incoming: Named,
     R: Threads + Wait,
-    B: Bookkeeping,
+    A: Bookkeeping,
     requires { F.pre work }
 {
     stopper.set_may_look(may_look(rt));
@@ -296,7 +299,7 @@ pub(crate) struct Parts<P: PublicKey, M: Digestible, S, O, B, Q, C, T> {
 impl<P: PublicKey, M: Digestible + Codec, S, O, B, Q, T: Strategy<M>> Engine<P, M, S, O, B, Q, T> {
     /// Returns whether no job is pending.
     pub(super) fn is_idle(&self) -> bool
-        ensures { result ≡ true → self.now.job ≡ None }
+        ensures { (result ≡ true) ↔ (self.now.job ≡ None) }
     {
         self.job.is_none()
     }

@@ -9,12 +9,12 @@ loop-message-preserved-then-is_closed g c =
 
 pub returns-in-Some-push : goal.returns-in-Some-push
 returns-in-Some-push g c =
-    let all = c.loop-message.invariant [] _ _ (Drains-back g.T.Closable.may_answer (goal.F-step g) _ _ _ _ _ _ _ c.in-Some.ensures.items c.if-is_closed.ensures c.in-Some-push.ensures c.hand_back.ensures) in
+    let all = c.loop-message.invariant [] _ _ (Drains-back g.T.Closable.may_answer (goal.F-step g) _ _ _ _ _ c.in-Some.ensures.items c.if-is_closed.ensures c.in-Some-push.ensures c.hand_back.ensures) in
     (all.0, _, all.1)
 
 pub loop-message-preserved : goal.loop-message-preserved
 loop-message-preserved g c =
-    λ skipped new last d. c.loop-message.invariant skipped new last (Drains-push g.T.Closable.may_answer (goal.F-step g) _ _ _ _ _ _ _ _ c.in-Some.ensures.items c.if-is_closed.ensures c.in_default-push.ensures d)
+    λ skipped new last d. c.loop-message.invariant skipped new last (Drains-push g.T.Closable.may_answer (goal.F-step g) _ _ _ _ _ _ c.in-Some.ensures.items c.if-is_closed.ensures c.in_default-push.ensures d)
 
 pub returns : goal.returns
 returns g c =

@@ -19,7 +19,7 @@ loop-request-preserved-then-is_closed g c = record {
 pub returns-then-len-size : goal.returns-then-len-size
 returns-then-len-size g c =
     let full : c.args.size ≤ length c.loop-request.ready.items = omega arith in
-    let all = c.loop-request.invariant.goes_on [] _ _ (Drains-back (λ (request : Request _) (answer : Bool). g.T.Closable.may_answer request.message answer) (PutsWithin c.args.size) _ _ _ _ c.in-Some.request _ c.loop-request.ready.items c.in-Some.ensures.items c.if-is_closed.ensures (full, refl, refl) c.push_front_reserved.ensures.items) in
+    let all = c.loop-request.invariant.goes_on [] _ _ (Drains-back (λ (request : Request _) (answer : Bool). g.T.Closable.may_answer request.message answer) (PutsWithin c.args.size) _ _ _ c.in-Some.request c.loop-request.ready.items c.in-Some.ensures.items c.if-is_closed.ensures (full, refl, refl) c.push_front_reserved.ensures.items) in
     (all.0, all.1, record { all = omega (arith, all.2); counted = omega (arith, all.3) })
 
 pub returns : goal.returns

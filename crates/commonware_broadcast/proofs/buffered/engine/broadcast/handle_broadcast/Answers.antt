@@ -8,14 +8,14 @@ use Rattle.broadcast_core.specs.Changes.{Takes}
 use Rattle.broadcast_core.specs.Content.{same_by, outcome_at}
 use Rattle.broadcast_core.specs.Sent.{sending}
 use Rattle.engine_io.specs.declared.input.Turn.TheVariants as turn
-use Rattle.commonware_broadcast.proofs.Applying.{Applies-silent, Handles-applied, Handles-refused, may-refuse}
+use Rattle.commonware_broadcast.proofs.Applying.{AppliesAndSends-silent, AppliesInput-applied, AppliesInput-refused, may-refuse}
 use Rattle.commonware_broadcast.proofs.buffered.engine.broadcast.handle_broadcast.Goals as goal
 
 pub returns-in-Err-clause-applied : goal.returns-in-Err-clause-applied
 returns-in-Err-clause-applied g c = λ s e encoding priority past has ticket counted.
     let m = c.args.message in
     let at = ap (λ f. f m.message) encoding in
-    Applies-silent (Handles-refused has refl (may-refuse s past c.args.recipients m c.in-Err.cause (λ h. ap is_some at ∙ c.in-Err.ensures.memory (ap Err h)) (λ h. at ∙ c.in-Err.ensures.unencodable (ap Err h)))) refl
+    AppliesAndSends-silent (AppliesInput-refused has refl (may-refuse s past c.args.recipients m c.in-Err.cause (λ h. ap is_some at ∙ c.in-Err.ensures.memory (ap Err h)) (λ h. at ∙ c.in-Err.ensures.unencodable (ap Err h)))) refl
 
 pub returns-in-Ok-take_own-clause-applied : goal.returns-in-Ok-take_own-clause-applied
 returns-in-Ok-take_own-clause-applied g c = λ s e encoding priority past has ticket counted.
@@ -29,7 +29,7 @@ returns-in-Ok-take_own-clause-applied g c = λ s e encoding priority past has ti
     let serves = c.in-Ok-take_own.ensures.serves in
     let turned : out ≡ outcome s s.own m past = c.in-Ok-take_own.ensures.outcome ∙ ap (λ p. outcome_at same core p m.digest charge) has.own ∙ outcome-taken e lawful has encoding s.own m in
     record {
-      handled = Handles-applied {replies = serves.replies} (record {
+      handled = AppliesInput-applied {replies = serves.replies} (record {
         lawful = (serves.due ∙ handed-broadcast e lawful has c.args.recipients m, ap is_some spelled);
         content = HasContent-broadcast e lawful has encoding c.args.recipients (subst (λ p. Takes same p m charge core c.take_own.new.node.core) has.own serves.takes);
         counted = serves.hands.counted;
@@ -41,4 +41,4 @@ returns-in-Ok-take_own-clause-applied g c = λ s e encoding priority past has ti
 
 pub returns-in-Err-take_own-clause-applied : goal.returns-in-Err-take_own-clause-applied
 returns-in-Err-take_own-clause-applied g c = λ s e encoding priority past has ticket counted.
-    Applies-silent (Handles-refused has c.in-Err-take_own.ensures.unchanged_on_error (ap (λ f. is_some (f c.args.message.message)) encoding ∙ ap is_some c.in-Ok.ensures.ok)) refl
+    AppliesAndSends-silent (AppliesInput-refused has c.in-Err-take_own.ensures.unchanged_on_error (ap (λ f. is_some (f c.args.message.message)) encoding ∙ ap is_some c.in-Ok.ensures.ok)) refl

@@ -8,7 +8,7 @@ use Rattle.engine_io.specs.Counters.{Counters}
 use Rattle.engine_io.specs.ReplyCounts.{count_replies}
 use Rattle.engine_io.specs.declared.input.Turn.TheVariants as turn
 use Rattle.commonware_broadcast.specs.CountingCalls.{count_outcome}
-use Rattle.commonware_broadcast.proofs.Applying.{Handles-applied, Handles-refused}
+use Rattle.commonware_broadcast.proofs.Applying.{AppliesInput-applied, AppliesInput-refused}
 use Rattle.commonware_broadcast.proofs.buffered.engine.handler.handle_arrival.Goals as goal
 
 pub returns-in-Ok-clause-handled : goal.returns-in-Ok-clause-handled
@@ -19,7 +19,7 @@ returns-in-Ok-clause-handled g c = λ s e encodes past has.
     let old = c.args.node.now.metrics in
     let serves = c.in-Ok.ensures.serves in
     let turned : c.in-Ok.outcome ≡ outcome s p m past = c.in-Ok.ensures.outcome ∙ outcome-taken e lawful has encodes p m in
-    Handles-applied {replies = serves.replies} (record {
+    AppliesInput-applied {replies = serves.replies} (record {
       lawful = (serves.due ∙ handed-arrival e lawful has p m, tt);
       content = HasContent-arrival e lawful has encodes serves.takes;
       counted = c.count_received.ensures ∙ ap (λ (k : Counters g.row.P.Denot). record k { totals = count_outcome c.in-Ok.outcome k.totals }) serves.hands.counted
@@ -34,4 +34,4 @@ pub returns-clause-counts_no_payload : goal.returns-clause-counts_no_payload
 returns-clause-counts_no_payload g c = ap (λ n. n.metrics.peer) c.in-Err.ensures.unchanged_on_error
 
 pub returns-clause-handled : goal.returns-clause-handled
-returns-clause-handled g c = λ s e encodes past has. Handles-refused has c.in-Err.ensures.unchanged_on_error tt
+returns-clause-handled g c = λ s e encodes past has. AppliesInput-refused has c.in-Err.ensures.unchanged_on_error tt

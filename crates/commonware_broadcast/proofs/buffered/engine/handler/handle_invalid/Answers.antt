@@ -1,8 +1,8 @@
 use Rattle.std.proofs.Common.{[], refl}
-use Rattle.commonware_broadcast.proofs.Applying.{Handles-applied}
+use Rattle.commonware_broadcast.proofs.Applying.{AppliesInput-applied}
 use Rattle.commonware_broadcast.proofs.Composing.{told-same}
 use Rattle.commonware_broadcast.proofs.buffered.engine.handler.handle_invalid.Goals as goal
 
 pub returns-clause-handled : goal.returns-clause-handled
 returns-clause-handled g c = λ s e past has.
-    Handles-applied {replies = []} (record { lawful = (refl, tt); content = has; counted = c.count_receive.ensures; replied = told-same g.O.Outlet.told c.args.node.now.outlet }) refl
+    AppliesInput-applied {replies = []} (record { lawful = (refl, tt); content = has; counted = c.count_receive.ensures; replied = told-same g.O.Outlet.told c.args.node.now.outlet }) refl

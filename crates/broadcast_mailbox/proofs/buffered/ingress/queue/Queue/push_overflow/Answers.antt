@@ -17,4 +17,4 @@ pub invariant_of-self-2 : goal.invariant_of-self-2
 invariant_of-self-2 g c =
     let draws = rw (← c.self.view_is) at c.requires.draws in
     let no_room = rw (← c.self.view_is) at c.requires.no_room in
-    IsSound-handled (λ request answer. g.T.Closable.may_answer request.message answer) _ _ c.args.message c.args.counted c.handle.result c.self.invariant draws no_room c.if-is_err.ensures.value c.handle.ensures
+    IsSound-handled (λ request answer. g.T.Closable.may_answer request.message answer) _ c.args.message c.args.counted c.handle.result c.self.invariant draws no_room c.if-is_err.ensures.value c.handle.ensures

@@ -1,7 +1,7 @@
 use Rattle.std.proofs.Common.{◌≡◌, true, false, refl, ap, ◌∙◌, subst}
 use Rattle.std.specs.Prelude.{IfOk}
 use Rattle.engine_io.specs.Counters.{Counters}
-use Rattle.commonware_broadcast.proofs.Applying.{Handles-refused}
+use Rattle.commonware_broadcast.proofs.Applying.{AppliesInput-refused}
 use Rattle.commonware_broadcast.proofs.Arriving.{decoding, Arrives-uncounted, Arrives-decoded, Arrives-handled}
 use Rattle.commonware_broadcast.proofs.buffered.engine.state.Engine.start_job.Goals as goal
 
@@ -17,7 +17,7 @@ returns-in-Ok-started-clause-arrives g c = rw (← c.self.view_is) (λ s is past
 pub returns-in-Err-clause-arrives : goal.returns-in-Err-clause-arrives
 returns-in-Err-clause-arrives g c = rw (← c.self.view_is) (λ s is past has.
     Arrives-decoded (decoding is.same has (record { one = c.in-Ok.ensures.counts_one; stays = c.count_and_start.ensures.totals_stay }))
-    (Arrives-handled refl (Handles-refused has refl tt) (ap (λ e. e.job) c.self.view_is ∙ c.requires.idle)))
+    (Arrives-handled refl (AppliesInput-refused has refl tt) (ap (λ e. e.job) c.self.view_is ∙ c.requires.idle)))
 
 pub returns-in_default-clause-counted_before_its_job : goal.returns-in_default-clause-counted_before_its_job
 returns-in_default-clause-counted_before_its_job g c = rw (← c.self.view_is) (λ has. absurd (let no : false ≡ true = c.in_default.ensures.succeeds_if_counted_before has in cc))
