@@ -121,13 +121,7 @@ module _ {P M D S G O J N V B Q C T W A : Type 0} (f : Format P M D C) (i : Inte
   ShowsPollsTo-back (Some p) None left end same took ran = absurd took
   ShowsPollsTo-back (Some p) (Some q) left end same took ran = (ShowsPolls-more took ran.0, subst (λ b. StopsAt b left.0.engine end) same ran.1)
 
--- an engine that was to run until it is idle has no job, unless it ended
-pub stops-idle : {J : Type 0} {job : Option J} {ended : Option EndCause} (end : Option EndCause)
-    → MatchOption end ((true ≡ true) × (job ≡ None)) (λ cause. ended ≡ Some cause) → ended ≡ None → job ≡ None
-stops-idle None h lives = h.1
-stops-idle (Some cause) h lives = absurd (let no : None ≡ Some cause = sym lives ∙ h in cc)
-
--- one that was not to has ended
+-- an engine that was not to run until it is idle has ended
 pub stops-ended : {A X : Type 0} → (false ≡ true) × X → A
 stops-ended h = absurd (let no : false ≡ true = h.0 in cc)
 

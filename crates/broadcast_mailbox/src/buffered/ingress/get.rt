@@ -65,6 +65,8 @@ impl<M: Digestible> Model for Get<M> {
 
 impl<M: Digestible> Get<M> {
     // Creates the future of a get of `digest`. Returns also where its reply goes.
+    // Inlined, so that a new future is not copied in parts.
+    #[inline(always)]
     pub(super) fn open(
         alloc: Global,
         digest: M::Digest,

@@ -121,6 +121,7 @@ impl<T> Inbox<T> {
 impl<T: Closable + Drop> Inbox<T> {
     /// Draws a ticket for the message and queues it. If the ready list is full, a closed message is
     /// dropped. After an error the inbox is unchanged.
+    #[inline(always)]
     pub fn enqueue(&mut self, message: T) -> Result<Queued, MailboxError>
         ensures step { Enqueues T.may_answer self.old message false result self.new }
         ensures unchanged_on_error { OnErr result (self.new ≡ self.old) }
@@ -138,6 +139,8 @@ impl<T: Closable + Drop> Inbox<T> {
     }
 
     // Enqueues as `enqueue` does, with this mark on the request.
+    // Inlined as `Queue::push` is.
+    #[inline(always)]
     pub(super) fn enqueue_as(&mut self, message: T, counted: bool) -> Result<Queued, MailboxError>
         ensures { Enqueues T.may_answer self.old message counted result self.new }
     {
@@ -162,6 +165,8 @@ impl<T: Closable + Drop> Inbox<T> {
 
     // Takes as `take` does, and keeps the mark of the request. Returns also how many counted
     // requests were skipped.
+    // Inlined as `Queue::pop` is.
+    #[inline(always)]
     pub(super) fn take_request(&mut self) -> (Option<Request<T>>, u64)
         ensures { (skipped : List (Request T))
             × Takes T.may_answer self.old result.0 skipped self.new
@@ -267,6 +272,8 @@ impl<T: Named, A: Bookkeeping> Attended<T, A> {
 
 impl<T: Queueable + Drop, A: Bookkeeping> Attended<T, A> {
     /// Queues a message.
+    // Inlined as `Queue::push` is.
+    #[inline(always)]
     pub(super) fn enqueue(&mut self, message: T) -> (Result<Queued, MailboxError>, Woken)
         ensures step { Enqueues T.may_answer self.old.inbox message false result.0 self.new.inbox }
         ensures wakes { result.1 ≡ (self.old.queued, None) }

@@ -88,6 +88,8 @@ impl<T> Queue<T> {
 
 impl<T: Closable + Drop> Queue<T> {
     /// Draws a ticket for the message and queues it. After an error the queue is unchanged.
+    // Inlined, so that a request is written to its place and not copied by each call on the way.
+    #[inline(always)]
     pub(super) fn push(&mut self, message: T, counted: bool) -> Result<Queued, MailboxError>
         ensures step { Pushes T.may_answer self.old message counted result self.new }
         ensures drawn { self.new.next ≤ last_ticket }
@@ -111,6 +113,7 @@ impl<T: Closable + Drop> Queue<T> {
     }
 
     // Puts the message into the ready list.
+    #[inline(always)]
     fn push_ready(&mut self, message: T, counted: bool) -> Result<Queued, MailboxError>
         requires draws { Draws self.old self.old.next }
         requires room { HasRoom self.old }
@@ -131,6 +134,8 @@ impl<T: Closable + Drop> Queue<T> {
     }
 
     // Hands the message, which finds no room, to the overflow.
+    // By itself, since it is rare and large.
+    #[inline(never)]
     fn push_overflow(&mut self, message: T, counted: bool) -> Result<Queued, MailboxError>
         requires draws { Draws self.old self.old.next }
         requires no_room { ¬ HasRoom self.old }
@@ -157,6 +162,8 @@ impl<T: Closable + Drop> Queue<T> {
 
     /// Removes and returns the oldest request, if there is one, and fills the ready list from the
     /// overflow. Returns also how many closed requests were dropped on the way.
+    // Inlined, so that a request is copied once.
+    #[inline(always)]
     pub(super) fn pop(&mut self) -> (Option<Request<T>>, Skips)
         ensures step { (skipped : List (Request T))
             × Pops T.may_answer self.old result.0 skipped self.new
@@ -300,6 +307,8 @@ impl<T: Closable + Drop> Overflow<T> for Pending<T> {
 }
 
 // Moves requests to the end of the ready list, as `Pending::refill` does.
+// By itself, since it is rare and large.
+#[inline(never)]
 fn refill_front<T: Closable + Drop>(
     requests: &mut VecDeque<Request<T>>,
     ready: &mut VecDeque<Request<T>>,

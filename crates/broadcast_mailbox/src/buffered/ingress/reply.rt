@@ -271,6 +271,7 @@ pub(super) type Answered<T> = (Answering<T>, oneshot::Receiver<T>, Arc<Bell>);
 
 /// Creates the channel of a reply, and the bell that is rung once the reply is sent or never will
 /// be.
+#[inline(always)]
 pub(super) fn answered<T: Drop>(
     alloc: Global,
     taker: Option<Arc<Alertness>>,

@@ -193,6 +193,8 @@ impl<T: Named + Drop, A: Bookkeeping> Shared<T, A> {
 
 impl<T: Queueable + Drop, A: Bookkeeping> Shared<T, A> {
     /// Queues a message.
+    // Inlined as `Queue::push` is.
+    #[inline(always)]
     pub(super) fn enqueue(&self, rt: &impl Wait, message: T) -> Result<Queued, MailboxError> {
         let (queued, woken) = self.state.lock(rt).enqueue(message);
         drop(woken);

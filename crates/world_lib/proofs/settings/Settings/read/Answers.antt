@@ -24,11 +24,6 @@ abbrev Spelled : List ℕ → List ℕ → List ℕ → List (List ℕ) → Type
 Spelled size nodes hostile budget =
     (it : Arguments) × AreFit it × (size ≡ decimal it.deque_size) × IsKeys nodes it.nodes × IsHostile hostile it.hostile × IsBudget budget it.byte_budget
 
-spelled : (size nodes hostile : List ℕ) (budget : List (List ℕ)) (n b : ℕ) (keys others : List ℕ) → n < 2 ^ 64 → AreNumbers keys → AreNumbers others → b < 2 ^ 64
-    → size ≡ decimal n → IsKeys nodes keys → IsHostile hostile others → IsBudget budget b → Spelled size nodes hostile budget
-spelled size nodes hostile budget n b keys others p q r s e is_keys is_hostile is_budget =
-    (record { deque_size = n; nodes = keys; hostile = others; byte_budget = b }, record { size = p; nodes = q; hostile = r; budget = s }, e, is_keys, is_hostile, is_budget)
-
 pub returns-in_err-nodes-clause-no_memory_for_arguments : goal.returns-in_err-nodes-clause-no_memory_for_arguments
 returns-in_err-nodes-clause-no_memory_for_arguments c =
     let n = c.in_ok-deque_size.deque_size in
@@ -39,7 +34,9 @@ returns-in_err-nodes-clause-no_memory_for_arguments c =
     let hostile = c.in_ok-judge_hostile.ensures.keys in
     let is_hostile : IsHostile (string_bytes c.args.hostile.now) hostile.0 = rw (← c.as_bytes-2.ensures.value) hostile.2 in
     let read : (keys : List ℕ) → AreNumbers keys → IsKeys c.as_bytes-3.result.now keys → Spelled (string_bytes c.args.size.now) (string_bytes c.args.nodes.now) (string_bytes c.args.hostile.now) (map (string_bytes {Z = Global}) c.args.budget.now)
-    = λ keys fit is. spelled (string_bytes c.args.size.now) (string_bytes c.args.nodes.now) (string_bytes c.args.hostile.now) (map (string_bytes {Z = Global}) c.args.budget.now) n b keys hostile.0 small fit hostile.1 fits size (rw (← c.as_bytes-3.ensures.value) is) is_hostile c.in_ok-byte_budget.ensures.spelled_so in
+    = λ keys fit is.
+    let is_keys : IsKeys (string_bytes c.args.nodes.now) keys = rw (← c.as_bytes-3.ensures.value) is in
+    (record { deque_size = n; nodes = keys; hostile = hostile.0; byte_budget = b }, record { size = small; nodes = fit; hostile = hostile.1; budget = fits }, size, is_keys, is_hostile, c.in_ok-byte_budget.ensures.spelled_so) in
     search (read, c.in_err-nodes.ensures.no_memory_for_keys, rules)
 
 pub returns-in_err-hostile-clause-no_memory_for_arguments : goal.returns-in_err-hostile-clause-no_memory_for_arguments
@@ -54,5 +51,5 @@ returns-in_err-hostile-clause-no_memory_for_arguments c =
     let is_hostile : IsHostile (string_bytes c.args.hostile.now) hostile.0 = rw (← c.as_bytes-2.ensures.value) hostile.2 in
     let is_keys : IsKeys (string_bytes c.args.nodes.now) keys = rw (← c.as_bytes-3.ensures.value) c.in_ok-nodes.ensures.spelled_so in
     let read : Spelled (string_bytes c.args.size.now) (string_bytes c.args.nodes.now) (string_bytes c.args.hostile.now) (map (string_bytes {Z = Global}) c.args.budget.now)
-    = spelled (string_bytes c.args.size.now) (string_bytes c.args.nodes.now) (string_bytes c.args.hostile.now) (map (string_bytes {Z = Global}) c.args.budget.now) n b keys hostile.0 small c.in_ok-nodes.ensures.are_numbers hostile.1 fits size is_keys is_hostile c.in_ok-byte_budget.ensures.spelled_so in
+    = (record { deque_size = n; nodes = keys; hostile = hostile.0; byte_budget = b }, record { size = small; nodes = c.in_ok-nodes.ensures.are_numbers; hostile = hostile.1; budget = fits }, size, is_keys, is_hostile, c.in_ok-byte_budget.ensures.spelled_so) in
     search (read, rules)
