@@ -109,6 +109,8 @@ impl<P: PublicKey, M: Digestible + Codec, S, O, B, Q, T: Strategy<M>> Engine<P, 
 
     /// Polls the job of a message of `peer`. A pending job is kept. The message of a ready one is
     /// taken.
+    // Inlined with what it calls, so that a turn is not copied by each of them.
+    #[inline(always)]
     pub(super) fn poll_job<G>(
         &mut self,
         alloc: Global,
@@ -197,6 +199,8 @@ where
 }
 
 /// Takes a message of `peer` that has this digest.
+// Inlined as `poll_job` is.
+#[inline(always)]
 fn arrive<P, M, S, G, O>(
     node: &mut Node<P, M, S, O>,
     alloc: Global,

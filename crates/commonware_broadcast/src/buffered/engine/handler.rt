@@ -40,6 +40,8 @@ where
 }
 
 /// Takes a message of a peer, or refuses it if an allocation fails: then nothing has changed.
+// Inlined as `Engine::poll_job` is.
+#[inline(always)]
 pub(super) fn handle_arrival<P, M, S, G, O>(
     node: &mut Node<P, M, S, O>,
     alloc: Global,

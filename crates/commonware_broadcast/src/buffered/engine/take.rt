@@ -13,6 +13,8 @@ use std::alloc::{AllocError, Global};
 
 /// Takes a message under `peer`, and hands a copy to each waiter of its digest. The copies are made
 /// first: after an allocation failure nothing has changed.
+// Inlined as `Engine::poll_job` is.
+#[inline(always)]
 pub(super) fn take<P, M, S, G, O>(
     node: &mut Node<P, M, S, O>,
     alloc: Global,
