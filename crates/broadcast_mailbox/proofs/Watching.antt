@@ -12,10 +12,10 @@ use Rattle.broadcast_mailbox.specs.Queued.{answer_of}
 use Rattle.broadcast_mailbox.specs.Watch.{BroadcastsOnly, is_broadcast, is_watched, kind_of}
 
 -- a request that a watch of broadcasts matches is a broadcast
-pub watched-open : {P M S G D : Type 0} (watched : Kind → D → Bool) → BroadcastsOnly watched → (message : Message P M S G D) → is_watched watched message ≡ true → is_broadcast (kind_of message) ≡ true
-watched-open watched only (variant.Broadcast recipients message) is = refl
-watched-open watched only (variant.Subscribe digest responder) is = only kind.Subscribe digest is
-watched-open watched only (variant.Get digest responder) is = only kind.Get digest is
+pub watched_open : {P M S G D : Type 0} (watched : Kind → D → Bool) (message : Message P M S G D) → BroadcastsOnly watched → is_watched watched message ≡ true → is_broadcast (kind_of message) ≡ true
+watched_open watched (variant.Broadcast recipients message) only is = refl
+watched_open watched (variant.Subscribe digest responder) only is = only kind.Subscribe digest is
+watched_open watched (variant.Get digest responder) only is = only kind.Get digest is
 
 -- a broadcast that was accepted is one that drew a ticket
 pub accepted-answer : (result : Result Queued MailboxError) → is_taken_up (answer_of result) ≡ is_accepted result

@@ -2,7 +2,8 @@
 ghost use Rattle.std.specs.Prelude.{◌≡◌, ◌++◌, ◌∷◌, [], IfOk, OnOk, OnErr, ⊤};
 ghost use Rattle.std.specs.Arc.{arc_value};
 ghost use Rattle.std.specs.NonZero.{non_zero_u32_get, non_zero_usize_get};
-ghost use Rattle.broadcast_mailbox.specs.Account.{TallyState, is_taken_up, tallied};
+ghost use Rattle.broadcast_mailbox.specs.Account.{TallyState, is_accepted, is_taken_up, tallied};
+ghost use Rattle.broadcast_mailbox.specs.Watch.{is_watched};
 ghost use Rattle.broadcast_mailbox.specs.Ends.{IngressEnd, MailboxEnd};
 
 use crate::buffered::ingress::account::{Account, Bookkeeping, Tally};
@@ -41,11 +42,34 @@ where
         ends.0.inbox.size ≡ non_zero_usize_get mailbox_size) }
     ensures nothing_taken { IfOk result (λ ends. (ends.1.taken ≡ 0) × (ends.1.refused ≡ 0)) }
 {
-    let Ok(inbox) = Shared::create(alloc, mailbox_size, ()) else {
-        drop::<_>(rt);
+    open(rt, alloc, mailbox_size, (), ())
+}
+
+/// Creates both ends of a new inbox that has this account.
+fn open<P, M, R, A>(
+    rt: R,
+    alloc: Global,
+    mailbox_size: NonZeroUsize,
+    account: A,
+    taker: A::Taker,
+) -> Result<(Mailbox<P, M, R, A>, Ingress<Incoming<P, M>, R, A>), AllocError>
+where
+    P: PublicKey,
+    M: Digestible,
+    R: Clone + Drop,
+    A: Bookkeeping,
+    requires { (A.waiting account ≡ 0) × (A.accepted account ≡ 0) }
+    ensures same_inbox { IfOk result (λ ends. ends.0.inbox ≡ ends.1.inbox) }
+    ensures size { IfOk result (λ ends.
+        ends.0.inbox.size ≡ non_zero_usize_get mailbox_size) }
+    ensures taker { IfOk result (λ ends. (ends.1.taken ≡ A.taken taker)
+        × (ends.1.refused ≡ A.refusals taker)) }
+{
+    let Ok(inbox) = Shared::create(alloc, mailbox_size, account) else {
+        drop::<_>((rt, taker));
         return Err(AllocError);
     };
-    both_ends(rt, alloc, inbox, ())
+    both_ends(rt, alloc, inbox, taker)
 }
 
 /// Creates both ends of the inbox.
@@ -65,13 +89,11 @@ where
     ensures taker { IfOk result (λ ends. (ends.1.taken ≡ A.taken taker)
         × (ends.1.refused ≡ A.refusals taker)) }
 {
-    match Shared::ends(&rt, &inbox) {
-        Ok((own, its)) => Ok((Mailbox { inbox, alloc, rt }, Ingress::new(own, its, taker))),
-        Err(error) => {
-            drop::<_>((rt, inbox, taker));
-            Err(error)
-        }
-    }
+    let Ok((own, its)) = Shared::ends(&rt, &inbox) else {
+        drop::<_>((rt, inbox, taker));
+        return Err(AllocError);
+    };
+    Ok((Mailbox { inbox, alloc, rt }, Ingress::new(own, its, taker)))
 }
 
 /// The ends of a mailbox that counts the tallied requests that the watch `V` matches, and the tally
@@ -123,17 +145,11 @@ where
         taken,
         parts.get() as u64,
     );
-    let Ok(inbox) = Shared::create(alloc, mailbox_size, books) else {
-        drop::<_>((rt, tally, taking));
+    let Ok((mailbox, ingress)) = open(rt, alloc, mailbox_size, books, taking) else {
+        drop::<_>(tally);
         return Err(AllocError);
     };
-    match both_ends(rt, alloc, inbox, taking) {
-        Ok((mailbox, ingress)) => Ok((mailbox, ingress, tally)),
-        Err(error) => {
-            drop::<_>(tally);
-            Err(error)
-        }
-    }
+    Ok((mailbox, ingress, tally))
 }
 
 /// The mailbox of a node. Copies of it may be used on any thread.
@@ -182,22 +198,12 @@ where
         ensures { IfOk result (λ subscription. subscription.digest ≡ digest) }
     {
         let (dropped, taker) = (self.inbox.dropped(), self.inbox.awake());
-        let Ok((responder, mut subscription)) = Subscription::open(
-            self.alloc, digest, dropped, taker,
-        ) else {
+        let Ok((responder, subscription)) = Subscription::open(self.alloc, digest, dropped, taker)
+        else {
             return Err(MailboxError::Memory);
         };
-        let request = Message::subscribe(digest, responder);
-        match self.inbox.enqueue(&self.rt, request) {
-            Ok(queued) => {
-                subscription.set_accepted(queued);
-                Ok(subscription)
-            }
-            Err(error) => {
-                drop::<_>(subscription);
-                Err(error)
-            }
-        }
+        let queued = self.enqueue(Message::subscribe(digest, responder));
+        subscription.once_queued(queued)
     }
 
     /// Subscribes as `subscribe` does, and adds the subscription to those of `set`, among which it
@@ -216,14 +222,8 @@ where
         let Ok(responder) = set.open(self.alloc, digest, self.inbox.dropped()) else {
             return Err(MailboxError::Memory);
         };
-        let queued = self
-            .inbox
-            .enqueue(&self.rt, Message::subscribe(digest, responder));
-        if let Err(error) = queued {
-            set.truncate(before);
-            return Err(error);
-        }
-        Ok(())
+        let queued = self.enqueue(Message::subscribe(digest, responder));
+        set.once_queued(before, queued)
     }
 
     /// Requests the message of `digest` if it is cached.
@@ -232,20 +232,17 @@ where
     pub fn get(&self, digest: M::Digest) -> Result<Get<M>, MailboxError>
         ensures { IfOk result (λ get. get.digest ≡ digest) }
     {
-        let Ok((responder, mut get)) = Get::open(self.alloc, digest, self.inbox.awake()) else {
+        let Ok((responder, get)) = Get::open(self.alloc, digest, self.inbox.awake()) else {
             return Err(MailboxError::Memory);
         };
-        let request = Message::get(digest, responder);
-        match self.inbox.enqueue(&self.rt, request) {
-            Ok(queued) => {
-                get.set_accepted(queued);
-                Ok(get)
-            }
-            Err(error) => {
-                drop::<_>(get);
-                Err(error)
-            }
-        }
+        let queued = self.enqueue(Message::get(digest, responder));
+        get.once_queued(queued)
+    }
+
+    // Queues a request.
+    #[inline(always)]
+    fn enqueue(&self, request: Incoming<P, M>) -> Result<Queued, MailboxError> {
+        self.inbox.enqueue(&self.rt, request)
     }
 }
 
@@ -271,7 +268,7 @@ where
     {
         let counted = V::matches(Kind::Broadcast, &message.digest());
         let request = Message::broadcast(recipients, message);
-        Queued::answer(self.inbox.enqueue_as(&self.rt, request, counted, tally))
+        Queued::answer(self.enqueue_as(request, counted, tally))
     }
 
     /// Subscribes as `subscribe` does. The tally is one higher exactly if the request was accepted
@@ -287,23 +284,13 @@ where
         ensures unchanged_on_error { OnErr result (tally.new ≡ tally.old) }
     {
         let (dropped, taker) = (self.inbox.dropped(), self.inbox.awake());
-        let Ok((responder, mut subscription)) = Subscription::open(
-            self.alloc, digest, dropped, taker,
-        ) else {
+        let Ok((responder, subscription)) = Subscription::open(self.alloc, digest, dropped, taker)
+        else {
             return Err(MailboxError::Memory);
         };
         let counted = V::matches(Kind::Subscribe, &digest);
-        let request = Message::subscribe(digest, responder);
-        match self.inbox.enqueue_as(&self.rt, request, counted, tally) {
-            Ok(queued) => {
-                subscription.set_accepted(queued);
-                Ok(subscription)
-            }
-            Err(error) => {
-                drop::<_>(subscription);
-                Err(error)
-            }
-        }
+        let queued = self.enqueue_as(Message::subscribe(digest, responder), counted, tally);
+        subscription.once_queued(queued)
     }
 
     /// Gets as `get` does. The tally is one higher exactly if the request was accepted and the
@@ -314,21 +301,27 @@ where
             tally.new ≡ tallied (V.watched Kind.Get digest) get.accepted tally.old) }
         ensures unchanged_on_error { OnErr result (tally.new ≡ tally.old) }
     {
-        let Ok((responder, mut get)) = Get::open(self.alloc, digest, self.inbox.awake()) else {
+        let Ok((responder, get)) = Get::open(self.alloc, digest, self.inbox.awake()) else {
             return Err(MailboxError::Memory);
         };
         let counted = V::matches(Kind::Get, &digest);
-        let request = Message::get(digest, responder);
-        match self.inbox.enqueue_as(&self.rt, request, counted, tally) {
-            Ok(queued) => {
-                get.set_accepted(queued);
-                Ok(get)
-            }
-            Err(error) => {
-                drop::<_>(get);
-                Err(error)
-            }
-        }
+        let queued = self.enqueue_as(Message::get(digest, responder), counted, tally);
+        get.once_queued(queued)
+    }
+
+    // Queues a request for a tally, which counts it if it is accepted and the watch matches it.
+    #[inline(always)]
+    #[tactic(auto, using(crate::proofs::Watching::watched_open))]
+    fn enqueue_as(
+        &self,
+        request: Incoming<P, M>,
+        counted: bool,
+        tally: &mut Tally<A>,
+    ) -> Result<Queued, MailboxError>
+        requires { counted ≡ is_watched V.watched request }
+        ensures { tally.new ≡ tallied counted (is_accepted result) tally.old }
+    {
+        self.inbox.enqueue_as(&self.rt, request, counted, tally)
     }
 }
 

@@ -8,7 +8,7 @@ ghost use Rattle.broadcast_mailbox.specs.Queue.{waiting};
 ghost use Rattle.broadcast_mailbox.specs.Attended.{ready};
 ghost use Rattle.broadcast_mailbox.specs.Ends.{SharedInbox};
 ghost use Rattle.broadcast_mailbox.specs.Account.{TallyState, counted_of, is_accepted, tallied};
-ghost use Rattle.broadcast_mailbox.specs.Watch.{BroadcastsOnly, is_watched};
+ghost use Rattle.broadcast_mailbox.specs.Watch.{BroadcastsOnly};
 ghost use Rattle.broadcast_mailbox.specs.Mailbox.{MailboxState, mailbox_after};
 ghost use Rattle.broadcast_mailbox.specs.Tickets.{Call, Runs, IsLawful};
 
@@ -18,11 +18,8 @@ use crate::buffered::ingress::books::{Books, Taker};
 use crate::buffered::ingress::dropped::Dropped;
 use crate::buffered::ingress::inbox::{Attended, Inbox};
 use crate::buffered::ingress::look::Alertness;
-use crate::buffered::ingress::message::{
-    Counts, Message, Named, Queueable, Queued, Request, Watch,
-};
-use crate::buffered::ingress::reply::{Reply, Responder};
-use broadcast_core::{Closable, Digestible, PublicKey};
+use crate::buffered::ingress::message::{Counts, Named, Queueable, Queued, Request, Watch};
+use broadcast_core::Closable;
 use futures::task::{Context, Poll, Source};
 use std::alloc::{AllocError, Global};
 use std::marker::Model;
@@ -159,11 +156,7 @@ impl<T: Named + Drop, A: Bookkeeping> Shared<T, A> {
         ensures size { IfOk result (λ inbox.
             (arc_value inbox).size ≡ non_zero_usize_get mailbox_size) }
     {
-        let Ok(dropped) = Arc::new(alloc, Dropped::new(alloc)) else {
-            drop::<_>(account);
-            return Err(AllocError);
-        };
-        let Ok(alertness) = Arc::new(alloc, Alertness::new()) else {
+        let Ok((dropped, alertness)) = marks(alloc) else {
             drop::<_>(account);
             return Err(AllocError);
         };
@@ -232,34 +225,6 @@ impl<T: Queueable + Drop, A: Bookkeeping> Shared<T, A> {
     }
 }
 
-impl<P, M, S, G, A, K, V> Shared<Message<P, M, S, G>, Books<A, K, V, M::Digest>>
-where
-    P: PublicKey,
-    M: Digestible,
-    S: Responder<Reply<M>> + Drop,
-    G: Responder<Option<Reply<M>>> + Drop,
-    A: Account,
-    K: Account,
-    V: Watch<M::Digest>,
-{
-    /// Queues a message for a tally, which counts it if it is accepted and `counted`.
-    pub(super) fn enqueue_as(
-        &self,
-        rt: &impl Wait,
-        message: Message<P, M, S, G>,
-        counted: bool,
-        tally: &mut Tally<A>,
-    ) -> Result<Queued, MailboxError>
-        requires { counted ≡ is_watched V.watched message }
-        ensures { tally.new ≡ tallied counted (is_accepted result) tally.old }
-    {
-        let (queued, woken) = self.state.lock(rt).enqueue_as(message, counted, tally);
-        drop(woken);
-        self.alertness.ask();
-        queued
-    }
-}
-
 impl<T, A, K, V, D> Shared<T, Books<A, K, V, D>>
 where
     T: Queueable + Drop,
@@ -267,6 +232,23 @@ where
     K: Account,
     V: Watch<D>,
 {
+    /// Queues a message for a tally, which counts it if it is accepted and `counted`.
+    pub(super) fn enqueue_as(
+        &self,
+        rt: &impl Wait,
+        message: T,
+        counted: bool,
+        tally: &mut Tally<A>,
+    ) -> Result<Queued, MailboxError>
+        requires { BroadcastsOnly V.watched → counted ≡ true → T.stays_open message ≡ true }
+        ensures { tally.new ≡ tallied counted (is_accepted result) tally.old }
+    {
+        let (queued, woken) = self.state.lock(rt).enqueue_as(message, counted, tally);
+        drop(woken);
+        self.alertness.ask();
+        queued
+    }
+
     /// Closes the inbox and settles its account with the tally that has all parts.
     pub(super) fn settle(
         &self,
@@ -286,6 +268,17 @@ where
         drop(woken);
         settled
     }
+}
+
+/// Creates what is told of dropped subscriptions, and of whether the task is awake.
+fn marks<D: Ord + Drop>(alloc: Global) -> Result<(Arc<Dropped<D>>, Arc<Alertness>), AllocError> {
+    let Ok(alertness) = Arc::new(alloc, Alertness::new()) else {
+        return Err(AllocError);
+    };
+    let Ok(dropped) = Arc::new(alloc, Dropped::new(alloc)) else {
+        return Err(AllocError);
+    };
+    Ok((dropped, alertness))
 }
 
 /// Proves that every ticket ends once. Over any list of calls of an inbox that begins empty,

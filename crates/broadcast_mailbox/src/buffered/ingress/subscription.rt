@@ -1,5 +1,5 @@
 //! The future of a subscribe.
-ghost use Rattle.std.specs.Prelude.{◌≡◌, Result, Ok, Err, true, IfOk, IfErr};
+ghost use Rattle.std.specs.Prelude.{◌≡◌, Result, Ok, Err, true, false, IfOk, IfErr, OnErr};
 ghost use Rattle.broadcast_core.specs.Carried.{Carried};
 ghost use Rattle.broadcast_mailbox.specs.Account.{is_accepted};
 ghost use Rattle.futures.specs.Poll.{IfReady, OnPending};
@@ -9,6 +9,7 @@ ghost use Rattle.futures.specs.Task.{Covers, Keeps};
 ghost use Rattle.futures.specs.declared.channel.oneshot.Canceled.{Canceled};
 ghost use Rattle.broadcast_mailbox.specs.Asked.{GoesBy, subscription_returns};
 
+use crate::MailboxError;
 use crate::buffered::ingress::dropped::{Abandoned, Dropped};
 use crate::buffered::ingress::look::Alertness;
 use crate::buffered::ingress::message::Queued;
@@ -136,11 +137,27 @@ impl<M: Digestible> Subscription<M> {
         (responder, subscription)
     }
 
-    // Keeps whether the request was accepted.
-    pub(super) fn set_accepted(&mut self, queued: Queued)
-        ensures { self.new ≡ record self.old { accepted = is_accepted (Ok queued) } }
+    // Returns the future of the request that was enqueued with this result. After an error it is
+    // dropped.
+    #[inline(always)]
+    pub(super) fn once_queued(
+        self,
+        queued: Result<Queued, MailboxError>,
+    ) -> Result<Self, MailboxError>
+        ensures keeps { IfOk result (λ it. it ≡ record self { accepted = is_accepted queued }) }
+        ensures not_accepted { OnErr result (is_accepted queued ≡ false) }
     {
-        self.accepted = queued.is_accepted();
+        let mut future = self;
+        match queued {
+            Ok(queued) => {
+                future.accepted = queued.is_accepted();
+                Ok(future)
+            }
+            Err(error) => {
+                drop::<_>(future);
+                Err(error)
+            }
+        }
     }
 
     /// Returns the digest that was asked for.

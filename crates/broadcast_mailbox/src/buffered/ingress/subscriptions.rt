@@ -6,7 +6,9 @@ ghost use Rattle.futures.specs.declared.task.Poll.TheVariants.{Ready};
 ghost use Rattle.broadcast_mailbox.specs.Asked.{GoesBy};
 ghost use Rattle.broadcast_mailbox.specs.Several.{TakenOutAt};
 
+use crate::MailboxError;
 use crate::buffered::ingress::dropped::Dropped;
+use crate::buffered::ingress::message::Queued;
 use crate::buffered::ingress::reply::{Answering, Bell, Limit, Reply};
 use crate::buffered::ingress::subscription::Subscription;
 use broadcast_core::{Digested, Digestible};
@@ -110,8 +112,27 @@ impl<M: Digestible> Subscriptions<M> {
         Ok(responder)
     }
 
+    // Drops all but the first `before` subscriptions if the request of the next was enqueued with
+    // an error.
+    pub(super) fn once_queued(
+        &mut self,
+        before: usize,
+        queued: Result<Queued, MailboxError>,
+    ) -> Result<(), MailboxError>
+        ensures keeps { OnOk result (self.new ≡ self.old) }
+        ensures drops { OnErr result (self.new ≡ take before self.old) }
+    {
+        match queued {
+            Ok(_) => Ok(()),
+            Err(error) => {
+                self.truncate(before);
+                Err(error)
+            }
+        }
+    }
+
     // Drops all but the first `len` subscriptions.
-    pub(super) fn truncate(&mut self, len: usize)
+    fn truncate(&mut self, len: usize)
         ensures { self.new ≡ take len self.old }
     {
         self.waiting.truncate(len);
