@@ -1,5 +1,6 @@
 //! The settings of a run.
 ghost use Rattle.std.specs.Prelude.{◌≡◌, ◌*◌, IfOk, Ok, map, string_bytes};
+ghost use Rattle.std.specs.Fmt.{decimal};
 ghost use Rattle.broadcast_mailbox.specs.Account.{capped};
 ghost use Rattle.cluster_lib.specs.Arguments.{IsAllowed, words_of};
 
@@ -55,13 +56,22 @@ impl Settings {
         let [nodes, messages, size] = words else {
             return Err(Fault::Usage(USAGE));
         };
-        let nodes = read_number(nodes.as_bytes(), NODES)?;
-        let messages = read_number(messages.as_bytes(), MESSAGES)?;
-        let deque_size = read_number(size.as_bytes(), SIZE)? as usize;
+        Settings::read(nodes.as_bytes(), messages.as_bytes(), size.as_bytes())
+    }
+
+    /// Returns the settings of these numbers.
+    fn read(nodes: &[u8], messages: &[u8], size: &[u8]) -> Result<Settings, Fault>
+        ensures spelled_so { IfOk result (λ it. (nodes.now ≡ decimal it.nodes)
+            × (messages.now ≡ decimal it.messages) × (size.now ≡ decimal it.deque_size)) }
+        ensures allowed { IfOk result IsAllowed }
+        ensures reads_all_numbers { (it : Settings) → IsAllowed it
+            → nodes.now ≡ decimal it.nodes → messages.now ≡ decimal it.messages
+            → size.now ≡ decimal it.deque_size → result ≡ Ok it }
+    {
         Ok(Settings {
-            nodes,
-            messages,
-            deque_size,
+            nodes: read_number(nodes, NODES)?,
+            messages: read_number(messages, MESSAGES)?,
+            deque_size: read_number(size, SIZE)? as usize,
         })
     }
 
