@@ -68,7 +68,7 @@ pub fn broadcast<R>(
     letter: u8,
 ) -> Result<Feedback, MailboxError>
 where
-    R: Runtime,
+    R: Wait + AllocGlobal + Clone + Send + 'static,
 {
     let digested = Digested::compute(rt.alloc(), message(rt.alloc(), letter)?)?;
     mailbox.broadcast(Recipients::All, digested)
@@ -93,7 +93,7 @@ pub fn gets<R>(
     letter: u8,
 ) -> Result<bool, MailboxError>
 where
-    R: Runtime,
+    R: Wait + AllocGlobal,
 {
     let get = mailbox.get(digest(rt.alloc(), letter)?)?;
     Ok(get.wait(rt).is_some())
