@@ -75,7 +75,7 @@ where
     where
         M::Cfg: Drop,
         T: Drop,
-        R: Runtime,
+        R: AllocGlobal + Clone + Drop,
     {
         let network = network(rt, mail, others)?;
         let mail = Arc::try_clone(mail)?;
@@ -123,7 +123,7 @@ pub fn network<R>(
     others: Vec<Arc<Mail<Key>>>,
 ) -> Result<(Outbound<Key, R>, Inbound<Key, R>), AllocError>
 where
-    R: Runtime,
+    R: Clone + Drop,
 {
     let outbound = Outbound::new(rt, &mail.key, others)?;
     Ok((outbound, Inbound::new(rt, mail)?))
@@ -138,7 +138,7 @@ where
     M: Digestible + Codec,
     M::Cfg: Drop,
     T: Strategy<M> + Drop,
-    R: Runtime,
+    R: AllocGlobal + Clone + Drop,
 {
     Engine::new(rt.clone()?, rt.alloc(), config)
 }
