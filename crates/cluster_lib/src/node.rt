@@ -110,7 +110,7 @@ where
     M: Digestible + Codec,
     M::Cfg: Drop,
     T: Strategy<M> + Drop,
-    R: Runtime,
+    R: AllocGlobal + Clone + Drop,
     A: Account,
     K: Account,
     requires accepted { (accepted.name ≡ A.name) × (accepted.parts ≡ A.parts) }

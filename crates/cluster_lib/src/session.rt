@@ -24,7 +24,7 @@ use std::marker::Brand;
 use std::num::NonZeroU32;
 use std::sync::ledger::Blank;
 use std::sync::{Arc, Wait};
-use std::thread::{self, JoinHandle};
+use std::thread::{self, JoinHandle, Threads};
 
 /// The number of a stranger, whose key no node has, and no node admits.
 pub const STRANGER: u64 = 0;
@@ -160,7 +160,23 @@ where
     }
     handle.stop();
     let report = handle.join(rt);
-    let (tally, seen) = client?.join(rt);
+    settle_client(rt, report, settings, client?)
+}
+
+/// Joins the client of a node that left this report. Returns what became of the node.
+fn settle_client<R, A, K>(
+    rt: &R,
+    report: MailboxReport<Key, TestMessage, R, Counting<A, K>>,
+    settings: Settings,
+    client: JoinHandle<Finished<A>>,
+) -> Result<Played, Fault>
+where
+    R: Threads + Wait + Drop,
+    A: Account,
+    K: Account,
+    requires accounts { (A.all ≡ A.parts) × (K.all ≡ K.parts) }
+{
+    let (tally, seen) = client.join(rt);
     Ok(settle(report, settings, tally, seen?))
 }
 
