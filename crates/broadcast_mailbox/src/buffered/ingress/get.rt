@@ -1,5 +1,5 @@
 //! The future of a get.
-ghost use Rattle.std.specs.Prelude.{◌≡◌, Option, None, true, false, IfSome, IfOk, IfErr, OnErr};
+ghost use Rattle.std.specs.Prelude.{◌≡◌, Option, None, Err, true, false, IfSome, IsOk, IfOk, IfErr, OnErr};
 ghost use Rattle.broadcast_core.specs.Carried.{Carried};
 ghost use Rattle.broadcast_mailbox.specs.Account.{is_accepted};
 ghost use Rattle.futures.specs.Poll.{IfReady, OnPending};
@@ -96,6 +96,8 @@ impl<M: Digestible> Get<M> {
         self,
         queued: Result<Queued, MailboxError>,
     ) -> Result<Self, MailboxError>
+        ensures succeeds { IfOk queued (λ _. IsOk result) }
+        ensures fails { IfErr queued (λ error. result ≡ Err error) }
         ensures keeps { IfOk result (λ it. it ≡ record self { accepted = is_accepted queued }) }
         ensures not_accepted { OnErr result (is_accepted queued ≡ false) }
     {

@@ -1,5 +1,5 @@
 //! The future of a subscribe.
-ghost use Rattle.std.specs.Prelude.{◌≡◌, Result, Ok, Err, true, false, IfOk, IfErr, OnErr};
+ghost use Rattle.std.specs.Prelude.{◌≡◌, Result, Ok, Err, true, false, IsOk, IfOk, IfErr, OnErr};
 ghost use Rattle.broadcast_core.specs.Carried.{Carried};
 ghost use Rattle.broadcast_mailbox.specs.Account.{is_accepted};
 ghost use Rattle.futures.specs.Poll.{IfReady, OnPending};
@@ -144,6 +144,8 @@ impl<M: Digestible> Subscription<M> {
         self,
         queued: Result<Queued, MailboxError>,
     ) -> Result<Self, MailboxError>
+        ensures succeeds { IfOk queued (λ _. IsOk result) }
+        ensures fails { IfErr queued (λ error. result ≡ Err error) }
         ensures keeps { IfOk result (λ it. it ≡ record self { accepted = is_accepted queued }) }
         ensures not_accepted { OnErr result (is_accepted queued ≡ false) }
     {

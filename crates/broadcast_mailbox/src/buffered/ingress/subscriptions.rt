@@ -1,6 +1,6 @@
 //! Several subscriptions that a caller waits for at once.
 ghost use Rattle.std.specs.Prelude.{◌≡◌, ◌<◌, ◌++◌, ◌∷◌, [], Some, None, length, take};
-ghost use Rattle.std.specs.Prelude.{IsTrue, ◌↔◌, IfOk, OnOk, OnErr, IfSome, IfNone};
+ghost use Rattle.std.specs.Prelude.{IsTrue, ◌↔◌, Err, IsOk, IfOk, IfErr, OnOk, OnErr, IfSome, IfNone};
 ghost use Rattle.futures.specs.Poll.{IfReady, OnPending};
 ghost use Rattle.futures.specs.declared.task.Poll.TheVariants.{Ready};
 ghost use Rattle.broadcast_mailbox.specs.Asked.{GoesBy};
@@ -119,6 +119,8 @@ impl<M: Digestible> Subscriptions<M> {
         before: usize,
         queued: Result<Queued, MailboxError>,
     ) -> Result<(), MailboxError>
+        ensures succeeds { IfOk queued (λ _. IsOk result) }
+        ensures fails { IfErr queued (λ error. result ≡ Err error) }
         ensures keeps { OnOk result (self.new ≡ self.old) }
         ensures drops { OnErr result (self.new ≡ take before self.old) }
     {
