@@ -208,24 +208,16 @@ where
         if !tally.is_whole() {
             return Err((self, tally));
         }
-        let (mut ingress, mut tally) = (self, tally);
-        let settled = ingress.settle_with(&mut tally);
-        drop::<_>(ingress);
+        let mut tally = tally;
+        let Ingress {
+            inbox,
+            mut taker,
+            rt,
+        } = self;
+        let settled = inbox.settle(&rt, &mut taker, &mut tally);
+        drop::<_>((inbox, taker, rt));
         drop::<_>(tally);
         Ok(settled)
-    }
-
-    // Closes the inbox and settles its account with the tally that has all parts.
-    fn settle_with(&mut self, tally: &mut Tally<A>) -> Settled
-        requires accounts { (A.all ≡ A.parts) × (K.all ≡ K.parts) }
-        requires whole { tally.old.parts ≡ A.all }
-        ensures accepted { tally.old.accepted
-            ≡ result.applied + result.refused + result.skipped + result.given_up }
-        ensures taken { result.applied + result.refused ≡ self.old.taken }
-        ensures refused { result.refused ≡ self.old.refused }
-        ensures broadcasts { BroadcastsOnly V.watched → result.skipped ≡ 0 }
-    {
-        self.inbox.settle(&self.rt, &mut self.taker, tally)
     }
 }
 

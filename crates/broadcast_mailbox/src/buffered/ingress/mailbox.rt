@@ -69,26 +69,6 @@ where
         drop::<_>((rt, taker));
         return Err(AllocError);
     };
-    both_ends(rt, alloc, inbox, taker)
-}
-
-/// Creates both ends of the inbox.
-fn both_ends<P, M, R, A>(
-    rt: R,
-    alloc: Global,
-    inbox: Arc<Shared<Incoming<P, M>, A>>,
-    taker: A::Taker,
-) -> Result<(Mailbox<P, M, R, A>, Ingress<Incoming<P, M>, R, A>), AllocError>
-where
-    P: PublicKey,
-    M: Digestible,
-    R: Clone + Drop,
-    A: Bookkeeping,
-    ensures same_inbox { IfOk result (λ ends. ends.0.inbox ≡ ends.1.inbox) }
-    ensures inbox { IfOk result (λ ends. ends.0.inbox ≡ arc_value inbox) }
-    ensures taker { IfOk result (λ ends. (ends.1.taken ≡ A.taken taker)
-        × (ends.1.refused ≡ A.refusals taker)) }
-{
     let Ok((own, its)) = Shared::ends(&rt, &inbox) else {
         drop::<_>((rt, inbox, taker));
         return Err(AllocError);
