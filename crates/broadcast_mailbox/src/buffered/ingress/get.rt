@@ -102,16 +102,8 @@ impl<M: Digestible> Get<M> {
         ensures not_accepted { OnErr result (is_accepted queued ≡ false) }
     {
         let mut future = self;
-        match queued {
-            Ok(queued) => {
-                future.accepted = queued.is_accepted();
-                Ok(future)
-            }
-            Err(error) => {
-                drop::<_>(future);
-                Err(error)
-            }
-        }
+        future.accepted = queued?.is_accepted();
+        Ok(future)
     }
 
     /// Returns whether the mailbox accepted the request. If not, it was closed.
