@@ -5,7 +5,6 @@ use broadcast_core::{
     ByteList, Codec, CodecError, Digest, OneOf, RangeCfg, Read, Tag, Write, decode_cfg,
 };
 use std::alloc::Global;
-use std::test::Fail;
 
 /// Returns whether the block is written as these bytes, and read from them.
 fn is_written_as<A: Codec + Drop>(
@@ -40,43 +39,50 @@ fn list(alloc: Global, bytes: &[u8]) -> Result<ByteList, CodecError> {
 }
 
 #[test]
-fn numbers_and_arrays_have_their_bytes(rt: HostRuntime) -> Result<(), Fail> {
+fn numbers_and_arrays_have_their_bytes(rt: HostRuntime) {
     let alloc = rt.alloc();
-    assert!(rt; is_written_as(alloc, &0x0102_0304_u32, &(), b"\x01\x02\x03\x04")?);
+    assert!(rt;
+        is_written_as(alloc, &0x0102_0304_u32, &(), b"\x01\x02\x03\x04").expect(&rt, "a block")
+    );
     let long = b"\x01\x02\x03\x04\x05\x06\x07\x08";
-    assert!(rt; is_written_as(alloc, &0x0102_0304_0506_0708_u64, &(), long)?);
-    assert!(rt; is_written_as(alloc, b"abc", &(), b"abc")?);
+    assert!(rt; is_written_as(alloc, &0x0102_0304_0506_0708_u64, &(), long).expect(&rt, "a block"));
+    assert!(rt; is_written_as(alloc, b"abc", &(), b"abc").expect(&rt, "a block"));
     let digest = Digest { bytes: [7; 32] };
-    assert!(rt; is_written_as(alloc, &digest, &(), &[7; 32])?);
-    Ok(())
+    assert!(rt; is_written_as(alloc, &digest, &(), &[7; 32]).expect(&rt, "a block"));
 }
 
 #[test]
-fn lists_options_and_tags_have_their_bytes(rt: HostRuntime) -> Result<(), Fail> {
+fn lists_options_and_tags_have_their_bytes(rt: HostRuntime) {
     let (alloc, any) = (rt.alloc(), RangeCfg::any());
-    assert!(rt; is_written_as(alloc, &list(alloc, b"abc")?, &any, b"\0\0\0\x03abc")?);
+    let abc = list(alloc, b"abc").expect(&rt, "memory");
+    assert!(rt; is_written_as(alloc, &abc, &any, b"\0\0\0\x03abc").expect(&rt, "a block"));
     let none: Option<u32> = None;
-    assert!(rt; is_written_as(alloc, &none, &(), b"\0")?);
-    assert!(rt; is_written_as(alloc, &Some(5_u32), &(), b"\x01\0\0\0\x05")?);
+    assert!(rt; is_written_as(alloc, &none, &(), b"\0").expect(&rt, "a block"));
+    assert!(rt; is_written_as(alloc, &Some(5_u32), &(), b"\x01\0\0\0\x05").expect(&rt, "a block"));
     let first: OneOf<u32, ByteList> = OneOf::First(6);
-    assert!(rt; is_written_as(alloc, &first, &((), any), b"\0\0\0\0\x06")?);
-    let second: OneOf<u32, ByteList> = OneOf::Second(list(alloc, b"a")?);
-    assert!(rt; is_written_as(alloc, &second, &((), any), b"\x01\0\0\0\x01a")?);
-    assert!(rt; is_written_as(alloc, &Tag::<9> {}, &(), b"\x09")?);
-    Ok(())
+    assert!(rt; is_written_as(alloc, &first, &((), any), b"\0\0\0\0\x06").expect(&rt, "a block"));
+    let second: OneOf<u32, ByteList> = OneOf::Second(list(alloc, b"a").expect(&rt, "memory"));
+    assert!(rt;
+        is_written_as(alloc, &second, &((), any), b"\x01\0\0\0\x01a").expect(&rt, "a block")
+    );
+    assert!(rt; is_written_as(alloc, &Tag::<9> {}, &(), b"\x09").expect(&rt, "a block"));
 }
 
 #[test]
-fn tuples_have_the_bytes_of_each(rt: HostRuntime) -> Result<(), Fail> {
+fn tuples_have_the_bytes_of_each(rt: HostRuntime) {
     let (alloc, any) = (rt.alloc(), RangeCfg::any());
-    let pair = (1_u32, list(alloc, b"a")?);
-    assert!(rt; is_written_as(alloc, &pair, &((), any), b"\0\0\0\x01\0\0\0\x01a")?);
-    let three = (Tag::<2> {}, list(alloc, b"")?, 3_u32);
-    assert!(rt; is_written_as(alloc, &three, &((), any, ()), b"\x02\0\0\0\0\0\0\0\x03")?);
+    let pair = (1_u32, list(alloc, b"a").expect(&rt, "memory"));
+    assert!(rt;
+        is_written_as(alloc, &pair, &((), any), b"\0\0\0\x01\0\0\0\x01a").expect(&rt, "a block")
+    );
+    let three = (Tag::<2> {}, list(alloc, b"").expect(&rt, "memory"), 3_u32);
+    let written = b"\x02\0\0\0\0\0\0\0\x03";
+    assert!(rt; is_written_as(alloc, &three, &((), any, ()), written).expect(&rt, "a block"));
     let mut by_reference = Vec::new(alloc);
-    (&pair.0, &pair.1).write(&mut by_reference)?;
+    (&pair.0, &pair.1)
+        .write(&mut by_reference)
+        .expect(&rt, "an encoding");
     assert!(rt; by_reference.as_slice() == b"\0\0\0\x01\0\0\0\x01a".as_slice());
-    Ok(())
 }
 
 #[test]
@@ -109,19 +115,23 @@ fn wrong_blocks_are_refused(rt: HostRuntime) {
 }
 
 #[test]
-fn lists_of_blocks_have_their_number_and_bytes(rt: HostRuntime) -> Result<(), Fail> {
+fn lists_of_blocks_have_their_number_and_bytes(rt: HostRuntime) {
     let (alloc, any) = (rt.alloc(), RangeCfg::any());
-    let numbers = ListOf::from(Vec::from_slice(alloc, &[1_u32, 2])?);
+    let numbers = Vec::from_slice(alloc, &[1_u32, 2]).expect(&rt, "memory");
+    let numbers = ListOf::from(numbers);
     let written = b"\0\0\0\x02\0\0\0\x01\0\0\0\x02";
-    assert!(rt; is_written_as(alloc, &numbers, &(any, ()), written)?);
+    assert!(rt; is_written_as(alloc, &numbers, &(any, ()), written).expect(&rt, "a block"));
     let empty: ListOf<ByteList> = Vec::new(alloc).into();
-    assert!(rt; is_written_as(alloc, &empty, &(any, any), b"\0\0\0\0")?);
+    assert!(rt; is_written_as(alloc, &empty, &(any, any), b"\0\0\0\0").expect(&rt, "a block"));
     let mut texts = Vec::new(alloc);
-    texts.push(list(alloc, b"abc")?)?;
-    texts.push(list(alloc, b"")?)?;
+    let text = list(alloc, b"abc").expect(&rt, "memory");
+    texts.push(text).expect(&rt, "memory");
+    let text = list(alloc, b"").expect(&rt, "memory");
+    texts.push(text).expect(&rt, "memory");
     let written = b"\0\0\0\x02\0\0\0\x03abc\0\0\0\0";
-    assert!(rt; is_written_as(alloc, &ListOf::from(texts), &(any, any), written)?);
-    Ok(())
+    assert!(rt;
+        is_written_as(alloc, &ListOf::from(texts), &(any, any), written).expect(&rt, "a block")
+    );
 }
 
 #[test]

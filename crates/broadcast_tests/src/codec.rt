@@ -5,7 +5,6 @@ use broadcast_core::{
     CodecError, Digested, Digestible, EncodeSize, RangeCfg, Read, TestMessage, Write, decode_cfg,
 };
 use std::alloc::{AllocError, Global};
-use std::test::Fail;
 
 /// Bytes, and what they are read as.
 struct Reading {
@@ -200,7 +199,7 @@ fn is_written<M: Write + EncodeSize>(
     alloc: Global,
     message: &M,
     encoding: &[u8],
-) -> Result<bool, Fail> {
+) -> Result<bool, CodecError> {
     let mut out = Vec::new(alloc);
     message.write(&mut out)?;
     Ok(out.as_slice() == encoding && message.encode_size() == Some(encoding.len()))
@@ -213,13 +212,13 @@ impl Writing {
         Ok(TestMessage::new(commitment, content))
     }
 
-    fn is_written(&self, alloc: Global) -> Result<bool, Fail> {
+    fn is_written(&self, alloc: Global) -> Result<bool, CodecError> {
         let message = self.message(alloc)?;
         is_written(alloc, &message, self.encoding)
     }
 
     /// A message with its digest is written as the message is.
-    fn is_written_with_digest(&self, alloc: Global) -> Result<bool, Fail> {
+    fn is_written_with_digest(&self, alloc: Global) -> Result<bool, CodecError> {
         let message = Digested::compute(alloc, self.message(alloc)?)?;
         is_written(alloc, &message, self.encoding)
     }
@@ -228,7 +227,7 @@ impl Writing {
         Ok(self.message(alloc)?.digest().bytes == self.digest)
     }
 
-    fn is_kept(&self, alloc: Global) -> Result<bool, Fail> {
+    fn is_kept(&self, alloc: Global) -> Result<bool, CodecError> {
         Ok(
             self.is_written(alloc)?
                 && self.is_written_with_digest(alloc)?
@@ -238,12 +237,11 @@ impl Writing {
 }
 
 #[test]
-fn messages_are_written_and_digested(rt: HostRuntime) -> Result<(), Fail> {
+fn messages_are_written_and_digested(rt: HostRuntime) {
     for (place, writing) in writings().iter().enumerate() {
-        let kept = writing.is_kept(rt.alloc())?;
+        let kept = writing.is_kept(rt.alloc()).expect(&rt, "an encoding");
         assert!(rt; kept, "row {place}");
     }
-    Ok(())
 }
 
 /// Returns whether a shared message and its copy are the same byte list twice.
@@ -254,10 +252,9 @@ fn is_shared(alloc: Global, content: &[u8]) -> Result<bool, AllocError> {
 }
 
 #[test]
-fn a_shared_message_commits_to_its_content(rt: HostRuntime) -> Result<(), Fail> {
-    let shared = is_shared(rt.alloc(), b"abc")?;
+fn a_shared_message_commits_to_its_content(rt: HostRuntime) {
+    let shared = is_shared(rt.alloc(), b"abc").expect(&rt, "memory");
     assert!(rt; shared);
-    Ok(())
 }
 
 static TEXTS: [(CodecError, &str); 6] = [
@@ -278,12 +275,11 @@ fn is_printed(alloc: Global, refusal: CodecError, text: &str) -> Result<bool, Al
 }
 
 #[test]
-fn refusals_are_printed(rt: HostRuntime) -> Result<(), Fail> {
+fn refusals_are_printed(rt: HostRuntime) {
     for (refusal, text) in texts() {
-        let printed = is_printed(rt.alloc(), *refusal, text)?;
+        let printed = is_printed(rt.alloc(), *refusal, text).expect(&rt, "memory");
         assert!(rt; printed, "{text}");
     }
-    Ok(())
 }
 
 /// Bytes, and the even number that they are, or why they are none.
@@ -298,9 +294,8 @@ fn numbers() -> &'static [(&'static [u8], Result<Even, CodecError>)] {
 }
 
 #[test]
-fn a_message_refuses_bytes_for_a_reason_of_its_own(rt: HostRuntime) -> Result<(), Fail> {
+fn a_message_refuses_bytes_for_a_reason_of_its_own(rt: HostRuntime) {
     for (bytes, read) in numbers() {
         assert_eq!(rt; decode_cfg(rt.alloc(), bytes, &()), *read);
     }
-    Ok(())
 }

@@ -1,7 +1,6 @@
 //! Sets of keys, and lists.
 use broadcast_core::{Items, Set};
 use std::alloc::{AllocError, Global};
-use std::test::Fail;
 
 fn set(alloc: Global, keys: &[u64]) -> Result<Set<u64>, AllocError> {
     Set::from_iter_dedup(Vec::from_slice(alloc, keys)?)
@@ -41,9 +40,8 @@ fn is_sorted_set(alloc: Global) -> Result<bool, AllocError> {
 }
 
 #[test]
-fn sets_are_sorted_and_hold_each_key_once(rt: HostRuntime) -> Result<(), Fail> {
-    assert!(rt; is_sorted_set(rt.alloc())?);
-    Ok(())
+fn sets_are_sorted_and_hold_each_key_once(rt: HostRuntime) {
+    assert!(rt; is_sorted_set(rt.alloc()).expect(&rt, "memory"));
 }
 
 /// Returns whether a copy of a list has its elements.
@@ -55,7 +53,6 @@ fn is_list(alloc: Global) -> Result<bool, AllocError> {
 }
 
 #[test]
-fn items_are_a_list(rt: HostRuntime) -> Result<(), Fail> {
-    assert!(rt; is_list(rt.alloc())?);
-    Ok(())
+fn items_are_a_list(rt: HostRuntime) {
+    assert!(rt; is_list(rt.alloc()).expect(&rt, "memory"));
 }

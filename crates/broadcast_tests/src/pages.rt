@@ -7,7 +7,6 @@ use broadcast_metrics::{
 use engine_io::{Metrics, Status};
 use std::alloc::Global;
 use std::io;
-use std::test::Fail;
 
 const TOTALS: &[u8] = b"# TYPE receive counter\n\
     # HELP receive Number of received messages by status.\n\
@@ -134,12 +133,11 @@ fn is_page<P: KeyText>(alloc: Global, twice: &P, once: &P, peers: &[u8]) -> io::
 }
 
 #[test]
-fn a_page_has_each_counter(rt: HostRuntime) -> Result<(), Fail> {
+fn a_page_has_each_counter(rt: HostRuntime) {
     let zeros = Key { bytes: [0; 32] };
     let others = Key { bytes: [0xab; 32] };
     assert!(rt; matches!(is_page(rt.alloc(), &5u64, &12, NUMBERS), Ok(true)));
     assert!(rt; matches!(is_page(rt.alloc(), &zeros, &others, BYTES), Ok(true)));
-    Ok(())
 }
 
 fn page_of(alloc: Global, naming: &Naming, metrics: &Metrics<u64>) -> io::Result<Vec<u8>> {
@@ -149,12 +147,11 @@ fn page_of(alloc: Global, naming: &Naming, metrics: &Metrics<u64>) -> io::Result
 }
 
 #[test]
-fn a_page_has_its_prefix_and_labels(rt: HostRuntime) -> Result<(), Fail> {
-    let naming = Naming::new("app", &LABELS)?;
-    let metrics = counted(rt.alloc(), &5u64, &12)?;
-    let page = page_of(rt.alloc(), &naming, &metrics)?;
+fn a_page_has_its_prefix_and_labels(rt: HostRuntime) {
+    let naming = Naming::new("app", &LABELS).expect(&rt, "names");
+    let metrics = counted(rt.alloc(), &5u64, &12).expect(&rt, "memory");
+    let page = page_of(rt.alloc(), &naming, &metrics).expect(&rt, "a page");
     assert!(rt; page.as_slice() == NAMED);
-    Ok(())
 }
 
 /// Returns whether `page` has what the page `first` has, then what `second` has, and one end.
@@ -164,18 +161,17 @@ fn has_both(page: &[u8], first: &[u8], second: &[u8]) -> bool {
 }
 
 #[test]
-fn a_page_has_two_engines(rt: HostRuntime) -> Result<(), Fail> {
-    let metrics = counted(rt.alloc(), &5u64, &12)?;
-    let first = Naming::new("first", &LABELS)?;
-    let second = Naming::new("second", &[])?;
+fn a_page_has_two_engines(rt: HostRuntime) {
+    let metrics = counted(rt.alloc(), &5u64, &12).expect(&rt, "memory");
+    let first = Naming::new("first", &LABELS).expect(&rt, "names");
+    let second = Naming::new("second", &[]).expect(&rt, "names");
     let mut page = Vec::new(rt.alloc());
-    write_metrics(&mut page, &first, &metrics)?;
-    write_metrics(&mut page, &second, &metrics)?;
-    write_end(&mut page)?;
-    let alone = page_of(rt.alloc(), &first, &metrics)?;
-    let other = page_of(rt.alloc(), &second, &metrics)?;
+    write_metrics(&mut page, &first, &metrics).expect(&rt, "a page");
+    write_metrics(&mut page, &second, &metrics).expect(&rt, "a page");
+    write_end(&mut page).expect(&rt, "a page");
+    let alone = page_of(rt.alloc(), &first, &metrics).expect(&rt, "a page");
+    let other = page_of(rt.alloc(), &second, &metrics).expect(&rt, "a page");
     assert!(rt; has_both(&page, &alone, &other));
-    Ok(())
 }
 
 fn refusal_of(prefix: &str, name: &str) -> Option<NamingError> {
@@ -188,10 +184,9 @@ fn refusal_of(prefix: &str, name: &str) -> Option<NamingError> {
 }
 
 #[test]
-fn names_of_another_form_are_refused(rt: HostRuntime) -> Result<(), Fail> {
+fn names_of_another_form_are_refused(rt: HostRuntime) {
     for (prefix, name, refusal) in names() {
         let refused = refusal_of(prefix, name) == *refusal;
         assert!(rt; refused, "{prefix} {name}");
     }
-    Ok(())
 }

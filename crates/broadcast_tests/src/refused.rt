@@ -3,7 +3,6 @@ use crate::even::Even;
 use crate::key::Key;
 use broadcast_core::{Answer, Cause, Core, Digested, Event, Items, Set, run};
 use std::alloc::{AllocError, Global};
-use std::test::Fail;
 
 type Keyed = Core<Key, Even, u64>;
 
@@ -67,9 +66,11 @@ fn shown_by(
 }
 
 #[test]
-fn refused_take_changes_nothing(rt: HostRuntime) -> Result<(), Fail> {
-    assert_eq!(rt; shown(rt.alloc())?, (true, [0, 0, 0, 1], true));
-    Ok(())
+fn refused_take_changes_nothing(rt: HostRuntime) {
+    assert_eq!(rt;
+        shown(rt.alloc()).expect(&rt, "memory"),
+        (true, [0, 0, 0, 1], true)
+    );
 }
 
 /// Returns a payload of the key with the message whose digest is 4.
@@ -101,9 +102,9 @@ fn are_answers(answers: &[Answer<Even>]) -> bool {
 }
 
 #[test]
-fn a_run_goes_on_after_a_refused_event(rt: HostRuntime) -> Result<(), Fail> {
+fn a_run_goes_on_after_a_refused_event(rt: HostRuntime) {
     let alloc = rt.alloc();
-    let ran = run(alloc, Key::new(0), 2, u64::MAX, false, &(), events(alloc)?)?;
+    let events = events(alloc).expect(&rt, "memory");
+    let ran = run(alloc, Key::new(0), 2, u64::MAX, false, &(), events).expect(&rt, "memory");
     assert!(rt; are_answers(ran.answers.as_slice()));
-    Ok(())
 }

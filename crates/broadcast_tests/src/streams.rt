@@ -12,7 +12,6 @@ use std::io::{self, ErrorKind, Read, Write};
 use std::num::NonZeroUsize;
 use std::process::Abort;
 use std::sync::{Mutex, Wait};
-use std::test::Fail;
 use world_rows::world_rows;
 
 /// How a stream behaves.
@@ -200,24 +199,24 @@ impl Row {
     }
 }
 
-fn hold<H: Wait + Abort + AllocGlobal>(rt: &H, words: &[&str], rows: &[Row]) -> Result<(), Fail> {
+fn hold<H: Wait + Abort + AllocGlobal>(rt: &H, words: &[&str], rows: &[Row]) {
     let mut owned = Vec::new(rt.alloc());
     for word in words {
-        owned.push(String::from_str(rt.alloc(), word)?)?;
+        let word = String::from_str(rt.alloc(), word).expect(rt, "memory");
+        owned.push(word).expect(rt, "memory");
     }
     for row in rows {
         let holds = row.holds(rt, &owned);
         assert!(rt; holds, "{}", row.name);
     }
-    Ok(())
 }
 
 #[test]
-fn replay_tells_faults_of_streams_and_inboxes(rt: HostRuntime) -> Result<(), Fail> {
-    hold(&rt, &["1", "2"], replay_rows())
+fn replay_tells_faults_of_streams_and_inboxes(rt: HostRuntime) {
+    hold(&rt, &["1", "2"], replay_rows());
 }
 
 #[test]
-fn world_tells_faults_of_streams(rt: HostRuntime) -> Result<(), Fail> {
-    hold(&rt, &["2", "1,2", "9"], world_rows())
+fn world_tells_faults_of_streams(rt: HostRuntime) {
+    hold(&rt, &["2", "1,2", "9"], world_rows());
 }

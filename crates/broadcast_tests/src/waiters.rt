@@ -6,7 +6,6 @@ use broadcast_core::{Closable, Core, Digested, Items, Outcome, Set, Subscribed, 
 use std::alloc::{AllocError, Global};
 use std::cell::Cell;
 use std::rc::Rc;
-use std::test::Fail;
 
 /// A number of questions, shared with each waiter that is not dropped.
 type Asked = Rc<Cell<u64>>;
@@ -302,7 +301,6 @@ fn fault_in(alloc: Global, room: &mut Room) -> Result<Option<usize>, AllocError>
 }
 
 #[test]
-fn waiters_are_served_asked_and_dropped(rt: HostRuntime) -> Result<(), Fail> {
-    assert_eq!(rt; fault(rt.alloc())?, None);
-    Ok(())
+fn waiters_are_served_asked_and_dropped(rt: HostRuntime) {
+    assert_eq!(rt; fault(rt.alloc()).expect(&rt, "memory"), None);
 }

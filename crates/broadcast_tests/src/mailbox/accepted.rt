@@ -9,9 +9,9 @@ use broadcast_mailbox::buffered::{
 use std::alloc::AllocGlobal;
 use std::marker::Brand;
 use std::num::{NonZeroU32, NonZeroUsize};
+use std::process::Abort;
 use std::sync::Wait;
 use std::sync::ledger::Blank;
-use std::test::Fail;
 
 /// A call of a mailbox.
 #[derive(Clone, Copy)]
@@ -76,22 +76,21 @@ fn rows() -> &'static [Row] {
 }
 
 #[test]
-fn callers_are_told_what_was_accepted(rt: HostRuntime) -> Result<(), Fail> {
+fn callers_are_told_what_was_accepted(rt: HostRuntime) {
     for (place, row) in rows().iter().enumerate() {
         let Row(call, at, watches, is_accepted, counted) = *row;
         let told = match watches {
-            Watches::All => told_of::<_, All>(&rt, call, at)?,
-            Watches::Broadcasts => told_of::<_, Broadcasts>(&rt, call, at)?,
+            Watches::All => told_of::<_, All>(&rt, call, at),
+            Watches::Broadcasts => told_of::<_, Broadcasts>(&rt, call, at),
         };
         assert_eq!(rt; told, (is_accepted, counted), "row {place}");
     }
-    Ok(())
 }
 
 /// Makes the call. Returns whether it was accepted, and how many requests its tally counts.
-fn told_of<R, V>(rt: &R, call: Call, at: At) -> Result<(bool, u64), Fail>
+fn told_of<R, V>(rt: &R, call: Call, at: At) -> (bool, u64)
 where
-    R: Wait + AllocGlobal + Clone + Drop,
+    R: Wait + Abort + AllocGlobal + Clone + Drop,
     V: Watch<u64>,
 {
     let parts = NonZeroU32::MIN;
@@ -107,9 +106,9 @@ fn told_with<R, A, K, V>(
     parts: NonZeroU32,
     accepted: Blank,
     taken: Blank,
-) -> Result<(bool, u64), Fail>
+) -> (bool, u64)
 where
-    R: Wait + AllocGlobal + Clone + Drop,
+    R: Wait + Abort + AllocGlobal + Clone + Drop,
     A: Account,
     K: Account,
     V: Watch<u64>,
@@ -119,40 +118,48 @@ where
     requires one { (K.all ≡ K.parts) × (K.parts ≡ 1) }
 {
     let (mailbox, ingress, mut tally) = watched_channel::<u64, Note, R, A, K, V>(
-        rt.clone()?,
+        rt.clone().expect(rt, "memory"),
         rt.alloc(),
         NonZeroUsize::MIN,
         parts,
         accepted,
         taken,
-    )?;
+    )
+    .expect(rt, "memory");
     match at {
         At::Room => {}
-        At::Full => drop(mailbox.get(1)?),
+        At::Full => drop(mailbox.get(1).expect(rt, "an open mailbox")),
         At::Closed => {
             ingress.close();
         }
     }
-    let is_accepted = is_accepted(&mailbox, &mut tally, call)?;
-    Ok((is_accepted, tally.accepted()))
+    let is_accepted = is_accepted(rt, &mailbox, &mut tally, call);
+    (is_accepted, tally.accepted())
 }
 
 /// Makes the call. Returns whether its future tells that it was accepted.
 fn is_accepted<R, A, K, V>(
+    rt: &R,
     mailbox: &WatchedMailbox<u64, Note, R, A, K, V>,
     tally: &mut Tally<A>,
     call: Call,
-) -> Result<bool, Fail>
+) -> bool
 where
-    R: Wait,
+    R: Wait + Abort,
     A: Account,
     K: Account,
     V: Watch<u64>,
 {
-    Ok(match call {
-        Call::Subscribe => mailbox.subscribe(7)?.was_accepted(),
-        Call::SubscribeAs => mailbox.subscribe_as(tally, 7)?.was_accepted(),
-        Call::Get => mailbox.get(7)?.was_accepted(),
-        Call::GetAs => mailbox.get_as(tally, 7)?.was_accepted(),
-    })
+    match call {
+        Call::Subscribe => mailbox.subscribe(7).expect(rt, "a future").was_accepted(),
+        Call::SubscribeAs => mailbox
+            .subscribe_as(tally, 7)
+            .expect(rt, "a future")
+            .was_accepted(),
+        Call::Get => mailbox.get(7).expect(rt, "a future").was_accepted(),
+        Call::GetAs => mailbox
+            .get_as(tally, 7)
+            .expect(rt, "a future")
+            .was_accepted(),
+    }
 }

@@ -5,8 +5,8 @@ use broadcast_mailbox::buffered::{Counts, Incoming, Ingress, Mailbox, Message, c
 use broadcast_mailbox::{Broadcaster, Feedback};
 use std::alloc::{AllocError, AllocGlobal, Global};
 use std::num::NonZeroUsize;
+use std::process::Abort;
 use std::sync::Wait;
-use std::test::Fail;
 
 /// The digest that each call names. It is not the message's own.
 const DIGEST: u64 = 7;
@@ -53,79 +53,82 @@ fn rows() -> &'static [Row] {
 }
 
 #[test]
-fn each_call_queues_one_request(rt: HostRuntime) -> Result<(), Fail> {
+fn each_call_queues_one_request(rt: HostRuntime) {
     for (place, row) in rows().iter().enumerate() {
-        let queued = queues_one(&rt, *row)?;
+        let queued = queues_one(&rt, *row);
         assert!(rt; queued, "row {place}");
     }
-    Ok(())
 }
 
 /// Returns whether the call of the row behaves as it should.
-fn queues_one<R>(rt: &R, row: Row) -> Result<bool, Fail>
+fn queues_one<R>(rt: &R, row: Row) -> bool
 where
-    R: Wait + AllocGlobal + Clone + Send + Drop + 'static,
+    R: Wait + Abort + AllocGlobal + Clone + Send + Drop + 'static,
 {
     let Row(_, waiting, stopped) = row;
-    let (mailbox, ingress) = channel(rt.clone()?, rt.alloc(), NonZeroUsize::MIN)?;
-    fill(&mailbox, rt.alloc(), waiting)?;
+    let own = rt.clone().expect(rt, "memory");
+    let (mailbox, ingress) = channel(own, rt.alloc(), NonZeroUsize::MIN).expect(rt, "memory");
+    fill(rt, &mailbox, waiting);
     if stopped {
         ingress.request_stop();
     }
-    queues_the_call(&mailbox, &ingress, rt.alloc(), row)
+    queues_the_call(rt, &mailbox, &ingress, row)
 }
 
 /// Queues `waiting` broadcasts.
-fn fill<B>(mailbox: &B, alloc: Global, waiting: u64) -> Result<(), Fail>
+fn fill<B>(rt: &(impl Abort + AllocGlobal), mailbox: &B, waiting: u64)
 where
     B: Broadcaster<Recipients = Recipients<u64>, Message = Digested<Note>>,
 {
     for digest in 0..waiting {
-        let message = Digested::precomputed(alloc, Note(1), digest)?;
-        let _feedback = mailbox.broadcast(Recipients::All, message)?;
+        let message = Digested::precomputed(rt.alloc(), Note(1), digest).expect(rt, "memory");
+        let _feedback = mailbox
+            .broadcast(Recipients::All, message)
+            .expect(rt, "an open mailbox");
     }
-    Ok(())
 }
 
 /// Makes the call and returns whether it queued its own request, and nothing else.
-fn queues_the_call<R: Wait + Clone + Send + 'static>(
+fn queues_the_call<R: Wait + Abort + AllocGlobal + Clone + Send + 'static>(
+    rt: &R,
     mailbox: &Mailbox<u64, Note, R>,
     ingress: &Ingress<Incoming<u64, Note>, R>,
-    alloc: Global,
     row: Row,
-) -> Result<bool, Fail> {
+) -> bool {
     let Row(call, ..) = row;
     match call {
         Call::Subscribe => {
-            let _subscription = mailbox.subscribe(DIGEST)?;
-            Ok(is_last(ingress, row))
+            let _subscription = mailbox.subscribe(DIGEST).expect(rt, "an open mailbox");
+            is_last(ingress, row)
         }
         Call::Get => {
-            let _get = mailbox.get(DIGEST)?;
-            Ok(is_last(ingress, row))
+            let _get = mailbox.get(DIGEST).expect(rt, "an open mailbox");
+            is_last(ingress, row)
         }
         Call::ToAll | Call::ToSome | Call::ToOne => {
-            let is_fed_back = is_fed_back(mailbox, alloc, row)?;
-            Ok(is_fed_back && is_last(ingress, row))
+            let is_fed_back = is_fed_back(rt, mailbox, row);
+            is_fed_back && is_last(ingress, row)
         }
     }
 }
 
 /// Broadcasts and returns whether the feedback tells of the ready list or of the overflow.
-fn is_fed_back<B>(mailbox: &B, alloc: Global, row: Row) -> Result<bool, Fail>
+fn is_fed_back<B>(rt: &(impl Abort + AllocGlobal), mailbox: &B, row: Row) -> bool
 where
     B: Broadcaster<Recipients = Recipients<u64>, Message = Digested<Note>>,
 {
     let Row(call, waiting, _) = row;
-    let recipients = recipients_of(alloc, call)?;
-    let message = Digested::precomputed(alloc, Note(3), DIGEST)?;
-    let feedback = mailbox.broadcast(recipients, message)?;
+    let recipients = recipients_of(rt.alloc(), call).expect(rt, "memory");
+    let message = Digested::precomputed(rt.alloc(), Note(3), DIGEST).expect(rt, "memory");
+    let feedback = mailbox
+        .broadcast(recipients, message)
+        .expect(rt, "an open mailbox");
     let wanted = if waiting == 0 {
         Feedback::Ok
     } else {
         Feedback::Backoff
     };
-    Ok(feedback == wanted)
+    feedback == wanted
 }
 
 /// The recipients that the call names.

@@ -15,10 +15,10 @@ use std::alloc::AllocGlobal;
 use std::marker::Brand;
 use std::mem;
 use std::num::{NonZeroU32, NonZeroUsize};
+use std::process::Abort;
 use std::random::RandomSource;
 use std::sync::ledger::Blank;
 use std::sync::{Arc, Mutex, Wait};
-use std::test::Fail;
 use std::thread::{self, Threads, yield_now};
 use std::time::{Clock, Duration};
 
@@ -112,27 +112,27 @@ fn rows() -> &'static [Row] {
 }
 
 #[test]
-fn each_drop_of_what_may_wait_is_told_once(rt: HostRuntime) -> Result<(), Fail> {
+fn each_drop_of_what_may_wait_is_told_once(rt: HostRuntime) {
     for (place, row) in rows().iter().enumerate() {
-        assert_eq!(rt; goes(&rt, row.0)?, None, "row {place}");
+        assert_eq!(rt; goes(&rt, row.0), None, "row {place}");
     }
-    Ok(())
 }
 
 /// Makes the steps, and returns the place of the first after which the mailbox tells otherwise.
-fn goes<R>(rt: &R, steps: &[(Step, bool)]) -> Result<Option<usize>, Fail>
+fn goes<R>(rt: &R, steps: &[(Step, bool)]) -> Option<usize>
 where
-    R: Wait + Clock + RandomSource + AllocGlobal + Clone + Drop,
+    R: Wait + Abort + Clock + RandomSource + AllocGlobal + Clone + Drop,
 {
-    let (mailbox, ingress) = channel(rt.clone()?, rt.alloc(), NonZeroUsize::MIN)?;
-    let mut talk = Talk::over(rt, mailbox, ingress)?;
+    let own = rt.clone().expect(rt, "memory");
+    let (mailbox, ingress) = channel(own, rt.alloc(), NonZeroUsize::MIN).expect(rt, "memory");
+    let mut talk = Talk::over(rt, mailbox, ingress);
     for (place, (step, is_told)) in steps.iter().enumerate() {
-        talk.make(rt, *step)?;
+        talk.make(rt, *step);
         if !talk.tells(*is_told) {
-            return Ok(Some(place));
+            return Some(place);
         }
     }
-    Ok(None)
+    None
 }
 
 /// The future of a caller.
@@ -156,7 +156,7 @@ struct Talk<R: Wait, A: Bookkeeping> {
 
 impl<R, A> Talk<R, A>
 where
-    R: Wait + Clock + RandomSource + AllocGlobal + Drop,
+    R: Wait + Abort + Clock + RandomSource + AllocGlobal + Drop,
     A: Bookkeeping,
 {
     /// Creates a caller that has asked for nothing.
@@ -164,16 +164,16 @@ where
         rt: &R,
         mailbox: Mailbox<u64, Note, R, A>,
         ingress: Ingress<Incoming<u64, Note>, R, A>,
-    ) -> Result<Self, Fail> {
-        let task = Solo::new(rt, Doorbell::spinning())?;
-        Ok(Talk {
+    ) -> Self {
+        let task = Solo::new(rt, Doorbell::spinning()).expect(rt, "a task");
+        Talk {
             mailbox,
             ingress,
             task,
             asked: Asked::Nothing,
             taken: None,
             told: Vec::new(rt.alloc()),
-        })
+        }
     }
 
     /// Returns whether the mailbox tells once of a drop, if `is_told`, or else of none.
@@ -187,18 +187,23 @@ where
     }
 
     /// Makes the step. A call drops the future of the call before it.
-    fn make(&mut self, rt: &R, step: Step) -> Result<(), Fail> {
+    fn make(&mut self, rt: &R, step: Step) {
         match step {
-            Step::Subscribe => self.asked = Asked::Subscription(self.mailbox.subscribe(DIGEST)?),
-            Step::Get => self.asked = Asked::Get(self.mailbox.get(DIGEST)?),
+            Step::Subscribe => {
+                let subscription = self.mailbox.subscribe(DIGEST).expect(rt, "an open mailbox");
+                self.asked = Asked::Subscription(subscription);
+            }
+            Step::Get => {
+                let get = self.mailbox.get(DIGEST).expect(rt, "an open mailbox");
+                self.asked = Asked::Get(get);
+            }
             Step::Take => self.take(),
-            Step::Reply => self.reply(rt)?,
+            Step::Reply => self.reply(rt),
             Step::Look => self.look(),
             Step::Poll => self.poll(),
             Step::Wait => self.wait(rt),
             Step::Drop => self.asked = Asked::Nothing,
         }
-        Ok(())
     }
 
     /// Takes the oldest request.
@@ -213,12 +218,11 @@ where
     }
 
     /// Replies to the request that was taken.
-    fn reply(&mut self, rt: &R) -> Result<(), Fail> {
-        let message = Digested::precomputed(rt.alloc(), Note(1), DIGEST)?;
+    fn reply(&mut self, rt: &R) {
+        let message = Digested::precomputed(rt.alloc(), Note(1), DIGEST).expect(rt, "memory");
         if let Some(request) = self.taken.take() {
             reply(request, Some(Reply::new(message)));
         }
-        Ok(())
     }
 
     /// Looks whether the future is ready.
@@ -252,17 +256,16 @@ where
 }
 
 #[test]
-fn a_tallied_subscription_is_told_too(rt: HostRuntime) -> Result<(), Fail> {
+fn a_tallied_subscription_is_told_too(rt: HostRuntime) {
     for (place, row) in rows().iter().enumerate() {
-        assert_eq!(rt; goes_with_one_part(&rt, row.0)?, None, "row {place}");
+        assert_eq!(rt; goes_with_one_part(&rt, row.0), None, "row {place}");
     }
-    Ok(())
 }
 
 /// The same as [`goes`], where a tally of one part subscribes.
-fn goes_with_one_part<R>(rt: &R, steps: &[(Step, bool)]) -> Result<Option<usize>, Fail>
+fn goes_with_one_part<R>(rt: &R, steps: &[(Step, bool)]) -> Option<usize>
 where
-    R: Wait + Clock + RandomSource + AllocGlobal + Clone + Drop,
+    R: Wait + Abort + Clock + RandomSource + AllocGlobal + Clone + Drop,
 {
     let parts = NonZeroU32::MIN;
     let accepted = Blank::new(parts.get() as u64);
@@ -276,9 +279,9 @@ fn goes_tallied<R, A, K>(
     accepted: Blank,
     taken: Blank,
     steps: &[(Step, bool)],
-) -> Result<Option<usize>, Fail>
+) -> Option<usize>
 where
-    R: Wait + Clock + RandomSource + AllocGlobal + Clone + Drop,
+    R: Wait + Abort + Clock + RandomSource + AllocGlobal + Clone + Drop,
     A: Account,
     K: Account,
     requires accepted { (accepted.name ≡ A.name) × (accepted.parts ≡ A.parts) }
@@ -287,26 +290,27 @@ where
     requires one { (K.all ≡ K.parts) × (K.parts ≡ 1) }
 {
     let (mailbox, ingress, mut tally) = watched_channel::<u64, Note, R, A, K, All>(
-        rt.clone()?,
+        rt.clone().expect(rt, "memory"),
         rt.alloc(),
         NonZeroUsize::MIN,
         parts,
         accepted,
         taken,
-    )?;
-    let mut talk = Talk::over(rt, mailbox, ingress)?;
+    )
+    .expect(rt, "memory");
+    let mut talk = Talk::over(rt, mailbox, ingress);
     for (place, (step, is_told)) in steps.iter().enumerate() {
         if let Step::Subscribe = step {
-            let subscription = talk.mailbox.subscribe_as(&mut tally, DIGEST)?;
-            talk.asked = Asked::Subscription(subscription);
+            let asked = talk.mailbox.subscribe_as(&mut tally, DIGEST);
+            talk.asked = Asked::Subscription(asked.expect(rt, "an open mailbox"));
         } else {
-            talk.make(rt, *step)?;
+            talk.make(rt, *step);
         }
         if !talk.tells(*is_told) {
-            return Ok(Some(place));
+            return Some(place);
         }
     }
-    Ok(None)
+    None
 }
 
 /// How many subscriptions are dropped beside a thread that looks.
@@ -322,40 +326,36 @@ const YIELDS: u64 = 1_000_000;
 type Hand = Mutex<Option<Subscription<Note>>>;
 
 #[test]
-fn what_is_dropped_is_closed_once_that_is_told(rt: HostRuntime) -> Result<(), Fail> {
-    assert_eq!(rt; open_when_told(&rt)?, 0);
-    Ok(())
+fn what_is_dropped_is_closed_once_that_is_told(rt: HostRuntime) {
+    assert_eq!(rt; open_when_told(&rt), 0);
 }
 
 /// Drops subscriptions on another thread, one after another. Returns how many requests were still
 /// open when the mailbox told of the drop.
-fn open_when_told<R>(rt: &R) -> Result<usize, Fail>
+fn open_when_told<R>(rt: &R) -> usize
 where
-    R: Threads + Wait + AllocGlobal + Clone + Send + Sync + Drop + 'static,
+    R: Threads + Wait + Abort + AllocGlobal + Clone + Send + Sync + Drop + 'static,
 {
-    let hand: Arc<Hand> = Arc::new(rt.alloc(), Mutex::new(None))?;
-    let (own, other) = (rt.clone()?, Arc::try_clone(&hand)?);
-    let dropping = thread::spawn(rt, move || drop_each(&own, &other))?;
-    let (mailbox, mut ingress) = channel::<u64, Note, R>(
-        rt.clone()?,
-        rt.alloc(),
-        NonZeroUsize::MIN,
-    )?;
+    let hand: Arc<Hand> = Arc::new(rt.alloc(), Mutex::new(None)).expect(rt, "memory");
+    let own = rt.clone().expect(rt, "memory");
+    let other = Arc::try_clone(&hand).expect(rt, "memory");
+    let dropping = thread::spawn(rt, move || drop_each(&own, &other)).expect(rt, "a thread");
+    let own = rt.clone().expect(rt, "memory");
+    let ends = channel::<u64, Note, R>(own, rt.alloc(), NonZeroUsize::MIN);
+    let (mailbox, mut ingress) = ends.expect(rt, "memory");
     let mut told = Vec::new(rt.alloc());
     let mut open = 0usize;
     for _ in 0..ROUNDS {
-        let subscription = mailbox.subscribe(DIGEST)?;
-        let (_, request) = ingress.take().ok_or("nothing waits")?;
+        let subscription = mailbox.subscribe(DIGEST).expect(rt, "an open mailbox");
+        let (_, request) = ingress.take().expect(rt, "a request that waits");
         *hand.lock(rt) = Some(subscription);
-        if !is_told(&mut ingress, &mut told) {
-            return Err(Fail::from("a drop is not told"));
-        }
+        assert!(rt; is_told(&mut ingress, &mut told), "a drop is not told");
         if !request.is_closed() {
             open = open.saturating_add(1);
         }
     }
     dropping.join(rt);
-    Ok(open)
+    open
 }
 
 /// Looks whether the mailbox tells of a drop, until it does.

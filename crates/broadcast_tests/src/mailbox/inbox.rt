@@ -6,7 +6,6 @@ use std::alloc::{AllocError, Global};
 use std::cell::Cell;
 use std::num::NonZeroUsize;
 use std::rc::Rc;
-use std::test::Fail;
 
 /// A call on an inbox, with its expected answer.
 #[derive(Clone, Copy)]
@@ -195,10 +194,9 @@ impl Row {
 }
 
 #[test]
-fn requests_wait_in_order(rt: HostRuntime) -> Result<(), Fail> {
+fn requests_wait_in_order(rt: HostRuntime) {
     for row in rows() {
-        let holds = row.holds(rt.alloc())?;
+        let holds = row.holds(rt.alloc()).expect(&rt, "memory");
         assert!(rt; holds, "{}", row.name);
     }
-    Ok(())
 }

@@ -4,7 +4,6 @@ use broadcast_mailbox::buffered::{Overflow, Pending, Policy};
 use std::alloc::{AllocError, Global};
 use std::cell::Cell;
 use std::rc::Rc;
-use std::test::Fail;
 
 /// A call on an overflow, with its expected answer.
 #[derive(Clone, Copy)]
@@ -203,10 +202,9 @@ impl Row {
 }
 
 #[test]
-fn open_requests_are_offered_in_order(rt: HostRuntime) -> Result<(), Fail> {
+fn open_requests_are_offered_in_order(rt: HostRuntime) {
     for row in rows() {
-        let holds = row.holds(rt.alloc())?;
+        let holds = row.holds(rt.alloc()).expect(&rt, "memory");
         assert!(rt; holds, "{}", row.name);
     }
-    Ok(())
 }

@@ -7,12 +7,11 @@ use broadcast_mailbox::buffered::{
 use futures::executor::block_on;
 use futures::future::poll_immediate;
 use futures::task::Poll;
-use std::alloc::{AllocGlobal, Global};
-use std::io;
+use std::alloc::AllocGlobal;
 use std::num::NonZeroUsize;
+use std::process::Abort;
 use std::random::RandomSource;
 use std::sync::Wait;
-use std::test::Fail;
 
 /// The digest that is asked for.
 pub(super) const DIGEST: u64 = 7;
@@ -58,12 +57,11 @@ pub(super) fn rows() -> &'static [Row] {
 }
 
 #[test]
-fn futures_give_their_reply_once_it_is_there(rt: HostRuntime) -> Result<(), Fail> {
+fn futures_give_their_reply_once_it_is_there(rt: HostRuntime) {
     for (place, row) in rows().iter().enumerate() {
-        let given = gives(&rt, *row)?;
+        let given = gives(&rt, *row);
         assert!(rt; given, "row {place}");
     }
-    Ok(())
 }
 
 /// The future of a call.
@@ -75,23 +73,30 @@ pub(super) enum Asked {
 
 impl Asked {
     /// Makes the call. Returns its future, and the end at which its request waits.
-    pub(super) fn new<R: Wait + AllocGlobal + Clone + Drop>(
+    pub(super) fn new<R: Wait + Abort + AllocGlobal + Clone + Drop>(
         rt: &R,
         call: Call,
-    ) -> Result<(Asked, Ingress<Incoming<u64, Note>, R>), Fail> {
-        let (mailbox, ingress) = channel(rt.clone()?, rt.alloc(), NonZeroUsize::MIN)?;
+    ) -> (Asked, Ingress<Incoming<u64, Note>, R>) {
+        let own = rt.clone().expect(rt, "memory");
+        let (mailbox, ingress) = channel(own, rt.alloc(), NonZeroUsize::MIN).expect(rt, "memory");
         let asked = match call {
-            Call::Subscribe => Asked::Subscribe(mailbox.subscribe(DIGEST)?),
-            Call::Get => Asked::Get(mailbox.get(DIGEST)?),
+            Call::Subscribe => {
+                Asked::Subscribe(mailbox.subscribe(DIGEST).expect(rt, "an open mailbox"))
+            }
+            Call::Get => Asked::Get(mailbox.get(DIGEST).expect(rt, "an open mailbox")),
         };
-        Ok((asked, ingress))
+        (asked, ingress)
     }
 
     /// Returns whether the future is ready, as an executor polls it.
-    fn is_ready<R: Wait + RandomSource + AllocGlobal>(&mut self, rt: &R) -> io::Result<bool> {
+    fn is_ready<R: Wait + Abort + RandomSource + AllocGlobal>(&mut self, rt: &R) -> bool {
         match self {
-            Asked::Subscribe(it) => Ok(block_on(rt, poll_immediate(it))?.is_some()),
-            Asked::Get(it) => Ok(block_on(rt, poll_immediate(it))?.is_some()),
+            Asked::Subscribe(it) => block_on(rt, poll_immediate(it))
+                .expect(rt, "a poll")
+                .is_some(),
+            Asked::Get(it) => block_on(rt, poll_immediate(it))
+                .expect(rt, "a poll")
+                .is_some(),
         }
     }
 
@@ -112,35 +117,31 @@ impl Asked {
 
 /// Returns whether the future of the call is pending until its request ends, and then gives what
 /// the row says.
-fn gives<R: Wait + RandomSource + AllocGlobal + Clone + Drop>(
-    rt: &R,
-    row: Row,
-) -> Result<bool, Fail> {
+fn gives<R: Wait + Abort + RandomSource + AllocGlobal + Clone + Drop>(rt: &R, row: Row) -> bool {
     let Row(call, end, wanted) = row;
-    let (mut asked, ingress) = Asked::new(rt, call)?;
-    let is_early = asked.is_ready(rt)? || asked.try_wait().is_ready();
-    end_request(&ingress, rt.alloc(), end)?;
-    Ok(!is_early && asked.try_wait() == Poll::Ready(wanted))
+    let (mut asked, ingress) = Asked::new(rt, call);
+    let is_early = asked.is_ready(rt) || asked.try_wait().is_ready();
+    end_request(rt, &ingress, end);
+    !is_early && asked.try_wait() == Poll::Ready(wanted)
 }
 
 /// Ends the request that waits.
-pub(super) fn end_request<R: Wait>(
+pub(super) fn end_request<R: Wait + Abort + AllocGlobal>(
+    rt: &R,
     ingress: &Ingress<Incoming<u64, Note>, R>,
-    alloc: Global,
     end: End,
-) -> Result<(), Fail> {
+) {
     if let End::GivenUp = end {
         ingress.close();
-        return Ok(());
+        return;
     }
-    let (_, request) = ingress.take().ok_or("nothing waits")?;
+    let (_, request) = ingress.take().expect(rt, "a request that waits");
     if let End::Replied(digest) = end {
-        let message = Digested::precomputed(alloc, Note(1), digest)?;
+        let message = Digested::precomputed(rt.alloc(), Note(1), digest).expect(rt, "memory");
         reply(request, Some(Reply::new(message)));
     } else if let End::RepliedNone = end {
         reply(request, None);
     }
-    Ok(())
 }
 
 /// Sends the reply to the request.

@@ -6,8 +6,8 @@ use broadcast_core::{Digested, Recipients};
 use broadcast_mailbox::{Broadcaster, Feedback, MailboxError};
 use broadcast_relay::{Relayed, relay_to};
 use std::alloc::{AllocError, AllocGlobal, Global};
+use std::process::Abort;
 use std::sync::{Arc, Mutex, Wait};
-use std::test::Fail;
 
 /// The answer to a broadcast.
 type Answer = Result<Feedback, MailboxError>;
@@ -103,18 +103,19 @@ fn messages(alloc: Global) -> Result<Vec<Digested<Note>>, AllocError> {
 }
 
 /// Returns whether the relay goes as the row says.
-fn goes<R>(rt: &R, row: &Row) -> Result<bool, AllocError>
+fn goes<R>(rt: &R, row: &Row) -> bool
 where
-    R: Wait + AllocGlobal + Clone + Send + Drop + 'static,
+    R: Wait + Abort + AllocGlobal + Clone + Send + Drop + 'static,
 {
-    let handed = Arc::new(rt.alloc(), Mutex::new(Vec::new(rt.alloc())))?;
+    let handed = Arc::new(rt.alloc(), Mutex::new(Vec::new(rt.alloc()))).expect(rt, "memory");
     let recorder = Recorder {
-        handed: Arc::try_clone(&handed)?,
+        handed: Arc::try_clone(&handed).expect(rt, "memory"),
         answers: row.answers,
-        rt: rt.clone()?,
+        rt: rt.clone().expect(rt, "memory"),
     };
-    let relayed = relay_to(rt.alloc(), &recorder, messages(rt.alloc())?)?;
-    Ok(were_handed(rt, &handed, row.handed) && is_told(&relayed, row))
+    let messages = messages(rt.alloc()).expect(rt, "memory");
+    let relayed = relay_to(rt.alloc(), &recorder, messages).expect(rt, "memory");
+    were_handed(rt, &handed, row.handed) && is_told(&relayed, row)
 }
 
 fn were_handed(rt: &impl Wait, handed: &Mutex<Vec<u64>>, digests: &[u64]) -> bool {
@@ -126,9 +127,8 @@ fn is_told(relayed: &Relayed, row: &Row) -> bool {
 }
 
 #[test]
-fn each_message_is_handed_over_once(rt: HostRuntime) -> Result<(), Fail> {
+fn each_message_is_handed_over_once(rt: HostRuntime) {
     for (place, row) in rows().iter().enumerate() {
-        assert!(rt; goes(&rt, row)?, "row {place}");
+        assert!(rt; goes(&rt, row), "row {place}");
     }
-    Ok(())
 }

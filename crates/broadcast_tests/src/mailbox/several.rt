@@ -8,8 +8,8 @@ use broadcast_mailbox::buffered::{
 use futures::task::Poll;
 use std::alloc::{AllocError, AllocGlobal, Global};
 use std::num::NonZeroUsize;
+use std::process::Abort;
 use std::sync::Wait;
-use std::test::Fail;
 use std::thread::{self, Threads};
 use std::time::{Clock, Duration, Instant};
 
@@ -113,82 +113,83 @@ fn left_by(first: &First<Note>) -> Left {
 }
 
 #[test]
-fn a_set_gives_those_that_are_answered(rt: HostRuntime) -> Result<(), Fail> {
+fn a_set_gives_those_that_are_answered(rt: HostRuntime) {
     for call in [Call::Try, Call::Wait, Call::Limit(short())] {
         for (place, row) in ROWS.iter().enumerate() {
-            let given = gives(&rt, call, row)?;
+            let given = gives(&rt, call, row);
             assert!(rt; given, "{call:?}, row {place}");
         }
     }
-    Ok(())
 }
 
 /// Returns whether the calls of a set give what the row says, one after another.
-fn gives<R: Wait + Clock + AllocGlobal + Clone + Drop>(
+fn gives<R: Wait + Abort + Clock + AllocGlobal + Clone + Drop>(
     rt: &R,
     call: Call,
     row: &Row,
-) -> Result<bool, Fail> {
-    let (mailbox, ingress) = channel(rt.clone()?, rt.alloc(), NonZeroUsize::MIN)?;
-    let mut set = asked(rt.alloc(), &mailbox)?;
-    let mut requests = taken(rt.alloc(), &ingress)?;
+) -> bool {
+    let own = rt.clone().expect(rt, "memory");
+    let (mailbox, ingress) = channel(own, rt.alloc(), NonZeroUsize::MIN).expect(rt, "memory");
+    let mut set = asked(rt, &mailbox);
+    let mut requests = taken(rt, &ingress);
     for step in row.0 {
-        end(rt.alloc(), &ingress, &mut requests, *step)?;
+        end(rt, &ingress, &mut requests, *step);
     }
     for left in row.1 {
         if call.call(rt, &mut set) != Poll::Ready(Some(*left)) {
-            return Ok(false);
+            return false;
         }
     }
     let rest = DIGESTS.len().saturating_sub(row.1.len());
-    Ok(call.ends(rt, &mut set, rest))
+    call.ends(rt, &mut set, rest)
 }
 
 /// Subscribes to each digest.
-fn asked<R: Wait>(
-    alloc: Global,
+fn asked<R: Wait + Abort + AllocGlobal>(
+    rt: &R,
     mailbox: &Mailbox<u64, Note, R>,
-) -> Result<Subscriptions<Note>, Fail> {
-    let mut set = Subscriptions::new(alloc)?;
+) -> Subscriptions<Note> {
+    let mut set = Subscriptions::new(rt.alloc()).expect(rt, "memory");
     for digest in DIGESTS {
-        mailbox.subscribe_among(&mut set, digest)?;
+        mailbox
+            .subscribe_among(&mut set, digest)
+            .expect(rt, "an open mailbox");
     }
-    Ok(set)
+    set
 }
 
 /// A request that was taken, with its digest.
 type Request = (u64, Incoming<u64, Note>);
 
 /// Takes a request for each digest.
-fn taken<R: Wait>(
-    alloc: Global,
+fn taken<R: Wait + Abort + AllocGlobal>(
+    rt: &R,
     ingress: &Ingress<Incoming<u64, Note>, R>,
-) -> Result<Vec<Request>, Fail> {
-    let mut requests = Vec::new(alloc);
+) -> Vec<Request> {
+    let mut requests = Vec::new(rt.alloc());
     for digest in DIGESTS {
-        let (_, request) = ingress.take().ok_or("nothing waits")?;
-        requests.push((digest, request))?;
+        let (_, request) = ingress.take().expect(rt, "a request that waits");
+        requests.push((digest, request)).expect(rt, "memory");
     }
-    Ok(requests)
+    requests
 }
 
 /// Ends requests as the step says.
-fn end<R: Wait>(
-    alloc: Global,
+fn end<R: Wait + Abort + AllocGlobal>(
+    rt: &R,
     ingress: &Ingress<Incoming<u64, Note>, R>,
     requests: &mut Vec<Request>,
     step: Step,
-) -> Result<(), Fail> {
+) {
     match step {
-        Step::Reply(digest) => answer(alloc, requests, digest, digest)?,
-        Step::ReplyWrong(digest) => answer(alloc, requests, digest, 7)?,
+        Step::Reply(digest) => answer(rt.alloc(), requests, digest, digest).expect(rt, "memory"),
+        Step::ReplyWrong(digest) => answer(rt.alloc(), requests, digest, 7).expect(rt, "memory"),
         Step::Drop(digest) => requests.retain(|request| request.0 != digest),
         Step::End => {
             requests.clear();
             ingress.close();
         }
     }
-    Ok(())
 }
 
 /// Replies to the request of a digest by a message under `given`.
@@ -207,50 +208,51 @@ fn answer(
 }
 
 #[test]
-fn a_limit_leaves_a_set_as_it_is(rt: HostRuntime) -> Result<(), Fail> {
-    let start = Instant::now(&rt)?;
-    let kept = is_kept(&rt)?;
+fn a_limit_leaves_a_set_as_it_is(rt: HostRuntime) {
+    let start = Instant::now(&rt).expect(&rt, "a clock");
+    let kept = is_kept(&rt);
     assert!(rt; kept);
-    let passed = start.elapsed(&rt)?;
+    let passed = start.elapsed(&rt).expect(&rt, "a clock");
     assert!(rt; short() <= passed && passed < long(), "{passed:?}");
-    Ok(())
 }
 
 /// Returns whether a set is pending after a limit, and then gives what is answered.
-fn is_kept<R: Wait + Clock + AllocGlobal + Clone + Drop>(rt: &R) -> Result<bool, Fail> {
-    let (mailbox, ingress) = channel(rt.clone()?, rt.alloc(), NonZeroUsize::MIN)?;
-    let mut set = asked(rt.alloc(), &mailbox)?;
-    let mut requests = taken(rt.alloc(), &ingress)?;
+fn is_kept<R: Wait + Abort + Clock + AllocGlobal + Clone + Drop>(rt: &R) -> bool {
+    let own = rt.clone().expect(rt, "memory");
+    let (mailbox, ingress) = channel(own, rt.alloc(), NonZeroUsize::MIN).expect(rt, "memory");
+    let mut set = asked(rt, &mailbox);
+    let mut requests = taken(rt, &ingress);
     let before = Call::Limit(short()).call(rt, &mut set);
-    answer(rt.alloc(), &mut requests, 3, 3)?;
+    answer(rt.alloc(), &mut requests, 3, 3).expect(rt, "memory");
     let after = Call::Limit(long()).call(rt, &mut set);
-    Ok(before == Poll::Pending && after == Poll::Ready(Some(Left(2, 3, true))))
+    before == Poll::Pending && after == Poll::Ready(Some(Left(2, 3, true)))
 }
 
 #[test]
-fn each_of_a_set_wakes_who_waits(rt: HostRuntime) -> Result<(), Fail> {
-    let start = Instant::now(&rt)?;
+fn each_of_a_set_wakes_who_waits(rt: HostRuntime) {
+    let start = Instant::now(&rt).expect(&rt, "a clock");
     for (place, digest) in DIGESTS.iter().enumerate() {
-        let woken = woken(&rt, *digest)?;
+        let woken = woken(&rt, *digest);
         assert_eq!(rt; woken, Poll::Ready(Some(Left(place, *digest, true))));
     }
-    let passed = start.elapsed(&rt)?;
+    let passed = start.elapsed(&rt).expect(&rt, "a clock");
     assert!(rt; passed < long(), "{passed:?}");
-    Ok(())
 }
 
 /// Replies to the request of a digest while a thread sleeps that waits for a set. Returns what that
 /// is given.
-fn woken<R>(rt: &R, digest: u64) -> Result<Poll<Option<Left>>, Fail>
+fn woken<R>(rt: &R, digest: u64) -> Poll<Option<Left>>
 where
-    R: Threads + Wait + Clock + AllocGlobal + Clone + Send + Sync + Drop + 'static,
+    R: Threads + Wait + Abort + Clock + AllocGlobal + Clone + Send + Sync + Drop + 'static,
 {
-    let (mailbox, ingress) = channel(rt.clone()?, rt.alloc(), NonZeroUsize::MIN)?;
-    let mut set = asked(rt.alloc(), &mailbox)?;
-    let mut requests = taken(rt.alloc(), &ingress)?;
-    let own = rt.clone()?;
-    let waiting = thread::spawn(rt, move || Call::Limit(long()).call(&own, &mut set))?;
+    let own = rt.clone().expect(rt, "memory");
+    let (mailbox, ingress) = channel(own, rt.alloc(), NonZeroUsize::MIN).expect(rt, "memory");
+    let mut set = asked(rt, &mailbox);
+    let mut requests = taken(rt, &ingress);
+    let own = rt.clone().expect(rt, "memory");
+    let wait = move || Call::Limit(long()).call(&own, &mut set);
+    let waiting = thread::spawn(rt, wait).expect(rt, "a thread");
     thread::sleep(rt, Duration::from_millis(50));
-    answer(rt.alloc(), &mut requests, digest, digest)?;
-    Ok(waiting.join(rt))
+    answer(rt.alloc(), &mut requests, digest, digest).expect(rt, "memory");
+    waiting.join(rt)
 }

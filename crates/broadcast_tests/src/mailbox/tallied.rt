@@ -11,13 +11,13 @@ use broadcast_mailbox::buffered::{
     watched_channel,
 };
 use futures::task::{Doorbell, Poll, Solo};
-use std::alloc::{AllocGlobal, Global};
+use std::alloc::AllocGlobal;
 use std::marker::Brand;
 use std::num::{NonZeroU32, NonZeroUsize};
+use std::process::Abort;
 use std::random::RandomSource;
 use std::sync::Wait;
 use std::sync::ledger::Blank;
-use std::test::Fail;
 
 /// A call that is made with a tally.
 #[derive(Clone, Copy, Debug)]
@@ -28,17 +28,16 @@ enum Call {
 }
 
 #[test]
-fn tallied_calls_go_as_others_do(rt: HostRuntime) -> Result<(), Fail> {
+fn tallied_calls_go_as_others_do(rt: HostRuntime) {
     for call in [Call::Broadcast, Call::Subscribe, Call::Get] {
-        assert!(rt; goes(&rt, call)?, "{call:?}");
+        assert!(rt; goes(&rt, call), "{call:?}");
     }
-    Ok(())
 }
 
 /// Returns whether the call goes as it does without a tally, by a tally of one part.
-fn goes<R>(rt: &R, call: Call) -> Result<bool, Fail>
+fn goes<R>(rt: &R, call: Call) -> bool
 where
-    R: Wait + RandomSource + AllocGlobal + Clone + Drop,
+    R: Wait + Abort + RandomSource + AllocGlobal + Clone + Drop,
 {
     let parts = NonZeroU32::MIN;
     let accepted = Blank::new(parts.get() as u64);
@@ -46,15 +45,9 @@ where
 }
 
 /// The same, by an account with these ledgers.
-fn goes_with<R, A, K>(
-    rt: &R,
-    parts: NonZeroU32,
-    accepted: Blank,
-    taken: Blank,
-    call: Call,
-) -> Result<bool, Fail>
+fn goes_with<R, A, K>(rt: &R, parts: NonZeroU32, accepted: Blank, taken: Blank, call: Call) -> bool
 where
-    R: Wait + RandomSource + AllocGlobal + Clone + Drop,
+    R: Wait + Abort + RandomSource + AllocGlobal + Clone + Drop,
     A: Account,
     K: Account,
     requires accepted { (accepted.name ≡ A.name) × (accepted.parts ≡ A.parts) }
@@ -62,31 +55,33 @@ where
     requires taken { (taken.name ≡ K.name) × (taken.parts ≡ K.parts) }
     requires one { (K.all ≡ K.parts) × (K.parts ≡ 1) }
 {
-    let task = Solo::new(rt, Doorbell::spinning())?;
+    let task = Solo::new(rt, Doorbell::spinning()).expect(rt, "a task");
     let (mailbox, mut ingress, mut tally) = watched_channel::<u64, Note, R, A, K, All>(
-        rt.clone()?,
+        rt.clone().expect(rt, "memory"),
         rt.alloc(),
         NonZeroUsize::MIN,
         parts,
         accepted,
         taken,
-    )?;
+    )
+    .expect(rt, "memory");
     match call {
         Call::Broadcast => {
-            let is_fed_back = is_fed_back(&mailbox, rt.alloc(), &mut tally)?;
-            Ok(is_fed_back && is_next_for_one(&task, &mut ingress))
+            is_fed_back(rt, &mailbox, &mut tally) && is_next_for_one(&task, &mut ingress)
         }
         Call::Subscribe => {
-            let mut subscription = mailbox.subscribe_as(&mut tally, DIGEST)?;
-            answer_next(rt.alloc(), &task, &mut ingress)?;
+            let asked = mailbox.subscribe_as(&mut tally, DIGEST);
+            let mut subscription = asked.expect(rt, "an open mailbox");
+            answer_next(rt, &task, &mut ingress);
             let polled = subscription.try_wait();
-            Ok(matches!(polled, Poll::Ready(Ok(message)) if message.digest() == DIGEST))
+            matches!(polled, Poll::Ready(Ok(message)) if message.digest() == DIGEST)
         }
         Call::Get => {
-            let mut get = mailbox.get_as(&mut tally, DIGEST)?;
-            answer_next(rt.alloc(), &task, &mut ingress)?;
+            let asked = mailbox.get_as(&mut tally, DIGEST);
+            let mut get = asked.expect(rt, "an open mailbox");
+            answer_next(rt, &task, &mut ingress);
             let polled = get.try_wait();
-            Ok(matches!(polled, Poll::Ready(Some(message)) if message.digest() == DIGEST))
+            matches!(polled, Poll::Ready(Some(message)) if message.digest() == DIGEST)
         }
     }
 }
@@ -94,20 +89,24 @@ where
 /// Broadcasts to one peer twice, over a ready list of one place. Returns whether the feedbacks tell
 /// of that list, and then of the overflow.
 fn is_fed_back<R, A, K>(
+    rt: &R,
     mailbox: &WatchedMailbox<u64, Note, R, A, K, All>,
-    alloc: Global,
     tally: &mut Tally<A>,
-) -> Result<bool, Fail>
+) -> bool
 where
-    R: Wait,
+    R: Wait + Abort + AllocGlobal,
     A: Account,
     K: Account,
 {
-    let first = Digested::precomputed(alloc, Note(3), DIGEST)?;
-    let second = Digested::precomputed(alloc, Note(3), DIGEST)?;
-    let is_ready = mailbox.broadcast_as(tally, Recipients::One(5), first)? == Feedback::Ok;
-    let feedback = mailbox.broadcast_as(tally, Recipients::One(5), second)?;
-    Ok(is_ready && feedback == Feedback::Backoff)
+    let first = Digested::precomputed(rt.alloc(), Note(3), DIGEST).expect(rt, "memory");
+    let second = Digested::precomputed(rt.alloc(), Note(3), DIGEST).expect(rt, "memory");
+    let ready = mailbox
+        .broadcast_as(tally, Recipients::One(5), first)
+        .expect(rt, "an open mailbox");
+    let overflown = mailbox
+        .broadcast_as(tally, Recipients::One(5), second)
+        .expect(rt, "an open mailbox");
+    ready == Feedback::Ok && overflown == Feedback::Backoff
 }
 
 /// Takes the next request, if there is one.
@@ -130,19 +129,14 @@ where
 }
 
 /// Replies to the next request by a message.
-fn answer_next<R, A>(
-    alloc: Global,
-    task: &Solo,
-    ingress: &mut Ingress<Incoming<u64, Note>, R, A>,
-) -> Result<(), Fail>
+fn answer_next<R, A>(rt: &R, task: &Solo, ingress: &mut Ingress<Incoming<u64, Note>, R, A>)
 where
-    R: Wait,
+    R: Wait + Abort + AllocGlobal,
     A: Bookkeeping,
 {
-    let request = next(task, ingress).ok_or("nothing waits")?;
-    let message = Digested::precomputed(alloc, Note(1), DIGEST)?;
+    let request = next(task, ingress).expect(rt, "a request that waits");
+    let message = Digested::precomputed(rt.alloc(), Note(1), DIGEST).expect(rt, "memory");
     reply(request, Some(Reply::new(message)));
-    Ok(())
 }
 
 /// Returns whether the next request is a broadcast to peer 5.

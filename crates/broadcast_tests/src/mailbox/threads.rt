@@ -3,10 +3,10 @@ use super::note::{Kind, Note, kind_of};
 use broadcast_core::{Digested, Recipients};
 use broadcast_mailbox::Broadcaster;
 use broadcast_mailbox::buffered::{Counts, Incoming, Ingress, Mailbox, channel};
-use std::alloc::{AllocError, Global};
+use std::alloc::Global;
 use std::num::NonZeroUsize;
+use std::process::Abort;
 use std::sync::Wait;
-use std::test::Fail;
 use std::thread::{self, JoinHandle, Threads};
 
 /// The calls of a thread.
@@ -65,21 +65,18 @@ fn next_kind<R: Wait>(ingress: &Ingress<Incoming<u64, Note>, R>) -> Option<Kind>
 }
 
 /// Starts four callers.
-fn callers<R>(
-    rt: &R,
-    alloc: Global,
-    mailbox: &Mailbox<u64, Note, R>,
-) -> Result<Vec<JoinHandle<u64>>, AllocError>
+fn callers<R>(rt: &R, alloc: Global, mailbox: &Mailbox<u64, Note, R>) -> Vec<JoinHandle<u64>>
 where
-    R: Threads + Wait + Clone + Send + Drop + 'static,
+    R: Threads + Wait + Abort + Clone + Send + Drop + 'static,
 {
     let mut callers = Vec::new(alloc);
     for _ in 0..4 {
-        let mailbox = mailbox.clone()?;
+        let mailbox = mailbox.clone().expect(rt, "memory");
         let call = move || spread(&mailbox, alloc).wrapping_add(ask(&mailbox));
-        callers.push(thread::spawn(rt, call)?)?;
+        let caller = thread::spawn(rt, call).expect(rt, "a thread");
+        callers.push(caller).expect(rt, "memory");
     }
-    Ok(callers)
+    callers
 }
 
 /// Waits for the callers. Returns the sum of their answers.
@@ -100,12 +97,13 @@ struct Account {
 }
 
 /// Takes requests while four callers make theirs, and then those that are left.
-fn run_callers<R>(rt: &R, alloc: Global) -> Result<Account, AllocError>
+fn run_callers<R>(rt: &R, alloc: Global) -> Account
 where
-    R: Threads + Wait + Clone + Send + Drop + 'static,
+    R: Threads + Wait + Abort + Clone + Send + Drop + 'static,
 {
-    let (mailbox, ingress) = channel(rt.clone()?, alloc, NonZeroUsize::MIN)?;
-    let callers = callers(rt, alloc, &mailbox)?;
+    let own = rt.clone().expect(rt, "memory");
+    let (mailbox, ingress) = channel(own, alloc, NonZeroUsize::MIN).expect(rt, "memory");
+    let callers = callers(rt, alloc, &mailbox);
     let mut taken = Taken {
         requests: 0,
         broadcasts: 0,
@@ -114,20 +112,20 @@ where
     let accepted = join_all(rt, callers);
     taken.take_often(&ingress);
     let counts = ingress.counts();
-    Ok(Account {
+    Account {
         accepted,
         taken,
         counts,
-    })
+    }
 }
 
 #[test]
-fn every_accepted_request_ends_once(rt: HostRuntime) -> Result<(), Fail> {
+fn every_accepted_request_ends_once(rt: HostRuntime) {
     let Account {
         accepted,
         taken,
         counts,
-    } = run_callers(&rt, rt.alloc())?;
+    } = run_callers(&rt, rt.alloc());
     let expected = Counts {
         accepted,
         taken: taken.requests,
@@ -138,5 +136,4 @@ fn every_accepted_request_ends_once(rt: HostRuntime) -> Result<(), Fail> {
     assert_eq!(rt; counts, expected);
     // No broadcast is skipped.
     assert_eq!(rt; (accepted, taken.broadcasts), (1200, 400));
-    Ok(())
 }
