@@ -5,12 +5,11 @@ use super::world::{Sizes, World};
 use broadcast_mailbox::Feedback;
 use commonware_broadcast::buffered::Turn;
 use memory_node::support::message::To;
-use std::alloc::{AllocError, AllocGlobal};
+use std::alloc::AllocGlobal;
 use std::num::NonZeroUsize;
 use std::process::Abort;
 use std::random::RandomSource;
 use std::sync::Wait;
-use std::test::Fail;
 
 /// An action on the node of a key, or what must be seen of it. A letter names a message.
 #[derive(Clone, Copy)]
@@ -83,22 +82,21 @@ pub struct Row {
 }
 
 /// Makes the actions of each scenario. Fails at the first that does not go as it should.
-pub fn all_go<R>(rt: &R, rows: &'static [Row]) -> Result<(), Fail>
+pub fn all_go<R>(rt: &R, rows: &'static [Row])
 where
     R: Wait + Abort + RandomSource + AllocGlobal + Clone + Send + Drop + 'static,
 {
     for row in rows {
-        let wrong = row.first_wrong(rt)?;
+        let wrong = row.first_wrong(rt);
         assert!(rt; wrong.is_none(), "{}: {wrong:?}", row.name);
     }
-    Ok(())
 }
 
 impl Row {
     /// Returns the place of the first action that does not go as it should.
-    fn first_wrong<R>(&self, rt: &R) -> Result<Option<usize>, AllocError>
+    fn first_wrong<R>(&self, rt: &R) -> Option<usize>
     where
-        R: Wait + RandomSource + AllocGlobal + Clone + Send + Drop + 'static,
+        R: Wait + Abort + RandomSource + AllocGlobal + Clone + Send + Drop + 'static,
     {
         let sizes = Sizes {
             nodes: self.nodes,
@@ -110,23 +108,23 @@ impl Row {
 }
 
 /// Adds the nodes, and returns the place of the first action that does not go as it should.
-fn first_wrong<R>(rt: &R, sizes: Sizes, acts: &[Act]) -> Result<Option<usize>, AllocError>
+fn first_wrong<R>(rt: &R, sizes: Sizes, acts: &[Act]) -> Option<usize>
 where
-    R: Wait + RandomSource + AllocGlobal + Clone + Send + Drop + 'static,
+    R: Wait + Abort + RandomSource + AllocGlobal + Clone + Send + Drop + 'static,
 {
-    let mut world: Box<World<R>> = World::new(rt, sizes)?;
+    let mut world: Box<World<R>> = World::new(rt, sizes);
     wrong_place(rt, &mut world, acts)
 }
 
 /// Makes the actions, and returns the place of the first that does not go as it should.
-fn wrong_place<R>(rt: &R, world: &mut World<R>, acts: &[Act]) -> Result<Option<usize>, AllocError>
+fn wrong_place<R>(rt: &R, world: &mut World<R>, acts: &[Act]) -> Option<usize>
 where
-    R: Wait + RandomSource + AllocGlobal + Clone + Send + Drop + 'static,
+    R: Wait + Abort + RandomSource + AllocGlobal + Clone + Send + Drop + 'static,
 {
     for (place, act) in acts.iter().enumerate() {
-        if !world.goes(rt, rt.alloc(), *act)? {
-            return Ok(Some(place));
+        if !world.goes(rt, rt.alloc(), *act) {
+            return Some(place);
         }
     }
-    Ok(None)
+    None
 }

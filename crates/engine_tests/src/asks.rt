@@ -10,9 +10,9 @@ use futures::task::{Context, Doorbell, Poll, Solo};
 use std::alloc::{AllocError, AllocGlobal, Global};
 use std::cell::Cell;
 use std::num::NonZeroUsize;
+use std::process::Abort;
 use std::rc::Rc;
 use std::sync::Wait;
-use std::test::Fail;
 
 /// What happens to a node.
 #[derive(Clone, Copy)]
@@ -100,13 +100,12 @@ fn rows() -> &'static [&'static [Step]] {
 }
 
 #[test]
-fn a_poll_asks_only_whom_it_must(rt: HostRuntime) -> Result<(), Fail> {
+fn a_poll_asks_only_whom_it_must(rt: HostRuntime) {
     for (place, steps) in rows().iter().enumerate() {
-        let task = Solo::new(&rt, Doorbell::spinning())?;
-        let other = goes::<TestMessage, _>(&rt, &task, RangeCfg::any(), steps)?;
+        let task = Solo::new(&rt, Doorbell::spinning()).expect(&rt, "a task");
+        let other = goes::<TestMessage, _>(&rt, &task, RangeCfg::any(), steps);
         assert_eq!(rt; other, None, "row {place}");
     }
-    Ok(())
 }
 
 /// A caller of a subscribe.
@@ -207,36 +206,32 @@ where
 }
 
 /// Makes the steps, and returns the place of the first at which others are asked.
-fn goes<M, R>(
-    rt: &R,
-    task: &Solo,
-    codec_config: M::Cfg,
-    steps: &[Step],
-) -> Result<Option<usize>, Fail>
+fn goes<M, R>(rt: &R, task: &Solo, codec_config: M::Cfg, steps: &[Step]) -> Option<usize>
 where
     M: Digestible<Digest = Digest> + Codec,
     M::Cfg: Drop,
-    R: Wait + AllocGlobal + Clone + Drop,
+    R: Wait + Abort + AllocGlobal + Clone + Drop,
 {
-    let mut node = Node::<M, R>::new(rt, codec_config)?;
+    let mut node = Node::<M, R>::new(rt, codec_config);
     for (place, step) in steps.iter().enumerate() {
-        if !node.goes(rt.alloc(), task, *step)? {
-            return Ok(Some(place));
+        if !node.goes(rt, task, *step) {
+            return Some(place);
         }
     }
-    Ok(None)
+    None
 }
 
 impl<M, R> Node<M, R>
 where
     M: Digestible<Digest = Digest> + Codec,
     M::Cfg: Drop,
-    R: Wait + AllocGlobal + Clone + Drop,
+    R: Wait + Abort + AllocGlobal + Clone + Drop,
 {
     /// Creates a node without callers.
-    fn new(rt: &R, codec_config: M::Cfg) -> Result<Self, Fail> {
+    fn new(rt: &R, codec_config: M::Cfg) -> Self {
         let alloc = rt.alloc();
-        let (mailbox, ingress) = channel(rt.clone()?, alloc, NonZeroUsize::MIN)?;
+        let own = rt.clone().expect(rt, "memory");
+        let (mailbox, ingress) = channel(own, alloc, NonZeroUsize::MIN).expect(rt, "memory");
         let requests = Telling {
             request: Cell::new(None),
             ingress,
@@ -251,37 +246,40 @@ where
             peer_provider: Script::new(Vec::new(alloc)),
             strategy: Sequential,
         };
-        Ok(Node {
+        Node {
             engine: Engine::over(alloc, cfg, requests, Direct),
             mailbox,
             network: (RecordingSender::new(alloc), Script::new(Vec::new(alloc))),
             callers: Vec::new(alloc),
-        })
+        }
     }
 
     /// Makes the step. Returns whether the callers are asked that are to be.
-    fn goes(&mut self, alloc: Global, task: &Solo, step: Step) -> Result<bool, Fail> {
+    fn goes(&mut self, rt: &R, task: &Solo, step: Step) -> bool {
         match step {
             Step::Subscribe(letter) => {
-                let message = self.subscribe(alloc, letter)?;
+                let message = self.subscribe(rt.alloc(), letter).expect(rt, "memory");
                 self.engine.requests().request.set(Some(message));
             }
             Step::Apply(letter) => {
-                let message = self.subscribe(alloc, letter)?;
-                self.apply(alloc, message);
+                let message = self.subscribe(rt.alloc(), letter).expect(rt, "memory");
+                self.apply(rt.alloc(), message);
             }
             Step::Leave(place) => {
                 if let Some(caller) = self.callers.get(place) {
                     caller.gone.set(true);
                 }
             }
-            Step::Name(letter) => drop::<_>(self.mailbox.subscribe(digest(letter))?),
+            Step::Name(letter) => {
+                let digest = digest(letter);
+                drop::<_>(self.mailbox.subscribe(digest).expect(rt, "a request"));
+            }
             Step::Poll(places) => {
-                self.poll(alloc, task)?;
-                return Ok(self.has_asked(places));
+                self.poll(rt.alloc(), task).expect(rt, "memory");
+                return self.has_asked(places);
             }
         }
-        Ok(true)
+        true
     }
 
     /// Creates the subscribe of a caller.

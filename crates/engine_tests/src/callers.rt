@@ -7,6 +7,7 @@ use broadcast_mailbox::buffered::Mailbox;
 use broadcast_mailbox::{Broadcaster, Feedback, MailboxError};
 use memory_node::support::message::{To, digest, digested, recipients};
 use std::alloc::{AllocError, AllocGlobal, Global};
+use std::process::Abort;
 use std::random::RandomSource;
 use std::sync::Wait;
 
@@ -19,7 +20,7 @@ pub struct Callers<R> {
 
 impl<R> Callers<R>
 where
-    R: Wait + RandomSource + AllocGlobal + Clone + Send + 'static,
+    R: Wait + Abort + RandomSource + AllocGlobal + Clone + Send + 'static,
 {
     pub fn new(alloc: Global) -> Self {
         Callers {
@@ -29,12 +30,12 @@ where
     }
 
     /// Does what the action says of callers. Returns whether it goes as it should.
-    pub fn goes(&mut self, rt: &R, alloc: Global, act: Act) -> Result<bool, AllocError> {
+    pub fn goes(&mut self, rt: &R, alloc: Global, act: Act) -> bool {
         match act {
-            Act::Subscribe(..) | Act::Get(..) => self.ask(alloc, act),
-            Act::Gives(number, given) => Ok(self.gives(rt, number, given)),
-            Act::Hang(number) => Ok(self.hang(number)),
-            _ => self.broadcasts(alloc, act),
+            Act::Subscribe(..) | Act::Get(..) => self.ask(alloc, act).expect(rt, "memory"),
+            Act::Gives(number, given) => self.gives(rt, number, given),
+            Act::Hang(number) => self.hang(number),
+            _ => self.broadcasts(alloc, act).expect(rt, "memory"),
         }
     }
 

@@ -12,8 +12,8 @@ use memory_node::keys::key_of;
 use memory_node::support::poor::{Poor, Supply};
 use std::alloc::{AllocError, AllocGlobal, Global};
 use std::num::NonZeroUsize;
+use std::process::Abort;
 use std::sync::{Arc, Wait};
-use std::test::Fail;
 
 /// A run of two nodes.
 const SETTINGS: Settings = Settings {
@@ -28,56 +28,51 @@ fn progress(alloc: Global) -> Result<Arc<Progress>, AllocError> {
 }
 
 /// Creates what the threads of the run share.
-fn shared<R: Wait + AllocGlobal>(rt: &R) -> Result<Shared, Fail> {
-    let network = Network::between(rt, &[key_of(1), key_of(2)])?;
-    let progress = progress(rt.alloc())?;
-    Ok(Shared::new(rt.alloc(), SETTINGS, network, progress)?)
+fn shared<R: Wait + Abort + AllocGlobal>(rt: &R) -> Shared {
+    let network = Network::between(rt, &[key_of(1), key_of(2)]).expect(rt, "memory");
+    let progress = progress(rt.alloc()).expect(rt, "memory");
+    Shared::new(rt.alloc(), SETTINGS, network, progress).expect(rt, "memory")
 }
 
 #[test]
-fn clients_wait_until_all_have_subscribed(rt: HostRuntime) -> Result<(), Fail> {
-    let shared = shared(&rt)?;
+fn clients_wait_until_all_have_subscribed(rt: HostRuntime) {
+    let shared = shared(&rt);
     // So that it does not wait for long.
     shared.fail();
     for have_all in [false, true] {
         shared.count_subscribed();
         assert_eq!(rt; shared.wait_for_subscribed(&rt).is_some(), have_all);
     }
-    Ok(())
 }
 
 #[test]
-fn an_open_mailbox_of_a_node_that_is_not_started_is_told(rt: HostRuntime) -> Result<(), Fail> {
+fn an_open_mailbox_of_a_node_that_is_not_started_is_told(rt: HostRuntime) {
     let size = NonZeroUsize::MIN;
-    let (mailbox, ingress) = channel::<Key, TestMessage, HostRuntime>(
-        rt.clone()?,
-        rt.alloc(),
-        size,
-    )?;
+    let own = rt.clone().expect(&rt, "memory");
+    let made = channel::<Key, TestMessage, HostRuntime>(own, rt.alloc(), size);
+    let (mailbox, ingress) = made.expect(&rt, "memory");
     let open = not_started(&rt, &mailbox, StartError::Spawn);
     assert!(rt; matches!(open, Fault::Open), "{open:?}");
     ingress.close();
     let closed = not_started(&rt, &mailbox, StartError::Spawn);
     assert!(rt; matches!(closed, Fault::Thread), "{closed:?}");
-    Ok(())
 }
 
 #[test]
-fn a_node_that_fails_stops_those_before_it(rt: HostRuntime) -> Result<(), Fail> {
+fn a_node_that_fails_stops_those_before_it(rt: HostRuntime) {
     // The first node takes four copies of the runtime, and the second finds none.
-    let supply = Supply::new(rt.alloc())?;
+    let supply = Supply::new(rt.alloc()).expect(&rt, "memory");
     supply.leave(4, 1000);
-    let heirs = Supply::new(rt.alloc())?;
+    let heirs = Supply::new(rt.alloc()).expect(&rt, "memory");
     let ample = heirs.copies();
     let poor = Poor {
-        rt: rt.clone()?,
+        rt: rt.clone().expect(&rt, "memory"),
         supply,
-        heirs: Arc::try_clone(&heirs)?,
+        heirs: Arc::try_clone(&heirs).expect(&rt, "memory"),
     };
-    let ended = run(&poor, SETTINGS, &progress(rt.alloc())?);
+    let ended = run(&poor, SETTINGS, &progress(rt.alloc()).expect(&rt, "memory"));
     assert!(rt; matches!(ended, Err(Fault::Memory)));
     // The first node ran. Its threads do not wait until all engines are idle, as without a failure.
     assert!(rt; heirs.copies() < ample);
     assert!(rt; heirs.pauses() < 500);
-    Ok(())
 }

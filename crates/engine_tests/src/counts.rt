@@ -5,6 +5,7 @@ use cluster_lib::measure::count_answered;
 use commonware_broadcast::buffered::{Get, Mailbox, Runtime, Sequential, Subscription};
 use memory_node::support::nodes::{broadcast, digest, gets, start, track};
 use std::alloc::AllocGlobal;
+use std::process::Abort;
 use std::sync::Wait;
 use std::test::Fail;
 
@@ -43,20 +44,22 @@ struct Asked {
 
 impl Asked {
     /// Subscribes to the letters, and gets them.
-    fn new<R>(rt: &R, mailbox: &Mailbox<Key, TestMessage, R>) -> Result<Self, Fail>
+    fn new<R>(rt: &R, mailbox: &Mailbox<Key, TestMessage, R>) -> Self
     where
-        R: Wait + AllocGlobal,
+        R: Wait + Abort + AllocGlobal,
     {
         let mut asked = Asked {
             subscriptions: Vec::new(rt.alloc()),
             gets: Vec::new(rt.alloc()),
         };
         for letter in [1, 2] {
-            let digest = digest(rt.alloc(), letter)?;
-            asked.subscriptions.push(mailbox.subscribe(digest)?)?;
-            asked.gets.push(mailbox.get(digest)?)?;
+            let digest = digest(rt.alloc(), letter).expect(rt, "memory");
+            let subscription = mailbox.subscribe(digest).expect(rt, "a request");
+            asked.subscriptions.push(subscription).expect(rt, "memory");
+            let get = mailbox.get(digest).expect(rt, "a request");
+            asked.gets.push(get).expect(rt, "memory");
         }
-        Ok(asked)
+        asked
     }
 
     /// Waits for all of them. Returns how many subscriptions and how many gets gave a message.
@@ -77,27 +80,27 @@ impl Asked {
 /// and what was asked afterwards.
 fn ask<R>(rt: &R, known: &[u8]) -> Result<(Asked, Asked), Fail>
 where
-    R: Runtime,
+    R: Runtime + Abort,
 {
     let node = start(rt, Sequential)?;
-    let mailbox = node.mailbox.clone()?;
-    track(rt, &node.mail, &[1])?;
+    let mailbox = node.mailbox.clone().expect(rt, "memory");
+    track(rt, &node.mail, &[1]).expect(rt, "memory");
     for letter in known {
-        let _feedback = broadcast(rt, &mailbox, *letter)?;
+        let _feedback = broadcast(rt, &mailbox, *letter).expect(rt, "a request");
     }
-    let before = Asked::new(rt, &mailbox)?;
+    let before = Asked::new(rt, &mailbox);
     // Requests are taken in order, so those before this one are applied.
-    let _found = gets(rt, &mailbox, 3)?;
+    let _found = gets(rt, &mailbox, 3).expect(rt, "a request");
     node.handle.stop();
     drop(node.join(rt));
-    let after = Asked::new(rt, &mailbox)?;
+    let after = Asked::new(rt, &mailbox);
     Ok((before, after))
 }
 
 /// Returns what was counted of requests before the stop and after it.
 fn counts<R>(rt: &R, known: &[u8]) -> Result<[(u64, u64); 2], Fail>
 where
-    R: Runtime,
+    R: Runtime + Abort,
 {
     let (before, after) = ask(rt, known)?;
     Ok([before.count(rt), after.count(rt)])

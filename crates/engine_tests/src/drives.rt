@@ -6,7 +6,6 @@ use commonware_broadcast::buffered::{EndCause, Turn};
 use futures::task::{Doorbell, Solo};
 use memory_node::support::message::To;
 use std::alloc::{AllocError, Global};
-use std::test::Fail;
 
 /// What an engine is driven over, and what must come of it.
 struct Row {
@@ -305,11 +304,10 @@ impl Row {
 }
 
 #[test]
-fn drive_goes_on_to_its_limit_or_the_end(rt: HostRuntime) -> Result<(), Fail> {
-    let task = Solo::new(&rt, Doorbell::spinning())?;
+fn drive_goes_on_to_its_limit_or_the_end(rt: HostRuntime) {
+    let task = Solo::new(&rt, Doorbell::spinning()).expect(&rt, "a task");
     for row in rows() {
-        let wrong = wrong(rt.alloc(), &task, row)?;
+        let wrong = wrong(rt.alloc(), &task, row).expect(&rt, "memory");
         assert!(rt; wrong.is_none(), "{}: {wrong:?}", row.name);
     }
-    Ok(())
 }

@@ -7,11 +7,11 @@ use commonware_broadcast::buffered::{
 use futures::channel::oneshot::{self, Receiver};
 use futures::task::{Doorbell, Poll, Solo};
 use memory_network::{Inbound, Network, Outbound, PeerSets};
-use std::alloc::{AllocGlobal, Global};
+use std::alloc::{AllocError, AllocGlobal, Global};
 use std::num::NonZeroUsize;
+use std::process::Abort;
 use std::random::RandomSource;
 use std::sync::Wait;
-use std::test::Fail;
 
 /// What becomes of the waiters of a node.
 #[derive(Clone, Copy)]
@@ -82,19 +82,18 @@ fn rows() -> &'static [&'static [Step]] {
 }
 
 #[test]
-fn a_waiter_leaves_in_the_poll_after_its_drop(rt: HostRuntime) -> Result<(), Fail> {
+fn a_waiter_leaves_in_the_poll_after_its_drop(rt: HostRuntime) {
     for (place, steps) in rows().iter().enumerate() {
-        let kept = goes::<Letters, _>(&rt, RangeCfg::any(), steps)?;
+        let kept = goes::<Letters, _>(&rt, RangeCfg::any(), steps);
         assert_eq!(rt; kept, None, "row {place}");
     }
-    Ok(())
 }
 
 #[test]
-fn a_drop_is_told_after_many_requests_and_while_some_wait(rt: HostRuntime) -> Result<(), Fail> {
+fn a_drop_is_told_after_many_requests_and_while_some_wait(rt: HostRuntime) {
     let mut steps = Vec::new(rt.alloc());
     for number in 0..30 {
-        steps.push(Step::Subscribe(number))?;
+        steps.push(Step::Subscribe(number)).expect(&rt, "memory");
     }
     let rest = [
         Step::Poll(30, 0),
@@ -106,25 +105,24 @@ fn a_drop_is_told_after_many_requests_and_while_some_wait(rt: HostRuntime) -> Re
         Step::Poll(30, 2),
     ];
     for step in rest.iter() {
-        steps.push(*step)?;
+        steps.push(*step).expect(&rt, "memory");
     }
-    let kept = goes::<Letters, _>(&rt, RangeCfg::any(), steps.as_slice())?;
+    let kept = goes::<Letters, _>(&rt, RangeCfg::any(), steps.as_slice());
     assert_eq!(rt; kept, None);
-    Ok(())
 }
 
 #[test]
-fn more_drops_than_the_mailbox_keeps_are_told(rt: HostRuntime) -> Result<(), Fail> {
+fn more_drops_than_the_mailbox_keeps_are_told(rt: HostRuntime) {
     let mut steps = Vec::new(rt.alloc());
     for number in 0..MANY + 3 {
-        steps.push(Step::Subscribe(number))?;
+        steps.push(Step::Subscribe(number)).expect(&rt, "memory");
     }
-    steps.push(Step::Poll(MANY + 3, 0))?;
-    steps.push(Step::Drop(2, MANY as usize + 2))?;
-    steps.push(Step::Poll(3, MANY))?;
-    let kept = goes::<Letters, _>(&rt, RangeCfg::any(), steps.as_slice())?;
+    steps.push(Step::Poll(MANY + 3, 0)).expect(&rt, "memory");
+    let drops = Step::Drop(2, MANY as usize + 2);
+    steps.push(drops).expect(&rt, "memory");
+    steps.push(Step::Poll(3, MANY)).expect(&rt, "memory");
+    let kept = goes::<Letters, _>(&rt, RangeCfg::any(), steps.as_slice());
     assert_eq!(rt; kept, None);
-    Ok(())
 }
 
 type Letters = broadcast_core::TestMessage;
@@ -151,30 +149,34 @@ where
 }
 
 /// Makes the steps, and returns the place of the first that goes otherwise.
-fn goes<M, R>(rt: &R, codec_config: M::Cfg, steps: &[Step]) -> Result<Option<usize>, Fail>
+fn goes<M, R>(rt: &R, codec_config: M::Cfg, steps: &[Step]) -> Option<usize>
 where
     M: Digestible<Digest = Digest> + Codec,
     M::Cfg: Drop,
-    R: Wait + RandomSource + AllocGlobal + Clone + Drop,
+    R: Wait + Abort + RandomSource + AllocGlobal + Clone + Drop,
 {
-    let mut node = Node::<M, R>::new(rt, codec_config)?;
+    let mut node = Node::<M, R>::new(rt, codec_config);
     for (place, step) in steps.iter().enumerate() {
-        if !node.goes(rt.alloc(), *step)? {
-            return Ok(Some(place));
+        if !node.goes(rt, *step) {
+            return Some(place);
         }
     }
-    Ok(None)
+    None
 }
 
 impl<M, R> Node<M, R>
 where
     M: Digestible<Digest = Digest> + Codec,
     M::Cfg: Drop,
-    R: Wait + RandomSource + AllocGlobal + Clone + Drop,
+    R: Wait + Abort + RandomSource + AllocGlobal + Clone + Drop,
 {
-    fn new(rt: &R, codec_config: M::Cfg) -> Result<Self, Fail> {
-        let (own, task) = (rt.clone()?, Solo::new(rt, Doorbell::spinning())?);
-        let ends = Network::between(rt, &[1])?.join(rt, &1)?;
+    fn new(rt: &R, codec_config: M::Cfg) -> Self {
+        let own = rt.clone().expect(rt, "memory");
+        let task = Solo::new(rt, Doorbell::spinning()).expect(rt, "a task");
+        let ends = Network::between(rt, &[1])
+            .expect(rt, "memory")
+            .join(rt, &1)
+            .expect(rt, "a node");
         let config = Config {
             public_key: 1,
             mailbox_size: NonZeroUsize::MIN,
@@ -185,32 +187,35 @@ where
             peer_provider: ends.provider,
             strategy: Sequential,
         };
-        let (engine, mailbox) = Engine::new(own, rt.alloc(), config)?;
-        Ok(Node {
+        let (engine, mailbox) = Engine::new(own, rt.alloc(), config).expect(rt, "memory");
+        Node {
             engine,
             mailbox,
             network: (ends.sender, ends.receiver),
             task,
             asked: Vec::new(rt.alloc()),
-        })
+        }
     }
 
     /// Makes the step. Returns whether the counters are as it says.
-    fn goes(&mut self, alloc: Global, step: Step) -> Result<bool, Fail> {
+    fn goes(&mut self, rt: &R, step: Step) -> bool {
         match step {
             Step::Subscribe(number) => {
-                let subscription = self.mailbox.subscribe(digest(number))?;
-                self.asked.push(Asked::Subscription(subscription))?;
+                let digest = digest(number);
+                let subscription = self.mailbox.subscribe(digest).expect(rt, "a request");
+                let asked = Asked::Subscription(subscription);
+                self.asked.push(asked).expect(rt, "memory");
             }
             Step::Apply(number) => {
-                let (responder, receiver) = oneshot::channel(alloc)?;
-                self.asked.push(Asked::Applied(receiver))?;
+                let (responder, receiver) = oneshot::channel(rt.alloc()).expect(rt, "memory");
+                let asked = Asked::Applied(receiver);
+                self.asked.push(asked).expect(rt, "memory");
                 let message = Message::subscribe(digest(number), Answering::new(responder));
-                self.apply(alloc, 7, message);
+                self.apply(rt.alloc(), 7, message);
             }
             Step::Take => {
                 if let Some((ticket, message)) = self.engine.requests().take() {
-                    self.apply(alloc, ticket, message);
+                    self.apply(rt.alloc(), ticket, message);
                 }
             }
             Step::Drop(from, to) => {
@@ -220,14 +225,13 @@ where
                 }
             }
             Step::Poll(awaited, dropped) => {
-                self.poll(alloc)?;
+                self.poll(rt.alloc()).expect(rt, "memory");
                 let metrics = self.engine.metrics();
-                return Ok(
-                    metrics.waiters() == awaited && metrics.subscribe(Status::Dropped) == dropped,
-                );
+                return metrics.waiters() == awaited
+                    && metrics.subscribe(Status::Dropped) == dropped;
             }
         }
-        Ok(true)
+        true
     }
 
     /// Applies a request by hand.
@@ -243,7 +247,7 @@ where
     }
 
     /// Polls the engine until it has nothing to do.
-    fn poll(&mut self, alloc: Global) -> Result<(), Fail> {
+    fn poll(&mut self, alloc: Global) -> Result<(), AllocError> {
         let mut cx = self.task.begin();
         let turns = drive(alloc, &mut self.engine, &mut cx, &mut self.network, POLLS);
         // The task is to be polled again.

@@ -9,6 +9,7 @@ use commonware_broadcast::buffered::{
 use futures::task::{Context, Poll};
 use std::alloc::{AllocError, AllocGlobal, Global};
 use std::marker::Model;
+use std::process::Abort;
 use std::sync::Wait;
 
 /// A counter of a node.
@@ -44,11 +45,12 @@ impl<R: Wait + Clone + Drop> Node<R> {
     pub fn new(
         rt: &R,
         cfg: Config<u64, RangeCfg, Peers, Gated>,
-    ) -> Result<(Self, Mailbox<u64, TestMessage, R>), AllocError>
+    ) -> (Self, Mailbox<u64, TestMessage, R>)
     where
-        R: AllocGlobal,
+        R: Abort + AllocGlobal,
     {
-        made(rt.clone()?, rt.alloc(), cfg)
+        let own = rt.clone().expect(rt, "memory");
+        made(own, rt.alloc(), cfg).expect(rt, "memory")
     }
 
     /// Polls the engine once.

@@ -7,6 +7,7 @@ use commonware_broadcast::buffered::Turn;
 use futures::task::Poll;
 use memory_node::support::task::Task;
 use std::alloc::{AllocError, AllocGlobal, Global};
+use std::process::Abort;
 use std::random::RandomSource;
 use std::sync::Wait;
 
@@ -29,12 +30,13 @@ impl<R: Wait + Clone + Drop> Nodes<R> {
     }
 
     /// Adds the task and the network of one more engine.
-    pub fn add_task(&mut self, rt: &R) -> Result<(), AllocError>
+    pub fn add_task(&mut self, rt: &R)
     where
-        R: RandomSource + AllocGlobal,
+        R: Abort + RandomSource + AllocGlobal,
     {
-        self.tasks.push(Task::new(rt)?)?;
-        self.wires.add(rt.alloc())
+        let task = Task::new(rt).expect(rt, "memory");
+        self.tasks.push(task).expect(rt, "memory");
+        self.wires.add(rt.alloc()).expect(rt, "memory");
     }
 
     /// Polls each engine, and delivers what they send, until all are pending. Returns whether they

@@ -6,7 +6,6 @@ use broadcast_core::{Cause, CodecError, Outcome};
 use broadcast_mailbox::Feedback;
 use commonware_broadcast::buffered::{EndCause, Status, Turn};
 use memory_node::support::message::To;
-use std::test::Fail;
 
 static ROWS: [Row; 13] = [
     Row {
@@ -272,6 +271,6 @@ fn rows() -> &'static [Row] {
 }
 
 #[test]
-fn turns_come_in_order_and_are_counted(rt: HostRuntime) -> Result<(), Fail> {
-    all_go(&rt, rows())
+fn turns_come_in_order_and_are_counted(rt: HostRuntime) {
+    all_go(&rt, rows());
 }

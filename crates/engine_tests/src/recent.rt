@@ -1,7 +1,6 @@
 //! The latest turns of an engine, of each kind.
 use broadcast_core::{Cause, CodecError, Outcome};
 use commonware_broadcast::buffered::{EndCause, Observer, Recent, Turn};
-use std::test::Fail;
 
 static TURNS: [Turn<u64, u8>; 9] = [
     Turn::Peers,
@@ -20,16 +19,16 @@ fn turns() -> &'static [Turn<u64, u8>] {
 }
 
 #[test]
-fn a_turn_of_each_kind_is_kept(rt: HostRuntime) -> Result<(), Fail> {
-    let mut recent = Recent::new(rt.alloc(), turns().len())?;
+fn a_turn_of_each_kind_is_kept(rt: HostRuntime) {
+    let mut recent = Recent::new(rt.alloc(), turns().len()).expect(&rt, "memory");
     for turn in turns() {
         recent.turn(turn);
     }
     let mut kept = Vec::new(rt.alloc());
     for turn in recent.turns() {
-        kept.push(turn.clone()?)?;
+        let turn = turn.clone().expect(&rt, "memory");
+        kept.push(turn).expect(&rt, "memory");
     }
     assert_eq!(rt; kept.as_slice(), turns());
     assert_eq!(rt; recent.seen(), 9);
-    Ok(())
 }

@@ -4,11 +4,11 @@ use futures::task::Poll;
 use memory_network::{Mail, Network};
 use memory_node::support::message::{To, peers, recipients};
 use memory_node::support::task::Task;
-use std::alloc::{AllocError, AllocGlobal};
+use std::alloc::AllocGlobal;
+use std::process::Abort;
 use std::random::RandomSource;
 use std::sync::atomic::Ordering;
 use std::sync::{Arc, Wait};
-use std::test::Fail;
 
 /// Recipients, and which of the nodes 2, 3 and 4 are handed a payload of the node 1.
 struct Row(To, &'static [u64]);
@@ -29,30 +29,31 @@ fn rows() -> &'static [Row] {
 static BYTES: [u8; 2000] = [7; 2000];
 
 /// Sends a payload of node 1 to the recipients. Returns the keys of the nodes that were handed it.
-fn handed<R>(rt: &R, to: To) -> Result<Vec<u64>, Fail>
+fn handed<R>(rt: &R, to: To) -> Vec<u64>
 where
-    R: Wait + RandomSource + AllocGlobal + Clone + Drop,
+    R: Wait + Abort + RandomSource + AllocGlobal + Clone + Drop,
 {
-    let network = Network::between(rt, &[1, 2, 3, 4])?;
-    let mut ends = network.join(rt, &1)?;
-    let bytes = Vec::from_slice(rt.alloc(), &BYTES)?;
-    ends.sender.send(recipients(rt.alloc(), to)?, bytes, false);
-    Ok(holders(rt, network.mails())?)
+    let network = Network::between(rt, &[1, 2, 3, 4]).expect(rt, "memory");
+    let mut ends = network.join(rt, &1).expect(rt, "a node");
+    let bytes = Vec::from_slice(rt.alloc(), &BYTES).expect(rt, "memory");
+    let recipients = recipients(rt.alloc(), to).expect(rt, "memory");
+    ends.sender.send(recipients, bytes, false);
+    holders(rt, network.mails())
 }
 
 /// Returns the keys of the nodes that were handed the payload.
-fn holders<R>(rt: &R, mails: &[Arc<Mail<u64>>]) -> Result<Vec<u64>, AllocError>
+fn holders<R>(rt: &R, mails: &[Arc<Mail<u64>>]) -> Vec<u64>
 where
-    R: Wait + RandomSource + AllocGlobal,
+    R: Wait + Abort + RandomSource + AllocGlobal,
 {
-    let mut task = Task::new(rt)?;
+    let mut task = Task::new(rt).expect(rt, "memory");
     let mut keys = Vec::new(rt.alloc());
     for mail in mails {
         if has_payload(rt, &mut task, mail) {
-            keys.push(mail.key)?;
+            keys.push(mail.key).expect(rt, "memory");
         }
     }
-    Ok(keys)
+    keys
 }
 
 /// Returns whether the node was handed the payload.
@@ -67,30 +68,33 @@ fn has_payload<R: Wait>(rt: &R, task: &mut Task, mail: &Mail<u64>) -> bool {
 }
 
 #[test]
-fn recipients_alone_are_handed_a_payload(rt: HostRuntime) -> Result<(), Fail> {
+fn recipients_alone_are_handed_a_payload(rt: HostRuntime) {
     for (place, row) in rows().iter().enumerate() {
         let Row(to, keys) = row;
-        assert!(rt; handed(&rt, *to)?.as_slice() == *keys, "row {place}");
+        assert!(rt; handed(&rt, *to).as_slice() == *keys, "row {place}");
     }
-    Ok(())
 }
 
 /// Asks a node whether it has a peer set, before and after it is given one more, and after each of
 /// two polls. Returns whether it had one each time, and how often it was asked by then.
-fn asked<R>(rt: &R) -> Result<[(bool, u64); 4], Fail>
+fn asked<R>(rt: &R) -> [(bool, u64); 4]
 where
-    R: Wait + RandomSource + AllocGlobal + Clone + Drop,
+    R: Wait + Abort + RandomSource + AllocGlobal + Clone + Drop,
 {
-    let mut ends = Network::between(rt, &[1])?.join(rt, &1)?;
-    let mut task = Task::new(rt)?;
+    let mut ends = Network::between(rt, &[1])
+        .expect(rt, "memory")
+        .join(rt, &1)
+        .expect(rt, "a node");
+    let mut task = Task::new(rt).expect(rt, "memory");
     let first = ask(&ends.provider, &ends.mail);
-    ends.mail.set_peers(rt, peers(rt.alloc(), &[1, 2])?)?;
+    let peers = peers(rt.alloc(), &[1, 2]).expect(rt, "memory");
+    ends.mail.set_peers(rt, peers).expect(rt, "memory");
     let second = ask(&ends.provider, &ends.mail);
     poll(&mut ends.provider, &mut task);
     let third = ask(&ends.provider, &ends.mail);
     poll(&mut ends.provider, &mut task);
     let fourth = ask(&ends.provider, &ends.mail);
-    Ok([first, second, third, fourth])
+    [first, second, third, fourth]
 }
 
 /// Asks the provider whether it has a peer set. Returns that, and how often the node was asked.
@@ -107,8 +111,7 @@ fn poll<B: Provider<u64>>(provider: &mut B, task: &mut Task) {
 }
 
 #[test]
-fn a_node_tells_whether_it_has_a_peer_set(rt: HostRuntime) -> Result<(), Fail> {
+fn a_node_tells_whether_it_has_a_peer_set(rt: HostRuntime) {
     let expected = [(true, 1), (true, 2), (true, 3), (false, 4)];
-    assert_eq!(rt; asked(&rt)?, expected);
-    Ok(())
+    assert_eq!(rt; asked(&rt), expected);
 }

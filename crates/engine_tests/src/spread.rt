@@ -8,10 +8,10 @@ use memory_network::{Mail, Outbound};
 use memory_node::keys::key_of;
 use memory_node::support::task::Task;
 use std::alloc::{AllocError, AllocGlobal};
+use std::process::Abort;
 use std::random::RandomSource;
 use std::sync::atomic::{AtomicU64, Ordering};
 use std::sync::{Arc, Wait};
-use std::test::Fail;
 
 /// A key of which the second copy can't be made.
 #[derive(Drop)]
@@ -53,25 +53,27 @@ impl PublicKey for Scarce {
 
 /// Sends a byte of node 1 to the nodes 2, 3 and 4. There is no copy of its key for the second of
 /// them. Returns which of them are handed the byte.
-fn handed<R>(rt: &R) -> Result<[bool; 3], Fail>
+fn handed<R>(rt: &R) -> [bool; 3]
 where
-    R: Wait + RandomSource + AllocGlobal + Clone + Drop,
+    R: Wait + Abort + RandomSource + AllocGlobal + Clone + Drop,
 {
     let mut mails = Vec::new(rt.alloc());
     let mut others = Vec::new(rt.alloc());
     for number in [2, 3, 4] {
-        let mail = Arc::new(rt.alloc(), Mail::new(rt.alloc(), Scarce::new(number)))?;
-        others.push(Arc::try_clone(&mail)?)?;
-        mails.push(mail)?;
+        let mail = Mail::new(rt.alloc(), Scarce::new(number));
+        let mail = Arc::new(rt.alloc(), mail).expect(rt, "memory");
+        let other = Arc::try_clone(&mail).expect(rt, "memory");
+        others.push(other).expect(rt, "memory");
+        mails.push(mail).expect(rt, "memory");
     }
-    let outbound = Outbound::new(rt, &Scarce::new(1), others)?;
-    outbound.spread(&Recipients::All, &[7])?;
-    let mut task = Task::new(rt)?;
+    let outbound = Outbound::new(rt, &Scarce::new(1), others).expect(rt, "memory");
+    outbound.spread(&Recipients::All, &[7]).expect(rt, "memory");
+    let mut task = Task::new(rt).expect(rt, "memory");
     let mut handed = [false; 3];
     for (place, mail) in handed.iter_mut().zip(&mails) {
         *place = has_byte(rt, &mut task, mail);
     }
-    Ok(handed)
+    handed
 }
 
 /// Returns whether the node was handed the byte.
@@ -86,13 +88,12 @@ fn has_byte<R: Wait>(rt: &R, task: &mut Task, mail: &Mail<Scarce>) -> bool {
 }
 
 #[test]
-fn a_payload_that_is_lost_for_one_node_is_handed_to_the_next(rt: HostRuntime) -> Result<(), Fail> {
-    assert_eq!(rt; handed(&rt)?, [true, false, true]);
-    Ok(())
+fn a_payload_that_is_lost_for_one_node_is_handed_to_the_next(rt: HostRuntime) {
+    assert_eq!(rt; handed(&rt), [true, false, true]);
 }
 
 #[test]
-fn keys_are_sorted_as_their_numbers(rt: HostRuntime) -> Result<(), Fail> {
+fn keys_are_sorted_as_their_numbers(rt: HostRuntime) {
     let numbers = [0, 1, 255, 256, 257, u64::MAX];
     for one in &numbers {
         for other in &numbers {
@@ -100,5 +101,4 @@ fn keys_are_sorted_as_their_numbers(rt: HostRuntime) -> Result<(), Fail> {
             assert_eq!(rt; sorted, one.cmp(other), "{one} and {other}");
         }
     }
-    Ok(())
 }

@@ -4,7 +4,6 @@ use broadcast_world::WorldError;
 use commonware_broadcast::buffered::{NetworkFailed, StartError};
 use std::alloc::{AllocError, Global};
 use std::fmt::Display;
-use std::test::Fail;
 
 /// The errors, by who returns them.
 #[derive(Clone, Copy)]
@@ -46,10 +45,9 @@ fn is_told(alloc: Global, error: Told, text: &str) -> Result<bool, AllocError> {
 }
 
 #[test]
-fn errors_are_told(rt: HostRuntime) -> Result<(), Fail> {
+fn errors_are_told(rt: HostRuntime) {
     for (error, text) in texts() {
-        let told = is_told(rt.alloc(), *error, text)?;
+        let told = is_told(rt.alloc(), *error, text).expect(&rt, "memory");
         assert!(rt; told, "{text}");
     }
-    Ok(())
 }

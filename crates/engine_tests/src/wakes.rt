@@ -3,7 +3,6 @@ use super::act::{Act, Row, all_go};
 use broadcast_core::Outcome;
 use commonware_broadcast::buffered::{EndCause, Turn};
 use memory_node::support::message::To;
-use std::test::Fail;
 
 static ROWS: [Row; 7] = [
     Row {
@@ -212,6 +211,6 @@ fn rows() -> &'static [Row] {
 }
 
 #[test]
-fn each_source_wakes_a_pending_engine(rt: HostRuntime) -> Result<(), Fail> {
-    all_go(&rt, rows())
+fn each_source_wakes_a_pending_engine(rt: HostRuntime) {
+    all_go(&rt, rows());
 }

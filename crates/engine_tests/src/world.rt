@@ -8,6 +8,7 @@ use super::wires::{Wires, place};
 use memory_node::support::message::payload;
 use std::alloc::{AllocError, AllocGlobal, Global};
 use std::num::NonZeroUsize;
+use std::process::Abort;
 use std::random::RandomSource;
 use std::sync::Wait;
 
@@ -29,53 +30,52 @@ pub struct World<R: Wait> {
 
 impl<R> World<R>
 where
-    R: Wait + RandomSource + AllocGlobal + Clone + Send + Drop + 'static,
+    R: Wait + Abort + RandomSource + AllocGlobal + Clone + Send + Drop + 'static,
 {
     /// Creates a world of new nodes.
-    pub fn new(rt: &R, sizes: Sizes) -> Result<Box<Self>, AllocError> {
+    pub fn new(rt: &R, sizes: Sizes) -> Box<Self> {
         let alloc = rt.alloc();
         let world = World {
             nodes: Nodes::new(alloc),
             callers: Callers::new(alloc),
             feeds: Feeds(Vec::new(alloc)),
         };
-        let mut world = Box::new(alloc, world)?;
-        world.add_all(rt, sizes)?;
-        Ok(world)
+        let mut world = Box::new(alloc, world).expect(rt, "memory");
+        world.add_all(rt, sizes);
+        world
     }
 
     /// Adds the nodes.
-    fn add_all(&mut self, rt: &R, sizes: Sizes) -> Result<(), AllocError> {
+    fn add_all(&mut self, rt: &R, sizes: Sizes) {
         for key in 1..=sizes.nodes {
-            self.feeds.add(rt.alloc())?;
-            self.add(rt, key, sizes)?;
+            self.feeds.add(rt.alloc()).expect(rt, "memory");
+            self.add(rt, key, sizes);
         }
-        Ok(())
     }
 
     /// Adds the engine of the node of the key, and its mailbox.
-    fn add(&mut self, rt: &R, key: u64, sizes: Sizes) -> Result<(), AllocError> {
+    fn add(&mut self, rt: &R, key: u64, sizes: Sizes) {
         // With room for both, nothing can fail while the engine is at hand.
-        self.callers.mailboxes.reserve(1)?;
-        self.nodes.engines.reserve(1)?;
-        let cfg = self.feeds.config(key, sizes)?;
-        let (node, mailbox) = Node::new(rt, cfg)?;
+        self.callers.mailboxes.reserve(1).expect(rt, "memory");
+        self.nodes.engines.reserve(1).expect(rt, "memory");
+        let cfg = self.feeds.config(key, sizes).expect(rt, "a configuration");
+        let (node, mailbox) = Node::new(rt, cfg);
         self.callers.mailboxes.push_reserved(mailbox);
         self.nodes.engines.push_reserved(node);
-        self.nodes.add_task(rt)
+        self.nodes.add_task(rt);
     }
 
     /// Does what the action says, and counts what it woke. Returns whether it goes as it should.
-    pub fn goes(&mut self, rt: &R, alloc: Global, act: Act) -> Result<bool, AllocError> {
-        let goes = self.goes_outside(rt, alloc, act)?;
+    pub fn goes(&mut self, rt: &R, alloc: Global, act: Act) -> bool {
+        let goes = self.goes_outside(rt, alloc, act);
         self.nodes.look();
-        Ok(goes)
+        goes
     }
 
     /// Does what the action says. Returns whether it goes as it should.
-    fn goes_outside(&mut self, rt: &R, alloc: Global, act: Act) -> Result<bool, AllocError> {
+    fn goes_outside(&mut self, rt: &R, alloc: Global, act: Act) -> bool {
         match act {
-            Act::AllTrack(keys) => self.track_all(alloc, keys),
+            Act::AllTrack(keys) => self.track_all(alloc, keys).expect(rt, "memory"),
             Act::Finds(..) | Act::Hears(..) => self.finds(rt, alloc, act),
             Act::Broadcast(..)
             | Act::BroadcastAs(..)
@@ -84,7 +84,7 @@ where
             | Act::Get(..)
             | Act::Gives(..)
             | Act::Hang(..) => self.callers.goes(rt, alloc, act),
-            _ => goes_inside(&mut self.nodes, &self.feeds, alloc, act),
+            _ => goes_inside(&mut self.nodes, &self.feeds, alloc, act).expect(rt, "memory"),
         }
     }
 
@@ -96,10 +96,10 @@ where
 
     /// Asks, lets all nodes run, and returns whether a message came or not, as the action says. The
     /// future is dropped.
-    fn finds(&mut self, rt: &R, alloc: Global, act: Act) -> Result<bool, AllocError> {
-        let asked = self.callers.ask(alloc, act)?;
-        let ran = self.nodes.run(alloc)?;
-        Ok(asked && ran && self.callers.hears(rt, act))
+    fn finds(&mut self, rt: &R, alloc: Global, act: Act) -> bool {
+        let asked = self.callers.ask(alloc, act).expect(rt, "memory");
+        let ran = self.nodes.run(alloc).expect(rt, "memory");
+        asked && ran && self.callers.hears(rt, act)
     }
 }
 
