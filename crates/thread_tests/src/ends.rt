@@ -1,11 +1,11 @@
 //! How a started engine ends that nobody stops.
 use super::patient::pause;
 use broadcast_core::{Key, TestMessage};
-use broadcast_mailbox::MailboxError;
 use commonware_broadcast::buffered::{EndCause, Mailbox, Runtime, Sequential};
 use memory_network::Mail;
 use memory_node::node::Node;
 use memory_node::support::nodes::{broadcast, gets, start};
+use std::process::Abort;
 use std::sync::Arc;
 use std::sync::atomic::Ordering;
 use std::test::Fail;
@@ -24,45 +24,38 @@ fn is_idle(clock: &impl Clock, mail: &Mail<Key>) -> bool {
 
 /// Lets the network of a node fail after a while. Returns whether its engine was idle in it, and
 /// accepted a broadcast before the failure.
-fn fail_later<R>(
-    rt: &R,
-    mailbox: &Mailbox<Key, TestMessage, R>,
-    mail: &Mail<Key>,
-) -> Result<bool, MailboxError>
+fn fail_later<R>(rt: &R, mailbox: &Mailbox<Key, TestMessage, R>, mail: &Mail<Key>) -> bool
 where
-    R: Runtime,
+    R: Runtime + Abort,
 {
-    let _found = gets(rt, mailbox, 1)?;
+    let _found = gets(rt, mailbox, 1).expect(rt, "a get");
     let is_idle = is_idle(rt, mail);
-    let feedback = broadcast(rt, mailbox, 1)?;
-    mail.fail(rt)?;
-    Ok(is_idle && feedback.accepted())
+    let feedback = broadcast(rt, mailbox, 1).expect(rt, "a broadcast");
+    mail.fail(rt).expect(rt, "memory");
+    is_idle && feedback.accepted()
 }
 
 /// Starts a thread that lets the network of a node fail later.
-fn start_failing<R>(
-    rt: &R,
-    node: &Node<TestMessage, R>,
-) -> Result<JoinHandle<Result<bool, MailboxError>>, Fail>
+fn start_failing<R>(rt: &R, node: &Node<TestMessage, R>) -> JoinHandle<bool>
 where
-    R: Runtime,
+    R: Runtime + Abort,
 {
-    let mailbox = node.mailbox.clone()?;
-    let mail = Arc::try_clone(&node.mail)?;
-    let own = rt.clone()?;
-    Ok(thread::spawn(rt, move || fail_later(&own, &mailbox, &mail))?)
+    let mailbox = node.mailbox.clone().expect(rt, "memory");
+    let mail = Arc::try_clone(&node.mail).expect(rt, "memory");
+    let own = rt.clone().expect(rt, "memory");
+    thread::spawn(rt, move || fail_later(&own, &mailbox, &mail)).expect(rt, "a thread")
 }
 
 /// Joins an engine whose network fails later. Returns whether it was idle before and accepted a
 /// broadcast, and why it ended.
 fn join<R>(rt: &R) -> Result<(bool, EndCause), Fail>
 where
-    R: Runtime,
+    R: Runtime + Abort,
 {
     let node = start(rt, Sequential)?;
-    let failing = start_failing(rt, &node)?;
+    let failing = start_failing(rt, &node);
     let cause = node.join(rt).cause();
-    Ok((failing.join(rt)?, cause))
+    Ok((failing.join(rt), cause))
 }
 
 #[test]

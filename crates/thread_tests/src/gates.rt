@@ -12,10 +12,9 @@ use futures::future::poll_fn;
 use futures::task::{Context, Poll};
 use memory_node::support::task::Task;
 use std::alloc::{AllocError, AllocGlobal, Global};
-use std::io;
+use std::process::Abort;
 use std::sync::Arc;
 use std::sync::atomic::{AtomicU64, Ordering};
-use std::test::Fail;
 use std::thread::{self, Threads};
 
 /// How often a job is polled while its worker waits at the gate.
@@ -99,31 +98,34 @@ impl<R: Threads> Work<Meeting, R> for TestMessage {
 
 /// Lets two jobs meet. Returns how many workers saw the other, whether the first was pending until
 /// the second was started, and whether each job gave the digest of its message.
-fn meet<R>(rt: &R) -> Result<(u64, bool, bool), Fail>
+fn meet<R>(rt: &R) -> (u64, bool, bool)
 where
-    R: Runtime,
+    R: Runtime + Abort,
 {
-    let gate = Meeting::new(rt.alloc())?;
-    let strategy = Threaded::new(rt.clone()?, rt.alloc(), Arc::try_clone(&gate)?);
-    let (pending, equal) = digests(rt, &gate, &strategy)?;
-    Ok((gate.met(), pending, equal))
+    let gate = Meeting::new(rt.alloc()).expect(rt, "memory");
+    let copy = rt.clone().expect(rt, "memory");
+    let strategy = Threaded::new(copy, rt.alloc(), Arc::try_clone(&gate).expect(rt, "memory"));
+    let (pending, equal) = digests(rt, &gate, &strategy);
+    (gate.met(), pending, equal)
 }
 
 /// Starts two jobs before it waits for one, the second once a worker waits at the gate. Returns
 /// whether the first was pending until then, and whether each gave the digest of its message.
-fn digests<R>(rt: &R, gate: &Meeting, strategy: &Threaded<Meeting, R>) -> Result<(bool, bool), Fail>
+fn digests<R>(rt: &R, gate: &Meeting, strategy: &Threaded<Meeting, R>) -> (bool, bool)
 where
-    R: Runtime,
+    R: Runtime + Abort,
 {
-    let (first, second) = (message(rt.alloc(), 1)?, message(rt.alloc(), 2)?);
+    let first = message(rt.alloc(), 1).expect(rt, "memory");
+    let second = message(rt.alloc(), 2).expect(rt, "memory");
     let wanted = (first.digest(), second.digest());
-    let mut one = strategy.start(first)?;
-    let pending = gate.waits_for(1) && is_pending(&mut Task::new(rt)?, &mut one);
-    let mut two = strategy.start(second)?;
-    Ok((
+    let mut one = strategy.start(first).expect(rt, "a job");
+    let pending = gate.waits_for(1)
+        && is_pending(&mut Task::new(rt).expect(rt, "memory"), &mut one);
+    let mut two = strategy.start(second).expect(rt, "a job");
+    (
         pending,
-        (digest(rt, &mut one)?, digest(rt, &mut two)?) == wanted,
-    ))
+        (digest(rt, &mut one), digest(rt, &mut two)) == wanted,
+    )
 }
 
 /// Polls a job some times. Returns whether it stays pending, and nothing wakes its task.
@@ -144,12 +146,12 @@ where
 }
 
 /// Waits for the digest of a job.
-fn digest<R>(rt: &R, job: &mut Working<TestMessage, Meeting, R>) -> io::Result<Digest>
+fn digest<R>(rt: &R, job: &mut Working<TestMessage, Meeting, R>) -> Digest
 where
-    R: Runtime,
+    R: Runtime + Abort,
 {
-    let (_, digest) = block_on(rt, poll_fn(|cx| job.poll(cx)))?;
-    Ok(digest)
+    let (_, digest) = block_on(rt, poll_fn(|cx| job.poll(cx))).expect(rt, "a task");
+    digest
 }
 
 /// Returns a message with this content.
@@ -158,7 +160,6 @@ fn message(alloc: Global, content: u8) -> Result<TestMessage, AllocError> {
 }
 
 #[test]
-fn threaded_uses_another_thread(rt: HostRuntime) -> Result<(), Fail> {
-    assert_eq!(rt; meet(&rt)?, (2, true, true));
-    Ok(())
+fn threaded_uses_another_thread(rt: HostRuntime) {
+    assert_eq!(rt; meet(&rt), (2, true, true));
 }

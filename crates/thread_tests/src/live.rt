@@ -8,6 +8,7 @@ use commonware_broadcast::buffered::{
 use memory_node::keys::key_of;
 use memory_node::node::Node;
 use memory_node::support::nodes::{broadcast, gets, send, start, subscribe, track};
+use std::process::Abort;
 use std::sync::atomic::Ordering;
 use std::test::Fail;
 use std::time::Duration;
@@ -34,36 +35,39 @@ fn counts(metrics: &Metrics<Key>) -> Counts {
 
 /// Feeds a node with a payload that is no message and with one for which a subscriber waits, and
 /// gets both letters. Returns a subscription that waits, for which there is no message.
-fn feed<R>(rt: &R, node: &Node<TestMessage, R>) -> Result<Subscription<TestMessage>, Fail>
+fn feed<R>(rt: &R, node: &Node<TestMessage, R>) -> Subscription<TestMessage>
 where
-    R: Runtime,
+    R: Runtime + Abort,
 {
-    let served = subscribe(rt, &node.mailbox, 2)?;
-    track(rt, &node.mail, &[1, 5])?;
-    send(rt, &node.mail, 5, &[9])?;
-    send(rt, &node.mail, 5, &[0, 0, 0, 0, 0, 0, 0, 1, 2])?;
+    let served = subscribe(rt, &node.mailbox, 2).expect(rt, "a subscription");
+    track(rt, &node.mail, &[1, 5]).expect(rt, "memory");
+    send(rt, &node.mail, 5, &[9]).expect(rt, "memory");
+    send(rt, &node.mail, 5, &[0, 0, 0, 0, 0, 0, 0, 1, 2]).expect(rt, "memory");
     let waits = !matches!(served.wait_timeout(rt, Duration::from_secs(60)), Ok(Ok(_)));
-    let open = subscribe(rt, &node.mailbox, 3)?;
-    if waits || !gets(rt, &node.mailbox, 2)? || gets(rt, &node.mailbox, 1)? {
-        return Err("the node answers otherwise")?;
+    let open = subscribe(rt, &node.mailbox, 3).expect(rt, "a subscription");
+    if waits
+        || !gets(rt, &node.mailbox, 2).expect(rt, "a get")
+        || gets(rt, &node.mailbox, 1).expect(rt, "a get")
+    {
+        panic!(rt; "the node answers otherwise");
     }
-    Ok(open)
+    open
 }
 
 /// Returns what a fed node tells of its counters, and how often that let its engine poll.
 fn told<R>(rt: &R) -> Result<(Counts, Counts, u64), Fail>
 where
-    R: Runtime,
+    R: Runtime + Abort,
 {
     let node = start(rt, Sequential)?;
-    let open = feed(rt, &node)?;
-    let busy = counts(&node.handle.metrics(rt)?);
+    let open = feed(rt, &node);
+    let busy = counts(&node.handle.metrics(rt).expect(rt, "counters"));
     // It may be polled once more after its answer.
     for _ in 0..100 {
         pause(rt);
     }
     let polls = node.mail.polls.load(Ordering::SeqCst);
-    let idle = counts(&node.handle.metrics(rt)?);
+    let idle = counts(&node.handle.metrics(rt).expect(rt, "counters"));
     let again = node.mail.polls.load(Ordering::SeqCst);
     drop((open, node));
     Ok((busy, idle, again.wrapping_sub(polls)))
@@ -95,10 +99,10 @@ where
 /// does not tell its counters then.
 fn ended<R>(rt: &R) -> Result<(bool, bool, Option<MetricsError>), Fail>
 where
-    R: Runtime,
+    R: Runtime + Abort,
 {
     let node = start(rt, Sequential)?;
-    let _answered = gets(rt, &node.mailbox, 1)?;
+    let _answered = gets(rt, &node.mailbox, 1).expect(rt, "a get");
     let before = node.handle.is_finished();
     node.handle.stop();
     let after = wait_for_end(rt, &node.handle);
@@ -116,7 +120,7 @@ fn an_engine_that_ended_tells_so(rt: HostRuntime) -> Result<(), Fail> {
 /// Returns whether an engine ends whose handle is dropped.
 fn ends_when_dropped<R>(rt: &R) -> Result<bool, Fail>
 where
-    R: Runtime,
+    R: Runtime + Abort,
 {
     let Node {
         mailbox,
@@ -124,7 +128,7 @@ where
         handle,
     } = start(rt, Sequential)?;
     drop(handle);
-    Ok(wait_for_close(rt, &mailbox)?)
+    Ok(wait_for_close(rt, &mailbox).expect(rt, "a broadcast"))
 }
 
 #[test]
@@ -137,7 +141,7 @@ fn a_dropped_handle_stops_its_engine(rt: HostRuntime) -> Result<(), Fail> {
 /// whether it ended.
 fn runs_on<R>(rt: &R) -> Result<(bool, bool), Fail>
 where
-    R: Runtime,
+    R: Runtime + Abort,
 {
     let Node {
         mailbox,
@@ -148,9 +152,12 @@ where
     for _ in 0..100 {
         pause(rt);
     }
-    let runs = broadcast(rt, &mailbox, 1)?.accepted();
-    mail.fail(rt)?;
-    Ok((runs, wait_for_close(rt, &mailbox)?))
+    let runs = broadcast(rt, &mailbox, 1)
+        .expect(rt, "a broadcast")
+        .accepted();
+    mail.fail(rt).expect(rt, "memory");
+    let closed = wait_for_close(rt, &mailbox).expect(rt, "a broadcast");
+    Ok((runs, closed))
 }
 
 #[test]

@@ -7,66 +7,68 @@ use commonware_broadcast::buffered::{self, Mailbox, Open, Pool, Runtime, Threade
 use memory_network::Mail;
 use memory_node::node::{Node, config};
 use memory_node::support::nodes::{broadcast, network, send, start, track};
+use memory_node::support::poor::Poor;
 use std::alloc::AllocGlobal;
+use std::process::Abort;
 use std::sync::Arc;
 use std::test::Fail;
 
 /// Starts the node of number 1, whose messages are digested on other threads.
-pub fn start_threaded<R>(rt: &R) -> Result<Node<TestMessage, R>, Fail>
+pub fn start_threaded<R>(rt: &R) -> Node<TestMessage, R>
 where
-    R: Runtime,
+    R: Runtime + Abort,
 {
-    start_gated(rt, RangeCfg::any(), Open)
+    start_gated(rt, rt, RangeCfg::any(), Open)
 }
 
 /// Starts the node of number 1, whose messages are digested on the thread of the pool.
-pub fn start_pooled<R>(rt: &R, pool: Pool<TestMessage, R>) -> Result<Node<TestMessage, R>, Fail>
+pub fn start_pooled<R>(rt: &Poor<R>, pool: Pool<TestMessage, Poor<R>>) -> Node<TestMessage, Poor<R>>
 where
-    R: Runtime,
+    R: Runtime + Abort,
 {
-    start_gated(rt, RangeCfg::any(), pool)
+    start_gated(&rt.rt, rt, RangeCfg::any(), pool)
 }
 
 /// Starts the node of number 1, whose messages are digested once they pass the gate. It is generic
-/// in the message, since the check refuses a bound on what `TestMessage` sends to a thread.
-fn start_gated<M, G, R>(rt: &R, codec_config: M::Cfg, gate: G) -> Result<Node<M, R>, Fail>
+/// in the message, since the check refuses a bound on what `TestMessage` sends to a thread. `host`
+/// ends the process if it can't be started.
+fn start_gated<M, G, H, R>(host: &H, rt: &R, codec_config: M::Cfg, gate: G) -> Node<M, R>
 where
     M: Digestible + Codec + Work<G, R> + Send + Sync + 'static,
     M::Digest: 'static,
     M::Cfg: Send + Drop + 'static,
     G: Send + Sync + Drop + 'static,
+    H: Abort,
     R: Runtime,
 {
-    let (mail, network) = network(rt)?;
-    let strategy = Threaded::new(rt.clone()?, rt.alloc(), Arc::new(rt.alloc(), gate)?);
-    let cfg = config(rt, codec_config, strategy, &mail, 4)?;
-    let (handle, mailbox) = buffered::start_threaded(rt, cfg, network)?;
-    Ok(Node {
+    let (mail, network) = network(rt).expect(host, "memory");
+    let copy = rt.clone().expect(host, "memory");
+    let gate = Arc::new(rt.alloc(), gate).expect(host, "memory");
+    let strategy = Threaded::new(copy, rt.alloc(), gate);
+    let cfg = config(rt, codec_config, strategy, &mail, 4).expect(host, "memory");
+    let (handle, mailbox) = buffered::start_threaded(rt, cfg, network).expect(host, "an engine");
+    Node {
         mailbox,
         mail,
         handle,
-    })
+    }
 }
 
 /// Starts the node of number 1, whose jobs take part in a talk.
 pub fn start_patient<R>(rt: &R) -> Result<(Node<TestMessage, R>, Arc<Talk>), Fail>
 where
-    R: Runtime,
+    R: Runtime + Abort,
 {
-    let talk = Talk::new(rt)?;
-    let strategy = Patient::new(rt, &talk)?;
+    let talk = Talk::new(rt).expect(rt, "memory");
+    let strategy = Patient::new(rt, &talk).expect(rt, "memory");
     Ok((start(rt, strategy)?, talk))
 }
 
 /// Lets a job be pending at the node, which has the peer 5. It is of the message of the letter 2.
-pub fn hold<R: Runtime>(rt: &R, mail: &Mail<Key>, talk: &Talk) -> Result<(), Fail> {
-    track(rt, mail, &[1, 5])?;
-    send(rt, mail, 5, &[0, 0, 0, 0, 0, 0, 0, 1, 2])?;
-    if talk.wait_for_job(rt) {
-        Ok(())
-    } else {
-        Err("no job is pending")?
-    }
+pub fn hold<R: Runtime + Abort>(rt: &R, mail: &Mail<Key>, talk: &Talk) {
+    track(rt, mail, &[1, 5]).expect(rt, "memory");
+    send(rt, mail, 5, &[0, 0, 0, 0, 0, 0, 0, 1, 2]).expect(rt, "memory");
+    assert!(rt; talk.wait_for_job(rt), "no job is pending");
 }
 
 /// Waits until the mailbox is closed. Returns whether it is.

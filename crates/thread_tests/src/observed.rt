@@ -10,52 +10,60 @@ use memory_node::node::config;
 use memory_node::support::nodes::{digest, send};
 use std::alloc::{AllocError, AllocGlobal, Global};
 use std::io::{self, Write};
+use std::process::Abort;
 use std::sync::Arc;
-use std::test::Fail;
 
 /// Lets a node with the observer take some inputs, and end. Returns the observer.
-fn observe<R, W>(rt: &R, observer: W) -> Result<W, Fail>
+fn observe<R, W>(rt: &R, observer: W) -> W
 where
-    R: Runtime,
+    R: Runtime + Abort,
     W: Observer<Key, Digest> + Movable,
 {
-    let network = Network::between(rt, &[key_of(1), key_of(5)])?;
-    let ends = network.join(rt, &key_of(1))?;
-    let config = config(rt, RangeCfg::any(), Sequential, &ends.mail, 4)?;
+    let network = Network::between(rt, &[key_of(1), key_of(5)]).expect(rt, "memory");
+    let ends = network
+        .join(rt, &key_of(1))
+        .expect(rt, "the ends of a network");
+    let config = config(rt, RangeCfg::any(), Sequential, &ends.mail, 4).expect(rt, "memory");
     let network = (ends.sender, ends.receiver);
-    let (handle, mailbox) = config.observed_by(observer).start(rt, network)?;
-    ask(rt, &mailbox, &ends.mail)?;
-    Ok(handle.join(rt).into_observer())
+    let started = config.observed_by(observer).start(rt, network);
+    let (handle, mailbox) = started.expect(rt, "an engine");
+    ask(rt, &mailbox, &ends.mail);
+    handle.join(rt).into_observer()
 }
 
 /// Lets a node that digests on other threads take the same inputs, and end. Returns the observer.
-fn observe_threaded<R, W>(rt: &R, observer: W) -> Result<W, Fail>
+fn observe_threaded<R, W>(rt: &R, observer: W) -> W
 where
-    R: Runtime,
+    R: Runtime + Abort,
     W: Observer<Key, Digest> + Movable,
 {
-    let strategy = Threaded::new(rt.clone()?, rt.alloc(), Arc::new(rt.alloc(), Open)?);
-    let network = Network::between(rt, &[key_of(1), key_of(5)])?;
-    let ends = network.join(rt, &key_of(1))?;
-    let config = config(rt, RangeCfg::any(), strategy, &ends.mail, 4)?;
+    let copy = rt.clone().expect(rt, "memory");
+    let gate = Arc::new(rt.alloc(), Open).expect(rt, "memory");
+    let strategy = Threaded::new(copy, rt.alloc(), gate);
+    let network = Network::between(rt, &[key_of(1), key_of(5)]).expect(rt, "memory");
+    let ends = network
+        .join(rt, &key_of(1))
+        .expect(rt, "the ends of a network");
+    let config = config(rt, RangeCfg::any(), strategy, &ends.mail, 4).expect(rt, "memory");
     let network = (ends.sender, ends.receiver);
-    let (handle, mailbox) = config.observed_by(observer).start_threaded(rt, network)?;
-    ask(rt, &mailbox, &ends.mail)?;
-    Ok(handle.join(rt).into_observer())
+    let started = config.observed_by(observer).start_threaded(rt, network);
+    let (handle, mailbox) = started.expect(rt, "an engine");
+    ask(rt, &mailbox, &ends.mail);
+    handle.join(rt).into_observer()
 }
 
 /// Gives a node a get, and then a payload that is no message, one that is, and the end of its
 /// network.
-fn ask<R>(rt: &R, mailbox: &Mailbox<Key, TestMessage, R>, mail: &Mail<Key>) -> Result<(), Fail>
+fn ask<R>(rt: &R, mailbox: &Mailbox<Key, TestMessage, R>, mail: &Mail<Key>)
 where
-    R: Runtime,
+    R: Runtime + Abort,
 {
     // It is answered after the set was taken, since a peer set comes first.
-    let _none = mailbox.get(digest(rt.alloc(), 2)?)?.wait(rt);
-    send(rt, mail, 5, &[9])?;
-    send(rt, mail, 5, &[0, 0, 0, 0, 0, 0, 0, 1, 2])?;
-    mail.fail(rt)?;
-    Ok(())
+    let digest = digest(rt.alloc(), 2).expect(rt, "memory");
+    let _none = mailbox.get(digest).expect(rt, "a get").wait(rt);
+    send(rt, mail, 5, &[9]).expect(rt, "memory");
+    send(rt, mail, 5, &[0, 0, 0, 0, 0, 0, 0, 1, 2]).expect(rt, "memory");
+    mail.fail(rt).expect(rt, "memory");
 }
 
 /// The SHA-256 digest of the byte 2.
@@ -71,37 +79,42 @@ fn lines(alloc: Global) -> Result<String, AllocError> {
 }
 
 #[test]
-fn each_turn_is_a_line(rt: HostRuntime) -> Result<(), Fail> {
-    let seen = observe(&rt, Lines::new(Vec::new(rt.alloc())))?;
+fn each_turn_is_a_line(rt: HostRuntime) {
+    let seen = observe(&rt, Lines::new(Vec::new(rt.alloc())));
     assert!(rt; seen.error().is_none());
-    assert_eq!(rt; seen.into_inner().as_slice(), lines(rt.alloc())?.as_bytes());
-    Ok(())
+    let lines = lines(rt.alloc()).expect(&rt, "memory");
+    assert_eq!(rt; seen.into_inner().as_slice(), lines.as_bytes());
 }
 
 #[test]
-fn an_engine_that_digests_on_other_threads_tells_the_same(rt: HostRuntime) -> Result<(), Fail> {
-    let seen = observe_threaded(&rt, Lines::new(Vec::new(rt.alloc())))?;
-    assert_eq!(rt; seen.into_inner().as_slice(), lines(rt.alloc())?.as_bytes());
-    Ok(())
+fn an_engine_that_digests_on_other_threads_tells_the_same(rt: HostRuntime) {
+    let seen = observe_threaded(&rt, Lines::new(Vec::new(rt.alloc())));
+    let lines = lines(rt.alloc()).expect(&rt, "memory");
+    assert_eq!(rt; seen.into_inner().as_slice(), lines.as_bytes());
 }
 
 #[test]
-fn the_latest_turns_are_kept(rt: HostRuntime) -> Result<(), Fail> {
-    let both = (Recent::new(rt.alloc(), 3)?, SetNumber::new());
-    let (recent, sets) = observe(&rt, both)?;
+fn the_latest_turns_are_kept(rt: HostRuntime) {
+    let both = (
+        Recent::new(rt.alloc(), 3).expect(&rt, "memory"),
+        SetNumber::new(),
+    );
+    let (recent, sets) = observe(&rt, both);
+    let digest = digest(rt.alloc(), 2).expect(&rt, "memory");
     let expected = [
         Turn::Invalid(key_of(5), CodecError::EndOfBuffer),
-        Turn::Payload(key_of(5), digest(rt.alloc(), 2)?, Outcome::Inserted),
+        Turn::Payload(key_of(5), digest, Outcome::Inserted),
         Turn::Ended(EndCause::NetworkFailed),
     ];
     let mut turns = Vec::new(rt.alloc());
     for turn in recent.turns() {
-        turns.push(turn.clone()?)?;
+        turns
+            .push(turn.clone().expect(&rt, "memory"))
+            .expect(&rt, "memory");
     }
     assert_eq!(rt; turns.as_slice(), expected.as_slice());
     assert_eq!(rt; recent.seen(), 5);
     assert_eq!(rt; sets.number, 1);
-    Ok(())
 }
 
 /// A writer that takes one write, and then fails.
@@ -125,16 +138,16 @@ impl Write for Full {
 }
 
 #[test]
-fn a_failed_write_is_kept_and_the_engine_runs_on(rt: HostRuntime) -> Result<(), Fail> {
-    let both = (Lines::new(Full { writes: 0 }), Recent::new(rt.alloc(), 1)?);
-    let (lines, recent) = observe(&rt, both)?;
+fn a_failed_write_is_kept_and_the_engine_runs_on(rt: HostRuntime) {
+    let recent = Recent::new(rt.alloc(), 1).expect(&rt, "memory");
+    let both = (Lines::new(Full { writes: 0 }), recent);
+    let (lines, recent) = observe(&rt, both);
     assert_eq!(rt;
         lines.error().map(|error| error.kind()),
         Some(io::ErrorKind::StorageFull)
     );
     assert_eq!(rt; lines.into_inner().writes, 2);
     assert_eq!(rt; recent.seen(), 5);
-    Ok(())
 }
 
 /// Each kind of turn, and its line.
@@ -203,15 +216,16 @@ fn lines_of_turns() -> &'static [(Turn<u64, u8>, &'static str)] {
 }
 
 #[test]
-fn a_line_tells_which_turn_it_was(rt: HostRuntime) -> Result<(), Fail> {
+fn a_line_tells_which_turn_it_was(rt: HostRuntime) {
     for (turn, line) in lines_of_turns() {
         let mut lines = Lines::new(Vec::new(rt.alloc()));
         lines.turn(turn);
         let written = lines.into_inner();
         assert_eq!(rt;
             written.as_slice(),
-            format!(in rt.alloc(); "{line}\n")?.as_bytes()
+            format!(in rt.alloc(); "{line}\n")
+                .expect(&rt, "memory")
+                .as_bytes()
         );
     }
-    Ok(())
 }

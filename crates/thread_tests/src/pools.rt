@@ -11,8 +11,8 @@ use memory_node::support::nodes::{broadcast, gets, send, subscribe, track};
 use memory_node::support::poor::{Poor, Supply};
 use memory_node::support::task::Task;
 use std::alloc::{AllocError, AllocGlobal};
+use std::process::Abort;
 use std::sync::Arc;
-use std::test::Fail;
 use std::thread::{self, JoinHandle};
 use std::time::{Clock, Duration};
 
@@ -23,54 +23,54 @@ const SENT: [u8; 6] = [2, 3, 4, 5, 6, 7];
 const OWN: u8 = 1;
 
 /// Starts a pool, each of whose runtimes has the supply.
-fn start_pool<R>(rt: &R, supply: &Arc<Supply>) -> Result<Pool<TestMessage, Poor<R>>, AllocError>
+fn start_pool<R>(rt: &R, supply: &Arc<Supply>) -> Pool<TestMessage, Poor<R>>
 where
-    R: Runtime,
+    R: Runtime + Abort,
 {
-    let poor = Poor::new(rt, supply)?;
-    Pool::start(&poor, rt.alloc())
+    let poor = Poor::new(rt, supply).expect(rt, "memory");
+    Pool::start(&poor, rt.alloc()).expect(rt, "a pool")
 }
 
 /// Lets a peer send the message of the letter. Returns whether a subscriber and a get are given it.
-fn takes<R>(rt: &R, node: &Node<TestMessage, R>, letter: u8) -> Result<bool, Fail>
+fn takes<R>(rt: &Poor<R>, node: &Node<TestMessage, Poor<R>>, letter: u8) -> bool
 where
-    R: Runtime,
+    R: Runtime + Abort,
 {
-    let waiting = subscribe(rt, &node.mailbox, letter)?;
-    send(rt, &node.mail, 5, &[0, 0, 0, 0, 0, 0, 0, 1, letter])?;
+    let waiting = subscribe(rt, &node.mailbox, letter).expect(&rt.rt, "a subscription");
+    send(rt, &node.mail, 5, &[0, 0, 0, 0, 0, 0, 0, 1, letter]).expect(&rt.rt, "memory");
     let served = matches!(waiting.wait_timeout(rt, Duration::from_secs(60)), Ok(Ok(_)));
-    Ok(served && gets(rt, &node.mailbox, letter)?)
+    served && gets(rt, &node.mailbox, letter).expect(&rt.rt, "a get")
 }
 
 /// Lets a node take messages of a peer and broadcast one. Returns whether callers are given each.
-fn serves<R>(rt: &R, node: &Node<TestMessage, R>) -> Result<bool, Fail>
+fn serves<R>(rt: &Poor<R>, node: &Node<TestMessage, Poor<R>>) -> bool
 where
-    R: Runtime,
+    R: Runtime + Abort,
 {
-    track(rt, &node.mail, &[1, 5])?;
+    track(rt, &node.mail, &[1, 5]).expect(&rt.rt, "memory");
     for letter in SENT {
-        if !takes(rt, node, letter)? {
-            return Ok(false);
+        if !takes(rt, node, letter) {
+            return false;
         }
     }
-    let accepted = broadcast(rt, &node.mailbox, OWN)?.accepted();
-    Ok(accepted && gets(rt, &node.mailbox, OWN)?)
+    let feedback = broadcast(rt, &node.mailbox, OWN).expect(&rt.rt, "a broadcast");
+    feedback.accepted() && gets(rt, &node.mailbox, OWN).expect(&rt.rt, "a get")
 }
 
 /// Lets a node with the pool serve its callers, and stops it. Its network fails then, so that it
 /// ends also if it does not stop. Returns whether they were served, why it ended, and how many
 /// messages it took.
-fn run<R>(rt: &R, pool: Pool<TestMessage, R>) -> Result<(bool, EndCause, u64), Fail>
+fn run<R>(rt: &Poor<R>, pool: Pool<TestMessage, Poor<R>>) -> (bool, EndCause, u64)
 where
-    R: Runtime,
+    R: Runtime + Abort,
 {
-    let node = start_pooled(rt, pool)?;
-    let served = serves(rt, &node)?;
+    let node = start_pooled(rt, pool);
+    let served = serves(rt, &node);
     node.handle.stop();
-    node.mail.fail(rt)?;
+    node.mail.fail(rt).expect(&rt.rt, "memory");
     let report = node.join(rt);
     let taken = report.metrics().receive(Status::Success);
-    Ok((served, report.cause(), taken))
+    (served, report.cause(), taken)
 }
 
 /// Waits until no runtime has the supply any more. Returns whether none has.
@@ -85,21 +85,20 @@ fn wait_for_end(clock: &impl Clock, supply: &Arc<Supply>) -> bool {
 }
 
 /// Runs an engine with a pool. Returns what `run` does, and whether the pool's thread ends with it.
-fn run_pooled<R>(rt: &R) -> Result<((bool, EndCause, u64), bool), Fail>
+fn run_pooled<R>(rt: &R) -> ((bool, EndCause, u64), bool)
 where
-    R: Runtime,
+    R: Runtime + Abort,
 {
-    let supply = Supply::new(rt.alloc())?;
-    let pool = start_pool(rt, &supply)?;
-    let engines = Poor::new(rt, &Supply::new(rt.alloc())?)?;
-    let ended = run(&engines, pool)?;
-    Ok((ended, wait_for_end(rt, &supply)))
+    let supply = Supply::new(rt.alloc()).expect(rt, "memory");
+    let pool = start_pool(rt, &supply);
+    let engines = Poor::new(rt, &Supply::new(rt.alloc()).expect(rt, "memory")).expect(rt, "memory");
+    let ended = run(&engines, pool);
+    (ended, wait_for_end(rt, &supply))
 }
 
 #[test]
-fn a_pool_serves_an_engine_and_ends_with_it(rt: HostRuntime) -> Result<(), Fail> {
-    assert_eq!(rt; run_pooled(&rt)?, ((true, EndCause::Stopped, 6), true));
-    Ok(())
+fn a_pool_serves_an_engine_and_ends_with_it(rt: HostRuntime) {
+    assert_eq!(rt; run_pooled(&rt), ((true, EndCause::Stopped, 6), true));
 }
 
 /// A message whose digest, a number, waits at a gate.
@@ -134,13 +133,14 @@ fn message_of(number: u64, gate: &Arc<Meeting>) -> Result<Held, AllocError> {
 type Holding<R> = (Pool<Held, R>, Pooled<Held>);
 
 /// Starts a pool that digests a message.
-fn hold<R>(rt: &R, gate: &Arc<Meeting>) -> Result<Holding<R>, AllocError>
+fn hold<R>(rt: &R, gate: &Arc<Meeting>) -> Holding<R>
 where
-    R: Runtime,
+    R: Runtime + Abort,
 {
-    let pool = Pool::start(rt, rt.alloc())?;
-    let job = pool.digest(rt.alloc(), message_of(7, gate)?)?;
-    Ok((pool, job))
+    let pool = Pool::start(rt, rt.alloc()).expect(rt, "a pool");
+    let message = message_of(7, gate).expect(rt, "memory");
+    let job = pool.digest(rt.alloc(), message).expect(rt, "a job");
+    (pool, job)
 }
 
 /// Polls the job once. Returns whether it is done.
@@ -181,13 +181,13 @@ type Course = (bool, bool, bool);
 
 /// Holds the thread of a pool until this one passes the gate too. Returns the course of its job,
 /// how many threads met, and the digest.
-fn release<R>(rt: &R) -> Result<(Course, u64, u64), Fail>
+fn release<R>(rt: &R) -> (Course, u64, u64)
 where
-    R: Runtime,
+    R: Runtime + Abort,
 {
-    let gate = Meeting::new(rt.alloc())?;
-    let mut task = Task::new(rt)?;
-    let (pool, mut job) = hold(rt, &gate)?;
+    let gate = Meeting::new(rt.alloc()).expect(rt, "memory");
+    let mut task = Task::new(rt).expect(rt, "memory");
+    let (pool, mut job) = hold(rt, &gate);
     let pending = gate.waits_for(1) && is_pending(&mut task, &mut job);
     gate.pass();
     let woken = wait_for_wake(rt, &mut task);
@@ -195,13 +195,12 @@ where
     drop(pool);
     let (message, digest) = job.join(rt);
     drop(message);
-    Ok((course, gate.met(), digest))
+    (course, gate.met(), digest)
 }
 
 #[test]
-fn a_job_is_pending_until_the_thread_of_its_pool_has_digested(rt: HostRuntime) -> Result<(), Fail> {
-    assert_eq!(rt; release(&rt)?, ((true, true, true), 2, 7));
-    Ok(())
+fn a_job_is_pending_until_the_thread_of_its_pool_has_digested(rt: HostRuntime) {
+    assert_eq!(rt; release(&rt), ((true, true, true), 2, 7));
 }
 
 /// Waits for the digest of a job.
@@ -217,60 +216,59 @@ where
 /// Gives a pool whose thread is held two more messages. The second one waits, so the third one is
 /// digested on this thread, and passes the gate. Returns whether it is digested at once, and the
 /// digests of all.
-fn give_more<R>(rt: &R) -> Result<(bool, [u64; 3]), Fail>
+fn give_more<R>(rt: &R) -> (bool, [u64; 3])
 where
-    R: Runtime,
+    R: Runtime + Abort,
 {
-    let gate = Meeting::new(rt.alloc())?;
-    let mut task = Task::new(rt)?;
-    let (pool, first) = hold(rt, &gate)?;
+    let gate = Meeting::new(rt.alloc()).expect(rt, "memory");
+    let mut task = Task::new(rt).expect(rt, "memory");
+    let (pool, first) = hold(rt, &gate);
     let is_held = gate.waits_for(1);
-    let second = pool.digest(rt.alloc(), message_of(8, &gate)?)?;
-    let mut third = pool.digest(rt.alloc(), message_of(9, &gate)?)?;
+    let message = message_of(8, &gate).expect(rt, "memory");
+    let second = pool.digest(rt.alloc(), message).expect(rt, "a job");
+    let message = message_of(9, &gate).expect(rt, "memory");
+    let mut third = pool.digest(rt.alloc(), message).expect(rt, "a job");
     let at_once = is_held && poll(&mut task, &mut third);
     let digests = [digest(rt, first), digest(rt, second), digest(rt, third)];
     drop(pool);
-    Ok((at_once, digests))
+    (at_once, digests)
 }
 
 #[test]
-fn a_message_for_which_a_pool_has_no_place_is_digested_at_once(
-    rt: HostRuntime,
-) -> Result<(), Fail> {
-    assert_eq!(rt; give_more(&rt)?, (true, [7, 8, 9]));
-    Ok(())
+fn a_message_for_which_a_pool_has_no_place_is_digested_at_once(rt: HostRuntime) {
+    assert_eq!(rt; give_more(&rt), (true, [7, 8, 9]));
 }
 
 /// Starts a thread that passes the gate later.
-fn pass_later<R>(rt: &R, gate: &Arc<Meeting>) -> Result<JoinHandle<()>, Fail>
+fn pass_later<R>(rt: &R, gate: &Arc<Meeting>) -> JoinHandle<()>
 where
-    R: Runtime,
+    R: Runtime + Abort,
 {
-    let gate = Arc::try_clone(gate)?;
-    let own = rt.clone()?;
-    Ok(thread::spawn(rt, move || {
+    let gate = Arc::try_clone(gate).expect(rt, "memory");
+    let own = rt.clone().expect(rt, "memory");
+    let passing = thread::spawn(rt, move || {
         thread::sleep(&own, Duration::from_millis(50));
         gate.pass();
-    })?)
+    });
+    passing.expect(rt, "a thread")
 }
 
 /// Drops a pool while its thread waits at a gate. Returns whether somebody has met by then, and how
 /// many have at last.
-fn drop_held<R>(rt: &R) -> Result<(bool, u64), Fail>
+fn drop_held<R>(rt: &R) -> (bool, u64)
 where
-    R: Runtime,
+    R: Runtime + Abort,
 {
-    let gate = Meeting::new(rt.alloc())?;
-    let holding = hold(rt, &gate)?;
-    let passing = pass_later(rt, &gate)?;
+    let gate = Meeting::new(rt.alloc()).expect(rt, "memory");
+    let holding = hold(rt, &gate);
+    let passing = pass_later(rt, &gate);
     drop(holding);
     let met = gate.met() > 0;
     passing.join(rt);
-    Ok((met, gate.met()))
+    (met, gate.met())
 }
 
 #[test]
-fn a_dropped_pool_waits_until_its_thread_has_digested(rt: HostRuntime) -> Result<(), Fail> {
-    assert_eq!(rt; drop_held(&rt)?, (true, 2));
-    Ok(())
+fn a_dropped_pool_waits_until_its_thread_has_digested(rt: HostRuntime) {
+    assert_eq!(rt; drop_held(&rt), (true, 2));
 }

@@ -9,7 +9,8 @@ use commonware_broadcast::buffered::{
 use memory_network::Mail;
 use memory_node::node::Node;
 use memory_node::support::nodes::{broadcast, digest, gets, send, start, subscribe, track};
-use std::alloc::{AllocError, AllocGlobal};
+use std::alloc::AllocGlobal;
+use std::process::Abort;
 use std::sync::Wait;
 use std::test::Fail;
 
@@ -30,13 +31,13 @@ struct Stopped {
 /// Stops an engine, some times, with a job pending or idle, and joins it.
 fn stop<R>(rt: &R, is_busy: bool, times: u64) -> Result<Stopped, Fail>
 where
-    R: Runtime,
+    R: Runtime + Abort,
 {
     let (node, talk) = start_patient(rt)?;
-    let (waiting, prompt) = ask_to_stop(rt, &node, &talk, is_busy, times)?;
+    let (waiting, prompt) = ask_to_stop(rt, &node, &talk, is_busy, times);
     let (mailbox, cause) = join(rt, node);
     let held = waiting.wait(rt).is_err();
-    after(rt, &mailbox, prompt, cause, held)
+    Ok(after(rt, &mailbox, prompt, cause, held))
 }
 
 /// Asks an engine to stop. Returns a subscription that it holds, and whether it closes its mailbox
@@ -47,18 +48,18 @@ fn ask_to_stop<R>(
     talk: &Talk,
     is_busy: bool,
     times: u64,
-) -> Result<(Subscription<TestMessage>, bool), Fail>
+) -> (Subscription<TestMessage>, bool)
 where
-    R: Runtime,
+    R: Runtime + Abort,
 {
     if is_busy {
-        hold(rt, &node.mail, talk)?;
+        hold(rt, &node.mail, talk);
     }
-    let waiting = subscribe(rt, &node.mailbox, 1)?;
+    let waiting = subscribe(rt, &node.mailbox, 1).expect(rt, "a subscription");
     for _ in 0..times {
         node.handle.stop();
     }
-    Ok((waiting, closes(rt, node, talk)?))
+    (waiting, closes(rt, node, talk))
 }
 
 /// Joins the engine of a node. Returns its mailbox, and its cause.
@@ -77,14 +78,14 @@ where
 
 /// Returns whether a node closes its mailbox before a job gives up. Its network fails then, so that
 /// its engine ends also if it does not stop.
-fn closes<R>(rt: &R, node: &Node<TestMessage, R>, talk: &Talk) -> Result<bool, Fail>
+fn closes<R>(rt: &R, node: &Node<TestMessage, R>, talk: &Talk) -> bool
 where
-    R: Runtime,
+    R: Runtime + Abort,
 {
-    let closed = wait_for_close(rt, &node.mailbox)?;
+    let closed = wait_for_close(rt, &node.mailbox).expect(rt, "a broadcast");
     let prompt = closed && !talk.gave_up();
-    node.mail.fail(rt)?;
-    Ok(prompt)
+    node.mail.fail(rt).expect(rt, "memory");
+    prompt
 }
 
 /// Asks the mailbox of an engine that ended with this cause.
@@ -94,21 +95,22 @@ fn after<R>(
     prompt: bool,
     cause: EndCause,
     held: bool,
-) -> Result<Stopped, Fail>
+) -> Stopped
 where
-    R: Runtime,
+    R: Runtime + Abort,
 {
-    let feedback = broadcast(rt, mailbox, 1)?;
-    let canceled = subscribe(rt, mailbox, 1)?.wait(rt).is_err();
-    let none = !gets(rt, mailbox, 1)?;
-    Ok(Stopped {
+    let feedback = broadcast(rt, mailbox, 1).expect(rt, "a broadcast");
+    let subscription = subscribe(rt, mailbox, 1).expect(rt, "a subscription");
+    let canceled = subscription.wait(rt).is_err();
+    let none = !gets(rt, mailbox, 1).expect(rt, "a get");
+    Stopped {
         prompt,
         cause,
         held,
         feedback,
         canceled,
         none,
-    })
+    }
 }
 
 #[test]
@@ -128,20 +130,20 @@ fn a_stopped_engine_ends_promptly_and_answers_nothing(rt: HostRuntime) -> Result
 }
 
 /// Sends the node of key 1 a payload of a peer that is no message, and one that is.
-fn feed<R: Wait + AllocGlobal>(rt: &R, mail: &Mail<Key>) -> Result<(), AllocError> {
-    track(rt, mail, &[1, 5])?;
-    send(rt, mail, 5, &[9])?;
-    send(rt, mail, 5, &[0, 0, 0, 0, 0, 0, 0, 1, 2])
+fn feed<R: Wait + Abort + AllocGlobal>(rt: &R, mail: &Mail<Key>) {
+    track(rt, mail, &[1, 5]).expect(rt, "memory");
+    send(rt, mail, 5, &[9]).expect(rt, "memory");
+    send(rt, mail, 5, &[0, 0, 0, 0, 0, 0, 0, 1, 2]).expect(rt, "memory");
 }
 
 /// Starts an engine, whose thread serves a subscriber. Returns whether it was served, and how many
 /// payloads were taken and how many were no message.
 fn served<R>(rt: &R) -> Result<(bool, u64, u64), Fail>
 where
-    R: Runtime,
+    R: Runtime + Abort,
 {
     let node = start(rt, Sequential)?;
-    let got = hears(rt, &node)?;
+    let got = hears(rt, &node);
     let report = node.join(rt);
     let metrics = report.metrics();
     Ok((
@@ -153,16 +155,17 @@ where
 
 /// Feeds a node after a subscribe to the message, and stops it. Returns whether the subscribe is
 /// served.
-fn hears<R>(rt: &R, node: &Node<TestMessage, R>) -> Result<bool, Fail>
+fn hears<R>(rt: &R, node: &Node<TestMessage, R>) -> bool
 where
-    R: Runtime,
+    R: Runtime + Abort,
 {
-    let waiting = subscribe(rt, &node.mailbox, 2)?;
-    feed(rt, &node.mail)?;
-    let message = waiting.wait(rt)?;
+    let waiting = subscribe(rt, &node.mailbox, 2).expect(rt, "a subscription");
+    feed(rt, &node.mail);
+    let message = waiting.wait(rt).expect(rt, "a message");
     node.handle.stop();
-    node.mail.fail(rt)?;
-    Ok(message.digest().cmp(&digest(rt.alloc(), 2)?).is_eq())
+    node.mail.fail(rt).expect(rt, "memory");
+    let expected = digest(rt.alloc(), 2).expect(rt, "memory");
+    message.digest().cmp(&expected).is_eq()
 }
 
 #[test]

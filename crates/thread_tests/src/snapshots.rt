@@ -2,9 +2,9 @@
 use commonware_broadcast::buffered::{Metrics, MetricsError, Runtime, Snapshots};
 use futures::task::{Doorbell, Solo};
 use std::alloc::{AllocError, AllocGlobal, Global};
+use std::process::Abort;
 use std::sync::Arc;
 use std::sync::atomic::{AtomicU64, Ordering};
-use std::test::Fail;
 use std::thread::{self, JoinHandle};
 use std::time::Duration;
 
@@ -44,10 +44,10 @@ impl Place {
     }
 
     /// Answers those who ask, time after time, until all have an answer.
-    fn answer<R: Runtime>(&self, rt: &R) -> Result<(), Fail> {
+    fn answer<R: Runtime + Abort>(&self, rt: &R) {
         let mut metrics = Metrics::init(rt.alloc());
         metrics.set_waiters(WAITERS);
-        let task = Solo::new(rt, Doorbell::spinning())?;
+        let task = Solo::new(rt, Doorbell::spinning()).expect(rt, "a task");
         for _ in 0..LIMIT {
             thread::sleep(rt, Duration::from_millis(20));
             let mut cx = task.begin();
@@ -58,34 +58,32 @@ impl Place {
             }
         }
         self.snapshots.end(rt, rt.alloc());
-        Ok(())
     }
 }
 
 /// Starts a caller.
-fn start_caller<R: Runtime>(rt: &R, place: &Arc<Place>) -> Result<JoinHandle<Answer>, Fail> {
-    let place = Arc::try_clone(place)?;
-    let own = rt.clone()?;
-    Ok(thread::spawn(rt, move || place.ask(&own))?)
+fn start_caller<R: Runtime + Abort>(rt: &R, place: &Arc<Place>) -> JoinHandle<Answer> {
+    let place = Arc::try_clone(place).expect(rt, "memory");
+    let own = rt.clone().expect(rt, "memory");
+    thread::spawn(rt, move || place.ask(&own)).expect(rt, "a thread")
 }
 
 /// Returns what each caller is told.
-fn answers<R: Runtime>(rt: &R) -> Result<Vec<Answer>, Fail> {
-    let place = Place::new(rt.alloc())?;
+fn answers<R: Runtime + Abort>(rt: &R) -> Vec<Answer> {
+    let place = Place::new(rt.alloc()).expect(rt, "memory");
     let mut callers = Vec::new(rt.alloc());
     for _ in 0..CALLERS {
-        callers.push(start_caller(rt, &place)?)?;
+        callers.push(start_caller(rt, &place)).expect(rt, "memory");
     }
-    place.answer(rt)?;
+    place.answer(rt);
     let mut answers = Vec::new(rt.alloc());
     for caller in callers {
-        answers.push(caller.join(rt))?;
+        answers.push(caller.join(rt)).expect(rt, "memory");
     }
-    Ok(answers)
+    answers
 }
 
 #[test]
-fn each_of_several_callers_gets_the_counters(rt: HostRuntime) -> Result<(), Fail> {
-    assert_eq!(rt; answers(&rt)?.as_slice(), [Ok(WAITERS); CALLERS].as_slice());
-    Ok(())
+fn each_of_several_callers_gets_the_counters(rt: HostRuntime) {
+    assert_eq!(rt; answers(&rt).as_slice(), [Ok(WAITERS); CALLERS].as_slice());
 }

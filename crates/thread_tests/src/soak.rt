@@ -2,16 +2,15 @@
 use super::nodes::start_threaded;
 use super::patient::{LIMIT, pause};
 use broadcast_core::{Key, TestMessage};
-use broadcast_mailbox::MailboxError;
 use commonware_broadcast::buffered::{EndCause, Mailbox, Metrics, Runtime, Status, Subscription};
 use memory_network::Mail;
 use memory_node::keys::key_of;
 use memory_node::node::Node;
 use memory_node::support::nodes::{broadcast, gets, send, subscribe, track};
 use std::alloc::{AllocError, AllocGlobal};
+use std::process::Abort;
 use std::sync::atomic::{AtomicU64, Ordering};
 use std::sync::{Arc, Wait};
-use std::test::Fail;
 use std::thread::{self, JoinHandle, Threads};
 use std::time::Clock;
 
@@ -35,9 +34,6 @@ struct Ends {
     got: u64,
 }
 
-/// The result of a caller's thread.
-type Outcome = Result<Ends, MailboxError>;
-
 /// A caller of an engine.
 #[derive(Drop)]
 struct Caller<R> {
@@ -49,20 +45,20 @@ struct Caller<R> {
 
 impl<R> Caller<R>
 where
-    R: Runtime,
+    R: Runtime + Abort,
 {
     /// Makes all requests, and waits for the subscriptions. Returns what happened to them.
-    fn run(&self) -> Outcome {
+    fn run(&self) -> Ends {
         let mut waiting = Vec::new(self.rt.alloc());
         let mut got = 0u64;
         for round in 0..ROUNDS {
-            waiting.reserve(1)?;
-            let (subscription, is_found) = self.ask(round as u8)?;
+            waiting.reserve(1).expect(&self.rt, "memory");
+            let (subscription, is_found) = self.ask(round as u8);
             waiting.push_reserved(subscription);
             got = got.saturating_add(u64::from(is_found));
             self.made.fetch_add(4, Ordering::SeqCst);
         }
-        Ok(self.end(waiting, got))
+        self.end(waiting, got)
     }
 
     /// Waits for the subscriptions.
@@ -82,11 +78,13 @@ where
 
     /// Makes a request of each kind, and drops a subscription that nobody serves. Returns another
     /// one, and whether the get gave a message.
-    fn ask(&self, letter: u8) -> Result<(Subscription<TestMessage>, bool), MailboxError> {
-        let _feedback = broadcast(&self.rt, &self.mailbox, letter % 64)?;
-        drop::<_>(subscribe(&self.rt, &self.mailbox, 255)?);
-        let got = gets(&self.rt, &self.mailbox, letter % 128)?;
-        Ok((subscribe(&self.rt, &self.mailbox, letter % 192)?, got))
+    fn ask(&self, letter: u8) -> (Subscription<TestMessage>, bool) {
+        let rt = &self.rt;
+        let _feedback = broadcast(rt, &self.mailbox, letter % 64).expect(rt, "a broadcast");
+        drop::<_>(subscribe(rt, &self.mailbox, 255).expect(rt, "a subscription"));
+        let got = gets(rt, &self.mailbox, letter % 128).expect(rt, "a get");
+        let subscription = subscribe(rt, &self.mailbox, letter % 192);
+        (subscription.expect(rt, "a subscription"), got)
     }
 }
 
@@ -95,15 +93,17 @@ fn start_callers<R>(
     rt: &R,
     mailbox: &Mailbox<Key, TestMessage, R>,
     made: &Arc<AtomicU64>,
-) -> Result<Vec<JoinHandle<Outcome>>, Fail>
+) -> Vec<JoinHandle<Ends>>
 where
-    R: Runtime,
+    R: Runtime + Abort,
 {
     let mut callers = Vec::new(rt.alloc());
     for _ in 0..CALLERS {
-        callers.push(start_caller(rt, mailbox, made)?)?;
+        callers
+            .push(start_caller(rt, mailbox, made))
+            .expect(rt, "memory");
     }
-    Ok(callers)
+    callers
 }
 
 /// Starts a caller.
@@ -111,32 +111,32 @@ fn start_caller<R>(
     rt: &R,
     mailbox: &Mailbox<Key, TestMessage, R>,
     made: &Arc<AtomicU64>,
-) -> Result<JoinHandle<Outcome>, Fail>
+) -> JoinHandle<Ends>
 where
-    R: Runtime,
+    R: Runtime + Abort,
 {
     let caller = Caller {
-        mailbox: mailbox.clone()?,
-        made: Arc::try_clone(made)?,
-        rt: rt.clone()?,
+        mailbox: mailbox.clone().expect(rt, "memory"),
+        made: Arc::try_clone(made).expect(rt, "memory"),
+        rt: rt.clone().expect(rt, "memory"),
     };
-    Ok(thread::spawn(rt, move || caller.run())?)
+    thread::spawn(rt, move || caller.run()).expect(rt, "a thread")
 }
 
 /// Joins the callers. Returns the sums of what happened to their requests.
-fn join_callers(rt: &impl Threads, callers: Vec<JoinHandle<Outcome>>) -> Result<Ends, Fail> {
+fn join_callers(rt: &impl Threads, callers: Vec<JoinHandle<Ends>>) -> Ends {
     let mut all = Ends {
         requests: 0,
         served: 0,
         got: 0,
     };
     for caller in callers {
-        let ends = caller.join(rt)?;
+        let ends = caller.join(rt);
         all.requests = all.requests.saturating_add(ends.requests);
         all.served = all.served.saturating_add(ends.served);
         all.got = all.got.saturating_add(ends.got);
     }
-    Ok(all)
+    all
 }
 
 /// Feeds the node in rounds: a peer set, and payloads that are a message of a peer, a message of a
@@ -155,13 +155,13 @@ fn feed<R: Wait + AllocGlobal>(rt: &R, mail: &Mail<Key>) -> Result<(), AllocErro
 }
 
 /// Starts the feeder. Its thread returns whether all was handed over.
-fn start_feeder<R>(rt: &R, mail: &Arc<Mail<Key>>) -> Result<JoinHandle<bool>, Fail>
+fn start_feeder<R>(rt: &R, mail: &Arc<Mail<Key>>) -> JoinHandle<bool>
 where
-    R: Runtime,
+    R: Runtime + Abort,
 {
-    let mail = Arc::try_clone(mail)?;
-    let own = rt.clone()?;
-    Ok(thread::spawn(rt, move || feed(&own, &mail).is_ok())?)
+    let mail = Arc::try_clone(mail).expect(rt, "memory");
+    let own = rt.clone().expect(rt, "memory");
+    thread::spawn(rt, move || feed(&own, &mail).is_ok()).expect(rt, "a thread")
 }
 
 /// Waits until the callers made half of their requests.
@@ -221,82 +221,77 @@ fn account_of(metrics: &Metrics<Key>, cause: EndCause, ends: Ends, all_fed: bool
 #[derive(Drop)]
 struct Workers {
     made: Arc<AtomicU64>,
-    callers: Vec<JoinHandle<Outcome>>,
+    callers: Vec<JoinHandle<Ends>>,
     feeder: JoinHandle<bool>,
 }
 
 /// Starts the callers and the feeder of the node.
-fn start_workers<R>(rt: &R, node: &Node<TestMessage, R>) -> Result<Workers, Fail>
+fn start_workers<R>(rt: &R, node: &Node<TestMessage, R>) -> Workers
 where
-    R: Runtime,
+    R: Runtime + Abort,
 {
-    let made = Arc::new(rt.alloc(), AtomicU64::new(0))?;
-    let callers = start_callers(rt, &node.mailbox, &made)?;
-    let feeder = start_feeder(rt, &node.mail)?;
-    Ok(Workers {
+    let made = Arc::new(rt.alloc(), AtomicU64::new(0)).expect(rt, "memory");
+    let callers = start_callers(rt, &node.mailbox, &made);
+    let feeder = start_feeder(rt, &node.mail);
+    Workers {
         made,
         callers,
         feeder,
-    })
+    }
 }
 
 /// Stops the node while callers and feeder work at it, and joins them all. Its network fails then,
 /// so that it ends also if it does not stop.
-fn stop<R>(
-    rt: &R,
-    node: Node<TestMessage, R>,
-    workers: Workers,
-    first: Ends,
-) -> Result<Account, Fail>
+fn stop<R>(rt: &R, node: Node<TestMessage, R>, workers: Workers, first: Ends) -> Account
 where
-    R: Runtime,
+    R: Runtime + Abort,
 {
     node.handle.stop();
-    node.mail.fail(rt)?;
+    node.mail.fail(rt).expect(rt, "memory");
     let report = node.join(rt);
     let Workers {
         callers,
         feeder,
         ..
     } = workers;
-    let mut ends = join_callers(rt, callers)?;
+    let mut ends = join_callers(rt, callers);
     ends.served = ends.served.saturating_add(first.served);
     ends.got = ends.got.saturating_add(first.got);
     let cause = report.cause();
-    Ok(account_of(report.metrics(), cause, ends, feeder.join(rt)))
+    account_of(report.metrics(), cause, ends, feeder.join(rt))
 }
 
 /// Lets the node serve a subscription and find a message, before its callers start.
-fn greet<R>(rt: &R, node: &Node<TestMessage, R>) -> Result<Ends, Fail>
+fn greet<R>(rt: &R, node: &Node<TestMessage, R>) -> Ends
 where
-    R: Runtime,
+    R: Runtime + Abort,
 {
-    let waiting = subscribe(rt, &node.mailbox, 2)?;
-    track(rt, &node.mail, &[1, 5])?;
-    send(rt, &node.mail, 5, &[0, 0, 0, 0, 0, 0, 0, 1, 2])?;
+    let waiting = subscribe(rt, &node.mailbox, 2).expect(rt, "a subscription");
+    track(rt, &node.mail, &[1, 5]).expect(rt, "memory");
+    send(rt, &node.mail, 5, &[0, 0, 0, 0, 0, 0, 0, 1, 2]).expect(rt, "memory");
     let served = u64::from(waiting.wait(rt).is_ok());
-    let got = u64::from(gets(rt, &node.mailbox, 2)?);
-    Ok(Ends {
+    let got = u64::from(gets(rt, &node.mailbox, 2).expect(rt, "a get"));
+    Ends {
         requests: 0,
         served,
         got,
-    })
+    }
 }
 
 /// Lets callers and a feeder work at an engine, and stops it once half of the requests are made.
-fn soak<R>(rt: &R) -> Result<Account, Fail>
+fn soak<R>(rt: &R) -> Account
 where
-    R: Runtime,
+    R: Runtime + Abort,
 {
-    let node = start_threaded(rt)?;
-    let first = greet(rt, &node)?;
-    let workers = start_workers(rt, &node)?;
+    let node = start_threaded(rt);
+    let first = greet(rt, &node);
+    let workers = start_workers(rt, &node);
     wait_for_half(rt, &workers.made);
     stop(rt, node, workers, first)
 }
 
 #[test]
-fn many_callers_and_a_stop(rt: HostRuntime) -> Result<(), Fail> {
+fn many_callers_and_a_stop(rt: HostRuntime) {
     let expected = Account {
         all_ended: true,
         delivered: true,
@@ -306,6 +301,5 @@ fn many_callers_and_a_stop(rt: HostRuntime) -> Result<(), Fail> {
         busy: true,
         cause: EndCause::Stopped,
     };
-    assert_eq!(rt; soak(&rt)?, expected);
-    Ok(())
+    assert_eq!(rt; soak(&rt), expected);
 }

@@ -10,9 +10,9 @@ use memory_node::keys::key_of;
 use memory_node::node::{Node, Prepared, Started, config};
 use memory_node::support::nodes::broadcast;
 use memory_node::support::poor::{Poor, Supply};
-use std::alloc::{AllocError, AllocGlobal};
+use std::alloc::AllocGlobal;
+use std::process::Abort;
 use std::sync::{Arc, Mutex, Wait};
-use std::test::Fail;
 
 /// How a start ends: its error, or the cause with which the engine ended.
 type Ending = Result<EndCause, StartError>;
@@ -62,18 +62,18 @@ fn cases() -> &'static [Case] {
 /// Stops an engine. Its network fails then, so that it ends also if it does not stop. Returns its
 /// cause.
 fn stop<R>(
-    rt: &R,
-    mailbox: &Mailbox<Key, TestMessage, R>,
+    rt: &Poor<R>,
+    mailbox: &Mailbox<Key, TestMessage, Poor<R>>,
     mail: &Mail<Key>,
-    handle: Handle<Key, TestMessage, R>,
-) -> Result<EndCause, Fail>
+    handle: Handle<Key, TestMessage, Poor<R>>,
+) -> EndCause
 where
-    R: Runtime,
+    R: Runtime + Abort,
 {
     handle.stop();
-    let _closed = wait_for_close(rt, mailbox)?;
-    mail.fail(rt)?;
-    Ok(handle.join(rt).cause())
+    let _closed = wait_for_close(rt, mailbox).expect(&rt.rt, "a broadcast");
+    mail.fail(rt).expect(&rt.rt, "memory");
+    handle.join(rt).cause()
 }
 
 /// Starts the node of number 1 with the supply.
@@ -82,71 +82,74 @@ fn start_with<M, R>(
     codec_config: M::Cfg,
     copies: u64,
     randoms: u64,
-) -> Result<Started<M, Poor<R>>, AllocError>
+) -> Started<M, Poor<R>>
 where
     M: Digestible + Codec + Send + Sync + 'static,
     M::Digest: 'static,
     M::Cfg: Send + Drop + 'static,
-    R: Runtime,
+    R: Runtime + Abort,
 {
-    let mail = Arc::new(rt.alloc(), Mail::new(rt.alloc(), key_of(1)))?;
+    let mail = Mail::new(rt.alloc(), key_of(1));
+    let mail = Arc::new(rt.alloc(), mail).expect(&rt.rt, "memory");
     let others = Vec::new(rt.alloc());
-    let prepared = Prepared::new(rt, codec_config, Sequential, &mail, others, 4)?;
+    let prepared = Prepared::new(rt, codec_config, Sequential, &mail, others, 4);
+    let prepared = prepared.expect(&rt.rt, "memory");
     rt.supply.leave(copies, randoms);
-    Ok(prepared.start(rt))
+    prepared.start(rt)
 }
 
 /// Starts an engine with the supply, and stops it. Returns how that ends, and whether its mailbox
 /// is closed.
-fn start<R>(rt: &Poor<R>, copies: u64, randoms: u64) -> Result<(Ending, bool), Fail>
+fn start<R>(rt: &Poor<R>, copies: u64, randoms: u64) -> (Ending, bool)
 where
-    R: Runtime,
+    R: Runtime + Abort,
 {
-    match start_with(rt, RangeCfg::any(), copies, randoms)? {
+    match start_with(rt, RangeCfg::any(), copies, randoms) {
         Ok(node) => stopped(rt, node),
-        Err((mailbox, error)) => Ok((Err(error), is_closed(rt, &mailbox)?)),
+        Err((mailbox, error)) => (Err(error), is_closed(rt, &mailbox)),
     }
 }
 
 /// Stops a node. Returns its cause, and whether its mailbox is closed.
-fn stopped<R>(rt: &R, node: Node<TestMessage, R>) -> Result<(Ending, bool), Fail>
+fn stopped<R>(rt: &Poor<R>, node: Node<TestMessage, Poor<R>>) -> (Ending, bool)
 where
-    R: Runtime,
+    R: Runtime + Abort,
 {
     let Node {
         mailbox,
         mail,
         handle,
     } = node;
-    let cause = stop(rt, &mailbox, &mail, handle)?;
-    Ok((Ok(cause), is_closed(rt, &mailbox)?))
+    let cause = stop(rt, &mailbox, &mail, handle);
+    (Ok(cause), is_closed(rt, &mailbox))
 }
 
 /// Returns whether the mailbox is closed.
-fn is_closed<R>(rt: &R, mailbox: &Mailbox<Key, TestMessage, R>) -> Result<bool, Fail>
+fn is_closed<R>(rt: &Poor<R>, mailbox: &Mailbox<Key, TestMessage, Poor<R>>) -> bool
 where
-    R: Runtime,
+    R: Runtime + Abort,
 {
-    Ok(broadcast(rt, mailbox, 1)? == Feedback::Closed)
+    broadcast(rt, mailbox, 1).expect(&rt.rt, "a broadcast") == Feedback::Closed
 }
 
 /// Starts an engine for each row.
-fn start_all<R>(rt: &R) -> Result<(), Fail>
+fn start_all<R>(rt: &R)
 where
-    R: Runtime,
+    R: Runtime + Abort,
 {
     for row in cases() {
-        let poor = Poor::new(rt, &Supply::new(rt.alloc())?)?;
-        if start::<R>(&poor, row.copies, row.randoms)? != (row.ending, true) {
-            Err("a start ends otherwise")?
+        let poor = Poor::new(rt, &Supply::new(rt.alloc()).expect(rt, "memory")).expect(
+            rt, "memory",
+        );
+        if start::<R>(&poor, row.copies, row.randoms) != (row.ending, true) {
+            panic!(rt; "a start ends otherwise");
         }
     }
-    Ok(())
 }
 
 #[test]
-fn an_engine_that_is_not_started_is_given_up(rt: HostRuntime) -> Result<(), Fail> {
-    start_all(&rt)
+fn an_engine_that_is_not_started_is_given_up(rt: HostRuntime) {
+    start_all(&rt);
 }
 
 /// The cause of the end that an observer was told, if that was its last turn.
@@ -170,22 +173,21 @@ impl<R: Wait> Observer<Key, Digest> for Keeping<R> {
 
 /// Starts an engine with an observer and the supply. Returns why it is not started, and the end
 /// that the observer was told last.
-fn observe<R>(
-    rt: &R,
-    copies: u64,
-    randoms: u64,
-) -> Result<(Option<StartError>, Option<EndCause>), Fail>
+fn observe<R>(rt: &R, copies: u64, randoms: u64) -> (Option<StartError>, Option<EndCause>)
 where
-    R: Runtime,
+    R: Runtime + Abort,
 {
-    let poor = Poor::new(rt, &Supply::new(rt.alloc())?)?;
-    let ends = Network::between(rt, &[key_of(1)])?.join(&poor, &key_of(1))?;
-    let last: Arc<Last> = Arc::new(rt.alloc(), Mutex::new(None))?;
+    let poor = Poor::new(rt, &Supply::new(rt.alloc()).expect(rt, "memory")).expect(rt, "memory");
+    let ends = Network::between(rt, &[key_of(1)])
+        .expect(rt, "memory")
+        .join(&poor, &key_of(1))
+        .expect(rt, "the ends of a network");
+    let last: Arc<Last> = Arc::new(rt.alloc(), Mutex::new(None)).expect(rt, "memory");
     let observer = Keeping {
-        last: Arc::try_clone(&last)?,
-        rt: rt.clone()?,
+        last: Arc::try_clone(&last).expect(rt, "memory"),
+        rt: rt.clone().expect(rt, "memory"),
     };
-    let config = config(&poor, RangeCfg::any(), Sequential, &ends.mail, 4)?;
+    let config = config(&poor, RangeCfg::any(), Sequential, &ends.mail, 4).expect(rt, "memory");
     poor.supply.leave(copies, randoms);
     let network = (ends.sender, ends.receiver);
     let started = config
@@ -193,16 +195,15 @@ where
         .start::<TestMessage, _, _, _>(&poor, network);
     let error = started.err();
     let cause = *last.lock(rt);
-    Ok((error, cause))
+    (error, cause)
 }
 
 #[test]
-fn the_end_of_an_engine_that_is_not_started_is_told(rt: HostRuntime) -> Result<(), Fail> {
+fn the_end_of_an_engine_that_is_not_started_is_told(rt: HostRuntime) {
     let expected = (Some(StartError::Memory), Some(EndCause::WaitFailed));
     // There is no copy of the runtime for the engine, its mailbox, its stopper or its thread, or
     // the calling thread can't wait for a job.
     for (copies, randoms) in [(0, 9), (1, 9), (2, 9), (3, 9), (4, 0)] {
-        assert_eq!(rt; observe(&rt, copies, randoms)?, expected, "{copies} copies");
+        assert_eq!(rt; observe(&rt, copies, randoms), expected, "{copies} copies");
     }
-    Ok(())
 }

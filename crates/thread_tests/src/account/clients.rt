@@ -8,12 +8,12 @@ use commonware_broadcast::buffered::{
     Watch, WatchedClient,
 };
 use memory_node::support::message::{digest, digested};
-use std::alloc::{AllocGlobal, Global};
+use std::alloc::AllocGlobal;
 use std::marker::PhantomData;
 use std::num::NonZeroU32;
+use std::process::Abort;
 use std::random::RandomSource;
 use std::sync::Wait;
-use std::test::Fail;
 use std::time::Clock;
 
 /// How many clients make requests. The next one stops the engine.
@@ -56,7 +56,8 @@ pub type Told = Result<u64, MailboxError>;
 #[derive(Drop)]
 struct Left {
     number: u32,
-    told: Told,
+    /// How many of its broadcasts it was told are accepted.
+    told: u64,
     /// How many of its requests were counted.
     counted: u64,
 }
@@ -70,7 +71,7 @@ impl Leaves for Left {
 
 impl<R, V> Session<u64, TestMessage, R> for Asking<R, V>
 where
-    R: Wait + Clock + RandomSource + AllocGlobal,
+    R: Wait + Abort + Clock + RandomSource + AllocGlobal,
     V: Watch<Digest>,
 {
     type Watch = V;
@@ -83,7 +84,7 @@ where
         client: &mut WatchedClient<u64, TestMessage, R, A, K, V>,
     ) -> Left {
         let told = if number < ASKING {
-            ask_often(self.rt.alloc(), client)
+            ask_often(&self.rt, client)
         } else {
             ask_and_stop(&self.rt, client)
         };
@@ -96,58 +97,55 @@ where
 }
 
 /// Makes all requests of a client.
-fn ask_often<R, A, K, V>(
-    alloc: Global,
-    client: &mut WatchedClient<u64, TestMessage, R, A, K, V>,
-) -> Told
+fn ask_often<R, A, K, V>(rt: &R, client: &mut WatchedClient<u64, TestMessage, R, A, K, V>) -> u64
 where
-    R: Wait,
+    R: Wait + Abort + AllocGlobal,
     A: Account,
     K: Account,
     V: Watch<Digest>,
 {
     let mut told = 0u64;
     for round in 0..ROUNDS {
-        told = told.saturating_add(ask(alloc, client, round)?);
+        told = told.saturating_add(ask(rt, client, round));
     }
-    Ok(told)
+    told
 }
 
 /// Makes a request of each kind, and drops the futures. Returns 1 if the broadcast is accepted.
 fn ask<R, A, K, V>(
-    alloc: Global,
+    rt: &R,
     client: &mut WatchedClient<u64, TestMessage, R, A, K, V>,
     letter: u8,
-) -> Told
+) -> u64
 where
-    R: Wait,
+    R: Wait + Abort + AllocGlobal,
     A: Account,
     K: Account,
     V: Watch<Digest>,
 {
-    let message = digested(alloc, letter, letter)?;
-    drop::<_>(client.get(message.digest())?);
-    drop::<_>(client.subscribe(Digest { bytes: NOBODYS })?);
-    let feedback = client.broadcast(Recipients::All, message)?;
-    Ok(u64::from(feedback.accepted()))
+    let message = digested(rt.alloc(), letter, letter).expect(rt, "memory");
+    drop::<_>(client.get(message.digest()).expect(rt, "a get"));
+    let subscription = client.subscribe(Digest { bytes: NOBODYS });
+    drop::<_>(subscription.expect(rt, "a subscription"));
+    let feedback = client.broadcast(Recipients::All, message);
+    u64::from(feedback.expect(rt, "a broadcast").accepted())
 }
 
 /// Makes a request of each kind, waits for the reply to a get, and stops the engine.
-fn ask_and_stop<R, A, K, V>(
-    rt: &R,
-    client: &mut WatchedClient<u64, TestMessage, R, A, K, V>,
-) -> Told
+fn ask_and_stop<R, A, K, V>(rt: &R, client: &mut WatchedClient<u64, TestMessage, R, A, K, V>) -> u64
 where
-    R: Wait + Clock + RandomSource + AllocGlobal,
+    R: Wait + Abort + Clock + RandomSource + AllocGlobal,
     A: Account,
     K: Account,
     V: Watch<Digest>,
 {
-    let told = ask(rt.alloc(), client, 0)?;
-    let get = client.get(digest(rt.alloc(), 0)?)?;
+    let told = ask(rt, client, 0);
+    let digest = digest(rt.alloc(), 0).expect(rt, "memory");
+    let get = client.get(digest).expect(rt, "a get");
     drop::<_>(get.wait(rt));
     client.stop();
-    Ok(told.saturating_add(broadcast_until_closed(rt, client)?))
+    let more = broadcast_until_closed(rt, client).expect(rt, "a closed mailbox");
+    told.saturating_add(more)
 }
 
 /// Broadcasts until the mailbox is closed, as it is soon after a stop. Returns how many broadcasts
@@ -174,30 +172,31 @@ where
 
 /// Runs a session. Returns how many broadcasts its clients were told are accepted, and what else it
 /// leaves.
-fn run<V, R>(rt: &R) -> Result<(u64, Finished<Left, u64>), Fail>
+fn run<V, R>(rt: &R) -> (u64, Finished<Left, u64>)
 where
     V: Watch<Digest> + Send + Sync + 'static,
-    R: Runtime,
+    R: Runtime + Abort,
 {
     let session: Asking<R, V> = Asking {
-        rt: rt.clone()?,
+        rt: rt.clone().expect(rt, "memory"),
         of: PhantomData,
     };
-    let sets = Sets::new(rt.alloc(), Gives::Nothing)?;
-    let wire = Wire::new(rt.alloc(), Gives::Nothing)?;
+    let sets = Sets::new(rt.alloc(), Gives::Nothing).expect(rt, "memory");
+    let wire = Wire::new(rt.alloc(), Gives::Nothing).expect(rt, "memory");
     let clients = NonZeroU32::new(ASKING + 1).unwrap();
     let config = config(sets, Sequential);
-    let finished = config.run_session(rt, (Void, wire), clients, session, ())?;
-    Ok((told_by_all(&finished)?, finished))
+    let finished = config.run_session(rt, (Void, wire), clients, session, ());
+    let finished = finished.expect(rt, "a session");
+    (told_by_all(&finished), finished)
 }
 
 /// Returns how many broadcasts all clients were told are accepted.
-fn told_by_all(finished: &Finished<Left, u64>) -> Told {
+fn told_by_all(finished: &Finished<Left, u64>) -> u64 {
     let mut all = 0u64;
     for left in &finished.outputs {
-        all = all.saturating_add(left.told?);
+        all = all.saturating_add(left.told);
     }
-    Ok(all)
+    all
 }
 
 /// Returns how many requests of all clients were counted.
@@ -234,31 +233,26 @@ fn adds_up(finished: &Finished<Left, u64>) -> bool {
 }
 
 #[test]
-fn all_requests_of_four_threads_are_accounted_for(rt: HostRuntime) -> Result<(), Fail> {
-    let (told, finished) = run::<All, HostRuntime>(&rt)?;
+fn all_requests_of_four_threads_are_accounted_for(rt: HostRuntime) {
+    let (told, finished) = run::<All, HostRuntime>(&rt);
     assert!(rt; adds_up(&finished) && are_in_order(&finished.outputs));
     assert_eq!(rt; finished.accepted, counted_by_all(&finished));
     // The client that stops the engine also makes a subscribe and two gets, and waits for the last.
     assert!(rt; finished.accepted >= told.saturating_add(3));
     // Its broadcast and its last get are applied; a request without a caller may be skipped.
     assert!(rt; finished.settled.applied >= 2);
-    Ok(())
 }
 
 #[test]
-fn broadcasts_of_four_threads_are_those_that_they_were_told_of(
-    rt: HostRuntime,
-) -> Result<(), Fail> {
-    let (told, finished) = run::<Broadcasts, HostRuntime>(&rt)?;
+fn broadcasts_of_four_threads_are_those_that_they_were_told_of(rt: HostRuntime) {
+    let (told, finished) = run::<Broadcasts, HostRuntime>(&rt);
     assert!(rt; adds_up(&finished));
     assert_eq!(rt; finished.accepted, told);
     assert_eq!(rt; finished.settled.skipped, 0);
-    Ok(())
 }
 
 #[test]
-fn subscribes_of_four_threads_to_one_digest_are_accounted_for(rt: HostRuntime) -> Result<(), Fail> {
-    let (_told, finished) = run::<Nobodys, HostRuntime>(&rt)?;
+fn subscribes_of_four_threads_to_one_digest_are_accounted_for(rt: HostRuntime) {
+    let (_told, finished) = run::<Nobodys, HostRuntime>(&rt);
     assert!(rt; adds_up(&finished));
-    Ok(())
 }

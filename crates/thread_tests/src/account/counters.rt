@@ -9,9 +9,9 @@ use commonware_broadcast::buffered::{
 use memory_node::support::message::digest;
 use std::alloc::{AllocError, AllocGlobal};
 use std::num::NonZeroU32;
+use std::process::Abort;
 use std::random::RandomSource;
 use std::sync::Wait;
-use std::test::Fail;
 use std::time::Clock;
 
 /// How many gets found nothing while the engine ran, and why there were no counters afterwards.
@@ -25,7 +25,7 @@ struct Asking<R> {
 
 impl<R> Session<u64, TestMessage, R> for Asking<R>
 where
-    R: Wait + Clock + RandomSource + AllocGlobal,
+    R: Wait + Abort + Clock + RandomSource + AllocGlobal,
 {
     type Watch = All;
 
@@ -37,7 +37,7 @@ where
         client: &mut WatchedClient<u64, TestMessage, R, A, K, All>,
     ) -> Result<Seen, AllocError> {
         if number == 1 {
-            return ask_and_stop(&self.rt, client);
+            return Ok(ask_and_stop(&self.rt, client));
         }
         let _told = broadcast_until_closed(&self.rt, client);
         Ok((None, None))
@@ -45,48 +45,48 @@ where
 }
 
 /// Asks for the counters after a get that finds nothing, and after the end of the engine.
-fn ask_and_stop<R, A, K>(
-    rt: &R,
-    client: &mut WatchedClient<u64, TestMessage, R, A, K, All>,
-) -> Result<Seen, AllocError>
+fn ask_and_stop<R, A, K>(rt: &R, client: &mut WatchedClient<u64, TestMessage, R, A, K, All>) -> Seen
 where
-    R: Wait + Clock + RandomSource + AllocGlobal,
+    R: Wait + Abort + Clock + RandomSource + AllocGlobal,
     A: Account,
     K: Account,
 {
-    if let Ok(get) = client.get(digest(rt.alloc(), 9)?) {
+    let digest = digest(rt.alloc(), 9).expect(rt, "memory");
+    if let Ok(get) = client.get(digest) {
         drop::<_>(get.wait(rt));
     }
     let failed = client.metrics(rt).ok().map(|it| it.get(Status::Failure));
     client.stop();
     for _ in 0..LIMIT {
         if let Err(error) = client.metrics(rt) {
-            return Ok((failed, Some(error)));
+            return (failed, Some(error));
         }
         pause(rt);
     }
-    Ok((failed, None))
+    (failed, None)
 }
 
 /// Runs the session. Returns what its second client saw, and how many gets found nothing by the
 /// counters that the session leaves.
-fn run<R: Runtime>(rt: &R) -> Result<(Option<Seen>, u64), Fail> {
-    let session = Asking { rt: rt.clone()? };
-    let sets = Sets::new(rt.alloc(), Gives::Nothing)?;
-    let wire = Wire::new(rt.alloc(), Gives::Nothing)?;
+fn run<R: Runtime + Abort>(rt: &R) -> (Option<Seen>, u64) {
+    let session = Asking {
+        rt: rt.clone().expect(rt, "memory"),
+    };
+    let sets = Sets::new(rt.alloc(), Gives::Nothing).expect(rt, "memory");
+    let wire = Wire::new(rt.alloc(), Gives::Nothing).expect(rt, "memory");
     let config = config(sets, Sequential);
     let clients = NonZeroU32::new(2).unwrap();
-    let finished = config.run_session(rt, (Void, wire), clients, session, ())?;
+    let finished = config.run_session(rt, (Void, wire), clients, session, ());
+    let finished = finished.expect(rt, "a session");
     let seen = match finished.outputs.get(1) {
-        Some(seen) => Some((*seen)?),
+        Some(seen) => Some((*seen).expect(rt, "what a client saw")),
         None => None,
     };
-    Ok((seen, finished.metrics.get(Status::Failure)))
+    (seen, finished.metrics.get(Status::Failure))
 }
 
 #[test]
-fn a_client_is_told_the_counters_of_its_engine(rt: HostRuntime) -> Result<(), Fail> {
+fn a_client_is_told_the_counters_of_its_engine(rt: HostRuntime) {
     let seen = (Some(1), Some(MetricsError::Ended));
-    assert_eq!(rt; run(&rt)?, (Some(seen), 1));
-    Ok(())
+    assert_eq!(rt; run(&rt), (Some(seen), 1));
 }

@@ -6,7 +6,7 @@ use super::ending_rows::{Ending, Row, rows};
 use super::quiet::{Sets, Void, Wire, config};
 use crate::mute::Mute;
 use broadcast_core::{Codec, Digested, Digestible, Recipients};
-use broadcast_mailbox::{Feedback, MailboxError};
+use broadcast_mailbox::Feedback;
 use commonware_broadcast::buffered::{
     Account, All, Books, Config, Engine, Get, MailboxReport, Movable, Runtime, Settled, Status,
     Strategy, Subscription, Tally, WatchedEngine, WatchedMailbox, WatchedNode, drive,
@@ -14,36 +14,31 @@ use commonware_broadcast::buffered::{
 use commonware_broadcast::mocks::Slow;
 use futures::task::{Doorbell, Poll, Solo};
 use memory_node::support::message::digested;
-use std::alloc::AllocGlobal;
+use std::alloc::{AllocError, AllocGlobal};
 use std::marker::Brand;
 use std::num::NonZeroU32;
+use std::process::Abort;
 use std::sync::Wait;
 use std::sync::ledger::Blank;
-use std::test::Fail;
 
 /// The network of an engine.
 type Network = (Void, Wire);
 
 /// Lets the engine of the row end.
-fn ending_of<R>(rt: &R, row: &Row) -> Result<Ending, Fail>
+fn ending_of<R>(rt: &R, row: &Row) -> Ending
 where
-    R: Runtime,
+    R: Runtime + Abort,
 {
-    let sets = Sets::new(rt.alloc(), row.gives)?;
-    let wire = Wire::new(rt.alloc(), row.gives)?;
+    let sets = Sets::new(rt.alloc(), row.gives).expect(rt, "memory");
+    let wire = Wire::new(rt.alloc(), row.gives).expect(rt, "memory");
     // The job of the payload is still pending after the polls before the start.
     let cfg = config(sets, Slow { polls: 9 });
     if row.is_mute {
-        let message = Digested::compute(rt.alloc(), Mute(7))?;
+        let message = Digested::compute(rt.alloc(), Mute(7)).expect(rt, "memory");
         return end(rt, row, cfg, (Void, wire), message);
     }
-    end(
-        rt,
-        row,
-        cfg,
-        (Void, wire),
-        digested(rt.alloc(), b'a', b'a')?,
-    )
+    let message = digested(rt.alloc(), b'a', b'a').expect(rt, "memory");
+    end(rt, row, cfg, (Void, wire), message)
 }
 
 /// Lets an engine end after three requests, and picks the ledgers of its account. It is generic in
@@ -54,14 +49,14 @@ fn end<M, T, R>(
     cfg: Config<u64, M::Cfg, Sets, T>,
     network: Network,
     message: Digested<M>,
-) -> Result<Ending, Fail>
+) -> Ending
 where
     T: Strategy<M> + Movable,
     T::Job: Send + 'static,
     M: Digestible + Codec + Send + Sync + 'static,
     M::Digest: Send + 'static,
     M::Cfg: Send + Drop + 'static,
-    R: Runtime,
+    R: Runtime + Abort,
 {
     let parts = NonZeroU32::new(2).unwrap();
     let accepted = Blank::new(parts.get() as u64);
@@ -79,14 +74,14 @@ fn end_with<M, T, R, A, K>(
     parts: NonZeroU32,
     accepted: Blank,
     taken: Blank,
-) -> Result<Ending, Fail>
+) -> Ending
 where
     T: Strategy<M> + Movable,
     T::Job: Send + 'static,
     M: Digestible + Codec + Send + Sync + 'static,
     M::Digest: Send + 'static,
     M::Cfg: Send + Drop + 'static,
-    R: Runtime,
+    R: Runtime + Abort,
     A: Account + Send + Sync + 'static,
     K: Account + Send + Sync + 'static,
     requires accepted { (accepted.name ≡ A.name) × (accepted.parts ≡ A.parts) }
@@ -94,19 +89,20 @@ where
     requires taken { (taken.name ≡ K.name) × (taken.parts ≡ K.parts) }
     requires one { (K.all ≡ K.parts) × (K.parts ≡ 1) }
 {
-    let node: WatchedNode<u64, M, Sets, T, R, A, K, All> = Engine::new_watched(
-        rt.clone()?,
+    let copy = rt.clone().expect(rt, "memory");
+    let node: Result<WatchedNode<u64, M, Sets, T, R, A, K, All>, AllocError> = Engine::new_watched(
+        copy,
         rt.alloc(),
         cfg,
         parts,
         accepted,
         taken,
-    )?;
-    let (engine, mailbox, tally) = node;
-    let asked = ask(&mailbox, tally, message, row.is_mute);
+    );
+    let (engine, mailbox, tally) = node.expect(rt, "an engine");
+    let asked = ask(rt, &mailbox, tally, message, row.is_mute);
     drop::<_>(mailbox);
     let report = run(rt, row, engine, network);
-    finish(report?, asked?, row.lacks_part)
+    finish(rt, report, asked, row.lacks_part)
 }
 
 /// What is left of the requests: the future of the get, and two parts of the tally.
@@ -115,69 +111,73 @@ type Asked<M, A> = (Get<M>, Tally<A>, Tally<A>);
 /// Makes a get, a subscribe whose caller hangs up, and a broadcast, with a part of the tally. The
 /// ready list has one place, so the broadcast is told to slow down, unless it comes first.
 fn ask<M, R, A, K>(
+    rt: &R,
     mailbox: &WatchedMailbox<u64, M, R, A, K, All>,
     tally: Tally<A>,
     message: Digested<M>,
     comes_first: bool,
-) -> Result<Asked<M, A>, MailboxError>
+) -> Asked<M, A>
 where
     M: Digestible,
-    R: Wait,
+    R: Wait + Abort,
     A: Account,
     K: Account,
 {
     let Ok((first, mut second)) = tally.split() else {
-        return Err(MailboxError::Exhausted);
+        panic!(rt; "a tally that can't be split");
     };
     let digest = message.digest();
     if comes_first {
-        broadcast(mailbox, &mut second, message, Feedback::Ok)?;
-        let (get, subscription) = ask_twice(mailbox, &mut second, digest)?;
+        broadcast(rt, mailbox, &mut second, message, Feedback::Ok);
+        let (get, subscription) = ask_twice(rt, mailbox, &mut second, digest);
         drop::<_>(subscription);
-        return Ok((get, first, second));
+        return (get, first, second);
     }
-    let (get, subscription) = ask_twice(mailbox, &mut second, digest)?;
-    broadcast(mailbox, &mut second, message, Feedback::Backoff)?;
+    let (get, subscription) = ask_twice(rt, mailbox, &mut second, digest);
+    broadcast(rt, mailbox, &mut second, message, Feedback::Backoff);
     drop::<_>(subscription);
-    Ok((get, first, second))
+    (get, first, second)
 }
 
 /// Makes a get and a subscribe.
 fn ask_twice<M, R, A, K>(
+    rt: &R,
     mailbox: &WatchedMailbox<u64, M, R, A, K, All>,
     tally: &mut Tally<A>,
     digest: M::Digest,
-) -> Result<(Get<M>, Subscription<M>), MailboxError>
+) -> (Get<M>, Subscription<M>)
 where
     M: Digestible,
-    R: Wait,
+    R: Wait + Abort,
     A: Account,
     K: Account,
 {
-    let get = mailbox.get_as(tally, digest)?;
-    let subscription = mailbox.subscribe_as(tally, digest)?;
-    Ok((get, subscription))
+    let get = mailbox.get_as(tally, digest).expect(rt, "a get");
+    let subscription = mailbox
+        .subscribe_as(tally, digest)
+        .expect(rt, "a subscription");
+    (get, subscription)
 }
 
-/// Makes a broadcast. Fails if something else is told of it.
+/// Makes a broadcast. The test fails if something else is told of it.
 fn broadcast<M, R, A, K>(
+    rt: &R,
     mailbox: &WatchedMailbox<u64, M, R, A, K, All>,
     tally: &mut Tally<A>,
     message: Digested<M>,
     wanted: Feedback,
-) -> Result<(), MailboxError>
+)
 where
     M: Digestible,
-    R: Wait,
+    R: Wait + Abort,
     A: Account,
     K: Account,
 {
-    let told = mailbox.broadcast_as(tally, Recipients::All, message)?;
-    if told == wanted {
-        Ok(())
-    } else {
-        Err(MailboxError::Exhausted)
-    }
+    let told = mailbox.broadcast_as(tally, Recipients::All, message);
+    assert!(rt;
+        told.expect(rt, "a broadcast") == wanted,
+        "a broadcast is told otherwise"
+    );
 }
 
 /// What an engine leaves that counts requests.
@@ -189,25 +189,25 @@ fn run<M, T, R, A, K>(
     row: &Row,
     engine: WatchedEngine<u64, M, Sets, T, R, A, K, All>,
     network: Network,
-) -> Result<Left<M, R, A, K>, Fail>
+) -> Left<M, R, A, K>
 where
     T: Strategy<M> + Movable,
     T::Job: Send + 'static,
     M: Digestible + Codec + Send + Sync + 'static,
     M::Digest: Send + 'static,
     M::Cfg: Send + Drop + 'static,
-    R: Runtime,
+    R: Runtime + Abort,
     A: Account + Send + Sync + 'static,
     K: Account + Send + Sync + 'static,
 {
     let mut engine = engine;
     let mut network = network;
-    poll_often(rt, row.polls, &mut engine, &mut network)?;
-    let handle = engine.start(rt, network)?;
+    poll_often(rt, row.polls, &mut engine, &mut network);
+    let handle = engine.start(rt, network).expect(rt, "a thread");
     if row.stops {
         handle.stop();
     }
-    Ok(handle.join(rt))
+    handle.join(rt)
 }
 
 /// Polls the engine this many times.
@@ -216,33 +216,33 @@ fn poll_often<M, T, R, A, K>(
     polls: usize,
     engine: &mut WatchedEngine<u64, M, Sets, T, R, A, K, All>,
     network: &mut Network,
-) -> Result<(), Fail>
+)
 where
     T: Strategy<M>,
     M: Digestible + Codec,
-    R: Runtime,
+    R: Runtime + Abort,
     A: Account,
     K: Account,
 {
-    let task = Solo::new(rt, Doorbell::spinning())?;
+    let task = Solo::new(rt, Doorbell::spinning()).expect(rt, "a task");
     let mut cx = task.begin();
     let turns = drive(rt.alloc(), engine, &mut cx, network, polls);
     // A task that is parked must have asked for another poll.
     let _: Poll<()> = cx.yield_now();
     cx.park();
-    drop::<_>(turns?);
-    Ok(())
+    drop::<_>(turns.expect(rt, "memory"));
 }
 
 /// Settles the account.
 fn finish<M, R, A, K>(
+    rt: &R,
     report: Left<M, R, A, K>,
     asked: Asked<M, A>,
     lacks_part: bool,
-) -> Result<Ending, Fail>
+) -> Ending
 where
     M: Digestible,
-    R: Wait + Drop,
+    R: Wait + Abort + Drop,
     A: Account,
     K: Account,
     requires accounts { (A.all ≡ A.parts) × (K.all ≡ K.parts) }
@@ -258,12 +258,12 @@ where
         report.settle(first.join(second)).ok()
     };
     match settled {
-        Some(settled) => Ok(Ending {
+        Some(settled) => Ending {
             cause,
             taken,
             settled,
-        }),
-        None => Err("an account settles otherwise")?,
+        },
+        None => panic!(rt; "an account settles otherwise"),
     }
 }
 
@@ -291,9 +291,8 @@ where
 }
 
 #[test]
-fn each_request_is_settled_once(rt: HostRuntime) -> Result<(), Fail> {
+fn each_request_is_settled_once(rt: HostRuntime) {
     for row in rows() {
-        assert_eq!(rt; ending_of(&rt, row)?, row.ending, "{}", row.name);
+        assert_eq!(rt; ending_of(&rt, row), row.ending, "{}", row.name);
     }
-    Ok(())
 }

@@ -9,9 +9,9 @@ use commonware_broadcast::buffered::{
 use memory_node::support::poor::{Poor, Supply};
 use std::alloc::AllocGlobal;
 use std::num::NonZeroU32;
+use std::process::Abort;
 use std::sync::atomic::{AtomicU64, Ordering};
 use std::sync::{Arc, Wait};
-use std::test::Fail;
 use std::time::Clock;
 
 /// How many clients there are.
@@ -92,39 +92,41 @@ struct Left {
 }
 
 /// Runs a session with this many copies of the runtime.
-fn attempt<R>(rt: &R, copies: u64) -> Result<Left, Fail>
+fn attempt<R>(rt: &R, copies: u64) -> Left
 where
-    R: Runtime,
+    R: Runtime + Abort,
 {
-    let supply = Supply::new(rt.alloc())?;
-    let poor = Poor::new(rt, &supply)?;
-    let counts = Arc::new(rt.alloc(), Counts::new())?;
+    let supply = Supply::new(rt.alloc()).expect(rt, "memory");
+    let poor = Poor::new(rt, &supply).expect(rt, "memory");
+    let counts = Arc::new(rt.alloc(), Counts::new()).expect(rt, "memory");
     let session = Staying {
-        counts: Arc::try_clone(&counts)?,
-        rt: poor.clone()?,
+        counts: Arc::try_clone(&counts).expect(rt, "memory"),
+        rt: poor.clone().expect(rt, "memory"),
     };
-    let is_finished = runs(poor, session, copies)?;
-    Ok(Left {
+    let is_finished = runs(poor, session, copies);
+    Left {
         is_finished,
         begun: counts.begun.load(Ordering::SeqCst),
         ended: counts.ended.load(Ordering::SeqCst),
         is_used: Arc::strong_count(&supply) > 1,
-    })
+    }
 }
 
 /// Runs the session with this many copies of the runtime. Returns whether it was finished.
-fn runs<R>(poor: Poor<R>, session: Staying<Poor<R>>, copies: u64) -> Result<bool, Fail>
+fn runs<R>(poor: Poor<R>, session: Staying<Poor<R>>, copies: u64) -> bool
 where
-    R: Runtime,
+    R: Runtime + Abort,
 {
-    let sets = Sets::new(poor.alloc(), Gives::Nothing)?;
-    let wire = Wire::new(poor.alloc(), Gives::Nothing)?;
-    let observer = Slow { rt: poor.clone()? };
+    let sets = Sets::new(poor.alloc(), Gives::Nothing).expect(&poor.rt, "memory");
+    let wire = Wire::new(poor.alloc(), Gives::Nothing).expect(&poor.rt, "memory");
+    let observer = Slow {
+        rt: poor.clone().expect(&poor.rt, "memory"),
+    };
     let clients = NonZeroU32::new(CLIENTS).unwrap();
     poor.supply.leave(copies, 1000);
     let config = config(sets, Sequential);
     let finished = config.run_session(&poor, (Void, wire), clients, session, observer);
-    Ok(finished.is_ok())
+    finished.is_ok()
 }
 
 impl Counts {
@@ -138,10 +140,10 @@ impl Counts {
 }
 
 #[test]
-fn threads_of_a_session_that_fails_are_joined(rt: HostRuntime) -> Result<(), Fail> {
+fn threads_of_a_session_that_fails_are_joined(rt: HostRuntime) {
     let mut most = 0u64;
     for copies in 0..COPIES {
-        let left = attempt(&rt, copies)?;
+        let left = attempt(&rt, copies);
         assert_eq!(rt;
             (left.begun, left.is_used),
             (left.ended, false),
@@ -150,9 +152,9 @@ fn threads_of_a_session_that_fails_are_joined(rt: HostRuntime) -> Result<(), Fai
         if left.is_finished {
             // Some of the clients of a session that failed had begun.
             assert_eq!(rt; (left.ended, most > 0), (u64::from(CLIENTS), true));
-            return Ok(());
+            return;
         }
         most = most.max(left.ended);
     }
-    Err("no session is finished")?
+    panic!(rt; "no session is finished");
 }

@@ -11,10 +11,10 @@ use commonware_broadcast::buffered::{
 use memory_node::support::message::{To, digest, digested, recipients, sending};
 use std::alloc::{AllocError, AllocGlobal, Global};
 use std::num::NonZeroU32;
+use std::process::Abort;
 use std::random::RandomSource;
 use std::sync::atomic::{AtomicBool, Ordering};
 use std::sync::{Arc, Mutex, Wait};
-use std::test::Fail;
 use std::time::Clock;
 
 /// The recipients of a message, its letter, and what a client is told of its broadcast.
@@ -97,12 +97,12 @@ struct Broadcasting<R> {
     rt: R,
 }
 
-/// What a client is told of its broadcasts.
+/// What a client is told of its broadcasts. It is a result, as what a client leaves must be.
 type Told = Result<Vec<Feedback>, MailboxError>;
 
 impl<R> Session<u64, TestMessage, R> for Broadcasting<R>
 where
-    R: Wait + Clock + RandomSource + AllocGlobal,
+    R: Wait + Abort + Clock + RandomSource + AllocGlobal,
 {
     type Watch = All;
 
@@ -113,57 +113,63 @@ where
         _number: u32,
         client: &mut WatchedClient<u64, TestMessage, R, A, K, All>,
     ) -> Told {
-        let alloc = self.rt.alloc();
+        let (rt, alloc) = (&self.rt, self.rt.alloc());
         let mut told = Vec::new(alloc);
         for row in rows() {
             let Row(to, letter, _) = row;
-            let message = digested(alloc, *letter, *letter)?;
-            told.reserve(1)?;
-            told.push_reserved(client.broadcast(recipients(alloc, *to)?, message)?);
-            self.record.wait_for_send(&self.rt);
+            let message = digested(alloc, *letter, *letter).expect(rt, "memory");
+            told.reserve(1).expect(rt, "memory");
+            let recipients = recipients(alloc, *to).expect(rt, "memory");
+            let feedback = client.broadcast(recipients, message);
+            told.push_reserved(feedback.expect(rt, "a broadcast"));
+            self.record.wait_for_send(rt);
         }
         self.record.goes_on.store(true, Ordering::SeqCst);
         // Requests are taken in order, so the broadcasts are applied before this one.
-        let get = client.get(digest(alloc, b'a')?)?;
-        drop::<_>(get.wait(&self.rt));
+        let digest = digest(alloc, b'a').expect(rt, "memory");
+        let get = client.get(digest).expect(rt, "a get");
+        drop::<_>(get.wait(rt));
         Ok(told)
     }
 }
 
 /// Runs the session. Returns what its client was told, and what its engine sent.
-fn run<R>(rt: &R) -> Result<(Vec<Feedback>, Arc<Record>), Fail>
+fn run<R>(rt: &R) -> (Vec<Feedback>, Arc<Record>)
 where
-    R: Runtime,
+    R: Runtime + Abort,
 {
-    let record = Record::new(rt.alloc())?;
+    let record = Record::new(rt.alloc()).expect(rt, "memory");
     let session = Broadcasting {
-        record: Arc::try_clone(&record)?,
-        rt: rt.clone()?,
+        record: Arc::try_clone(&record).expect(rt, "memory"),
+        rt: rt.clone().expect(rt, "memory"),
     };
     let sender = Recorder {
-        record: Arc::try_clone(&record)?,
-        rt: rt.clone()?,
+        record: Arc::try_clone(&record).expect(rt, "memory"),
+        rt: rt.clone().expect(rt, "memory"),
     };
-    let config = config(Sets::new(rt.alloc(), Gives::Nothing)?, Sequential);
-    let network = (sender, Wire::new(rt.alloc(), Gives::Nothing)?);
-    let finished = config.run_session(rt, network, NonZeroU32::MIN, session, ())?;
-    let Finished { mut outputs, .. } = finished;
+    let sets = Sets::new(rt.alloc(), Gives::Nothing).expect(rt, "memory");
+    let config = config(sets, Sequential);
+    let network = (
+        sender,
+        Wire::new(rt.alloc(), Gives::Nothing).expect(rt, "memory"),
+    );
+    let finished = config.run_session(rt, network, NonZeroU32::MIN, session, ());
+    let Finished { mut outputs, .. } = finished.expect(rt, "a session");
     match outputs.pop() {
-        Some(told) => Ok((told?, record)),
-        None => Err("no client leaves anything")?,
+        Some(told) => (told.expect(rt, "what a client is told"), record),
+        None => panic!(rt; "no client leaves anything"),
     }
 }
 
 #[test]
-fn a_client_is_told_of_its_broadcasts(rt: HostRuntime) -> Result<(), Fail> {
-    let (told, record) = run(&rt)?;
+fn a_client_is_told_of_its_broadcasts(rt: HostRuntime) {
+    let (told, record) = run(&rt);
     let sent = record.sent.lock(&rt);
     assert_eq!(rt; (told.len(), sent.len()), (rows().len(), rows().len()));
     for (place, row) in rows().iter().enumerate() {
         let Row(to, letter, feedback) = row;
         assert_eq!(rt; told.get(place), Some(feedback), "row {place}");
-        let expected = sending(rt.alloc(), *to, *letter, false)?;
+        let expected = sending(rt.alloc(), *to, *letter, false).expect(&rt, "memory");
         assert_eq!(rt; sent.get(place), Some(&expected), "row {place}");
     }
-    Ok(())
 }
