@@ -15,8 +15,8 @@ module _ {X D : Type 0} (f : X → D) where
       ∙ ap (λ (ys : List D). take i (map f xs) ++ ys) (sym (drop-map f (suc i) xs)))
 
   -- an element that was looked at, which changed nothing that is seen, leaves
-  pub TakenOutAt-looked : {ys : List X} {digest : D} (xs : List X) (i : ℕ) (was is gone : X) → i < length (map f xs) → was ≡ get_or xs i was → f is ≡ f was → gone ≡ get_or (slice_set xs i is) i gone → ys ≡ remove (slice_set xs i is) i → digest ≡ f gone → TakenOutAt (map f xs) i digest (map f ys)
-  TakenOutAt-looked {ys} {digest} xs i was is gone within stood same left rest digest-is =
+  pub TakenOutAt-looked : {was gone : X} {ys : List X} {digest : D} (xs : List X) (i : ℕ) (is : X) → i < length (map f xs) → was ≡ get_or xs i was → f is ≡ f was → gone ≡ get_or (slice_set xs i is) i gone → ys ≡ remove (slice_set xs i is) i → digest ≡ f gone → TakenOutAt (map f xs) i digest (map f ys)
+  TakenOutAt-looked {was} {gone} {ys} {digest} xs i is within stood same left rest digest-is =
       let inside : i < length xs = rw (length-map xs f) at within in
       let gone-is : gone ≡ is = left ∙ get_or-set_same xs i is gone inside in
       let seen : digest ≡ f was = digest-is ∙ ap f gone-is ∙ same in

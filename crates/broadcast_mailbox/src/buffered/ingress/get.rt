@@ -133,8 +133,9 @@ impl<M: Digestible> Get<M> {
     /// `Err` with the future if the reply is not there by then.
     ///
     /// The thread sleeps until the reply is there or the time is over, and needs no memory. Before,
-    /// it looks as `wait` does: those microseconds may come on top of `limit`. Returns the `Err`
-    /// also if the clock can't be read.
+    /// it looks as `wait` does: those microseconds, and beside other work a slice of processor time
+    /// in which another thread runs, may come on top of `limit`. Returns the `Err` also if the
+    /// clock can't be read.
     pub fn wait_timeout<R: Wait + Clock>(
         self,
         rt: &R,
@@ -189,6 +190,7 @@ impl<M: Digestible> Future for Get<M> {
             IfSome outcome (λ message. GoesBy M.Digest.cmp self.old.digest message)) }
         ensures none_if_done { self.old.done ≡ true → result ≡ Ready None }
         ensures done { IfReady result (λ outcome. self.new.done ≡ true) }
+        ensures not_done { OnPending result (self.new.done ≡ false) }
         ensures same { OnPending result ((outcome : Option (Carried M M.Digest))
             → IfSome outcome (λ message. GoesBy M.Digest.cmp self.new.digest message)
             → IfSome outcome (λ message. GoesBy M.Digest.cmp self.old.digest message)) }
@@ -211,7 +213,7 @@ impl<M: Digestible> Returns for Get<M> {
 
     ghost returns = { λ future polled. get_returns M.Digest.cmp future.digest polled };
 
-    ghost ended = { λ future. record future { done = true } };
+    ghost spent = { λ future. record future { done = true } };
 
     fn returned(
         &mut self,

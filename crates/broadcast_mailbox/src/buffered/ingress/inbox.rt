@@ -1,5 +1,5 @@
 //! The queue of a mailbox with its counts, and with the wakers of the task that takes its requests.
-ghost use Rattle.std.specs.Prelude.{◌≡◌, ◌⊎◌, ◌↔◌, ◌≤◌, ◌<◌, ◌^◌, ◌+◌, ◌&&◌, List, Option};
+ghost use Rattle.std.specs.Prelude.{◌≡◌, ◌⊎◌, ◌↔◌, ◌≤◌, ◌<◌, ◌^◌, ◌+◌, ◌&&◌, ◌||◌, List, Option};
 ghost use Rattle.std.specs.Prelude.{true, false, Ok, Err, OnErr, [], None, is_some};
 ghost use Rattle.std.specs.NonZero.{non_zero_usize_get};
 ghost use Rattle.broadcast_mailbox.specs.declared.buffered.ingress.message.Request.{Request};
@@ -8,7 +8,7 @@ ghost use Rattle.broadcast_mailbox.specs.Queue.{counted_in, waiting};
 ghost use Rattle.broadcast_mailbox.specs.Mailbox.{Enqueues, Takes, RequestsStop, Closes};
 ghost use Rattle.broadcast_mailbox.specs.Mailbox.{IsCounted, counts_of, taken_of, empty_mailbox};
 ghost use Rattle.broadcast_mailbox.specs.Mailbox.{mailbox_after, TakesBooked, TakesOut};
-ghost use Rattle.futures.specs.Poll.{OnPending};
+ghost use Rattle.futures.specs.Poll.{IfReady, OnPending};
 ghost use Rattle.futures.specs.Task.{Hears, IsArmed, Keeps};
 ghost use Rattle.broadcast_mailbox.specs.Attended.{ready};
 ghost use Rattle.broadcast_mailbox.specs.Account.{TallyState, are_open, counted_of};
@@ -296,6 +296,10 @@ impl<T: Queueable + Drop, A: Bookkeeping> Attended<T, A> {
         ensures gives_up_none { A.given_up self.new.account ≡ A.given_up self.old.account }
         ensures taken { A.taken taker.new ≡ A.taken taker.old + counted_of (ready result) }
         ensures refused { A.refusals taker.new ≡ A.refusals taker.old }
+        ensures undecided { IfReady result (λ request.
+            A.undecided taker.new ≡ (request.counted || A.undecided taker.old)) }
+        ensures decides_none { OnPending result
+            (A.undecided taker.new ≡ A.undecided taker.old) }
         ensures heard { OnPending result (Hears cx.new source.now.id) }
         ensures armed { OnPending result (IsArmed cx.new) }
         ensures kept { Keeps cx.old cx.new }

@@ -1,6 +1,6 @@
 //! The end of a mailbox from which its requests are taken, and what asks for a stop there.
-ghost use Rattle.std.specs.Prelude.{◌≡◌, ◌+◌, ◌↔◌, ◌&&◌, true, false, is_err, IfOk, IfErr};
-ghost use Rattle.futures.specs.Poll.{OnPending};
+ghost use Rattle.std.specs.Prelude.{◌≡◌, ◌+◌, ◌↔◌, ◌&&◌, ◌||◌, true, false, is_err, IfOk, IfErr};
+ghost use Rattle.futures.specs.Poll.{IfReady, OnPending};
 ghost use Rattle.std.specs.Arc.{arc_value};
 ghost use Rattle.futures.specs.Task.{Hears, IsArmed, Keeps};
 ghost use Rattle.broadcast_mailbox.specs.Account.{counted_of, one_if};
@@ -143,6 +143,9 @@ impl<T: Awaits + Queueable + Drop, R: Wait, A: Bookkeeping> Ingress<T, R, A> {
     pub fn poll_request(&mut self, cx: &mut Context<'_>) -> Poll<Request<T>>
         ensures taken { self.new.taken ≡ self.old.taken + counted_of (ready result) }
         ensures refused { self.new.refused ≡ self.old.refused }
+        ensures undecided { IfReady result (λ request.
+            self.new.undecided ≡ (request.counted || self.old.undecided)) }
+        ensures decides_none { OnPending result (self.new.undecided ≡ self.old.undecided) }
         ensures same_inbox { self.new.inbox ≡ self.old.inbox }
         ensures heard { OnPending result (Hears cx.new self.new.inbox.queued) }
         ensures armed { OnPending result (IsArmed cx.new) }

@@ -1,4 +1,5 @@
 //! What threads look at before they sleep.
+ghost use Rattle.std.specs.Prelude.{◌≡◌, ◌*◌, ◌-◌, true, false, min, max};
 
 use std::hint::spin_loop;
 use std::sync::atomic::{AtomicBool, AtomicU32, AtomicU64, AtomicUsize, Ordering};
@@ -89,18 +90,30 @@ impl Yields {
         self.banned_until.load(Ordering::Relaxed) <= now
     }
 
-    /// Notes a yield, which was over at the time `now`. A dear one bans the next ones, for twice as
-    /// long as that before it.
+    /// Notes a yield, which was over at the time `now`. A dear one bans the next ones.
     fn note(&self, is_dear: bool, now: u64) {
         let ban = self.ban.load(Ordering::Relaxed);
         if is_dear {
             self.banned_until
                 .store(now.saturating_add(ban), Ordering::Relaxed);
-            self.ban
-                .store(ban.saturating_mul(2).min(MOST_BAN), Ordering::Relaxed);
-        } else if ban > LEAST_BAN {
-            self.ban.store(ban - 1, Ordering::Relaxed);
         }
+        let next = next_ban(ban, is_dear);
+        if next != ban {
+            self.ban.store(next, Ordering::Relaxed);
+        }
+    }
+}
+
+/// Returns for how long the next dear yield bans others, by how long this one did or would have:
+/// for twice as long after a dear one, and else for a microsecond less.
+fn next_ban(ban: u64, is_dear: bool) -> u64
+    ensures dear { is_dear ≡ true → result ≡ min (ban * 2) 256000 }
+    ensures other { is_dear ≡ false → result ≡ max (ban - 1) 1000 }
+{
+    if is_dear {
+        ban.saturating_mul(2).min(MOST_BAN)
+    } else {
+        ban.saturating_sub(1).max(LEAST_BAN)
     }
 }
 

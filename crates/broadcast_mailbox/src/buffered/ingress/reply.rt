@@ -104,13 +104,13 @@ pub(super) trait Returns {
     ghost returns: { Self → Poll (Result Self.Reply Canceled) → Poll Self.Output };
 
     /// The future once it has given its result.
-    ghost ended: { Self → Self };
+    ghost spent: { Self → Self };
 
     /// Returns what a poll returns if the channel returned `polled`, and keeps whether that was its
     /// result.
     fn returned(&mut self, polled: Poll<Result<Self::Reply, Canceled>>) -> Poll<Self::Output>
         ensures value { result ≡ returns self.old polled }
-        ensures done { IfReady result (λ output. self.new ≡ ended self.old) }
+        ensures done { IfReady result (λ output. self.new ≡ spent self.old) }
         ensures same { OnPending result (self.new ≡ self.old) };
 }
 

@@ -1,8 +1,8 @@
 //! The inbox that the ends of a mailbox share, and the law of its tickets.
-ghost use Rattle.std.specs.Prelude.{◌≡◌, ◌+◌, [], true, false, IfOk, ℕ, List};
+ghost use Rattle.std.specs.Prelude.{◌≡◌, ◌+◌, ◌||◌, [], true, false, IfOk, ℕ, List};
 ghost use Rattle.std.specs.Arc.{arc_value};
 ghost use Rattle.std.specs.NonZero.{non_zero_usize_get};
-ghost use Rattle.futures.specs.Poll.{OnPending};
+ghost use Rattle.futures.specs.Poll.{IfReady, OnPending};
 ghost use Rattle.futures.specs.Task.{Hears, IsArmed, Keeps};
 ghost use Rattle.broadcast_mailbox.specs.Queue.{waiting};
 ghost use Rattle.broadcast_mailbox.specs.Attended.{ready};
@@ -204,6 +204,10 @@ impl<T: Queueable + Drop, A: Bookkeeping> Shared<T, A> {
     ) -> Poll<Request<T>>
         ensures taken { A.taken taker.new ≡ A.taken taker.old + counted_of (ready result) }
         ensures refused { A.refusals taker.new ≡ A.refusals taker.old }
+        ensures undecided { IfReady result (λ request.
+            A.undecided taker.new ≡ (request.counted || A.undecided taker.old)) }
+        ensures decides_none { OnPending result
+            (A.undecided taker.new ≡ A.undecided taker.old) }
         ensures heard { OnPending result (Hears cx.new self.now.queued) }
         ensures armed { OnPending result (IsArmed cx.new) }
         ensures kept { Keeps cx.old cx.new }

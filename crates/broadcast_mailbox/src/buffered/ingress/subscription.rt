@@ -188,8 +188,9 @@ impl<M: Digestible> Subscription<M> {
     /// `Err` with the future if the message is not there by then.
     ///
     /// The thread sleeps until the message is there or the time is over, and needs no memory.
-    /// Before, it looks as `wait` does: those microseconds may come on top of `limit`. Returns the
-    /// `Err` also if the clock can't be read.
+    /// Before, it looks as `wait` does: those microseconds, and beside other work a slice of
+    /// processor time in which another thread runs, may come on top of `limit`. Returns the `Err`
+    /// also if the clock can't be read.
     pub fn wait_timeout<R: Wait + Clock>(
         self,
         rt: &R,
@@ -243,6 +244,7 @@ impl<M: Digestible> Future for Subscription<M> {
             IfOk outcome (λ message. GoesBy M.Digest.cmp self.old.digest message)) }
         ensures canceled_if_done { self.old.done ≡ true → result ≡ Ready (Err (record {})) }
         ensures done { IfReady result (λ outcome. self.new.done ≡ true) }
+        ensures not_done { OnPending result (self.new.done ≡ false) }
         ensures same { OnPending result ((outcome : Result (Carried M M.Digest) Canceled)
             → IfOk outcome (λ message. GoesBy M.Digest.cmp self.new.digest message)
             → IfOk outcome (λ message. GoesBy M.Digest.cmp self.old.digest message)) }
@@ -265,7 +267,7 @@ impl<M: Digestible> Returns for Subscription<M> {
 
     ghost returns = { λ future polled. subscription_returns M.Digest.cmp future.digest polled };
 
-    ghost ended = { λ future. record future { done = true } };
+    ghost spent = { λ future. record future { done = true } };
 
     fn returned(
         &mut self,
