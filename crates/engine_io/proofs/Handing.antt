@@ -38,10 +38,10 @@ module _ {P M D S G O : Type 0} (told : O → Replies S G M D → Type 0) where
   AllHanded-none message o c = record { replies = []; due = refl; hands = Hands-none told o c }
 
   -- and one more waiter
-  pub AllHanded-more : {mid : O} {cmid : Counters P} (message copy : Carried M D) (waiters : List (Asker S)) (w : Asker S) (o last : O) (c clast : Counters P) → copy ≡ message
+  pub AllHanded-more : {copy : Carried M D} {mid : O} {cmid : Counters P} (message : Carried M D) (waiters : List (Asker S)) (w : Asker S) (o last : O) (c clast : Counters P) → copy ≡ message
       → AllHanded message waiters o c mid cmid → ((delivered : _) × Hands told mid cmid (subscribed w copy delivered ∷ []) last clast)
       → AllHanded message (waiters ++ w ∷ []) o c last clast
-  AllHanded-more {mid} {cmid} message copy waiters w o last c clast same all one = record {
+  AllHanded-more {copy} {mid} {cmid} message waiters w o last c clast same all one = record {
     replies = all.replies ++ subscribed w copy one.0 ∷ [];
     due = map-push reply_of all.replies (subscribed w copy one.0) ∙ ap (λ ds. ds ++ to_subscribe w copy ∷ []) all.due
         ∙ ap (λ a. map (λ v. to_subscribe v message) waiters ++ to_subscribe w a ∷ []) same ∙ sym (map-push (λ v. to_subscribe v message) waiters w);

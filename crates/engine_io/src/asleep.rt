@@ -1,5 +1,5 @@
 //! A thread that polls one future, and sleeps at once while it is pending.
-ghost use Rattle.std.specs.Prelude.{◌≡◌, IfOk, IfErr};
+ghost use Rattle.std.specs.Prelude.{◌≡◌, ◌↔◌, ◌<◌, true, IfOk, IfErr};
 
 use futures::Future;
 use futures::executor::block_on_driving;
@@ -109,9 +109,16 @@ impl Seat {
 /// another thread may run meanwhile.
 pub fn may_look(rt: &impl Threads) -> bool {
     match available_parallelism(rt) {
-        Ok(processors) => processors.get() > 1,
+        Ok(processors) => are_several(processors.get()),
         Err(_) => false,
     }
+}
+
+/// Returns whether another thread may run while one looks.
+fn are_several(processors: usize) -> bool
+    ensures { (result ≡ true) ↔ (1 < processors) }
+{
+    processors > 1
 }
 
 /// Polls `future` on this thread until it is ready. The thread sleeps while it is pending.

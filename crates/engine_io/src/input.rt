@@ -79,6 +79,6 @@ pub enum EndCause {
     PeersClosed,
     /// The receiver failed.
     NetworkFailed,
-    /// The engine was started, and its thread could not wait for the next input.
+    /// The engine was to be started, and no thread could be had for it, or none that can wait.
     WaitFailed,
 }

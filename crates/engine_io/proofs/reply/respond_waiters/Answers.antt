@@ -26,7 +26,7 @@ loop-waiter-preserved g c =
       left = omega (arith, ap length steps.0, steps.1, at.invariant.left);
       enough = omega (arith, c.in-Some-pop.ensures.cases, at.copies.ok, c.pop.new.self.ok, ap length steps.0, at.invariant.enough);
       equal = λ message all. (All-pop (λ copy. copy ≡ message) at.copies.items c.pop.new.self.items c.pop.result c.pop.ensures.items (at.invariant.equal message all)).0;
-      handed = λ message all. AllHanded-more g.O.Outlet.told message c.in-Some-pop.copy at.yielded c.in-Some.waiter c.args.outlet.now c.respond_subscribe.new.outlet c.args.metrics.now c.respond_subscribe.new.metrics
+      handed = λ message all. AllHanded-more g.O.Outlet.told message at.yielded c.in-Some.waiter c.args.outlet.now c.respond_subscribe.new.outlet c.args.metrics.now c.respond_subscribe.new.metrics
           (rw c.in-Some-pop.is at (All-pop (λ copy. copy ≡ message) at.copies.items c.pop.new.self.items c.pop.result c.pop.ensures.items (at.invariant.equal message all))).1 (at.invariant.handed message all) c.respond_subscribe.ensures;
     }
 
