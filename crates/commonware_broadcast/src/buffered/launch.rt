@@ -1,4 +1,9 @@
 //! Engines that are made and started by one call, with or without an observer.
+ghost use Rattle.std.specs.Prelude.{◌≡◌, IfOk};
+ghost use Rattle.std.specs.NonZero.{non_zero_usize_get};
+ghost use Rattle.broadcast_mailbox.specs.Ends.{IngressEnd, MailboxEnd};
+ghost use Rattle.commonware_broadcast.specs.Fresh.{fresh};
+
 use crate::buffered::config::{Config, Observed};
 use crate::buffered::engine::{Engine, StartError, give_up};
 use crate::buffered::front::MailboxEngine;
@@ -152,6 +157,11 @@ where
     B: Drop,
     T: Strategy<M> + Drop,
     R: AllocGlobal + Clone + Drop,
+    ensures no_history { IfOk result (λ ends.
+        ends.0 ≡ fresh cfg ends.0.requests ends.0.node.outlet) }
+    ensures own_mailbox { IfOk result (λ ends. ends.1.inbox ≡ ends.0.requests.inbox) }
+    ensures mailbox_size { IfOk result (λ ends.
+        ends.1.inbox.size ≡ non_zero_usize_get cfg.mailbox_size) }
 {
     Engine::new(rt.clone()?, rt.alloc(), cfg)
 }

@@ -64,6 +64,8 @@ impl<M: Digestible> Closed<M> {
     }
 
     /// Forgets the digests that have no waiters any more.
+    // Inlined as `Engine::poll_job` is.
+    #[inline(always)]
     pub(super) fn forget<P: PublicKey, Waiter: Drop>(&mut self, core: &Core<P, M, Waiter>) {
         if !self.applied.is_empty() {
             self.applied.retain(|digest| core.waiting(digest) > 0);

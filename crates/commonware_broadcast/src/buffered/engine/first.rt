@@ -56,6 +56,8 @@ pub(super) fn comes_first<P: Drop, J: Drop, T: Awaits, Q: Requests<T>>(
 
 /// Returns whether the engine is to stop, and else lets a stop wake its task. Does nothing unless
 /// `is_asked`.
+// Inlined as `Engine::poll_job` is.
+#[inline(always)]
 pub(super) fn is_to_stop<T: Awaits, Q: Requests<T>>(
     requests: &mut Q,
     is_asked: bool,

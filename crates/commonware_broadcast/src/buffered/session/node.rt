@@ -1,8 +1,10 @@
 //! The node of a session, from its start to the settlement of its account.
 ghost use Rattle.std.specs.Prelude.{◌≡◌, ◌+◌, ◌≤◌, [], length, vec_len, vec_capacity, IfOk};
-ghost use Rattle.std.specs.NonZero.{non_zero_u32_get};
+ghost use Rattle.std.specs.NonZero.{non_zero_u32_get, non_zero_usize_get};
 ghost use Rattle.broadcast_mailbox.specs.Account.{TallyState, capped};
+ghost use Rattle.broadcast_mailbox.specs.Ends.{IngressEnd, MailboxEnd};
 ghost use Rattle.broadcast_mailbox.specs.Watch.{BroadcastsOnly};
+ghost use Rattle.commonware_broadcast.specs.Fresh.{fresh};
 ghost use Rattle.commonware_broadcast.specs.Sessions.{Accepts, AddsUp};
 
 use super::client::{Client, Ends, WatchedEnds};
@@ -129,7 +131,12 @@ impl<P: PublicKey, C: Drop, B: Drop, T: Drop> Config<P, C, B, T> {
         requires parts { (A.all ≡ A.parts) × (A.parts ≡ non_zero_u32_get clients) }
         requires taken { (taken.name ≡ K.name) × (taken.parts ≡ K.parts) }
         requires one { (K.all ≡ K.parts) × (K.parts ≡ 1) }
-        ensures { IfOk result (λ made. made.2.parts ≡ non_zero_u32_get clients) }
+        ensures parts { IfOk result (λ made. made.2.parts ≡ non_zero_u32_get clients) }
+        ensures no_history { IfOk result (λ made.
+            made.0 ≡ fresh self made.0.requests made.0.node.outlet) }
+        ensures own_mailbox { IfOk result (λ made. made.1.inbox ≡ made.0.requests.inbox) }
+        ensures mailbox_size { IfOk result (λ made.
+            made.1.inbox.size ≡ non_zero_usize_get self.mailbox_size) }
     {
         let Ok(own) = rt.clone() else {
             drop::<_>(self);
@@ -249,6 +256,8 @@ impl<Out, P: PublicKey, W: Drop> Finished<Out, P, W> {
         requires whole { tally.parts ≡ A.parts }
         ensures accepted { result.accepted ≡ capped tally.accepted }
         ensures settled { AddsUp result.accepted result.settled }
+        ensures taken { result.settled.applied + result.settled.refused ≡ report.requests.taken }
+        ensures refused { result.settled.refused ≡ report.requests.refused }
         ensures broadcasts { BroadcastsOnly V.watched → result.settled.skipped ≡ 0 }
         ensures outputs { result.outputs ≡ outputs }
         ensures metrics { result.metrics ≡ report.metrics }
