@@ -14,6 +14,7 @@ use broadcast_core::{Digest, Key, TestMessage};
 use commonware_broadcast::buffered::{self, Get, Mailbox, Runtime, Subscription};
 use memory_network::Network;
 use std::alloc::AllocGlobal;
+use std::collections::VecDeque;
 use std::fmt::{self, Display, Formatter};
 use std::io;
 use std::sync::Arc;
@@ -256,17 +257,30 @@ where
         answered
     }
 
-    /// Makes the requests of all rounds, until a client fails. Returns how many were answered.
+    /// Makes the requests of all rounds. Returns how many were answered.
     fn ask(&self) -> Answered {
         let digest = digest_of(self.rt.alloc(), 1, 1)?;
         let unsent = digest_of(self.rt.alloc(), 3, 1)?;
+        let mut gets = VecDeque::new(self.rt.alloc());
+        self.ask_in_rounds(digest, unsent, &mut gets)
+    }
+
+    /// Makes the requests of all rounds, until a client fails. The place of its gets is `gets`,
+    /// whose memory each round uses again. Returns how many were answered.
+    fn ask_in_rounds(
+        &self,
+        digest: Digest,
+        unsent: Digest,
+        gets: &mut VecDeque<Get<TestMessage>>,
+    ) -> Answered {
         let mut answered = 0u64;
         for _ in 0..self.rate.rounds {
             if self.failed.load(Ordering::SeqCst) {
                 return Ok(answered);
             }
             let waiting = self.subscriptions(unsent)?;
-            answered = answered.saturating_add(self.ask_at_once(digest)?);
+            self.ask_at_once(digest, gets)?;
+            answered = answered.saturating_add(count_answered(&self.rt, gets));
             drop(waiting);
             self.progress.count(self.rate.depth);
         }
@@ -282,31 +296,30 @@ where
         Ok(waiting)
     }
 
-    /// Makes the requests of a round, and waits for them. Returns how many were answered.
-    fn ask_at_once(&self, digest: Digest) -> Answered {
-        let gets = self.gets(digest)?;
-        Ok(count_answered(&self.rt, gets))
-    }
-
     /// Makes the requests of a round.
-    fn gets(&self, digest: Digest) -> Result<Vec<Get<TestMessage>>, Fault>
-        ensures { IfOk result (λ gets. length gets.items ≡ self.now.rate.depth) }
+    fn ask_at_once(
+        &self,
+        digest: Digest,
+        gets: &mut VecDeque<Get<TestMessage>>,
+    ) -> Result<(), Fault>
+        ensures { OnOk result
+            (length gets.new.items ≡ length gets.old.items + self.now.rate.depth) }
     {
-        let mut gets = Vec::new(self.rt.alloc());
         for _ in 0..self.rate.depth {
-            gets.push(self.mailbox.get(digest)?)?;
+            gets.push_back(self.mailbox.get(digest)?)?;
         }
-        Ok(gets)
+        Ok(())
     }
 }
 
-/// Waits for the requests. Returns how many were answered with the message.
-pub fn count_answered<R>(rt: &R, gets: Vec<Get<TestMessage>>) -> u64
+/// Waits for the requests, and takes them out. Returns how many were answered with the message.
+pub fn count_answered<R>(rt: &R, gets: &mut VecDeque<Get<TestMessage>>) -> u64
 where
     R: Runtime,
+    ensures { gets.new.items ≡ [] }
 {
     let mut answered = 0u64;
-    for get in gets {
+    while let Some(get) = gets.pop_front() {
         if get.wait(rt).is_some() {
             answered = answered.saturating_add(1);
         }
