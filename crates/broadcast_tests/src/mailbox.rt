@@ -1,6 +1,7 @@
 //! The mailbox: its overflow, its inbox, its calls, what callers are given, callers on threads, and
 //! relays.
 mod accepted;
+mod by_hand;
 mod calls;
 mod drops;
 mod inbox;

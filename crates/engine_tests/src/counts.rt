@@ -5,6 +5,7 @@ use cluster_lib::measure::count_answered;
 use commonware_broadcast::buffered::{Get, Mailbox, Runtime, Sequential, Subscription};
 use memory_node::support::nodes::{broadcast, digest, gets, start, track};
 use std::alloc::AllocGlobal;
+use std::collections::VecDeque;
 use std::process::Abort;
 use std::sync::Wait;
 use std::test::Fail;
@@ -39,7 +40,7 @@ fn cases() -> &'static [Case] {
 #[derive(Drop)]
 struct Asked {
     subscriptions: Vec<Subscription<TestMessage>>,
-    gets: Vec<Get<TestMessage>>,
+    gets: VecDeque<Get<TestMessage>>,
 }
 
 impl Asked {
@@ -50,14 +51,14 @@ impl Asked {
     {
         let mut asked = Asked {
             subscriptions: Vec::new(rt.alloc()),
-            gets: Vec::new(rt.alloc()),
+            gets: VecDeque::new(rt.alloc()),
         };
         for letter in [1, 2] {
             let digest = digest(rt.alloc(), letter).expect(rt, "memory");
             let subscription = mailbox.subscribe(digest).expect(rt, "a request");
             asked.subscriptions.push(subscription).expect(rt, "memory");
             let get = mailbox.get(digest).expect(rt, "a request");
-            asked.gets.push(get).expect(rt, "memory");
+            asked.gets.push_back(get).expect(rt, "memory");
         }
         asked
     }
@@ -69,10 +70,10 @@ impl Asked {
     {
         let Asked {
             subscriptions,
-            gets,
+            mut gets,
         } = self;
         let served = count_served(rt, subscriptions);
-        (served, count_answered(rt, gets))
+        (served, count_answered(rt, &mut gets))
     }
 }
 

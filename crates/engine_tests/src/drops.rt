@@ -1,17 +1,17 @@
 //! Who leaves the node once a caller no longer waits.
-use broadcast_core::{Codec, Digest, Digestible, RangeCfg};
+use broadcast_core::{Codec, Digest, Digestible, RangeCfg, Set};
 use broadcast_mailbox::buffered::{Answering, Incoming, Message, Reply, Request, Subscription};
 use commonware_broadcast::buffered::{
     Config, Engine, Input, Mailbox, MailboxEngine, Sequential, Status, drive,
 };
 use futures::channel::oneshot::{self, Receiver};
 use futures::task::{Doorbell, Poll, Solo};
-use memory_network::{Inbound, Network, Outbound, PeerSets};
+use memory_network::{Inbound, Mail, Network, Outbound, PeerSets};
 use std::alloc::{AllocError, AllocGlobal, Global};
 use std::num::NonZeroUsize;
 use std::process::Abort;
 use std::random::RandomSource;
-use std::sync::Wait;
+use std::sync::{Arc, Wait};
 
 /// What becomes of the waiters of a node.
 #[derive(Clone, Copy)]
@@ -22,6 +22,10 @@ enum Step {
     Apply(u64),
     /// The oldest request is taken from the mailbox, and applied by hand.
     Take,
+    /// The node has a new peer set, which the next poll takes, and no request.
+    Track,
+    /// The engine is polled once.
+    PollOnce,
     /// The subscribes with these places are dropped.
     Drop(usize, usize),
     /// The engine is polled until it has nothing to do, and looks then once more. It has then
@@ -35,7 +39,7 @@ const POLLS: usize = 2000;
 /// More than the digests that a mailbox keeps.
 const MANY: u64 = 1100;
 
-static ROWS: [&[Step]; 6] = [
+static ROWS: [&[Step]; 7] = [
     // A channel that the mailbox does not know.
     &[
         Step::Apply(1),
@@ -50,6 +54,15 @@ static ROWS: [&[Step]; 6] = [
     &[
         Step::Subscribe(1),
         Step::Drop(0, 1),
+        Step::Take,
+        Step::Poll(0, 1),
+    ],
+    // The same, where a poll sees the drop before the request is taken.
+    &[
+        Step::Subscribe(1),
+        Step::Drop(0, 1),
+        Step::Track,
+        Step::PollOnce,
         Step::Take,
         Step::Poll(0, 1),
     ],
@@ -144,6 +157,7 @@ where
     engine: MailboxEngine<u64, M, PeerSets<u64, R>, Sequential, R>,
     mailbox: Mailbox<u64, M, R>,
     network: (Outbound<u64, R>, Inbound<u64, R>),
+    mail: Arc<Mail<u64>>,
     task: Solo,
     asked: Vec<Asked<M>>,
 }
@@ -192,6 +206,7 @@ where
             engine,
             mailbox,
             network: (ends.sender, ends.receiver),
+            mail: ends.mail,
             task,
             asked: Vec::new(rt.alloc()),
         }
@@ -218,6 +233,8 @@ where
                     self.apply(rt.alloc(), ticket, message);
                 }
             }
+            Step::Track => self.track(rt),
+            Step::PollOnce => self.poll(rt.alloc(), 1).expect(rt, "memory"),
             Step::Drop(from, to) => {
                 let number = to.saturating_sub(from);
                 for asked in self.asked.iter_mut().skip(from).take(number) {
@@ -225,13 +242,21 @@ where
                 }
             }
             Step::Poll(awaited, dropped) => {
-                self.poll(rt.alloc()).expect(rt, "memory");
+                self.poll(rt.alloc(), POLLS).expect(rt, "memory");
                 let metrics = self.engine.metrics();
                 return metrics.waiters() == awaited
                     && metrics.subscribe(Status::Dropped) == dropped;
             }
         }
         true
+    }
+
+    /// Gives the node a set of one peer.
+    fn track(&self, rt: &R) {
+        let mut peers = Vec::new(rt.alloc());
+        peers.push(1).expect(rt, "memory");
+        let peers = Set::from_iter_dedup(peers).expect(rt, "memory");
+        self.mail.set_peers(rt, peers).expect(rt, "memory");
     }
 
     /// Applies a request by hand.
@@ -246,10 +271,10 @@ where
             .apply(alloc, Input::Request(request), &mut self.network.0);
     }
 
-    /// Polls the engine until it has nothing to do.
-    fn poll(&mut self, alloc: Global) -> Result<(), AllocError> {
+    /// Polls the engine this often, or until it has nothing to do.
+    fn poll(&mut self, alloc: Global, polls: usize) -> Result<(), AllocError> {
         let mut cx = self.task.begin();
-        let turns = drive(alloc, &mut self.engine, &mut cx, &mut self.network, POLLS);
+        let turns = drive(alloc, &mut self.engine, &mut cx, &mut self.network, polls);
         // The task is to be polled again.
         let _: Poll<()> = cx.yield_now();
         cx.park();

@@ -1,31 +1,36 @@
-//! A broadcast that is answered while a job is pending.
-use super::nodes::{hold, start_patient};
+//! Broadcasts that are answered while a job is pending.
+use super::nodes::{hold, start_whole};
 use super::patient::Talk;
 use broadcast_core::TestMessage;
+use commonware_broadcast::Feedback;
 use commonware_broadcast::buffered::Runtime;
 use memory_node::node::Node;
 use memory_node::support::nodes::{broadcast, subscribe};
 use std::process::Abort;
-use std::test::Fail;
 
-/// Whether a broadcast was accepted while a job was pending at an engine, the job was polled to its
-/// limit before that, and the job's message was taken afterwards.
+/// The places of the ready list of a node.
+const PLACES: usize = 1000;
+
+/// What becomes of broadcasts while a job is pending at an engine, and of the job.
 #[derive(Clone, Copy, Debug, PartialEq, Eq)]
 struct Answered {
-    accepted: bool,
+    /// How many were accepted before the first of which the caller is to back off.
+    queued: usize,
+    /// Whether the job was polled to its limit before that.
     gave_up: bool,
+    /// Whether the job's message was taken afterwards.
     taken: bool,
 }
 
 /// Broadcasts while a job is pending, which waits for the answer.
-fn broadcast_meanwhile<R>(rt: &R) -> Result<Answered, Fail>
+fn broadcast_meanwhile<R>(rt: &R) -> Answered
 where
     R: Runtime + Abort,
 {
-    let (node, talk) = start_patient(rt)?;
+    let (node, talk) = start_whole(rt);
     let answered = answers(rt, &node, &talk);
     drop(node.join(rt));
-    Ok(answered)
+    answered
 }
 
 /// Broadcasts at a node while a job is pending, and waits until its message is taken. The network
@@ -35,34 +40,46 @@ where
     R: Runtime + Abort,
 {
     let waiting = subscribe(rt, &node.mailbox, 2).expect(rt, "a subscription");
-    let accepted = is_accepted(rt, node, talk);
+    let queued = broadcast_while_pending(rt, node, talk);
     Answered {
-        accepted,
+        queued,
         gave_up: talk.gave_up(),
         taken: waiting.wait(rt).is_ok(),
     }
 }
 
-/// Broadcasts at a node while a job is pending. Returns whether the broadcast was accepted.
-fn is_accepted<R>(rt: &R, node: &Node<TestMessage, R>, talk: &Talk) -> bool
+/// Broadcasts at a node while a job is pending. Returns how many broadcasts were queued.
+fn broadcast_while_pending<R>(rt: &R, node: &Node<TestMessage, R>, talk: &Talk) -> usize
 where
     R: Runtime + Abort,
 {
     hold(rt, &node.mail, talk);
-    let feedback = broadcast(rt, &node.mailbox, 1).expect(rt, "a broadcast");
-    let accepted = feedback.accepted();
+    let queued = fill(rt, node);
     talk.answer();
     node.mail.fail(rt).expect(rt, "memory");
-    accepted
+    queued
+}
+
+/// Broadcasts until the caller is to back off. Returns how many broadcasts were queued before.
+fn fill<R>(rt: &R, node: &Node<TestMessage, R>) -> usize
+where
+    R: Runtime + Abort,
+{
+    for queued in 0..=PLACES {
+        let feedback = broadcast(rt, &node.mailbox, 1).expect(rt, "a broadcast");
+        if feedback != Feedback::Ok {
+            return queued;
+        }
+    }
+    PLACES + 1
 }
 
 #[test]
-fn core_is_outside_the_lock(rt: HostRuntime) -> Result<(), Fail> {
+fn core_is_outside_the_lock(rt: HostRuntime) {
     let expected = Answered {
-        accepted: true,
+        queued: PLACES,
         gave_up: false,
         taken: true,
     };
-    assert_eq!(rt; broadcast_meanwhile(&rt)?, expected);
-    Ok(())
+    assert_eq!(rt; broadcast_meanwhile(&rt), expected);
 }

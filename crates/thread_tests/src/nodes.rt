@@ -3,7 +3,9 @@ use super::patient::{LIMIT, Patient, Talk, pause};
 use broadcast_core::{Codec, Digestible, Key, RangeCfg, TestMessage};
 use broadcast_mailbox::MailboxError;
 use commonware_broadcast::Feedback;
-use commonware_broadcast::buffered::{self, Mailbox, Open, Pool, Runtime, Threaded, Work};
+use commonware_broadcast::buffered::{
+    self, Mailbox, Movable, Open, Pool, Runtime, Strategy, Threaded, Work,
+};
 use memory_network::Mail;
 use memory_node::node::{Node, config};
 use memory_node::support::nodes::{broadcast, network, send, start, track};
@@ -62,6 +64,36 @@ where
     let talk = Talk::new(rt).expect(rt, "memory");
     let strategy = Patient::new(rt, &talk).expect(rt, "memory");
     Ok((start(rt, strategy)?, talk))
+}
+
+/// Starts that node by the call that makes its mailbox, too.
+pub fn start_whole<R>(rt: &R) -> (Node<TestMessage, R>, Arc<Talk>)
+where
+    R: Runtime + Abort,
+{
+    let talk = Talk::new(rt).expect(rt, "memory");
+    let strategy = Patient::new(rt, &talk).expect(rt, "memory");
+    (start_with(rt, RangeCfg::any(), strategy), talk)
+}
+
+/// Starts the node of number 1. It is generic in the message, as `start_gated` is.
+fn start_with<M, T, R>(rt: &R, codec_config: M::Cfg, strategy: T) -> Node<M, R>
+where
+    M: Digestible + Codec + Send + Sync + 'static,
+    M::Digest: 'static,
+    M::Cfg: Movable,
+    T: Strategy<M> + Movable,
+    T::Job: Send + 'static,
+    R: Runtime + Abort,
+{
+    let (mail, network) = network(rt).expect(rt, "memory");
+    let cfg = config(rt, codec_config, strategy, &mail, 4).expect(rt, "memory");
+    let (handle, mailbox) = buffered::start(rt, cfg, network).expect(rt, "an engine");
+    Node {
+        mailbox,
+        mail,
+        handle,
+    }
 }
 
 /// Lets a job be pending at the node, which has the peer 5. It is of the message of the letter 2.

@@ -228,6 +228,74 @@ fn is_kept<R: Wait + Abort + Clock + AllocGlobal + Clone + Drop>(rt: &R) -> bool
     before == Poll::Pending && after == Poll::Ready(Some(Left(2, 3, true)))
 }
 
+/// A limit within which what is answered is given, also on a busy machine.
+fn middle() -> Duration {
+    Duration::from_secs(1)
+}
+
+#[test]
+fn a_number_of_a_set_is_waited_for_within_one_limit(rt: HostRuntime) {
+    // Two are answered, so a caller that wants three has these once its limit is over.
+    for (wanted, given) in [(1, 1), (2, 2), (3, 2)] {
+        assert_eq!(rt; number_given(&rt, wanted), given, "{wanted} wanted");
+    }
+}
+
+/// Waits for this many of a set of which two are answered. Returns how many it is given.
+fn number_given<R: Wait + Abort + Clock + AllocGlobal + Clone + Drop>(
+    rt: &R,
+    wanted: usize,
+) -> usize {
+    let own = rt.clone().expect(rt, "memory");
+    let (mailbox, ingress) = channel(own, rt.alloc(), NonZeroUsize::MIN).expect(rt, "memory");
+    let mut set = asked(rt, &mailbox);
+    let mut requests = taken(rt, &ingress);
+    for digest in [1, 3] {
+        answer(rt.alloc(), &mut requests, digest, digest).expect(rt, "memory");
+    }
+    wait_for(rt, &mut set, wanted)
+}
+
+/// Waits for this many of a set, for no longer than one limit. Returns how many it is given.
+fn wait_for<R: Wait + Abort + Clock>(
+    rt: &R,
+    set: &mut Subscriptions<Note>,
+    wanted: usize,
+) -> usize {
+    let start = Instant::now(rt).expect(rt, "a clock");
+    for given in 0..wanted {
+        let passed = start.elapsed(rt).expect(rt, "a clock");
+        let Some(left) = middle().checked_sub(passed) else {
+            return given;
+        };
+        match set.wait_any_timeout(rt, left) {
+            Poll::Ready(Some(first)) => drop::<_>(first),
+            Poll::Ready(None) | Poll::Pending => return given,
+        }
+    }
+    wanted
+}
+
+#[test]
+fn the_drops_of_a_set_are_told(rt: HostRuntime) {
+    let told = told_of_a_set(&rt);
+    assert_eq!(rt; told.as_slice(), &DIGESTS[..]);
+}
+
+/// Drops a set whose requests wait. Returns the digests of which the mailbox tells that.
+fn told_of_a_set<R: Wait + Abort + AllocGlobal + Clone + Drop>(rt: &R) -> Vec<u64> {
+    let own = rt.clone().expect(rt, "memory");
+    let (mailbox, mut ingress) = channel(own, rt.alloc(), NonZeroUsize::MIN).expect(rt, "memory");
+    let set = asked(rt, &mailbox);
+    let requests = taken(rt, &ingress);
+    drop::<_>(set);
+    let mut told = Vec::new(rt.alloc());
+    let may_be_any = ingress.take_dropped(&mut told);
+    drop::<_>(requests);
+    assert!(rt; !may_be_any, "any digest");
+    told
+}
+
 #[test]
 fn each_of_a_set_wakes_who_waits(rt: HostRuntime) {
     let start = Instant::now(&rt).expect(&rt, "a clock");

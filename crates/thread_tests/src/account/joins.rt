@@ -20,6 +20,13 @@ const CLIENTS: u32 = 4;
 /// With how many copies of the runtime a session is tried, at most.
 const COPIES: u64 = 100;
 
+/// How often the end of an engine pauses.
+const ENGINE_STAYS: u64 = 50;
+
+/// How often a client pauses once its mailbox is closed, so that one that nobody joins outlasts
+/// the engine.
+const CLIENT_STAYS: u64 = 100;
+
 /// How many clients have begun, and how many have ended.
 #[derive(Drop)]
 struct Counts {
@@ -53,7 +60,7 @@ where
             client.stop();
         }
         let _told = broadcast_until_closed(&self.rt, client);
-        stay(&self.rt);
+        stay(&self.rt, CLIENT_STAYS);
         self.counts.ended.fetch_add(1, Ordering::SeqCst);
     }
 }
@@ -67,14 +74,14 @@ struct Slow<R> {
 impl<R: Clock> Observer<u64, Digest> for Slow<R> {
     fn turn(&mut self, turn: &Turn<u64, Digest>) {
         if matches!(turn, Turn::Ended(_)) {
-            stay(&self.rt);
+            stay(&self.rt, ENGINE_STAYS);
         }
     }
 }
 
-/// Gives up the thread for a while.
-fn stay(clock: &impl Clock) {
-    for _ in 0..50 {
+/// Gives up the thread so often.
+fn stay(clock: &impl Clock, pauses: u64) {
+    for _ in 0..pauses {
         pause(clock);
     }
 }

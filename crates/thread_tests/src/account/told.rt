@@ -6,11 +6,11 @@ use crate::patient::{LIMIT, pause};
 use broadcast_core::{Items, Recipients, Sent, TestMessage};
 use broadcast_mailbox::{Feedback, MailboxError};
 use commonware_broadcast::buffered::{
-    Account, All, Finished, Runtime, Sender, Sequential, Session, WatchedClient,
+    Account, All, Finished, Runtime, Sender, Sequential, Session, Settled, WatchedClient,
 };
 use memory_node::support::message::{To, digest, digested, recipients, sending};
 use std::alloc::{AllocError, AllocGlobal, Global};
-use std::num::NonZeroU32;
+use std::num::{NonZeroU32, NonZeroUsize};
 use std::process::Abort;
 use std::random::RandomSource;
 use std::sync::atomic::{AtomicBool, Ordering};
@@ -20,11 +20,12 @@ use std::time::Clock;
 /// The recipients of a message, its letter, and what a client is told of its broadcast.
 struct Row(To, u8, Feedback);
 
-/// The first one is taken by the engine, and the second one has the only place of the ready list.
-static ROWS: [Row; 3] = [
+/// The first one is taken by the engine, and the next two have the places of the ready list.
+static ROWS: [Row; 4] = [
     Row(To::One(5), b'a', Feedback::Ok),
     Row(To::Some(&[5, 6]), b'b', Feedback::Ok),
-    Row(To::All, b'c', Feedback::Backoff),
+    Row(To::All, b'c', Feedback::Ok),
+    Row(To::All, b'd', Feedback::Backoff),
 ];
 
 fn rows() -> &'static [Row] {
@@ -90,7 +91,7 @@ impl<R: Wait + Clock> Sender<u64> for Recorder<R> {
     }
 }
 
-/// A session whose client makes the broadcasts of all rows.
+/// A session whose client makes the broadcasts of all rows, a subscribe and a get.
 #[derive(Drop)]
 struct Broadcasting<R> {
     record: Arc<Record>,
@@ -124,17 +125,21 @@ where
             told.push_reserved(feedback.expect(rt, "a broadcast"));
             self.record.wait_for_send(rt);
         }
+        // This one waits behind the ready list, from which it is skipped.
+        let digest = digest(alloc, b'a').expect(rt, "memory");
+        let subscription = client.subscribe(digest).expect(rt, "a subscribe");
+        drop::<_>(subscription);
         self.record.goes_on.store(true, Ordering::SeqCst);
         // Requests are taken in order, so the broadcasts are applied before this one.
-        let digest = digest(alloc, b'a').expect(rt, "memory");
         let get = client.get(digest).expect(rt, "a get");
         drop::<_>(get.wait(rt));
         Ok(told)
     }
 }
 
-/// Runs the session. Returns what its client was told, and what its engine sent.
-fn run<R>(rt: &R) -> (Vec<Feedback>, Arc<Record>)
+/// Runs the session. Returns what its client was told, what its engine sent, and what became of
+/// its requests.
+fn run<R>(rt: &R) -> (Vec<Feedback>, Arc<Record>, Settled)
 where
     R: Runtime + Abort,
 {
@@ -148,22 +153,34 @@ where
         rt: rt.clone().expect(rt, "memory"),
     };
     let sets = Sets::new(rt.alloc(), Gives::Nothing).expect(rt, "memory");
-    let config = config(sets, Sequential);
+    let two = NonZeroUsize::MIN.saturating_add(1);
+    let config = config(sets, Sequential).with_mailbox_size(two);
     let network = (
         sender,
         Wire::new(rt.alloc(), Gives::Nothing).expect(rt, "memory"),
     );
     let finished = config.run_session(rt, network, NonZeroU32::MIN, session, ());
-    let Finished { mut outputs, .. } = finished.expect(rt, "a session");
+    let Finished {
+        mut outputs,
+        settled,
+        ..
+    } = finished.expect(rt, "a session");
     match outputs.pop() {
-        Some(told) => (told.expect(rt, "what a client is told"), record),
+        Some(told) => (told.expect(rt, "what a client is told"), record, settled),
         None => panic!(rt; "no client leaves anything"),
     }
 }
 
 #[test]
 fn a_client_is_told_of_its_broadcasts(rt: HostRuntime) {
-    let (told, record) = run(&rt);
+    let (told, record, settled) = run(&rt);
+    let expected = Settled {
+        applied: 5,
+        refused: 0,
+        skipped: 1,
+        given_up: 0,
+    };
+    assert_eq!(rt; settled, expected);
     let sent = record.sent.lock(&rt);
     assert_eq!(rt; (told.len(), sent.len()), (rows().len(), rows().len()));
     for (place, row) in rows().iter().enumerate() {
