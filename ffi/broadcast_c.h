@@ -208,7 +208,8 @@ uint32_t broadcast_node_subscribe(broadcast_node *node, uint64_t ticket, const u
 /* The cached message of the digest is asked for. */
 uint32_t broadcast_node_get(broadcast_node *node, uint64_t ticket, const uint8_t digest[32],
                             broadcast_answer *out);
-/* The waiters with these tickets are gone. */
+/* The waiters with these tickets are gone. Looks at all waiters; a cache and a store have calls for those of
+   one digest. */
 uint32_t broadcast_node_cleanup(broadcast_node *node, const uint64_t *tickets, size_t tickets_len,
                                 broadcast_answer *out);
 /* Copies the tickets that the last event served, in the order of their subscribes. */

@@ -207,7 +207,7 @@ fn follow_all<R: Runtime>(members: &mut [Member<R>], awaited: Awaited) -> Result
 }
 
 /// Lets the members vote for the block of this height.
-fn settle<R: Runtime>(members: &mut [Member<R>], height: u64) -> Result<()> {
+fn agree<R: Runtime>(members: &mut [Member<R>], height: u64) -> Result<()> {
     follow_all(members, Awaited::Block(height))?;
     follow_all(members, Awaited::Votes(height))
 }
@@ -220,7 +220,7 @@ fn run_rounds<R: Runtime>(members: &mut [Member<R>], payloads: &[u8]) -> Result<
         };
         leader.lead(*payload)?;
         let height = leader.ledger.height();
-        settle(members, height)?;
+        agree(members, height)?;
     }
     Ok(())
 }
@@ -240,7 +240,7 @@ fn attack<R: Runtime>(hostile: &mut Member<R>, others: &[Member<R>]) -> Result<(
 
 /// Lets the members wait for the attack, and change their peers.
 fn end_epoch<R: Runtime>(members: &mut [Member<R>]) -> Result<()> {
-    settle(members, 4)?;
+    agree(members, 4)?;
     for member in members {
         member.follow(Awaited::Faults)?;
         member.change_peers()?;
