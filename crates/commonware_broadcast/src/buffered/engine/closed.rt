@@ -1,5 +1,8 @@
 //! Which waiters the next cleanup asks.
-ghost use Rattle.std.specs.Prelude.{◌≡◌, ◌++◌, true, false};
+ghost use Rattle.std.specs.Prelude.{◌≡◌, ◌++◌, ◌<◌, true, false, length, IfSome};
+ghost use Rattle.std.specs.List.{list_any};
+ghost use Rattle.std.specs.Ordering.{eq_by_cmp};
+ghost use Rattle.broadcast_core.specs.Content.{same_by, waiting_at};
 
 use broadcast_core::{Core, Digestible, PublicKey};
 use std::alloc::Global;
@@ -46,7 +49,13 @@ impl<M: Digestible> Closed<M> {
         &mut self,
         core: &Core<P, M, Waiter>,
         digest: Option<M::Digest>,
-    ) {
+    )
+        ensures kept { IfSome digest (λ applied. 0 < length
+            (waiting_at (same_by P.cmp M.Digest.cmp) core.now applied)
+            → self.new.asks_each ≡ false
+            → list_any (eq_by_cmp M.Digest.cmp applied) self.new.applied.items ≡ true) }
+        ensures each { self.old.asks_each ≡ true → self.new.asks_each ≡ true }
+    {
         if let Some(digest) = digest {
             if core.waiting(&digest) > 0 {
                 self.insert(digest);
@@ -54,8 +63,13 @@ impl<M: Digestible> Closed<M> {
         }
     }
 
-    /// Inserts the digest among those of which the requests tell nothing.
-    fn insert(&mut self, digest: M::Digest) {
+    /// Inserts the digest among those of which the requests tell nothing. If there is no memory for
+    /// it, any digest may be one of these from then on.
+    fn insert(&mut self, digest: M::Digest)
+        ensures kept { self.new.asks_each ≡ false
+            → list_any (eq_by_cmp M.Digest.cmp digest) self.new.applied.items ≡ true }
+        ensures each { self.old.asks_each ≡ true → self.new.asks_each ≡ true }
+    {
         if let Err(place) = self.applied.binary_search(&digest) {
             if self.applied.insert(place, digest).is_err() {
                 self.asks_each = true;
