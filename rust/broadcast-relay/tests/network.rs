@@ -11,7 +11,7 @@ use std::thread::{sleep, spawn};
 use std::time::{Duration, Instant};
 use support::hostile::{Hostile, frame, have, now};
 use support::lab::Lab;
-use support::load::Beside;
+use support::load::{Beside, Machine};
 use support::strangers::{Habit, Strangers};
 use support::{Key, Relay, folder, keygen, wait_for};
 
@@ -30,7 +30,7 @@ const P99: Duration = Duration::from_millis(100);
 const LOADS: usize = 3;
 const SOON: Duration = Duration::from_secs(1);
 /// How long a test waits for what must come, whatever else the machine does.
-const PATIENCE: Duration = Duration::from_secs(30);
+const PATIENCE: Duration = Duration::from_secs(120);
 const LIMITS: &str =
     "[limits]\nbytes_per_peer = 4194304\nhandshakes = 128\nhandshakes_per_address = 16";
 
@@ -53,11 +53,6 @@ impl Attackers {
             .stdout(Stdio::null())
             .spawn();
         Attackers(process.unwrap())
-    }
-
-    /// The processes that the test has started: these, and relays.
-    fn processes(&self, relays: &[Relay]) -> Vec<u32> {
-        relays.iter().map(Relay::id).chain([self.0.id()]).collect()
     }
 }
 
@@ -195,10 +190,11 @@ fn come_back(killed: &mut Relay) -> Duration {
     start.elapsed()
 }
 
-/// How a load was met: the longest of the dials, and the 99th percentile of the latencies.
+/// How a load was met: the longest of the dials, the 99th percentile of the latencies, and what the machine did meanwhile.
 struct Met {
     dial: Duration,
     p99: Duration,
+    machine: Machine,
 }
 
 impl Met {
@@ -245,13 +241,29 @@ impl Network<'_> {
 
     /// Loads the relays, and waits until all have come.
     fn meet(&mut self) -> Met {
+        let beside = Beside::start(&self.relays[0].folder);
         let since = Instant::now();
         let dial = self.load();
         arrive(self.relays, &self.typed);
+        let machine = beside.end();
         let took = self.typed.latencies(self.relays, since);
         let at = |part: f64| took[(took.len() as f64 * part) as usize];
         println!("p50 {:?}, p99 {:?}, p99.9 {:?}", at(0.5), at(0.99), at(0.999));
-        Met { dial, p99: at(0.99) }
+        println!("the machine: {machine}");
+        Met { dial, p99: at(0.99), machine }
+    }
+
+    /// Loads the relays until a load is met in time. Fails if none is though the machine was free in each.
+    fn must_be_met(&mut self) {
+        let mut late = 0;
+        for _ in 0..LOADS {
+            let met = self.meet();
+            if met.is_in_time() {
+                return;
+            }
+            late += usize::from(met.machine.is_free());
+        }
+        assert!(late < LOADS, "no load was met in time on a free machine");
     }
 }
 
@@ -311,15 +323,8 @@ fn each_honest_message_arrives_everywhere_once_and_soon() {
         let strangers = strangers(lab, &relays);
         let attackers = Attackers::start(&relays, &key);
         sleep(Duration::from_secs(1));
-        let beside = Beside::start(&attackers.processes(&relays));
-        let typed = Typed::new();
-        let mut network = Network { relays: &mut relays, typed, ticks: 0, memory: 0 };
-        let mut met = network.meet();
-        for _ in 1..LOADS {
-            if !met.is_in_time() {
-                met = network.meet();
-            }
-        }
+        let mut network = Network { relays: &mut relays, typed: Typed::new(), ticks: 0, memory: 0 };
+        network.must_be_met();
         let Network { typed, memory, .. } = network;
         let memory = relays.iter().map(|it| it.memory("VmHWM")).max().unwrap().max(memory);
         let metric = |it: &str| relays.iter().map(|relay| relay.metric(it)).collect::<Vec<_>>();
@@ -331,9 +336,6 @@ fn each_honest_message_arrives_everywhere_once_and_soon() {
             metric("relay_delivered_total{author=\"hostile\"}"),
             metric("relay_invalid_total{peer=\"hostile\"}"),
         );
-        let processes = attackers.processes(&relays);
-        beside.judge("the dial", met.dial, SOON, &processes);
-        beside.judge("p99", met.p99, P99, &processes);
         drop((strangers, attackers));
         assert!(memory < bound);
         end(&mut relays, &typed);

@@ -13,7 +13,8 @@ use support::{Relay, folder, keygen, wait_for};
 
 /// How soon a dial of an honest peer must succeed, on a machine that has no other work.
 const SOON: Duration = Duration::from_secs(1);
-/// How many dials there are at most, until one succeeds in time: a machine that stands still for a moment is late in one.
+/// How many dials there are at most, until one succeeds in time: a machine that stands still for a moment is late in one, and a
+/// relay that is slow in each.
 const DIALS: usize = 3;
 /// How long a test waits for it, whatever else the machine does.
 const PATIENCE: Duration = Duration::from_secs(30);
@@ -36,22 +37,23 @@ fn first_message(relays: &mut [Relay], text: &str) -> Duration {
     start.elapsed()
 }
 
-/// Starts the second relay, again if it takes too long, and returns how long the last start takes until the first prints a message.
-fn dial(relays: &mut [Relay]) -> Duration {
-    let mut took = first_message(relays, "dial 1");
-    for number in 2..=DIALS {
-        if took >= SOON {
-            println!("not in time: {took:?}");
-            relays[1].kill();
-            took = first_message(relays, &format!("dial {number}"));
+/// Starts the second relay until its message is printed by the first in time. Fails if it never is though the machine was free
+/// each time.
+fn must_get_in(past: &str, relays: &mut [Relay]) {
+    let mut late = 0;
+    for number in 1..=DIALS {
+        let beside = Beside::start(&relays[0].folder);
+        let took = first_message(relays, &format!("dial {number}"));
+        let machine = beside.end();
+        println!("past {past} in {took:?}");
+        println!("the machine: {machine}");
+        if took < SOON {
+            return;
         }
+        late += usize::from(machine.is_free());
+        relays[1].kill();
     }
-    took
-}
-
-fn judge(beside: &Beside, took: Duration, relays: &[Relay]) {
-    let processes: Vec<u32> = relays.iter().map(Relay::id).collect();
-    beside.judge("the message", took, SOON, &processes);
+    assert!(late < DIALS, "no message was printed in time on a free machine");
 }
 
 fn told(relay: &Relay) {
@@ -74,13 +76,10 @@ fn a_peer_gets_in_past_strangers_of_many_addresses() {
         let habit = |it| if it < 64 { Habit::Trickles } else { Habit::IsSilent };
         let strangers = (0..264).map(|it| (habit(it), lab.stranger(it), to)).collect();
         let strangers = Strangers::start(strangers);
-        let beside = Beside::start(&[relays[0].id()]);
         sleep(SETTLED);
-        let took = dial(&mut relays);
-        println!("past 264 strangers of 32 addresses in {took:?}");
+        must_get_in("264 strangers of 32 addresses", &mut relays);
         told(&relays[0]);
         assert!(relays[0].metric("relay_pushed_out_total") > 0.0, "the places were never full");
-        judge(&beside, took, &relays);
         drop(strangers);
     });
 }
@@ -92,13 +91,10 @@ fn a_peer_gets_in_past_strangers_of_its_own_address() {
     let to = relays[0].address;
     let strangers = (0..64).map(|_| (Habit::Trickles, to.ip(), to)).collect();
     let strangers = Strangers::start(strangers);
-    let beside = Beside::start(&[relays[0].id()]);
     sleep(SETTLED);
-    let took = dial(&mut relays);
-    println!("past 64 strangers of the same address in {took:?}");
+    must_get_in("64 strangers of the same address", &mut relays);
     told(&relays[0]);
     assert!(relays[0].metric("relay_pushed_out_total") > 0.0, "the places were never full");
-    judge(&beside, took, &relays);
     drop(strangers);
 }
 
@@ -113,10 +109,7 @@ fn a_connected_peer_comes_back_past_strangers() {
     let strangers = Strangers::start(strangers);
     sleep(Duration::from_secs(1));
     relays[1].kill();
-    let beside = Beside::start(&[relays[0].id()]);
-    let took = dial(&mut relays);
-    println!("back in {took:?}");
-    judge(&beside, took, &relays);
+    must_get_in("64 silent strangers, as a peer that comes back,", &mut relays);
     drop(strangers);
 }
 
@@ -136,11 +129,8 @@ fn refused_descriptors_and_threads_do_not_make_a_relay_deaf() {
     let to = relays[0].address;
     let strangers = (0..200).map(|it| (Habit::IsSilent, lab.stranger(it), to)).collect();
     let strangers = Strangers::start(strangers);
-    let beside = Beside::start(&[relays[0].id()]);
     sleep(SETTLED);
-    let took = dial(&mut relays);
-    println!("past 200 strangers with 128 descriptors in {took:?}");
-    judge(&beside, took, &relays);
+    must_get_in("200 strangers with 128 descriptors", &mut relays);
     drop(strangers);
     assert!(relays[0].is_running() && relays[0].terminate());
 }

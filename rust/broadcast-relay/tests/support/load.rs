@@ -1,74 +1,155 @@
 //! What else the machine does while a test measures times.
 
-use std::fs;
-use std::time::Duration;
+use std::fmt;
+use std::fs::{self, File};
+use std::io::{Read, Write};
+use std::net::{TcpListener, TcpStream};
+use std::path::Path;
+use std::process;
+use std::sync::Arc;
+use std::sync::atomic::{AtomicBool, Ordering};
+use std::thread::{JoinHandle, available_parallelism, sleep, spawn};
+use std::time::{Duration, Instant};
 
-/// The part of the machine that others may take before a time tells more of them than of relays.
+/// The part of the machine that others may want before a time tells more of them than of relays.
 const MOST: f64 = 0.25;
+/// How often it is looked who wants it.
+const LOOK: Duration = Duration::from_millis(100);
+/// How late a plain program may be in one of a hundred turns, and how long it waits between them.
+const LATE: Duration = Duration::from_millis(25);
+const TURN: Duration = Duration::from_millis(10);
+/// What it writes and sends in a turn.
+const LINE: [u8; 256] = [b'x'; 256];
 
-/// Processor time in ticks: that of all processors with what they were idle, what was worked in all, and that of a test.
-#[derive(Clone, Copy, Default)]
-struct Ticks {
-    all: u64,
-    worked: u64,
-    own: u64,
+fn processors() -> usize {
+    available_parallelism().map_or(1, usize::from)
 }
 
-/// The sum of some fields of a line.
-fn sum(line: &str, fields: &[usize]) -> u64 {
-    let words: Vec<u64> = line.split_whitespace().map(|it| it.parse().unwrap_or(0)).collect();
-    fields.iter().filter_map(|it| words.get(*it)).sum()
+/// The fields of a process or task that follow its name in parentheses.
+fn fields(path: &Path) -> Vec<String> {
+    let stat = fs::read_to_string(path.join("stat")).unwrap_or_default();
+    let behind = stat.rsplit(')').next().unwrap_or_default();
+    behind.split_whitespace().map(str::to_owned).collect()
 }
 
-/// The fields of a process that follow its name in parentheses.
-fn process(id: &str) -> String {
-    let stat = fs::read_to_string(format!("/proc/{id}/stat")).unwrap_or_default();
-    stat.rsplit(')').next().unwrap_or_default().to_owned()
+/// How many tasks run or wait for a processor that are not of this test, of a process that it started, or of the system, whose work
+/// is the test's by and large. Others may get little processor time while relays have the greater claim, and make each wait all
+/// the same.
+fn wanting() -> usize {
+    let test = process::id().to_string();
+    // That of the threads of the system is 2.
+    let is_own = |parent: &String| *parent == test || parent == "2";
+    let entries = |path: &Path| fs::read_dir(path).into_iter().flatten().flatten();
+    entries(Path::new("/proc"))
+        .filter(|it| it.file_name().to_string_lossy().parse::<u32>().is_ok())
+        .filter(|it| *it.file_name() != *test && !fields(&it.path()).get(1).is_some_and(is_own))
+        .flat_map(|it| entries(&it.path().join("task")))
+        .filter(|it| fields(&it.path()).first().is_some_and(|it| it == "R"))
+        .count()
 }
 
-impl Ticks {
-    /// Those until now of this test with its processes, which have ended or are among these.
-    fn now(processes: &[u32]) -> Ticks {
-        let stat = fs::read_to_string("/proc/stat").unwrap_or_default();
-        let machine = stat.lines().next().unwrap_or_default();
-        let ended = sum(&process("self"), &[11, 12, 13, 14]);
-        let running: u64 =
-            processes.iter().map(|it| sum(&process(&it.to_string()), &[11, 12])).sum();
-        Ticks {
-            // user, nice, system, idle, iowait, irq, softirq, steal
-            all: sum(machine, &[1, 2, 3, 4, 5, 6, 7, 8]),
-            // Interrupts are those of the test's own network, by and large.
-            worked: sum(machine, &[1, 2, 3, 8]),
-            own: ended + running,
-        }
+/// The processor time of all, and of it what the machine's host gave to others, in ticks.
+fn ticks() -> (u64, u64) {
+    let stat = fs::read_to_string("/proc/stat").unwrap_or_default();
+    // user, nice, system, idle, iowait, irq, softirq, steal
+    let line = stat.lines().next().unwrap_or_default().split_whitespace().skip(1).take(8);
+    let ticks: Vec<u64> = line.map(|it| it.parse().unwrap_or(0)).collect();
+    (ticks.iter().sum(), ticks.get(7).copied().unwrap_or(0))
+}
+
+/// Looks who wants the machine until it is stopped. Returns which part of it others wanted.
+fn look(stop: &AtomicBool) -> f64 {
+    let (start, mut wants, mut looks) = (ticks(), 0, 0);
+    while !stop.load(Ordering::Relaxed) || looks == 0 {
+        wants += wanting();
+        looks += 1;
+        sleep(LOOK);
     }
+    let end = ticks();
+    let stolen = (end.1 - start.1) as f64 / (end.0 - start.0).max(1) as f64;
+    wants as f64 / (looks * processors()) as f64 + stolen
+}
+
+/// Sends back what comes, until the connection is closed.
+fn echo(mut stream: TcpStream) {
+    let mut bytes = LINE;
+    while stream.read_exact(&mut bytes).is_ok() && stream.write_all(&bytes).is_ok() {}
+}
+
+/// A plain program: waits, writes to a file, and sends over a connection what comes back, until it is stopped. Returns how late each
+/// turn was over.
+fn turns(mut file: File, stop: &AtomicBool) -> Vec<Duration> {
+    let listener = TcpListener::bind("127.0.0.1:0").unwrap();
+    let mut stream = TcpStream::connect(listener.local_addr().unwrap()).unwrap();
+    let (other, _) = listener.accept().unwrap();
+    let echo = spawn(move || echo(other));
+    let mut late = Vec::new();
+    while !stop.load(Ordering::Relaxed) {
+        let (start, mut bytes) = (Instant::now(), LINE);
+        sleep(TURN);
+        file.write_all(&bytes).unwrap();
+        stream.write_all(&bytes).unwrap();
+        stream.read_exact(&mut bytes).unwrap();
+        late.push(start.elapsed().saturating_sub(TURN));
+    }
+    drop(stream);
+    echo.join().unwrap();
+    late
 }
 
 /// What the machine does beside a test, since its start.
-pub struct Beside(Ticks);
+pub struct Beside {
+    stop: Arc<AtomicBool>,
+    looks: JoinHandle<f64>,
+    /// One for each processor. Where these are late the machine or its disk stands still, and so do relays.
+    plain: Vec<JoinHandle<Vec<Duration>>>,
+}
+
+/// What the machine did meanwhile.
+pub struct Machine {
+    /// The part of it that others wanted, which is over 1 if they wanted more.
+    wanted: f64,
+    /// How late a plain program was at most in ninety-nine of a hundred turns.
+    late: Duration,
+}
 
 impl Beside {
-    pub fn start(processes: &[u32]) -> Beside {
-        Beside(Ticks::now(processes))
+    /// Starts to look, with files of plain programs in the folder.
+    pub fn start(folder: &Path) -> Beside {
+        let stop = Arc::new(AtomicBool::new(false));
+        let stopped = stop.clone();
+        let plain = (0..processors()).map(|it| {
+            let file = File::create(folder.join(format!("plain{it}"))).unwrap();
+            let stop = stop.clone();
+            spawn(move || turns(file, &stop))
+        });
+        Beside { plain: plain.collect(), looks: spawn(move || look(&stopped)), stop }
     }
 
-    /// The part of all processors that others took.
-    fn part(&self, processes: &[u32]) -> f64 {
-        let (start, now) = (self.0, Ticks::now(processes));
-        let others = (now.worked - start.worked).saturating_sub(now.own - start.own);
-        others as f64 / (now.all - start.all).max(1) as f64
+    pub fn end(self) -> Machine {
+        self.stop.store(true, Ordering::Relaxed);
+        let plain = self.plain.into_iter();
+        let mut late: Vec<Duration> = plain.flat_map(|it| it.join().unwrap()).collect();
+        late.sort();
+        let late = late.get(late.len() * 99 / 100).copied().unwrap_or_default();
+        Machine { wanted: self.looks.join().unwrap(), late }
     }
+}
 
-    /// Looks whether something took no more than it may, unless others took too much of the machine.
-    pub fn judge(&self, what: &str, took: Duration, most: Duration, processes: &[u32]) {
-        let part = self.part(processes);
-        if part > MOST {
-            println!(
-                "the machine is {:.0}% busy with other work, so {what} is not judged",
-                part * 100.0
-            );
-        } else {
-            assert!(took < most, "{what}: {took:?}");
+impl Machine {
+    /// Whether times tell of relays. Says so where they tell of the machine.
+    pub fn is_free(&self) -> bool {
+        let is_free = self.wanted <= MOST && self.late <= LATE;
+        if !is_free {
+            println!("the machine is not free, so a time is not judged");
         }
+        is_free
+    }
+}
+
+impl fmt::Display for Machine {
+    fn fmt(&self, f: &mut fmt::Formatter<'_>) -> fmt::Result {
+        let (wanted, late) = (self.wanted * 100.0, self.late);
+        write!(f, "others wanted {wanted:.0}% of it, and a plain program was {late:?} late")
     }
 }

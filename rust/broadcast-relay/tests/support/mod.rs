@@ -65,7 +65,7 @@ pub struct Relay {
     pub key: Key,
     pub address: SocketAddr,
     pub metrics: SocketAddr,
-    folder: PathBuf,
+    pub folder: PathBuf,
     namespace: Option<String>,
     /// Words before the command, as `prlimit ..`.
     pub prefix: Vec<String>,
