@@ -24,11 +24,13 @@ const TICK: Duration = Duration::from_millis(20);
 const TRICKLE: usize = 64;
 const SILENT: usize = 200;
 const HOSTILE: usize = 60;
-const P99: Duration = Duration::from_millis(100);
-/// How many loads there are at most, until one is met in time: a machine that stands still for a moment is late in one, and a
-/// relay that is slow in each.
-const LOADS: usize = 3;
+/// Bounds of a machine that checks a signature in 140 µs. A slower one has as much more time.
 const SOON: Duration = Duration::from_secs(1);
+const P99: Duration = Duration::from_millis(100);
+/// How many loads there are at most, until one is met in time, and how many may be late on a free machine: one that stands still
+/// for a moment is late in one, and a relay that is slow in each.
+const LOADS: usize = 5;
+const LATE: usize = 2;
 /// How long a test waits for what must come, whatever else the machine does.
 const PATIENCE: Duration = Duration::from_secs(120);
 const LIMITS: &str =
@@ -199,7 +201,7 @@ struct Met {
 
 impl Met {
     fn is_in_time(&self) -> bool {
-        self.dial < SOON && self.p99 < P99
+        self.machine.is_in_time(self.dial, SOON) && self.machine.is_in_time(self.p99, P99)
     }
 }
 
@@ -253,7 +255,7 @@ impl Network<'_> {
         Met { dial, p99: at(0.99), machine }
     }
 
-    /// Loads the relays until a load is met in time. Fails if none is though the machine was free in each.
+    /// Loads the relays until a load is met in time. Fails if too many are late on a free machine before.
     fn must_be_met(&mut self) {
         let mut late = 0;
         for _ in 0..LOADS {
@@ -262,8 +264,8 @@ impl Network<'_> {
                 return;
             }
             late += usize::from(met.machine.is_free());
+            assert!(late <= LATE, "{late} loads were late on a free machine");
         }
-        assert!(late < LOADS, "no load was met in time on a free machine");
     }
 }
 

@@ -1,5 +1,7 @@
 //! What else the machine does while a test measures times.
 
+use openssl::pkey::PKey;
+use openssl::sign::{Signer, Verifier};
 use std::fmt;
 use std::fs::{self, File};
 use std::io::{Read, Write};
@@ -17,9 +19,11 @@ const MOST: f64 = 0.25;
 const LOOK: Duration = Duration::from_millis(100);
 /// How late a plain program may be in one of a hundred turns, and how long it waits between them.
 const LATE: Duration = Duration::from_millis(25);
-const TURN: Duration = Duration::from_millis(10);
-/// What it writes and sends in a turn.
+const TURN: Duration = Duration::from_millis(20);
+/// What it writes, sends and signs in a turn.
 const LINE: [u8; 256] = [b'x'; 256];
+/// How long a signature takes to check on a machine for which bounds are meant.
+const CHECK: Duration = Duration::from_micros(140);
 
 fn processors() -> usize {
     available_parallelism().map_or(1, usize::from)
@@ -76,25 +80,43 @@ fn echo(mut stream: TcpStream) {
     while stream.read_exact(&mut bytes).is_ok() && stream.write_all(&bytes).is_ok() {}
 }
 
-/// A plain program: waits, writes to a file, and sends over a connection what comes back, until it is stopped. Returns how late each
-/// turn was over.
-fn turns(mut file: File, stop: &AtomicBool) -> Vec<Duration> {
+/// How late a turn of a plain program was over, and how long it took to check a signature.
+struct Turn {
+    late: Duration,
+    check: Duration,
+}
+
+/// A plain program: waits, writes to a file, sends over a connection what comes back, and checks a signature, until it is stopped.
+fn turns(mut file: File, stop: &AtomicBool) -> Vec<Turn> {
     let listener = TcpListener::bind("127.0.0.1:0").unwrap();
     let mut stream = TcpStream::connect(listener.local_addr().unwrap()).unwrap();
     let (other, _) = listener.accept().unwrap();
     let echo = spawn(move || echo(other));
-    let mut late = Vec::new();
+    let key = PKey::generate_ed25519().unwrap();
+    let mut signer = Signer::new_without_digest(&key).unwrap();
+    let signature = signer.sign_oneshot_to_vec(&LINE).unwrap();
+    let mut turns = Vec::new();
     while !stop.load(Ordering::Relaxed) {
         let (start, mut bytes) = (Instant::now(), LINE);
         sleep(TURN);
         file.write_all(&bytes).unwrap();
         stream.write_all(&bytes).unwrap();
         stream.read_exact(&mut bytes).unwrap();
-        late.push(start.elapsed().saturating_sub(TURN));
+        let late = start.elapsed().saturating_sub(TURN);
+        let start = Instant::now();
+        let mut verifier = Verifier::new_without_digest(&key).unwrap();
+        assert!(verifier.verify_oneshot(&signature, &bytes).unwrap());
+        turns.push(Turn { late, check: start.elapsed() });
     }
     drop(stream);
     echo.join().unwrap();
-    late
+    turns
+}
+
+/// The time that is no shorter than that part of all.
+fn at(part: f64, mut times: Vec<Duration>) -> Duration {
+    times.sort();
+    times.get((times.len() as f64 * part) as usize).copied().unwrap_or_default()
 }
 
 /// What the machine does beside a test, since its start.
@@ -102,7 +124,7 @@ pub struct Beside {
     stop: Arc<AtomicBool>,
     looks: JoinHandle<f64>,
     /// One for each processor. Where these are late the machine or its disk stands still, and so do relays.
-    plain: Vec<JoinHandle<Vec<Duration>>>,
+    plain: Vec<JoinHandle<Vec<Turn>>>,
 }
 
 /// What the machine did meanwhile.
@@ -111,6 +133,8 @@ pub struct Machine {
     wanted: f64,
     /// How late a plain program was at most in ninety-nine of a hundred turns.
     late: Duration,
+    /// How many times as long a signature took as on a machine for which bounds are meant, and not less than once.
+    slowness: f64,
 }
 
 impl Beside {
@@ -128,15 +152,19 @@ impl Beside {
 
     pub fn end(self) -> Machine {
         self.stop.store(true, Ordering::Relaxed);
-        let plain = self.plain.into_iter();
-        let mut late: Vec<Duration> = plain.flat_map(|it| it.join().unwrap()).collect();
-        late.sort();
-        let late = late.get(late.len() * 99 / 100).copied().unwrap_or_default();
-        Machine { wanted: self.looks.join().unwrap(), late }
+        let turns = self.plain.into_iter().flat_map(|it| it.join().unwrap());
+        let (late, checks) = turns.map(|it| (it.late, it.check)).unzip();
+        let slowness = at(0.5, checks).div_duration_f64(CHECK).max(1.0);
+        Machine { wanted: self.looks.join().unwrap(), late: at(0.99, late), slowness }
     }
 }
 
 impl Machine {
+    /// Whether something took less time than it may, which a slower machine has more of.
+    pub fn is_in_time(&self, took: Duration, most: Duration) -> bool {
+        took < most.mul_f64(self.slowness)
+    }
+
     /// Whether times tell of relays. Says so where they tell of the machine.
     pub fn is_free(&self) -> bool {
         let is_free = self.wanted <= MOST && self.late <= LATE;
@@ -149,7 +177,11 @@ impl Machine {
 
 impl fmt::Display for Machine {
     fn fmt(&self, f: &mut fmt::Formatter<'_>) -> fmt::Result {
-        let (wanted, late) = (self.wanted * 100.0, self.late);
-        write!(f, "others wanted {wanted:.0}% of it, and a plain program was {late:?} late")
+        let (wanted, late, slowness) = (self.wanted * 100.0, self.late, self.slowness);
+        write!(
+            f,
+            "others wanted {wanted:.0}% of it, a signature took {slowness:.2} times as long as bounds are meant for, and a plain program \
+            was {late:?} late"
+        )
     }
 }
