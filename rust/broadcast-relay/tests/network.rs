@@ -11,7 +11,7 @@ use std::thread::{sleep, spawn};
 use std::time::{Duration, Instant};
 use support::hostile::{Hostile, frame, have, now};
 use support::lab::Lab;
-use support::load::{Beside, Machine};
+use support::load::{Beside, Machine, must_be_in_time};
 use support::strangers::{Habit, Strangers};
 use support::{Key, Relay, folder, keygen, wait_for};
 
@@ -27,10 +27,6 @@ const HOSTILE: usize = 60;
 /// Bounds of a machine that checks a signature in 140 µs. A slower one has as much more time.
 const SOON: Duration = Duration::from_secs(1);
 const P99: Duration = Duration::from_millis(100);
-/// How many loads there are at most, until one is met in time, and how many may be late on a free machine: one that stands still
-/// for a moment is late in one, and a relay that is slow in each.
-const LOADS: usize = 5;
-const LATE: usize = 2;
 /// How long a test waits for what must come, whatever else the machine does.
 const PATIENCE: Duration = Duration::from_secs(120);
 const LIMITS: &str =
@@ -192,19 +188,6 @@ fn come_back(killed: &mut Relay) -> Duration {
     start.elapsed()
 }
 
-/// How a load was met: the longest of the dials, the 99th percentile of the latencies, and what the machine did meanwhile.
-struct Met {
-    dial: Duration,
-    p99: Duration,
-    machine: Machine,
-}
-
-impl Met {
-    fn is_in_time(&self) -> bool {
-        self.machine.is_in_time(self.dial, SOON) && self.machine.is_in_time(self.p99, P99)
-    }
-}
-
 /// What stays the same over all loads.
 struct Network<'a> {
     relays: &'a mut [Relay],
@@ -241,8 +224,8 @@ impl Network<'_> {
         dial
     }
 
-    /// Loads the relays, and waits until all have come.
-    fn meet(&mut self) -> Met {
+    /// Loads the relays, and waits until all have come. Returns whether that was in time, and what the machine did.
+    fn meet(&mut self) -> (bool, Machine) {
         let beside = Beside::start(&self.relays[0].folder);
         let since = Instant::now();
         let dial = self.load();
@@ -251,21 +234,7 @@ impl Network<'_> {
         let took = self.typed.latencies(self.relays, since);
         let at = |part: f64| took[(took.len() as f64 * part) as usize];
         println!("p50 {:?}, p99 {:?}, p99.9 {:?}", at(0.5), at(0.99), at(0.999));
-        println!("the machine: {machine}");
-        Met { dial, p99: at(0.99), machine }
-    }
-
-    /// Loads the relays until a load is met in time. Fails if too many are late on a free machine before.
-    fn must_be_met(&mut self) {
-        let mut late = 0;
-        for _ in 0..LOADS {
-            let met = self.meet();
-            if met.is_in_time() {
-                return;
-            }
-            late += usize::from(met.machine.is_free());
-            assert!(late <= LATE, "{late} loads were late on a free machine");
-        }
+        (machine.is_in_time(dial, SOON) && machine.is_in_time(at(0.99), P99), machine)
     }
 }
 
@@ -326,7 +295,7 @@ fn each_honest_message_arrives_everywhere_once_and_soon() {
         let attackers = Attackers::start(&relays, &key);
         sleep(Duration::from_secs(1));
         let mut network = Network { relays: &mut relays, typed: Typed::new(), ticks: 0, memory: 0 };
-        network.must_be_met();
+        must_be_in_time(|_| network.meet());
         let Network { typed, memory, .. } = network;
         let memory = relays.iter().map(|it| it.memory("VmHWM")).max().unwrap().max(memory);
         let metric = |it: &str| relays.iter().map(|relay| relay.metric(it)).collect::<Vec<_>>();

@@ -7,16 +7,12 @@ use std::thread::sleep;
 use std::time::{Duration, Instant};
 use support::hostile::Hostile;
 use support::lab::Lab;
-use support::load::Beside;
+use support::load::{Beside, must_be_in_time};
 use support::strangers::{Habit, Strangers};
 use support::{Relay, folder, keygen, wait_for};
 
 /// How soon a dial of an honest peer must succeed, on a machine that has no other work and checks a signature in 140 µs.
 const SOON: Duration = Duration::from_secs(1);
-/// How many dials there are at most, until one succeeds in time, and how many may be late on a free machine: one that stands still
-/// for a moment is late in one, and a relay that is slow in each.
-const DIALS: usize = 5;
-const LATE: usize = 2;
 /// How long a test waits for it, whatever else the machine does.
 const PATIENCE: Duration = Duration::from_secs(30);
 /// How long strangers are there before the peer dials: longer than one handshake may take, so a place that is free then is not
@@ -38,22 +34,18 @@ fn first_message(relays: &mut [Relay], text: &str) -> Duration {
     start.elapsed()
 }
 
-/// Starts the second relay until its message is printed by the first in time. Fails if too many are late on a free machine before.
+/// Starts the second relay, again until its message is printed by the first in time.
 fn must_get_in(past: &str, relays: &mut [Relay]) {
-    let mut late = 0;
-    for number in 1..=DIALS {
+    must_be_in_time(|number| {
+        if number > 0 {
+            relays[1].kill();
+        }
         let beside = Beside::start(&relays[0].folder);
         let took = first_message(relays, &format!("dial {number}"));
         let machine = beside.end();
         println!("past {past} in {took:?}");
-        println!("the machine: {machine}");
-        if machine.is_in_time(took, SOON) {
-            return;
-        }
-        late += usize::from(machine.is_free());
-        assert!(late <= LATE, "{late} messages were late on a free machine");
-        relays[1].kill();
-    }
+        (machine.is_in_time(took, SOON), machine)
+    });
 }
 
 fn told(relay: &Relay) {

@@ -24,6 +24,10 @@ const TURN: Duration = Duration::from_millis(20);
 const LINE: [u8; 256] = [b'x'; 256];
 /// How long a signature takes to check on a machine for which bounds are meant.
 const CHECK: Duration = Duration::from_micros(140);
+/// How often something is tried at most until it is in time, and how often it may be late on a free machine: one that stands still
+/// for a moment makes it late once, and a slow relay each time.
+const TRIES: usize = 5;
+const LATE_TRIES: usize = 2;
 
 fn processors() -> usize {
     available_parallelism().map_or(1, usize::from)
@@ -159,19 +163,34 @@ impl Beside {
     }
 }
 
+/// Tries until a try is in time, which returns whether it is, and what the machine did. Fails if too many are late on a free machine
+/// before.
+pub fn must_be_in_time(mut attempt: impl FnMut(usize) -> (bool, Machine)) {
+    let mut late = 0;
+    for number in 0..TRIES {
+        let (is_in_time, machine) = attempt(number);
+        println!("the machine: {machine}");
+        if is_in_time {
+            return;
+        }
+        if machine.is_free() {
+            late += 1;
+        } else {
+            println!("the machine is not free, so a time is not judged");
+        }
+        assert!(late <= LATE_TRIES, "late {late} times on a free machine");
+    }
+}
+
 impl Machine {
     /// Whether something took less time than it may, which a slower machine has more of.
     pub fn is_in_time(&self, took: Duration, most: Duration) -> bool {
         took < most.mul_f64(self.slowness)
     }
 
-    /// Whether times tell of relays. Says so where they tell of the machine.
-    pub fn is_free(&self) -> bool {
-        let is_free = self.wanted <= MOST && self.late <= LATE;
-        if !is_free {
-            println!("the machine is not free, so a time is not judged");
-        }
-        is_free
+    /// Whether times tell of relays, and not of the machine.
+    fn is_free(&self) -> bool {
+        self.wanted <= MOST && self.late <= LATE
     }
 }
 
