@@ -1,16 +1,26 @@
-# `make example` runs the program on an example; `make check` and `make quick` are beginnings of `make test`, the merge
-# gate, without a proof. `make pictures` draws the pictures of the documents. The others want the programs built, as
-# `make test` leaves them.
+# `make` prints what there is. `make check` and `make quick` are beginnings of `make test`, the merge gate, that prove
+# nothing. Those marked with * want the programs built, as `make test` leaves them.
 EVENTS ?= examples/two-peers.events
-REPLAY := crates/replay/out/replay
 
-.PHONY: example check quick test lib dist border relays soak runs generated faults mutants pictures bench
+.PHONY: help try check quick test lib dist border relays soak runs generated faults mutants pictures bench
 
-# `rt run` proves and builds the program, and prints how; the example is then run by itself.
-example:
-	@echo "example: proving and building replay, and running it on $(EVENTS)"
-	cd crates/replay && rt run -- 1 10 < ../../$(EVENTS) > /dev/null
-	$(REPLAY) 1 10 < $(EVENTS)
+help:
+	@echo "make try        builds replay WITHOUT A PROOF, and runs it on an example: a minute"
+	@echo "make test       the merge gate: proves every crate, then runs all tests and programs: an hour"
+	@echo "make check      checks of texts: names in documents, layout, places of wrong bodies: 10 seconds"
+	@echo "make quick      these, and tests without a proof: minutes"
+	@echo "make lib        proves and builds the static library for C and Rust: half an hour the first time"
+	@echo "make dist       what callers without the toolchain need, in the folder dist"
+	@echo "make mutants    tries all wrong bodies: most of an hour *"
+	@echo "make border, relays, runs, generated, faults    single steps of the gate *"
+	@echo "make soak       twenty minutes of load and attack on relays *"
+	@echo "make bench      times replay beside a plain Rust program *"
+	@echo "make pictures   draws the pictures of the documents *"
+
+try:
+	@echo "try: building replay without a proof, and running it on $(EVENTS): a minute"
+	@cd crates/replay && rt try -- 1 10 < ../../$(EVENTS)
+	@echo "try: NOTHING WAS PROVED: make test proves"
 
 check:
 	@scripts/gate static

@@ -1,6 +1,5 @@
 /* Refuses each allocation of a list of calls in turn, alone and with all after it. A call whose
- * allocation is refused returns MEMORY, or answers so, and changes nothing; at the end all is
- * freed.
+ * allocation is refused returns MEMORY and changes nothing; at the end everything is freed.
  *
  * Linked with -Wl,--wrap=malloc,--wrap=realloc,--wrap=free. */
 #include "broadcast_c.h"
@@ -45,184 +44,89 @@ void __wrap_free(void *p)
     __real_free(p);
 }
 
-enum { KEYS = 3, NAMES = 6, LISTED = 2, LONGEST = 600, CALLS = 60, BUDGET = 10000 };
-static uint8_t keys[KEYS][32], names[NAMES][32], bytes[LONGEST], payload[LONGEST + 4];
-
-/* ---- the cache ---- */
-
-static broadcast_cache cache;
+enum { KEYS = 3, DIGESTS = 6, LISTED = 2, CALLS = 60, BUDGET = 10000 };
+static broadcast_name keys[KEYS];
+static uint8_t digests[DIGESTS][32];
+static broadcast_store store;
 
 typedef struct {
     broadcast_counts counts;
-    uint64_t served[CALLS];
-    size_t served_len;
+    uint64_t served[CALLS], handles[DIGESTS];
+    size_t served_len, lengths[KEYS];
     uint8_t lists[KEYS][LISTED][32];
-    size_t lengths[KEYS];
-    uint8_t messages[NAMES][LONGEST];
-    size_t sizes[NAMES];
-    uint32_t found[NAMES];
-} cache_state;
+    uint32_t found[DIGESTS];
+    bool are_primary[KEYS];
+} store_state;
 
 /* Nothing is refused while a state is read. */
-static void look(cache_state *to)
+static void look(store_state *to)
 {
     is_counting = false;
     memset(to, 0, sizeof *to);
-    must(broadcast_cache_count(&cache, &to->counts) == BROADCAST_OK);
-    must(broadcast_cache_served(&cache, to->served, CALLS, &to->served_len) == BROADCAST_OK);
-    for (int i = 0; i < KEYS; i++)
-        must(broadcast_cache_list(&cache, keys[i], to->lists[i][0], LISTED, &to->lengths[i]) ==
+    must(broadcast_store_count(&store, &to->counts) == BROADCAST_OK);
+    must(broadcast_store_served(&store, to->served, CALLS, &to->served_len) == BROADCAST_OK);
+    for (int i = 0; i < KEYS; i++) {
+        must(broadcast_store_list(&store, &keys[i], to->lists[i][0], LISTED, &to->lengths[i]) ==
              BROADCAST_OK);
-    for (int i = 0; i < NAMES; i++)
-        to->found[i] =
-            broadcast_cache_get(&cache, names[i], to->messages[i], LONGEST, &to->sizes[i]);
+        must(broadcast_store_is_primary(&store, &keys[i], &to->are_primary[i]) == BROADCAST_OK);
+    }
+    for (int i = 0; i < DIGESTS; i++)
+        to->found[i] = broadcast_store_get(&store, digests[i], &to->handles[i]);
     is_counting = true;
 }
 
-static uint32_t call_cache(int at)
+/* The call with this number. What it reports is left as it was if it fails. */
+static uint32_t call(int at)
 {
-    const uint8_t *key = keys[at % KEYS], *name = names[at * 5 % 7 % NAMES];
     static const uint64_t gone[] = {4, 8, 11};
-    broadcast_taken taken = {0};
-    uint64_t removed = 0, served[CALLS];
-    size_t needed = 0;
-    switch (at % 10) {
-    case 0:
-        return broadcast_cache_peers(&cache, keys[at % 2], KEYS - at % 2);
+    static const broadcast_stored unset = {9, true, 9, 9};
+    const broadcast_name *key = &keys[at % KEYS];
+    const uint8_t *digest = digests[at * 5 % 7 % DIGESTS];
+    broadcast_stored stored = unset;
+    broadcast_counters counters = {0, 0, 0, 0, 0};
+    uint64_t removed = 0;
+    uint32_t status;
+    switch (at % 8) {
+    case 0: return broadcast_store_peers(&store, &keys[at / 8 % 2], KEYS - at / 8 % 2);
     case 1:
     case 4:
-    case 8: return broadcast_cache_subscribe(&cache, at, name);
+    case 6: return broadcast_store_subscribe(&store, at, digest);
     case 2:
-    case 5: return broadcast_cache_take(&cache, key, name, bytes, at * 7, &taken);
-    case 6: return broadcast_cache_take_hashed(&cache, key, bytes, at * 7, &taken);
-    case 3: return broadcast_cache_take_own(&cache, name, bytes, at, &taken);
-    case 7:
-        memset(served, 0, sizeof served);
-        return broadcast_cache_served(&cache, served, CALLS, &needed);
-    default: return broadcast_cache_cleanup(&cache, gone, 3, &removed);
+    case 5:
+        status = broadcast_store_take(&store, key, digest, at * 7, at, &stored);
+        must(status == BROADCAST_OK || !memcmp(&stored, &unset, sizeof stored));
+        return status;
+    case 3:
+        status = broadcast_store_receive(&store, key, digest, at, at, &counters, &stored);
+        must((counters.inserted + counters.duplicate + counters.ineligible == 1) ==
+             (status == BROADCAST_OK));
+        return status;
+    default: return broadcast_store_cleanup(&store, gone, 3, &removed);
     }
 }
 
-static void run_cache(void)
+static void run(void)
 {
-    static cache_state before, after;
-    uint32_t status = broadcast_cache_new(&cache, keys[0], LISTED, BUDGET);
-    must(status == BROADCAST_OK || (status == BROADCAST_MEMORY && !cache.full));
+    static store_state before, after;
+    uint32_t status = broadcast_store_new(&store, &keys[0], LISTED, BUDGET);
+    must(status == BROADCAST_OK || (status == BROADCAST_MEMORY && !store.full));
     refusals += status == BROADCAST_MEMORY;
-    for (int at = 0; at < CALLS && cache.full; at++) {
+    for (int at = 0; at < CALLS && store.full; at++) {
         look(&before);
-        status = call_cache(at);
+        status = call(at);
         look(&after);
         must(status == BROADCAST_OK || status == BROADCAST_MEMORY || status == BROADCAST_WAITS);
         if (status == BROADCAST_MEMORY) {
             refusals++;
-            must(at % 10 != 7 && at % 10 != 9);
+            must(at % 8 != 7);
             must(!memcmp(&before, &after, sizeof before));
         }
     }
-    broadcast_cache_free(&cache);
+    broadcast_store_free(&store);
 }
 
-/* ---- the node ---- */
-
-static broadcast_node node;
-
-typedef struct {
-    broadcast_counts counts;
-    uint8_t messages[NAMES][LONGEST];
-    uint32_t found[NAMES];
-} node_state;
-
-/* Nothing is refused while a state is read. A get changes no more than the last answer. */
-static void look_node(node_state *to)
-{
-    is_counting = false;
-    memset(to, 0, sizeof *to);
-    must(broadcast_node_count(&node, &to->counts) == BROADCAST_OK);
-    for (int i = 0; i < NAMES; i++) {
-        broadcast_answer answer = {0};
-        uint8_t digest[32] = {0};
-        size_t needed = 0;
-        must(broadcast_node_get(&node, 0, names[i], &answer) == BROADCAST_OK);
-        to->found[i] = answer.answer;
-        broadcast_node_message(&node, digest, to->messages[i], LONGEST, &needed);
-    }
-    is_counting = true;
-}
-
-/* What the node keeps of its last event. */
-typedef struct {
-    uint64_t served[CALLS];
-    uint8_t digest[32], message[LONGEST], recipients[KEYS][32], packet[LONGEST + 4];
-    size_t served_len, message_len, recipients_len, packet_len;
-    uint32_t has_message, has_packet;
-    bool all;
-} kept_state;
-
-static void look_kept(kept_state *to)
-{
-    is_counting = false;
-    memset(to, 0, sizeof *to);
-    must(broadcast_node_served(&node, to->served, CALLS, &to->served_len) == BROADCAST_OK);
-    to->has_message = broadcast_node_message(&node, to->digest, to->message, LONGEST,
-                                             &to->message_len);
-    to->has_packet = broadcast_node_packet(&node, &to->all, to->recipients[0], KEYS,
-                                           &to->recipients_len, to->packet, LONGEST + 4,
-                                           &to->packet_len);
-    is_counting = true;
-}
-
-static uint32_t call_node(int at, broadcast_answer *answer)
-{
-    const uint8_t *key = keys[at % KEYS], *name = names[at * 5 % 7 % NAMES];
-    static const uint64_t gone[] = {4, 8, 11};
-    payload[2] = at * 7 / 256, payload[3] = at * 7 % 256;
-    switch (at % 8) {
-    case 0:
-        return broadcast_node_peers(&node, keys[at % 2], KEYS - at % 2, answer);
-    case 1:
-    case 4: return broadcast_node_subscribe(&node, at, name, answer);
-    case 2:
-        return broadcast_node_broadcast_as(&node, at % 16 == 2, keys[0], 2, name, bytes, at,
-                                           answer);
-    case 3: return broadcast_node_payload(&node, key, payload, at * 7 + 4, answer);
-    case 5: return broadcast_node_get(&node, at, name, answer);
-    case 6:
-        return broadcast_node_broadcast(&node, false, keys[0], 2, bytes, at, answer);
-    default: return broadcast_node_cleanup(&node, gone, 3, answer);
-    }
-}
-
-static void run_node(void)
-{
-    static node_state before, after;
-    static kept_state kept, left;
-    uint32_t status = broadcast_node_new(&node, keys[0], LISTED, BUDGET, LONGEST);
-    must(status == BROADCAST_OK || (status == BROADCAST_MEMORY && !node.full));
-    refusals += status == BROADCAST_MEMORY;
-    for (int at = 0; at < CALLS && node.full; at++) {
-        broadcast_answer answer = {0}, again = {0};
-        look_node(&before);
-        is_counting = false;
-        must(broadcast_node_broadcast(&node, false, keys[0], 2, bytes, 0, &again) == BROADCAST_OK);
-        look_node(&before);
-        is_counting = false;
-        must(broadcast_node_broadcast(&node, false, keys[0], 2, bytes, 0, &again) == BROADCAST_OK);
-        look_kept(&kept);
-        status = call_node(at, &answer);
-        must(status == BROADCAST_OK || status == BROADCAST_MEMORY);
-        if (status == BROADCAST_MEMORY) {
-            refusals++;
-            look_kept(&left);
-            look_node(&after);
-            must(!memcmp(&before, &after, sizeof before) && !memcmp(&kept, &left, sizeof kept));
-        }
-    }
-    broadcast_node_free(&node);
-}
-
-/* Runs the calls once for each allocation, with that one refused. Returns how often. */
-static long refuse_each(void (*run)(void))
+/* Runs the calls once for each allocation, with that one refused. Returns the number of runs. */
+static long refuse_each(void)
 {
     long runs = 0;
     for (refuse_at = 1;; refuse_at++) {
@@ -242,12 +146,12 @@ int main(void)
 {
     long runs = 0;
     for (int i = 0; i < KEYS; i++)
-        keys[i][31] = i;
-    for (int i = 0; i < NAMES; i++)
-        names[i][0] = i;
+        keys[i].bytes[0] = i, keys[i].bytes[64] = 1;
+    for (int i = 0; i < DIGESTS; i++)
+        digests[i][0] = i;
     for (int after = 0; after < 2; after++) {
         refuse_after = after;
-        runs += refuse_each(run_cache) + refuse_each(run_node);
+        runs += refuse_each();
     }
     must(refusals > 0);
     printf("refused: ok, %ld runs, %ld refusals\n", runs, refusals);

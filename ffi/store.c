@@ -1,4 +1,4 @@
-/* A store, from C: peers, a waiter, a message that serves it, and which handles are cached. */
+/* A store, from C: peers, a waiter, a message that serves it, which handles are cached, and counters. */
 #include "broadcast_c.h"
 #include "must.h"
 
@@ -94,7 +94,8 @@ static void evicts(void)
     must(broadcast_store_list(&store, &peer, NULL, 0, &needed) == BROADCAST_SHORT);
 }
 
-/* Each outcome is counted once, a refused call not at all, and no number goes beyond the greatest. */
+/* Each outcome is counted once, a call without a store not at all, and no number goes beyond the
+ * greatest. */
 static void counts(void)
 {
     static const uint8_t fourth[32] = {10};

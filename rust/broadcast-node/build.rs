@@ -1,64 +1,54 @@
-//! Links the verified static library.
+//! Finds and links the verified static library. The first of these that exists is linked:
 //!
-//! `BROADCAST_C_LIB` is the folder of `libbroadcast_c.a`. Without it the folder is that of the target in `lib`
-//! beside this file, where the packaged crate has it, or the one in which the repository's `make lib` leaves it.
-//! Where there is no library nothing is linked: checks and documentation want none, and whatever is linked then
-//! lacks its functions.
+//! 1. the library in the folder `BROADCAST_C_LIB` (`none` links no library);
+//! 2. the library that the repository's `make lib` left in `crates/broadcast_c/out`;
+//! 3. the library in `lib/TARGET` beside this file.
+//!
+//! Without a library the crate compiles, and its caches are those of the feature `plain`, or `Error::NoLibrary`.
 
 use std::env;
 use std::path::{Path, PathBuf};
 
 const NAME: &str = "broadcast_c";
+/// The folder of the crate whose library `make lib` builds.
+const MADE_BY: &str = "../../crates/broadcast_c";
 
 fn main() {
+    println!("cargo::rustc-check-cfg=cfg({NAME})");
     println!("cargo::rerun-if-env-changed=BROADCAST_C_LIB");
-    println!("cargo::rerun-if-env-changed=DOCS_RS");
-    if env::var_os("DOCS_RS").is_some() {
-        return;
-    }
-    if let Err(why) = supported() {
-        println!("cargo::warning={why}");
-    }
-    match env::var_os("BROADCAST_C_LIB") {
-        Some(folder) => link(Path::new(&folder)),
-        None => match beside().into_iter().find(|it| library(it).exists()) {
-            Some(folder) => link(&folder),
-            None => println!(
-                "cargo::warning=there is no lib{NAME}.a, so no program can be linked: set \
-                 BROADCAST_C_LIB to its folder, or run `make lib` at the repository's root"
-            ),
-        },
+    println!("cargo::rerun-if-changed=build.rs");
+    if let Some(folder) = folder() {
+        println!("cargo::rerun-if-changed={}", library(&folder).display());
+        println!("cargo::rustc-link-search=native={}", folder.display());
+        println!("cargo::rustc-link-lib=static={NAME}");
+        println!("cargo::rustc-cfg={NAME}");
     }
 }
 
-/// The folders in which the library may be if none is named.
-fn beside() -> Vec<PathBuf> {
+/// The folder of the library.
+fn folder() -> Option<PathBuf> {
+    if let Some(named) = env::var_os("BROADCAST_C_LIB") {
+        let folder = PathBuf::from(named);
+        let is_there = library(&folder).exists();
+        if !is_there && folder != Path::new("none") {
+            println!("cargo::error=BROADCAST_C_LIB: there is no {}", library(&folder).display());
+        }
+        return is_there.then_some(folder);
+    }
+    let target = env::var("TARGET").unwrap_or_default();
     let here = PathBuf::from(env::var_os("CARGO_MANIFEST_DIR").unwrap_or_default());
-    let made = "../../crates/broadcast_c/out";
-    vec![here.join("lib").join(env::var_os("TARGET").unwrap_or_default()), here.join(made)]
+    let (kept, made_by) = (here.join("lib"), here.join(MADE_BY));
+    // Cargo looks into these folders, so it finds a library that appears later.
+    let watched = if kept.exists() { &kept } else { &here };
+    println!("cargo::rerun-if-changed={}", watched.display());
+    let mut folders = vec![kept.join(&target)];
+    if made_by.exists() && target == "x86_64-unknown-linux-gnu" {
+        println!("cargo::rerun-if-changed={}", made_by.display());
+        folders.insert(0, made_by.join("out"));
+    }
+    folders.into_iter().find(|it| library(it).exists())
 }
 
 fn library(folder: &Path) -> PathBuf {
     folder.join(format!("lib{NAME}.a"))
-}
-
-fn link(folder: &Path) {
-    let library = library(folder);
-    println!("cargo::rerun-if-changed={}", library.display());
-    if !library.exists() {
-        println!("cargo::error=there is no {}", library.display());
-    }
-    println!("cargo::rustc-link-search=native={}", folder.display());
-    println!("cargo::rustc-link-lib=static={NAME}");
-}
-
-/// The library is for one target.
-fn supported() -> Result<(), String> {
-    let of = |name: &str| env::var(format!("CARGO_CFG_TARGET_{name}")).unwrap_or_default();
-    match (of("ARCH").as_str(), of("OS").as_str(), of("ENV").as_str()) {
-        ("x86_64", "linux", "gnu") => Ok(()),
-        (arch, os, abi) => Err(format!(
-            "lib{NAME}.a is for x86_64-unknown-linux-gnu (x86-64-v2), not for {arch}-{os}-{abi}"
-        )),
-    }
 }

@@ -10,7 +10,7 @@ DEBIAN = Path("/usr/share/cargo/registry")
 CONFIG = ("--config", Path(__file__).with_name("debian.toml"))
 # The packages that the crates of `rust` are built with.
 CRATES = (
-    "bytes clap hyper openssl prometheus rand serde serde-json sha2 tokio tokio-openssl toml tracing tracing-subscriber"
+    "bytes clap futures-core hyper openssl prometheus rand serde serde-json sha2 tokio tokio-openssl toml tracing tracing-subscriber"
 )
 PACKAGES = [*(f"librust-{it}-dev" for it in CRATES.split()), "libssl-dev", "pkg-config"]
 # Begins a command with a greater claim to the processors than others have, if that is allowed.

@@ -7,17 +7,15 @@ from harness.common import TOP
 
 EXPORTS = TOP / "crates" / "broadcast_c" / "src"
 CORE = TOP / "crates" / "broadcast_core" / "src"
+SPAN = TOP / "crates" / "gossip" / "src" / "span.rt"
 HEADER = TOP / "ffi" / "broadcast_c.h"
-BYTE_CACHE = TOP / "crates" / "byte_cache" / "src"
-# Structs of byte_cache cross, too.
-CROSSING = ("name.rt", "counters.rt")
 RUST = TOP / "rust" / "broadcast-node" / "src"
 
 # What the structs are called in C. In Rust they have the names of Rattle.
 STRUCTS = {
-    "CacheHandle": "broadcast_cache", "NodeHandle": "broadcast_node", "Taken": "broadcast_taken",
-    "Counts": "broadcast_counts", "Told": "broadcast_answer", "StoreHandle": "broadcast_store",
-    "Stored": "broadcast_stored", "Name": "broadcast_name", "Counters": "broadcast_counters",
+    "StoreHandle": "broadcast_store", "Name": "broadcast_name", "Stored": "broadcast_stored",
+    "Counts": "broadcast_counts", "Counters": "broadcast_counters", "Place": "broadcast_place",
+    "Span": "broadcast_span",
 }
 # What Rust calls the types that cross as their one field, and what each is.
 TRANSPARENT = {
@@ -31,12 +29,14 @@ SCALARS = {
     "*mut ()": "void *", "": "void",
 }
 # The structs that cross as their bytes, and where they are declared.
-BYTES = {"Key": "ordered.rt", "Digest": "digest.rt"}
+BYTES = {"Digest": "digest.rt"}
 BYTES_STRUCT = r"#\[repr\(C\)\]\n#\[derive[^\n]*\npub struct %s \{[^}]*?pub bytes: (\[u8; \d+\]),\n\}"
 FUNCTION = r"fn (\w+)\(([^{}]*?)\)(?: -> (\w+))?"
 
 
 CODE = re.compile(r"^pub const (\w+): u32 = (\d+);", re.M)
+# The code that C has as a macro, so that a preprocessor can compare it.
+MACRO = "VERSION"
 ARRAY = re.compile(r"\[(\w+); (\d+)\]")
 
 
@@ -50,8 +50,7 @@ class Texts:
 
     @staticmethod
     def read():
-        files = [*sorted(EXPORTS.glob("*.rt")), *(BYTE_CACHE / it for it in CROSSING)]
-        exports = "\n".join(file.read_text() for file in files)
+        exports = "\n".join(file.read_text() for file in (*sorted(EXPORTS.rglob("*.rt")), SPAN))
         for name, file in BYTES.items():
             it = re.search(BYTES_STRUCT % name, (CORE / file).read_text())[1]
             exports = re.sub(rf"&(mut )?{name}\b", rf"&\1{it}", exports)
@@ -116,14 +115,14 @@ def wanted_in_c(exports):
     for name, short in STRUCTS.items():
         yield f"typedef struct {{ {''.join(field_in_c(*it) for it in fields(exports, name))} }} {short};"
     for name, number in CODE.findall(exports):
-        yield f"BROADCAST_{name} = {number}"
+        yield f"#define BROADCAST_{name} {number}" if name == MACRO else f"BROADCAST_{name} = {number}"
 
 
 def declared_in_c(header):
     header = without_comments(header)
     yield from re.findall(r"^(?:uint32_t|void) [^;{]*;", header, re.M)
     yield from re.findall(r"typedef struct \{[^}]*\} \w+;", header)
-    yield from re.findall(r"^\s*(BROADCAST_\w+ = \d+)\b", header, re.M)
+    yield from re.findall(r"^\s*(BROADCAST_\w+ = \d+|#define BROADCAST_\w+ \d+)\b", header, re.M)
 
 
 def wanted_in_rust(exports):

@@ -12,13 +12,13 @@ from harness.stored import Row
 MEMORY, REFUSED = b"memory\n", "refused memory"
 # Events that come first, one that grows nothing, and a line that ends a run before its first event.
 FIRST, GROWS_NOTHING, NO_EVENT = ("subscribe 7 61", f"payload 5 {'0' * 16}"), "get 7 61", "nonsense"
-# What a read or a write that fails is told as, but for `cluster`, which reads nothing.
-READ_FAILED, WRITE_FAILED, CLUSTER_FAILED = b"read failed\n", b"write failed\n", b"cluster: standard output failed\n"
+# What a read or a write that fails is told as, but for `rates`, which reads nothing.
+READ_FAILED, WRITE_FAILED, RATES_FAILED = b"read failed\n", b"write failed\n", b"rates: standard output failed\n"
 # The parts in which the longest stream of a row is moved.
 PARTS = 8
-CLUSTER_FAULT = re.compile(rb"cluster: (out of memory|no thread could be started|\d+ of \d+ subscriptions missed)\n")
+RATES_FAULT = re.compile(rb"rates: (out of memory|no thread could be started)\n")
 RELAYED = re.compile(rb"relayed: (?:no memory|\[(.*)\]), (\d+) wait\n")
-# The most seconds of a run of `cluster`, and how often it is tried until it takes no more: others may keep the machine busy.
+# The most seconds of a run of `rates`, and how often it is tried until it takes no more: others may keep the machine busy.
 SECONDS, TRIES = 2, 4
 # A pipe that nothing reads. It is made before any thread starts a process, which would hold the reader for a moment.
 _READER, CLOSED_PIPE = os.pipe()
@@ -128,7 +128,7 @@ def call_fault(row, refusal, ran, reads):
     elif refusal.failure == "fails" and refusal.write != NEVER and status == 0:
         # What a failed write leaves in the buffer is written once more as the program ends.
         stdout = ran.stdout if stdout.startswith(ran.stdout) else b""
-        stderr, status = WRITE_FAILED if reads else CLUSTER_FAILED, 3
+        stderr, status = WRITE_FAILED if reads else RATES_FAILED, 3
     elif refusal.failure == "fails" and refusal.write != NEVER:
         stderr = ran.stderr if stderr.startswith(ran.stderr) else stderr
     if ran.status != status:
@@ -154,7 +154,7 @@ def try_calls(row, run, reads):
 
 def closed_pipe_fault(row, run, reads):
     ran = run(row, NOTHING, stdout=CLOSED_PIPE)
-    failed = (WRITE_FAILED if reads else CLUSTER_FAILED, 3) if row.status == 0 else (row.stderr, row.status)
+    failed = (WRITE_FAILED if reads else RATES_FAILED, 3) if row.status == 0 else (row.stderr, row.status)
     return None if (ran.stderr, ran.status) == failed else f"the status is {ran.status}, and {ran.stderr!r} is told"
 
 
@@ -173,7 +173,7 @@ def try_relay(run):
     yield "no memory for a broadcast", None if seen & {b"", b"Ok"} else "it is not seen"
 
 
-def try_cluster(args, run):
+def try_rates(args, run):
     """Yields each growth that is refused, and what is wrong with its run."""
     row = Row("", [it.encode() for it in args], b"", b"", b"", 0)
     for number in range(run(row).growths + 1):
@@ -182,6 +182,6 @@ def try_cluster(args, run):
             ran = run(row, refusal)
             if ran.seconds <= SECONDS:
                 break
-        is_told = CLUSTER_FAULT.fullmatch(ran.stderr) if ran.status in (1, 3) else not (ran.status or ran.stderr)
+        is_told = RATES_FAULT.fullmatch(ran.stderr) if ran.status == 3 else not (ran.status or ran.stderr)
         fault = None if is_told and bool(ran.stdout) == (ran.status != 3) else f"{ran.status}: {ran.stderr!r}"
         yield refusal, fault if ran.seconds <= SECONDS else f"it took {ran.seconds:.1f} s"

@@ -8,7 +8,8 @@ from harness.common import TOP
 
 @dataclass(frozen=True)
 class Mutant:
-    """A wrong body: why it is wrong, what refuses it, its old and new texts, and the one with which it is chosen."""
+    """A wrong body: why it is wrong, what refuses it, its old and new texts, the one with which it is chosen, and whether
+    the gate tries it."""
 
     crate: str
     name: str
@@ -16,6 +17,7 @@ class Mutant:
     by: tuple
     changes: tuple
     over: str | None = None
+    is_of_gate: bool = False
 
     @property
     def label(self):
@@ -36,7 +38,7 @@ class Mutant:
 
 def parsed(crate, lines):
     """The mutant of a block, which begins with its name."""
-    said, why, file, changes = {"by": [], "over": [None]}, [], None, []
+    said, why, file, changes = {"by": [], "over": [None], "tried": []}, [], None, []
     for line in lines[1:]:
         word, _, text = line.partition(": ")
         if word in said:
@@ -52,7 +54,7 @@ def parsed(crate, lines):
         elif line:
             why.append(line)
     changes = tuple((file, "\n".join(old), "\n".join(new)) for file, old, new in changes)
-    return Mutant(crate, lines[0], " ".join(why), tuple(said["by"]), changes, said["over"][-1])
+    return Mutant(crate, lines[0], " ".join(why), tuple(said["by"]), changes, said["over"][-1], said["tried"] == ["gate"])
 
 
 def read_all(folder="mutants"):

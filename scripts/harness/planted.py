@@ -14,7 +14,7 @@ from harness.mutants import misplaced, read_all
 RUST = TOP / "rust"
 PLACE = RUST / "target" / "mutants"
 # What the crates read of the repository.
-PARTS = ("rust", "crates/engine_tests/src")
+PARTS = ("rust", "crates/broadcast_tests/src")
 LIMIT = 120
 PASSED = re.compile(r"^test result: ok\. [1-9]", re.M)
 
@@ -31,10 +31,11 @@ def copy():
 
 def tests_of(crate, target):
     """What cargo builds of the tests of a crate: a file of them, or those within the crate."""
-    unit = "--lib" if (RUST / crate / "src" / "lib.rs").exists() else "--bins"
-    # Without optimisation the crate is built in a few seconds.
-    fast = ["--config", f"profile.release.package.{crate}.opt-level=0"]
-    return [*fast, "--release", "-p", crate, *([unit] if target == "unit" else ["--test", target])]
+    sources = RUST / crate / "src"
+    unit = [kind for kind, file in (("--lib", "lib.rs"), ("--bins", "main.rs")) if (sources / file).exists()]
+    # With little optimisation the crate is built in a few seconds.
+    fast = ["--config", f"profile.release.package.{crate}.opt-level=1"]
+    return [*fast, "--release", "-p", crate, *(unit if target == "unit" else ["--test", target])]
 
 
 def run(crate, by, env):

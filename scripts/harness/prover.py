@@ -25,13 +25,14 @@ OUTSIDE = re.compile(r"\s*(///|//!|use |ghost use |#\[|(pub )?fn )")
 def type_of(text):
     """How the prover names a type or trait: with its arguments, if they are more than parameters."""
     name, arguments = re.match(r"(?:\w+::)*(\w+)(.*)", text.strip()).groups()
+    name = name[:1].upper() + name[1:]  # u64 is U64
     return "+".join([name, *re.findall(r"\w+", arguments)]) if re.search("[<:]", arguments[1:]) else name
 
 
 def type_in_impl(text, parameters):
     """How the prover names a type or trait where one is for the other: with its arguments that are no parameters."""
     name, arguments = re.match(r"(?:\w+::)*(\w+)(.*)", text.strip()).groups()
-    return name + "".join(it for it in re.findall(r"\w+", arguments) if it not in parameters)
+    return name[:1].upper() + name[1:] + "".join(it for it in re.findall(r"\w+", arguments) if it not in parameters)
 
 
 def owner_of(header):
@@ -112,7 +113,8 @@ def refusal(crate, name, said):
     if "did not prove" in line[1].partition("; it calls")[0]:
         return True, name
     proof = re.escape(f"./proofs/{name.replace('::', '/')}/")
-    errors = re.findall(rf"^{proof}[^\n]*: error.*$", said, re.M)
+    # The reason often stands on the lines below the first.
+    errors = re.findall(rf"^{proof}[^\n]*: error.*(?:\n[ \t].*)*", said, re.M)
     if not errors:
         return False, f"{name} only calls what is not proved"
     if all(LOST.search(it) for it in errors):

@@ -1,18 +1,22 @@
-//! Times the calls of a cache in plain Rust, as the program `cache_rate` does those of the core.
+//! Times the calls of a cache in plain Rust, as `rates cache` does those of the core.
 //!
-//!     caches plain|expert WHAT KEY PEERS SIZE ROUNDS
+//!     caches plain|hashed|expert WHAT KEY PEERS SIZE ROUNDS
 //!
-//! The words, the calls and the line that is printed are those of `cache_rate`.
+//! The words, the calls and the line that is printed are those of `rates cache`.
 
 // `cached` is not called here.
 #[allow(dead_code)]
 #[path = "../../../rust/broadcast-node/benches/cost/expert.rs"]
 mod expert;
 #[allow(dead_code)]
+#[path = "../../../rust/broadcast-node/benches/cost/hashed.rs"]
+mod hashed;
+#[allow(dead_code)]
 #[path = "../../../rust/broadcast-node/benches/cost/plain.rs"]
 mod plain;
 
 use expert::Expert;
+use hashed::Hashed;
 use plain::Plain;
 use std::env;
 use std::hash::Hash;
@@ -107,6 +111,34 @@ impl<K: Name> Cache<K> for Plain<K, Message> {
 
     fn cancel(&mut self, digest: &K, ticket: u64) -> bool {
         Plain::cancel(self, digest, ticket)
+    }
+}
+
+impl<K: Name> Cache<K> for Hashed<K, Message> {
+    fn create(size: usize, keys: &[K]) -> Self {
+        let mut cache = Hashed::new(size, u64::MAX);
+        cache.peers(keys);
+        cache
+    }
+
+    fn take(&mut self, peer: &K, digest: &K, message: Message) -> bool {
+        black_box(Hashed::take(self, peer, digest, message.len() as u64, message)).0 == Some(true)
+    }
+
+    fn get(&self, digest: &K) -> bool {
+        Hashed::get(self, digest).is_some()
+    }
+
+    fn list(&self, peer: &K) -> Vec<K> {
+        Hashed::list(self, peer)
+    }
+
+    fn subscribe(&mut self, ticket: u64, digest: &K) -> bool {
+        Hashed::subscribe(self, ticket, digest)
+    }
+
+    fn cancel(&mut self, digest: &K, ticket: u64) -> bool {
+        Hashed::cancel(self, digest, ticket)
     }
 }
 
@@ -241,8 +273,10 @@ fn main() {
     match (words[0].as_str(), key) {
         ("plain", 8) => measure::<u64, Plain<_, _>>(&words[1], numbers),
         ("plain", 32) => measure::<[u8; 32], Plain<_, _>>(&words[1], numbers),
+        ("hashed", 8) => measure::<u64, Hashed<_, _>>(&words[1], numbers),
+        ("hashed", 32) => measure::<[u8; 32], Hashed<_, _>>(&words[1], numbers),
         ("expert", 8) => measure::<u64, Expert<_, _>>(&words[1], numbers),
         ("expert", 32) => measure::<[u8; 32], Expert<_, _>>(&words[1], numbers),
-        _ => panic!("the caches are plain and expert, and keys have 8 or 32 bytes"),
+        _ => panic!("the caches are plain, hashed and expert, and keys have 8 or 32 bytes"),
     }
 }

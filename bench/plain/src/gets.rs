@@ -4,7 +4,7 @@
 //!     gets mpsc|lock CLIENTS ROUNDS DEPTH
 //!
 //! Each client makes DEPTH gets and then waits for all of them, ROUNDS times, as those of
-//! `cluster rate` do, and the line that is printed is the same.
+//! `rates gets` do, and the line that is printed is the same.
 
 use std::collections::{BTreeMap, VecDeque};
 use std::sync::mpsc::{Sender, channel};

@@ -1,5 +1,4 @@
-pub mod CacheBox
-pub mod NodeBox
 pub mod Overlaying
+pub mod Reading
 pub mod StoreBox
 pub mod Values

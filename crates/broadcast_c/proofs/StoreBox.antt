@@ -6,8 +6,8 @@ use Rattle.std_alloc.proofs.BoxSteps.Form.{Bx}
 use Rattle.std_heap.specs.contracts.Global as Heap
 use Rattle.std_heap.specs.contracts.GlobalAllocator.TheImpl.{ghosts, dict}
 use Rattle.std_heap.proofs.Global.TheLaws as heap
-use Rattle.byte_cache.specs.contracts.store.Store as Store
-use Rattle.byte_cache.proofs.store.Store.TheLaws as store
+use Rattle.broadcast_c.specs.contracts.store.Store as Store
+use Rattle.broadcast_c.proofs.store.Store.TheLaws as store
 use Rattle.broadcast_c.specs.contracts.handle.StoreHandle as Handle
 use Rattle.broadcast_c.specs.contracts.parts.Parts as Parts
 

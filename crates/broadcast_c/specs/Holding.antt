@@ -7,9 +7,7 @@ use Rattle.std.specs.Prelude.{Option, Some, None}
 use Rattle.std.specs.Box.Ownership.{box_owns}
 use Rattle.std_heap.specs.contracts.Global as Heap
 use Rattle.std_heap.specs.contracts.GlobalAllocator.TheImpl.{ghosts}
-use Rattle.byte_cache.specs.contracts.cache.Cache as cache
-use Rattle.byte_cache.specs.contracts.node.Node as node
-use Rattle.byte_cache.specs.contracts.store.Store as store
+use Rattle.broadcast_c.specs.contracts.store.Store as store
 
 -- the global allocator, of which there is one
 abbrev pub heap : (Heap.the_row).Denot
@@ -18,16 +16,6 @@ heap = record { memory = record { seal = tt } }
 -- the leave to free a block of it
 abbrev pub token : Ty → Ptr → Fml
 token = ghosts.dealloc_token heap
-
--- ownership of the box at p with the cache, if there is one
-abbrev pub holds_cache : Ptr → Option (cache.the_row).Denot → Fml
-holds_cache p (Some x) = box_owns token cache.the_row p x
-holds_cache p None = ftrue
-
--- ownership of the box at p with the node, if there is one
-abbrev pub holds_node : Ptr → Option (node.the_row).Denot → Fml
-holds_node p (Some x) = box_owns token node.the_row p x
-holds_node p None = ftrue
 
 -- ownership of the box at p with the store, if there is one
 abbrev pub holds_store : Ptr → Option (store.the_row).Denot → Fml

@@ -1,3 +1,6 @@
-pub mod Codes
+pub mod Calls
+pub mod Counting
+pub mod Coverages
 pub mod Holding
-pub mod Told
+pub mod Packets
+pub mod Storing

@@ -1,13 +1,11 @@
 //! The numbers that the exported functions return.
-ghost use Rattle.std.specs.Prelude.{◌≡◌, false};
-ghost use Rattle.broadcast_core.specs.Log.{is_refused};
-ghost use Rattle.broadcast_c.specs.Codes.{answer_code, outcome_code};
+ghost use Rattle.std.specs.Prelude.{◌≡◌};
+ghost use Rattle.broadcast_c.specs.Calls.{outcome_code};
 
-use broadcast_core::{Answer, Outcome};
-use byte_cache::Blob;
+use broadcast_core::Outcome;
 
 /// The version of these functions. It changes whenever one of them does.
-pub const VERSION: u32 = 5;
+pub const VERSION: u32 = 6;
 
 /// Returns the version of these functions.
 #[unsafe(no_mangle)]
@@ -17,7 +15,7 @@ pub extern "C" fn broadcast_c_version() -> u32
     VERSION
 }
 
-/// The call did what it says.
+/// The call succeeded.
 pub const OK: u32 = 0;
 
 /// An allocation failed.
@@ -26,10 +24,10 @@ pub const MEMORY: u32 = 1;
 /// The handle is empty.
 pub const EMPTY: u32 = 2;
 
-/// There is no message or packet.
+/// No message of the digest is cached, or the stamp was not had.
 pub const NONE: u32 = 3;
 
-/// The room has too few places.
+/// The buffer is too short.
 pub const SHORT: u32 = 4;
 
 /// The ticket waits.
@@ -38,7 +36,19 @@ pub const WAITS: u32 = 5;
 /// The message has more than 4,294,967,295 bytes.
 pub const TOO_LONG: u32 = 6;
 
-/// The digest was put in front of the list.
+/// The packet ends too early.
+pub const END_OF_BUFFER: u32 = 7;
+
+/// The packet's message is longer than allowed.
+pub const INVALID_LENGTH: u32 = 8;
+
+/// Bytes follow the packet's message.
+pub const EXTRA_DATA: u32 = 9;
+
+/// The spans are no coverage, or the stamp is before the one in front of it.
+pub const NO_COVERAGE: u32 = 10;
+
+/// The digest was inserted at the front of the list.
 pub const INSERTED: u32 = 0;
 
 /// The digest was on the list.
@@ -53,30 +63,6 @@ pub const OVERSIZE: u32 = 3;
 /// A payload that does not decode is counted under this number, beside those of the outcomes.
 pub const INVALID: u32 = 4;
 
-/// The keys are the primary ones.
-pub const ANSWER_PEERS: u32 = 0;
-
-/// The message was taken.
-pub const ANSWER_TAKEN: u32 = 1;
-
-/// The payload does not decode.
-pub const ANSWER_INVALID: u32 = 2;
-
-/// The subscribe waits.
-pub const ANSWER_WAITING: u32 = 3;
-
-/// The subscribe is answered from the cache.
-pub const ANSWER_ANSWERED: u32 = 4;
-
-/// The get is answered with a message.
-pub const ANSWER_GOT: u32 = 5;
-
-/// No message is cached.
-pub const ANSWER_MISSED: u32 = 6;
-
-/// Waiters were dropped.
-pub const ANSWER_REMOVED: u32 = 7;
-
 /// Returns the number of an outcome.
 pub fn code_of_outcome(outcome: Outcome) -> u32
     ensures { result ≡ outcome_code outcome }
@@ -86,23 +72,5 @@ pub fn code_of_outcome(outcome: Outcome) -> u32
         Outcome::Duplicate => DUPLICATE,
         Outcome::Ineligible => INELIGIBLE,
         Outcome::Oversize => OVERSIZE,
-    }
-}
-
-/// Returns the number of an answer that is not a refusal.
-pub fn code_of_answer(answer: &Answer<Blob>) -> u32
-    requires { is_refused answer.now ≡ false }
-    ensures { result ≡ answer_code answer.now }
-{
-    match answer {
-        Answer::Peers => ANSWER_PEERS,
-        Answer::Taken { .. } => ANSWER_TAKEN,
-        Answer::Invalid(_) => ANSWER_INVALID,
-        Answer::Waiting => ANSWER_WAITING,
-        Answer::Answered(_) => ANSWER_ANSWERED,
-        Answer::Got(Some(_)) => ANSWER_GOT,
-        Answer::Got(None) => ANSWER_MISSED,
-        Answer::Removed(_) => ANSWER_REMOVED,
-        Answer::Refused(_) => unreachable!(),
     }
 }

@@ -1,175 +1,13 @@
-//! A cache, a node and a store as C has them.
+//! A store as C has it.
 ghost use Rattle.std.specs.Prelude.{◌≡◌, Option, Some, None, is_some, true, MatchOption};
-ghost use Rattle.byte_cache.specs.declared.cache.Cache.{Cache};
-ghost use Rattle.byte_cache.specs.declared.node.Node.{Node};
-ghost use Rattle.byte_cache.specs.declared.store.Store.{Store};
+ghost use Rattle.broadcast_c.specs.declared.store.Store.{Store};
 
 use crate::parts::Parts;
-use byte_cache::{Cache, Node, Store};
+use crate::store::Store;
 use std::alloc::Global;
 use std::marker::Model;
 use std::mem;
 use std::ptr::null_mut;
-
-/// Owns a boxed cache if it is full, and nothing else.
-#[repr(C)]
-#[derive(Drop)]
-pub struct CacheHandle {
-    at: *mut (),
-    full: bool,
-    pub ghost value: { Option Cache },
-    ghost marked: { full ≡ is_some value },
-}
-
-impl Model for CacheHandle {
-    ghost use Rattle.broadcast_c.specs.Holding.{holds_cache};
-
-    ghost also_owns = { λ h. holds_cache h.at h.value };
-}
-
-impl CacheHandle {
-    fn empty() -> CacheHandle
-        ensures { result.value ≡ None }
-    {
-        CacheHandle {
-            at: null_mut(),
-            full: false,
-        }
-    }
-
-    fn of_parts(parts: Parts<Cache, Global>) -> CacheHandle
-        ensures { result.value ≡ Some parts.value }
-    {
-        let Parts { ptr, alloc: _ } = parts;
-        CacheHandle {
-            at: ptr as *mut (),
-            full: true,
-        }
-    }
-
-    fn into_parts(self, alloc: Global) -> Parts<Cache, Global>
-        requires { self.full ≡ true }
-        ensures { self.value ≡ Some result.value }
-    {
-        let CacheHandle { at, full: _ } = self;
-        Parts {
-            ptr: at as *mut Cache,
-            alloc,
-        }
-    }
-
-    // Whether it is full, and the handle again.
-    fn with_full(self) -> (bool, CacheHandle)
-        ensures { (result.0 ≡ is_some self.value) × (result.1.value ≡ self.value) }
-    {
-        let CacheHandle { at, full } = self;
-        (full, CacheHandle { at, full })
-    }
-
-    /// Takes the cache out.
-    pub fn take(&mut self, alloc: Global) -> Option<Box<Cache>>
-        ensures was { MatchOption result (self.old.value ≡ None)
-            (λ cache. self.old.value ≡ Some cache.value) }
-        ensures left { self.new.value ≡ None }
-    {
-        let (full, held) = mem::replace(self, CacheHandle::empty()).with_full();
-        if full {
-            Some(held.into_parts(alloc).into_box())
-        } else {
-            None
-        }
-    }
-
-    /// Puts a cache in.
-    pub fn put(&mut self, cache: Box<Cache>)
-        ensures { self.new.value ≡ Some cache.value }
-    {
-        *self = CacheHandle::of_parts(Parts::of(cache));
-    }
-}
-
-/// C may hand it to another thread: what it holds may move, and any thread may free the block.
-unsafe impl Send for CacheHandle {}
-
-/// Owns a boxed node if it is full, and nothing else.
-#[repr(C)]
-#[derive(Drop)]
-pub struct NodeHandle {
-    at: *mut (),
-    full: bool,
-    pub ghost value: { Option Node },
-    ghost marked: { full ≡ is_some value },
-}
-
-impl Model for NodeHandle {
-    ghost use Rattle.broadcast_c.specs.Holding.{holds_node};
-
-    ghost also_owns = { λ h. holds_node h.at h.value };
-}
-
-impl NodeHandle {
-    fn empty() -> NodeHandle
-        ensures { result.value ≡ None }
-    {
-        NodeHandle {
-            at: null_mut(),
-            full: false,
-        }
-    }
-
-    fn of_parts(parts: Parts<Node, Global>) -> NodeHandle
-        ensures { result.value ≡ Some parts.value }
-    {
-        let Parts { ptr, alloc: _ } = parts;
-        NodeHandle {
-            at: ptr as *mut (),
-            full: true,
-        }
-    }
-
-    fn into_parts(self, alloc: Global) -> Parts<Node, Global>
-        requires { self.full ≡ true }
-        ensures { self.value ≡ Some result.value }
-    {
-        let NodeHandle { at, full: _ } = self;
-        Parts {
-            ptr: at as *mut Node,
-            alloc,
-        }
-    }
-
-    // Whether it is full, and the handle again.
-    fn with_full(self) -> (bool, NodeHandle)
-        ensures { (result.0 ≡ is_some self.value) × (result.1.value ≡ self.value) }
-    {
-        let NodeHandle { at, full } = self;
-        (full, NodeHandle { at, full })
-    }
-
-    /// Takes the node out.
-    pub fn take(&mut self, alloc: Global) -> Option<Box<Node>>
-        ensures was { MatchOption result (self.old.value ≡ None)
-            (λ node. self.old.value ≡ Some node.value) }
-        ensures left { self.new.value ≡ None }
-    {
-        let (full, held) = mem::replace(self, NodeHandle::empty()).with_full();
-        if full {
-            Some(held.into_parts(alloc).into_box())
-        } else {
-            None
-        }
-    }
-
-    /// Puts a node in.
-    pub fn put(&mut self, node: Box<Node>)
-        ensures { self.new.value ≡ Some node.value }
-    {
-        *self = NodeHandle::of_parts(Parts::of(node));
-    }
-}
-
-/// C may hand it to another thread: what it holds may move, and any thread may free the block.
-unsafe impl Send for NodeHandle {}
 
 /// Owns a boxed store if it is full, and nothing else.
 #[repr(C)]
@@ -218,7 +56,7 @@ impl StoreHandle {
         }
     }
 
-    // Whether it is full, and the handle again.
+    // Returns whether it is full, and the handle.
     fn with_full(self) -> (bool, StoreHandle)
         ensures { (result.0 ≡ is_some self.value) × (result.1.value ≡ self.value) }
     {
@@ -248,5 +86,5 @@ impl StoreHandle {
     }
 }
 
-/// C may hand it to another thread: what it holds may move, and any thread may free the block.
+/// C may pass it to another thread: what it holds may move, and any thread may free the block.
 unsafe impl Send for StoreHandle {}

@@ -1,19 +1,14 @@
 // SPDX-License-Identifier: Apache-2.0
-//! A cache and a node of messages that are bytes, and a store of messages that are kept elsewhere,
-//! for callers that are not Rattle.
+//! The static library: a cache of messages that the caller keeps, the wire format, coverages of a
+//! relay, counters and SHA-256, for callers in Rust and C.
 //!
-//! `ffi/broadcast_c.h` declares the functions. C has a cache, a node or a store as a handle, which
-//! is all zeros before its first call.
+//! `ffi/broadcast_c.h` declares the functions of `exports`. A caller owns a store by a handle,
+//! which is all zeros before its first call.
 #![tactic(auto)]
 
-mod cache;
 mod codes;
 mod counters;
+mod exports;
 mod handle;
-mod hash;
-mod node;
-mod packet;
 mod parts;
-mod room;
 mod store;
-mod told;

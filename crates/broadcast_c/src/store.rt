@@ -1,341 +1,164 @@
-//! The functions of a store.
-ghost use Rattle.std.specs.Prelude.{◌≡◌, ℕ, List, [], length, is_some, true, None, MatchOption};
+//! A cache of messages that the caller keeps.
+ghost use Rattle.std.specs.Prelude.{◌≡◌, ◌==◌, List, [], IfOk, IsOk, OnErr, OnOk, is_some, true, false, None, Ok};
 ghost use Rattle.std.specs.List.{count_by};
-ghost use Rattle.broadcast_core.specs.Content.{same_by, has_primary, list_at, message_at, waiting_at};
-ghost use Rattle.broadcast_core.specs.Changes.{TakesPeers, Awaits, Cleans, CleansAt};
+ghost use Rattle.broadcast_core.specs.Content.{has_primary, message_at, waiting_at};
+ghost use Rattle.broadcast_core.specs.Changes.{TakesPeers, Cleans, CleansAt, Awaits};
 ghost use Rattle.broadcast_core.specs.Waiters.{is_gone, gone_from, counted};
-ghost use Rattle.byte_cache.specs.Held.{HaveSameNames, handle_at};
-ghost use Rattle.broadcast_c.specs.Codes.{tallied_as};
-ghost use Rattle.broadcast_c.specs.Told.{BothHold, Fails, Finds, IsFilled, TellsStoring};
+ghost use Rattle.broadcast_c.specs.Storing.{HaveSameNames, TakesHandle, enters, handle_at, same_bytes};
 
-use crate::cache::Counts;
-use crate::codes::{EMPTY, MEMORY, NONE, OK, SHORT, WAITS, code_of_outcome};
-use crate::counters::broadcast_counters_count;
-use crate::handle::StoreHandle;
-use crate::room::fill;
-use broadcast_core::Digest;
-use byte_cache::{Counters, Name, Store};
+mod held;
+mod name;
+mod spare;
+
+use broadcast_core::{Core, Digest, Digested, Items, Outcome, Set, Subscribed};
+pub use held::Held;
+pub use name::Name;
+use spare::Spare;
 use std::alloc::{AllocError, Global};
 
-/// The result of taking the message of a handle.
-#[repr(C)]
+/// A cache of messages that the caller keeps, and names by a handle. A waiter is a ticket.
+///
+/// After an `Err`, which is an allocation failure, nothing has changed.
 #[derive(Drop)]
-pub struct Stored {
-    /// The number of the outcome.
-    pub outcome: u32,
-    /// Whether the message is cached, and none of its digest was.
-    pub kept: bool,
-    /// The number of tickets that were served.
-    pub served: usize,
-    /// The number of cached messages.
-    pub cached: usize,
+pub struct Store {
+    /// The lists, the messages and the waiters.
+    pub core: Core<Name, Held, u64>,
+    /// The tickets that the last taken message served, in the order of their subscribes.
+    pub served: Items<u64>,
+    // The block of the message that was taken last.
+    spare: Spare,
 }
 
-/// Makes a store, and frees the one that was there.
-#[unsafe(no_mangle)]
-pub extern "C" fn broadcast_store_new(
-    alloc: Global,
-    store: &mut StoreHandle,
-    own: &Name,
-    deque_size: usize,
-    byte_budget: u64,
-) -> u32
-    ensures made { result ≡ OK → MatchOption store.new.value ⊥ (λ new. (new.core ≡ record {
-      own = own.now;
-      deque_size = deque_size;
-      byte_budget = byte_budget;
-      primary = [];
-      lists = [];
-      cached = [];
-      waiters = [];
-    }) × (new.served ≡ [])) }
-    ensures fails { ¬ (result ≡ OK) → (result ≡ MEMORY) × (store.new.value ≡ store.old.value) }
-{
-    match Box::new(alloc, Store::new(alloc, *own, deque_size, byte_budget)) {
-        Ok(made) => {
-            store.take(alloc);
-            store.put(made);
-            OK
+impl Store {
+    /// Creates an empty store for the node `own` that keeps at most `deque_size` digests a peer,
+    /// which are charged at most `byte_budget` bytes together.
+    pub fn new(alloc: Global, own: Name, deque_size: usize, byte_budget: u64) -> Self
+        ensures core { result.core ≡ record {
+          own = own;
+          deque_size = deque_size;
+          byte_budget = byte_budget;
+          primary = [];
+          lists = [];
+          cached = [];
+          waiters = [];
+        } }
+        ensures served { result.served ≡ [] }
+    {
+        Store {
+            core: Core::new(alloc, own, deque_size, byte_budget),
+            served: Items::new(alloc),
+            spare: Spare::new(),
         }
-        Err(_) => MEMORY,
     }
-}
 
-/// Frees the store.
-#[unsafe(no_mangle)]
-pub extern "C" fn broadcast_store_free(alloc: Global, store: &mut StoreHandle)
-    ensures { store.new.value ≡ None }
-{
-    store.take(alloc);
-}
-
-/// Makes the keys the primary keys.
-#[unsafe(no_mangle)]
-pub extern "C" fn broadcast_store_peers(
-    alloc: Global,
-    store: &mut StoreHandle,
-    names: &[Name],
-) -> u32
-    ensures taken { let same = same_by ⟦<Name as Ord>⟧.cmp ⟦<Digest as Ord>⟧.cmp in
-        result ≡ OK → BothHold store.old.value store.new.value (λ old new. (set : List Name)
-        × HaveSameNames same set names.now × TakesPeers same set old.core new.core
-        × (new.served ≡ old.served)) }
-    ensures fails { ¬ (result ≡ OK) → Fails store.old.value store.new.value result }
-{
-    let Some(mut held) = store.take(alloc) else {
-        return EMPTY;
-    };
-    let result = held.update_primary_peers(alloc, names);
-    store.put(held);
-    match result {
-        Ok(()) => OK,
-        Err(AllocError) => MEMORY,
+    /// Makes `names` the primary keys. They may come in any order, and repeat. An empty set needs no
+    /// allocation.
+    pub fn update_primary_peers(&mut self, alloc: Global, names: &[Name]) -> Result<(), AllocError>
+        ensures taken { OnOk result ((set : List Name) × HaveSameNames names.now set
+            × TakesPeers same_bytes set self.old.core self.new.core) }
+        ensures served { self.new.served ≡ self.old.served }
+        ensures refused { OnErr result (self.new ≡ self.old) }
+        ensures succeeds_on_none { names.now ≡ [] → IsOk result }
+    {
+        let peers = set_of(alloc, names)?;
+        self.core.update_primary_peers(peers);
+        Ok(())
     }
-}
 
-/// Takes the message of the handle under the key, by the digest, at this charge.
-#[unsafe(no_mangle)]
-pub extern "C" fn broadcast_store_take(
-    alloc: Global,
-    store: &mut StoreHandle,
-    peer: &Name,
-    digest: &Digest,
-    charge: usize,
-    handle: u64,
-    out: &mut Stored,
-) -> u32
-    ensures taken { let same = same_by ⟦<Name as Ord>⟧.cmp ⟦<Digest as Ord>⟧.cmp in
-        result ≡ OK → BothHold store.old.value store.new.value (λ old new.
-        TellsStoring same peer.now digest.now charge handle old new out.new) }
-    ensures fails { ¬ (result ≡ OK) → Fails store.old.value store.new.value result }
-{
-    let Some(mut held) = store.take(alloc) else {
-        return EMPTY;
-    };
-    let result = held.take(alloc, peer, *digest, charge, handle);
-    let (served, cached) = (held.served.len(), held.core.cached_len());
-    store.put(held);
-    match result {
-        Ok((outcome, kept)) => {
-            *out = Stored {
-                outcome: code_of_outcome(outcome),
-                kept,
-                served,
-                cached,
-            };
-            OK
+    /// Takes the message of the handle under the key `peer`, by the digest, at this charge. Returns
+    /// the outcome, and whether the message is now cached and none of its digest was.
+    pub fn take(
+        &mut self,
+        alloc: Global,
+        peer: &Name,
+        digest: Digest,
+        charge: usize,
+        handle: u64,
+    ) -> Result<(Outcome, bool), AllocError>
+        ensures taken { IfOk result (λ taken. TakesHandle peer.now digest charge handle
+            self.old self.new taken.0) }
+        ensures kept { IfOk result (λ taken. taken.1 ≡ enters digest self.old self.new) }
+        ensures refused { OnErr result (self.new ≡ self.old) }
+    {
+        let held = Held {
+            handle,
+            charge,
+            digest,
+        };
+        let message = Digested::precomputed_shared(self.spare.share(alloc, held)?, digest);
+        let taken = self.core.take(peer, &message);
+        self.spare.put(message.into_shared());
+        let taken = taken?;
+        self.served = taken.served;
+        Ok((taken.outcome, taken.entered))
+    }
+
+    /// Returns the handle of the cached message of the digest.
+    pub fn handle(&self, digest: &Digest) -> Option<u64>
+        ensures { result ≡ handle_at self.now.core digest.now }
+    {
+        match self.core.get(digest) {
+            Some(message) => Some(message.inner().handle),
+            None => None,
         }
-        Err(AllocError) => MEMORY,
     }
-}
 
-/// Takes the message as `broadcast_store_take` does, and counts its outcome in `counters`.
-#[unsafe(no_mangle)]
-pub extern "C" fn broadcast_store_receive(
-    alloc: Global,
-    store: &mut StoreHandle,
-    peer: &Name,
-    digest: &Digest,
-    charge: usize,
-    handle: u64,
-    counters: &mut Counters,
-    out: &mut Stored,
-) -> u32
-    ensures taken { let same = same_by ⟦<Name as Ord>⟧.cmp ⟦<Digest as Ord>⟧.cmp in
-        result ≡ OK → BothHold store.old.value store.new.value (λ old new.
-        TellsStoring same peer.now digest.now charge handle old new out.new) }
-    ensures counted { result ≡ OK → counters.new ≡ tallied_as out.new.outcome counters.old }
-    ensures fails { ¬ (result ≡ OK) → Fails store.old.value store.new.value result }
-    ensures uncounted { ¬ (result ≡ OK) → counters.new ≡ counters.old }
-{
-    let status = broadcast_store_take(alloc, store, peer, digest, charge, handle, out);
-    if status == OK {
-        broadcast_counters_count(counters, out.outcome);
-    }
-    status
-}
-
-/// Copies the tickets that the last taking served.
-#[unsafe(no_mangle)]
-pub extern "C" fn broadcast_store_served(
-    alloc: Global,
-    store: &mut StoreHandle,
-    out: &mut [u64],
-    needed: &mut usize,
-) -> u32
-    ensures { Finds store.old.value store.new.value result (λ old new. (new ≡ old)
-        × IsFilled old.served out.old out.new needed.new result) }
-{
-    let Some(held) = store.take(alloc) else {
-        return EMPTY;
-    };
-    let status = fill(held.served.as_slice(), out, needed);
-    store.put(held);
-    status
-}
-
-/// Tells the handle of the cached message of the digest.
-#[unsafe(no_mangle)]
-pub extern "C" fn broadcast_store_get(
-    alloc: Global,
-    store: &mut StoreHandle,
-    digest: &Digest,
-    handle: &mut u64,
-) -> u32
-    ensures { let same = same_by ⟦<Name as Ord>⟧.cmp ⟦<Digest as Ord>⟧.cmp in
-        Finds store.old.value store.new.value result (λ old new. (new ≡ old)
-        × MatchOption (handle_at same old.core digest.now)
-        ((result ≡ NONE) × (handle.new ≡ handle.old))
-        (λ it. (result ≡ OK) × (handle.new ≡ it))) }
-{
-    let Some(held) = store.take(alloc) else {
-        return EMPTY;
-    };
-    let found = held.handle(digest);
-    store.put(held);
-    match found {
-        Some(it) => {
-            *handle = it;
-            OK
+    /// Lets the ticket wait for the digest, unless its message is cached. Returns whether the ticket
+    /// waits.
+    pub fn subscribe(&mut self, ticket: u64, digest: Digest) -> Result<bool, AllocError>
+        ensures answered { IfOk result (λ waits. waits ≡ false
+            → (is_some (message_at same_bytes self.old.core digest) ≡ true)
+            × (self.new ≡ self.old)) }
+        ensures waits { IfOk result (λ waits. waits ≡ true
+            → (message_at same_bytes self.old.core digest ≡ None)
+            × Awaits same_bytes digest ticket self.old.core self.new.core
+            × (self.new.served ≡ self.old.served)) }
+        ensures refused { OnErr result (self.new ≡ self.old) }
+    {
+        match self.core.subscribe(digest, ticket) {
+            Ok(Subscribed::Waiting) => Ok(true),
+            Ok(Subscribed::Answered(_, _)) => Ok(false),
+            Err(_) => Err(AllocError),
         }
-        None => NONE,
+    }
+
+    /// Returns whether the key is primary.
+    pub fn is_primary(&self, peer: &Name) -> bool
+        ensures { result ≡ has_primary same_bytes self.now.core peer.now }
+    {
+        self.core.primary().position(peer).is_some()
+    }
+
+    /// Drops the waiters with these tickets. Returns how many, saturating at `u64::MAX`.
+    pub fn cleanup(&mut self, tickets: &[u64]) -> u64
+        ensures removed { result
+            ≡ counted (gone_from (λ t. t) tickets.now self.old.core.waiters) }
+        ensures dropped { Cleans same_bytes (is_gone (λ t. t) tickets.now)
+            self.old.core self.new.core }
+        ensures served { self.new.served ≡ self.old.served }
+    {
+        self.core.cleanup(tickets)
+    }
+
+    /// Drops the waiters of `digest` with these tickets, and looks at no other. Returns how many.
+    pub fn cleanup_of(&mut self, digest: &Digest, tickets: &[u64]) -> u64
+        ensures removed { result ≡ count_by (is_gone (λ t. t) tickets.now)
+            (waiting_at same_bytes self.old.core digest.now) }
+        ensures dropped { CleansAt same_bytes digest.now (is_gone (λ t. t) tickets.now)
+            self.old.core self.new.core }
+        ensures served { self.new.served ≡ self.old.served }
+    {
+        self.core.cleanup_of(digest, tickets)
     }
 }
 
-/// Lets the ticket wait for the digest, unless its message is cached.
-#[unsafe(no_mangle)]
-pub extern "C" fn broadcast_store_subscribe(
-    alloc: Global,
-    store: &mut StoreHandle,
-    ticket: u64,
-    digest: &Digest,
-) -> u32
-    ensures waits { let same = same_by ⟦<Name as Ord>⟧.cmp ⟦<Digest as Ord>⟧.cmp in
-        result ≡ WAITS → BothHold store.old.value store.new.value (λ old new.
-        (message_at same old.core digest.now ≡ None)
-        × Awaits same digest.now ticket old.core new.core × (new.served ≡ old.served)) }
-    ensures answered { let same = same_by ⟦<Name as Ord>⟧.cmp ⟦<Digest as Ord>⟧.cmp in
-        result ≡ OK → BothHold store.old.value store.new.value (λ old new.
-        (is_some (message_at same old.core digest.now) ≡ true) × (new ≡ old)) }
-    ensures fails { ¬ (result ≡ OK) → ¬ (result ≡ WAITS)
-        → Fails store.old.value store.new.value result }
+// Returns the set of the names.
+fn set_of(alloc: Global, names: &[Name]) -> Result<Set<Name>, AllocError>
+    ensures members { IfOk result (HaveSameNames names.now) }
+    ensures succeeds_on_none { names.now ≡ [] → IsOk result }
 {
-    let Some(mut held) = store.take(alloc) else {
-        return EMPTY;
-    };
-    let result = held.subscribe(ticket, *digest);
-    store.put(held);
-    match result {
-        Ok(true) => WAITS,
-        Ok(false) => OK,
-        Err(AllocError) => MEMORY,
+    if names.is_empty() {
+        return Ok(Set::default(alloc));
     }
-}
-
-/// Drops the waiters with these tickets.
-#[unsafe(no_mangle)]
-pub extern "C" fn broadcast_store_cleanup(
-    alloc: Global,
-    store: &mut StoreHandle,
-    tickets: &[u64],
-    removed: &mut u64,
-) -> u32
-    ensures { let same = same_by ⟦<Name as Ord>⟧.cmp ⟦<Digest as Ord>⟧.cmp in
-        Finds store.old.value store.new.value result (λ old new. (result ≡ OK)
-        × Cleans same (is_gone (λ t. t) tickets.now) old.core new.core
-        × (new.served ≡ old.served)
-        × (removed.new ≡ counted (gone_from (λ t. t) tickets.now old.core.waiters))) }
-{
-    let Some(mut held) = store.take(alloc) else {
-        return EMPTY;
-    };
-    *removed = held.cleanup(tickets);
-    store.put(held);
-    OK
-}
-
-/// Drops the waiters of the digest with these tickets.
-#[unsafe(no_mangle)]
-pub extern "C" fn broadcast_store_cleanup_of(
-    alloc: Global,
-    store: &mut StoreHandle,
-    digest: &Digest,
-    tickets: &[u64],
-    removed: &mut u64,
-) -> u32
-    ensures { let same = same_by ⟦<Name as Ord>⟧.cmp ⟦<Digest as Ord>⟧.cmp in
-        Finds store.old.value store.new.value result (λ old new. (result ≡ OK)
-        × CleansAt same digest.now (is_gone (λ t. t) tickets.now) old.core new.core
-        × (new.served ≡ old.served)
-        × (removed.new ≡ count_by (is_gone (λ t. t) tickets.now)
-        (waiting_at same old.core digest.now))) }
-{
-    let Some(mut held) = store.take(alloc) else {
-        return EMPTY;
-    };
-    *removed = held.cleanup_of(digest, tickets);
-    store.put(held);
-    OK
-}
-
-/// Tells whether the key is primary.
-#[unsafe(no_mangle)]
-pub extern "C" fn broadcast_store_is_primary(
-    alloc: Global,
-    store: &mut StoreHandle,
-    peer: &Name,
-    out: &mut bool,
-) -> u32
-    ensures { let same = same_by ⟦<Name as Ord>⟧.cmp ⟦<Digest as Ord>⟧.cmp in
-        Finds store.old.value store.new.value result (λ old new. (new ≡ old)
-        × (result ≡ OK) × (out.new ≡ has_primary same old.core peer.now)) }
-{
-    let Some(held) = store.take(alloc) else {
-        return EMPTY;
-    };
-    *out = held.is_primary(peer);
-    store.put(held);
-    OK
-}
-
-/// Copies the digests on the list of the key, newest first.
-#[unsafe(no_mangle)]
-pub extern "C" fn broadcast_store_list(
-    alloc: Global,
-    store: &mut StoreHandle,
-    peer: &Name,
-    out: &mut [Digest],
-    needed: &mut usize,
-) -> u32
-    ensures { let same = same_by ⟦<Name as Ord>⟧.cmp ⟦<Digest as Ord>⟧.cmp in
-        Finds store.old.value store.new.value result (λ old new. (new ≡ old)
-        × IsFilled (list_at same old.core peer.now) out.old out.new needed.new result) }
-{
-    let Some(held) = store.take(alloc) else {
-        return EMPTY;
-    };
-    let len = held.core.list_into(peer, out);
-    *needed = len;
-    store.put(held);
-    if len <= out.len() { OK } else { SHORT }
-}
-
-/// Tells the sizes of the store.
-#[unsafe(no_mangle)]
-pub extern "C" fn broadcast_store_count(
-    alloc: Global,
-    store: &mut StoreHandle,
-    out: &mut Counts,
-) -> u32
-    ensures { Finds store.old.value store.new.value result (λ old new. (new ≡ old)
-        × (result ≡ OK) × (out.new.cached ≡ length old.core.cached)
-        × (out.new.awaited ≡ length old.core.waiters)) }
-{
-    let Some(held) = store.take(alloc) else {
-        return EMPTY;
-    };
-    out.cached = held.core.cached_len();
-    out.awaited = held.core.awaited();
-    store.put(held);
-    OK
+    Set::from_iter_dedup(Vec::from_slice(alloc, names)?)
 }

@@ -27,16 +27,6 @@ module _ {K X : Type 0} where
   lookup-same s t [] h = refl
   lookup-same s t (e ∷ es) h = rw (h e.0) (ap (λ o. cond (t e.0) (Some e.1) o) (lookup-same s t es h))
 
--- what was put in is taken out again
-pub remove_entry-insert_entry : {K X : Type 0} {R : K → K → Ordering} (o : IsTotalOrder R) (k : K) (v : X) (es : List (K × X)) → lookup (is_at (R k)) es ≡ None
-    → remove_entry (is_at (R k)) (insert_entry R es k v) ≡ es
-remove_entry-insert_entry {R = R} o k v [] h = rw (tied_itself o k) refl
-remove_entry-insert_entry {R = R} o k v (e ∷ es) h = by_order (R k e.0) (R k e.0) refl
-    (λ less. rw (less, tied_itself o k) refl)
-    (λ equal. absurd (let found : lookup (is_at (R k)) (e ∷ es) ≡ Some e.1 = rw equal refl in cc))
-    (λ more. let rest : lookup (is_at (R k)) es ≡ None = sym (ap (λ r. cond (is_eq r) (Some e.1) (lookup (is_at (R k)) es)) more) ∙ h in
-    rw (more, more) (ap (λ fs. e ∷ fs) (remove_entry-insert_entry o k v es rest)))
-
 -- equal keys find the same
 pub lookup-equal : {D X : Type 0} {same : D → D → Bool} (laws : IsEquivalence same) (d e : D) (es : List (D × X)) → same d e ≡ true → lookup (same e) es ≡ lookup (same d) es
 lookup-equal {same = same} laws d e es h = lookup-same (same e) (same d) es (λ x. sym (laws.congr d e x h))

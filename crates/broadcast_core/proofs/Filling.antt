@@ -15,13 +15,12 @@ use Rattle.entries.specs.Placed.{Placed}
 use Rattle.entries.specs.Store.{values_of, items_at, moved, Puts, Evicts, Extends}
 use Rattle.entries.specs.Table.{messages_of, place_in, place_at, IsPlaced, Leaves}
 use Rattle.entries.proofs.Stores.{found_same}
-use Rattle.entries.proofs.Tables.{lookup-messages}
+use Rattle.entries.proofs.Tables.{lookup-messages, remove-inserted}
 use Rattle.broadcast_core.specs.Carried.{Carried}
 use Rattle.broadcast_core.specs.Content.{Same, same_charged, among, without}
 use Rattle.broadcast_core.specs.Indexed.{digest_lists, IsIndexed, stored_of, Origin, Holds}
 use Rattle.broadcast_core.specs.Stored.{Stores}
 use Rattle.broadcast_core.proofs.Distinct.{by_test, or_right, length-moved, without-absent}
-use Rattle.broadcast_core.proofs.Entries.{remove_entry-insert_entry}
 use Rattle.broadcast_core.proofs.Staying.{charged_laws}
 use Rattle.broadcast_core.proofs.Placing.{items_at-digests, digests-append}
 use Rattle.broadcast_core.proofs.Indexing.{cond_true, cond_false, nodes-equal, sets-beside, sets-other, sets-here, moved-digests, among-stands, among-nowhere, IsIndexed-moved, IsIndexed-added, IsIndexed-evicted}
@@ -215,7 +214,7 @@ module _ {P M D : Type 0} {key : P → P → Bool} {R : D → D → Ordering} (k
           | inl stays ↦
               let there : is_some (lookup ((eq_by_cmp R) x.digest) new_items) ≡ true = has_item (lookup ((eq_by_cmp R) x.digest) new_items) (sym (ap is_some (lookup-messages ((eq_by_cmp R) x.digest) new_items)) ∙ ap (λ l. is_some (lookup ((eq_by_cmp R) x.digest) l)) stays ∙ holds.cached) in
               let f = new_placed x.digest there in absurd (no_place f.0 f.1 f.2 absent)
-          | inr gone ↦ gone.0 ∙ ap (remove_entry ((eq_by_cmp R) x.digest)) put ∙ remove_entry-insert_entry order x.digest x (messages_of items) (lookup-messages ((eq_by_cmp R) x.digest) items ∙ ap (option_map (λ it. it.message)) absent)
+          | inr gone ↦ gone.0 ∙ ap (remove_entry ((eq_by_cmp R) x.digest)) put ∙ remove-inserted order x.digest x (messages_of items) (lookup-messages ((eq_by_cmp R) x.digest) items ∙ ap (option_map (λ it. it.message)) absent)
         ]
       where
         none_is : (o : Option (Placed P (Carried M D))) → is_some o ≡ false → o ≡ None

@@ -81,14 +81,6 @@ module _ {P M D : Type 0} (same : Same P D) (key_laws : IsEquivalence same.key) 
       by_some None at_none at_some = at_none refl
       by_some (Some v) at_none at_some = at_some refl
 
-  pub holds_if_new : {E : Type 0} (is_clone : Carried M D → Carried M D → Type 0) (R : D → D → Ordering) (p : P) (x : Carried M D) (place : ℕ) (old new : List (D × Placed P (Carried M D)))
-      → ((copy : Carried M D) → is_clone x copy → copy ≡ x) → (r : Result Found E) → IfOk r (λ found. found.place ≡ None → Joins same.digest same.key R is_clone x.digest x p place old new)
-      → IfOk r (λ found. found.place ≡ None → Holds same R p x place old new)
-  holds_if_new is_clone R p x place old new copies (Ok found) joins = λ none. Holds-joined is_clone R p x place old new copies (joins none)
-  holds_if_new is_clone R p x place old new copies (Err e) joins = tt
-
 -- an item that goes by a digest has that digest for its name, where digests that are not told apart are one
-pub item-named : {E D T : Type 0} (cmp : D → D → Ordering) (name : T → D) (d : D) (t : Tabled D T) → ((a b : D) → eq_by_cmp cmp a b ≡ true → a ≡ b) → (r : Result Found E)
-    → IfOk r (λ found. GoesBy cmp name d t found.item) → IfOk r (λ found. name_at name t found.item ≡ Some d)
-item-named cmp name d t exact (Ok found) goes = goes.named ∙ ap Some (sym (exact d goes.its goes.equal))
-item-named cmp name d t exact (Err e) goes = tt
+pub item-named : {D T : Type 0} (cmp : D → D → Ordering) (name : T → D) (d : D) (t : Tabled D T) (n : ℕ) → ((a b : D) → eq_by_cmp cmp a b ≡ true → a ≡ b) → GoesBy cmp name d t n → name_at name t n ≡ Some d
+item-named cmp name d t n exact goes = goes.named ∙ ap Some (sym (exact d goes.its goes.equal))

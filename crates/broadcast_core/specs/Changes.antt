@@ -1,6 +1,6 @@
 -- Believed.
 -- How the calls of a core change its content.
-use Rattle.std.specs.Prelude.{◌≡◌, ℕ, Bool, Option, is_some, true, false, not, if◌then◌else◌, List, [], ◌∷◌, ◌++◌, Some, None, Result, IfOk, OnOk, OnErr, IsOk}
+use Rattle.std.specs.Prelude.{◌≡◌, ◌&&◌, ℕ, Bool, Option, is_some, true, false, not, if◌then◌else◌, List, [], ◌∷◌, ◌++◌, Some, None, Result, IfOk, OnOk, OnErr, IsOk}
 use Rattle.std.specs.List.{filter, list_any}
 use Rattle.std.specs.declared.alloc.AllocError.{AllocError}
 use Rattle.broadcast_core.specs.Carried.{Carried}
@@ -32,9 +32,11 @@ module _ {P M D W : Type 0} (same : Same P D) where
       (result : Result (Taken W) AllocError) : Type 0 where
     pub outcome : IfOk result (λ taken. taken.outcome ≡ outcome_at same old p x.digest charge)
     pub served : IfOk result (λ taken. taken.served ≡ waiting_at same old x.digest)
+    pub entered : IfOk result (λ taken. taken.entered
+        ≡ (not (is_some (message_at same old x.digest)) && is_some (message_at same new x.digest)))
     pub ok : OnOk result (Takes p x charge old new)
     pub err : OnErr result (new ≡ old)
-    -- these do not allocate
+    -- these never fail
     pub succeeds_on_duplicate :
         among same.digest x.digest (list_at same old p) ≡ true → IsOk result
     pub succeeds_on_ineligible : has_primary same old p ≡ false → IsOk result

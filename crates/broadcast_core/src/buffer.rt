@@ -1,7 +1,7 @@
 //! The cache of a node and the waiters for its messages.
 //!
 //! A call whose result has no `AllocError` does not allocate.
-ghost use Rattle.std.specs.Prelude.{◌≡◌, ◌≤◌, ◌&&◌, true, false, not, [], length, is_some, IsSome, IfOk, IfSome, IfErr, IsOk, OnOk, OnErr};
+ghost use Rattle.std.specs.Prelude.{◌≡◌, ◌≤◌, true, false, [], length, is_some, IsSome, IfOk, IfSome, IfErr, IsOk};
 ghost use Rattle.std.specs.List.{All, IsDistinct, count_by};
 ghost use Rattle.std.specs.Map.{keys_of};
 ghost use Rattle.std.specs.Option.{option_copied, option_map};
@@ -193,28 +193,7 @@ impl<P: PublicKey, M: Digestible, W: Drop> Core<P, M, W> {
         ensures { IsTaken (same_by P.cmp M.Digest.cmp) peer.now message.now
             (option_map length (M.encoding message.now.message)) self.old self.new result }
     {
-        self.state.take(peer, message, &mut false)
-    }
-
-    /// Takes `message` under the key `peer`, as [`Core::take`] does, and sets `entered` to whether
-    /// it is cached and no message of its digest was.
-    pub fn take_telling(
-        &mut self,
-        peer: &P,
-        message: &Digested<M>,
-        entered: &mut bool,
-    ) -> Result<Taken<W>, AllocError>
-    where
-        M: EncodeSize,
-        ensures taken { IsTaken (same_by P.cmp M.Digest.cmp) peer.now message.now
-            (option_map length (M.encoding message.now.message)) self.old self.new result }
-        ensures entered { let same = same_by P.cmp M.Digest.cmp in
-            let d = message.now.digest in
-            OnOk result (entered.new ≡ (not (is_some (message_at same self.old d))
-            && is_some (message_at same self.new d))) }
-        ensures unentered { OnErr result (entered.new ≡ entered.old) }
-    {
-        self.state.take(peer, message, entered)
+        self.state.take(peer, message)
     }
 
     /// Takes `message` under the own key, as [`Core::take`] does.
@@ -225,7 +204,7 @@ impl<P: PublicKey, M: Digestible, W: Drop> Core<P, M, W> {
             (option_map length (M.encoding message.now.message)) self.old self.new result }
     {
         let Core { own, state } = self;
-        state.take(own, message, &mut false)
+        state.take(own, message)
     }
 
     /// Returns `waiter` with the cached message of `digest`, or puts it behind the other waiters of
@@ -281,22 +260,6 @@ impl<P: PublicKey, M: Digestible, W: Drop> Core<P, M, W> {
         ensures distinct_left { IsDistinct (eq_by_cmp M.Digest.cmp) (keys_of self.new.waiters) }
     {
         self.state.waiters.cleanup_by()
-    }
-
-    /// Drops the waiters of `digest` that are closed, asking each of them once and no other.
-    /// Returns how many.
-    pub fn cleanup_at(&mut self, digest: &M::Digest) -> u64
-    where
-        W: Closable,
-        ensures store { KeepsStore (same_by P.cmp M.Digest.cmp) self.old self.new }
-        ensures dropped { let same = same_by P.cmp M.Digest.cmp in
-            (d : _) → DropsClosedIf (same.digest digest.now d) W.may_answer
-            (waiting_at same self.old d) (waiting_at same self.new d) }
-        ensures removed { waiting_in self.new.waiters + result ≡ waiting_in self.old.waiters }
-        ensures distinct { IsDistinct (eq_by_cmp M.Digest.cmp) (keys_of self.old.waiters) }
-        ensures distinct_left { IsDistinct (eq_by_cmp M.Digest.cmp) (keys_of self.new.waiters) }
-    {
-        self.state.waiters.cleanup_at(digest)
     }
 
     /// Drops the waiters of the digests that are closed, asking no other. Returns how many,

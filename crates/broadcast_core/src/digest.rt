@@ -1,11 +1,13 @@
 //! Digests of 32 bytes.
-ghost use Rattle.std.specs.Prelude.{◌≡◌, map, Some, refl};
+ghost use Rattle.std.specs.Prelude.{◌≡◌, map, Some, refl, slice_index_or};
 ghost use Rattle.std.specs.List.{concat};
 ghost use Rattle.std.specs.Cmp.Lexicographic.{slice_cmp, nat_list_cmp_total, texts_po, texts_ties};
 ghost use Rattle.std.specs.Ordering.{nat_cmp};
 ghost use Rattle.sha2.specs.Sha256.{sha256};
+ghost use Rattle.entries.specs.Leads.{leads_by_first};
 
 use crate::bytes32::{compare, write_hex};
+use entries::Leading;
 use sha2::{Digest as _, Sha256};
 use std::cmp::Ordering;
 use std::fmt;
@@ -76,6 +78,17 @@ impl Ord for Digest {
     #[inline(always)]
     fn cmp(&self, other: &Self) -> Ordering {
         compare(&self.bytes, &other.bytes)
+    }
+}
+
+impl Leading for Digest {
+    ghost leading_of = { λ bytes. slice_index_or bytes 0 0 };
+
+    ghost leads = { leads_by_first };
+
+    #[inline(always)]
+    fn leading(&self) -> u8 {
+        self.bytes[0]
     }
 }
 

@@ -7,7 +7,7 @@ ghost use Rattle.std.proofs.Common.{rules};
 
 use crate::codec::{CodecError, EncodeSize, Write};
 use crate::event::Cause;
-use entries::Named;
+use entries::{Leading, Named};
 use std::alloc::{AllocError, Global};
 use std::hash::Hash;
 use std::marker::Model;
@@ -16,7 +16,7 @@ use std::sync::Arc;
 /// A message that computes its own digest.
 pub trait Digestible: Drop {
     /// The name of a message. Digests that compare equal name the same message.
-    type Digest: Copy + Ord + Eq + Hash + Send + Sync;
+    type Digest: Copy + Ord + Eq + Hash + Leading + Send + Sync;
 
     /// The own digest.
     ghost digest_of: { Self → Self.Digest };

@@ -24,6 +24,7 @@ pub use codec::blocks::{ByteList, OneOf, Record, Tag, Wire};
 pub use codec::{Codec, CodecError, EncodeSize, RangeCfg, Read, Write, byte_list, decode_cfg};
 pub use digest::Digest;
 pub use digested::{Digested, Digestible};
+pub use entries::Leading;
 pub use event::{Answer, Cause, Event, Run, Sent};
 pub use items::Items;
 pub use laws::{answer_law, cache_law, codec_law, list_law, same_law};

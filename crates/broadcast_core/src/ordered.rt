@@ -1,5 +1,5 @@
 //! Keys of peers, sets of keys, and recipients.
-ghost use Rattle.std.specs.Prelude.{◌≡◌, ◌==◌, true, refl, Some, List, [], length, is_some, IfSome, IfOk, OnOk, IsSomeAnd};
+ghost use Rattle.std.specs.Prelude.{◌≡◌, ◌==◌, true, refl, Some, List, [], length, is_some, IfSome, IfOk, OnOk, IsSomeAnd, slice_index_or};
 ghost use Rattle.std.specs.Cmp.Lexicographic.{pointwise, lists_per, lists_equiv, slice_cmp, nat_list_cmp_total, texts_po, texts_ties};
 ghost use Rattle.std.specs.Cmp.{on_po, on_total};
 ghost use Rattle.std.specs.Cmp.Rules.{comparing};
@@ -9,9 +9,11 @@ ghost use Rattle.std.specs.Option.{option_copied};
 ghost use Rattle.std.specs.Ordering.{eq_by_cmp, nat_cmp};
 ghost use Rattle.std.proofs.Common.{rules};
 ghost use Rattle.broadcast_core.specs.Stored.{AreBelow};
+ghost use Rattle.entries.specs.Leads.{leads_by_first};
 
 use crate::bytes32::{compare, write_hex};
 use crate::items::Items;
+use entries::Leading;
 use std::alloc::{AllocError, Global};
 use std::cmp::Ordering;
 use std::fmt;
@@ -19,7 +21,7 @@ use std::hash::Hash;
 use std::marker::Model;
 
 /// The key of a peer. Keys that compare equal are the same key.
-pub trait PublicKey: Clone + Ord + Eq + Hash + Drop {
+pub trait PublicKey: Clone + Ord + Eq + Hash + Leading + Drop {
     /// A copy of a key equals it.
     ghost copies: { (key copy : Self) → Self.is_clone key copy
         → eq_by_cmp Self.cmp key copy ≡ true };
@@ -59,6 +61,17 @@ impl Ord for Key {
     #[inline]
     fn cmp(&self, other: &Self) -> Ordering {
         compare(&self.bytes, &other.bytes)
+    }
+}
+
+impl Leading for Key {
+    ghost leading_of = { λ key. slice_index_or key.bytes 0 0 };
+
+    ghost leads = { λ x y more. leads_by_first x.bytes y.bytes more };
+
+    #[inline(always)]
+    fn leading(&self) -> u8 {
+        self.bytes[0]
     }
 }
 

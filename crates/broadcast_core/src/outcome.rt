@@ -1,4 +1,6 @@
 //! The results of the calls of a core.
+ghost use Rattle.std.specs.Prelude.{◌≡◌, false};
+
 use crate::digested::{Digested, Digestible};
 use crate::items::Items;
 
@@ -22,6 +24,29 @@ pub struct Taken<W> {
     pub outcome: Outcome,
     /// The waiters of the digest, in the order of their subscribes.
     pub served: Items<W>,
+    /// Whether the message is cached, and none of its digest was.
+    pub entered: bool,
+}
+
+/// What a taking does to the list of its key.
+#[derive(Clone, Copy)]
+pub struct Listing {
+    /// What happened to the list.
+    pub outcome: Outcome,
+    /// Whether a message of the digest is known to have been cached.
+    pub was_cached: bool,
+}
+
+impl Listing {
+    /// No list changes, and nothing is known of the cache.
+    pub const fn unchanged(outcome: Outcome) -> Self
+        ensures { result ≡ record { outcome = outcome; was_cached = false } }
+    {
+        Listing {
+            outcome,
+            was_cached: false,
+        }
+    }
 }
 
 /// The result of a subscribe.

@@ -9,4 +9,3 @@ pub mod Counted
 pub mod Opening
 pub mod Skipping
 pub mod Watching
-pub mod Several

@@ -6,7 +6,6 @@ pub mod Skips
 pub mod Mailbox
 pub mod Tickets
 pub mod Asked
-pub mod Several
 pub mod Attended
 pub mod Watch
 pub mod MessageLaws

@@ -17,4 +17,3 @@ pub use ingress::queue::{Overflow, Pending, Policy};
 pub use ingress::reply::{Answering, Fixed, Reply, Responder};
 pub use ingress::shared::ticket_law;
 pub use ingress::subscription::Subscription;
-pub use ingress::subscriptions::{First, Subscriptions};

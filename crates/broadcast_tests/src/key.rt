@@ -1,8 +1,8 @@
 //! A key whose copy may find no memory.
 ghost use Rattle.std.specs.Prelude.{◌≡◌, true};
-ghost use Rattle.std.proofs.Common.{rules};
+ghost use Rattle.std.proofs.Common.{arith, rules};
 
-use broadcast_core::PublicKey;
+use broadcast_core::{Leading, PublicKey};
 use std::alloc::AllocError;
 
 /// A key that is compared by its number, and that may find no memory for a copy.
@@ -39,6 +39,16 @@ impl Clone for Key {
             number: self.number,
             copies: self.copies,
         })
+    }
+}
+
+impl Leading for Key {
+    ghost leading_of = { λ _. 0 };
+
+    ghost leads = { λ x y more. absurd (Prim.omega arith) };
+
+    fn leading(&self) -> u8 {
+        0
     }
 }
 

@@ -1,30 +1,32 @@
 // SPDX-License-Identifier: Apache-2.0
-//! Tests of the cache, its codec and runs, of the mailbox, of pages, of relays, and of the programs
-//! over their streams.
+//! Tests of what no contract says, without threads: of the cache, its codec and runs, of the
+//! mailbox, of relays, and of engines that are polled.
 #![tactic(auto)]
 
 #[cfg(test)]
-mod blocks;
-#[cfg(test)]
-mod codec;
-#[cfg(test)]
-mod digested;
+mod engine;
 pub mod even;
 #[cfg(test)]
 mod key;
 #[cfg(test)]
-mod lists;
+mod looped;
 #[cfg(test)]
 mod mailbox;
 #[cfg(test)]
-mod pages;
+mod network;
+#[cfg(test)]
+mod recent;
 #[cfg(test)]
 mod refused;
 #[cfg(test)]
 mod relays;
 #[cfg(test)]
-mod streams;
+mod support;
+#[cfg(test)]
+mod texts;
 #[cfg(test)]
 mod unencodable;
+#[cfg(test)]
+mod vectors;
 #[cfg(test)]
 mod waiters;

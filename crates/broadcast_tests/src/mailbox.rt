@@ -1,18 +1,10 @@
-//! The mailbox: its overflow, its inbox, its calls, what callers are given, callers on threads, and
-//! relays.
-mod accepted;
+//! The mailbox: its queues, its calls, what callers are given, and relays.
+mod asked;
 mod by_hand;
-mod calls;
-mod drops;
-mod inbox;
-mod limits;
 mod looks;
 mod note;
-mod overflow;
-mod polls;
+mod queues;
 mod relays;
-mod replies;
-mod several;
-mod tallied;
-mod threads;
-mod tickets;
+mod taken;
+mod talk;
+mod talks;

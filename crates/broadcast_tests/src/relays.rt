@@ -1,8 +1,8 @@
 //! The relays of lists of events.
 use broadcast_core::{Digested, RangeCfg, TestMessage};
 use broadcast_relay::{Relay, relay_of};
-use broadcast_text::fault::Fault;
-use replay_lib::read_events;
+use programs::replay::events::read_events;
+use programs::text::fault::Fault;
 use std::alloc::Global;
 
 /// The commitment and the content of a message.

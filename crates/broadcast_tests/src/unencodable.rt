@@ -37,29 +37,21 @@ fn run_of(alloc: Global, number: u8) -> Result<Run<u64, Even>, AllocError> {
     run(alloc, 1, 2, u64::MAX, true, &(), events)
 }
 
-fn is_unencodable(answers: &[Answer<Even>]) -> bool {
-    match answers {
-        [Answer::Peers, Answer::Refused(Cause::Unencodable)] => true,
-        _ => false,
-    }
-}
-
 fn shown_by(alloc: Global, run: &Run<u64, Even>, number: u8) -> Result<Shown, AllocError> {
     let listed = run.core.list(alloc, &1)?.len();
     let cached = usize::from(run.core.get(&number).is_some());
-    let refused = is_unencodable(run.answers.as_slice());
+    let refused = matches!(
+        run.answers.as_slice(),
+        [Answer::Peers, Answer::Refused(Cause::Unencodable)]
+    );
     Ok((refused, listed, cached, run.sent.len()))
-}
-
-fn shown(alloc: Global, number: u8) -> Result<Shown, AllocError> {
-    let run = run_of(alloc, number)?;
-    shown_by(alloc, &run, number)
 }
 
 #[test]
 fn a_message_without_encoding_is_refused(rt: HostRuntime) {
     for (number, expected) in broadcasts() {
-        let shown = shown(rt.alloc(), *number).expect(&rt, "memory");
+        let run = run_of(rt.alloc(), *number).expect(&rt, "memory");
+        let shown = shown_by(rt.alloc(), &run, *number).expect(&rt, "memory");
         assert_eq!(rt; shown, *expected, "number {number}");
     }
 }

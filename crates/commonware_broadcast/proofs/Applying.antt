@@ -21,7 +21,8 @@ use Rattle.engine_io.specs.Replies.{Asker, Replies}
 use Rattle.commonware_broadcast.specs.EngineHistory.{Step, applied, refused, happenings_at, happenings, peer_of, turns_at}
 use Rattle.commonware_broadcast.specs.StepLaws.{MayRefuse, MayRefuseRequest}
 use Rattle.commonware_broadcast.proofs.Counting.{IsNotDecoded, step-counted, step-waits}
-use Rattle.commonware_broadcast.specs.AppliesSteps.{AppliesStep, AppliesSteps, AppliesInput, AppliesAndSends, Replying, Sinks, requested}
+use Rattle.commonware_broadcast.specs.CountingCalls.{AppliesStep}
+use Rattle.commonware_broadcast.specs.AppliesSteps.{AppliesSteps, AppliesInput, AppliesAndSends, Replying, Sinks, requested}
 use Rattle.commonware_broadcast.proofs.Composing.{told-same}
 use Rattle.commonware_broadcast.proofs.Sending.{Sends-silent, Sends-input}
 use Rattle.engine_io.specs.Inputs.{requests_in}

@@ -9,7 +9,5 @@ pub mod Taking
 pub mod Driving
 pub mod Ending
 pub mod Polls
-pub mod Parting
 pub mod Repolled
-pub mod Leaving
 pub mod Naming

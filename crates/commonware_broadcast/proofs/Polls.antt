@@ -1,14 +1,17 @@
 -- Polls, one after another.
-use Rattle.std.proofs.Common.{◌≡◌, ℕ, zero, suc, Bool, true, false, List, [], ◌∷◌, ◌++◌, Option, None, Some, IfSome, IsSomeAnd, MatchOption, Result, Ok, Err, IfOk, is_ok, refl, sym, ap, ◌∙◌, subst, append_assoc, append-nil}
+use Rattle.std.proofs.Common.{◌≡◌, ℕ, zero, suc, List, [], ◌∷◌, ◌++◌, Option, None, Some, IfSome, IsSomeAnd, MatchOption, refl, sym, ap, ◌∙◌, subst, append_assoc, append-nil}
 use Rattle.futures.specs.declared.task.Poll.{Poll}
+use Rattle.engine_io.specs.declared.asleep.CannotWait.{CannotWait}
 use Rattle.engine_io.specs.declared.input.EndCause.{EndCause}
+use Rattle.engine_io.specs.declared.input.EndCause.TheVariants.{WaitFailed}
 use Rattle.engine_io.specs.declared.input.Turn.{Turn}
 use Rattle.engine_io.specs.declared.input.Turn.TheVariants as turn
 use Rattle.engine_io.specs.Sources.{given}
+use Rattle.commonware_broadcast.specs.declared.buffered.engine.report.Report.{Report}
 use Rattle.commonware_broadcast.specs.EngineHistory.{end_told}
 use Rattle.commonware_broadcast.specs.EngineState.{Moment}
 use Rattle.commonware_broadcast.specs.Interfaces.{Format, Interfaces}
-use Rattle.commonware_broadcast.specs.Polls.{IsPoll, Polls, SomePolls, ShowsPolls, ShowsPollsTo, StopsAt, unended}
+use Rattle.commonware_broadcast.specs.Polls.{IsPoll, Polls, SomePolls, ShowsPolls, ShowsPollsTo, ShowsRun, unended}
 
 -- a poll after others that had these turns, and what they are with its own
 pub record Next {P M D S G O J N V B Q C T : Type 0} (f : Format P M D C) (i : Interfaces P M D S G O J N V B Q) (mid new : Moment P M S O D J B Q C T N V) (turns listed : List (Turn P D)) : Type 0 where
@@ -112,26 +115,43 @@ module _ {P M D S G O J N V B Q C T W : Type 0} {f : Format P M D C} {i : Interf
       })
 
 module _ {P M D S G O J N V B Q C T W A : Type 0} (f : Format P M D C) (i : Interfaces P M D S G O J N V B Q) (seen : W → List (Turn P D) → Type 0)
-    (until_idle : Bool) (at : A → Moment P M S O D J B Q C T N V × W) where
+    (at : A → Moment P M S O D J B Q C T N V × W) where
   -- what a run gives from a moment on, it gives from one that polls took to it
-  pub ShowsPollsTo-back : (old mid : Option A) (left : Moment P M S O D J B Q C T N V × W) (end : Option EndCause) → {again : Bool} → again ≡ until_idle
-      → IfSome old (λ p. IsSomeAnd mid (λ q. ShowsPolls f i seen (at p).0 (at q).0 (at p).1 (at q).1)) → IfSome mid (λ q. ShowsPollsTo f i seen again (at q).0 (at q).1 left end)
-      → IfSome old (λ p. ShowsPollsTo f i seen until_idle (at p).0 (at p).1 left end)
-  ShowsPollsTo-back None mid left end same took ran = tt
-  ShowsPollsTo-back (Some p) None left end same took ran = absurd took
-  ShowsPollsTo-back (Some p) (Some q) left end same took ran = (ShowsPolls-more took ran.0, subst (λ b. StopsAt b left.0.engine end) same ran.1)
+  pub ShowsPollsTo-back : (old mid : Option A) (left : Moment P M S O D J B Q C T N V × W) (cause : EndCause)
+      → IfSome old (λ p. IsSomeAnd mid (λ q. ShowsPolls f i seen (at p).0 (at q).0 (at p).1 (at q).1)) → IfSome mid (λ q. ShowsPollsTo f i seen (at q).0 (at q).1 left cause)
+      → IfSome old (λ p. ShowsPollsTo f i seen (at p).0 (at p).1 left cause)
+  ShowsPollsTo-back None mid left cause took ran = tt
+  ShowsPollsTo-back (Some p) None left cause took ran = absurd took
+  ShowsPollsTo-back (Some p) (Some q) left cause took ran = (ShowsPolls-more took ran.0, ran.1)
 
--- an engine that was not to run until it is idle has ended
-pub stops-ended : {A X : Type 0} → (false ≡ true) × X → A
-stops-ended h = absurd (let no : false ≡ true = h.0 in cc)
+module _ {P M D S G O J N V B Q C T W : Type 0} {f : Format P M D C} {i : Interfaces P M D S G O J N V B Q} {seen : W → List (Turn P D) → Type 0} where
+  -- the report of a run whose last poll ended the engine
+  pub ShowsRun-ended : {old : Moment P M S O D J B Q C T N V} {watching : W} {left : Moment P M S O D J B Q C T N V × W} {cause : EndCause} (report : Report P Q W)
+      → ShowsPollsTo f i seen old watching left cause → report.cause ≡ cause → report.failure ≡ None
+      → report.metrics ≡ left.0.engine.node.metrics → report.requests ≡ left.0.engine.requests
+      → ((turns : List (Turn P D)) → seen left.1 turns → seen report.observer (turns ++ turn.Ended cause ∷ []))
+      → ShowsRun f i seen old watching report
+  ShowsRun-ended {old} {left = left} report ran cause failure metrics requests told = record {
+    last = left.0;
+    took = ran.0.took;
+    counters = metrics;
+    caused = subst (λ o. MatchOption o ((left.0.engine.end ≡ Some report.cause) × (report.requests ≡ left.0.engine.requests)) (λ failed. (report.cause ≡ WaitFailed) × (left.0 ≡ old)))
+        (sym failure) (ran.1 ∙ ap (λ c. Some c) (sym cause), requests);
+    shown = λ turns h. subst (λ c. seen report.observer ((turns ++ unended ran.0.took.turns) ++ turn.Ended c ∷ [])) (sym cause)
+        (told (turns ++ unended ran.0.took.turns) (ran.0.shown turns h));
+  }
 
--- the requests that a run left are those that were taken out of its engine
-pub Caused-same : {Q F : Type 0} {left requests : Q} (at : Q) (ended : Type 0) (failed : F → Type 0) (failure : Option F) → left ≡ requests
-    → MatchOption failure (ended × (requests ≡ at)) failed → MatchOption failure (ended × (left ≡ at)) failed
-Caused-same at ended failed None same h = (h.0, same ∙ h.1)
-Caused-same at ended failed (Some f) same h = h
-
--- what a result has if it is a value, it has if it is known to be one
-pub holds-if-ok : {A E : Type 0} (X : Type 0) (r : Result A E) → is_ok r ≡ true → IfOk r (λ a. X) → X
-holds-if-ok X (Ok a) fine h = h
-holds-if-ok X (Err e) fine h = absurd (let no : false ≡ true = fine in cc)
+  -- the report of a run whose thread could not wait
+  pub ShowsRun-failed : {old : Moment P M S O D J B Q C T N V} {watching : W} {failed : CannotWait} (report : Report P Q W)
+      → report.cause ≡ WaitFailed → report.failure ≡ Some failed → report.metrics ≡ old.engine.node.metrics
+      → ((turns : List (Turn P D)) → seen watching turns → seen report.observer (turns ++ turn.Ended WaitFailed ∷ []))
+      → ShowsRun f i seen old watching report
+  ShowsRun-failed {old} {watching} report cause failure metrics told = record {
+    last = old;
+    took = record { count = zero; turns = []; polls = (refl, refl) };
+    counters = metrics;
+    caused = subst (λ o. MatchOption o ((old.engine.end ≡ Some report.cause) × (report.requests ≡ old.engine.requests)) (λ failed. (report.cause ≡ WaitFailed) × (old ≡ old)))
+        (sym failure) (cause, refl);
+    shown = λ turns h. subst (λ c. seen report.observer ((turns ++ []) ++ turn.Ended c ∷ [])) (sym cause)
+        (told (turns ++ []) (subst (seen watching) (sym (append-nil turns)) h));
+  }

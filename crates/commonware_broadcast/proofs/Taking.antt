@@ -18,7 +18,8 @@ use Rattle.engine_io.specs.Refused.{refuses, is_request, outcome_of}
 use Rattle.engine_io.specs.Replies.{Asker}
 use Rattle.engine_io.specs.Sources.{given}
 use Rattle.commonware_broadcast.specs.declared.buffered.engine.node.Node.{Node}
-use Rattle.commonware_broadcast.specs.AppliesSteps.{AppliesStep, AppliesSteps, AppliesAndSends, Sends, sinks}
+use Rattle.commonware_broadcast.specs.AppliesSteps.{AppliesSteps, AppliesAndSends, Sends, sinks}
+use Rattle.commonware_broadcast.specs.CountingCalls.{AppliesStep}
 use Rattle.commonware_broadcast.specs.Arrives.{Arrival, Arrives, message_of, payload_of, input_of, reader_of}
 use Rattle.commonware_broadcast.specs.EngineHistory.{Step, IsSweptOnce, swept, ended, happenings, inputs, inputs_at, outcomes, outcomes_at, read_from, read_from_at, end_of, sweeps, turns, turns_at}
 use Rattle.commonware_broadcast.specs.EngineState.{Moment}

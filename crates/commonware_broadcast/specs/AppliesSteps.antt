@@ -14,10 +14,9 @@ use Rattle.engine_io.specs.declared.input.Turn.{Turn}
 use Rattle.commonware_broadcast.specs.declared.buffered.engine.node.Node.{Node}
 use Rattle.engine_io.specs.Counters.{Counted, raised, is_counted_as, number_at}
 use Rattle.engine_io.specs.Replies.{Asker, Replies}
-use Rattle.commonware_broadcast.specs.EngineHistory.{Step, applied, refused, happenings_at, happenings, handed_out_at, handed_out, turns_at}
-use Rattle.commonware_broadcast.specs.StepLaws.{IsStep, AreSteps}
+use Rattle.commonware_broadcast.specs.EngineHistory.{Step, applied, refused, happenings, handed_out, turns_at}
+use Rattle.commonware_broadcast.specs.StepLaws.{AreSteps}
 use Rattle.commonware_broadcast.specs.Counting.{counted, gauge}
-use Rattle.commonware_broadcast.specs.CountingCalls.{count}
 
 -- a request as an input
 abbrev pub requested : {P M D S G : Type 0} → ℕ → Bool → Message P M S G D → Input P M S G D
@@ -32,15 +31,6 @@ IsStepOf input _ = ⊥
 
 module _ {P M D S G O : Type 0} (s : Setting P M D) (may_answer : Asker S → Bool → Type 0)
     (outlet_told : O → Replies S G M D → Type 0) where
-  -- one step, whatever was sent; it counts on no peer
-  pub record AppliesStep (past : History P M D (Asker S) (Asker G)) (step : Step P M D S G)
-      (old new : Node P M S O D) : Type 0 where
-    pub lawful : IsStep s may_answer step past
-    pub content : HasContent s (happenings_at step ++ past) new.core
-    pub counted : new.metrics ≡ record old.metrics { totals = count s step past old.metrics.totals }
-    pub replied : (replies : Replies S G M D) → outlet_told old.outlet replies
-        → outlet_told new.outlet (replies ++ handed_out_at step)
-
   -- after a history these steps were taken
   pub record AppliesSteps (past : History P M D (Asker S) (Asker G)) (steps : List (Step P M D S G))
       (old new : Node P M S O D) : Type 0 where

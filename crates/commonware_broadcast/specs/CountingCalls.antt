@@ -1,10 +1,10 @@
--- Believed.
--- What the calls of an engine's counters make of them, for one step.
-use Rattle.std.specs.Prelude.{◌∷◌, length}
+-- Internal.
+-- What the calls of one step make of an engine's node.
+use Rattle.std.specs.Prelude.{◌≡◌, ◌∷◌, ◌++◌, Bool, length}
 use Rattle.broadcast_core.specs.Setting.{Setting}
 use Rattle.broadcast_core.specs.Happening.{History, cleanup}
 use Rattle.broadcast_core.specs.Waiting.{waiting, awaited}
-use Rattle.broadcast_core.specs.HasContent.{named_by}
+use Rattle.broadcast_core.specs.HasContent.{HasContent, named_by}
 use Rattle.broadcast_core.specs.Answers.{outcome}
 use Rattle.broadcast_core.specs.declared.outcome.Outcome.{Outcome}
 use Rattle.broadcast_core.specs.declared.outcome.Outcome.TheVariants.{Inserted, Duplicate, Ineligible, Oversize}
@@ -13,9 +13,11 @@ use Rattle.engine_io.specs.declared.input.Input.TheVariants.{Arrived, Invalid}
 use Rattle.engine_io.specs.declared.metrics.Status.TheVariants.{Success, Dropped}
 use Rattle.engine_io.specs.declared.metrics.Status.TheVariants as status
 use Rattle.engine_io.specs.Counters.{Totals, added}
-use Rattle.engine_io.specs.Replies.{Asker}
+use Rattle.engine_io.specs.Replies.{Asker, Replies}
 use Rattle.engine_io.specs.ReplyCounts.{count_replies}
-use Rattle.commonware_broadcast.specs.EngineHistory.{Step, swept, applied}
+use Rattle.commonware_broadcast.specs.EngineHistory.{Step, swept, applied, happenings_at, handed_out_at}
+use Rattle.commonware_broadcast.specs.StepLaws.{IsStep}
+use Rattle.commonware_broadcast.specs.declared.buffered.engine.node.Node.{Node}
 
 -- a message that was received is counted by its outcome
 abbrev pub count_outcome : Outcome → Totals → Totals
@@ -39,3 +41,14 @@ module _ {P M D S G : Type 0} (s : Setting P M D) where
   }
   count (applied input replies) past t = count_input input past (count_replies replies t)
   count _ past t = t
+
+module _ {P M D S G O : Type 0} (s : Setting P M D) (may_answer : Asker S → Bool → Type 0)
+    (outlet_told : O → Replies S G M D → Type 0) where
+  -- one step, whatever was sent; it counts on no peer
+  pub record AppliesStep (past : History P M D (Asker S) (Asker G)) (step : Step P M D S G)
+      (old new : Node P M S O D) : Type 0 where
+    pub lawful : IsStep s may_answer step past
+    pub content : HasContent s (happenings_at step ++ past) new.core
+    pub counted : new.metrics ≡ record old.metrics { totals = count s step past old.metrics.totals }
+    pub replied : (replies : Replies S G M D) → outlet_told old.outlet replies
+        → outlet_told new.outlet (replies ++ handed_out_at step)

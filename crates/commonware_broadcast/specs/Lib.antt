@@ -15,5 +15,3 @@ pub mod Waits
 pub mod First
 pub mod FirstSource
 pub mod Fresh
-pub mod Parts
-pub mod Sessions

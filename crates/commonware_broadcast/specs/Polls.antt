@@ -1,6 +1,6 @@
 -- Believed.
 -- Polls of an engine, one after another.
-use Rattle.std.specs.Prelude.{◌≡◌, ◌≤◌, ◌⊎◌, ℕ, zero, suc, Bool, true, List, [], ◌∷◌, ◌++◌, Option, None, Some, MatchOption}
+use Rattle.std.specs.Prelude.{◌≡◌, ◌≤◌, ◌⊎◌, ℕ, zero, suc, List, [], ◌∷◌, ◌++◌, Option, None, Some, MatchOption}
 use Rattle.futures.specs.Poll.{IfReady, OnPending}
 use Rattle.futures.specs.declared.task.Poll.{Poll}
 use Rattle.futures.specs.declared.task.Poll.TheVariants.{Ready}
@@ -13,10 +13,9 @@ use Rattle.engine_io.specs.declared.network.Provider.{Ghosts as Provider}
 use Rattle.engine_io.specs.declared.network.Receiver.{Ghosts as Receiver}
 use Rattle.engine_io.specs.declared.requests.Requests.{Ghosts as Requests}
 use Rattle.engine_io.specs.Causes.{HasCause}
-use Rattle.engine_io.specs.Counters.{Counters}
 use Rattle.engine_io.specs.Sources.{given}
-use Rattle.engine_io.specs.declared.asleep.CannotWait.{CannotWait}
-use Rattle.commonware_broadcast.specs.EngineState.{EngineState, Moment}
+use Rattle.commonware_broadcast.specs.declared.buffered.engine.report.Report.{Report}
+use Rattle.commonware_broadcast.specs.EngineState.{Moment}
 use Rattle.commonware_broadcast.specs.Interfaces.{Format, Interfaces}
 use Rattle.commonware_broadcast.specs.Order.{UnlessPeers, IfNetwork}
 use Rattle.commonware_broadcast.specs.TakesSteps.{TakesPoll, Always}
@@ -100,12 +99,6 @@ module _ {P M D S G O J N V B Q C T : Type 0} (f : Format P M D C)
     pub turns : List (Turn P D)
     pub polls : Polls count old new turns
 
--- an engine has ended for this cause, or, if it was to run until it is idle, has no job
-abbrev pub StopsAt : {P M S O D J B Q C T : Type 0} → Bool → EngineState P M S O D J B Q C T
-    → Option EndCause → Type 0
-StopsAt until_idle engine end = MatchOption end
-    ((until_idle ≡ true) × (engine.job ≡ None)) (λ cause. engine.end ≡ Some cause)
-
 module _ {P M D S G O J N V B Q C T W : Type 0} (f : Format P M D C)
     (i : Interfaces P M D S G O J N V B Q) (seen : W → List (Turn P D) → Type 0) where
   -- some polls, one after another, whose turns were shown to the observer, but no end
@@ -115,34 +108,22 @@ module _ {P M D S G O J N V B Q C T W : Type 0} (f : Format P M D C)
     pub shown : (turns : List (Turn P D)) → seen watching turns
         → seen watched (turns ++ unended took.turns)
 
-  -- such polls, which left an engine that is to run no longer
-  abbrev pub ShowsPollsTo : Bool → Moment P M S O D J B Q C T N V → W → Moment P M S O D J B Q C T N V × W
-      → Option EndCause → Type 0
-  ShowsPollsTo until_idle old watching left end =
-      ShowsPolls old left.0 watching left.1 × StopsAt until_idle left.0.engine end
+  -- such polls, of which the last one ended the engine for this cause
+  abbrev pub ShowsPollsTo : Moment P M S O D J B Q C T N V → W → Moment P M S O D J B Q C T N V × W
+      → EndCause → Type 0
+  ShowsPollsTo old watching left cause =
+      ShowsPolls old left.0 watching left.1 × (left.0.engine.end ≡ Some cause)
 
-  -- an engine took some polls until it had no job, or had ended, and is to have none from then on;
-  -- one that had none took none
-  pub record MakesReady (old new : Moment P M S O D J B Q C T N V) (watching watched : W)
+  -- an engine took some polls, and left this report: the last poll ended it for the cause that the
+  -- report names, or its thread could not wait, and no poll was taken. Its observer was handed the
+  -- turns, and then that end
+  pub record ShowsRun (old : Moment P M S O D J B Q C T N V) (watching : W) (report : Report P Q W)
       : Type 0 where
-    pub last : EngineState P M S O D J B Q C T
-    pub took : ShowsPolls old (record new { engine = last }) watching watched
-    pub idle : last.end ≡ None → last.job ≡ None
-    pub same_if_idle : old.engine.job ≡ None
-        → (record new { engine = last } ≡ old) × (watched ≡ watching)
-    pub without_job : new.engine ≡ record last { job = None }
-
-  -- an engine took some polls, and left these counters and requests: the last poll ended it for
-  -- this cause, or its thread could not wait, and no poll was taken. Its observer was handed the
-  -- turns, and then these
-  pub record ShowsRun (old : Moment P M S O D J B Q C T N V) (cause : EndCause)
-      (failure : Option CannotWait) (metrics : Counters P) (requests : Q) (watching watched : W)
-      (more : List (Turn P D)) : Type 0 where
     pub last : Moment P M S O D J B Q C T N V
     pub took : SomePolls f i old last
-    pub counters : metrics ≡ last.engine.node.metrics
-    pub caused : MatchOption failure
-        ((last.engine.end ≡ Some cause) × (requests ≡ last.engine.requests))
-        (λ failed. (cause ≡ WaitFailed) × (last ≡ old))
+    pub counters : report.metrics ≡ last.engine.node.metrics
+    pub caused : MatchOption report.failure
+        ((last.engine.end ≡ Some report.cause) × (report.requests ≡ last.engine.requests))
+        (λ failed. (report.cause ≡ WaitFailed) × (last ≡ old))
     pub shown : (turns : List (Turn P D)) → seen watching turns
-        → seen watched ((turns ++ unended took.turns) ++ more)
+        → seen report.observer ((turns ++ unended took.turns) ++ Ended report.cause ∷ [])

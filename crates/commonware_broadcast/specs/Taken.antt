@@ -47,7 +47,7 @@ module _ {P M J : Type 0} (is_of : J → M → Type 0) where
   Holds None job message = HoldsJob job message
   Holds (Some cause) job message = job ≡ None
 
--- nothing was taken from a source, and no waiter was asked
+-- nothing was taken from a source, and there was no cleanup
 pub record TakesNone {P M D S G O J B Q C T N V : Type 0}
     (old new : Moment P M S O D J B Q C T N V) (steps : List (Step P M D S G)) : Type 0 where
   pub provider : new.engine.provider ≡ old.engine.provider

@@ -1,24 +1,9 @@
 -- Believed.
 -- Workers that digest messages on other threads.
-use Rattle.std.specs.Prelude.{◌≡◌, ℕ, Option, None, Some}
-use Rattle.futures.specs.Channel.{completed_source}
-use Rattle.digest_strategies.specs.declared.worker.Worker.{Worker}
-use Rattle.digest_strategies.specs.declared.worker.Worker.TheVariants as worker
+use Rattle.std.specs.Prelude.{ℕ, Option, None, Some}
 
-module _ {M D : Type 0} where
-  -- the worker's thread owes this message with its own digest, or the worker has both
-  abbrev pub IsWorkerOf : (M → D) → Worker M D → M → Type 0
-  IsWorkerOf digest_of (worker.Running thread watch) message = thread.promise.0.value ≡ message
-  IsWorkerOf digest_of (worker.Digested digested digest) message =
-      (digested ≡ message) × (digest ≡ digest_of message)
-
-  -- a thread wakes who waits for it by the source of its channel
-  abbrev pub WaitsFor : Worker M D → ℕ → Type 0
-  WaitsFor (worker.Running thread watch) source = source ≡ completed_source watch
-  WaitsFor (worker.Digested digested digest) source = ⊥
-
--- a message that a pool digests, and the source that fires once it has
-pub record Pooling (M : Type 0) : Type 0 where
+-- a message that a worker digests, and the source that fires once it has
+pub record Digesting (M : Type 0) : Type 0 where
   pub message : M
   pub source : ℕ
 

@@ -9,8 +9,7 @@ use std::marker::PhantomData;
 use std::sync::Arc;
 use std::thread::Threads;
 
-/// Digests messages on other threads: each on one of its own, which passes a gate before, or all on
-/// that of a [`Pool`](crate::Pool), which is the gate then.
+/// Digests each message on a thread of its own, which passes a gate before.
 #[derive(Drop)]
 pub struct Threaded<G, R> {
     gate: Arc<G>,
@@ -19,13 +18,14 @@ pub struct Threaded<G, R> {
 }
 
 impl<G, R> Threaded<G, R> {
-    /// Creates a strategy whose workers pass `gate`, or are those of the pool.
+    /// Creates a strategy whose workers pass `gate`.
     pub fn new(rt: R, alloc: Global, gate: Arc<G>) -> Self {
         Threaded { gate, alloc, rt }
     }
 }
 
-/// The job of a message that a worker digests. Dropping it waits for the worker.
+/// The job of a message that a worker digests. It may move to another thread, as its worker may.
+/// Dropping it waits for the worker.
 pub struct Working<M: Work<G, R>, G, R: Drop> {
     worker: Option<M::Worker>,
     rt: R,

@@ -1,38 +1,128 @@
-//! Threads that digest one message each.
-ghost use Rattle.std.specs.Prelude.{◌≡◌, ℕ, IfOk};
+//! Threads that digest one message each, and leave it in a place.
+ghost use Rattle.std.specs.Prelude.{◌≡◌, ℕ, IfOk, IfSome};
+ghost use Rattle.std.specs.Arc.{arc_value};
 ghost use Rattle.futures.specs.Poll.{OnPending};
-ghost use Rattle.futures.specs.Task.{IsArmed, Keeps};
+ghost use Rattle.futures.specs.Task.{Hears, IsArmed, Keeps};
 ghost use Rattle.digest_strategies.specs.Heard.{HearsAll};
-ghost use Rattle.digest_strategies.specs.Workers.{IsWorkerOf, WaitsFor};
 
 use crate::gate::{Gate, Open};
 use broadcast_core::{Digest, Digestible, TestMessage};
+use counted_slot::{Counted, Fits, TAKEN};
 use futures::Future;
 use futures::channel::oneshot::{self, Receiver};
 use futures::task::{Context, Poll};
 use std::alloc::{AllocError, Global};
-use std::snapshot::Snapshot;
-use std::sync::Arc;
-use std::thread;
-use std::thread::{Promise, PromisedHandle, Threads};
+use std::marker::Model;
+use std::sync::{Arc, Wait};
+use std::thread::{self, Parker, Threads};
 
-/// The promise of a thread: it returns this message with its own digest.
+/// The word of a place in which a message was left.
+const FILLED: u64 = 1 << 32;
+
+/// A message with its own digest.
 #[derive(Drop)]
-pub struct DigestOf<M>(Snapshot<M>);
-
-impl<M: Digestible> Promise<(M, M::Digest)> for DigestOf<M> {
-    ghost kept_by = { λ promise digested. (digested.0 ≡ promise.0.value)
-        × (digested.1 ≡ M.digest_of promise.0.value) };
+struct Answer<M: Digestible> {
+    message: M,
+    digest: M::Digest,
 }
 
-/// A thread that digests a message, or the message with its digest if no thread could be started.
+impl<M: Digestible> Fits for Answer<M> {
+    type Tag = M;
+
+    ghost fits = { λ m answer. (answer.message ≡ m) × (answer.digest ≡ M.digest_of m) };
+}
+
+/// Where a thread leaves a message with its own digest. In a contract it is that message.
+#[derive(Drop)]
+struct Place<M: Digestible> {
+    answer: Counted<Option<Answer<M>>>,
+    // Who joins the worker sleeps here, until the message is left.
+    left: Parker,
+}
+
+impl<M: Digestible> Model for Place<M> {
+    ghost Value = { M };
+
+    ghost view = { λ it. it.answer };
+}
+
+impl<M: Digestible> Place<M> {
+    /// Creates the place of the message, which is not left there yet.
+    fn new(message: &M) -> Self
+        ensures { result ≡ message.now }
+    {
+        Place {
+            answer: Counted::new(None, message),
+            left: Parker::new(),
+        }
+    }
+
+    /// Digests the message of the place, and leaves it there.
+    fn digest(&self, message: M)
+        requires { message ≡ self.now }
+    {
+        let digest = message.digest();
+        let (found, claim) = self.answer.turn(0, TAKEN);
+        if found == 0 {
+            let before = claim.put(Some(Answer { message, digest }), FILLED);
+            drop(before);
+        } else {
+            claim.done();
+        }
+        self.left.unpark();
+    }
+
+    /// Takes the message of the place, if it was left there.
+    fn take(&self) -> Option<Answer<M>>
+        ensures { IfSome result (λ it.
+            (it.message ≡ self.now) × (it.digest ≡ M.digest_of self.now)) }
+    {
+        let (found, claim) = self.answer.turn(FILLED, FILLED + TAKEN);
+        if found == FILLED {
+            return claim.put(None, 0);
+        }
+        claim.done();
+        None
+    }
+}
+
+/// A message to digest, with the place for it.
+#[derive(Drop)]
+struct Task<M: Digestible> {
+    message: M,
+    place: Arc<Place<M>>,
+    ghost own: { (arc_value place) ≡ message },
+}
+
+impl<M: Digestible> Task<M> {
+    /// Digests the message, and leaves it in its place.
+    fn complete(self) {
+        let Task { message, place } = self;
+        place.digest(message);
+    }
+}
+
+/// A thread that digests a message, and leaves it where it is joined. In a contract it is that
+/// message, with the source that fires once it is left.
 ///
-/// It cannot be dropped, only joined.
-pub enum Worker<M: Digestible> {
-    /// A thread, and a channel that closes once the message is digested.
-    Running(PromisedHandle<(M, M::Digest), DigestOf<M>>, Receiver<()>),
-    /// The message with its digest.
-    Digested(M, M::Digest),
+/// It may move to another thread. It cannot be dropped, only joined.
+pub struct Worker<M: Digestible> {
+    place: Arc<Place<M>>,
+    // Closes once the message is left.
+    watch: Receiver<()>,
+}
+
+impl<M: Digestible> Model for Worker<M> {
+    ghost use Rattle.std.specs.Arc.{arc_value};
+    ghost use Rattle.futures.specs.Channel.{completed_source};
+    ghost use Rattle.digest_strategies.specs.Workers.{Digesting};
+
+    ghost Value = { Digesting M };
+
+    ghost view = { λ it. record {
+      message = arc_value it.place;
+      source = completed_source it.watch;
+    } };
 }
 
 impl<M: Digestible> Worker<M> {
@@ -45,77 +135,66 @@ impl<M: Digestible> Worker<M> {
         message: M,
     ) -> Result<Worker<M>, AllocError>
     where
-        M: Send + 'static,
+        M: Send + Sync + 'static,
         M::Digest: 'static,
         G: Gate + Send + Sync + Drop + 'static,
         R: Threads,
-        ensures { IfOk result (λ worker. IsWorkerOf M.digest_of worker message) }
+        ensures { IfOk result (λ worker. worker.message ≡ message) }
     {
         let (finished, watch) = oneshot::channel::<()>(alloc)?;
-        let promise = DigestOf(Snapshot::of(&message));
-        let work = move || -> (M, M::Digest)
-            ensures { (result.0 ≡ message) × (result.1 ≡ M.digest_of message) }
-        {
-            gate.pass();
-            let digested = digest(message);
-            drop(finished);
-            digested
+        let place = Arc::new(alloc, Place::new(&message))?;
+        let task = Task {
+            message,
+            place: Arc::try_clone(&place)?,
         };
-        match thread::spawn_with(rt, promise, work) {
-            Ok(thread) => Ok(Worker::Running(thread, watch)),
+        let work = move || {
+            gate.pass();
+            drop(gate);
+            task.complete();
+            drop(finished);
+        };
+        match thread::spawn(rt, work) {
+            Ok(thread) => drop(thread),
             Err(refused) => {
                 let work = refused.value;
-                let (message, digest) = work();
-                Ok(Worker::Digested(message, digest))
+                work();
             }
         }
+        Ok(Worker { place, watch })
     }
 
-    /// Returns whether the message is digested. If not, the task is woken once it is.
+    /// Returns whether the message was left. If not, the task is woken once it is.
     pub fn poll(&mut self, cx: &mut Context<'_>) -> Poll<()>
-        ensures stays { (message : M) → IsWorkerOf M.digest_of self.old message
-            → IsWorkerOf M.digest_of self.new message }
-        ensures heard { OnPending result (HearsAll cx.new (WaitsFor self.new)) }
+        ensures stays { self.new.message ≡ self.old.message }
+        ensures heard { OnPending result (Hears cx.new self.new.source) }
         ensures armed { OnPending result (IsArmed cx.new) }
         ensures kept { Keeps cx.old cx.new }
     {
-        match self {
-            Worker::Running(_, watch) => match watch.poll(cx) {
-                Poll::Ready(_) => Poll::Ready(()),
-                Poll::Pending => Poll::Pending,
-            },
-            Worker::Digested(..) => Poll::Ready(()),
+        match self.watch.poll(cx) {
+            Poll::Ready(_) => Poll::Ready(()),
+            Poll::Pending => Poll::Pending,
         }
     }
 
-    /// Joins the thread. Returns the message with its own digest.
-    pub fn join<R: Threads>(self, rt: &R) -> (M, M::Digest)
-        ensures { (message : M) → IsWorkerOf M.digest_of self message
-            → (result.0 ≡ message) × (result.1 ≡ M.digest_of message) }
+    /// Waits until the message is left. Returns it with its own digest.
+    pub fn join<R: Wait>(self, rt: &R) -> (M, M::Digest)
+        ensures { (result.0 ≡ self.message) × (result.1 ≡ M.digest_of self.message) }
     {
-        match self {
-            Worker::Running(thread, watch) => {
-                let digested = thread.join(rt);
-                drop(watch);
-                digested
+        let Worker { place, watch } = self;
+        drop(watch);
+        for _ in rt.forever() {
+            if let Some(Answer { message, digest }) = place.take() {
+                return (message, digest);
             }
-            Worker::Digested(message, digest) => (message, digest),
+            place.left.park(rt);
         }
+        unreachable!()
     }
 }
 
-// Returns the message with its digest.
-fn digest<M: Digestible>(message: M) -> (M, M::Digest)
-    ensures { (result.0 ≡ message) × (result.1 ≡ M.digest_of message) }
-{
-    let digest = message.digest();
-    (message, digest)
-}
-
-/// A message that a worker digests, behind a gate `G` or in a pool `G`, with a runtime `R`.
+/// A message that a worker digests, behind a gate `G`, with a runtime `R`.
 ///
-/// The calls are those of `Worker` or of `Pooled`. An impl names message and `G`, and makes the
-/// calls.
+/// The calls are those of `Worker`. An impl names message and `G`, and makes the calls.
 pub trait Work<G, R>: Digestible {
     /// A worker that was started.
     type Worker;
@@ -143,12 +222,12 @@ pub trait Work<G, R>: Digestible {
             → (result.0 ≡ message) × (result.1 ≡ Self.digest_of message) };
 }
 
-impl<R: Threads> Work<Open, R> for TestMessage {
+impl<R: Threads + Wait> Work<Open, R> for TestMessage {
     type Worker = Worker<TestMessage>;
 
-    ghost is_of = { IsWorkerOf Self.digest_of };
+    ghost is_of = { λ worker message. worker.message ≡ message };
 
-    ghost needs = { WaitsFor };
+    ghost needs = { λ worker source. source ≡ worker.source };
 
     fn start(
         self,
@@ -156,8 +235,7 @@ impl<R: Threads> Work<Open, R> for TestMessage {
         alloc: Global,
         gate: Arc<Open>,
     ) -> Result<Worker<TestMessage>, AllocError>
-        ensures { IfOk result
-            (λ worker. IsWorkerOf ⟦<TestMessage as Digestible>⟧.digest_of worker self) }
+        ensures { IfOk result (λ worker. worker.message ≡ self) }
     {
         Worker::start(rt, alloc, gate, self)
     }

@@ -20,7 +20,6 @@ pub use input::{EndCause, Input, Turn};
 pub use metrics::{Counter, Metrics, Sequencer, Status};
 pub use network::{NetworkFailed, Provider, Receiver, Sender};
 pub use observer::Observer;
-pub use observer::lines::Lines;
 pub use observer::recent::Recent;
 pub use observer::set_number::SetNumber;
 pub use outlet::{Direct, Outlet};

@@ -2,7 +2,6 @@
 ghost use Rattle.std.specs.Prelude.{⊤, List, [], ◌∷◌, ◌++◌};
 ghost use Rattle.engine_io.specs.declared.input.Turn.{Turn};
 
-pub mod lines;
 pub mod recent;
 pub mod set_number;
 

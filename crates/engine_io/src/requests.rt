@@ -1,6 +1,6 @@
 //! The source of an engine's requests.
-ghost use Rattle.std.specs.Prelude.{◌≡◌, ◌≤◌, ◌+◌, ◌&&◌, ⊤, ◌⊎◌, ℕ, Bool, List, [], ◌∷◌, ◌++◌, true, false};
-ghost use Rattle.futures.specs.Poll.{OnPending};
+ghost use Rattle.std.specs.Prelude.{◌≡◌, ◌≤◌, ◌+◌, ◌&&◌, ◌||◌, ⊤, ◌⊎◌, ℕ, Bool, List, [], ◌∷◌, ◌++◌, true, false};
+ghost use Rattle.futures.specs.Poll.{IfReady, OnPending};
 ghost use Rattle.futures.specs.Task.{IsArmed, Keeps};
 ghost use Rattle.engine_io.specs.Heard.{HearsAll};
 ghost use Rattle.engine_io.specs.Sources.{given};
@@ -144,7 +144,22 @@ where
         self.poll_stopped(cx)
     }
 
-    fn poll_next(&mut self, cx: &mut Context<'_>) -> Poll<Request<Incoming<P, M>>> {
+    fn poll_next(&mut self, cx: &mut Context<'_>) -> Poll<Request<Incoming<P, M>>>
+        ensures tells { (requests : List (Request (Message P M ℕ ℕ M.Digest)))
+            → self.old.taken ≡ counted_in requests
+            → self.new.taken ≡ counted_in (requests ++ given result) }
+        ensures outcomes { (before : List Bool)
+            → self.old.refused ≤ refusals before → self.new.refused ≤ refusals before }
+        ensures undecided { IfReady result (λ request.
+            self.new.undecided ≡ (request.counted || self.old.undecided)) }
+        ensures decides_none { OnPending result (self.new.undecided ≡ self.old.undecided) }
+        ensures heard { OnPending result
+            (HearsAll cx.new (λ source. source ≡ self.new.inbox.queued)) }
+        ensures same_stop { OnPending result ((source : ℕ)
+            → source ≡ self.new.inbox.stopped → source ≡ self.old.inbox.stopped) }
+        ensures armed { OnPending result (IsArmed cx.new) }
+        ensures kept { Keeps cx.old cx.new }
+    {
         self.poll_request(cx)
     }
 

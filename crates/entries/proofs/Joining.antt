@@ -10,13 +10,15 @@ use Rattle.std.specs.BTreeMap.{insert_entry}
 use Rattle.std.specs.declared.cmp.Ordering.{Ordering}
 use Rattle.std.proofs.lemmas.List.{get_or-set_other}
 use Rattle.std.proofs.lemmas.Bool.{cases_eq}
+use Rattle.std.proofs.lemmas.Map.{lookup-remove_entry}
+use Rattle.std.proofs.lemmas.Map.Keys.{IsDistinct-from_sorted}
 use Rattle.entries.specs.Placed.{Placed}
 use Rattle.entries.specs.Slots.{JoinsItem, AddsItem, LeavesItem, Inserts}
 use Rattle.entries.specs.Store.{same_number}
 use Rattle.entries.specs.Table.{Tabled, item_at, name_at, items_by, items_of, place_in, IsPlaced, IsTabled, Takes, Leaves}
 use Rattle.entries.specs.declared.table.Found.{Found}
 use Rattle.entries.proofs.Slots.{number_laws}
-use Rattle.entries.proofs.Tables.{by_test, insert_entry-same, PutsItem, Rewrites, joined, cached, left, left_last}
+use Rattle.entries.proofs.Tables.{by_test, lookup-inserted, PutsItem, Rewrites, joined, cached, left, left_last}
 use Rattle.entries.proofs.Tabled.{no_some, no_both, reached, kept-reach, set-here, set-same, lookup-found, lookup-name, lookup-items, one-number, full, only, alike, twins, leads-there, sorted-items, written-items, inserted-items, removed-items}
 
 same-table : {D T : Type 0} (t u : Tabled D T) → u.index ≡ t.index → u.slots ≡ t.slots → u ≡ t
@@ -216,18 +218,18 @@ module _ {D T : Type 0} {R : D → D → Ordering} {name : T → D} (o : IsTotal
           tabled = added-tabled all.0;
         }
 
-  module _ (sorted : IsStrictlySortedBy R (keys_of t.index)) {u : Tabled D T} {gs : List (D × ℕ)} {E : Type 0} {is_clone : T → T → Type 0} {d : D} {x : T} {n list i : ℕ}
-      (own : d ≡ name x) (is : gs ≡ insert_entry R t.index d n) (moved : u.index ≡ gs) where
-    -- a name of the index is written again
-    pub joins-again : {r : Result Found E} → lookup (eq_by_cmp R d) t.index ≡ Some n → JoinsItem n list i r t.slots u.slots → Inserts R name is_clone x list i r t u
-    joins-again {r = r} leads j = joins sorted u (moved ∙ is ∙ insert_entry-same o d n t.index sorted leads) r (ap (λ e. lookup (eq_by_cmp R e) t.index) (sym own) ∙ leads) j
+  module _ (sorted : IsStrictlySortedBy R (keys_of t.index)) {u : Tabled D T} {E : Type 0} {is_clone : T → T → Type 0} {d : D} {x : T} {n list i : ℕ} (own : d ≡ name x) where
+    -- a name that was there
+    pub joins-again : {r : Result Found E} → u.index ≡ t.index → lookup (eq_by_cmp R d) t.index ≡ Some n → JoinsItem n list i r t.slots u.slots → Inserts R name is_clone x list i r t u
+    joins-again {r = r} index leads j = joins sorted u index r (ap (λ e. lookup (eq_by_cmp R e) t.index) (sym own) ∙ leads) j
 
-    -- a new name is written
-    pub adds-new : lookup (eq_by_cmp R d) t.index ≡ None → ((e : D) → lookup (eq_by_cmp R e) gs ≡ cond (eq_by_cmp R d e) (Some n) (lookup (eq_by_cmp R e) t.index))
+    -- a new name
+    pub adds-new : u.index ≡ insert_entry R t.index d n → lookup (eq_by_cmp R d) t.index ≡ None
         → AddsItem is_clone x n list i t.slots u.slots → ((y z : T) → is_clone y z → z ≡ y) → Inserts R name is_clone x list i (newly {E = E} n) t u
-    adds-new none updates a copies = adds sorted u (ap (λ e. lookup (eq_by_cmp R e) t.index) (sym own) ∙ none)
-        (moved ∙ is ∙ ap (λ e. insert_entry R t.index e n) own)
-        (λ e. ap (lookup (eq_by_cmp R e)) moved ∙ updates e ∙ ap (λ f. cond (eq_by_cmp R f e) (Some n) (lookup (eq_by_cmp R e) t.index)) own) a copies
+    adds-new put none a copies =
+        let index = put ∙ ap (λ e. insert_entry R t.index e n) own in
+        adds sorted u (ap (λ e. lookup (eq_by_cmp R e) t.index) (sym own) ∙ none) index
+        (λ e. ap (lookup (eq_by_cmp R e)) index ∙ lookup-inserted o (name x) n e t.index) a copies
 
   -- the place of a list leaves an item that is there
   module _ (sorted : IsStrictlySortedBy R (keys_of t.index)) (u : Tabled D T) {n list : ℕ} {was : Placed ℕ T} {b : Bool} {slots : List (Option (Placed ℕ T))}
@@ -324,16 +326,20 @@ module _ {D T : Type 0} {R : D → D → Ordering} {name : T → D} (o : IsTotal
   -- an item that keeps none is there
   pub takes-last : IsStrictlySortedBy R (keys_of t.index) → {u : Tabled D T} {n list : ℕ} {slots : List (Option (Placed ℕ T))} {it : Placed ℕ T} {d : D} → HadOne t n list slots
       → slice_index_or slots n None ≡ Some it → d ≡ name it.message → item_at u n ≡ None → ((m : ℕ) → (m ≡ n → ⊥) → item_at u m ≡ slice_index_or slots m None)
-      → u.index ≡ remove_entry (eq_by_cmp R d) t.index → ((e : D) → lookup (eq_by_cmp R e) u.index ≡ cond (eq_by_cmp R d e) None (lookup (eq_by_cmp R e) t.index)) → Takes R name n list t u
-  takes-last sorted {u = u} {n = n} {it = it} {d = d} h taken own gone others index updates =
+      → u.index ≡ remove_entry (eq_by_cmp R d) t.index → Takes R name n list t u
+  takes-last sorted {u = u} {n = n} {it = it} {d = d} h taken own gone others index =
       let now = h.leaves.now in
       let written : slice_index_or _ n None ≡ Some now = ap (λ l. slice_index_or l n None) h.leaves.written ∙ set-here t.slots n h.was now h.there in
       let one : it ≡ now = (let both : Some it ≡ Some now = sym taken ∙ written in cc) in
       let same : d ≡ name h.was.message = own ∙ ap (λ (m : Placed ℕ T). name m.message) one ∙ ap name h.leaves.message in
+      let less = index ∙ ap (λ e. remove_entry (eq_by_cmp R e) t.index) same in
+      let laws = eq_by_cmp_equiv o in
       leaves-last sorted u h.there h.leaves gone
       (λ m differs. others m differs ∙ ap (λ l. slice_index_or l m None) h.leaves.written ∙ get_or-set_other t.slots n m (Some now) None differs)
-      (index ∙ ap (λ e. remove_entry (eq_by_cmp R e) t.index) same)
-      (λ e. updates e ∙ ap (λ f. cond (eq_by_cmp R f e) None (lookup (eq_by_cmp R e) t.index)) same) h.leaves.last
+      less
+      (λ e. ap (lookup (eq_by_cmp R e)) less
+      ∙ lookup-remove_entry laws (eq_by_cmp R (name h.was.message)) (λ x y is. laws.congr (name h.was.message) x y is) e t.index (IsDistinct-from_sorted R (keys_of t.index) sorted))
+      h.leaves.last
 
   -- an item that keeps none is not away
   pub takes-away : {P : Type 0} {n list : ℕ} {slots : List (Option (Placed ℕ T))} → HadOne t n list slots → slice_index_or slots n None ≡ None → P

@@ -15,3 +15,5 @@ pub mod Tabled
 pub mod Joining
 pub mod Opening
 pub mod Overlaying
+pub mod Joined
+pub mod Parted

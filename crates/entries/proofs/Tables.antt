@@ -93,6 +93,42 @@ insert_entry-same {R = R} o d x (e ∷ es) sorted there = by_order (R d e.0) (R 
     (λ more. let rest : lookup (is_at (R d)) es ≡ Some x = sym (ap (λ r. cond (is_eq r) (Some e.1) (lookup (is_at (R d)) es)) more) ∙ there in
     rw more (ap (λ fs. e ∷ fs) (insert_entry-same o d x es (sorted_tail R e.0 (keys_of es) sorted) rest)))
 
+-- what a name finds after it, or another, was put in
+pub lookup-inserted : {D X : Type 0} {R : D → D → Ordering} (o : IsTotalOrder R) (d : D) (x : X) (q : D) (es : List (D × X)) → lookup (eq_by_cmp R q) (insert_entry R es d x) ≡ cond (eq_by_cmp R d q) (Some x) (lookup (eq_by_cmp R q) es)
+lookup-inserted {R = R} o d x q [] = ap (λ b. cond b (Some x) None) ((eq_by_cmp_equiv o).symm q d)
+lookup-inserted {D = D} {X = X} {R = R} o d x q (e ∷ es) = by_order (R d e.0) (R d e.0) refl
+    (λ less. rw less (ap (λ b. cond b (Some x) (lookup same (e ∷ es))) (laws.symm q d)))
+    (λ equal. rw equal (ap (λ b. cond b (Some x) (lookup same es)) (alike equal) ∙ again (eq_by_cmp R d q) ∙ ap (λ b. cond (eq_by_cmp R d q) (Some x) (cond b (Some e.1) (lookup same es))) (sym (alike equal))))
+    (λ more. rw more (ap (λ l. cond (same e.0) (Some e.1) l) (lookup-inserted o d x q es)
+    ∙ swapped (same e.0) (eq_by_cmp R d q) (λ at_e at_d. let no : true ≡ false = sym (laws.congr d q e.0 at_d ∙ at_e) ∙ ap is_eq more in absurd (cc))))
+  where
+    same : D → Bool
+    same = eq_by_cmp R q
+
+    laws : IsEquivalence (eq_by_cmp R)
+    laws = eq_by_cmp_equiv o
+
+    alike : R d e.0 ≡ Equal → same e.0 ≡ eq_by_cmp R d q
+    alike equal = laws.symm q e.0 ∙ sym (laws.congr d e.0 q (ap is_eq equal))
+
+    again : (b : Bool) → cond b (Some x) (lookup same es) ≡ cond b (Some x) (cond b (Some e.1) (lookup same es))
+    again true = refl
+    again false = refl
+
+    swapped : (b c : Bool) → (b ≡ true → c ≡ true → ⊥) → cond b (Some e.1) (cond c (Some x) (lookup same es)) ≡ cond c (Some x) (cond b (Some e.1) (lookup same es))
+    swapped true true apart = absurd (apart refl refl)
+    swapped true false apart = refl
+    swapped false c apart = refl
+
+-- a name that was put in, and leaves again
+pub remove-inserted : {D X : Type 0} {R : D → D → Ordering} (o : IsTotalOrder R) (d : D) (x : X) (es : List (D × X)) → lookup (eq_by_cmp R d) es ≡ None → remove_entry (eq_by_cmp R d) (insert_entry R es d x) ≡ es
+remove-inserted {R = R} o d x [] none = ap (λ b. cond b [] ((d, x) ∷ [])) ((eq_by_cmp_equiv o).refl d)
+remove-inserted {R = R} o d x (e ∷ es) none = by_order (R d e.0) (R d e.0) refl
+    (λ less. rw less (ap (λ b. cond b (e ∷ es) ((d, x) ∷ remove_entry (eq_by_cmp R d) (e ∷ es))) ((eq_by_cmp_equiv o).refl d)))
+    (λ equal. let some : Some e.1 ≡ None = sym (ap (λ r. cond (is_eq r) (Some e.1) (lookup (eq_by_cmp R d) es)) equal) ∙ none in absurd (cc))
+    (λ more. let rest : lookup (eq_by_cmp R d) es ≡ None = sym (ap (λ r. cond (is_eq r) (Some e.1) (lookup (eq_by_cmp R d) es)) more) ∙ none in
+    rw (more, more) (ap (λ l. e ∷ l) (remove-inserted o d x es rest)))
+
 pub put_message : {K T : Type 0} (b : Bool) (item : Placed K T) (m : T) (o : Option (Placed K T)) → item.message ≡ m → option_map (λ i. i.message) (cond b (Some item) o) ≡ cond b (Some m) (option_map (λ i. i.message) o)
 put_message true item m o same = ap Some same
 put_message false item m o same = refl

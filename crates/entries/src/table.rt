@@ -13,16 +13,16 @@ ghost use Rattle.entries.specs.Table.{GoesBy, IsTabled, KeepsNames, Takes};
 ghost use Rattle.entries.specs.Slots.{JoinsItem, AddsItem, LeavesItem, Inserts};
 
 use crate::item::Item;
+use crate::leading::Leading;
+use crate::parts::Parts;
 use slab::Slab;
 use std::alloc::{AllocError, Global};
-use std::collections::BTreeMap;
-use std::collections::btree_map::Entry;
 use std::marker::Model;
 
 /// What goes by a name.
 pub trait Named: Drop {
     /// The name. Of those with equal names a table keeps the first.
-    type Name: Copy + Ord;
+    type Name: Copy + Ord + Leading;
 
     /// The own name.
     ghost name_of: { Self → Self.Name };
@@ -48,7 +48,7 @@ pub struct Found {
 pub struct Table<T: Named> {
     alloc: Global,
     items: Slab<Item<usize, T>>,
-    index: BTreeMap<T::Name, usize>,
+    index: Parts<T::Name, usize>,
 }
 
 impl<T: Named> Model for Table<T> {
@@ -56,10 +56,10 @@ impl<T: Named> Model for Table<T> {
 
     ghost Value = { Tabled T.Name T };
 
-    ghost view = { λ it. record { index = it.index.entries; slots = it.items.slots } };
+    ghost view = { λ it. record { index = it.index; slots = it.items.slots } };
 
     ghost invariant = { λ it. IsTabled T.Name.cmp T.name_of
-        (record { index = it.index.entries; slots = it.items.slots }) };
+        (record { index = it.index; slots = it.items.slots }) };
 }
 
 impl<T: Named + Clone> Table<T> {
@@ -70,7 +70,7 @@ impl<T: Named + Clone> Table<T> {
         Table {
             alloc,
             items: Slab::new(alloc),
-            index: BTreeMap::new(alloc),
+            index: Parts::new(alloc),
         }
     }
 
@@ -152,40 +152,35 @@ impl<T: Named + Clone> Table<T> {
 fn insert<T: Named + Clone>(
     alloc: Global,
     items: &mut Slab<Item<usize, T>>,
-    index: &mut BTreeMap<T::Name, usize>,
+    index: &mut Parts<T::Name, usize>,
     message: &T,
     list: usize,
     place: usize,
 ) -> Result<Found, AllocError>
     requires copies { (x y : T) → T.is_clone x y → y ≡ x }
     requires tabled { IsTabled T.Name.cmp T.name_of
-        (record { index = index.old.entries; slots = items.old.slots }) }
+        (record { index = index.old; slots = items.old.slots }) }
     ensures { Inserts T.Name.cmp T.name_of T.is_clone message.now list place result
-        (record { index = index.old.entries; slots = items.old.slots })
-        (record { index = index.new.entries; slots = items.new.slots }) }
+        (record { index = index.old; slots = items.old.slots })
+        (record { index = index.new; slots = items.new.slots }) }
 {
-    match index.entry(message.name()) {
-        Ok(entry) => match entry {
-            Entry::Occupied(found) => join(items, *found.into_mut(), list, place),
-            Entry::Vacant(vacant) => match add(alloc, items, message, list, place) {
-                Ok(item) => {
-                    vacant.insert(item);
-                    Ok(Found {
-                        item,
-                        place: None,
-                        was_there: false,
-                    })
-                }
-                Err(refused) => {
-                    // Gives back the room for a name.
-                    if let Err(_stays) = Entry::Vacant(vacant).or_try_insert_with(|| Err(
-                        refused,
-                    )) {}
-                    Err(refused)
-                }
-            },
+    // The names ascend: so says `len`.
+    let _names = index.len();
+    let name = message.name();
+    match index.find_or_insert(name, items.vacant_key()) {
+        Ok(Some(item)) => join(items, item, list, place),
+        Ok(None) => match add(alloc, items, message, list, place) {
+            Ok(item) => Ok(Found {
+                item,
+                place: None,
+                was_there: false,
+            }),
+            Err(refused) => {
+                index.remove(&name);
+                Err(refused)
+            }
         },
-        Err(_refused) => Err(AllocError),
+        Err(refused) => Err(refused),
     }
 }
 
@@ -222,6 +217,7 @@ fn add<T: Clone + Drop>(
 ) -> Result<usize, AllocError>
     ensures ok { IfOk result (λ item. AddsItem T.is_clone message.now item list place
         items.old.slots items.new.slots) }
+    ensures number { IfOk result (λ item. item ≡ items.old.vacant_key) }
     ensures err { OnErr result (items.new.slots ≡ items.old.slots) }
 {
     items.reserve(1)?;
@@ -232,15 +228,15 @@ fn add<T: Clone + Drop>(
 /// Removes the place of the list from an item, and the message with its last place.
 fn remove<T: Named>(
     items: &mut Slab<Item<usize, T>>,
-    index: &mut BTreeMap<T::Name, usize>,
+    index: &mut Parts<T::Name, usize>,
     item: usize,
     list: usize,
 )
     requires { IsTabled T.Name.cmp T.name_of
-        (record { index = index.old.entries; slots = items.old.slots }) }
+        (record { index = index.old; slots = items.old.slots }) }
     ensures { Takes T.Name.cmp T.name_of item list
-        (record { index = index.old.entries; slots = items.old.slots })
-        (record { index = index.new.entries; slots = items.new.slots }) }
+        (record { index = index.old; slots = items.old.slots })
+        (record { index = index.new; slots = items.new.slots }) }
 {
     // The names ascend: so says `len`.
     let _names = index.len();

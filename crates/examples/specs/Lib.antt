@@ -1,1 +1,4 @@
-pub mod Said
+pub mod CoreExamples
+pub mod Driven
+pub mod WorkedExamples
+pub mod WorldExamples

@@ -1,5 +1,5 @@
 //! The mail of a node, and the ends that its engine has of it.
-ghost use Rattle.std.specs.Prelude.{◌≡◌, ⊤, IfOk, map};
+ghost use Rattle.std.specs.Prelude.{◌≡◌, ⊤, true, IfOk, map};
 ghost use Rattle.std.specs.List.{filter, list_any};
 ghost use Rattle.std.specs.Arc.{arc_value};
 ghost use Rattle.std.specs.Ordering.{eq_by_cmp};
@@ -81,7 +81,9 @@ impl<P: PublicKey, R> Model for PeerSets<P, R> {
 
 impl<P: PublicKey, R: Clone + Drop> PeerSets<P, R> {
     /// Creates the end of this mail. `rt` is the right to wait for its locks.
-    pub fn new(rt: &R, mail: &Arc<Mail<P>>) -> Result<Self, AllocError> {
+    pub fn new(rt: &R, mail: &Arc<Mail<P>>) -> Result<Self, AllocError>
+        ensures { IfOk result (λ it. it ≡ (arc_value mail.now).sets) }
+    {
         Ok(PeerSets {
             mail: Arc::try_clone(mail)?,
             rt: rt.clone()?,
@@ -89,7 +91,10 @@ impl<P: PublicKey, R: Clone + Drop> PeerSets<P, R> {
     }
 }
 
+/// There may always be another set, so an engine over it never ends because there are no more.
 impl<P: PublicKey, R: Wait> Provider<P> for PeerSets<P, R> {
+    ghost may_end = { λ _. ⊥ };
+
     ghost needs = { λ it source. source ≡ it };
 
     /// Returns whether there is a set, and counts that it was asked.
@@ -128,7 +133,9 @@ impl<P: PublicKey, R> Model for Inbound<P, R> {
 
 impl<P: PublicKey, R: Clone + Drop> Inbound<P, R> {
     /// Creates the end of this mail. `rt` is the right to wait for its locks.
-    pub fn new(rt: &R, mail: &Arc<Mail<P>>) -> Result<Self, AllocError> {
+    pub fn new(rt: &R, mail: &Arc<Mail<P>>) -> Result<Self, AllocError>
+        ensures { IfOk result (λ it. it ≡ (arc_value mail.now).payloads) }
+    {
         Ok(Inbound {
             mail: Arc::try_clone(mail)?,
             rt: rt.clone()?,
@@ -153,21 +160,21 @@ pub struct Outbound<P: PublicKey, R> {
     rt: R,
 }
 
-/// Contracts see it as the mail of the nodes that it sends to.
 impl<P: PublicKey, R> Model for Outbound<P, R> {
-    ghost use Rattle.std.specs.Prelude.{List, map};
+    ghost use Rattle.std.specs.Prelude.{map};
     ghost use Rattle.std.specs.Arc.{arc_value};
-    ghost use Rattle.memory_network.specs.declared.mail.Mail.{Mail as MailOf};
+    ghost use Rattle.memory_network.specs.Nodes.{Sending};
 
-    ghost Value = { List (MailOf P) };
+    ghost Value = { Sending P };
 
-    ghost view = { λ it. map arc_value it.others.items };
+    ghost view = { λ it. record { key = it.key; others = map arc_value it.others.items } };
 }
 
 impl<P: PublicKey, R: Clone + Drop> Outbound<P, R> {
     /// Creates what sends to the others under `key`. `rt` is the right to wait for their locks.
     pub fn new(rt: &R, key: &P, others: Vec<Arc<Mail<P>>>) -> Result<Self, AllocError>
-        ensures { IfOk result (λ it. it ≡ map arc_value others.items) }
+        ensures key { IfOk result (λ it. eq_by_cmp P.cmp key.now it.key ≡ true) }
+        ensures others { IfOk result (λ it. it.others ≡ map arc_value others.items) }
     {
         Ok(Outbound {
             key: key.clone()?,

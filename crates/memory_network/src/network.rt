@@ -2,7 +2,7 @@
 ghost use Rattle.std.specs.Prelude.{◌≡◌, true, false, Err, map, [], ◌∷◌, ◌++◌, IfOk, OnOk, IfSome, IfNone};
 ghost use Rattle.std.specs.Arc.{arc_value};
 ghost use Rattle.std.specs.Ordering.{eq_by_cmp};
-ghost use Rattle.memory_network.specs.Nodes.{has_node, others_of};
+ghost use Rattle.memory_network.specs.Nodes.{AreNodesOf, has_node, others_of};
 ghost use Rattle.memory_network.specs.declared.network.JoinError.TheVariants.{Unknown};
 
 use crate::mail::{Inbound, Mail, Outbound, PeerSets, is_same};
@@ -66,12 +66,13 @@ impl<P: PublicKey> Model for Network<P> {
 
 impl<P: PublicKey> Network<P> {
     /// Creates the network of the nodes with these keys. All of them are primary peers of each.
-    pub fn new<R: Wait + AllocGlobal>(rt: &R, keys: &Set<P>) -> Result<Self, AllocError> {
+    pub fn new<R: Wait + AllocGlobal>(rt: &R, keys: &Set<P>) -> Result<Self, AllocError>
+        ensures { IfOk result (AreNodesOf P.cmp keys.now) }
+    {
         let mut mails = Vec::new(rt.alloc());
-        for key in keys.as_slice() {
-            let mail = Mail::new(rt.alloc(), key.clone()?);
-            mail.set_peers(rt, keys.clone()?)?;
-            mails.push(Arc::new(rt.alloc(), mail)?)?;
+        let ordered = keys.as_slice();
+        for key in ordered {
+            mails.push(mail_between(rt, key, keys)?)?;
         }
         Ok(Network { mails })
     }
@@ -99,7 +100,12 @@ impl<P: PublicKey> Network<P> {
         R: AllocGlobal + Clone + Drop,
         ensures own { IfOk result (λ ends.
             eq_by_cmp P.cmp (arc_value ends.mail).key key.now ≡ true) }
-        ensures others { IfOk result (λ ends. ends.sender ≡ others_of P.cmp key.now self.now) }
+        ensures provider { IfOk result (λ ends. ends.provider ≡ (arc_value ends.mail).sets) }
+        ensures receiver { IfOk result (λ ends. ends.receiver ≡ (arc_value ends.mail).payloads) }
+        ensures sender { IfOk result (λ ends.
+            eq_by_cmp P.cmp (arc_value ends.mail).key ends.sender.key ≡ true) }
+        ensures others { IfOk result (λ ends.
+            ends.sender.others ≡ others_of P.cmp key.now self.now) }
         ensures unknown { result ≡ Err Unknown → has_node P.cmp key.now self.now ≡ false }
     {
         let Some(mail) = mail_of(&self.mails, key) else {
@@ -121,7 +127,11 @@ impl<P: PublicKey, R: Clone + Drop> Ends<P, R> {
     /// Creates the ends of the node of this mail, which sends to the others.
     fn new(rt: &R, mail: &Arc<Mail<P>>, others: Vec<Arc<Mail<P>>>) -> Result<Self, AllocError>
         ensures own { IfOk result (λ ends. arc_value ends.mail ≡ arc_value mail.now) }
-        ensures others { IfOk result (λ ends. ends.sender ≡ map arc_value others.items) }
+        ensures provider { IfOk result (λ ends. ends.provider ≡ (arc_value mail.now).sets) }
+        ensures receiver { IfOk result (λ ends. ends.receiver ≡ (arc_value mail.now).payloads) }
+        ensures sender { IfOk result (λ ends.
+            eq_by_cmp P.cmp (arc_value mail.now).key ends.sender.key ≡ true) }
+        ensures others { IfOk result (λ ends. ends.sender.others ≡ map arc_value others.items) }
     {
         Ok(Ends {
             provider: PeerSets::new(rt, mail)?,
@@ -130,6 +140,19 @@ impl<P: PublicKey, R: Clone + Drop> Ends<P, R> {
             mail: Arc::try_clone(mail)?,
         })
     }
+}
+
+/// Creates the mail of the node of the key, whose primary peers these are.
+fn mail_between<P: PublicKey, R: Wait + AllocGlobal>(
+    rt: &R,
+    key: &P,
+    peers: &Set<P>,
+) -> Result<Arc<Mail<P>>, AllocError>
+    ensures { IfOk result (λ mail. eq_by_cmp P.cmp key.now (arc_value mail).key ≡ true) }
+{
+    let mail = Mail::new(rt.alloc(), key.clone()?);
+    mail.set_peers(rt, peers.clone()?)?;
+    Ok(Arc::new(rt.alloc(), mail)?)
 }
 
 /// Returns the mail of the node with this key.

@@ -1,2 +1,1 @@
-pub mod Mute
 pub mod Watches

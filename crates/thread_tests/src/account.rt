@@ -1,8 +1,4 @@
 //! Accounts of tallied requests.
 mod clients;
-mod counters;
-mod ending_rows;
 mod endings;
-mod joins;
 mod quiet;
-mod told;

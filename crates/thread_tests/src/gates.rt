@@ -1,8 +1,8 @@
 //! Two workers that must meet at their gate.
-ghost use Rattle.std.specs.Prelude.{IfOk};
-ghost use Rattle.digest_strategies.specs.Workers.{IsWorkerOf, WaitsFor};
+ghost use Rattle.std.specs.Prelude.{◌≡◌, IfOk};
 
-use super::patient::LIMIT;
+use super::patient::{LIMIT, pause};
+use super::task::Task;
 use broadcast_core::{Digest, Digestible, TestMessage};
 use commonware_broadcast::buffered::{
     Gate, Job, Runtime, Strategy, Threaded, Work, Worker, Working,
@@ -10,12 +10,12 @@ use commonware_broadcast::buffered::{
 use futures::executor::block_on;
 use futures::future::poll_fn;
 use futures::task::{Context, Poll};
-use memory_node::support::task::Task;
 use std::alloc::{AllocError, AllocGlobal, Global};
 use std::process::Abort;
-use std::sync::Arc;
 use std::sync::atomic::{AtomicU64, Ordering};
-use std::thread::{self, Threads};
+use std::sync::{Arc, Wait};
+use std::thread::{self, JoinHandle, Threads};
+use std::time::Duration;
 
 /// How often a job is polled while its worker waits at the gate.
 pub const POLLS: u64 = 100;
@@ -68,12 +68,12 @@ impl Gate for Meeting {
     }
 }
 
-impl<R: Threads> Work<Meeting, R> for TestMessage {
+impl<R: Threads + Wait> Work<Meeting, R> for TestMessage {
     type Worker = Worker<TestMessage>;
 
-    ghost is_of = { IsWorkerOf Self.digest_of };
+    ghost is_of = { λ worker message. worker.message ≡ message };
 
-    ghost needs = { WaitsFor };
+    ghost needs = { λ worker source. source ≡ worker.source };
 
     fn start(
         self,
@@ -81,8 +81,7 @@ impl<R: Threads> Work<Meeting, R> for TestMessage {
         alloc: Global,
         gate: Arc<Meeting>,
     ) -> Result<Worker<TestMessage>, AllocError>
-        ensures { IfOk result
-            (λ worker. IsWorkerOf ⟦<TestMessage as Digestible>⟧.digest_of worker self) }
+        ensures { IfOk result (λ worker. worker.message ≡ self) }
     {
         Worker::start(rt, alloc, gate, self)
     }
@@ -162,4 +161,103 @@ fn message(alloc: Global, content: u8) -> Result<TestMessage, AllocError> {
 #[test]
 fn threaded_uses_another_thread(rt: HostRuntime) {
     assert_eq!(rt; meet(&rt), (2, true, true));
+}
+
+/// Starts a job whose thread waits at the gate.
+fn hold<R>(rt: &R, gate: &Arc<Meeting>) -> Working<TestMessage, Meeting, R>
+where
+    R: Runtime + Abort,
+{
+    let copy = rt.clone().expect(rt, "memory");
+    let strategy = Threaded::new(copy, rt.alloc(), Arc::try_clone(gate).expect(rt, "memory"));
+    let message = message(rt.alloc(), 7).expect(rt, "memory");
+    let job = strategy.start(message).expect(rt, "a job");
+    assert!(rt; gate.waits_for(1), "no thread is at the gate");
+    job
+}
+
+/// Starts a thread that passes the gate later.
+fn pass_later<R>(rt: &R, gate: &Arc<Meeting>) -> JoinHandle<()>
+where
+    R: Runtime + Abort,
+{
+    let gate = Arc::try_clone(gate).expect(rt, "memory");
+    let own = rt.clone().expect(rt, "memory");
+    let passing = thread::spawn(rt, move || {
+        thread::sleep(&own, Duration::from_millis(50));
+        gate.pass();
+    });
+    passing.expect(rt, "a thread")
+}
+
+/// Drops a job while its thread waits at a gate. Returns whether somebody has met by then, and how
+/// many have at last.
+fn drop_held<R>(rt: &R) -> (bool, u64)
+where
+    R: Runtime + Abort,
+{
+    let gate = Meeting::new(rt.alloc()).expect(rt, "memory");
+    let job = hold(rt, &gate);
+    let passing = pass_later(rt, &gate);
+    drop(job);
+    let met = gate.met() > 0;
+    passing.join(rt);
+    (met, gate.met())
+}
+
+#[test]
+fn a_dropped_job_waits_until_its_message_was_digested(rt: HostRuntime) {
+    assert_eq!(rt; drop_held(&rt), (true, 2));
+}
+
+/// Moves a job to another thread, which waits for its digest there. Returns whether the digest is
+/// that of the message.
+fn move_held<R>(rt: &R) -> bool
+where
+    R: Runtime + Abort,
+{
+    let gate = Meeting::new(rt.alloc()).expect(rt, "memory");
+    let job = hold(rt, &gate);
+    let own = rt.clone().expect(rt, "memory");
+    let waiting = thread::spawn(rt, move || {
+        let mut job = job;
+        digest(&own, &mut job)
+    });
+    let waiting = waiting.expect(rt, "a thread");
+    gate.pass();
+    waiting.join(rt) == message(rt.alloc(), 7).expect(rt, "memory").digest()
+}
+
+#[test]
+fn a_job_moves_to_another_thread(rt: HostRuntime) {
+    assert!(rt; move_held(&rt));
+}
+
+/// Polls a job once whose thread waits at the gate, and lets it pass. Returns whether its task is
+/// woken then, and whether the job is done.
+fn wake<R>(rt: &R) -> (bool, bool)
+where
+    R: Runtime + Abort,
+{
+    let gate = Meeting::new(rt.alloc()).expect(rt, "memory");
+    let mut task = Task::new(rt).expect(rt, "memory");
+    let mut job = hold(rt, &gate);
+    let pending = is_pending(&mut task, &mut job);
+    gate.pass();
+    for _ in 0..LIMIT {
+        task.look();
+        if task.wakes > 0 {
+            break;
+        }
+        pause(rt);
+    }
+    let mut cx = task.solo.begin();
+    let polled = job.poll(&mut cx);
+    task.rest.end(cx);
+    (pending && task.wakes > 0, polled.is_ready())
+}
+
+#[test]
+fn the_task_of_a_job_is_woken(rt: HostRuntime) {
+    assert_eq!(rt; wake(&rt), (true, true));
 }

@@ -1,20 +1,14 @@
 // SPDX-License-Identifier: Apache-2.0
-//! Tests of engines and digests on several threads.
+//! Tests of what no contract says, with threads: of started engines, of digests on other threads,
+//! and of callers of a mailbox.
 #![tactic(auto)]
 
 #[cfg(test)]
 mod account;
 #[cfg(test)]
-mod ends;
-#[cfg(test)]
 mod gates;
 #[cfg(test)]
-mod keys;
-#[cfg(test)]
-mod live;
-#[cfg(test)]
 mod lock;
-pub mod mute;
 #[cfg(test)]
 mod nodes;
 #[cfg(test)]
@@ -22,12 +16,16 @@ mod observed;
 #[cfg(test)]
 mod patient;
 #[cfg(test)]
-mod pools;
+mod poor;
 #[cfg(test)]
 mod shutdown;
 #[cfg(test)]
 mod snapshots;
 #[cfg(test)]
-mod soak;
+mod started;
 #[cfg(test)]
 mod starts;
+#[cfg(test)]
+mod task;
+#[cfg(test)]
+mod waits;

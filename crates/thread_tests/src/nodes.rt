@@ -1,82 +1,84 @@
-//! Started nodes, whose messages are digested elsewhere or later.
+//! Started nodes over a network in memory, and what feeds them.
 use super::patient::{LIMIT, Patient, Talk, pause};
-use broadcast_core::{Codec, Digestible, Key, RangeCfg, TestMessage};
-use broadcast_mailbox::MailboxError;
-use commonware_broadcast::Feedback;
+use broadcast_core::{Codec, Digest, Digested, Digestible, RangeCfg, Recipients, Set, TestMessage};
 use commonware_broadcast::buffered::{
-    self, Mailbox, Movable, Open, Pool, Runtime, Strategy, Threaded, Work,
+    self, Config, Handle, Mailbox, MailboxReport, Movable, Open, Runtime, Sequential, Strategy,
+    Subscription, Threaded,
 };
-use memory_network::Mail;
-use memory_node::node::{Node, config};
-use memory_node::support::nodes::{broadcast, network, send, start, track};
-use memory_node::support::poor::Poor;
+use commonware_broadcast::{Broadcaster, Feedback};
+use memory_network::{Ends, Mail, Network};
 use std::alloc::AllocGlobal;
+use std::num::NonZeroUsize;
 use std::process::Abort;
-use std::sync::Arc;
-use std::test::Fail;
+use std::sync::{Arc, Wait};
 
-/// Starts the node of number 1, whose messages are digested on other threads.
-pub fn start_threaded<R>(rt: &R) -> Node<TestMessage, R>
-where
-    R: Runtime + Abort,
-{
-    start_gated(rt, rt, RangeCfg::any(), Open)
+/// The key of the only peer of a node.
+pub const PEER: u64 = 5;
+
+/// The places of the ready list of a node.
+pub const PLACES: usize = 1000;
+
+/// A node of key 1, whose engine runs in a thread.
+#[derive(Drop)]
+pub struct Node<M: Digestible, R: Wait> {
+    pub mailbox: Mailbox<u64, M, R>,
+    pub mail: Arc<Mail<u64>>,
+    pub handle: Handle<u64, M, R>,
 }
 
-/// Starts the node of number 1, whose messages are digested on the thread of the pool.
-pub fn start_pooled<R>(rt: &Poor<R>, pool: Pool<TestMessage, Poor<R>>) -> Node<TestMessage, Poor<R>>
-where
-    R: Runtime + Abort,
-{
-    start_gated(&rt.rt, rt, RangeCfg::any(), pool)
-}
-
-/// Starts the node of number 1, whose messages are digested once they pass the gate. It is generic
-/// in the message, since the check refuses a bound on what `TestMessage` sends to a thread. `host`
-/// ends the process if it can't be started.
-fn start_gated<M, G, H, R>(host: &H, rt: &R, codec_config: M::Cfg, gate: G) -> Node<M, R>
-where
-    M: Digestible + Codec + Work<G, R> + Send + Sync + 'static,
-    M::Digest: 'static,
-    M::Cfg: Send + Drop + 'static,
-    G: Send + Sync + Drop + 'static,
-    H: Abort,
-    R: Runtime,
-{
-    let (mail, network) = network(rt).expect(host, "memory");
-    let copy = rt.clone().expect(host, "memory");
-    let gate = Arc::new(rt.alloc(), gate).expect(host, "memory");
-    let strategy = Threaded::new(copy, rt.alloc(), gate);
-    let cfg = config(rt, codec_config, strategy, &mail, 4).expect(host, "memory");
-    let (handle, mailbox) = buffered::start_threaded(rt, cfg, network).expect(host, "an engine");
-    Node {
-        mailbox,
-        mail,
-        handle,
+impl<M: Digestible, R: Runtime> Node<M, R> {
+    /// Waits for the end of the engine. Returns what it leaves.
+    pub fn join(self, rt: &R) -> MailboxReport<u64, M, R> {
+        let Node { handle, .. } = self;
+        handle.join(rt)
     }
 }
 
-/// Starts the node of number 1, whose jobs take part in a talk.
-pub fn start_patient<R>(rt: &R) -> Result<(Node<TestMessage, R>, Arc<Talk>), Fail>
-where
-    R: Runtime + Abort,
-{
-    let talk = Talk::new(rt).expect(rt, "memory");
-    let strategy = Patient::new(rt, &talk).expect(rt, "memory");
-    Ok((start(rt, strategy)?, talk))
+/// Returns what the node of key 1 has of a network without other nodes. It has no peers yet.
+pub fn ends<R: Runtime + Abort>(rt: &R) -> Ends<u64, R> {
+    let network = Network::between(rt, &[1]).expect(rt, "memory");
+    network.join(rt, &1).expect(rt, "the ends of a network")
 }
 
-/// Starts that node by the call that makes its mailbox, too.
-pub fn start_whole<R>(rt: &R) -> (Node<TestMessage, R>, Arc<Talk>)
-where
-    R: Runtime + Abort,
-{
+/// Creates the configuration of the node of key 1.
+pub fn config<C: Drop, B: Drop, T: Drop>(
+    peer_provider: B,
+    codec_config: C,
+    strategy: T,
+) -> Config<u64, C, B, T> {
+    Config {
+        public_key: 1,
+        mailbox_size: NonZeroUsize::MIN.saturating_add(PLACES - 1),
+        deque_size: 4,
+        byte_budget: u64::MAX,
+        priority: false,
+        codec_config,
+        peer_provider,
+        strategy,
+    }
+}
+
+/// Starts a node that digests messages itself.
+pub fn start<R: Runtime + Abort>(rt: &R) -> Node<TestMessage, R> {
+    start_with(rt, RangeCfg::any(), Sequential)
+}
+
+/// Creates the strategy that digests messages on other threads.
+pub fn threaded<R: Runtime + Abort>(rt: &R) -> Threaded<Open, R> {
+    let copy = rt.clone().expect(rt, "memory");
+    let gate = Arc::new(rt.alloc(), Open).expect(rt, "memory");
+    Threaded::new(copy, rt.alloc(), gate)
+}
+
+/// Starts a node whose jobs take part in a talk.
+pub fn start_patient<R: Runtime + Abort>(rt: &R) -> (Node<TestMessage, R>, Arc<Talk>) {
     let talk = Talk::new(rt).expect(rt, "memory");
     let strategy = Patient::new(rt, &talk).expect(rt, "memory");
     (start_with(rt, RangeCfg::any(), strategy), talk)
 }
 
-/// Starts the node of number 1. It is generic in the message, as `start_gated` is.
+/// Starts a node. It is generic in the message, since the check refuses a bound on what
+/// `TestMessage` sends to a thread.
 fn start_with<M, T, R>(rt: &R, codec_config: M::Cfg, strategy: T) -> Node<M, R>
 where
     M: Digestible + Codec + Send + Sync + 'static,
@@ -86,36 +88,105 @@ where
     T::Job: Send + 'static,
     R: Runtime + Abort,
 {
-    let (mail, network) = network(rt).expect(rt, "memory");
-    let cfg = config(rt, codec_config, strategy, &mail, 4).expect(rt, "memory");
-    let (handle, mailbox) = buffered::start(rt, cfg, network).expect(rt, "an engine");
+    let ends = ends(rt);
+    let cfg = config(ends.provider, codec_config, strategy);
+    let started = buffered::start(rt, cfg, (ends.sender, ends.receiver));
+    let (handle, mailbox) = started.expect(rt, "an engine");
     Node {
         mailbox,
-        mail,
+        mail: ends.mail,
         handle,
     }
 }
 
-/// Lets a job be pending at the node, which has the peer 5. It is of the message of the letter 2.
-pub fn hold<R: Runtime + Abort>(rt: &R, mail: &Mail<Key>, talk: &Talk) {
-    track(rt, mail, &[1, 5]).expect(rt, "memory");
-    send(rt, mail, 5, &[0, 0, 0, 0, 0, 0, 0, 1, 2]).expect(rt, "memory");
+/// Gives the node a peer set: itself and its peer.
+pub fn track<R: Wait + Abort + AllocGlobal>(rt: &R, mail: &Mail<u64>) {
+    let keys = Vec::from_slice(rt.alloc(), &[1, PEER]).expect(rt, "memory");
+    let peers = Set::from_iter_dedup(keys).expect(rt, "memory");
+    mail.set_peers(rt, peers).expect(rt, "memory");
+}
+
+/// Sends the node a payload of the key.
+pub fn send_bytes<R: Wait + Abort + AllocGlobal>(
+    rt: &R,
+    mail: &Mail<u64>,
+    sender: u64,
+    bytes: &[u8],
+) {
+    let bytes = Vec::from_slice(rt.alloc(), bytes).expect(rt, "memory");
+    mail.deliver(rt, sender, bytes).expect(rt, "memory");
+}
+
+/// Sends the node the message of the letter, from its peer.
+pub fn send<R: Wait + Abort + AllocGlobal>(rt: &R, mail: &Mail<u64>, letter: u8) {
+    send_bytes(rt, mail, PEER, &payload(letter));
+}
+
+/// Returns the encoding of the message of the letter.
+pub fn payload(letter: u8) -> [u8; 9] {
+    [0, 0, 0, 0, 0, 0, 0, 1, letter]
+}
+
+/// Creates the message of the letter, which is its content.
+pub fn message<R: Abort + AllocGlobal>(rt: &R, letter: u8) -> Digested<TestMessage> {
+    let content = Vec::from_slice(rt.alloc(), &[letter]).expect(rt, "memory");
+    let message = TestMessage::new(Vec::new(rt.alloc()), content);
+    Digested::compute(rt.alloc(), message).expect(rt, "memory")
+}
+
+/// Returns the digest of the message of the letter.
+pub fn digest<R: Abort + AllocGlobal>(rt: &R, letter: u8) -> Digest {
+    message(rt, letter).digest()
+}
+
+/// Broadcasts the message of the letter.
+pub fn broadcast<R>(rt: &R, mailbox: &Mailbox<u64, TestMessage, R>, letter: u8) -> Feedback
+where
+    R: Wait + Abort + AllocGlobal + Clone + Send + 'static,
+{
+    let feedback = mailbox.broadcast(Recipients::All, message(rt, letter));
+    feedback.expect(rt, "a broadcast")
+}
+
+/// Subscribes to the message of the letter.
+pub fn subscribe<R>(
+    rt: &R,
+    mailbox: &Mailbox<u64, TestMessage, R>,
+    letter: u8,
+) -> Subscription<TestMessage>
+where
+    R: Wait + Abort + AllocGlobal,
+{
+    let subscription = mailbox.subscribe(digest(rt, letter));
+    subscription.expect(rt, "a subscription")
+}
+
+/// Gets the message of the letter. Returns whether there is one.
+pub fn gets<R>(rt: &R, mailbox: &Mailbox<u64, TestMessage, R>, letter: u8) -> bool
+where
+    R: Wait + Abort + AllocGlobal,
+{
+    let get = mailbox.get(digest(rt, letter)).expect(rt, "a get");
+    get.wait(rt).is_some()
+}
+
+/// Lets a job of the message of the letter 2 be pending at the node.
+pub fn hold<R: Runtime + Abort>(rt: &R, mail: &Mail<u64>, talk: &Talk) {
+    track(rt, mail);
+    send(rt, mail, 2);
     assert!(rt; talk.wait_for_job(rt), "no job is pending");
 }
 
 /// Waits until the mailbox is closed. Returns whether it is.
-pub fn wait_for_close<R>(
-    rt: &R,
-    mailbox: &Mailbox<Key, TestMessage, R>,
-) -> Result<bool, MailboxError>
+pub fn wait_for_close<R>(rt: &R, mailbox: &Mailbox<u64, TestMessage, R>) -> bool
 where
-    R: Runtime,
+    R: Runtime + Abort,
 {
     for _ in 0..LIMIT {
-        if broadcast(rt, mailbox, 1)? == Feedback::Closed {
-            return Ok(true);
+        if broadcast(rt, mailbox, 1) == Feedback::Closed {
+            return true;
         }
         pause(rt);
     }
-    Ok(false)
+    false
 }

@@ -2,9 +2,10 @@
 //! Takes the steps of a file from standard input, as `world SIZE NODES HOSTILE [BUDGET]`.
 #![tactic(auto)]
 
-use broadcast_text::arguments::read_arguments;
+use programs::text::arguments::read_arguments;
+use programs::world::play;
+use programs::world::settings::USAGE;
 use std::process::ExitCode;
-use world_lib::{USAGE, play};
 
 fn main(rt: HostRuntime) -> ExitCode {
     let status = match read_arguments(&rt, USAGE) {

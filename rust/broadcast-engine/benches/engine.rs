@@ -1,15 +1,14 @@
 //! Messages a second and latencies through an engine, over the proved cache and over the plain one, in turns.
 
 use broadcast_engine::{
-    Config, Digested, Engine, Id, Mailbox, Message, Provider, Receiver, Recipients, Sender,
-    Sequential, Store, plain::Plain,
+    Cache, Config, Digested, Engine, Fixed, Mailbox, Message, Recipients, Sender, Sequential,
 };
-use broadcast_node::Cache;
 use bytes::Bytes;
 use sha2::{Digest, Sha256};
 use std::num::NonZeroUsize;
+use std::sync::{Arc, OnceLock};
 use std::time::{Duration, Instant};
-use tokio::sync::mpsc::{self, UnboundedReceiver, UnboundedSender, unbounded_channel};
+use tokio::sync::mpsc;
 
 type Key = [u8; 32];
 
@@ -38,16 +37,6 @@ impl Message for Blob {
     }
 }
 
-struct Peers(Option<UnboundedReceiver<Vec<Key>>>);
-
-impl Provider for Peers {
-    type PublicKey = Key;
-
-    async fn subscribe(&mut self) -> UnboundedReceiver<Vec<Key>> {
-        self.0.take().unwrap()
-    }
-}
-
 struct Nowhere;
 
 impl Sender for Nowhere {
@@ -58,40 +47,29 @@ impl Sender for Nowhere {
     }
 }
 
-struct Channel(mpsc::Receiver<(Key, Bytes)>);
-
-impl Receiver for Channel {
-    type PublicKey = Key;
-    type Error = ();
-
-    async fn recv(&mut self) -> Result<(Key, Bytes), ()> {
-        self.0.recv().await.ok_or(())
-    }
-}
-
 struct Run {
     mailbox: Mailbox<Key, Blob>,
     network: mpsc::Sender<(Key, Bytes)>,
-    _peers: UnboundedSender<Vec<Key>>,
 }
 
-fn start<S: Store>(store: S) -> Run {
-    let (to_peers, peers) = unbounded_channel();
-    to_peers.send((0..PEERS).map(|it| [it; 32]).collect()).unwrap();
-    let config = Config {
+fn config() -> Config<Key, usize, Fixed<Key>, Sequential> {
+    Config {
         public_key: [0; 32],
         mailbox_size: NonZeroUsize::new(1_024).unwrap(),
         deque_size: DEQUE,
         byte_budget: BUDGET,
         priority: false,
         codec_config: 1 << 20,
-        peer_provider: Peers(Some(peers)),
+        peer_provider: Fixed::new((0..PEERS).map(|it| [it; 32]).collect::<Vec<_>>()),
         strategy: Sequential,
-    };
-    let (engine, mailbox) = Engine::<_, Blob, _, _, S>::with_store(config, store);
+    }
+}
+
+fn start(cache: Cache<Digested<Blob>>) -> Run {
+    let (engine, mailbox) = Engine::with_cache(config(), cache);
     let (network, receiver) = mpsc::channel(1_024);
-    drop(engine.start((Nowhere, Channel(receiver))));
-    Run { mailbox, network, _peers: to_peers }
+    drop(engine.start((Nowhere, receiver)));
+    Run { mailbox, network }
 }
 
 fn blob(number: u64, len: usize) -> Bytes {
@@ -103,7 +81,7 @@ fn blob(number: u64, len: usize) -> Bytes {
 /// Payloads a second, of which none was there before.
 async fn received(run: &Run, blobs: &[Bytes]) -> f64 {
     let last: Key = Sha256::digest(blobs.last().unwrap()).into();
-    let done = run.mailbox.subscribe(last.id());
+    let done = run.mailbox.subscribe(last);
     let begin = Instant::now();
     for (number, blob) in blobs.iter().enumerate() {
         run.network.send(([number as u8 % PEERS; 32], blob.clone())).await.unwrap();
@@ -136,6 +114,43 @@ async fn latencies(run: &Run, blobs: &[Bytes]) -> [(f64, f64); 2] {
     [percentiles(arrivals), percentiles(gets)]
 }
 
+/// Sends on, as one more request, whatever is broadcast.
+struct Flood(Arc<OnceLock<Mailbox<Key, Blob>>>);
+
+impl Sender for Flood {
+    type PublicKey = Key;
+
+    fn send(&mut self, _: Recipients<Key>, message: Bytes, _: bool) {
+        if let Some(mailbox) = self.0.get() {
+            let _ = mailbox.broadcast(Recipients::All, Blob(message));
+        }
+    }
+}
+
+/// How long an engine that always has a request takes until it has handled a payload, and until it has ended after an
+/// abort, in milliseconds.
+async fn flooded() -> (f64, f64) {
+    let mailbox = Arc::new(OnceLock::new());
+    let cache = Cache::new([0; 32].into(), DEQUE, BUDGET).unwrap();
+    let (engine, first) = Engine::with_cache(config(), cache);
+    let (network, receiver) = mpsc::channel(1_024);
+    let handle = engine.start((Flood(mailbox.clone()), receiver));
+    for number in 0..1_000 {
+        let _ = first.broadcast(Recipients::All, Blob(blob(number, 100)));
+    }
+    let payload = blob(u64::MAX, 100);
+    let waits = first.subscribe(Sha256::digest(&payload).into());
+    assert!(mailbox.set(first).is_ok());
+    let begin = Instant::now();
+    network.send(([1; 32], payload)).await.unwrap();
+    assert!(waits.await.is_ok());
+    let taken = begin.elapsed();
+    let begin = Instant::now();
+    handle.abort();
+    assert!(handle.await.is_err());
+    (taken.as_secs_f64() * 1e3, begin.elapsed().as_secs_f64() * 1e3)
+}
+
 /// Own broadcasts a second.
 async fn broadcast(run: &Run, blobs: &[Bytes]) -> f64 {
     let messages: Vec<Digested<Blob>> = blobs.iter().map(|it| Blob(it.clone()).into()).collect();
@@ -149,6 +164,8 @@ async fn broadcast(run: &Run, blobs: &[Bytes]) -> f64 {
 
 #[tokio::main(flavor = "current_thread")]
 async fn main() {
+    let (taken, aborted) = flooded().await;
+    println!("flooded by requests: a payload after {taken:.1} ms, an abort after {aborted:.1} ms");
     println!("bytes | cache | received/s | broadcast/s | arrival p50 p99 us | get p50 p99 us");
     for (len, count) in [(100, 100_000), (1_000, 50_000), (10_000, 10_000)] {
         let blobs: Vec<Bytes> = (0..count).map(|it| blob(it, len)).collect();
@@ -157,7 +174,7 @@ async fn main() {
             for (which, best) in best.iter_mut().enumerate() {
                 let make = || match which {
                     0 => start(Cache::new([0; 32].into(), DEQUE, BUDGET).unwrap()),
-                    _ => start(Plain::new(DEQUE, BUDGET)),
+                    _ => start(Cache::plain([0; 32].into(), DEQUE, BUDGET)),
                 };
                 let best = &mut best[0];
                 best.0 = received(&make(), &blobs).await.max(best.0);

@@ -1,12 +1,14 @@
 //! The configuration of an engine.
 
+use std::fmt;
 use std::num::NonZeroUsize;
 
 /// Configuration of an [`Engine`](crate::Engine).
+#[derive(Clone)]
 pub struct Config<P, C, D, T> {
     /// The public key of this node.
     pub public_key: P,
-    /// The number of requests that the mailbox holds before it answers [`Feedback::Backoff`](crate::Feedback).
+    /// The number of requests that the mailbox holds before it returns [`Feedback::Backoff`](crate::Feedback).
     pub mailbox_size: NonZeroUsize,
     /// The most messages that are cached for each peer.
     pub deque_size: usize,
@@ -20,4 +22,15 @@ pub struct Config<P, C, D, T> {
     pub peer_provider: D,
     /// Where the digests of received messages are computed.
     pub strategy: T,
+}
+
+impl<P, C, D, T> fmt::Debug for Config<P, C, D, T> {
+    fn fmt(&self, f: &mut fmt::Formatter<'_>) -> fmt::Result {
+        f.debug_struct("Config")
+            .field("mailbox_size", &self.mailbox_size)
+            .field("deque_size", &self.deque_size)
+            .field("byte_budget", &self.byte_budget)
+            .field("priority", &self.priority)
+            .finish_non_exhaustive()
+    }
 }

@@ -1,172 +1,222 @@
-//! The engine: one task that owns the cache and takes one event a turn.
+//! The engine: a future that owns the cache and handles one event a turn.
 //!
-//! In each turn it looks, in this order, for a stop, dropped subscriptions, a new peer set, a request, and a
-//! message of a peer.
+//! In each turn it looks, in this order, for dropped subscriptions, a stop, a new peer set, a request, and a payload of
+//! the network. In one turn of 64 it first lets other tasks run, and looks for a payload before a request.
 
-use crate::decoded::Decoded;
+use crate::deliveries::Feed;
+use crate::id::{self, Hex};
 use crate::inbox::{Inbox, Incoming, Request};
+use crate::metrics::Counters;
 use crate::waiting::{Responder, Waiting};
 use crate::{
     Config, Digested, Error, Id, Mailbox, Message, Metrics, Outcome, Provider, Receiver, Sender,
-    Store, Strategy,
+    Strategy,
 };
-use broadcast_node::Cache;
+use broadcast_node::{Cache, Digest, Held, Key};
 use bytes::Bytes;
-use std::future::Future;
-use std::pin::Pin;
+use std::fmt;
+use std::future::{Future, poll_fn};
+use std::pin::{Pin, pin};
 use std::sync::Arc;
-use std::task::{Context, Poll};
-use tokio::sync::Notify;
-use tokio::task::JoinHandle;
+use std::sync::atomic::Ordering::Relaxed;
+use std::task::Poll;
 use tracing::{debug, error, trace, warn};
-
-pub use tokio::task::JoinError;
 
 /// Why an engine ended.
 #[derive(Clone, Copy, Debug, PartialEq, Eq)]
+#[non_exhaustive]
 pub enum End {
-    /// [`Handle::stop`] was called.
+    /// It was stopped.
     Stopped,
-    /// The channel of peer sets closed.
+    /// The provider has no more peer sets.
     PeersClosed,
     /// The receiver of the network failed.
     NetworkFailed,
+    /// The last mailbox was dropped.
+    MailboxesDropped,
 }
 
-/// Caches and broadcasts messages, and answers requests.
-pub struct Engine<P: Id, M: Message, D, T, S: Store = Cache<()>> {
+/// Caches and broadcasts messages, and replies to requests.
+pub struct Engine<P: Id, M: Message, D, T> {
     public_key: P,
+    own: Key,
     priority: bool,
     codec_config: M::Config,
     peer_provider: D,
     strategy: T,
-    inbox: Arc<Inbox<P, M>>,
-    store: S,
-    decoded: Decoded<M>,
-    waiting: Waiting<M, S::Ticket>,
+    inbox: Closing<P, M>,
+    cache: Cache<Digested<M>>,
+    waiting: Waiting<M>,
+    feeds: Vec<Feed<M>>,
     metrics: Metrics,
+}
+
+/// How many turns pass until the engine lets other tasks run.
+const BURST: u32 = 64;
+
+/// What an engine handles in a turn.
+enum Event<P, M: Message, E> {
+    Stopped,
+    Peers(Option<Vec<P>>),
+    Incoming(Incoming<P, M>),
+    Received(Result<(P, Bytes), E>),
 }
 
 impl<P: Id, M: Message, D: Provider<PublicKey = P>, T: Strategy> Engine<P, M, D, T> {
     /// Creates an engine over the verified cache, and its mailbox.
     ///
-    /// # Panics
+    /// # Errors
     ///
-    /// Panics if there is no memory for an empty cache.
-    pub fn new(config: Config<P, M::Config, D, T>) -> (Self, Mailbox<P, M>) {
-        let own = config.public_key.id().into();
-        let cache = Cache::new(own, config.deque_size, config.byte_budget);
-        Engine::with_store(config, cache.expect("there is memory for an empty cache"))
+    /// Those of [`Cache::new`]: there is no memory, or no library that can be used.
+    pub fn new(config: Config<P, M::Config, D, T>) -> Result<(Self, Mailbox<P, M>), Error> {
+        let own = id::key(&config.public_key);
+        let cache = Cache::new(own, config.deque_size, config.byte_budget)?;
+        Ok(Engine::with_cache(config, cache))
     }
-}
 
-impl<P, M, D, T, S> Engine<P, M, D, T, S>
-where
-    P: Id,
-    M: Message,
-    D: Provider<PublicKey = P>,
-    T: Strategy,
-    S: Store,
-{
-    /// Creates an engine over another cache, which has the sizes of the configuration.
-    pub fn with_store(config: Config<P, M::Config, D, T>, store: S) -> (Self, Mailbox<P, M>) {
+    /// Creates an engine over an empty cache, which has the sizes of the configuration.
+    pub fn with_cache(
+        config: Config<P, M::Config, D, T>,
+        cache: Cache<Digested<M>>,
+    ) -> (Self, Mailbox<P, M>) {
         let inbox = Inbox::new(config.mailbox_size.get());
-        let mailbox = Mailbox { inbox: inbox.clone() };
+        let mailbox = Mailbox::new(inbox.clone());
         let engine = Engine {
+            own: id::key(&config.public_key),
             public_key: config.public_key,
             priority: config.priority,
             codec_config: config.codec_config,
             peer_provider: config.peer_provider,
             strategy: config.strategy,
-            inbox,
-            store,
-            decoded: Decoded::new(),
+            inbox: Closing(inbox),
+            cache,
             waiting: Waiting::new(),
-            metrics: Metrics::new(),
+            feeds: Vec::new(),
+            metrics: Metrics::default(),
         };
         (engine, mailbox)
     }
 
-    /// Returns the counters, for [`Metrics::register`].
+    /// Returns the counters.
     pub fn metrics(&self) -> Metrics {
         self.metrics.clone()
     }
 
-    /// Starts the engine in a task of its own, over a network.
-    ///
-    /// # Panics
-    ///
-    /// Panics outside of a tokio runtime.
-    pub fn start(
+    /// Runs the engine over a network, until `stop` is ready or something ends it. Any executor may poll the future. Its
+    /// drop ends the engine, too.
+    #[allow(
+        clippy::manual_async_fn,
+        reason = "the future is `Send`, which an `async fn` does not say"
+    )]
+    pub fn run(
         mut self,
         network: (impl Sender<PublicKey = P>, impl Receiver<PublicKey = P>),
-    ) -> Handle {
-        let stop = Arc::new(Notify::new());
-        let stopped = stop.clone();
-        let task = tokio::spawn(async move {
-            // Also closes the mailbox if the task is aborted, or a message's own code panics.
-            let closing = Closing(self.inbox.clone());
-            let end = self.run(network, &stopped).await;
-            let (given_up, waiting) = (closing.0.close(), self.waiting.clear());
-            debug!(?end, given_up, waiting, "ended");
+        stop: impl Future<Output = ()> + Send,
+    ) -> impl Future<Output = End> + Send {
+        async move {
+            debug!(cache = ?self.cache, key = %Hex(self.public_key.as_ref()), "starts");
+            if !self.cache.is_verified() {
+                warn!("the cache is the plain one, which is NOT VERIFIED");
+            }
+            let end = self.serve(network, pin!(stop)).await;
+            let given_up = self.inbox.0.close();
+            debug!(?end, given_up, waiting = self.waiting.len(), "ended");
             end
-        });
-        Handle { stop, task }
+        }
     }
 
-    async fn run(
+    async fn serve(
         &mut self,
         (mut sender, mut receiver): (impl Sender<PublicKey = P>, impl Receiver<PublicKey = P>),
-        stop: &Notify,
+        mut stop: Pin<&mut (impl Future<Output = ()> + Send)>,
     ) -> End {
-        let inbox = self.inbox.clone();
-        let mut peer_sets = self.peer_provider.subscribe().await;
+        let mut turn = 0_u32;
         loop {
-            for ticket in inbox.take_dropped() {
-                if self.waiting.remove(&mut self.store, ticket) {
-                    self.metrics.subscribe.dropped.inc();
-                }
+            self.drop_subscriptions();
+            self.show_sizes();
+            turn = (turn + 1) % BURST;
+            if turn == 0 {
+                yield_now().await;
             }
-            self.show_awaited();
-            let result = tokio::select! {
-                biased;
-                () = stop.notified() => return End::Stopped,
-                peers = peer_sets.recv() => match peers {
-                    Some(peers) => self.set_peers(&peers),
-                    None => return End::PeersClosed,
-                },
-                incoming = inbox.next() => match incoming {
-                    Incoming::Request(request) => self.answer(&mut sender, request),
-                    Incoming::Dropped => continue,
-                },
-                received = receiver.recv() => match received {
-                    Ok((peer, bytes)) => match self.receive(&peer, bytes, stop).await {
+            let result = match self.next(&mut receiver, stop.as_mut(), turn == 0).await {
+                Event::Stopped => return End::Stopped,
+                Event::Peers(None) => return End::PeersClosed,
+                Event::Peers(Some(peers)) => self.set_peers(&peers),
+                Event::Incoming(Incoming::Closed) => return End::MailboxesDropped,
+                Event::Incoming(Incoming::Dropped) => Ok(()),
+                Event::Incoming(Incoming::Request(request)) => self.answer(&mut sender, request),
+                Event::Received(Ok((peer, bytes))) => {
+                    match self.receive(&peer, bytes, stop.as_mut()).await {
                         Some(result) => result,
                         None => return End::Stopped,
-                    },
-                    Err(err) => {
-                        error!(?err, "receiver failed");
-                        return End::NetworkFailed;
                     }
-                },
+                }
+                Event::Received(Err(err)) => {
+                    error!(?err, "receiver failed");
+                    return End::NetworkFailed;
+                }
             };
             if let Err(err) = result {
-                error!(%err, "an event was refused");
+                error!(%err, "the cache failed");
             }
         }
     }
 
-    fn show_awaited(&self) {
-        if let Ok(counts) = self.store.counts() {
-            self.metrics.waiters.set(counts.awaited as i64);
+    /// Waits for the next event.
+    async fn next<R: Receiver<PublicKey = P>>(
+        &mut self,
+        receiver: &mut R,
+        mut stop: Pin<&mut (impl Future<Output = ()> + Send)>,
+        is_network_first: bool,
+    ) -> Event<P, M, R::Error> {
+        let inbox = &self.inbox.0;
+        let mut peers = pin!(self.peer_provider.next());
+        let (mut incoming, mut received) = (pin!(inbox.next()), pin!(receiver.recv()));
+        poll_fn(|cx| {
+            if stop.as_mut().poll(cx).is_ready() {
+                return Poll::Ready(Event::Stopped);
+            }
+            if let Poll::Ready(peers) = peers.as_mut().poll(cx) {
+                return Poll::Ready(Event::Peers(peers));
+            }
+            if is_network_first {
+                if let Poll::Ready(received) = received.as_mut().poll(cx) {
+                    return Poll::Ready(Event::Received(received));
+                }
+            }
+            if let Poll::Ready(incoming) = incoming.as_mut().poll(cx) {
+                return Poll::Ready(Event::Incoming(incoming));
+            }
+            received.as_mut().poll(cx).map(Event::Received)
+        })
+        .await
+    }
+
+    fn counters(&self) -> &Counters {
+        self.metrics.counters()
+    }
+
+    fn drop_subscriptions(&mut self) {
+        for number in self.inbox.0.take_dropped() {
+            if self.waiting.remove(&mut self.cache, number) {
+                self.counters().subscribe.dropped.inc();
+            }
         }
+    }
+
+    fn show_sizes(&self) {
+        let counts = self.cache.counts();
+        self.counters().waiters.store(counts.awaited as u64, Relaxed);
+        self.counters().cached.store(counts.cached as u64, Relaxed);
     }
 
     fn set_peers(&mut self, peers: &[P]) -> Result<(), Error> {
-        let keys: Vec<_> = peers.iter().map(P::id).collect();
-        debug!(peers = keys.len(), "peer set");
-        self.store.set_peers(&keys)?;
-        self.decoded.sweep(&self.store)
+        let keys: Vec<_> = peers.iter().map(id::key).collect();
+        let evicted = self.cache.update_primary_peers(&keys)?;
+        debug!(peers = keys.len(), evicted = evicted.len(), "peer set");
+        drop(evicted);
+        self.counters().set_peers(peers);
+        Ok(())
     }
 
     fn answer(
@@ -178,155 +228,151 @@ where
             Request::Broadcast(recipients, message) => {
                 trace!("mailbox: broadcast");
                 let bytes = message.encode();
-                self.take(&self.public_key.id(), &message, bytes.len())?;
+                let own = self.own;
+                let taken = self.take(&own, message, bytes.len());
+                // Peers get it even if there is no memory here.
                 sender.send(recipients, bytes, self.priority);
+                taken?;
             }
-            Request::Subscribe(ticket, digest, responder) => {
+            Request::Subscribe(number, digest, responder) => {
                 trace!("mailbox: subscribe");
-                self.subscribe(ticket, digest.id(), responder)?;
+                self.subscribe(number, id::digest(&digest), responder);
             }
             Request::Get(digest, responder) => {
                 trace!("mailbox: get");
-                let message = self.decoded.get(&self.store, &digest.id())?;
-                let was_found = message.is_some();
-                match (responder.send(message), was_found) {
-                    (Ok(()), true) => self.metrics.get.success.inc(),
-                    (Ok(()), false) => self.metrics.get.failure.inc(),
-                    (Err(_), _) => self.metrics.get.dropped.inc(),
-                }
+                self.get(&id::digest(&digest), responder);
             }
             Request::List(peer, responder) => {
                 let _ = responder.send(self.list(&peer));
             }
+            Request::Deliver(feed) => {
+                self.feeds.retain(|it| !it.is_closed());
+                self.feeds.push(feed);
+            }
         }
         Ok(())
     }
 
-    fn subscribe(
-        &mut self,
-        ticket: u64,
-        digest: [u8; 32],
-        responder: Responder<M>,
-    ) -> Result<(), Error> {
+    fn subscribe(&mut self, number: u64, digest: Digest, responder: Responder<M>) {
         if responder.is_closed() {
-            self.metrics.subscribe.dropped.inc();
-        } else if let Some(message) = self.decoded.get(&self.store, &digest)? {
-            self.reply(responder, message);
+            self.counters().subscribe.dropped.inc();
+        } else if let Some(message) = self.cache.get(&digest) {
+            reply(self.counters(), responder, message.clone());
         } else {
-            self.waiting.insert(&mut self.store, ticket, digest, responder)?;
+            self.waiting.insert(&mut self.cache, number, digest, responder);
         }
-        Ok(())
+    }
+
+    fn get(&self, digest: &Digest, responder: tokio::sync::oneshot::Sender<Option<Digested<M>>>) {
+        let message = self.cache.get(digest).cloned();
+        let was_found = message.is_some();
+        match (responder.send(message), was_found) {
+            (Ok(()), true) => self.counters().get.success.inc(),
+            (Ok(()), false) => self.counters().get.failure.inc(),
+            (Err(_), _) => self.counters().get.dropped.inc(),
+        }
     }
 
     fn list(&self, peer: &P) -> Result<Vec<Digested<M>>, Error> {
-        let digests = self.store.list(&peer.id())?;
-        let messages = digests.iter().map(|it| self.decoded.get(&self.store, it));
-        Ok(messages.collect::<Result<Vec<_>, _>>()?.into_iter().flatten().collect())
+        let digests = self.cache.list(&id::key(peer))?;
+        Ok(digests.iter().filter_map(|it| self.cache.get(it).cloned()).collect())
     }
 
-    /// Takes a payload of a peer. Returns `None` if the engine was stopped while its digest was computed.
+    /// Handles a payload of a peer. Returns `None` if the engine was stopped while its digest was computed.
     async fn receive(
         &mut self,
         peer: &P,
         bytes: Bytes,
-        stop: &Notify,
+        mut stop: Pin<&mut (impl Future<Output = ()> + Send)>,
     ) -> Option<Result<(), Error>> {
         let len = bytes.len();
         let message = match M::decode(bytes, &self.codec_config) {
             Ok(message) => message,
             Err(err) => {
-                warn!(?err, ?peer, "failed to decode message");
-                self.metrics.receive.invalid.inc();
+                debug!(?err, peer = %Hex(peer.as_ref()), "failed to decode message");
+                self.counters().receive.invalid.inc();
                 return Some(Ok(()));
             }
         };
-        trace!(?peer, "network");
-        self.metrics.peer.with_label_values(&[&peer.label()]).inc();
-        let message = tokio::select! {
-            biased;
-            () = stop.notified() => return None,
-            message = self.strategy.digest(message) => message,
+        trace!(peer = %Hex(peer.as_ref()), "network");
+        let key = id::key(peer);
+        self.counters().count_peer(&key);
+        let message = {
+            let mut digested = pin!(self.strategy.digest(message));
+            let or_stopped = poll_fn(|cx| match stop.as_mut().poll(cx) {
+                Poll::Ready(()) => Poll::Ready(None),
+                Poll::Pending => digested.as_mut().poll(cx).map(Some),
+            });
+            or_stopped.await?
         };
-        let taken = self.take(&peer.id(), &message, len);
-        if let Ok(outcome) = taken {
-            self.count_received(peer, outcome);
-        }
-        Some(taken.map(drop))
+        let taken = self.take(&key, message, len);
+        Some(taken.map(|outcome| self.count_received(peer, outcome)))
     }
 
     fn count_received(&self, peer: &P, outcome: Outcome) {
         match outcome {
-            Outcome::Inserted => self.metrics.receive.success.inc(),
+            Outcome::Inserted => self.counters().receive.success.inc(),
             outcome => {
-                debug!(?peer, ?outcome, "message not cached");
-                self.metrics.receive.dropped.inc();
+                debug!(peer = %Hex(peer.as_ref()), ?outcome, "message not cached");
+                self.counters().receive.dropped.inc();
             }
         }
     }
 
     /// Takes a message of `len` bytes under a key, and replies to all who wait for it.
-    fn take(
-        &mut self,
-        key: &[u8; 32],
-        message: &Digested<M>,
-        len: usize,
-    ) -> Result<Outcome, Error> {
-        let digest = message.digest().id();
-        let was_cached = self.store.contains(&digest)?;
-        let (outcome, was_awaited) = self.store.take(key, &digest, len)?;
-        if was_awaited {
+    fn take(&mut self, key: &Key, message: Digested<M>, len: usize) -> Result<Outcome, Error> {
+        let digest = message.name();
+        let taken = self.cache.take(key, &digest, len, message)?;
+        if !taken.served.is_empty() {
             for responder in self.waiting.serve(&digest) {
-                self.reply(responder, message.clone());
+                reply(self.metrics.counters(), responder, Digested::clone(&taken.message));
             }
         }
-        if outcome == Outcome::Inserted {
-            if !was_cached {
-                self.decoded.insert(digest, message.clone(), len);
-            }
-            self.decoded.trim(&self.store)?;
+        let outcome = taken.outcome;
+        if let Held::Cached(message) = taken.message {
+            self.feeds.retain(|it| it.add(message));
+        }
+        for (digest, _) in self.cache.evicted() {
+            trace!(%digest, "evicted");
         }
         Ok(outcome)
     }
+}
 
-    fn reply(&self, responder: Responder<M>, message: Digested<M>) {
-        match responder.send(message) {
-            Ok(()) => self.metrics.subscribe.success.inc(),
-            Err(_) => self.metrics.subscribe.dropped.inc(),
-        }
+fn reply<M: Message>(counters: &Counters, responder: Responder<M>, message: Digested<M>) {
+    match responder.send(Ok(message)) {
+        Ok(()) => counters.subscribe.success.inc(),
+        Err(_) => counters.subscribe.dropped.inc(),
     }
 }
 
-/// Closes a mailbox when it is dropped.
+/// Lets other tasks run, on any executor.
+async fn yield_now() {
+    let mut has_yielded = false;
+    poll_fn(|cx| {
+        if std::mem::replace(&mut has_yielded, true) {
+            return Poll::Ready(());
+        }
+        cx.waker().wake_by_ref();
+        Poll::Pending
+    })
+    .await;
+}
+
+impl<P: Id, M: Message, D, T> fmt::Debug for Engine<P, M, D, T> {
+    fn fmt(&self, f: &mut fmt::Formatter<'_>) -> fmt::Result {
+        f.debug_struct("Engine")
+            .field("public_key", &format_args!("{}", Hex(self.public_key.as_ref())))
+            .field("cache", &self.cache)
+            .finish_non_exhaustive()
+    }
+}
+
+/// Closes an inbox when the engine is dropped, whether or not it was started, or its task has panicked.
 struct Closing<P, M: Message>(Arc<Inbox<P, M>>);
 
 impl<P, M: Message> Drop for Closing<P, M> {
     fn drop(&mut self) {
         self.0.close();
-    }
-}
-
-/// A started engine: a future of its end. If it is dropped, the engine runs on.
-pub struct Handle {
-    stop: Arc<Notify>,
-    task: JoinHandle<End>,
-}
-
-impl Handle {
-    /// Ends the engine before its next event.
-    pub fn stop(&self) {
-        self.stop.notify_one();
-    }
-
-    /// Ends the engine's task where it waits.
-    pub fn abort(&self) {
-        self.task.abort();
-    }
-}
-
-impl Future for Handle {
-    type Output = Result<End, JoinError>;
-
-    fn poll(mut self: Pin<&mut Self>, cx: &mut Context<'_>) -> Poll<Self::Output> {
-        Pin::new(&mut self.task).poll(cx)
     }
 }

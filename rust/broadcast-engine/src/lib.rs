@@ -5,19 +5,8 @@
 //! use broadcast_engine::{Config, Digested, Engine, Message, Recipients, Sequential};
 //! use bytes::Bytes;
 //! use std::num::NonZeroUsize;
-//! # use broadcast_engine::{Provider, Receiver, Sender};
-//! # use tokio::sync::mpsc::{UnboundedReceiver, unbounded_channel};
+//! # use broadcast_engine::{Fixed, Receiver, Sender};
 //! #
-//! # struct Peers;
-//! # impl Provider for Peers {
-//! #     type PublicKey = [u8; 32];
-//! #     async fn subscribe(&mut self) -> UnboundedReceiver<Vec<[u8; 32]>> {
-//! #         let (sender, receiver) = unbounded_channel();
-//! #         sender.send(vec![[1; 32], [2; 32]]).unwrap();
-//! #         std::mem::forget(sender);
-//! #         receiver
-//! #     }
-//! # }
 //! # struct Nowhere;
 //! # impl Sender for Nowhere {
 //! #     type PublicKey = [u8; 32];
@@ -54,8 +43,8 @@
 //! }
 //!
 //! # #[tokio::main(flavor = "current_thread")]
-//! # async fn main() {
-//! # let (peer_provider, sender, receiver) = (Peers, Nowhere, Silence);
+//! # async fn main() -> Result<(), broadcast_engine::Error> {
+//! # let (sender, receiver) = (Nowhere, Silence);
 //! let (engine, mailbox) = Engine::new(Config {
 //!     public_key: [1; 32],
 //!     mailbox_size: NonZeroUsize::new(1_024).unwrap(),
@@ -63,9 +52,9 @@
 //!     byte_budget: 1 << 20,
 //!     priority: false,
 //!     codec_config: (),
-//!     peer_provider,
+//!     peer_provider: Fixed::new([[1; 32], [2; 32]]),
 //!     strategy: Sequential,
-//! });
+//! })?;
 //! let _handle = engine.start((sender, receiver));
 //!
 //! let message = Digested::new(Block(Bytes::from_static(&[7; 40])));
@@ -75,33 +64,47 @@
 //! assert_eq!(subscription.await.unwrap().digest(), digest);
 //! assert!(mailbox.get(digest).await.is_some());
 //! assert!(mailbox.get([9; 32]).await.is_none());
+//! # Ok(())
 //! # }
 //! ```
 //!
 //! The program brings a [`Message`], a [`Provider`] of peer sets, and a network of a [`Sender`] and a
 //! [`Receiver`], which must know beyond doubt who sent a message. The verified cache decides which messages are
-//! kept, for whom and until when; this crate keeps the decoded message of each digest beside it, and is tested.
+//! kept, for whom and until when. This crate around it is tested.
 
 mod config;
-mod decoded;
+mod deliveries;
 mod engine;
+#[cfg(feature = "rt")]
+mod handle;
+mod id;
 mod inbox;
 mod mailbox;
 mod message;
 mod metrics;
 mod network;
-pub mod plain;
-mod store;
+#[cfg(feature = "prometheus")]
+mod prometheus;
 mod strategy;
 mod waiting;
 
-pub use broadcast_node::{Counts, Error, Outcome};
+pub use broadcast_node::{Cache, Error, Outcome};
 pub use config::Config;
-pub use engine::{End, Engine, Handle, JoinError};
+pub use deliveries::Deliveries;
+pub use engine::{End, Engine};
+#[cfg(feature = "rt")]
+pub use handle::{Handle, JoinError, Stopper};
+pub use id::Id;
 pub use inbox::Feedback;
 pub use mailbox::{Canceled, Mailbox, Subscription};
-pub use message::{Digested, Id, Message};
-pub use metrics::Metrics;
-pub use network::{Provider, Receiver, Recipients, Sender};
-pub use store::Store;
-pub use strategy::{Blocking, Sequential, Strategy};
+pub use message::{Digested, Message};
+pub use metrics::{ByStatus, Metrics, Stats};
+pub use network::{Disconnected, Fixed, Provider, Receiver, Recipients, Sender};
+#[cfg(feature = "rt")]
+pub use strategy::Blocking;
+pub use strategy::{Sequential, Strategy};
+
+/// The README's code is compiled.
+#[cfg(doctest)]
+#[doc = include_str!("../README.md")]
+struct Readme;

@@ -1,28 +1,11 @@
-//! Messages, and the 32 bytes by which the cache knows them and their senders.
+//! Messages.
 
+use crate::Id;
+use crate::id::Hex;
 use bytes::Bytes;
 use std::fmt::{self, Debug};
-use std::hash::Hash;
 use std::ops::Deref;
 use std::sync::Arc;
-
-/// A public key or a digest.
-pub trait Id: Clone + Eq + Ord + Hash + Debug + Send + Sync + 'static {
-    /// Returns the bytes by which the cache knows the value. They must differ for different values: a value of
-    /// another length than 32 bytes returns a cryptographic hash of itself.
-    fn id(&self) -> [u8; 32];
-
-    /// Returns the value as metrics show it.
-    fn label(&self) -> String {
-        self.id().iter().map(|it| format!("{it:02x}")).collect()
-    }
-}
-
-impl Id for [u8; 32] {
-    fn id(&self) -> [u8; 32] {
-        *self
-    }
-}
 
 /// A message that encodes itself and has a digest of its own.
 pub trait Message: Send + Sync + Sized + 'static {
@@ -35,8 +18,16 @@ pub trait Message: Send + Sync + Sized + 'static {
 
     /// Returns the bytes that another node decodes.
     fn encode(&self) -> Bytes;
+
     /// Reads a message that has all of `bytes`.
+    ///
+    /// Any peer may have chosen the bytes. A panic ends the engine.
+    ///
+    /// # Errors
+    ///
+    /// Fails if the bytes are no message. The engine counts them, and drops them.
     fn decode(bytes: Bytes, config: &Self::Config) -> Result<Self, Self::Error>;
+
     /// Returns the digest.
     fn digest(&self) -> Self::Digest;
 }
@@ -53,19 +44,24 @@ impl<M: Message> Digested<M> {
         Digested { digest: message.digest(), message: Arc::new(message) }
     }
 
-    /// Takes the digest as it is handed in, whether or not it is the message's own.
+    /// Creates a digested message of a digest that may not be the message's own.
     pub fn precomputed(message: M, digest: M::Digest) -> Self {
         Digested { digest, message: Arc::new(message) }
     }
 
-    /// The same for a message that is shared already.
-    pub fn precomputed_shared(message: Arc<M>, digest: M::Digest) -> Self {
+    /// Does the same for a message that is shared already.
+    pub const fn precomputed_shared(message: Arc<M>, digest: M::Digest) -> Self {
         Digested { digest, message }
     }
 
     /// Returns the digest.
     pub fn digest(&self) -> M::Digest {
         self.digest.clone()
+    }
+
+    /// Returns the digest by which the cache knows the message.
+    pub(crate) fn name(&self) -> broadcast_node::Digest {
+        crate::id::digest(&self.digest)
     }
 
     /// Returns the message.
@@ -105,8 +101,8 @@ impl<M: Message + PartialEq> PartialEq for Digested<M> {
     }
 }
 
-impl<M: Message + Debug> Debug for Digested<M> {
+impl<M: Message> Debug for Digested<M> {
     fn fmt(&self, f: &mut fmt::Formatter<'_>) -> fmt::Result {
-        self.message.fmt(f)
+        write!(f, "Digested({})", Hex(self.digest.as_ref()))
     }
 }

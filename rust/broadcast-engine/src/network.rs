@@ -3,29 +3,50 @@
 use crate::Id;
 use bytes::Bytes;
 use std::fmt::Debug;
-use std::future::Future;
-use tokio::sync::mpsc::UnboundedReceiver;
+use std::future::{Future, pending};
+use tokio::sync::mpsc::{self, UnboundedReceiver};
 
-/// The peers to which a message is sent.
-#[derive(Clone, Debug, PartialEq, Eq)]
-pub enum Recipients<P> {
-    /// All peers that the network knows.
-    All,
-    /// These peers.
-    Some(Vec<P>),
-    /// This peer.
-    One(P),
-}
+pub use broadcast_node::Recipients;
 
 /// Provides the primary peers.
 pub trait Provider: Send + 'static {
     /// The key of a peer.
     type PublicKey: Id;
 
-    /// Returns a channel of the primary peers of all tracked peer sets together, now and at each change. When it
-    /// closes, the engine ends.
-    fn subscribe(&mut self)
-    -> impl Future<Output = UnboundedReceiver<Vec<Self::PublicKey>>> + Send;
+    /// Waits for the next set of primary peers, of all tracked peer sets together. The first one comes at once if it
+    /// is known. `None` ends the engine. Dropping the future must not lose a set.
+    fn next(&mut self) -> impl Future<Output = Option<Vec<Self::PublicKey>>> + Send;
+}
+
+/// Primary peers that never change.
+#[derive(Clone, Debug)]
+pub struct Fixed<P>(Option<Vec<P>>);
+
+impl<P> Fixed<P> {
+    /// Creates a provider of these peers.
+    pub fn new(peers: impl Into<Vec<P>>) -> Fixed<P> {
+        Fixed(Some(peers.into()))
+    }
+}
+
+impl<P: Id> Provider for Fixed<P> {
+    type PublicKey = P;
+
+    async fn next(&mut self) -> Option<Vec<P>> {
+        match self.0.take() {
+            Some(peers) => Some(peers),
+            None => pending().await,
+        }
+    }
+}
+
+/// A channel of peer sets, which ends the engine when it closes.
+impl<P: Id> Provider for UnboundedReceiver<Vec<P>> {
+    type PublicKey = P;
+
+    async fn next(&mut self) -> Option<Vec<P>> {
+        self.recv().await
+    }
 }
 
 /// Sends messages.
@@ -33,7 +54,7 @@ pub trait Sender: Send + 'static {
     /// The key of a peer.
     type PublicKey: Id;
 
-    /// Queues a message. It must not block, since the engine takes no event meanwhile.
+    /// Queues a message. It must not block, since the engine does nothing else meanwhile.
     fn send(&mut self, recipients: Recipients<Self::PublicKey>, message: Bytes, priority: bool);
 }
 
@@ -49,4 +70,26 @@ pub trait Receiver: Send + 'static {
     fn recv(
         &mut self,
     ) -> impl Future<Output = Result<(Self::PublicKey, Bytes), Self::Error>> + Send;
+}
+
+/// The network is gone.
+#[derive(Clone, Copy, Debug, PartialEq, Eq)]
+pub struct Disconnected;
+
+impl std::fmt::Display for Disconnected {
+    fn fmt(&self, f: &mut std::fmt::Formatter<'_>) -> std::fmt::Result {
+        f.write_str("the network is gone")
+    }
+}
+
+impl std::error::Error for Disconnected {}
+
+/// A channel of payloads and their senders, which ends the engine when it closes.
+impl<P: Id> Receiver for mpsc::Receiver<(P, Bytes)> {
+    type PublicKey = P;
+    type Error = Disconnected;
+
+    async fn recv(&mut self) -> Result<(P, Bytes), Disconnected> {
+        mpsc::Receiver::recv(self).await.ok_or(Disconnected)
+    }
 }

@@ -88,7 +88,7 @@ async fn the_oldest_message_of_a_peer_is_evicted() {
     }
     let evicted = nodes.mailboxes[1].subscribe(messages[0].digest());
     assert!(timeout(A_JIFFY, evicted).await.is_err());
-    let listed = nodes.mailboxes[1].list(nodes.keys[0]).await;
+    let listed = nodes.mailboxes[1].list(nodes.keys[0]).await.unwrap();
     assert_eq!(listed, messages[1..].iter().rev().cloned().collect::<Vec<_>>());
 }
 
@@ -167,17 +167,16 @@ async fn malformed_payloads_do_not_break_valid_traffic() {
     nodes.broadcast(0, &message);
     assert_eq!(nodes.mailboxes[1].subscribe(message.digest()).await, Ok(message));
     let metrics = &nodes.metrics[1];
-    assert_eq!(metric(metrics, "receive_total{status=\"Invalid\"}"), 4.0);
-    assert_eq!(metric(metrics, "receive_total{status=\"Success\"}"), 1.0);
-    let peer = format!("peer_total{{sequencer=\"{}\"}}", "01".repeat(32));
-    assert_eq!(metric(metrics, &peer), 1.0);
+    assert_eq!(count(metrics, "receive.invalid"), 4);
+    assert_eq!(count(metrics, "receive.success"), 1);
+    assert_eq!(payloads_of(metrics, &nodes.keys[0]), Some(1));
 }
 
 #[tokio::test(start_paused = true)]
 async fn payloads_are_counted_by_their_sender_and_what_became_of_them() {
     let (network, tracker) = (Network::new(0.0), Tracker::new(1));
     tracker.track(0, &[[5; 32]]);
-    let (engine, _mailbox) = TestEngine::new(config([1; 32], tracker));
+    let (engine, _mailbox) = TestEngine::new(config([1; 32], &tracker)).unwrap();
     let metrics = engine.metrics();
     let _handle = engine.start(network.join([1; 32]));
     let (mut primary, mut other) = (network.join([5; 32]).0, network.join([6; 32]).0);
@@ -188,13 +187,31 @@ async fn payloads_are_counted_by_their_sender_and_what_became_of_them() {
     other.send(to(), message.encode(), false);
     primary.send(to(), vec![0xff].into(), false);
     settle().await;
-    for (line, expected) in [
-        (format!("peer_total{{sequencer=\"{}\"}}", "05".repeat(32)), 2.0),
-        (format!("peer_total{{sequencer=\"{}\"}}", "06".repeat(32)), 1.0),
-        ("receive_total{status=\"Success\"}".to_owned(), 1.0),
-        ("receive_total{status=\"Dropped\"}".to_owned(), 2.0),
-        ("receive_total{status=\"Invalid\"}".to_owned(), 1.0),
-    ] {
-        assert_eq!(metric(&metrics, &line), expected, "{line}");
+    assert_eq!((payloads_of(&metrics, &[5; 32]), payloads_of(&metrics, &[6; 32])), (Some(2), None));
+    let stats = metrics.snapshot();
+    let receive = (stats.receive.success, stats.receive.dropped, stats.receive.invalid);
+    assert_eq!((stats.other_peers, receive), (1, (1, 2, 1)));
+}
+
+/// The counter of a key goes with the key, and keys that are in no peer set have none.
+#[tokio::test(start_paused = true)]
+async fn only_primary_peers_have_counters() {
+    let (network, tracker) = (Network::new(0.0), Tracker::new(1));
+    tracker.track(0, &[[5; 32], [6; 32]]);
+    let (engine, _mailbox) = TestEngine::new(config([1; 32], &tracker)).unwrap();
+    let metrics = engine.metrics();
+    let _handle = engine.start(network.join([1; 32]));
+    settle().await;
+    for stranger in 0..1_000_u32 {
+        let mut key = [7; 32];
+        key[..4].copy_from_slice(&stranger.to_be_bytes());
+        network.hand(&[1; 32], key, TestMessage::digested("A").encode());
     }
+    network.hand(&[1; 32], [5; 32], TestMessage::digested("B").encode());
+    settle().await;
+    assert_eq!((metrics.snapshot().peers.len(), metrics.snapshot().other_peers), (2, 1_000));
+    assert_eq!(payloads_of(&metrics, &[5; 32]), Some(1));
+    tracker.track(1, &[[6; 32]]);
+    settle().await;
+    assert_eq!((metrics.snapshot().peers.len(), metrics.snapshot().other_peers), (1, 1_001));
 }

@@ -3,34 +3,19 @@
 
 mod support;
 
-use broadcast_engine::{Blocking, Engine, Message, Recipients, Sender, Store, plain::Plain};
+use broadcast_engine::{Blocking, Cache, Engine, Message, Recipients, Sender};
 use rand::{Rng, SeedableRng, rngs::StdRng};
 use std::collections::VecDeque;
+use std::time::{Duration, Instant, SystemTime, UNIX_EPOCH};
 use support::*;
 use tokio::time::sleep;
 
 const DEQUE_SIZE: usize = 5;
 const BYTE_BUDGET: u64 = 1_000;
-const COUNTERS: [&str; 6] = [
-    "waiters",
-    "subscribe_total{status=\"Success\"}",
-    "subscribe_total{status=\"Dropped\"}",
-    "receive_total{status=\"Success\"}",
-    "receive_total{status=\"Dropped\"}",
-    "receive_total{status=\"Invalid\"}",
-];
-
 /// Plays 400 random events. Returns what each of them showed.
-async fn play<T, S>(
-    seed: u64,
-    make: impl FnOnce(Tracker) -> (Engine<Key, TestMessage, Tracker, T, S>, TestMailbox),
-) -> Vec<String>
-where
-    T: broadcast_engine::Strategy,
-    S: Store,
-{
+async fn play(seed: u64, make: impl FnOnce(&Tracker) -> (TestEngine, TestMailbox)) -> Vec<String> {
     let (network, tracker) = (Network::new(0.0), Tracker::new(1));
-    let (engine, mailbox) = make(tracker.clone());
+    let (engine, mailbox) = make(&tracker);
     let metrics = engine.metrics();
     let mut peers: Vec<_> = (2..5).map(|it| network.join([it; 32])).collect();
     let _handle = engine.start(network.join([1; 32]));
@@ -64,22 +49,31 @@ where
             }
         }
         sleep(2 * NETWORK_SPEED).await;
-        log.push(format!("{:?}", values(&metrics, COUNTERS)));
+        log.push(format!("{:?}", metrics.snapshot()));
     }
     log
 }
 
+/// The seeds of random events: 50, and more for as many seconds as `BROADCAST_FUZZ_SECONDS` says, from another place each
+/// day.
+fn seeds() -> impl Iterator<Item = u64> {
+    let seconds = std::env::var("BROADCAST_FUZZ_SECONDS").ok().and_then(|it| it.parse().ok());
+    let end = Instant::now() + Duration::from_secs(seconds.unwrap_or(0));
+    let since = SystemTime::now().duration_since(UNIX_EPOCH).unwrap_or_default();
+    (0..50).chain((((since.as_secs() / 86_400) << 32)..).take_while(move |_| Instant::now() < end))
+}
+
 #[tokio::test(start_paused = true)]
 async fn both_caches_answer_the_same() {
-    for seed in 0..50 {
-        let small = |tracker| {
+    for seed in seeds() {
+        let small = |tracker: &Tracker| {
             let mut config = config([1; 32], tracker);
             (config.deque_size, config.byte_budget) = (DEQUE_SIZE, BYTE_BUDGET);
             config
         };
-        let verified = play(seed, |tracker| TestEngine::new(small(tracker))).await;
-        let plain = || Plain::new(DEQUE_SIZE, BYTE_BUDGET);
-        let plain = play(seed, |tracker| Engine::with_store(small(tracker), plain())).await;
+        let verified = play(seed, |tracker| TestEngine::new(small(tracker)).unwrap()).await;
+        let plain = || Cache::plain([1; 32].into(), DEQUE_SIZE, BYTE_BUDGET);
+        let plain = play(seed, |tracker| Engine::with_cache(small(tracker), plain())).await;
         assert_eq!(verified, plain, "seed {seed}");
     }
 }
@@ -88,7 +82,7 @@ async fn both_caches_answer_the_same() {
 async fn both_strategies_digest_the_same() {
     let (network, tracker) = (Network::new(0.0), Tracker::new(1));
     tracker.track(0, &[[1; 32], [2; 32]]);
-    let (engine, mailbox) = Engine::new(config_with([1; 32], tracker, Blocking));
+    let (engine, mailbox) = Engine::new(config_with([1; 32], &tracker, Blocking)).unwrap();
     let _handle = engine.start(network.join([1; 32]));
     let mut peer = network.join([2; 32]).0;
     for content in 0..20_u8 {

@@ -49,14 +49,14 @@ async fn a_peer_that_is_not_primary_serves_waiters_and_is_not_cached() {
     assert_eq!(waits.await, Ok(message.clone()));
     settle().await;
     assert!(!nodes.has(0, &message).await && !nodes.has(1, &message).await);
-    assert_eq!(metric(&nodes.metrics[1], "receive_total{status=\"Dropped\"}"), 1.0);
+    assert_eq!(count(&nodes.metrics[1], "receive.dropped"), 1);
 }
 
 #[tokio::test(start_paused = true)]
 async fn a_broadcast_before_the_start_is_cached_under_the_first_peer_set() {
     let (network, tracker) = (Network::new(0.0), Tracker::new(1));
     tracker.track(0, &[[1; 32]]);
-    let (engine, mailbox) = TestEngine::new(config([1; 32], tracker));
+    let (engine, mailbox) = TestEngine::new(config([1; 32], &tracker)).unwrap();
     let message = TestMessage::digested("queued before start");
     assert!(mailbox.broadcast(Recipients::All, message.clone()).accepted());
     let _handle = engine.start(network.join([1; 32]));

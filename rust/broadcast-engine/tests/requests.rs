@@ -8,7 +8,7 @@ use broadcast_engine::{
 use std::future::Future;
 use std::num::NonZeroUsize;
 use std::sync::Arc;
-use std::time::{Duration, Instant};
+use std::time::Duration;
 use support::*;
 use tokio::sync::Semaphore;
 
@@ -23,7 +23,7 @@ async fn a_subscription_waits_for_an_absent_message() {
     assert_eq!(waits.await, Ok(message));
     settle().await;
     for metrics in &nodes.metrics {
-        assert_eq!(metric(metrics, "subscribe_total{status=\"Dropped\"}"), 1.0);
+        assert_eq!(count(metrics, "subscribe.dropped"), 1);
     }
 }
 
@@ -35,34 +35,31 @@ async fn dropped_subscriptions_are_cleaned_up() {
     let (first, second) =
         (mailbox.subscribe(missing.digest()), mailbox.subscribe(missing.digest()));
     settle().await;
-    assert_eq!(metric(metrics, "waiters"), 1.0);
+    assert_eq!(count(metrics, "waiters"), 1);
     drop(first);
     settle().await;
-    assert_eq!(metric(metrics, "waiters"), 1.0);
+    assert_eq!(count(metrics, "waiters"), 1);
     drop(second);
     settle().await;
-    assert_eq!(metric(metrics, "waiters"), 0.0);
-    assert_eq!(metric(metrics, "subscribe_total{status=\"Dropped\"}"), 2.0);
+    assert_eq!(count(metrics, "waiters"), 0);
+    assert_eq!(count(metrics, "subscribe.dropped"), 2);
     // What was dropped does not come back with the message, and who asks anew gets it.
     let anew = mailbox.subscribe(missing.digest());
     nodes.broadcast(0, &missing);
     assert_eq!(anew.await, Ok(missing));
-    assert_eq!(metric(metrics, "subscribe_total{status=\"Success\"}"), 1.0);
+    assert_eq!(count(metrics, "subscribe.success"), 1);
 }
 
 #[tokio::test(start_paused = true)]
-async fn a_dropped_subscription_costs_a_search() {
+async fn many_dropped_subscriptions_leave_nothing() {
     let nodes = Nodes::start(1, 0.0).await;
     let digest = |it: u32| TestMessage::digested(it.to_be_bytes()).digest();
     let waiting: Vec<_> = (0..40_000).map(|it| nodes.mailboxes[0].subscribe(digest(it))).collect();
     settle().await;
-    assert_eq!(metric(&nodes.metrics[0], "waiters"), 40_000.0);
-    let start = Instant::now();
+    assert_eq!(count(&nodes.metrics[0], "waiters"), 40_000);
     drop(waiting);
     settle().await;
-    assert_eq!(metric(&nodes.metrics[0], "waiters"), 0.0);
-    // A walk over all waiters for each of them takes a minute.
-    assert!(start.elapsed() < Duration::from_secs(5), "{:?}", start.elapsed());
+    assert_eq!(count(&nodes.metrics[0], "waiters"), 0);
 }
 
 #[tokio::test(start_paused = true)]
@@ -72,17 +69,17 @@ async fn gets_are_counted() {
     assert!(!nodes.has(0, &message).await);
     nodes.broadcast(0, &message);
     assert!(nodes.has(0, &message).await);
-    assert_eq!(metric(&nodes.metrics[0], "get_total{status=\"Success\"}"), 1.0);
-    assert_eq!(metric(&nodes.metrics[0], "get_total{status=\"Failure\"}"), 1.0);
+    assert_eq!(count(&nodes.metrics[0], "get.success"), 1);
+    assert_eq!(count(&nodes.metrics[0], "get.failure"), 1);
 }
 
 #[tokio::test(start_paused = true)]
 async fn a_full_mailbox_backs_off_and_loses_nothing() {
     let (network, tracker) = (Network::new(0.0), Tracker::new(1));
     tracker.track(0, &[[1; 32]]);
-    let mut small = config([1; 32], tracker);
+    let mut small = config([1; 32], &tracker);
     small.mailbox_size = NonZeroUsize::MIN;
-    let (engine, mailbox) = TestEngine::new(small);
+    let (engine, mailbox) = TestEngine::new(small).unwrap();
     let messages: Vec<_> = (0..4_u8).map(|it| TestMessage::digested([it])).collect();
     let told: Vec<_> =
         messages.iter().map(|it| mailbox.broadcast(Recipients::All, it.clone())).collect();
@@ -110,8 +107,8 @@ async fn operations_after_the_end_do_not_panic() {
         settle().await;
         let mailbox = &nodes.mailboxes[0];
         assert_eq!(mailbox.broadcast(Recipients::All, message.clone()), Feedback::Closed);
-        assert_eq!(waits.await, Err(Canceled));
-        assert_eq!(mailbox.subscribe(message.digest()).await, Err(Canceled));
+        assert_eq!(waits.await, Err(Canceled::Ended));
+        assert_eq!(mailbox.subscribe(message.digest()).await, Err(Canceled::Ended));
         assert_eq!(mailbox.get(message.digest()).await, None);
         let end = nodes.handles.into_iter().next().unwrap().await.ok();
         let ends = [None, Some(End::Stopped), Some(End::PeersClosed), Some(End::NetworkFailed)];
@@ -137,7 +134,8 @@ async fn nothing_but_a_stop_is_taken_while_a_digest_is_computed() {
     let (network, tracker) = (Network::new(0.0), Tracker::new(1));
     tracker.track(0, &[[1; 32], [2; 32]]);
     let gate = Arc::new(Semaphore::new(0));
-    let (engine, mailbox) = Engine::new(config_with([1; 32], tracker, Gated(gate.clone())));
+    let (engine, mailbox) =
+        Engine::new(config_with([1; 32], &tracker, Gated(gate.clone()))).unwrap();
     let handle = engine.start(network.join([1; 32]));
     let mut peer = network.join([2; 32]).0;
     let message = TestMessage::digested("digested late");
@@ -162,7 +160,7 @@ async fn nothing_but_a_stop_is_taken_while_a_digest_is_computed() {
 #[tokio::test(start_paused = true)]
 async fn a_turn_looks_at_peer_sets_then_the_mailbox_then_the_network() {
     let (network, tracker) = (Network::new(0.0), Tracker::new(1));
-    let (engine, mailbox) = TestEngine::new(config([1; 32], tracker.clone()));
+    let (engine, mailbox) = TestEngine::new(config([1; 32], &tracker)).unwrap();
     let metrics = engine.metrics();
     let mut peer = network.join([2; 32]).0;
     let ends = network.join([1; 32]);
@@ -181,17 +179,17 @@ async fn a_turn_looks_at_peer_sets_then_the_mailbox_then_the_network() {
     settle().await;
     assert_eq!(mailbox.get(own.digest()).await, Some(own));
     assert_eq!(mailbox.get(received.digest()).await, Some(received));
-    assert_eq!(metric(&metrics, "receive_total{status=\"Success\"}"), 1.0);
+    assert_eq!(count(&metrics, "receive.success"), 1);
 }
 
 #[tokio::test(start_paused = true)]
 async fn a_dropped_get_is_counted_as_dropped() {
     let (network, tracker) = (Network::new(0.0), Tracker::new(1));
-    let (engine, mailbox) = TestEngine::new(config([1; 32], tracker));
+    let (engine, mailbox) = TestEngine::new(config([1; 32], &tracker)).unwrap();
     let metrics = engine.metrics();
     assert!(tokio::time::timeout(Duration::ZERO, mailbox.get([7; 32])).await.is_err());
     let _handle = engine.start(network.join([1; 32]));
     settle().await;
-    assert_eq!(metric(&metrics, "get_total{status=\"Dropped\"}"), 1.0);
-    assert_eq!(metric(&metrics, "get_total{status=\"Failure\"}"), 0.0);
+    assert_eq!(count(&metrics, "get.dropped"), 1);
+    assert_eq!(count(&metrics, "get.failure"), 0);
 }

@@ -12,7 +12,7 @@ fn main() -> Result<(), Error> {
     receiver.update_primary_peers(&[here, there])?;
 
     let sent = sender.broadcast(Recipients::All, b"hello")?;
-    let (digest, payload) = (sent.digest, sent.packet.payload);
+    let (digest, payload) = (sent.digest, sent.payload().clone());
     if let Subscribed::Waiting(ticket) = receiver.subscribe(&digest)? {
         println!("{ticket:?} waits for {digest}");
     }

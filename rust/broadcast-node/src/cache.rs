@@ -1,111 +1,17 @@
 //! The cache.
 
-use crate::error::done;
-use crate::raw::{self, OwnedStore};
+use crate::backend::{Backend, Stored};
 use crate::slots::Slots;
+use crate::taken::{Evicted, Held, Subscribed, Taken};
 use crate::tickets::Tickets;
-use crate::{Counters, Counts, Digest, Error, Key, Outcome, Ticket};
+use crate::{Counters, Counts, Digest, Error, Key, Refused, Ticket};
 use std::fmt;
-use std::ops::Deref;
-use std::sync::Arc;
-
-/// A message that knows its digest, and what a list is charged for it.
-///
-/// ```
-/// use broadcast_node::{Cache, Digest, Digestible, Key};
-/// use std::sync::Arc;
-///
-/// struct Block {
-///     header: Vec<u8>,
-///     body: Vec<u8>,
-/// }
-///
-/// impl Digestible for Block {
-///     fn digest(&self) -> Digest {
-///         Digest::sha256(&self.header)
-///     }
-///
-///     fn charge(&self) -> usize {
-///         self.header.len() + self.body.len()
-///     }
-/// }
-///
-/// # fn main() -> Result<(), broadcast_node::Error> {
-/// let own = Key::from([1; 32]);
-/// let mut cache = Cache::new(own, 10, 1_000_000)?;
-/// cache.update_primary_peers(&[own])?;
-/// let block = Arc::new(Block { header: b"height 7".to_vec(), body: vec![0; 1_000] });
-/// cache.take_message(&own, block)?;
-/// let found = cache.get(&Digest::sha256(b"height 7"));
-/// assert_eq!(found.map(|it| it.body.len()), Some(1_000));
-/// # Ok(())
-/// # }
-/// ```
-pub trait Digestible {
-    /// Returns the digest that the message goes by. Equal digests name the same message.
-    fn digest(&self) -> Digest;
-
-    /// Returns the number of bytes that a list is charged.
-    fn charge(&self) -> usize;
-}
-
-impl<T: Digestible + ?Sized> Digestible for Arc<T> {
-    fn digest(&self) -> Digest {
-        (**self).digest()
-    }
-
-    fn charge(&self) -> usize {
-        (**self).charge()
-    }
-}
-
-/// The result of taking a message.
-#[derive(Debug)]
-#[non_exhaustive]
-pub struct Taken<'a, M> {
-    /// What happened to the list of the key.
-    pub outcome: Outcome,
-    /// The tickets that waited for the digest, in the order of their subscribes.
-    pub served: &'a [Ticket],
-    /// The message, with which they are replied to.
-    pub message: Held<'a, M>,
-}
-
-/// A message that was taken. It derefs to the message.
-#[derive(Debug)]
-pub enum Held<'a, M> {
-    /// The cache has it.
-    Cached(&'a M),
-    /// The cache does not keep it: it is on no list, or one of its digest was cached already.
-    Returned(M),
-}
-
-impl<M> Deref for Held<'_, M> {
-    type Target = M;
-
-    fn deref(&self) -> &M {
-        match self {
-            Held::Cached(message) => message,
-            Held::Returned(message) => message,
-        }
-    }
-}
-
-/// The result of a subscribe.
-#[derive(Clone, Copy, Debug, PartialEq, Eq, Hash)]
-#[non_exhaustive]
-pub enum Subscribed<'a, M: ?Sized> {
-    /// The message is cached, and nobody waits.
-    Cached(&'a M),
-    /// The ticket waits, until the message is taken or the ticket is cleaned up.
-    Waiting(Ticket),
-}
 
 /// A node's cache of messages, and the tickets that wait for one.
 ///
-/// Which digests are listed and cached, what happens to a list and who waits is decided by the verified
-/// library, which knows a message by its digest, its charge and a handle. The messages are here, and are of
-/// any type: one that is shared, as an `Arc` or `Bytes`, is neither copied in nor out.
+/// The verified library decides which digests are listed and cached, and which tickets wait. It knows a message by its
+/// digest, its charge and a number. The messages themselves are in the cache, and may have any type; an `Arc` or
+/// `Bytes` is not copied.
 ///
 /// ```
 /// use broadcast_node::{Cache, Digest, Key, Outcome, Subscribed};
@@ -130,26 +36,40 @@ pub enum Subscribed<'a, M: ?Sized> {
 /// # }
 /// ```
 pub struct Cache<M> {
-    raw: OwnedStore,
+    backend: Backend,
     own: Key,
+    primary: Vec<Key>,
     slots: Slots<M>,
     tickets: Tickets,
 }
 
 impl<M> Cache<M> {
-    /// Creates an empty cache for the node `own`, which lists at most `deque_size` digests a peer, charged
-    /// at most `byte_budget` together. No peer is primary yet.
+    /// Creates an empty cache for the node `own`. The list of each peer has at most `deque_size` digests, which are
+    /// charged at most `byte_budget` together. No peer is primary yet.
     ///
     /// # Errors
     ///
-    /// [`Error::Memory`], and [`Error::Version`] if the linked library is not the one of this crate.
+    /// [`Error::Memory`]. [`Error::NoLibrary`], [`Error::Processor`] and [`Error::Version`] if there is no library that
+    /// this crate can use.
     pub fn new(own: Key, deque_size: usize, byte_budget: u64) -> Result<Cache<M>, Error> {
-        match raw::broadcast_c_version() {
-            raw::VERSION => {}
-            other => return Err(Error::Version(other)),
-        }
-        let raw = OwnedStore::new(&own, deque_size, byte_budget).map_err(Error::of)?;
-        Ok(Cache { raw, own, slots: Slots::new(), tickets: Tickets::new() })
+        Backend::new(&own, deque_size, byte_budget).map(|it| Cache::over(it, own))
+    }
+
+    /// Creates an empty cache as `new` does, over the plain Rust cache: nothing of it is verified. Tests and benchmarks
+    /// compare both.
+    #[cfg(feature = "plain")]
+    pub const fn plain(own: Key, deque_size: usize, byte_budget: u64) -> Cache<M> {
+        Cache::over(Backend::plain(deque_size, byte_budget), own)
+    }
+
+    const fn over(backend: Backend, own: Key) -> Cache<M> {
+        Cache { backend, own, primary: Vec::new(), slots: Slots::new(), tickets: Tickets::new() }
+    }
+
+    /// Returns whether the verified library decides what is listed, cached and served, and not the plain cache of the feature
+    /// `plain`.
+    pub const fn is_verified(&self) -> bool {
+        self.backend.is_verified()
     }
 
     /// Returns the own key.
@@ -157,8 +77,8 @@ impl<M> Cache<M> {
         &self.own
     }
 
-    /// Makes `keys` the primary ones, in any order and with repeats. Drops the lists of all others, and the
-    /// messages that are on no list any more.
+    /// Makes `keys` the primary ones, in any order and with repeats. Drops the lists of all others. Returns the messages
+    /// that are on no list any more.
     ///
     /// # Errors
     ///
@@ -170,40 +90,53 @@ impl<M> Cache<M> {
     /// let (one, other) = (Key::from([1; 32]), Key::from([2; 32]));
     /// let mut cache = Cache::new(one, 10, 1_000)?;
     /// cache.update_primary_peers(&[one, other])?;
-    /// cache.take(&other, &Digest::default(), 5, "hello")?;
+    /// let _ = cache.take(&other, &Digest::default(), 5, "hello")?;
     /// cache.update_primary_peers(&[one])?;
     /// assert!(!cache.is_primary(&other) && !cache.contains(&Digest::default()));
     /// # Ok(())
     /// # }
     /// ```
-    pub fn update_primary_peers(&mut self, keys: &[Key]) -> Result<(), Error> {
-        done(self.raw.peers(keys))?;
-        self.settle(self.len());
-        Ok(())
+    pub fn update_primary_peers(&mut self, keys: &[Key]) -> Result<Evicted<'_, M>, Error> {
+        let mut primary = Vec::new();
+        primary.try_reserve_exact(keys.len())?;
+        primary.extend_from_slice(keys);
+        primary.sort_unstable();
+        primary.dedup();
+        self.backend.peers(&primary)?;
+        self.primary = primary;
+        Ok(self.settled(self.len()))
+    }
+
+    /// Returns the primary keys, in order and without repeats.
+    pub fn primary_peers(&self) -> &[Key] {
+        &self.primary
     }
 
     /// Returns whether the key is primary.
     pub fn is_primary(&self, key: &Key) -> bool {
-        self.raw.is_primary(key)
+        self.backend.is_primary(key)
     }
 
-    /// Takes a message under the key `peer` and the digest, at this charge. Neither is compared with the
-    /// message. Serves all tickets that wait for the digest, whatever the outcome is.
+    /// Takes a message under the key `peer` and the digest, at this charge. The cache compares neither with the message.
+    /// Serves all tickets that wait for the digest, whatever the outcome is. Messages that leave the cache are dropped by
+    /// [`Cache::evicted`], or else when the next message comes.
     ///
     /// # Errors
     ///
-    /// [`Error::Memory`]. The message is dropped then.
+    /// [`Error::Memory`], with the message.
     pub fn take(
         &mut self,
         peer: &Key,
         digest: &Digest,
         charge: usize,
         message: M,
-    ) -> Result<Taken<'_, M>, Error> {
-        let handle = self.slots.vacant()?;
-        let mut out = raw::Stored::default();
-        done(self.raw.take(peer, digest, charge, handle, &mut out))?;
-        self.keep(digest, handle, message, &out)
+    ) -> Result<Taken<'_, M>, Refused<M>> {
+        let taken = self.slots.vacant();
+        let stored = taken.and_then(|number| {
+            let stored = self.backend.take(peer, digest, charge, number)?;
+            Ok((stored, number))
+        });
+        self.keep(digest, charge, message, stored)
     }
 
     /// Takes a message as `take` does, and counts its outcome.
@@ -214,58 +147,56 @@ impl<M> Cache<M> {
         charge: usize,
         message: M,
         counters: &mut Counters,
-    ) -> Result<Taken<'_, M>, Error> {
-        let handle = self.slots.vacant()?;
-        let mut out = raw::Stored::default();
-        done(self.raw.receive(peer, digest, charge, handle, counters, &mut out))?;
-        self.keep(digest, handle, message, &out)
+    ) -> Result<Taken<'_, M>, Refused<M>> {
+        let taken = self.slots.vacant();
+        let stored = taken.and_then(|number| {
+            let stored = self.backend.receive(peer, digest, charge, number, counters)?;
+            Ok((stored, number))
+        });
+        self.keep(digest, charge, message, stored)
     }
 
-    /// Keeps the message of the handle if the library does.
+    /// Keeps the message if the library does. Drops no message: a drop that panics would lose the replies.
     #[inline(always)] // Else a take costs two percent more.
     fn keep(
         &mut self,
         digest: &Digest,
-        handle: u64,
+        charge: usize,
         message: M,
-        out: &raw::Stored,
-    ) -> Result<Taken<'_, M>, Error> {
-        let outcome = Outcome::of(out.outcome)?;
-        self.tickets.serve(out.served, |room, needed| self.raw.served(room, needed))?;
-        if out.kept {
-            self.slots.put(*digest, message);
-            self.settle(out.cached);
-            let message = Held::Cached(self.slots.get(handle).ok_or(Error::Status(raw::NONE))?);
-            return Ok(Taken { outcome, served: self.tickets.served(), message });
-        }
-        self.settle(out.cached);
-        let message = Held::Returned(message);
-        Ok(Taken { outcome, served: self.tickets.served(), message })
-    }
-
-    /// Takes a message under the key `peer`, by its own digest and charge, as [`Cache::take`] does.
-    ///
-    /// # Errors
-    ///
-    /// [`Error::Memory`]. The message is dropped then.
-    pub fn take_message(&mut self, peer: &Key, message: M) -> Result<Taken<'_, M>, Error>
-    where
-        M: Digestible,
-    {
-        self.take(peer, &message.digest(), message.charge(), message)
+        stored: Result<(Stored, u64), Error>,
+    ) -> Result<Taken<'_, M>, Refused<M>> {
+        let served = stored.and_then(|(stored, number)| {
+            self.tickets.serve(stored.served, |room| self.backend.served(room))?;
+            Ok((stored, number))
+        });
+        let (stored, number) = match served {
+            Ok(it) => it,
+            Err(error) => return Err(Refused { error, message }),
+        };
+        let backend = &self.backend;
+        let is_cached = |digest: &Digest, number| backend.get(digest) == Some(number);
+        let message = if stored.is_kept {
+            self.slots.put(*digest, charge, message);
+            self.slots.settle(stored.cached, is_cached);
+            Held::Cached(self.slots.get(number).expect("it was put there"))
+        } else {
+            self.slots.settle(stored.cached, is_cached);
+            Held::Returned(message)
+        };
+        Ok(Taken { outcome: stored.outcome, served: self.tickets.served(), message })
     }
 
     /// Takes a message under the own key, as [`Cache::take`] does.
     ///
     /// # Errors
     ///
-    /// [`Error::Memory`]. The message is dropped then.
+    /// [`Error::Memory`], with the message.
     pub fn take_own(
         &mut self,
         digest: &Digest,
         charge: usize,
         message: M,
-    ) -> Result<Taken<'_, M>, Error> {
+    ) -> Result<Taken<'_, M>, Refused<M>> {
         let own = self.own;
         self.take(&own, digest, charge, message)
     }
@@ -277,24 +208,45 @@ impl<M> Cache<M> {
     /// [`Error::Memory`].
     pub fn subscribe(&mut self, digest: &Digest) -> Result<Subscribed<'_, M>, Error> {
         let ticket = self.tickets.draw()?;
-        match self.raw.subscribe(ticket.0, digest) {
-            raw::WAITS => {
-                self.tickets.wait();
-                Ok(Subscribed::Waiting(ticket))
-            }
-            raw::OK => self.get(digest).map(Subscribed::Cached).ok_or(Error::Status(raw::NONE)),
-            status => Err(Error::of(status)),
+        if self.backend.subscribe(ticket.0, digest)? {
+            self.tickets.wait();
+            return Ok(Subscribed::Waiting(ticket));
         }
+        // The verified library numbers what is here.
+        self.get(digest).map(Subscribed::Cached).ok_or(Error::Status(0))
+    }
+
+    /// Removes and returns the messages that left the cache with the last message taken.
+    ///
+    /// ```
+    /// # use broadcast_node::{Cache, Digest, Key};
+    /// # fn main() -> Result<(), broadcast_node::Error> {
+    /// let own = Key::from([1; 32]);
+    /// let mut cache = Cache::new(own, 1, u64::MAX)?; // lists of one digest
+    /// cache.update_primary_peers(&[own])?;
+    /// let _ = cache.take_own(&Digest::new([7; 32]), 1 << 20, "old")?;
+    /// let _ = cache.take_own(&Digest::new([8; 32]), 1 << 20, "new")?;
+    /// assert_eq!(cache.evicted().next(), Some((Digest::new([7; 32]), "old")));
+    /// # Ok(())
+    /// # }
+    /// ```
+    pub fn evicted(&mut self) -> Evicted<'_, M> {
+        Evicted(&mut self.slots)
+    }
+
+    /// Returns the cached messages with their digests, in any order.
+    pub fn iter(&self) -> impl Iterator<Item = (&Digest, &M)> {
+        self.slots.iter(|digest, number| self.backend.get(digest) == Some(number))
     }
 
     /// Returns the cached message of the digest.
     pub fn get(&self, digest: &Digest) -> Option<&M> {
-        self.slots.get(self.raw.get(digest)?)
+        self.slots.get(self.backend.get(digest)?)
     }
 
     /// Returns whether a message of the digest is cached.
     pub fn contains(&self, digest: &Digest) -> bool {
-        self.raw.get(digest).is_some()
+        self.backend.get(digest).is_some()
     }
 
     /// Returns the digests on the list of `peer`, newest first.
@@ -315,16 +267,15 @@ impl<M> Cache<M> {
     /// [`Error::Memory`].
     pub fn list_into(&self, peer: &Key, list: &mut Vec<Digest>) -> Result<(), Error> {
         list.resize(list.capacity(), Digest::default());
-        let mut len = 0;
-        let mut status = self.raw.list(peer, list, &mut len);
-        if status == raw::SHORT {
+        let (mut len, had_room) = self.backend.list(peer, list)?;
+        if !had_room {
             list.clear();
             list.try_reserve_exact(len)?;
             list.resize(len, Digest::default());
-            status = self.raw.list(peer, list, &mut len);
+            (len, _) = self.backend.list(peer, list)?;
         }
         list.truncate(len);
-        done(status)
+        Ok(())
     }
 
     /// Drops the waiters with these tickets. Returns how many they were.
@@ -342,7 +293,7 @@ impl<M> Cache<M> {
     /// # }
     /// ```
     pub fn cleanup(&mut self, tickets: &[Ticket]) -> u64 {
-        let removed = self.raw.cleanup(tickets);
+        let removed = self.backend.cleanup(tickets);
         self.tickets.gone(removed);
         removed
     }
@@ -366,7 +317,7 @@ impl<M> Cache<M> {
     /// # }
     /// ```
     pub fn cancel(&mut self, digest: &Digest, ticket: Ticket) -> bool {
-        let removed = self.raw.cleanup_of(digest, &[ticket]);
+        let removed = self.backend.cleanup_of(digest, &[ticket]);
         self.tickets.gone(removed);
         removed > 0
     }
@@ -380,15 +331,15 @@ impl<M> Cache<M> {
     /// let mut cache = Cache::new(own, 10, 1_000)?;
     /// cache.update_primary_peers(&[own])?;
     /// assert!(cache.is_empty());
-    /// cache.take_own(&Digest::from([7; 32]), 5, "hello")?;
-    /// cache.subscribe(&Digest::from([8; 32]))?;
-    /// cache.subscribe(&Digest::from([8; 32]))?;
+    /// let _ = cache.take_own(&Digest::from([7; 32]), 5, "hello")?;
+    /// let _ = cache.subscribe(&Digest::from([8; 32]))?;
+    /// let _ = cache.subscribe(&Digest::from([8; 32]))?;
     /// assert_eq!((cache.len(), cache.awaited(), cache.waiting()), (1, 1, 2));
     /// # Ok(())
     /// # }
     /// ```
     pub fn len(&self) -> usize {
-        self.raw.count().cached
+        self.backend.count().0
     }
 
     /// Returns whether no message is cached. Tickets may wait.
@@ -398,12 +349,12 @@ impl<M> Cache<M> {
 
     /// Returns how many digests are awaited. Each has at least one ticket that waits for it.
     pub fn awaited(&self) -> usize {
-        self.raw.count().awaited
+        self.backend.count().1
     }
 
     /// Returns how many messages are cached, how many digests are awaited, and how many tickets wait.
     pub fn counts(&self) -> Counts {
-        let raw::Counts { cached, awaited } = self.raw.count();
+        let (cached, awaited) = self.backend.count();
         Counts { cached, awaited, waiting: self.tickets.waiting() }
     }
 
@@ -412,20 +363,25 @@ impl<M> Cache<M> {
         self.tickets.waiting()
     }
 
-    /// Lets go of messages that the library has dropped.
-    #[inline]
-    fn settle(&mut self, cached: usize) {
-        let raw = &self.raw;
-        self.slots.settle(cached, |digest, handle| raw.get(digest) == Some(handle));
+    /// Returns the sum of what the cached messages were charged when they came, each once.
+    pub fn bytes(&self) -> usize {
+        self.slots.bytes(|digest, number| self.backend.get(digest) == Some(number))
+    }
+
+    /// Finds messages that the library dropped.
+    fn settled(&mut self, cached: usize) -> Evicted<'_, M> {
+        let backend = &self.backend;
+        self.slots.settle(cached, |digest, number| backend.get(digest) == Some(number));
+        Evicted(&mut self.slots)
     }
 }
 
 impl<M> fmt::Debug for Cache<M> {
     fn fmt(&self, f: &mut fmt::Formatter<'_>) -> fmt::Result {
-        let counts = self.counts();
         f.debug_struct("Cache")
             .field("own", &self.own)
-            .field("counts", &counts)
+            .field("is_verified", &self.is_verified())
+            .field("counts", &self.counts())
             .finish_non_exhaustive()
     }
 }

@@ -1,19 +1,22 @@
 //! Why a call failed.
 
-use crate::raw;
 use std::fmt;
 
-/// Why a call failed. It has changed nothing.
+/// Why a call failed. The call has changed nothing.
 #[derive(Clone, Copy, Debug, PartialEq, Eq, Hash)]
 #[non_exhaustive]
 pub enum Error {
     /// An allocation failed.
     Memory,
-    /// A message of this length is longer than a node allows.
+    /// A message of this length is longer than the node allows.
     TooLong(usize),
-    /// The linked library is of this version, and not of the one that this crate was written for.
+    /// The program was built without the verified library, and without the feature `plain`.
+    NoLibrary,
+    /// The processor lacks instructions of x86-64-v2 that the verified library uses.
+    Processor,
+    /// The linked library has this version, and not the one that this crate was written for.
     Version(u32),
-    /// The linked library returned a status that it does not return: it is not the verified one.
+    /// The linked library returned an unknown status: it is not the verified one.
     Status(u32),
 }
 
@@ -22,8 +25,13 @@ impl fmt::Display for Error {
         match self {
             Error::Memory => f.write_str("out of memory"),
             Error::TooLong(len) => write!(f, "a message of {len} bytes is too long"),
+            Error::NoLibrary => f.write_str(
+                "this program has no libbroadcast_c: build it for x86_64-unknown-linux-gnu, set \
+                 BROADCAST_C_LIB to the library's folder, or enable the feature `plain`",
+            ),
+            Error::Processor => f.write_str("libbroadcast_c needs a processor of x86-64-v2"),
             Error::Version(found) => {
-                write!(f, "libbroadcast_c has version {found}, not {}", raw::VERSION)
+                write!(f, "libbroadcast_c has version {found}, which is not this crate's")
             }
             Error::Status(status) => write!(f, "libbroadcast_c returned the status {status}"),
         }
@@ -32,26 +40,40 @@ impl fmt::Display for Error {
 
 impl std::error::Error for Error {}
 
-impl Error {
-    /// The error of a status that is none of those that the call expects.
-    pub(crate) fn of(status: u32) -> Error {
-        match status {
-            raw::MEMORY => Error::Memory,
-            other => Error::Status(other),
-        }
-    }
-}
-
 impl From<std::collections::TryReserveError> for Error {
     fn from(_: std::collections::TryReserveError) -> Error {
         Error::Memory
     }
 }
 
-/// Whether a call that returns OK, or else fails, did so.
-pub(crate) fn done(status: u32) -> Result<(), Error> {
-    match status {
-        raw::OK => Ok(()),
-        other => Err(Error::of(other)),
+/// A call that failed, with the message that the caller passed. The call has changed nothing.
+///
+/// The `?` operator turns it into an [`Error`], and drops the message.
+#[derive(Clone, Copy, PartialEq, Eq)]
+#[non_exhaustive]
+pub struct Refused<M> {
+    /// Why the call failed.
+    pub error: Error,
+    /// The message.
+    pub message: M,
+}
+
+impl<M> fmt::Debug for Refused<M> {
+    fn fmt(&self, f: &mut fmt::Formatter<'_>) -> fmt::Result {
+        f.debug_struct("Refused").field("error", &self.error).finish_non_exhaustive()
+    }
+}
+
+impl<M> fmt::Display for Refused<M> {
+    fn fmt(&self, f: &mut fmt::Formatter<'_>) -> fmt::Result {
+        self.error.fmt(f)
+    }
+}
+
+impl<M> std::error::Error for Refused<M> {}
+
+impl<M> From<Refused<M>> for Error {
+    fn from(refused: Refused<M>) -> Error {
+        refused.error
     }
 }

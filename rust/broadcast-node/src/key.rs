@@ -1,6 +1,9 @@
 //! Keys of peers and digests of messages.
 
+use std::borrow::Borrow;
+use std::cmp::Ordering;
 use std::fmt;
+use std::hash::{Hash, Hasher};
 use std::str::FromStr;
 
 /// The key of a peer, of at most 64 bytes.
@@ -15,7 +18,7 @@ use std::str::FromStr;
 /// assert_eq!(key.to_string().parse(), Ok(key));
 /// assert!(Key::try_from(&[0; 65][..]).is_err());
 /// ```
-#[derive(Clone, Copy, PartialEq, Eq, PartialOrd, Ord, Hash)]
+#[derive(Clone, Copy, PartialEq, Eq)]
 #[repr(transparent)]
 pub struct Key([u8; Key::MAX_LEN + 1]); // the bytes, then zeros, and last their number
 
@@ -27,6 +30,24 @@ impl Key {
     pub fn as_bytes(&self) -> &[u8] {
         let [bytes @ .., len] = &self.0;
         bytes.get(..usize::from(*len)).unwrap_or(bytes)
+    }
+}
+
+impl Ord for Key {
+    fn cmp(&self, other: &Key) -> Ordering {
+        self.as_bytes().cmp(other.as_bytes())
+    }
+}
+
+impl PartialOrd for Key {
+    fn partial_cmp(&self, other: &Key) -> Option<Ordering> {
+        Some(self.cmp(other))
+    }
+}
+
+impl Hash for Key {
+    fn hash<H: Hasher>(&self, to: &mut H) {
+        self.as_bytes().hash(to);
     }
 }
 
@@ -47,9 +68,25 @@ impl Digest {
     /// The number of bytes of a digest.
     pub const LEN: usize = 32;
 
-    /// Computes the SHA-256 of the bytes, by the verified library.
+    /// Creates a digest of its bytes.
+    pub const fn new(bytes: [u8; Digest::LEN]) -> Digest {
+        Digest(bytes)
+    }
+
+    /// Computes the SHA-256 of the bytes, by the crate `sha2`, which uses the processor's instructions for it.
     pub fn sha256(bytes: &[u8]) -> Digest {
-        crate::raw::sha256(bytes)
+        Digest(<sha2::Sha256 as sha2::Digest>::digest(bytes).into())
+    }
+
+    /// Computes the SHA-256 of the bytes, by the verified library. It is several times slower where the processor has
+    /// instructions for SHA-256.
+    ///
+    /// # Errors
+    ///
+    /// [`Error::NoLibrary`](crate::Error), [`Error::Processor`](crate::Error) and [`Error::Version`](crate::Error), as
+    /// [`Cache::new`](crate::Cache::new).
+    pub fn verified_sha256(bytes: &[u8]) -> Result<Digest, crate::Error> {
+        crate::backend::sha256(bytes)
     }
 
     /// Returns the bytes.
@@ -109,6 +146,12 @@ impl From<[u8; Digest::LEN]> for Digest {
     }
 }
 
+impl AsRef<[u8; Digest::LEN]> for Digest {
+    fn as_ref(&self) -> &[u8; Digest::LEN] {
+        &self.0
+    }
+}
+
 impl TryFrom<&[u8]> for Digest {
     type Error = ParseError;
 
@@ -126,15 +169,16 @@ impl From<Digest> for [u8; Digest::LEN] {
 
 /// Reads hexadecimal into the room, and returns how many bytes there are.
 fn read_hex(text: &str, room: &mut [u8]) -> Result<usize, ParseError> {
-    let (pairs, rest) = text.as_bytes().as_chunks::<2>();
-    if !rest.is_empty() {
+    let pairs = text.as_bytes().chunks_exact(2);
+    let len = pairs.len();
+    if !pairs.remainder().is_empty() {
         return Err(ParseError::NotHex);
     }
-    let room = room.get_mut(..pairs.len()).ok_or(ParseError::Length(pairs.len()))?;
+    let room = room.get_mut(..len).ok_or(ParseError::Length(len))?;
     for (byte, pair) in room.iter_mut().zip(pairs) {
         *byte = half(pair[0])? << 4 | half(pair[1])?;
     }
-    Ok(pairs.len())
+    Ok(len)
 }
 
 fn half(digit: u8) -> Result<u8, ParseError> {
@@ -175,10 +219,22 @@ macro_rules! bytes_as_hex {
             }
         }
 
+        impl Borrow<[u8]> for $name {
+            fn borrow(&self) -> &[u8] {
+                self.as_bytes()
+            }
+        }
+
+        impl fmt::LowerHex for $name {
+            fn fmt(&self, f: &mut fmt::Formatter<'_>) -> fmt::Result {
+                self.as_bytes().iter().try_for_each(|byte| write!(f, "{byte:02x}"))
+            }
+        }
+
         impl fmt::Display for $name {
             /// Writes lower-case hexadecimal.
             fn fmt(&self, f: &mut fmt::Formatter<'_>) -> fmt::Result {
-                self.as_bytes().iter().try_for_each(|byte| write!(f, "{byte:02x}"))
+                fmt::LowerHex::fmt(self, f)
             }
         }
 

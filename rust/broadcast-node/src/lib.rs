@@ -20,8 +20,8 @@
 //! receiver.update_primary_peers(&[here, there])?;
 //!
 //! let sent = sender.broadcast(Recipients::All, b"hello")?;
-//! let (digest, payload) = (sent.digest, sent.packet.payload); // the bytes that the network carries
-//! receiver.payload(&here, payload)?;
+//! let (digest, payload) = (sent.digest, sent.payload().clone()); // the bytes that the network carries
+//! let _ = receiver.payload(&here, payload)?; // nobody waits for a reply
 //! assert_eq!(receiver.get(&digest), Some(&b"hello"[..]));
 //! # Ok(())
 //! # }
@@ -44,27 +44,32 @@
 //!
 //! # The library
 //!
-//! `BROADCAST_C_LIB` is the folder of `libbroadcast_c.a`, which is for Linux on x86-64-v2. Checks and
-//! documentation do without it.
+//! `libbroadcast_c.a` is for `x86_64-unknown-linux-gnu`. The crate has it, and `BROADCAST_C_LIB` names the folder of another
+//! one. Where there is none, [`Cache::new`] returns [`Error::NoLibrary`]; with the feature `plain` it creates a plain Rust
+//! cache, which is not verified.
 
 #![deny(missing_docs)]
 #![deny(unsafe_code)]
 
+mod backend;
 mod cache;
 #[cfg(feature = "serde")]
 mod de;
 mod error;
 mod key;
 mod node;
+#[cfg(broadcast_c)]
 #[allow(unsafe_code)]
 mod raw;
 mod slots;
+mod taken;
 mod tickets;
 
-pub use cache::{Cache, Digestible, Held, Subscribed, Taken};
-pub use error::Error;
+pub use cache::Cache;
+pub use error::{Error, Refused};
 pub use key::{Digest, Key, ParseError};
-pub use node::{Broadcast, Counters, Invalid, Limits, Message, Node, Packet, Received, Recipients};
+pub use node::{Broadcast, Counters, Invalid, Limits, Message, Node, Received, Recipients};
+pub use taken::{Evicted, Held, Subscribed, Taken};
 pub use tickets::Ticket;
 
 /// A node whose messages are [`bytes::Bytes`].
@@ -85,29 +90,9 @@ pub enum Outcome {
     Oversize,
 }
 
-impl Outcome {
-    fn code(self) -> u32 {
-        match self {
-            Outcome::Inserted => raw::INSERTED,
-            Outcome::Duplicate => raw::DUPLICATE,
-            Outcome::Ineligible => raw::INELIGIBLE,
-            Outcome::Oversize => raw::OVERSIZE,
-        }
-    }
-
-    fn of(code: u32) -> Result<Outcome, Error> {
-        match code {
-            raw::INSERTED => Ok(Outcome::Inserted),
-            raw::DUPLICATE => Ok(Outcome::Duplicate),
-            raw::INELIGIBLE => Ok(Outcome::Ineligible),
-            raw::OVERSIZE => Ok(Outcome::Oversize),
-            other => Err(Error::Status(other)),
-        }
-    }
-}
-
 /// How much a cache has.
 #[derive(Clone, Copy, Debug, Default, PartialEq, Eq, Hash)]
+#[cfg_attr(feature = "serde", derive(serde::Serialize, serde::Deserialize), serde(default))]
 #[non_exhaustive]
 pub struct Counts {
     /// Cached messages.
@@ -117,3 +102,8 @@ pub struct Counts {
     /// Tickets that wait.
     pub waiting: usize,
 }
+
+/// The README's code is compiled.
+#[cfg(doctest)]
+#[doc = include_str!("../README.md")]
+struct Readme;

@@ -1,118 +1,24 @@
 //! The node: it is handed what happened, and returns what is to be replied and sent.
 
 mod books;
+mod limits;
+mod results;
 mod wire;
 
 pub use books::Counters;
+pub use limits::Limits;
+pub use results::{Broadcast, Message, Received, Recipients};
 pub use wire::Invalid;
 
-use crate::raw;
-use crate::{Cache, Counts, Digest, Error, Held, Key, Outcome, Subscribed, Ticket};
+use crate::backend::Counted;
+use crate::{Cache, Counts, Digest, Error, Evicted, Key, Outcome, Refused, Subscribed, Ticket};
 use books::Books;
 use std::fmt;
-
-/// What bounds a node.
-///
-/// ```
-/// let mut limits = broadcast_node::Limits::default();
-/// limits.max_len = 4096;
-/// ```
-#[derive(Clone, Copy, Debug, PartialEq, Eq, Hash)]
-#[non_exhaustive]
-pub struct Limits {
-    /// The most digests that are listed for a peer.
-    pub deque_size: usize,
-    /// The most bytes that the list of a peer is charged: for each message its length and 4 more.
-    pub byte_budget: u64,
-    /// The most bytes of a message, one's own or that of a peer.
-    pub max_len: usize,
-}
-
-impl Default for Limits {
-    /// 256 digests and 16 MiB a peer, messages of at most 1 MiB.
-    fn default() -> Limits {
-        Limits { deque_size: 256, byte_budget: 16 << 20, max_len: 1 << 20 }
-    }
-}
-
-/// The peers that a message is for.
-#[derive(Clone, Debug, Default, PartialEq, Eq, Hash)]
-pub enum Recipients {
-    /// Every peer.
-    #[default]
-    All,
-    /// These peers.
-    Some(Vec<Key>),
-    /// One peer.
-    One(Key),
-}
-
-/// Bytes that are to be sent.
-#[derive(Clone, Debug, PartialEq, Eq, Hash)]
-#[non_exhaustive]
-pub struct Packet<B> {
-    /// Whom they are for.
-    pub recipients: Recipients,
-    /// The encoding of a message, which [`Node::payload`] of another node reads.
-    pub payload: B,
-}
-
-/// The result of a broadcast.
-#[derive(Debug)]
-#[non_exhaustive]
-pub struct Broadcast<'a, B> {
-    /// What is to be sent.
-    pub packet: Packet<B>,
-    /// The digest of the message.
-    pub digest: Digest,
-    /// What happened to the own list.
-    pub outcome: Outcome,
-    /// The tickets that are replied to with the message.
-    pub served: &'a [Ticket],
-}
-
-/// The result of a payload.
-#[derive(Debug)]
-#[non_exhaustive]
-pub enum Received<'a, B> {
-    /// The message was taken.
-    Taken(Message<'a, B>),
-    /// The message can't be on a list, and as nobody waits for any, it was neither digested nor taken. It is
-    /// counted as it would be.
-    Ignored(Outcome),
-    /// The payload does not decode.
-    Invalid(Invalid),
-}
-
-/// A message that was taken from a payload.
-#[derive(Debug)]
-#[non_exhaustive]
-pub struct Message<'a, B> {
-    /// The digest.
-    pub digest: Digest,
-    /// What happened to the list of the peer.
-    pub outcome: Outcome,
-    /// The tickets that are replied to with the message.
-    pub served: &'a [Ticket],
-    payload: Held<'a, B>,
-}
-
-impl<B: AsRef<[u8]>> Message<'_, B> {
-    /// Returns the bytes of the message.
-    pub fn bytes(&self) -> &[u8] {
-        wire::message_of((*self.payload).as_ref())
-    }
-
-    /// Returns the payload that the message came in, which can be handed on as it is.
-    pub fn payload(&self) -> &B {
-        &self.payload
-    }
-}
 
 /// A node without input and output: a cache that encodes, decodes and digests messages.
 ///
 /// A message is a list of bytes. It is kept in the payload `B` that it came in, so it is not copied: `B` may be
-/// `Vec<u8>`, `Arc<[u8]>` or `bytes::Bytes`, of which the last two are shared with the packets of broadcasts.
+/// `Vec<u8>`, `Arc<[u8]>` or `bytes::Bytes`.
 ///
 /// ```
 /// use broadcast_node::{Key, Limits, Node, Outcome, Received, Recipients, Subscribed};
@@ -126,7 +32,7 @@ impl<B: AsRef<[u8]>> Message<'_, B> {
 /// receiver.update_primary_peers(&[here, there])?;
 ///
 /// let sent = sender.broadcast(Recipients::All, b"hello")?;
-/// let (digest, payload) = (sent.digest, sent.packet.payload);
+/// let (digest, payload) = (sent.digest, sent.payload().clone());
 ///
 /// let Subscribed::Waiting(ticket) = receiver.subscribe(&digest)? else { panic!("it is cached") };
 /// let Received::Taken(message) = receiver.payload(&here, payload)? else { panic!("it is invalid") };
@@ -152,7 +58,7 @@ impl<B: AsRef<[u8]>> Node<B> {
     ///
     /// # Errors
     ///
-    /// [`Error::Memory`], and [`Error::Version`] if the linked library is not the one of this crate.
+    /// Those of [`Cache::new`].
     pub fn new(own: Key, limits: Limits) -> Result<Node<B>, Error> {
         let cache = Cache::new(own, limits.deque_size, limits.byte_budget)?;
         Ok(Node { cache, limits, books: Books::default() })
@@ -163,17 +69,27 @@ impl<B: AsRef<[u8]>> Node<B> {
         self.cache.own()
     }
 
-    /// Makes `keys` the primary ones, in any order and with repeats. Drops the lists of all others, and the
-    /// messages that are on no list any more.
+    /// Makes `keys` the primary ones, in any order and with repeats. Drops the lists of all others. Returns the payloads
+    /// of the messages that are on no list any more.
     ///
     /// # Errors
     ///
     /// [`Error::Memory`].
-    pub fn update_primary_peers(&mut self, keys: &[Key]) -> Result<(), Error> {
+    pub fn update_primary_peers(&mut self, keys: &[Key]) -> Result<Evicted<'_, B>, Error> {
         let books = self.books.for_keys(keys)?;
-        self.cache.update_primary_peers(keys)?;
+        let evicted = self.cache.update_primary_peers(keys)?;
         self.books = books;
-        Ok(())
+        Ok(evicted)
+    }
+
+    /// Returns the limits.
+    pub const fn limits(&self) -> &Limits {
+        &self.limits
+    }
+
+    /// Returns the primary keys, in order and without repeats.
+    pub fn primary_peers(&self) -> &[Key] {
+        self.cache.primary_peers()
     }
 
     /// Returns whether the key is primary.
@@ -181,18 +97,16 @@ impl<B: AsRef<[u8]>> Node<B> {
         self.cache.is_primary(key)
     }
 
-    /// Takes a message under the own key and the SHA-256 of its bytes, and returns the packet that carries
-    /// it.
+    /// Takes a message under the own key and the SHA-256 of its bytes, and encodes it.
     ///
-    /// The payload is made of a `Vec<u8>` and cloned as `B` does that. Only `Bytes` copies nothing then; `Arc<[u8]>`
-    /// and `Vec<u8>` copy once, and an allocation failure of such a copy aborts.
+    /// `Vec<u8>` and `Bytes` are made of the encoding as it is. `Arc<[u8]>` copies it, and aborts if it finds no memory.
     ///
     /// # Errors
     ///
     /// [`Error::TooLong`], and [`Error::Memory`].
     pub fn broadcast(&mut self, to: Recipients, message: &[u8]) -> Result<Broadcast<'_, B>, Error>
     where
-        B: From<Vec<u8>> + Clone,
+        B: From<Vec<u8>>,
     {
         let payload = wire::encode(message, self.limits.max_len)?;
         self.send(to, Digest::sha256(message), payload)
@@ -211,7 +125,7 @@ impl<B: AsRef<[u8]>> Node<B> {
         message: &[u8],
     ) -> Result<Broadcast<'_, B>, Error>
     where
-        B: From<Vec<u8>> + Clone,
+        B: From<Vec<u8>>,
     {
         let payload = wire::encode(message, self.limits.max_len)?;
         self.send(to, *digest, payload)
@@ -224,13 +138,12 @@ impl<B: AsRef<[u8]>> Node<B> {
         payload: Vec<u8>,
     ) -> Result<Broadcast<'_, B>, Error>
     where
-        B: From<Vec<u8>> + Clone,
+        B: From<Vec<u8>>,
     {
         let charge = payload.len();
-        let payload = B::from(payload);
-        let taken = self.cache.take_own(&digest, charge, payload.clone())?;
-        let packet = Packet { recipients, payload };
-        Ok(Broadcast { packet, digest, outcome: taken.outcome, served: taken.served })
+        let taken = self.cache.take_own(&digest, charge, B::from(payload))?;
+        let (outcome, served) = (taken.outcome, taken.served);
+        Ok(Broadcast { recipients, digest, outcome, served, payload: taken.message })
     }
 
     /// Decodes the bytes that the peer sent, and takes the message under its key and the SHA-256 of its
@@ -238,8 +151,8 @@ impl<B: AsRef<[u8]>> Node<B> {
     ///
     /// # Errors
     ///
-    /// [`Error::Memory`]. The payload is dropped then, and not counted.
-    pub fn payload(&mut self, peer: &Key, payload: B) -> Result<Received<'_, B>, Error> {
+    /// [`Error::Memory`], with the payload, which is not counted.
+    pub fn payload(&mut self, peer: &Key, payload: B) -> Result<Received<'_, B>, Refused<B>> {
         self.payload_with(peer, payload, Digest::sha256)
     }
 
@@ -247,7 +160,7 @@ impl<B: AsRef<[u8]>> Node<B> {
     ///
     /// # Errors
     ///
-    /// [`Error::Memory`]. The payload is dropped then, and not counted.
+    /// [`Error::Memory`], with the payload, which is not counted.
     ///
     /// ```
     /// use broadcast_node::{Digest, Key, Limits, Node};
@@ -257,7 +170,7 @@ impl<B: AsRef<[u8]>> Node<B> {
     /// let mut node = Node::<Vec<u8>>::new(key, Limits::default())?;
     /// node.update_primary_peers(&[key])?;
     /// let height = Digest::from([0; 32]);
-    /// node.payload_as(&key, &height, b"\0\0\0\x05block".to_vec())?;
+    /// let _ = node.payload_as(&key, &height, b"\0\0\0\x05block".to_vec())?;
     /// assert_eq!(node.get(&height), Some(&b"block"[..]));
     /// # Ok(())
     /// # }
@@ -267,28 +180,28 @@ impl<B: AsRef<[u8]>> Node<B> {
         peer: &Key,
         digest: &Digest,
         payload: B,
-    ) -> Result<Received<'_, B>, Error> {
+    ) -> Result<Received<'_, B>, Refused<B>> {
         self.payload_with(peer, payload, |_| *digest)
     }
 
-    /// Does the same under the digest that `digest` returns for the bytes of the message: that of a faster SHA-256,
-    /// or one that messages have by themselves. It is not called for a message that is ignored.
+    /// Does the same under the digest that `digest` returns for the bytes of the message, for example one that is part of
+    /// them. It is not called for a message that is ignored.
     ///
     /// # Errors
     ///
-    /// [`Error::Memory`]. The payload is dropped then, and not counted.
+    /// [`Error::Memory`], with the payload, which is not counted.
     pub fn payload_with(
         &mut self,
         peer: &Key,
         payload: B,
         digest: impl FnOnce(&[u8]) -> Digest,
-    ) -> Result<Received<'_, B>, Error> {
+    ) -> Result<Received<'_, B>, Refused<B>> {
         let charge = payload.as_ref().len();
         let (counters, has_books) = self.books.of_mut(peer);
         let message = match wire::decode(payload.as_ref(), self.limits.max_len) {
             Ok(message) => message,
             Err(reason) => {
-                raw::broadcast_counters_count(counters, raw::INVALID);
+                counters.count(Counted::Invalid);
                 return Ok(Received::Invalid(reason));
             }
         };
@@ -298,7 +211,7 @@ impl<B: AsRef<[u8]>> Node<B> {
             _ => None, // it may be kept, or is awaited
         };
         if let Some(outcome) = ignored {
-            raw::broadcast_counters_count(counters, outcome.code());
+            counters.count(Counted::Outcome(outcome));
             return Ok(Received::Ignored(outcome));
         }
         let digest = digest(message);
@@ -317,6 +230,17 @@ impl<B: AsRef<[u8]>> Node<B> {
             Subscribed::Cached(payload) => Subscribed::Cached(wire::message_of(payload.as_ref())),
             Subscribed::Waiting(ticket) => Subscribed::Waiting(ticket),
         })
+    }
+
+    /// Removes and returns the payloads of the messages that left the cache with the last message taken, as
+    /// [`Cache::evicted`] does.
+    pub fn evicted(&mut self) -> Evicted<'_, B> {
+        self.cache.evicted()
+    }
+
+    /// Returns the payloads of the cached messages with their digests, in any order.
+    pub fn iter(&self) -> impl Iterator<Item = (&Digest, &B)> {
+        self.cache.iter()
     }
 
     /// Returns the bytes of the cached message of the digest.
@@ -362,6 +286,11 @@ impl<B: AsRef<[u8]>> Node<B> {
     /// Returns the sum over all payloads of keys that were not primary, and of keys that are not any more.
     pub fn other_counters(&self) -> Counters {
         self.books.others()
+    }
+
+    /// Returns the sum of the lengths of the cached payloads.
+    pub fn bytes(&self) -> usize {
+        self.cache.bytes()
     }
 
     /// Returns how many messages are cached.

@@ -11,13 +11,14 @@ use std::ffi::c_void;
 use std::ptr::null_mut;
 
 /// The version of the library's functions that this crate was written for.
-pub const VERSION: u32 = 5;
+pub const VERSION: u32 = 6;
 
 pub const OK: u32 = 0;
 pub const MEMORY: u32 = 1;
-pub const NONE: u32 = 3;
 pub const SHORT: u32 = 4;
 pub const WAITS: u32 = 5;
+pub const INVALID_LENGTH: u32 = 8;
+pub const EXTRA_DATA: u32 = 9;
 
 pub const INSERTED: u32 = 0;
 pub const DUPLICATE: u32 = 1;
@@ -52,11 +53,21 @@ pub struct Counts {
     pub awaited: usize,
 }
 
+/// Where the message of a packet is.
+#[repr(C)]
+#[derive(Default)]
+pub struct Place {
+    pub offset: usize,
+    pub length: usize,
+}
+
 unsafe extern "C" {
     pub safe fn broadcast_c_version() -> u32;
     pub safe fn broadcast_counters_count(counters: &mut Counters, what: u32);
     pub safe fn broadcast_counters_add(counters: &mut Counters, more: &Counters);
     fn broadcast_sha256(bytes: *const u8, len: usize, out: &mut Digest);
+    fn broadcast_packet_read(bytes: *const u8, len: usize, max_len: usize, out: &mut Place) -> u32;
+    pub safe fn broadcast_packet_head(len: usize, out: &mut [u8; 4]) -> u32;
     fn broadcast_store_new(
         store: &mut StoreHandle,
         own: &Key,
@@ -120,4 +131,12 @@ pub fn sha256(bytes: &[u8]) -> Digest {
     // SAFETY: the pointer and the length are those of a slice that is borrowed for the call.
     unsafe { broadcast_sha256(bytes.as_ptr(), bytes.len(), &mut out) };
     out
+}
+
+/// Reads a packet whose message has at most `max_len` bytes. Returns the status, and where the message is.
+pub fn packet_read(bytes: &[u8], max_len: usize) -> (u32, Place) {
+    let mut out = Place::default();
+    // SAFETY: the pointer and the length are those of a slice that is borrowed for the call.
+    let status = unsafe { broadcast_packet_read(bytes.as_ptr(), bytes.len(), max_len, &mut out) };
+    (status, out)
 }

@@ -1,7 +1,6 @@
 //! Tickets of those who wait, and the room in which those that are served are told.
 
 use crate::Error;
-use crate::error::done;
 use std::fmt;
 
 /// What a caller waits under, until the message of its digest is taken.
@@ -73,7 +72,7 @@ impl Tickets {
     pub fn serve(
         &mut self,
         count: usize,
-        fill: impl FnOnce(&mut [Ticket], &mut usize) -> u32,
+        fill: impl FnOnce(&mut [Ticket]) -> Result<(), Error>,
     ) -> Result<(), Error> {
         self.served.clear();
         if count == 0 {
@@ -82,7 +81,7 @@ impl Tickets {
         self.waiting = self.waiting.saturating_sub(count);
         self.served.try_reserve(count)?; // there is room already
         self.served.resize(count, Ticket(0));
-        done(fill(&mut self.served, &mut 0))
+        fill(&mut self.served)
     }
 
     /// Returns the tickets that were served last.

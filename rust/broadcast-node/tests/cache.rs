@@ -1,5 +1,7 @@
 //! A cache beside the model: lists of generated calls, and what generated calls do not reach.
 
+#![cfg(any(broadcast_c, feature = "plain"))]
+
 mod common;
 
 use broadcast_node::{Cache, Digest, Error, Held, Key, Outcome, Subscribed, Ticket};
@@ -149,6 +151,7 @@ impl Pair {
             75..80 => self.cancel(&name),
             _ => self.get(&name),
         }
+        drop(self.cache.evicted());
         let counts = self.cache.counts();
         assert_eq!(counts.cached, self.model.messages.len());
         assert_eq!(counts.awaited, self.model.awaited());
@@ -156,6 +159,8 @@ impl Pair {
         let told = (self.cache.len(), self.cache.awaited(), self.cache.waiting());
         assert_eq!(told, (counts.cached, counts.awaited, counts.waiting));
         assert_eq!(self.cache.is_empty(), self.model.messages.is_empty());
+        assert_eq!(self.cache.iter().count(), counts.cached);
+        assert!(self.cache.iter().all(|it| self.cache.get(it.0) == Some(it.1)));
         assert_eq!(self.cache.list(&peer).unwrap(), self.model.list(&peer));
         let is_primary = self.model.primary.contains(&peer);
         assert_eq!(self.cache.is_primary(&peer), is_primary);
@@ -255,7 +260,7 @@ fn nothing_and_much_cross_as_well() -> Result<(), Error> {
     for n in 0..5_000_u64 {
         let mut name = [0xee; 32];
         name[..8].copy_from_slice(&n.to_be_bytes());
-        cache.take_own(&name.into(), 9, ())?;
+        let _ = cache.take_own(&name.into(), 9, ())?;
         digests.insert(0, name.into());
     }
     assert_eq!(cache.list(&own())?, digests);
@@ -312,7 +317,7 @@ fn keys_of_each_length_are_apart() -> Result<(), Error> {
     let mut cache = Cache::new(keys[0], 1, 10)?;
     cache.update_primary_peers(&keys)?;
     for (n, key) in keys.iter().enumerate() {
-        cache.take(key, &digest(n as u64), 1, n)?;
+        let _ = cache.take(key, &digest(n as u64), 1, n)?;
     }
     for (n, key) in keys.iter().enumerate() {
         assert_eq!(cache.list(key)?, [digest(n as u64)]);
@@ -327,10 +332,10 @@ fn two_caches_are_apart() -> Result<(), Error> {
     let mut other = Cache::new(own(), 3, 1_000)?;
     one.update_primary_peers(&[own()])?;
     other.update_primary_peers(&[own()])?;
-    one.take_own(&digest(7), 3, "one")?;
+    let _ = one.take_own(&digest(7), 3, "one")?;
     assert_eq!(other.get(&digest(7)), None);
     drop(one);
-    other.take_own(&digest(7), 5, "other")?;
+    let _ = other.take_own(&digest(7), 5, "other")?;
     assert_eq!(other.get(&digest(7)), Some(&"other"));
     Ok(())
 }
@@ -339,7 +344,7 @@ fn two_caches_are_apart() -> Result<(), Error> {
 fn a_cache_moves_to_another_thread() -> Result<(), Error> {
     let mut cache = Cache::new(own(), 3, 1_000)?;
     cache.update_primary_peers(&[own()])?;
-    cache.subscribe(&digest(7))?;
+    let _ = cache.subscribe(&digest(7))?;
     let moved = std::thread::spawn(move || {
         let served = cache.take_own(&digest(7), 5, "there").map(|taken| taken.served.len());
         served.map(|served| (served, cache))
@@ -360,11 +365,11 @@ fn caches_come_and_go() -> Result<(), Error> {
             cache.update_primary_peers(&[key(round), key(9), key(round), key(9)])?;
         }
         for at in 0..round % 7 {
-            cache.subscribe(&digest(at))?;
-            cache.subscribe(&digest(at))?;
+            let _ = cache.subscribe(&digest(at))?;
+            let _ = cache.subscribe(&digest(at))?;
             if at % 2 == 0 {
-                cache.take(&key(9), &digest(at), 300 * at as usize, counted.clone())?;
-                cache.take_own(&digest(at), 7, counted.clone())?;
+                let _ = cache.take(&key(9), &digest(at), 300 * at as usize, counted.clone())?;
+                let _ = cache.take_own(&digest(at), 7, counted.clone())?;
             }
         }
     }

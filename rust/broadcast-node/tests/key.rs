@@ -1,6 +1,6 @@
 //! Keys and digests as texts and as bytes.
 
-use broadcast_node::{Digest, Key, ParseError};
+use broadcast_node::{Digest, Error, Key, ParseError};
 
 fn keys() -> impl Iterator<Item = (Vec<u8>, Key)> {
     (0..=Key::MAX_LEN).map(|len| {
@@ -58,4 +58,45 @@ fn keys_and_digests_are_hexadecimal_in_json() {
     let digest = Digest::sha256(b"abc");
     assert_eq!(from_str::<Digest>(&to_string(&digest).unwrap()).unwrap(), digest);
     assert!(from_str::<Digest>("\"00\"").is_err() && from_str::<Key>("7").is_err());
+}
+
+/// A field that a text lacks has its default, so older texts are read.
+#[cfg(feature = "serde")]
+#[test]
+fn limits_and_counters_are_read_of_a_part() {
+    use broadcast_node::{Counters, Limits};
+    use serde_json::from_str;
+    let limits: Limits = from_str(r#"{"deque_size": 5}"#).unwrap();
+    assert_eq!(limits, Limits::default().deque_size(5));
+    assert_eq!(from_str::<Counters>(r#"{"invalid": 7}"#).unwrap().invalid, 7);
+}
+
+/// By the processor's instructions, and by the verified library.
+#[test]
+fn both_functions_compute_the_same_sha256() {
+    let bytes: Vec<u8> = (0..1_000_003_u32).map(|n| (n ^ n >> 8) as u8).collect();
+    for len in (0..=300).chain([4_095, 65_536, 1_000_003]) {
+        let verified = Digest::verified_sha256(&bytes[..len]);
+        let expected = if cfg!(broadcast_c) {
+            Ok(Digest::sha256(&bytes[..len]))
+        } else {
+            Err(Error::NoLibrary)
+        };
+        assert_eq!(verified, expected, "{len} bytes");
+    }
+}
+
+#[test]
+fn keys_and_digests_are_found_by_their_bytes() {
+    let keys: std::collections::HashMap<Key, usize> =
+        keys().map(|(bytes, key)| (key, bytes.len())).collect();
+    for (bytes, key) in self::keys() {
+        assert_eq!(
+            (keys.get(&bytes[..]), format!("{key:x}")),
+            (Some(&bytes.len()), key.to_string())
+        );
+    }
+    const NINE: Digest = Digest::new([9; 32]);
+    let bytes: &[u8; 32] = NINE.as_ref();
+    assert!(std::collections::HashSet::from([NINE]).contains(&bytes[..]));
 }

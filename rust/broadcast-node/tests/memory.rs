@@ -1,6 +1,8 @@
 //! Each allocation is refused in turn, those of the library too: nothing aborts, and a call that fails has
 //! changed nothing.
 
+#![cfg(broadcast_c)]
+
 use broadcast_node::{Cache, Digest, Error, Key, Limits, Node, Received, Recipients, Subscribed};
 use std::alloc::{GlobalAlloc, Layout, System};
 use std::cell::Cell;
@@ -87,15 +89,15 @@ fn cache() -> Cache<&'static str> {
     let mut cache = Cache::new(own(), 10, 1_000).unwrap();
     cache.update_primary_peers(&[own(), peer()]).unwrap();
     for _ in 0..3 {
-        cache.subscribe(&digest(7)).unwrap();
+        let _ticket = cache.subscribe(&digest(7)).unwrap();
     }
-    cache.take_own(&digest(8), 6, "cached").unwrap();
+    drop(cache.take_own(&digest(8), 6, "cached").unwrap());
     cache
 }
 
 /// Takes a message. Returns how many were served.
 fn take(cache: &mut Cache<&'static str>, name: u8) -> Result<usize, Error> {
-    cache.take(&peer(), &digest(name), 7, "message").map(|taken| taken.served.len())
+    Ok(cache.take(&peer(), &digest(name), 7, "message")?.served.len())
 }
 
 #[test]
@@ -121,7 +123,7 @@ fn a_cache_loses_no_taking() {
         other => panic!("{other:?}"),
     };
     refuse_each(cache, answered);
-    refuse_each(cache, |it| it.update_primary_peers(&[peer(), own(), peer()]));
+    refuse_each(cache, |it| it.update_primary_peers(&[peer(), own(), peer()]).map(drop));
 }
 
 /// A message that the cache does not keep leaves its place to the next one: a repeat, or a stranger's message, does
@@ -144,9 +146,9 @@ fn node() -> Node<Vec<u8>> {
     let mut node = Node::new(own(), Limits::default()).unwrap();
     node.update_primary_peers(&[own(), peer()]).unwrap();
     for _ in 0..3 {
-        node.subscribe(&digest(7)).unwrap();
+        let _ticket = node.subscribe(&digest(7)).unwrap();
     }
-    node.payload_as(&own(), &digest(8), b"\0\0\0\x06cached".to_vec()).unwrap();
+    drop(node.payload_as(&own(), &digest(8), b"\0\0\0\x06cached".to_vec()).unwrap());
     node
 }
 
@@ -180,26 +182,28 @@ fn a_node_loses_no_payload() {
         place += 1;
     }
     assert!(place > 0);
-    refuse_each(node, |it| it.update_primary_peers(&[peer()]));
+    refuse_each(node, |it| it.update_primary_peers(&[peer()]).map(drop));
 }
 
-/// The clone of a payload can fail by an abort, so this node has payloads that are cloned without memory.
 #[test]
 fn a_node_loses_no_broadcast() {
-    #[derive(Clone)]
-    struct Shared;
-    impl From<Vec<u8>> for Shared {
-        fn from(_: Vec<u8>) -> Shared {
-            Shared
-        }
+    fn refuse_broadcasts<B: From<Vec<u8>> + AsRef<[u8]>>() {
+        let make = || Node::<B>::new(own(), Limits::default()).unwrap();
+        let sends =
+            |it: &mut Node<B>| it.broadcast(Recipients::All, b"abc").map(|sent| sent.outcome);
+        assert!(refuse_each(make, sends) > 1, "the payload, and the library's");
     }
-    impl AsRef<[u8]> for Shared {
-        fn as_ref(&self) -> &[u8] {
-            ABC
-        }
-    }
-    let make = || Node::<Shared>::new(own(), Limits::default()).unwrap();
-    let sends =
-        |it: &mut Node<Shared>| it.broadcast(Recipients::All, b"abc").map(|sent| sent.outcome);
-    assert!(refuse_each(make, sends) > 1, "the payload, and the library's");
+    refuse_broadcasts::<Vec<u8>>();
+    #[cfg(feature = "bytes")]
+    refuse_broadcasts::<bytes::Bytes>();
+}
+
+#[test]
+fn a_refused_message_comes_back() {
+    let mut cache = Cache::new(own(), 10, 1_000).unwrap();
+    cache.update_primary_peers(&[own()]).unwrap();
+    let message = String::from("message");
+    let refused = refusing(0, || cache.take_own(&digest(1), 7, message).map(drop)).0.unwrap_err();
+    assert_eq!((refused.error, &*refused.message), (Error::Memory, "message"));
+    assert_eq!(*cache.take_own(&digest(1), 7, refused.message).unwrap().message, "message");
 }

@@ -1,5 +1,7 @@
 //! A node beside the model: lists of generated events, and two nodes that exchange packets.
 
+#![cfg(any(broadcast_c, feature = "plain"))]
+
 mod common;
 
 use broadcast_node::{
@@ -111,8 +113,8 @@ impl Pair {
         let (own, charge) = (self.model.own, message.len() as u64 + 4);
         let (outcome, served) = self.model.take(&own, &digest, charge, &message);
         assert_eq!((sent.digest, sent.outcome, sent.served), (digest, outcome, &served[..]));
-        assert_eq!(sent.packet.recipients, to);
-        assert_eq!(*sent.packet.payload, encoded(&message));
+        assert_eq!(sent.recipients, to);
+        assert_eq!(**sent.payload(), encoded(&message));
         self.saw(format!("broadcast: {outcome:?}, serves {}", !served.is_empty()));
     }
 
@@ -271,8 +273,8 @@ fn what_one_node_sends_another_takes() -> Result<(), Error> {
         let message = vec![5; len];
         let sent = sender.broadcast(Recipients::One(keys[1]), &message)?;
         assert_eq!(sent.outcome, Outcome::Ineligible);
-        assert_eq!(sent.packet.recipients, Recipients::One(keys[1]));
-        let (digest, payload) = (sent.digest, sent.packet.payload.to_vec());
+        assert_eq!(sent.recipients, Recipients::One(keys[1]));
+        let (digest, payload) = (sent.digest, sent.payload().to_vec());
         let Subscribed::Waiting(ticket) = receiver.subscribe(&digest)? else { panic!("cached") };
         let Received::Taken(taken) = receiver.payload(&keys[0], payload)? else { panic!("not") };
         assert_eq!((taken.outcome, taken.served), (Outcome::Inserted, &[ticket][..]));
@@ -306,7 +308,7 @@ fn a_message_that_is_neither_kept_nor_awaited_is_ignored() -> Result<(), Error> 
     assert!(is_ignored(&node.payload(&key(2), short.clone())?));
     let oversize = node.payload(&key(1), long.clone())?;
     assert!(matches!(oversize, Received::Ignored(Outcome::Oversize)));
-    node.subscribe(&hash(b"short"))?;
+    let _ = node.subscribe(&hash(b"short"))?;
     let Received::Taken(taken) = node.payload(&key(2), short)? else { panic!("somebody waits") };
     assert_eq!((taken.outcome, taken.served.len()), (Outcome::Ineligible, 1));
     assert_eq!((node.other_counters().ineligible, node.counters(&key(1)).oversize), (2, 1));
@@ -333,12 +335,12 @@ fn a_payload_is_shared() -> Result<(), Error> {
     let mut node = broadcast_node::BytesNode::new(key(1), Limits::default())?;
     node.update_primary_peers(&[key(1), key(2)])?;
     let payload = Bytes::from(encoded(b"shared"));
-    node.payload(&key(2), payload.clone())?;
+    let _ = node.payload(&key(2), payload.clone())?;
     let digest = hash(b"shared");
     assert_eq!(node.get_payload(&digest).map(|it| it.as_ptr()), Some(payload.as_ptr()));
     assert_eq!(node.get(&digest).map(<[u8]>::as_ptr), Some(payload[4..].as_ptr()));
     let sent = node.broadcast(Recipients::All, b"own")?;
-    let (digest, payload) = (sent.digest, sent.packet.payload);
+    let (digest, payload) = (sent.digest, sent.payload().clone());
     assert_eq!(node.get_payload(&digest).map(|it| it.as_ptr()), Some(payload.as_ptr()));
     Ok(())
 }

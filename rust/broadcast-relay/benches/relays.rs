@@ -1,11 +1,11 @@
-//! Lines through relays over TLS on loopback, from the input of the first to the output of the last.
+//! Lines through relays over TLS on loopback, as fast as they may, and at a rate. `RELAY_BINARY` names another relay to be measured.
 
 #[path = "../tests/support/mod.rs"]
 mod support;
 
 use std::collections::HashMap;
-use std::io::{Write, stdout};
-use std::thread::sleep;
+use std::fs;
+use std::thread::{sleep, spawn};
 use std::time::{Duration, Instant};
 use support::lab::Lab;
 use support::{Relay, folder, wait_for};
@@ -13,89 +13,127 @@ use support::{Relay, folder, wait_for};
 /// An author may send as fast as it can.
 const LIMITS: &str =
     "[limits]\nauthor_messages_per_second = 1000000\nauthor_bytes_per_second = 1000000000";
-const PATIENCE: Duration = Duration::from_secs(120);
+const SIZE: usize = 1_000;
 
-fn start(count: usize, dials: impl Fn(usize, usize) -> bool) -> Vec<Relay> {
-    let mut relays = Relay::wired(&Lab::loopback(), &folder("bench"), count, &[], LIMITS, &dials);
+#[derive(Clone, Copy)]
+enum Shape {
+    Mesh,
+    Ring,
+    Row,
+}
+
+impl Shape {
+    fn joins(self, count: usize, one: usize, other: usize) -> bool {
+        let apart = one.abs_diff(other);
+        match self {
+            Shape::Mesh => true,
+            Shape::Ring => apart == 1 || apart == count - 1,
+            Shape::Row => apart == 1,
+        }
+    }
+
+    fn name(self) -> &'static str {
+        match self {
+            Shape::Mesh => "mesh",
+            Shape::Ring => "ring",
+            Shape::Row => "row",
+        }
+    }
+}
+
+fn start(shape: Shape, count: usize) -> Vec<Relay> {
+    let joins = |one: usize, other: usize| shape.joins(count, one, other);
+    let mut relays = Relay::wired(&Lab::loopback(), &folder("bench"), count, &[], LIMITS, joins);
     relays.iter_mut().for_each(Relay::start);
-    wait_for("all are connected", PATIENCE, || {
+    wait_for("all are connected", || {
         (0..count).all(|it| {
             (0..count)
-                .all(|to| it == to || !dials(it, to) || relays[it].is_connected(&format!("r{to}")))
+                .all(|to| it == to || !joins(it, to) || relays[it].is_connected(&format!("r{to}")))
         })
     });
     relays
 }
 
-fn chain(count: usize) -> Vec<Relay> {
-    start(count, |from, to| from.abs_diff(to) == 1)
+/// The processor time of all relays in seconds.
+fn processor(relays: &[Relay]) -> f64 {
+    let of = |it: &Relay| {
+        let stat = fs::read_to_string(format!("/proc/{}/stat", it.id())).unwrap_or_default();
+        let fields = stat.rsplit(')').next().unwrap_or_default().split_whitespace();
+        fields.skip(11).take(2).filter_map(|it| it.parse::<f64>().ok()).sum::<f64>() / 100.0
+    };
+    relays.iter().map(of).sum()
 }
 
-fn memory(relays: &[Relay]) -> u64 {
-    relays.iter().map(|it| it.memory("VmHWM") >> 20).max().unwrap_or(0)
+fn at(part: f64, sorted: &[Duration]) -> f64 {
+    sorted.get((sorted.len() as f64 * part) as usize).map_or(0.0, |it| it.as_secs_f64() * 1e3)
 }
 
-/// Lines a second, written as fast as the first relay reads them.
-fn throughput(count: usize, size: usize, lines: usize) {
-    let mut relays = chain(count);
-    let begin = Instant::now();
-    for number in 0..lines {
-        relays[0].write(&format!("{number:08} {}", "x".repeat(size - 9)));
-    }
-    wait_for("all lines", PATIENCE, || relays[count - 1].printed().len() == lines);
-    let took = relays[count - 1].printed().last().map(|it| it.at - begin).unwrap_or_default();
-    let rate = lines as f64 / took.as_secs_f64();
-    println!("{count} in a row, {size} B: {rate:.0} a second, {} MiB", memory(&relays));
-    let _ = stdout().flush();
-}
-
-/// How long lines take at a rate that is far from the most.
-fn latency(count: usize, rate: u32, lines: u32) {
-    let mut relays = chain(count);
-    let (begin, mut sent) = (Instant::now(), HashMap::new());
-    for number in 0..lines {
-        let due = begin + Duration::from_secs(1) * number / rate;
-        sleep(due.saturating_duration_since(Instant::now()));
-        let line = format!("{number} {}", "x".repeat(190));
-        sent.insert(line.clone(), Instant::now());
-        relays[0].write(&line);
-    }
-    wait_for("all lines", PATIENCE, || relays[count - 1].printed().len() == lines as usize);
-    let printed = relays[count - 1].printed();
-    let mut took: Vec<Duration> = printed.iter().map(|it| it.at - sent[&it.text]).collect();
-    took.sort();
-    let at = |part: f64| took[(took.len() as f64 * part) as usize].as_micros();
-    println!("{count} in a row, 200 B, {rate} a second: p50 {} us, p99 {} us", at(0.5), at(0.99));
-    let _ = stdout().flush();
-}
-
-/// Lines a second of all relays of a full mesh together, until each has printed those of all others.
-fn mesh(count: usize, lines: usize) {
-    let mut relays = start(count, |_, _| true);
-    let each = lines / count;
-    let begin = Instant::now();
-    for number in 0..each {
-        for relay in &mut relays {
-            relay.write(&format!("{number:08} {}", "x".repeat(991)));
-        }
-    }
-    let others = each * (count - 1);
-    wait_for("all lines", PATIENCE, || relays.iter().all(|it| it.printed().len() == others));
-    let last = relays.iter().filter_map(|it| it.printed().last().map(|it| it.at)).max();
-    let took = last.map(|it| it - begin).unwrap_or_default().as_secs_f64();
-    let rate = (each * count) as f64 / took;
-    println!("mesh of {count}, 1000 B: {rate:.0} a second to all, {} MiB", memory(&relays));
-    let _ = stdout().flush();
+/// Lets each author write lines, as fast as its relay reads them or at a rate, until all others have printed them.
+fn run(shape: Shape, count: usize, authors: usize, lines: usize, rate: Option<u32>) {
+    let mut relays = start(shape, count);
+    let inputs: Vec<_> = relays[..authors].iter_mut().map(Relay::take_input).collect();
+    let (begin, before) = (Instant::now(), processor(&relays));
+    let writers = inputs.into_iter().enumerate().map(|(author, mut input)| {
+        spawn(move || {
+            let mut written = HashMap::new();
+            for number in 0..lines {
+                if let Some(rate) = rate {
+                    let due = begin + Duration::from_secs(1) * number as u32 / rate;
+                    sleep(due.saturating_duration_since(Instant::now()));
+                }
+                let head = format!("{author}-{number}");
+                let filler = "x".repeat(if rate.is_some() { 190 } else { SIZE - 10 });
+                std::io::Write::write_all(&mut input, format!("{head} {filler}\n").as_bytes())
+                    .unwrap();
+                written.insert(head, Instant::now());
+            }
+            (written, input)
+        })
+    });
+    let writers: Vec<_> = writers.collect();
+    let expected = |number: usize| lines * (authors - usize::from(number < authors));
+    wait_for("all lines", || (0..count).all(|it| relays[it].printed_count() == expected(it)));
+    let spent = processor(&relays) - before;
+    let written: HashMap<String, Instant> =
+        writers.into_iter().flat_map(|it| it.join().unwrap().0).collect();
+    let printed: Vec<_> = relays.iter().flat_map(Relay::printed).collect();
+    let last = printed.iter().map(|it| it.at).max().unwrap_or(begin);
+    let age = |it: &support::Printed| {
+        let head = it.text.split(' ').next().unwrap_or_default();
+        it.at.saturating_duration_since(written[head])
+    };
+    let mut ages: Vec<Duration> = printed.iter().map(age).collect();
+    ages.sort();
+    let again: f64 = relays
+        .iter()
+        .flat_map(|it| {
+            (0..count).map(|to| it.metric(&format!("relay_again_total{{peer=\"r{to}\"}}")))
+        })
+        .sum();
+    let memory = relays.iter().map(|it| it.memory("VmHWM") >> 20).max().unwrap_or(0);
+    println!(
+        "| {} of {count}, {authors} type{} | {:.0} | {:.0} | {:.1} | {:.0} | {:.0} | {again} | {memory} |",
+        shape.name(),
+        rate.map(|it| format!(" {it} a second")).unwrap_or_default(),
+        (lines * authors) as f64 / (last - begin).as_secs_f64(),
+        printed.len() as f64 / (last - begin).as_secs_f64(),
+        spent * 1e6 / printed.len() as f64,
+        at(0.5, &ages),
+        at(0.99, &ages),
+    );
 }
 
 fn main() {
-    for count in [2, 3] {
-        for (size, lines) in [(200, 40_000), (1_000, 30_000), (10_000, 4_000)] {
-            throughput(count, size, lines);
-        }
-        latency(count, 500, 2_000);
+    println!(
+        "| | lines a second | deliveries a second | µs of processor a delivery | p50, ms | p99, ms | came again | MiB |"
+    );
+    println!("|---|---|---|---|---|---|---|---|");
+    for (count, lines) in [(2, 15_000), (4, 4_000), (8, 1_000), (16, 200)] {
+        run(Shape::Mesh, count, count, lines, None);
     }
-    for (count, lines) in [(2, 20_000), (4, 12_000), (8, 6_000), (16, 3_200)] {
-        mesh(count, lines);
-    }
+    run(Shape::Ring, 8, 8, 1_000, None);
+    run(Shape::Row, 3, 1, 20_000, None);
+    run(Shape::Row, 6, 1, 15_000, None);
+    run(Shape::Mesh, 8, 8, 500, Some(50));
+    run(Shape::Row, 3, 1, 2_000, Some(500));
 }

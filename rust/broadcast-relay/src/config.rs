@@ -2,6 +2,8 @@
 
 use crate::identity::{PeerId, from_hex, to_hex};
 use crate::message::MAX_MESSAGE;
+use crate::output::MAX_WAITING;
+use broadcast_relay::gossip::{Bounds, OVERHEAD};
 use serde::{Deserialize, Deserializer, de::Error};
 use std::fs;
 use std::io;
@@ -46,20 +48,12 @@ pub struct PeerConfig {
 #[derive(Clone, Debug, Deserialize, PartialEq)]
 #[serde(deny_unknown_fields, default)]
 pub struct Limits {
-    /// The most messages, and the most bytes of them, that are kept of each author.
-    pub messages_per_peer: usize,
+    /// The most bytes of messages that are kept of each author, each with 128 bytes of overhead.
     pub bytes_per_peer: u64,
-    /// The most bytes that wait to be sent to each peer.
-    pub queue_bytes: usize,
     /// How fast the messages of an author are taken.
     pub author_messages_per_second: u32,
     pub author_bytes_per_second: u64,
     pub author_signatures_per_second: u32,
-    /// How fast an author still sends if some peer does not follow.
-    pub least_rate: u32,
-    /// How old, and how far in the future, the stamp of a message may be.
-    pub oldest_seconds: u64,
-    pub future_seconds: u64,
     /// The most connections that have proved no key, in all and of one address.
     pub handshakes: usize,
     pub handshakes_per_address: usize,
@@ -68,18 +62,36 @@ pub struct Limits {
 impl Default for Limits {
     fn default() -> Limits {
         Limits {
-            messages_per_peer: 1_024,
-            bytes_per_peer: 16 << 20,
-            queue_bytes: 4 << 20,
+            bytes_per_peer: 4 << 20,
             author_messages_per_second: 10_000,
             author_bytes_per_second: 8 << 20,
             author_signatures_per_second: 1_000,
-            least_rate: 100,
-            oldest_seconds: 86_400,
-            future_seconds: 60,
             handshakes: 512,
             handshakes_per_address: 64,
         }
+    }
+}
+
+impl Limits {
+    /// The bounds of the protocol that follow from these limits.
+    pub fn bounds(&self) -> Bounds {
+        let (list, rate) = (self.bytes_per_peer, self.author_bytes_per_second);
+        let burst = (rate / 8).max(512 << 10);
+        Bounds {
+            list,
+            behind: list / 2,
+            room: (256 << 10).min(burst / 8).min(list / 16),
+            largest: MAX_MESSAGE as u64 + OVERHEAD,
+            rate,
+            burst,
+            least: rate / u64::from(self.author_messages_per_second),
+            ..Bounds::default()
+        }
+    }
+
+    /// What a signature that is checked counts, in bytes.
+    pub fn signature_cost(&self) -> u64 {
+        self.author_bytes_per_second / u64::from(self.author_signatures_per_second)
     }
 }
 
@@ -118,19 +130,14 @@ impl Config {
             if peer.address.as_ref().is_some_and(|it| !it.contains(':')) {
                 return Err(format!("the address of {} has no port", peer.name));
             }
-            if peer.name.is_empty() || peer.name.contains(char::is_whitespace) {
-                return Err(format!("{:?} is no name: it has spaces or nothing", peer.name));
-            }
+            check_name(&peer.name)?;
         }
         let limits = &self.limits;
         let needed = [
-            ("messages_per_peer", limits.messages_per_peer as u64, 1),
             ("bytes_per_peer", limits.bytes_per_peer, 1 << 20),
-            ("queue_bytes", limits.queue_bytes as u64, 1 << 20),
             ("author_messages_per_second", limits.author_messages_per_second.into(), 1),
             ("author_bytes_per_second", limits.author_bytes_per_second, MAX_MESSAGE as u64),
             ("author_signatures_per_second", limits.author_signatures_per_second.into(), 1),
-            ("least_rate", limits.least_rate.into(), 1),
             ("handshakes_per_address", limits.handshakes_per_address as u64, 1),
             ("handshakes", limits.handshakes as u64, limits.handshakes_per_address as u64),
         ];
@@ -142,15 +149,15 @@ impl Config {
 
     /// A bound on the resident memory, in bytes, for as long as no peer is added.
     ///
-    /// An engine keeps at most twice what is cached. An author has lines that wait for the output, and stamps; a peer a queue, a
-    /// frame that is read, what TLS keeps, and announcements that wait.
+    /// Of each author there are a list, and lines that wait for the output; of each peer what is read and written at once, what TLS keeps,
+    /// and what is known of it for each author. A start reads one file of a journal at a time.
     pub fn memory_bound(&self) -> u64 {
         let (peers, limits) = (self.peers.len() as u64, &self.limits);
-        let author =
-            2 * (limits.bytes_per_peer + 512 * limits.messages_per_peer as u64) + (4 << 20);
-        let peer = limits.queue_bytes as u64 + (4 << 20);
+        let author = 2 * limits.bytes_per_peer + 2 * MAX_WAITING as u64;
+        let view = 4_096 + 16 * limits.bounds().room / OVERHEAD;
+        let peer = (1 << 20) + (peers + 1) * view;
         let handshakes = limits.handshakes as u64 * (96 << 10);
-        (48 << 20) + (peers + 1) * author + peers * peer + handshakes
+        (48 << 20) + (peers + 1) * author + 3 * limits.bytes_per_peer + peers * peer + handshakes
     }
 
     /// How many descriptors are open at most.
@@ -164,6 +171,15 @@ impl Config {
     pub fn entry(&self, id: &PeerId, name: &str) -> String {
         let address = self.advertise.clone().unwrap_or_else(|| self.listen.to_string());
         format!("[[peer]]\nname = \"{name}\"\nkey = \"{}\"\naddress = \"{address}\"\n", to_hex(id))
+    }
+}
+
+/// A name is a word of its own in a line of output and in a configuration.
+pub fn check_name(name: &str) -> Result<(), String> {
+    let is_word = |it: char| !it.is_whitespace() && !it.is_control() && it != '"' && it != '\\';
+    match !name.is_empty() && name != "own" && name.chars().all(is_word) {
+        true => Ok(()),
+        false => Err(format!("{name:?} is no name: it is empty, `own`, or has spaces or quotes")),
     }
 }
 

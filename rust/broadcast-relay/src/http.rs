@@ -5,39 +5,47 @@ use hyper::server::conn::Http;
 use hyper::service::service_fn;
 use hyper::{Body, Method, Request, Response, StatusCode};
 use prometheus::TextEncoder;
+use std::collections::VecDeque;
 use std::convert::Infallible;
 use std::sync::Arc;
 use std::time::Duration;
 use tokio::net::TcpListener;
-use tokio::sync::Semaphore;
+use tokio::task::JoinHandle;
 use tokio::time::{sleep, timeout};
 
 /// How many are served at once, and for how long at most.
 const PLACES: usize = 16;
 const PATIENCE: Duration = Duration::from_secs(5);
 
+/// Serves whoever connects. Where all places are taken the oldest connection leaves.
 pub async fn serve(hub: Arc<Hub>, listener: TcpListener) {
-    let places = Arc::new(Semaphore::new(PLACES));
-    while let Ok(place) = places.clone().acquire_owned().await {
+    let mut served: VecDeque<JoinHandle<()>> = VecDeque::new();
+    loop {
         let Ok((stream, _)) = listener.accept().await else {
             sleep(Duration::from_millis(100)).await;
             continue;
         };
+        served.retain(|it| !it.is_finished());
+        if served.len() >= PLACES
+            && let Some(oldest) = served.pop_front()
+        {
+            oldest.abort();
+        }
         let hub = hub.clone();
-        tokio::spawn(async move {
+        served.push_back(tokio::spawn(async move {
             let answers = service_fn(|request| {
                 let response = answer(&hub, &request);
                 async { Ok::<_, Infallible>(response) }
             });
             let _ = timeout(PATIENCE, Http::new().serve_connection(stream, answers)).await;
-            drop(place);
-        });
+        }));
     }
 }
 
 fn answer(hub: &Hub, request: &Request<Body>) -> Response<Body> {
     let (status, body) = match (request.method(), request.uri().path()) {
         (&Method::GET, "/metrics") => {
+            hub.measure();
             let families = hub.metrics.registry.gather();
             (StatusCode::OK, TextEncoder::new().encode_to_string(&families).unwrap_or_default())
         }

@@ -1,127 +1,153 @@
-//! What all connections of a relay share: the peers, the authors, and the engine's mailbox.
+//! What all connections of a relay share: the peers, the authors, and the protocol.
 
-use crate::author::{Author, now};
+use crate::author::{Author, clock};
 use crate::config::{Config, Limits};
 use crate::identity::{Identity, PeerId, to_hex};
+use crate::journal;
 use crate::lock;
 use crate::message::Signed;
 use crate::metrics::Metrics;
 use crate::output::Output;
 use crate::peer::{Peer, Refused, Session};
-use crate::rate::Cost;
 use crate::tls::Listed;
-use crate::wire::{Frame, Have, PAGE};
-use broadcast_engine::{Digested, Mailbox, Message, Recipients, Sender};
-use bytes::Bytes;
-use std::collections::{HashMap, HashSet};
-use std::io;
+use crate::wire;
+use broadcast_relay::gossip::{Frame, Machine, Message, NEVER, Past, Report, Taken, Time};
+use std::collections::HashMap;
+use std::io::{self, ErrorKind};
 use std::path::PathBuf;
-use std::sync::{Arc, Mutex};
-use std::time::Duration;
-use tokio::sync::mpsc;
-use tracing::{debug, error, info, warn};
+use std::sync::{Arc, Mutex, MutexGuard};
+use std::time::{Duration, Instant};
+use tokio::sync::Notify;
+use tokio::time::{sleep_until, timeout};
+use tracing::{debug, info, warn};
+
+/// How often it is looked at least whether more may be published.
+const LOOK: Duration = Duration::from_secs(1);
 
 pub struct Hub {
     pub identity: Identity,
-    pub mailbox: Mailbox<PeerId, Signed>,
     pub metrics: Metrics,
     pub listed: Listed,
-    own: Arc<Author>,
-    own_stamp: Mutex<u64>,
+    own: Arc<Peer>,
     peers: Mutex<HashMap<PeerId, Arc<Peer>>>,
+    gossip: Mutex<Gossip>,
+    start: Instant,
+    /// Notified when more may be published, and when the protocol is to be told the time earlier.
+    opened: Notify,
+    timer: Notify,
     limits: Limits,
     journal: Option<PathBuf>,
     output: Option<Output>,
-    engine: mpsc::Sender<(PeerId, Bytes)>,
-    /// The keys of all authors, for the engine.
-    authors: mpsc::UnboundedSender<Vec<PeerId>>,
 }
 
-/// The ends of the engine that a hub has.
-pub struct Ends {
-    pub mailbox: Mailbox<PeerId, Signed>,
-    pub messages: mpsc::Sender<(PeerId, Bytes)>,
-    pub authors: mpsc::UnboundedSender<Vec<PeerId>>,
+/// The protocol, and what its numbers mean.
+struct Gossip {
+    machine: Machine,
+    nodes: HashMap<PeerId, usize>,
+    ids: Vec<PeerId>,
+    /// To be notified when there is something for a peer.
+    due: Vec<Arc<Notify>>,
+    /// When the timer goes off.
+    timer: Time,
+}
+
+/// A message as the protocol has it.
+fn item(author: usize, message: &Signed) -> Message {
+    let (stamp, prev, bytes) = (message.stamp, message.prev, message.bytes().clone());
+    Message { author, stamp, prev, bytes }
+}
+
+impl Gossip {
+    /// Lists an author, with what its journal had.
+    fn list(&mut self, now: Time, id: PeerId, past: journal::Past) -> usize {
+        let node = self.nodes.get(&id).copied().unwrap_or(self.ids.len());
+        let messages = past.messages.iter().map(|it| item(node, it)).collect();
+        let past = Past { covered: past.covered, messages };
+        if node < self.ids.len() {
+            self.machine.restore(now, node, past);
+        } else {
+            self.machine.add(now, past);
+            self.nodes.insert(id, node);
+            self.ids.push(id);
+            self.due.push(Arc::default());
+        }
+        node
+    }
 }
 
 impl Hub {
-    /// Creates a hub without peers. Returns besides the own messages of the journal that are to be on the list.
-    pub fn new(
-        identity: Identity,
-        config: &Config,
-        ends: Ends,
-        metrics: Metrics,
-    ) -> io::Result<(Hub, Vec<Signed>)> {
+    /// Creates a hub with the peers of a configuration.
+    pub fn new(identity: Identity, config: &Config, metrics: Metrics) -> io::Result<Hub> {
         let (limits, journal) = (config.limits.clone(), config.journal.clone());
-        let (own, past) = Author::new(identity.id, "own", &limits, journal.as_deref())?;
-        let hub = Hub {
+        let (own, past) = Author::new(identity.id, &limits, journal.as_deref())?;
+        let machine = Machine::new(limits.bounds(), 0, rand::random());
+        let (nodes, ids, due) = (HashMap::new(), Vec::new(), Vec::new());
+        let mut gossip = Gossip { machine, nodes, ids, due, timer: NEVER };
+        let node = gossip.list(0, identity.id, past);
+        Ok(Hub {
+            own: Arc::new(Peer::new(Arc::new(own), "own".into(), None, node)),
             identity,
-            mailbox: ends.mailbox,
             metrics,
             listed: Listed::default(),
-            own_stamp: Mutex::new(own.newest()),
-            own: Arc::new(own),
             peers: Mutex::default(),
+            gossip: Mutex::new(gossip),
+            start: Instant::now(),
+            opened: Notify::new(),
+            timer: Notify::new(),
             limits,
             journal,
             output: config.output.then(Output::start).transpose()?,
-            engine: ends.messages,
-            authors: ends.authors,
-        };
-        Ok((hub, past))
+        })
     }
 
-    /// Makes the peers those of a configuration. Returns those that are new or have moved, and the messages of the journals
-    /// of the new ones that are to be on their lists.
-    pub fn set_peers(&self, config: &Config) -> io::Result<(Vec<Arc<Peer>>, Vec<Signed>)> {
+    /// Makes the peers those of a configuration. Returns those that are new or have moved. After an error nothing has changed.
+    pub fn set_peers(&self, config: &Config) -> io::Result<Vec<Arc<Peer>>> {
         if config.peers.iter().any(|it| it.key == self.identity.id) {
             return Err(io::Error::other("the own key is among the peers"));
         }
-        let mut peers = lock(&self.peers);
-        let (mut next, mut fresh, mut past) = (HashMap::new(), Vec::new(), Vec::new());
+        let known = lock(&self.peers).clone();
+        let mut opened = HashMap::new();
+        for it in config.peers.iter().filter(|it| !known.contains_key(&it.key)) {
+            opened.insert(it.key, Author::new(it.key, &self.limits, self.journal.as_deref())?);
+        }
+        let (mut next, mut fresh) = (HashMap::new(), Vec::new());
         for it in &config.peers {
-            let peer = match peers.get(&it.key) {
-                Some(old) if old.address == it.address => old.clone(),
-                Some(old) => Arc::new(old.moved(it.address.clone())),
-                None => {
-                    let journal = self.journal.as_deref();
-                    let (author, old) = Author::new(it.key, &it.name, &self.limits, journal)?;
-                    past.extend(old);
-                    Arc::new(Peer::new(Arc::new(author), it.address.clone(), &self.limits))
+            let (name, address) = (it.name.clone(), it.address.clone());
+            let peer = match (known.get(&it.key), opened.remove(&it.key)) {
+                (Some(old), _) if (&old.name, &old.address) == (&name, &address) => old.clone(),
+                (Some(old), _) => Arc::new(old.moved(name, address)),
+                (None, Some((author, past))) => {
+                    let node = self.act(|gossip, now| gossip.list(now, it.key, past));
+                    Arc::new(Peer::new(Arc::new(author), name, address, node))
                 }
+                (None, None) => continue,
             };
-            if peers.get(&it.key).is_none_or(|old| !Arc::ptr_eq(old, &peer)) {
+            if known.get(&it.key).is_none_or(|old| !Arc::ptr_eq(old, &peer)) {
+                self.metrics.add_peer(&peer.name);
                 fresh.push(peer.clone());
             }
             next.insert(it.key, peer);
         }
-        for gone in peers.values().filter(|it| !next.contains_key(&it.id)) {
+        self.listed.set(next.keys().copied().collect());
+        *lock(&self.peers) = next.clone();
+        for gone in known.values().filter(|it| !next.contains_key(&it.id)) {
             info!(peer = gone.name, "removed");
             gone.session().iter().for_each(|it| it.end());
+            self.act(|gossip, now| gossip.machine.remove(now, gone.node));
         }
-        self.listed.set(next.keys().copied().collect::<HashSet<_>>());
-        let _ = self.authors.send(next.keys().copied().chain([self.identity.id]).collect());
-        *peers = next;
-        Ok((fresh, past))
+        Ok(fresh)
     }
 
     pub fn peer(&self, id: &PeerId) -> Option<Arc<Peer>> {
         lock(&self.peers).get(id).cloned()
     }
 
-    pub fn author(&self, id: &PeerId) -> Option<Arc<Author>> {
-        match *id == self.identity.id {
-            true => Some(self.own.clone()),
-            false => self.peer(id).map(|it| it.author.clone()),
-        }
+    fn author(&self, id: &PeerId) -> Option<Arc<Peer>> {
+        if *id == self.identity.id { Some(self.own.clone()) } else { self.peer(id) }
     }
 
     pub fn sessions(&self) -> Vec<Arc<Session>> {
         lock(&self.peers).values().filter_map(|it| it.session()).collect()
-    }
-
-    pub fn is_connected(&self, id: &PeerId) -> bool {
-        self.peer(id).is_some_and(|it| it.session().is_some())
     }
 
     /// Whether all that was delivered has been printed.
@@ -129,11 +155,70 @@ impl Hub {
         self.output.as_ref().is_none_or(Output::is_empty)
     }
 
-    pub fn attach(&self, id: &PeerId, is_dialed: bool) -> Option<Arc<Session>> {
-        match self.peer(id)?.attach(&self.identity.id, is_dialed) {
+    fn now(&self) -> Time {
+        self.start.elapsed().as_micros() as Time
+    }
+
+    /// Does something with the protocol, and wakes whoever has something to do then.
+    fn act<T>(&self, act: impl FnOnce(&mut Gossip, Time) -> T) -> T {
+        let mut gossip = lock(&self.gossip);
+        let done = act(&mut gossip, self.now());
+        self.settle(gossip);
+        done
+    }
+
+    fn settle(&self, mut gossip: MutexGuard<'_, Gossip>) {
+        for peer in gossip.machine.take_woken() {
+            gossip.due[peer].notify_one();
+        }
+        if gossip.machine.may_publish() {
+            self.opened.notify_one();
+        }
+        if gossip.machine.next_time() < gossip.timer {
+            self.timer.notify_one();
+        }
+    }
+
+    /// Tells the protocol the time whenever it is due, for ever.
+    pub async fn keep_time(&self) {
+        loop {
+            let next = {
+                let mut gossip = lock(&self.gossip);
+                gossip.timer = gossip.machine.next_time();
+                gossip.timer
+            };
+            // Never farther than that, so the sum is a time.
+            let next = self.start + Duration::from_micros(next.min(self.now() + 1_000_000));
+            tokio::select! {
+                () = sleep_until(next.into()) => {
+                    self.act(|gossip, now| gossip.machine.timeout(now));
+                }
+                () = self.timer.notified() => {}
+            }
+        }
+    }
+
+    pub fn attach(
+        &self,
+        id: &PeerId,
+        is_dialed: bool,
+        round_trip: Duration,
+    ) -> Option<Arc<Session>> {
+        let peer = self.peer(id)?;
+        let round_trip = round_trip.as_micros() as Time;
+        let attached = peer.attach(&self.identity.id, is_dialed, |session| {
+            self.act(|gossip, now| {
+                gossip.due[session.node] = session.due.clone();
+                gossip.machine.disconnect(now, session.node);
+                gossip.machine.connect(now, session.node, round_trip);
+            });
+        });
+        match attached {
             Ok(session) => {
                 self.metrics.connected.with_label_values(&[&session.name]).set(1);
-                info!(peer = session.name, is_dialed, "connected");
+                if peer.is_logged() {
+                    info!(peer = session.name, is_dialed, "connected");
+                }
                 Some(session)
             }
             Err(Refused::Banned) => {
@@ -145,178 +230,161 @@ impl Hub {
     }
 
     /// Gives up the place of a connection. A peer that broke the rules is refused for a while.
-    pub fn detach(&self, session: &Arc<Session>, broke_rules: bool, why: &str) {
-        let peer = self.peer(&session.peer);
-        if broke_rules {
-            self.metrics.invalid.with_label_values(&[&session.name]).inc();
-            let ban = peer.as_ref().map(|it| it.ban());
-            warn!(peer = session.name, why, ?ban, "broke the rules");
-        }
-        if peer.is_none_or(|it| it.detach(session)) {
+    pub fn detach(&self, session: &Arc<Session>, why: &io::Error) {
+        let Some(peer) = self.peer(&session.peer) else {
             self.metrics.connected.with_label_values(&[&session.name]).set(0);
-            info!(peer = session.name, why, "away");
+            return;
+        };
+        if why.kind() == ErrorKind::InvalidData {
+            self.metrics.invalid.with_label_values(&[&session.name]).inc();
+            let ban = peer.ban();
+            warn!(peer = session.name, %why, ?ban, "broke the rules");
         }
-    }
-
-    /// Waits until all peers but one are not too far behind an author, or have no more claim to be waited for.
-    pub async fn follow(&self, author: &PeerId, but: Option<&PeerId>) {
-        for session in self.sessions().iter().filter(|it| Some(&it.peer) != but) {
-            if !session.window.open(author).await {
-                self.metrics.not_followed.with_label_values(&[&session.name]).inc();
+        let had_place = peer.detach(session, || {
+            self.act(|gossip, now| gossip.machine.disconnect(now, session.node));
+        });
+        if had_place {
+            self.metrics.connected.with_label_values(&[&session.name]).set(0);
+            if peer.is_logged() {
+                info!(peer = session.name, %why, "away");
             }
         }
     }
 
-    /// Waits until more may be published: for peers that read slowly, but not for ever, and for the own rate.
-    pub async fn may_publish(&self) {
-        self.follow(&self.identity.id, None).await;
-        self.own.ready().await;
-    }
-
-    /// Signs texts as one batch, and journals and broadcasts them. If it is dropped while it waits, all is broadcast already.
-    pub async fn publish(&self, texts: Vec<Vec<u8>>) -> io::Result<()> {
-        let texts: Vec<(u64, Vec<u8>)> =
-            texts.into_iter().map(|text| (self.draw_stamp(), text)).collect();
-        let mut last = None;
-        for message in Signed::batch(&self.identity, &texts)? {
-            self.own.spend(Cost { messages: 1, bytes: message.len(), signatures: 0 });
-            self.remember(&self.own, &message);
-            self.metrics.published.inc();
-            let message = Digested::new(message);
-            last = Some(message.digest());
-            let _ = self.mailbox.broadcast(Recipients::All, message);
+    /// Adds to what is written to a peer, up to some bytes.
+    pub fn fill(&self, session: &Session, most: usize, out: &mut Vec<u8>) {
+        let (mut frames, mut len) = (Vec::new(), 0);
+        {
+            let mut gossip = lock(&self.gossip);
+            let now = self.now();
+            while len < most
+                && !session.is_over()
+                && let Some(frame) = gossip.machine.frame(now, session.node)
+            {
+                let frame = gossip.encoded(frame);
+                len += if let wire::Frame::Message(bytes) = &frame { bytes.len() } else { 320 };
+                frames.push(frame);
+            }
         }
-        if let Some(digest) = last {
-            self.sent(digest).await;
-        }
-        Ok(())
+        frames.iter().for_each(|it| it.encode(out));
     }
 
-    /// Waits until what was broadcast is queued for the peers: the engine takes its requests in turn, this get too.
-    pub async fn sent(&self, digest: [u8; 32]) {
-        self.mailbox.get(digest).await;
+    /// Whether a peer lacks own messages, as far as it has said.
+    pub fn owes(&self, session: &Session) -> bool {
+        lock(&self.gossip).machine.lacks_own(session.node)
     }
 
-    fn draw_stamp(&self) -> u64 {
-        let mut stamp = lock(&self.own_stamp);
-        *stamp = next_stamp(*stamp, now());
-        *stamp
-    }
-
-    /// Marks a message as seen, and journals it. Returns whether it is new.
-    fn remember(&self, author: &Author, message: &Signed) -> bool {
-        author.remember(message).unwrap_or_else(|why| {
-            // Without the journal a message would be lost, or come twice after the next start.
-            error!(%why, author = author.name, "the journal failed");
-            std::process::exit(1)
+    /// Takes a peer's report of an author.
+    pub fn hear(&self, session: &Session, report: wire::Report) -> io::Result<()> {
+        self.act(|gossip, now| {
+            let Some(&author) = gossip.nodes.get(&report.author) else { return Ok(()) };
+            if session.is_over() {
+                return Ok(());
+            }
+            let wire::Report { coverage, since, room, is_held, .. } = report;
+            let report = Report { author, coverage, since, room, is_held };
+            gossip.machine.report(now, session.node, report).map_err(invalid)
         })
     }
 
-    /// Hands a message whose signature was checked to the engine, prints it and tells the other peers of it, if it is new.
-    pub async fn deliver(&self, from: &PeerId, author: &Author, message: Signed) {
-        // One waits here for all messages of one connection, so connections are served in turn. If the connection ends
-        // meanwhile, the message is as if it had not come; nothing waits after this.
-        let _ = self.engine.send((message.author, message.bytes().clone())).await;
-        if !self.remember(author, &message) {
-            return;
+    /// Takes a message: checks the signature, journals it and prints it, if it is new. Returns how long the connection rests then, which
+    /// is long only for a peer that sends more than it has room for.
+    pub fn take(&self, session: &Session, message: Signed) -> io::Result<Duration> {
+        let unlisted = || self.metrics.unlisted.with_label_values(&[&session.name]).inc();
+        let Some(author) = self.author(&message.author) else {
+            unlisted();
+            return Ok(Duration::ZERO);
+        };
+        let node = author.node;
+        let wants = || lock(&self.gossip).machine.wants(node, message.stamp);
+        let mut cost = 0;
+        if wants() {
+            let (is_signed, is_checked) = author.author.has_signed(&message);
+            if !is_signed {
+                return Err(invalid("a wrong signature"));
+            }
+            cost = if is_checked { self.limits.signature_cost() } else { 0 };
         }
+        let (taken, rest) = {
+            let mut journal = author.author.journal();
+            // An own message that comes back is not journaled: the journal has those after which the next one comes.
+            if wants() && node != self.own.node {
+                journal.append(std::slice::from_ref(&message))?;
+            }
+            self.act(|gossip, now| {
+                // What came over a connection that is replaced counts against none.
+                if session.is_over() && !gossip.machine.wants(node, message.stamp) {
+                    return Ok((Taken::Again, 0));
+                }
+                gossip.machine.charge(now, node, cost);
+                let taken = gossip.machine.message(now, session.node, item(node, &message));
+                taken.map(|it| (it, gossip.machine.ready(now, node) - now))
+            })
+            .map_err(invalid)?
+        };
+        match taken {
+            Taken::New if node != self.own.node => self.deliver(&author, &message),
+            Taken::New => {}
+            Taken::Again => self.metrics.again.with_label_values(&[&session.name]).inc(),
+            Taken::Unlisted => unlisted(),
+        }
+        Ok(Duration::from_micros(rest))
+    }
+
+    fn deliver(&self, author: &Peer, message: &Signed) {
         self.metrics.delivered.with_label_values(&[&author.name]).inc();
         if let Some(output) = &self.output
-            && !output.print(&author.name, &message)
+            && !output.print(&author.name, message)
         {
             self.metrics.output_dropped.inc();
         }
-        let frame = Frame::Have(vec![have(&message)]).encode();
-        for session in self.sessions() {
-            let lacks = session.peer != *from && session.peer != message.author;
-            if lacks && session.send(self, frame.clone()) {
-                session.window.announce(message.author, message.len());
-            }
+    }
+
+    /// Waits until more may be published: until no peer that is waited for is too far behind.
+    pub async fn may_publish(&self) {
+        while !lock(&self.gossip).machine.may_publish() {
+            let _ = timeout(LOOK, self.opened.notified()).await;
         }
     }
 
-    /// Hands messages of the journals to the engine.
-    pub async fn replay(&self, past: Vec<Signed>) {
-        for message in past {
-            let _ = self.engine.send((message.author, message.bytes().clone())).await;
-        }
+    /// Signs texts as one batch, journals and publishes them. After an error nothing is published.
+    pub fn publish(&self, texts: &[Vec<u8>]) -> io::Result<()> {
+        let mut journal = self.own.author.journal();
+        let next = lock(&self.gossip).machine.next_own(clock().as_nanos() as u64);
+        let messages = Signed::batch(&self.identity, next, texts)?;
+        journal.append(&messages)?;
+        self.metrics.published.inc_by(messages.len() as u64);
+        self.act(|gossip, now| {
+            for it in &messages {
+                gossip.machine.publish(now, it.prev, it.stamp, it.bytes().clone());
+            }
+        });
+        Ok(())
     }
 
-    /// Tells a peer what is on the lists, a page of each author in turn.
-    pub async fn tell_lists(&self, session: &Session) {
-        session.window.reset();
-        let authors: Vec<PeerId> =
-            lock(&self.peers).keys().copied().chain([self.identity.id]).collect();
-        let mut lists = Vec::new();
-        for author in authors.iter().filter(|it| **it != session.peer) {
-            // Oldest first, so it goes on arriving in order.
-            lists.push(
-                self.mailbox
-                    .list(*author)
-                    .await
-                    .iter()
-                    .rev()
-                    .map(|it| have(it))
-                    .collect::<Vec<_>>(),
-            );
-        }
-        for page in 0.. {
-            let pages: Vec<_> = lists.iter().filter_map(|it| it.chunks(PAGE).nth(page)).collect();
-            if pages.is_empty() {
-                break;
-            }
-            for page in pages {
-                session.queue.room().await;
-                session.send(self, Frame::Old(page.to_vec()).encode());
-            }
+    /// Sets the metrics that say what is so now.
+    pub fn measure(&self) {
+        let peers: Vec<Arc<Peer>> = lock(&self.peers).values().cloned().collect();
+        let gossip = lock(&self.gossip);
+        for peer in peers.iter().chain([&self.own]) {
+            let is_held = gossip.machine.is_held(peer.node);
+            self.metrics.held.with_label_values(&[&peer.name]).set(is_held.into());
         }
     }
 }
 
-/// The time, or one more than the last stamp if the clock stands still or was set back.
-fn next_stamp(last: u64, now: Duration) -> u64 {
-    (now.as_nanos() as u64).max(last.saturating_add(1))
-}
-
-fn have(message: &Signed) -> Have {
-    let len = message.len() as u32;
-    Have { author: message.author, stamp: message.stamp, digest: message.digest(), len }
-}
-
-/// The engine's way to the peers.
-pub struct ToPeers(pub Arc<Hub>);
-
-impl Sender for ToPeers {
-    type PublicKey = PeerId;
-
-    fn send(&mut self, recipients: Recipients<PeerId>, message: Bytes, _priority: bool) {
-        let len = message.len();
-        let frame = Frame::Message(message).encode();
-        for session in self.0.sessions() {
-            let is_meant = match &recipients {
-                Recipients::All => true,
-                Recipients::Some(peers) => peers.contains(&session.peer),
-                Recipients::One(peer) => *peer == session.peer,
-            };
-            if is_meant && session.send(&self.0, frame.clone()) {
-                session.window.announce(self.0.identity.id, len);
+impl Gossip {
+    fn encoded(&self, frame: Frame) -> wire::Frame {
+        match frame {
+            Frame::Message(message) => wire::Frame::Message(message.bytes),
+            Frame::Report(Report { author, coverage, since, room, is_held }) => {
+                let author = self.ids[author];
+                wire::Frame::Report(wire::Report { author, coverage, since, room, is_held })
             }
         }
     }
 }
 
-#[cfg(test)]
-mod tests {
-    use super::*;
-
-    #[test]
-    fn each_stamp_is_new_whatever_the_clock_does() {
-        let at = Duration::from_nanos;
-        let mut last = next_stamp(0, at(1_000));
-        assert_eq!(last, 1_000);
-        for (now, expected) in [(1_000, 1_001), (1_001, 1_002), (7, 1_003), (2_000, 2_000)] {
-            last = next_stamp(last, at(now));
-            assert_eq!(last, expected);
-        }
-    }
+fn invalid(why: impl ToString) -> io::Error {
+    io::Error::new(ErrorKind::InvalidData, why.to_string())
 }

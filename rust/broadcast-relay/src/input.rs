@@ -3,12 +3,12 @@
 use crate::batch::MAX_BATCH;
 use crate::hub::Hub;
 use crate::message::MAX_TEXT;
-use std::io::{self, BufRead, Read};
+use std::io::{self, BufRead, ErrorKind, Read};
 use std::thread;
 use std::time::Duration;
 use tokio::sync::mpsc::{self, Receiver, error::TryRecvError};
-use tokio::time::{Instant, sleep_until};
-use tracing::{info, warn};
+use tokio::time::{Instant, sleep, sleep_until};
+use tracing::{error, info};
 
 /// How many lines wait. Whoever writes more has to wait too.
 const WAITING: usize = 64;
@@ -16,19 +16,29 @@ const WAITING: usize = 64;
 /// signed together.
 const MAX_BYTES: usize = 256 << 10;
 const PACE: Duration = Duration::from_millis(2);
+/// How long an input without a line rests that does not block, and how long lines that were not broadcast.
+const REST: Duration = Duration::from_millis(10);
+const RETRY: Duration = Duration::from_secs(1);
 
 /// Starts to read lines in a thread of its own.
 pub fn start() -> io::Result<Receiver<Vec<u8>>> {
     let (sender, lines) = mpsc::channel(WAITING);
     thread::Builder::new().name("input".into()).spawn(move || {
-        let mut input = io::stdin().lock();
+        let (mut input, mut line) = (io::stdin().lock(), Vec::new());
         loop {
-            let mut line = Vec::new();
             // A longer line is cut into several.
-            match input.by_ref().take(MAX_TEXT as u64).read_until(b'\n', &mut line) {
-                Ok(0) | Err(_) => return,
+            let room = MAX_TEXT - line.len();
+            match input.by_ref().take(room as u64).read_until(b'\n', &mut line) {
+                Ok(0) => return,
                 Ok(_) => {}
+                // Whoever started the relay may have set it not to block.
+                Err(why) if why.kind() == ErrorKind::WouldBlock => {
+                    thread::sleep(REST);
+                    continue;
+                }
+                Err(_) => return,
             }
+            let mut line = std::mem::take(&mut line);
             while line.last().is_some_and(|it| matches!(it, b'\n' | b'\r')) {
                 line.pop();
             }
@@ -55,12 +65,22 @@ pub async fn publish(hub: &Hub, lines: &mut Receiver<Vec<u8>>) {
                 Err(TryRecvError::Empty | TryRecvError::Disconnected) => break,
             }
         }
-        if let Err(why) = hub.publish(batch).await {
-            warn!(%why, "lines were not broadcast");
-        }
+        publish_all(hub, &batch).await;
         sleep_until(next).await;
     }
     info!("the input has ended");
+}
+
+/// Publishes lines as one batch, again and again until it succeeds, as on a full disk.
+pub async fn publish_all(hub: &Hub, batch: &[Vec<u8>]) {
+    let mut has_failed = false;
+    while let Err(why) = hub.publish(batch) {
+        if !has_failed {
+            error!(%why, "lines are not broadcast, and tried again");
+            has_failed = true;
+        }
+        sleep(RETRY).await;
+    }
 }
 
 async fn next(hub: &Hub, lines: &mut Receiver<Vec<u8>>) -> Option<Vec<u8>> {

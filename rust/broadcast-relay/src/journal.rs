@@ -1,19 +1,84 @@
 //! The journal: a folder with two files for each author, of all messages of it that were delivered or broadcast.
 //!
-//! So a relay that was killed delivers none again, and still has what is on the lists. When the newer file has as many
-//! bytes as the author's list may have, it becomes the older one: so both together have the whole list, and an author that
-//! writes much takes no other's place. A file begins with a stamp: all messages up to it are in no file any more.
+//! So a relay that was killed delivers none again, and still has what is on the lists. When the newer file has as many bytes as the
+//! author's list may have, it becomes the older one: so both together have the whole list, and an author that writes much takes no
+//! other's place. A file begins with what was had of the author before it, and each record has a checksum.
 //!
-//! A message is written by one call before it is printed or handed on; the system is not told to sync. A kill of
-//! the process loses nothing of it, a loss of power may lose the newest messages.
+//! A message is written by one call before it is printed or passed on; the system is not told to sync. A kill of the process loses
+//! nothing of it, a loss of power may lose the newest messages.
 
-use crate::identity::{PeerId, to_hex};
+use crate::identity::{PeerId, from_hex, to_hex};
 use crate::message::{MAX_MESSAGE, Signed};
-use broadcast_engine::Message;
+use broadcast_relay::gossip::{Bounds, Coverage};
 use bytes::Bytes;
-use std::fs::{self, File, OpenOptions};
-use std::io::{self, BufReader, ErrorKind, Read, Write};
+use openssl::sha::Sha256;
+use std::collections::VecDeque;
+use std::fs::{self, File, OpenOptions, TryLockError};
+use std::io::{self, ErrorKind, Write};
+use std::os::unix::fs::{DirBuilderExt, OpenOptionsExt};
 use std::path::{Path, PathBuf};
+
+/// Begins each file: what it is, and its version.
+const MAGIC: &[u8; 8] = b"relay\0\0\x03";
+const CHECK: usize = 8;
+/// The most intervals of a coverage, which all have a place in the head of a file.
+pub const RUNS: usize = 16;
+const HEAD: usize = MAGIC.len() + 16 * RUNS + CHECK;
+/// A length and a checksum stand before each message.
+const RECORD: usize = 4 + CHECK;
+
+/// Names an error by its file.
+fn of(path: &Path) -> impl FnOnce(io::Error) -> io::Error + use<'_> {
+    move |why| io::Error::new(why.kind(), format!("{}: {why}", path.display()))
+}
+
+/// Makes the folder of a journal, and locks it for as long as the file lives: another relay would write into the same files.
+pub fn lock_folder(folder: &Path) -> io::Result<File> {
+    fs::DirBuilder::new().recursive(true).mode(0o700).create(folder).map_err(of(folder))?;
+    let path = folder.join("lock");
+    let file = private().write(true).create(true).open(&path).map_err(of(&path))?;
+    match file.try_lock() {
+        Ok(()) => Ok(file),
+        Err(TryLockError::WouldBlock) => {
+            Err(io::Error::other(format!("{}: another relay uses this journal", folder.display())))
+        }
+        Err(TryLockError::Error(why)) => Err(of(&path)(why)),
+    }
+}
+
+/// Files that only their owner may read.
+fn private() -> OpenOptions {
+    let mut options = OpenOptions::new();
+    options.mode(0o600);
+    options
+}
+
+fn check(parts: &[&[u8]]) -> [u8; CHECK] {
+    let mut hasher = Sha256::new();
+    parts.iter().for_each(|it| hasher.update(it));
+    hasher.finish().first_chunk().copied().unwrap_or_default()
+}
+
+/// What a journal had: what was had of an author, and the newest messages, in the order in which they came.
+#[derive(Debug, Default)]
+pub struct Past {
+    pub covered: Coverage,
+    pub messages: VecDeque<Signed>,
+    bytes: u64,
+}
+
+impl Past {
+    fn push(&mut self, message: Signed, most: u64) {
+        self.covered.cover(message.prev, message.stamp, RUNS);
+        self.bytes += message.len() as u64;
+        self.messages.push_back(message);
+        while self.bytes > most
+            && let Some(oldest) = self.messages.pop_front()
+        {
+            self.bytes -= oldest.len() as u64;
+        }
+    }
+}
 
 /// The files of one author.
 #[derive(Debug)]
@@ -23,127 +88,182 @@ pub struct Journal {
     file: File,
     len: u64,
     most: u64,
-    /// The greatest stamps of the messages in both files, and of those that are in neither.
-    newest: [u64; 2],
-    gone: u64,
-}
-
-/// What a journal had: a stamp up to which messages are gone, and the messages after it.
-#[derive(Debug, Default)]
-pub struct Past {
-    pub gone: u64,
-    pub messages: Vec<Signed>,
+    /// All that was written to any file.
+    covered: Coverage,
 }
 
 impl Journal {
-    /// Opens the files of an author, which may have some more than `most` bytes each, and cuts off what a kill left unfinished.
+    /// Opens the files of an author, which may have some more than `most` bytes each.
     pub fn open(folder: &Path, author: &PeerId, most: u64) -> io::Result<(Journal, Past)> {
-        fs::create_dir_all(folder)?;
+        fs::create_dir_all(folder).map_err(of(folder))?;
         let newer = folder.join(to_hex(author));
         let older = newer.with_extension("old");
         let mut past = Past::default();
-        let mut newest = [0; 2];
-        for (place, path) in [&older, &newer].into_iter().enumerate() {
+        for path in [&older, &newer] {
             if path.exists() {
-                newest[place] = read_whole(path, &mut past)?;
+                recover(path, &mut past, most).map_err(of(path))?;
             }
         }
-        let file = OpenOptions::new().append(true).create(true).open(&newer)?;
+        let open = || private().append(true).create(true).open(&newer);
+        let file = open().map_err(of(&newer))?;
         let len = file.metadata()?.len();
-        let gone = past.gone;
-        let mut journal = Journal { older, newer, file, len, most, newest, gone };
+        let covered = past.covered.clone();
+        let mut journal = Journal { older, newer, file, len, most, covered };
         if len == 0 {
-            journal.begin()?;
+            journal.write(&head(&journal.covered))?;
         }
         Ok((journal, past))
     }
 
-    fn begin(&mut self) -> io::Result<()> {
-        self.file.write_all(&self.gone.to_be_bytes())?;
-        self.len = 8;
-        Ok(())
-    }
-
-    pub fn append(&mut self, message: &Signed) -> io::Result<()> {
+    /// Appends messages, all or none.
+    pub fn append(&mut self, messages: &[Signed]) -> io::Result<()> {
         if self.len >= self.most {
-            self.rotate()?;
+            self.rotate().map_err(of(&self.newer))?;
         }
-        let record = [&(message.len() as u32).to_be_bytes(), message.bytes().as_ref()].concat();
-        // One write, which a kill of the process leaves whole or undone.
-        self.file.write_all(&record)?;
-        self.len += record.len() as u64;
-        self.newest[1] = self.newest[1].max(message.stamp);
+        let mut records = Vec::new();
+        for message in messages {
+            let len = (message.len() as u32).to_be_bytes();
+            records.extend(len);
+            records.extend(check(&[&len, message.bytes()]));
+            records.extend_from_slice(message.bytes());
+        }
+        self.write(&records)?;
+        messages.iter().for_each(|it| self.covered.cover(it.prev, it.stamp, RUNS));
         Ok(())
     }
 
-    fn rotate(&mut self) -> io::Result<()> {
-        fs::rename(&self.newer, &self.older)?;
-        self.gone = self.gone.max(self.newest[0]);
-        self.newest = [self.newest[1], 0];
-        self.file = OpenOptions::new().append(true).create_new(true).open(&self.newer)?;
-        self.begin()
+    /// Writes by one call, which a kill of the process leaves whole or undone. What an error leaves of it is cut off.
+    fn write(&mut self, bytes: &[u8]) -> io::Result<()> {
+        if self.file.metadata()?.len() != self.len {
+            self.file.set_len(self.len)?;
+        }
+        let written = self.file.write_all(bytes);
+        if written.is_ok() {
+            self.len += bytes.len() as u64;
+        }
+        written.map_err(of(&self.newer))
     }
+
+    /// Begins a new file. Whenever it is cut short, the files that are there say what was had.
+    fn rotate(&mut self) -> io::Result<()> {
+        let fresh = self.newer.with_extension("new");
+        private().write(true).create(true).truncate(true).open(&fresh)?;
+        let mut file = private().append(true).open(&fresh)?;
+        file.write_all(&head(&self.covered))?;
+        match fs::rename(&self.newer, &self.older) {
+            Err(why) if why.kind() != ErrorKind::NotFound => return Err(why),
+            _ => fs::rename(&fresh, &self.newer)?,
+        }
+        (self.file, self.len) = (file, HEAD as u64);
+        Ok(())
+    }
+}
+
+fn head(covered: &Coverage) -> Vec<u8> {
+    let mut head = MAGIC.to_vec();
+    for place in 0..RUNS {
+        let (after, upto) = covered.runs().get(place).copied().unwrap_or_default();
+        head.extend(after.to_be_bytes());
+        head.extend(upto.to_be_bytes());
+    }
+    let check = check(&[&head]);
+    head.extend(check);
+    head
 }
 
 /// Calls `each` with the messages of all authors in a folder.
 pub fn read(folder: &Path, mut each: impl FnMut(Signed)) -> io::Result<()> {
-    let mut files: Vec<PathBuf> =
-        fs::read_dir(folder)?.map(|it| it.map(|it| it.path())).collect::<io::Result<_>>()?;
+    let mut files: Vec<PathBuf> = fs::read_dir(folder)
+        .map_err(of(folder))?
+        .map(|it| it.map(|it| it.path()))
+        .collect::<io::Result<_>>()?;
+    let is_of_author = |it: &PathBuf| {
+        let name = it.file_stem().and_then(|it| it.to_str()).and_then(from_hex);
+        name.is_some() && it.extension().is_none_or(|it| it == "old")
+    };
+    files.retain(is_of_author);
     // The older file of an author before the newer.
     files.sort_by_key(|it| (it.with_extension(""), it.extension().is_none()));
     for file in files {
         let mut past = Past::default();
-        read_file(&file, &mut past)?;
+        parse(&fs::read(&file).map_err(of(&file))?, &mut past, u64::MAX);
         past.messages.into_iter().for_each(&mut each);
     }
     Ok(())
 }
 
-/// Reads a file, and cuts off its unfinished end. Returns the greatest stamp.
-fn read_whole(path: &Path, past: &mut Past) -> io::Result<u64> {
-    let before = past.messages.len();
-    let whole = read_file(path, past)?;
-    if fs::metadata(path)?.len() > whole {
-        tracing::warn!(file = %path.display(), whole, "an unfinished end is cut off");
-        OpenOptions::new().write(true).open(path)?.set_len(whole)?;
+/// Reads a file. What cannot be read is kept aside and cut off, or passed over if it is one record.
+fn recover(path: &Path, past: &mut Past, most: u64) -> io::Result<()> {
+    let bytes = fs::read(path)?;
+    let Parsed { whole, wrong } = parse(&bytes, past, most);
+    if whole == bytes.len() && wrong == 0 {
+        return Ok(());
     }
-    Ok(past.messages[before..].iter().map(|it| it.stamp).max().unwrap_or(0))
+    let aside = path.with_extension(match path.extension() {
+        Some(_) => "old.damaged",
+        None => "damaged",
+    });
+    let cut = bytes.len() - whole;
+    let file = path.display();
+    tracing::warn!(%file, wrong, cut, kept = %aside.display(), "damaged records or bytes at the end");
+    private().write(true).create(true).truncate(true).open(&aside)?.write_all(&bytes)?;
+    if cut > 0 {
+        OpenOptions::new().write(true).open(path)?.set_len(whole as u64)?;
+    }
+    Ok(())
 }
 
-/// Returns how many bytes the whole records have.
-fn read_file(path: &Path, past: &mut Past) -> io::Result<u64> {
-    let mut from = BufReader::with_capacity(1 << 18, File::open(path)?);
-    let mut head = [0; 8];
-    if !filled(&mut from, &mut head)? {
-        return Ok(0);
-    }
-    past.gone = past.gone.max(u64::from_be_bytes(head));
-    let mut whole = 8;
-    while let Some(message) = read_message(&mut from)? {
-        whole += 4 + message.len() as u64;
-        past.messages.push(message);
-    }
-    Ok(whole)
+/// How many bytes of a file are whole records, and how many of these are wrong.
+struct Parsed {
+    whole: usize,
+    wrong: usize,
 }
 
-fn filled(from: &mut impl Read, bytes: &mut [u8]) -> io::Result<bool> {
-    match from.read_exact(bytes) {
-        Err(why) if why.kind() == ErrorKind::UnexpectedEof => Ok(false),
-        result => result.map(|()| true),
+fn parse(bytes: &[u8], past: &mut Past, most: u64) -> Parsed {
+    let Some(head) = bytes.get(..HEAD).filter(|it| it.starts_with(MAGIC)) else {
+        return Parsed { whole: 0, wrong: 0 };
+    };
+    let covered = parse_head(head);
+    for (after, upto) in covered.iter().flat_map(Coverage::runs) {
+        past.covered.cover(*after, *upto, RUNS);
     }
+    let (mut at, mut wrong) = (HEAD, usize::from(covered.is_none()));
+    let mut parsed = Parsed { whole: at, wrong };
+    // Wrong records at the end may be no records at all.
+    while let Some((message, end)) = parse_record(bytes, at) {
+        at = end;
+        match message {
+            Some(message) => {
+                past.push(message, most);
+                parsed = Parsed { whole: at, wrong };
+            }
+            None => wrong += 1,
+        }
+    }
+    parsed
 }
 
-fn read_message(from: &mut impl Read) -> io::Result<Option<Signed>> {
-    let mut len = [0; 4];
-    if !filled(from, &mut len)? {
-        return Ok(None);
+fn parse_head(head: &[u8]) -> Option<Coverage> {
+    let (rest, found) = head.split_last_chunk::<CHECK>()?;
+    let runs = rest.strip_prefix(MAGIC)?;
+    let number = |it: &[u8]| it.iter().fold(0, |sum, it| sum << 8 | u64::from(*it));
+    let runs = runs.chunks_exact(16).map(|it| (number(&it[..8]), number(&it[8..])));
+    let runs = runs.filter(|it| it.1 > 0).collect();
+    (*found == check(&[rest])).then(|| Coverage::from_runs(runs, Bounds::default().runs))?
+}
+
+/// Reads the record at a place. Returns the message, unless it is wrong, and where the record ends.
+fn parse_record(bytes: &[u8], at: usize) -> Option<(Option<Signed>, usize)> {
+    let (len, rest) = bytes.get(at..)?.split_first_chunk::<4>()?;
+    let (found, rest) = rest.split_first_chunk::<CHECK>()?;
+    let message = rest.get(..u32::from_be_bytes(*len) as usize)?;
+    if message.len() > MAX_MESSAGE {
+        return None;
     }
-    let len = u32::from_be_bytes(len) as usize;
-    let mut bytes = vec![0; len.min(MAX_MESSAGE)];
-    if !filled(from, &mut bytes)? {
-        return Ok(None);
-    }
-    Ok(Signed::decode(Bytes::from(bytes), &()).ok())
+    let end = at + RECORD + message.len();
+    let is_whole = *found == check(&[len, message]);
+    let message = is_whole.then(|| Signed::decode(Bytes::copy_from_slice(message)).ok()).flatten();
+    Some((message, end))
 }
 
 #[cfg(test)]
@@ -151,50 +271,102 @@ mod tests {
     use super::*;
     use crate::identity::Identity;
 
+    const MOST: u64 = 10_000;
+
     fn folder(name: &str) -> PathBuf {
         let folder = std::env::temp_dir().join(format!("{name}-{}", std::process::id()));
         let _ = fs::remove_dir_all(&folder);
         folder
     }
 
-    fn message(author: &Identity, stamp: u64) -> Signed {
-        Signed::batch(author, &[(stamp, vec![7; 500])]).unwrap().remove(0)
+    fn message(author: &Identity, stamp: u64) -> Vec<Signed> {
+        Signed::batch(author, (stamp - 1, stamp), &[vec![7; 500]]).unwrap()
+    }
+
+    fn stamps(past: &Past) -> Vec<u64> {
+        past.messages.iter().map(|it| it.stamp).collect()
     }
 
     #[test]
     fn a_journal_has_a_whole_list_and_no_more_than_two() {
         let (folder, author) = (folder("journal-rotates"), Identity::generate().unwrap());
-        for stamp in 1..=1_000 {
+        for round in 1..=300 {
             // It is opened anew now and then, as after a kill.
-            let (mut journal, past) = Journal::open(&folder, &author.id, 10_000).unwrap();
+            let (mut journal, past) = Journal::open(&folder, &author.id, MOST).unwrap();
             for more in 0..7 {
-                journal.append(&message(&author, stamp * 7 + more)).unwrap();
+                journal.append(&message(&author, round * 7 + more)).unwrap();
             }
-            let stamps: Vec<u64> = past.messages.iter().map(|it| it.stamp).collect();
-            assert!(stamps.iter().sum::<u64>() == 0 || stamps.is_sorted());
-            if stamp > 1 {
-                assert_eq!(stamps.last(), Some(&(stamp * 7 - 1)));
-                assert_eq!(stamps[0], if past.gone == 0 { 7 } else { past.gone + 1 });
+            if round > 1 {
+                assert_eq!(past.covered.runs(), [(6, round * 7 - 1)]);
+                assert!(
+                    stamps(&past).is_sorted() && stamps(&past).last() == Some(&(round * 7 - 1))
+                );
                 let bytes: usize = past.messages.iter().map(Signed::len).sum();
-                assert!(past.gone == 0 || bytes >= 9_000, "{bytes}");
-                assert!(bytes <= 2 * (10_000 + 700), "{bytes}");
+                assert!(bytes <= MOST as usize && (round < 5 || bytes >= 9_000), "{bytes}");
+                let files = fs::read_dir(&folder).unwrap();
+                let bytes: u64 = files.map(|it| it.unwrap().metadata().unwrap().len()).sum();
+                assert!(bytes <= 2 * (MOST + 700), "{bytes}");
             }
         }
+        fs::remove_dir_all(&folder).unwrap();
     }
 
     #[test]
-    fn an_unfinished_end_is_cut_off() {
-        let (folder, author) = (folder("journal-cut"), Identity::generate().unwrap());
-        let (mut journal, _) = Journal::open(&folder, &author.id, 10_000).unwrap();
-        journal.append(&message(&author, 1)).unwrap();
-        journal.append(&message(&author, 2)).unwrap();
+    fn a_kill_within_a_rotation_forgets_nothing() {
+        let (folder, author) = (folder("journal-killed"), Identity::generate().unwrap());
+        let (mut journal, _) = Journal::open(&folder, &author.id, MOST).unwrap();
+        (1..=100).for_each(|it| journal.append(&message(&author, it)).unwrap());
         let file = folder.join(to_hex(&author.id));
-        let len = fs::metadata(&file).unwrap().len();
-        OpenOptions::new().write(true).open(&file).unwrap().set_len(len - 3).unwrap();
-        let (mut journal, past) = Journal::open(&folder, &author.id, 10_000).unwrap();
-        assert_eq!(past.messages.len(), 1);
-        journal.append(&message(&author, 3)).unwrap();
-        let (_, past) = Journal::open(&folder, &author.id, 10_000).unwrap();
-        assert_eq!(past.messages.iter().map(|it| it.stamp).collect::<Vec<_>>(), [1, 3]);
+        // Between the two steps, and with a new file that has no head yet.
+        fs::rename(&file, file.with_extension("old")).unwrap();
+        let (_, past) = Journal::open(&folder, &author.id, MOST).unwrap();
+        assert_eq!(past.covered.runs(), [(0, 100)]);
+        fs::write(&file, [0; 20]).unwrap();
+        let (mut journal, past) = Journal::open(&folder, &author.id, MOST).unwrap();
+        assert_eq!(past.covered.runs(), [(0, 100)]);
+        journal.append(&message(&author, 101)).unwrap();
+        let (_, past) = Journal::open(&folder, &author.id, MOST).unwrap();
+        assert_eq!(past.covered.runs(), [(0, 101)]);
+        fs::remove_dir_all(&folder).unwrap();
+    }
+
+    #[test]
+    fn what_is_damaged_is_kept_aside_and_the_rest_is_read() {
+        let (folder, author) = (folder("journal-damaged"), Identity::generate().unwrap());
+        let (mut journal, _) = Journal::open(&folder, &author.id, 1 << 20).unwrap();
+        (1..=5).for_each(|it| journal.append(&message(&author, it)).unwrap());
+        let file = folder.join(to_hex(&author.id));
+        let good = fs::read(&file).unwrap();
+        let record = (good.len() - HEAD) / 5;
+        let second = HEAD + record;
+        // A bit of the second text, of its stamp, and of its length, which hides all behind it; an unfinished end.
+        for (at, len, left) in [
+            (second + record - 9, good.len(), &[1, 3, 4, 5][..]),
+            (second + RECORD + 103, good.len(), &[1, 3, 4, 5]),
+            (second + 1, good.len(), &[1]),
+            (good.len(), good.len() - 3, &[1, 2, 3, 4]),
+        ] {
+            let mut bytes = good.clone();
+            bytes.iter_mut().skip(at).take(1).for_each(|it| *it ^= 4);
+            bytes.truncate(len);
+            fs::write(&file, &bytes).unwrap();
+            let (mut journal, past) = Journal::open(&folder, &author.id, 1 << 20).unwrap();
+            assert_eq!(stamps(&past), left);
+            assert_eq!(fs::read(file.with_extension("damaged")).unwrap(), bytes);
+            journal.append(&message(&author, 9)).unwrap();
+            let (_, past) = Journal::open(&folder, &author.id, 1 << 20).unwrap();
+            assert_eq!(stamps(&past), [left, &[9]].concat());
+        }
+        fs::remove_dir_all(&folder).unwrap();
+    }
+
+    #[test]
+    fn a_folder_has_one_relay() {
+        let folder = folder("journal-locked");
+        let lock = lock_folder(&folder).unwrap();
+        assert!(lock_folder(&folder).unwrap_err().to_string().contains("another relay"));
+        drop(lock);
+        assert!(lock_folder(&folder).is_ok());
+        fs::remove_dir_all(&folder).unwrap();
     }
 }

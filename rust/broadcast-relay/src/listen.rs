@@ -1,22 +1,24 @@
 //! Accepts and dials connections.
 
+use crate::handshakes::{Handshakes, has_hello};
 use crate::hub::Hub;
 use crate::identity::PeerId;
 use crate::peer::Peer;
-use crate::places::Places;
+use crate::places::{Places, network};
 use crate::resolve::Resolver;
 use crate::session;
 use crate::tls::{Stream, Tls};
 use rand::Rng;
 use std::io;
-use std::net::SocketAddr;
+use std::net::{IpAddr, SocketAddr};
 use std::sync::Arc;
 use std::time::{Duration, Instant};
 use tokio::net::{TcpListener, TcpStream};
+use tokio::sync::{OwnedSemaphorePermit, Semaphore};
 use tokio::time::{sleep, timeout};
-use tracing::{debug, info, warn};
+use tracing::{debug, error, info, warn};
 
-/// The deadline of a handshake, from the connection to the proof of a key.
+/// The deadline of a handshake, from the connection to the first frame.
 const HANDSHAKE: Duration = Duration::from_secs(3);
 /// How long a relay rests before it dials again, at first and at most.
 const REST: Duration = Duration::from_millis(100);
@@ -28,15 +30,20 @@ pub struct Network {
     pub hub: Arc<Hub>,
     pub tls: Tls,
     pub places: Places,
-    pub resolver: Resolver,
+    pub handshakes: Handshakes,
+    /// How many connections are accepted that have proved no key.
+    pub accepted: Arc<Semaphore>,
 }
+
+/// A connection whose peer has proved its key and said its version, and how long its packets take there and back, at most.
+type Proved = (Stream, PeerId, Duration);
 
 /// Accepts connections, for ever.
 pub async fn accept(network: Arc<Network>, listener: TcpListener) {
-    loop {
+    while let Ok(permit) = network.accepted.clone().acquire_owned().await {
         match listener.accept().await {
             Ok((stream, address)) => {
-                tokio::spawn(greet(network.clone(), stream, address));
+                tokio::spawn(greet(network.clone(), stream, address, permit));
             }
             Err(why) => {
                 warn!(%why, "a connection was not accepted");
@@ -46,7 +53,12 @@ pub async fn accept(network: Arc<Network>, listener: TcpListener) {
     }
 }
 
-async fn greet(network: Arc<Network>, stream: TcpStream, address: SocketAddr) {
+async fn greet(
+    network: Arc<Network>,
+    stream: TcpStream,
+    address: SocketAddr,
+    permit: OwnedSemaphorePermit,
+) {
     let (hub, places) = (&network.hub, &network.places);
     let Some(mut place) = places.enter(address.ip()).await else {
         hub.metrics.turned_away.inc();
@@ -56,14 +68,17 @@ async fn greet(network: Arc<Network>, stream: TcpStream, address: SocketAddr) {
     hub.metrics.handshakes.inc();
     let proved = tokio::select! {
         _ = &mut place.pushed => Err(io::Error::other("another has taken its place")),
-        proved = timeout(HANDSHAKE, prove(&network.tls, stream)) => {
+        proved = timeout(HANDSHAKE, prove(&network, stream, address.ip())) => {
             proved.unwrap_or_else(|_| Err(io::Error::other("it took too long")))
         }
     };
     places.leave(place.number);
     hub.metrics.handshakes.dec();
+    drop(permit);
     match proved {
-        Ok((stream, peer)) => attend(network.hub.clone(), peer, stream, false).await,
+        Ok((stream, peer, round_trip)) => {
+            attend(network.hub.clone(), peer, stream, false, round_trip).await;
+        }
         Err(why) => {
             hub.metrics.strangers.inc();
             debug!(%address, %why, "refused");
@@ -71,56 +86,98 @@ async fn greet(network: Arc<Network>, stream: TcpStream, address: SocketAddr) {
     }
 }
 
-async fn prove(tls: &Tls, stream: TcpStream) -> io::Result<(Stream, PeerId)> {
+async fn prove(at: &Network, stream: TcpStream, address: IpAddr) -> io::Result<Proved> {
     stream.set_nodelay(true)?;
-    tls.accept(stream).await
+    if !has_hello(&stream).await? {
+        return Err(io::Error::other("no handshake"));
+    }
+    at.handshakes.turn(network(address)).await;
+    let start = Instant::now();
+    let (mut stream, id) = at.tls.accept(stream).await?;
+    if at.hub.peer(&id).is_none_or(|it| it.is_banned()) {
+        return Err(io::Error::other("it broke the rules"));
+    }
+    session::greet(&mut stream).await?;
+    Ok((stream, id, start.elapsed()))
 }
 
-async fn attend(hub: Arc<Hub>, peer: PeerId, stream: Stream, is_dialed: bool) {
-    if let Some(session) = hub.attach(&peer, is_dialed) {
+async fn attend(
+    hub: Arc<Hub>,
+    peer: PeerId,
+    stream: Stream,
+    is_dialed: bool,
+    round_trip: Duration,
+) {
+    if let Some(session) = hub.attach(&peer, is_dialed, round_trip) {
         session::run(hub, session, stream).await;
     }
 }
 
-/// Dials a peer whenever it is not connected, until it is removed or moves.
-pub async fn dial(network: Arc<Network>, peer: Arc<Peer>) {
+/// Dials a peer that has an address, for as long as it is listed with it.
+pub fn start_dialing(network: &Arc<Network>, peer: Arc<Peer>) {
     let Some(address) = peer.address.clone() else { return };
+    let resolver = match Resolver::start(&address) {
+        Ok(it) => Arc::new(it),
+        Err(why) => return error!(peer = peer.name, %why, "is not dialed: no thread to look it up"),
+    };
+    let network = network.clone();
+    tokio::spawn(async move {
+        // Were it to panic, it would go on.
+        while tokio::spawn(dial(network.clone(), peer.clone(), resolver.clone())).await.is_err() {
+            error!(peer = peer.name, "a dial failed, and goes on");
+            sleep(MAX_REST).await;
+        }
+    });
+}
+
+/// Dials a peer whenever it is not connected, until it is removed or moves.
+async fn dial(network: Arc<Network>, peer: Arc<Peer>, resolver: Arc<Resolver>) {
     let hub = &network.hub;
-    let (mut rest, mut has_told) = (REST, false);
+    let (mut rest, mut logged) = (REST, None);
     while hub.peer(&peer.id).is_some_and(|it| Arc::ptr_eq(&it, &peer)) {
         let start = Instant::now();
-        if !hub.is_connected(&peer.id) {
-            let dialed = timeout(HANDSHAKE, connect(&network, &peer, &address)).await;
+        if peer.session().is_none() && !peer.is_banned() {
+            let dialed = timeout(HANDSHAKE, connect(&network, &peer, &resolver)).await;
             match dialed.unwrap_or_else(|_| Err(io::Error::other("it took too long"))) {
-                Ok(stream) => {
-                    has_told = false;
-                    attend(hub.clone(), peer.id, stream, true).await;
+                Ok((stream, id, round_trip)) => {
+                    logged = None;
+                    attend(hub.clone(), id, stream, true, round_trip).await;
                 }
-                Err(why) if !has_told => {
-                    info!(peer = peer.name, address, %why, "not reached");
-                    has_told = true;
+                Err(why) => {
+                    let why = Some(why.to_string());
+                    if why != logged {
+                        info!(peer = peer.name, address = peer.address, why, "not reached");
+                        logged = why;
+                    }
                 }
-                Err(_) => {}
             }
         }
         // Not both sides at the same time, and the longer the more often it failed.
-        let is_fresh = start.elapsed() > MAX_REST || hub.is_connected(&peer.id);
+        let is_fresh = start.elapsed() > MAX_REST || peer.session().is_some();
         rest = if is_fresh { REST } else { MAX_REST.min(rest * 2) };
         let part = rand::thread_rng().gen_range(0.5..1.5);
         sleep(rest.mul_f64(part)).await;
     }
 }
 
-async fn connect(network: &Network, peer: &Peer, address: &str) -> io::Result<Stream> {
-    let addresses = network.resolver.resolve(address).await?;
+async fn connect(network: &Network, peer: &Peer, resolver: &Resolver) -> io::Result<Proved> {
     let mut result = Err(io::Error::other("the name has no address"));
-    for address in addresses {
+    let mut start = Instant::now();
+    for address in resolver.resolve().await? {
+        start = Instant::now();
         result = TcpStream::connect(address).await;
         if result.is_ok() {
             break;
         }
     }
-    let stream = result?;
+    let (stream, round_trip) = (result?, start.elapsed());
     stream.set_nodelay(true)?;
-    network.tls.connect(stream, peer.id).await
+    let mut stream = network.tls.connect(stream, peer.id).await?;
+    let refused = |why: io::Error| match why.kind() {
+        io::ErrorKind::Unsupported => why,
+        // The other side ends the handshake once it has seen the own certificate, which is after this side's part of it.
+        _ => io::Error::other(format!("refused: {} does not list this relay's key", peer.name)),
+    };
+    session::greet(&mut stream).await.map_err(refused)?;
+    Ok((stream, peer.id, round_trip))
 }

@@ -1,33 +1,30 @@
-//! A gossip relay over mutual TLS, on the verified broadcast cache.
+//! A gossip relay over mutual TLS.
 //!
-//! Messages are signed by their authors. A relay sends its own to all its peers, and tells them of those of others; whoever
-//! lacks one subscribes to it and asks for it. After a connect both sides tell what is on their lists, so a peer that was
-//! away gets what is still there.
+//! Messages are signed by their authors. Each relay has a part of each author's log, reports to its peers which part, and gets from
+//! them what it lacks: the protocol is in `broadcast_relay::gossip`.
 
 mod author;
 mod batch;
 mod config;
-mod fetch;
+mod handshakes;
 mod http;
 mod hub;
 mod identity;
 mod input;
 mod journal;
 mod listen;
+mod logging;
 mod message;
 mod metrics;
 mod output;
+mod pace;
 mod peer;
 mod places;
-mod queue;
-mod rate;
 mod relay;
 mod resolve;
-mod seen;
 mod session;
 mod setup;
 mod tls;
-mod window;
 mod wire;
 
 use clap::{Parser, Subcommand};
@@ -38,7 +35,7 @@ use std::path::PathBuf;
 use std::process::ExitCode;
 use std::sync::{Mutex, MutexGuard, PoisonError};
 
-/// A gossip relay over mutual TLS, on the verified broadcast cache.
+/// A gossip relay over mutual TLS.
 #[derive(Parser)]
 #[command(version)]
 struct Arguments {

@@ -4,18 +4,26 @@ use crate::identity::PeerId;
 use crate::lock;
 use crate::message::Signed;
 use std::collections::{HashMap, VecDeque};
-use std::io::{self, Write, stdout};
+use std::fs::File;
+use std::io::{self, ErrorKind, Write};
+use std::os::fd::AsFd;
 use std::sync::{Arc, Condvar, Mutex, PoisonError};
 use std::thread;
+use std::time::Duration;
 
 /// The most bytes of an author that wait for the reader. What has no room is not printed, and counted; the journal has it.
 pub const MAX_WAITING: usize = 2 << 20;
+
+/// How long an output that failed rests.
+const REST: Duration = Duration::from_millis(100);
 
 /// The lines of each author, which are printed in turn: so a flood of one holds up no other.
 #[derive(Default)]
 struct Lines {
     authors: HashMap<PeerId, Waiting>,
     turns: VecDeque<PeerId>,
+    /// Whoever read them is gone.
+    is_closed: bool,
 }
 
 #[derive(Default)]
@@ -45,9 +53,12 @@ impl Output {
     pub fn start() -> io::Result<Output> {
         let output = Output(Arc::default());
         let shared = output.0.clone();
+        // Not by `Stdout`, which keeps what it could not write.
+        let mut out = File::from(io::stdout().as_fd().try_clone_to_owned()?);
         thread::Builder::new().name("output".into()).spawn(move || {
-            while print(next(&shared)).is_ok() {}
+            while print(&mut out, &next(&shared)) {}
             tracing::warn!("nobody reads the output any more");
+            lock(&shared.0).is_closed = true;
         })?;
         Ok(output)
     }
@@ -56,6 +67,9 @@ impl Output {
     pub fn print(&self, name: &str, message: &Signed) -> bool {
         let line = format!("{name} {} {}\n", message.stamp, shown(message.text())).into_bytes();
         let mut lines = lock(&self.0.0);
+        if lines.is_closed {
+            return false;
+        }
         let waiting = lines.authors.entry(message.author).or_default();
         if waiting.bytes + line.len() > MAX_WAITING {
             return false;
@@ -70,7 +84,8 @@ impl Output {
     }
 
     pub fn is_empty(&self) -> bool {
-        lock(&self.0.0).turns.is_empty()
+        let lines = lock(&self.0.0);
+        lines.is_closed || lines.turns.is_empty()
     }
 }
 
@@ -88,18 +103,34 @@ fn next((lines, filled): &(Mutex<Lines>, Condvar)) -> Vec<u8> {
     batch
 }
 
-fn print(batch: Vec<u8>) -> io::Result<()> {
-    let mut out = stdout().lock();
-    out.write_all(&batch)?;
-    out.flush()
+/// Writes all, and tries again what fails, as on a full disk. Returns whether somebody may still read it.
+fn print(out: &mut File, mut batch: &[u8]) -> bool {
+    let mut has_failed = false;
+    while !batch.is_empty() {
+        match out.write(batch) {
+            Ok(len) => batch = &batch[len..],
+            Err(why) if why.kind() == ErrorKind::BrokenPipe => return false,
+            Err(why) => {
+                if why.kind() != ErrorKind::WouldBlock && !has_failed {
+                    tracing::warn!(%why, "not printed, and tried again");
+                    has_failed = true;
+                }
+                thread::sleep(REST);
+            }
+        }
+    }
+    true
 }
 
 /// The text without what a terminal obeys, or what turns it round.
 pub fn shown(text: &[u8]) -> String {
     let hides = |it: char| {
         it.is_control()
-            || matches!(it, '\u{200b}'..='\u{200f}' | '\u{2028}'..='\u{202e}' | '\u{2066}'..='\u{2069}' | '\u{feff}')
+            || matches!(it, '\u{61c}' | '\u{200b}'..='\u{200f}' | '\u{2028}'..='\u{202e}' | '\u{2066}'..='\u{2069}' | '\u{feff}')
     };
+    if text.iter().all(|it| matches!(it, b' '..=b'~')) {
+        return String::from_utf8_lossy(text).into_owned();
+    }
     let text = String::from_utf8_lossy(text);
     text.chars().map(|it| if hides(it) { '\u{fffd}' } else { it }).collect()
 }

@@ -1,19 +1,13 @@
 //! A peer and its one connection.
 
 use crate::author::Author;
-use crate::config::Limits;
-use crate::hub::Hub;
 use crate::identity::PeerId;
 use crate::lock;
-use crate::queue::Queue;
-use crate::rate::{Credit, Pace};
-use crate::window::Window;
-use crate::wire::Frame;
-use bytes::Bytes;
-use std::collections::HashMap;
+use broadcast_relay::gossip::{Bucket, Time};
+use std::sync::atomic::{AtomicBool, Ordering};
 use std::sync::{Arc, Mutex};
 use std::time::{Duration, Instant};
-use tokio::sync::{Mutex as AsyncMutex, Notify};
+use tokio::sync::Notify;
 
 /// How long a peer that broke the rules is refused at first, and at most.
 const BAN: Duration = Duration::from_secs(1);
@@ -22,46 +16,40 @@ const MAX_BAN: Duration = Duration::from_secs(60);
 const FORGIVEN: Duration = Duration::from_secs(600);
 /// A connection of which nothing was heard for so long may always be replaced.
 const QUIET: Duration = Duration::from_secs(3);
-
-/// How often a peer is told the lists in a second, beside twice at once.
-const TELLS: f64 = 1.0;
+/// How often it is logged in a second that a peer comes or goes, and how often at once.
+const LOGGED: (u64, u64) = (1, 10);
 
 pub struct Peer {
     pub id: PeerId,
     pub name: String,
     pub address: Option<String>,
     pub author: Arc<Author>,
-    /// Those of all its connections: one that connects again begins nothing anew.
-    window: Arc<Window>,
-    credit: Arc<Credit>,
-    tells: Arc<AsyncMutex<Pace>>,
-    queue_bytes: usize,
-    state: Mutex<State>,
+    /// Its number in the protocol.
+    pub node: usize,
+    state: Arc<Mutex<State>>,
 }
 
-#[derive(Default)]
 struct State {
     session: Option<Arc<Session>>,
     strikes: u32,
     banned: Option<Instant>,
+    start: Instant,
+    logged: Bucket,
 }
 
 /// A connection whose peer has proved its key.
 pub struct Session {
     pub peer: PeerId,
     pub name: String,
-    pub queue: Queue,
-    pub window: Arc<Window>,
-    /// What the peer may be asked for, and how often it is told the lists: in all its connections together.
-    pub credit: Arc<Credit>,
-    pub tells: Arc<AsyncMutex<Pace>>,
-    /// Told when the connection is to end, as when another has taken its place.
+    pub node: usize,
+    /// Notified when something may be written.
+    pub due: Arc<Notify>,
+    /// Notified when the connection is to end, as when another has taken its place.
     pub ended: Notify,
+    is_over: AtomicBool,
+    is_finishing: AtomicBool,
     is_dialed: bool,
     heard: Mutex<Instant>,
-    /// Of each author, the messages and bytes that are done with, of which the peer has not been told.
-    owed: Mutex<HashMap<PeerId, (u32, u32)>>,
-    owes: Notify,
 }
 
 /// Why a connection got no place.
@@ -72,45 +60,41 @@ pub enum Refused {
 }
 
 impl Peer {
-    pub fn new(author: Arc<Author>, address: Option<String>, limits: &Limits) -> Peer {
-        Peer {
-            id: author.id,
-            name: author.name.clone(),
-            address,
-            author,
-            window: Arc::new(Window::new(limits)),
-            credit: Arc::new(Credit::new()),
-            tells: Arc::new(AsyncMutex::new(Pace::new(TELLS, 2.0))),
-            queue_bytes: limits.queue_bytes,
-            state: Mutex::default(),
-        }
+    pub fn new(author: Arc<Author>, name: String, address: Option<String>, node: usize) -> Peer {
+        let state = State {
+            session: None,
+            strikes: 0,
+            banned: None,
+            start: Instant::now(),
+            logged: Bucket::new(LOGGED.0, LOGGED.1),
+        };
+        Peer { id: author.id, name, address, author, node, state: Arc::new(Mutex::new(state)) }
     }
 
-    /// The same peer at another address.
-    pub fn moved(&self, address: Option<String>) -> Peer {
-        let state = std::mem::take(&mut *lock(&self.state));
-        Peer {
-            id: self.id,
-            name: self.name.clone(),
-            address,
-            author: self.author.clone(),
-            window: self.window.clone(),
-            credit: self.credit.clone(),
-            tells: self.tells.clone(),
-            queue_bytes: self.queue_bytes,
-            state: Mutex::new(state),
-        }
+    /// The same peer with another name or address.
+    pub fn moved(&self, name: String, address: Option<String>) -> Peer {
+        let (author, state) = (self.author.clone(), self.state.clone());
+        Peer { id: self.id, name, address, author, node: self.node, state }
     }
 
     pub fn session(&self) -> Option<Arc<Session>> {
         lock(&self.state).session.clone()
     }
 
-    /// Gives the peer's one place to a new connection: it replaces the old one, unless both were dialed at once and both
-    /// sides prefer the old one, which lives.
-    pub fn attach(&self, own: &PeerId, is_dialed: bool) -> Result<Arc<Session>, Refused> {
+    pub fn is_banned(&self) -> bool {
+        lock(&self.state).is_banned()
+    }
+
+    /// Gives the peer's one place to a new connection, and calls `begin` before anything else can happen to it. The connection
+    /// replaces the old one, unless both were dialed at once and both sides prefer the old one, which lives.
+    pub fn attach(
+        &self,
+        own: &PeerId,
+        is_dialed: bool,
+        begin: impl FnOnce(&Session),
+    ) -> Result<Arc<Session>, Refused> {
         let mut state = lock(&self.state);
-        if state.banned.is_some_and(|it| it > Instant::now()) {
+        if state.is_banned() {
             return Err(Refused::Banned);
         }
         if let Some(old) = &state.session {
@@ -125,27 +109,27 @@ impl Peer {
         let session = Arc::new(Session {
             peer: self.id,
             name: self.name.clone(),
-            queue: Queue::new(self.queue_bytes),
-            window: self.window.clone(),
-            credit: self.credit.clone(),
-            tells: self.tells.clone(),
+            node: self.node,
+            due: Arc::default(),
             ended: Notify::new(),
+            is_over: AtomicBool::new(false),
+            is_finishing: AtomicBool::new(false),
             is_dialed,
             heard: Mutex::new(Instant::now()),
-            owed: Mutex::default(),
-            owes: Notify::new(),
         });
+        begin(&session);
         state.session = Some(session.clone());
         Ok(session)
     }
 
-    /// Gives up the place of a connection. Returns whether it still had it.
-    pub fn detach(&self, session: &Arc<Session>) -> bool {
-        session.queue.close();
+    /// Gives up the place of a connection, and calls `end` if it still had it.
+    pub fn detach(&self, session: &Arc<Session>, end: impl FnOnce()) -> bool {
+        session.end();
         let mut state = lock(&self.state);
         let had_place = state.session.as_ref().is_some_and(|it| Arc::ptr_eq(it, session));
         if had_place {
             state.session = None;
+            end();
         }
         had_place
     }
@@ -165,6 +149,23 @@ impl Peer {
         state.banned = Some(now + ban);
         ban
     }
+
+    /// Whether it is to be logged that it comes or goes: not again and again.
+    pub fn is_logged(&self) -> bool {
+        let mut state = lock(&self.state);
+        let now = state.start.elapsed().as_micros() as Time;
+        let is_due = state.logged.level(now) > 0;
+        if is_due {
+            state.logged.take(now, 1);
+        }
+        is_due
+    }
+}
+
+impl State {
+    fn is_banned(&self) -> bool {
+        self.banned.is_some_and(|it| it > Instant::now())
+    }
 }
 
 impl Session {
@@ -174,70 +175,48 @@ impl Session {
 
     /// Lets the connection end.
     pub fn end(&self) {
-        self.queue.close();
+        self.is_over.store(true, Ordering::Relaxed);
         self.ended.notify_one();
     }
 
-    /// Queues a frame, if there is room; else the peer is behind, and catches up later.
-    pub fn send(&self, hub: &Hub, frame: Bytes) -> bool {
-        self.count(hub, self.queue.push(frame))
+    /// Whether another connection may have taken its place.
+    pub fn is_over(&self) -> bool {
+        self.is_over.load(Ordering::Relaxed)
     }
 
-    /// Queues a frame that was asked for.
-    pub fn answer(&self, hub: &Hub, frame: Bytes) -> bool {
-        self.count(hub, self.queue.push_answer(frame))
+    /// Lets the connection end once the peer has all own messages.
+    pub fn finish(&self) {
+        self.is_finishing.store(true, Ordering::Relaxed);
+        self.due.notify_one();
     }
 
-    fn count(&self, hub: &Hub, is_queued: bool) -> bool {
-        if !is_queued {
-            hub.metrics.behind.with_label_values(&[&self.name]).inc();
-        }
-        is_queued
-    }
-
-    /// Notes that the peer is to be told that a message is done with, as soon as the other peers follow.
-    pub fn owe(&self, author: PeerId, len: usize) {
-        let mut owed = lock(&self.owed);
-        let (messages, bytes) = owed.entry(author).or_default();
-        *messages = messages.saturating_add(1);
-        *bytes = bytes.saturating_add(len as u32);
-        self.owes.notify_one();
-    }
-
-    /// Tells the peer what is owed, again and again.
-    pub async fn settle(&self, hub: &Hub) {
-        loop {
-            self.owes.notified().await;
-            let authors: Vec<PeerId> = lock(&self.owed).keys().copied().collect();
-            for author in authors {
-                hub.follow(&author, Some(&self.peer)).await;
-                let owed = lock(&self.owed).remove(&author);
-                if let Some((messages, bytes)) = owed {
-                    self.send(hub, Frame::Done(author, messages, bytes).encode());
-                }
-            }
-        }
+    pub fn is_finishing(&self) -> bool {
+        self.is_finishing.load(Ordering::Relaxed)
     }
 }
 
 #[cfg(test)]
 mod tests {
     use super::*;
+    use crate::config::Limits;
 
     fn peer() -> Peer {
-        let limits = Limits::default();
-        let (author, _) = Author::new([5; 32], "five", &limits, None).unwrap();
-        Peer::new(Arc::new(author), None, &limits)
+        let (author, _) = Author::new([5; 32], &Limits::default(), None).unwrap();
+        Peer::new(Arc::new(author), "five".into(), None, 1)
+    }
+
+    fn attach(peer: &Peer, own: [u8; 32], is_dialed: bool) -> Result<Arc<Session>, Refused> {
+        peer.attach(&own, is_dialed, |_| {})
     }
 
     #[test]
     fn a_newer_connection_replaces_the_older() {
         let peer = peer();
-        let first = peer.attach(&[1; 32], false).unwrap();
-        let second = peer.attach(&[1; 32], false).unwrap();
-        assert!(!first.queue.push(Bytes::new()) && second.queue.push(Bytes::new()));
-        assert!(!peer.detach(&first) && peer.session().is_some());
-        assert!(peer.detach(&second) && peer.session().is_none());
+        let first = attach(&peer, [1; 32], false).unwrap();
+        let second = attach(&peer, [1; 32], false).unwrap();
+        assert!(first.is_over() && !second.is_over());
+        assert!(!peer.detach(&first, || {}) && peer.session().is_some());
+        assert!(peer.detach(&second, || {}) && peer.session().is_none());
     }
 
     #[test]
@@ -246,9 +225,8 @@ mod tests {
         for (own, keeps_dialed) in [([1; 32], true), ([9; 32], false)] {
             for first in [true, false] {
                 let peer = peer();
-                let _old = peer.attach(&own, first).unwrap();
-                let is_refused = peer.attach(&own, !first).is_err();
-                assert_eq!(is_refused, first == keeps_dialed);
+                let _old = attach(&peer, own, first).unwrap();
+                assert_eq!(attach(&peer, own, !first).is_err(), first == keeps_dialed);
             }
         }
     }
@@ -257,7 +235,7 @@ mod tests {
     fn a_banned_peer_is_refused() {
         let peer = peer();
         assert_eq!((peer.ban(), peer.ban()), (BAN, 2 * BAN));
-        assert_eq!(peer.attach(&[1; 32], true).err(), Some(Refused::Banned));
+        assert_eq!(attach(&peer, [1; 32], true).err(), Some(Refused::Banned));
         (0..100).for_each(|_| assert!(peer.ban() <= MAX_BAN));
     }
 

@@ -49,7 +49,7 @@ pub struct Given {
 }
 
 /// The part of an address that one attacker has: of IPv6 the first half.
-fn network(address: IpAddr) -> IpAddr {
+pub fn network(address: IpAddr) -> IpAddr {
     match address.to_canonical() {
         IpAddr::V4(it) => IpAddr::V4(it),
         IpAddr::V6(it) => {

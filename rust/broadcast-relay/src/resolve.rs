@@ -1,5 +1,5 @@
-//! Looks up the addresses of names, in a thread that is there from the start: none is asked for later, when the system may
-//! refuse one.
+//! Looks up the addresses of a name, in a thread of its own: a name server that does not answer keeps no other peer away. The thread is
+//! there from the start, since the system may refuse one later.
 
 use std::io;
 use std::net::{SocketAddr, ToSocketAddrs};
@@ -9,30 +9,41 @@ use tokio::sync::oneshot;
 
 type Reply = oneshot::Sender<io::Result<Vec<SocketAddr>>>;
 
-pub struct Resolver(Sender<(String, Reply)>);
+pub enum Resolver {
+    Known(SocketAddr),
+    Named(Sender<Reply>),
+}
 
 impl Resolver {
-    pub fn start() -> io::Result<Resolver> {
-        let (sender, names) = channel::<(String, Reply)>();
+    /// Prepares to look up `HOST:PORT`.
+    pub fn start(name: &str) -> io::Result<Resolver> {
+        if let Ok(address) = name.parse() {
+            return Ok(Resolver::Known(address));
+        }
+        let (sender, replies) = channel::<Reply>();
+        let name = name.to_owned();
         thread::Builder::new().name("resolver".into()).spawn(move || {
-            for (name, reply) in names {
+            for reply in replies {
                 // One that nobody waits for any more is not looked up.
                 if !reply.is_closed() {
                     let _ = reply.send(name.to_socket_addrs().map(Iterator::collect));
                 }
             }
         })?;
-        Ok(Resolver(sender))
+        Ok(Resolver::Named(sender))
     }
 
-    /// Returns the addresses of `HOST:PORT`.
-    pub async fn resolve(&self, name: &str) -> io::Result<Vec<SocketAddr>> {
-        if let Ok(address) = name.parse() {
-            return Ok(vec![address]);
-        }
+    pub async fn resolve(&self) -> io::Result<Vec<SocketAddr>> {
+        let Resolver::Named(sender) = self else {
+            return Ok(self.known().into_iter().collect());
+        };
         let gone = || io::Error::other("the resolver is gone");
         let (reply, addresses) = oneshot::channel();
-        self.0.send((name.to_owned(), reply)).map_err(|_| gone())?;
+        sender.send(reply).map_err(|_| gone())?;
         addresses.await.map_err(|_| gone())?
+    }
+
+    fn known(&self) -> Option<SocketAddr> {
+        if let Resolver::Known(address) = self { Some(*address) } else { None }
     }
 }

@@ -1,6 +1,6 @@
 //! Makes and checks configurations.
 
-use crate::config::Config;
+use crate::config::{Config, check_name};
 use crate::identity::{Identity, keygen};
 use std::fs::{self, OpenOptions};
 use std::io::{self, Write};
@@ -16,6 +16,7 @@ pub fn init(folder: &Path, listen: SocketAddr, with: &[PathBuf]) -> io::Result<(
     let others =
         with.iter().map(|it| Config::load(&it.join(CONFIG))).collect::<Result<Vec<_>, _>>()?;
     fs::create_dir_all(folder)?;
+    let own = name(folder)?;
     let identity = keygen(&folder.join(KEY))?;
     let mut text = format!(
         "key = \"{KEY}\"\nlisten = \"{listen}\"\n# metrics = \"127.0.0.1:9101\"\njournal = \"journal\"\ninput = true\n"
@@ -26,10 +27,12 @@ pub fn init(folder: &Path, listen: SocketAddr, with: &[PathBuf]) -> io::Result<(
     }
     let path = folder.join(CONFIG);
     OpenOptions::new().write(true).create_new(true).open(&path)?.write_all(text.as_bytes())?;
-    let entry = Config::load(&path)?.entry(&identity.id, &name(folder)?);
+    let entry = Config::load(&path)?.entry(&identity.id, &own);
     for other in with {
-        let mut file = OpenOptions::new().append(true).open(other.join(CONFIG))?;
-        file.write_all(format!("\n{entry}").as_bytes())?;
+        let file = other.join(CONFIG);
+        let mut config = OpenOptions::new().append(true).open(&file)?;
+        config.write_all(format!("\n{entry}").as_bytes())?;
+        eprintln!("{own} is a peer in {} now", file.display());
     }
     print!("{entry}");
     Ok(())
@@ -38,7 +41,9 @@ pub fn init(folder: &Path, listen: SocketAddr, with: &[PathBuf]) -> io::Result<(
 fn name(folder: &Path) -> io::Result<String> {
     let name = fs::canonicalize(folder)?;
     let name = name.file_name().and_then(|it| it.to_str());
-    name.map(str::to_owned).ok_or_else(|| io::Error::other("the folder has no name"))
+    let name = name.ok_or_else(|| io::Error::other("the folder has no name"))?;
+    check_name(name).map_err(io::Error::other)?;
+    Ok(name.to_owned())
 }
 
 /// Checks a configuration, and says what it takes.

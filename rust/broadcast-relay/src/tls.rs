@@ -5,9 +5,11 @@ use openssl::error::ErrorStack;
 use openssl::ssl::{
     Ssl, SslContext, SslMethod, SslOptions, SslSessionCacheMode, SslVerifyMode, SslVersion,
 };
+use openssl::x509::X509StoreContextRef;
 use std::collections::HashSet;
 use std::io;
 use std::pin::Pin;
+use std::sync::atomic::{AtomicBool, Ordering};
 use std::sync::{Arc, PoisonError, RwLock};
 use tokio::net::TcpStream;
 use tokio_openssl::SslStream;
@@ -34,6 +36,15 @@ pub struct Tls {
 /// A connection whose peer has proved its key.
 pub type Stream = SslStream<TcpStream>;
 
+const MUTUAL: SslVerifyMode = SslVerifyMode::PEER.union(SslVerifyMode::FAIL_IF_NO_PEER_CERT);
+
+/// Whether a certificate is the only one, and of a key that may be. Whatever stands above it is refused before any signature of the
+/// chain is checked: a stranger could let others' large keys be checked.
+fn is_of(store: &X509StoreContextRef, may: impl FnOnce(&PeerId) -> bool) -> bool {
+    let is_alone = store.error_depth() == 0 && store.chain().is_none_or(|it| it.len() <= 1);
+    is_alone && store.current_cert().and_then(id_of).is_some_and(|it| may(&it))
+}
+
 impl Tls {
     pub fn new(identity: &Identity, listed: Listed) -> Result<Tls, ErrorStack> {
         let mut builder = SslContext::builder(SslMethod::tls())?;
@@ -43,13 +54,10 @@ impl Tls {
         builder.set_private_key(&identity.key)?;
         builder.set_session_cache_mode(SslSessionCacheMode::OFF);
         builder.set_options(SslOptions::NO_TICKET);
+        builder.set_verify_depth(0);
         let ids = listed.clone();
-        let mode = SslVerifyMode::PEER | SslVerifyMode::FAIL_IF_NO_PEER_CERT;
         // Refuses strangers early; `peer` decides.
-        builder.set_verify_callback(mode, move |_, store| {
-            let id = store.current_cert().and_then(id_of);
-            store.error_depth() > 0 || id.is_some_and(|it| ids.contains(&it))
-        });
+        builder.set_verify_callback(MUTUAL, move |_, store| is_of(store, |it| ids.contains(it)));
         Ok(Tls { context: builder.build(), listed })
     }
 
@@ -61,12 +69,26 @@ impl Tls {
         Ok((stream, id))
     }
 
+    /// Connects to a peer. Whoever else listens there does not get the own certificate: so a dial that is passed on to another relay
+    /// takes no connection's place there.
     pub async fn connect(&self, stream: TcpStream, expected: PeerId) -> io::Result<Stream> {
-        let mut stream = SslStream::new(Ssl::new(&self.context)?, stream)?;
-        Pin::new(&mut stream).connect().await.map_err(io::Error::other)?;
+        let mut ssl = Ssl::new(&self.context)?;
+        let is_other = Arc::new(AtomicBool::new(false));
+        let found = is_other.clone();
+        ssl.set_verify_callback(MUTUAL, move |_, store| {
+            let is_expected = is_of(store, |it| *it == expected);
+            found.store(!is_expected, Ordering::Relaxed);
+            is_expected
+        });
+        let mut stream = SslStream::new(ssl, stream)?;
+        let connected = Pin::new(&mut stream).connect().await;
+        if is_other.load(Ordering::Relaxed) {
+            return Err(io::Error::other("another key listens there"));
+        }
+        connected.map_err(io::Error::other)?;
         match self.peer(&stream)? == expected {
             true => Ok(stream),
-            false => Err(io::Error::other("another peer listens there")),
+            false => Err(io::Error::other("another key listens there")),
         }
     }
 

@@ -1,4 +1,4 @@
-//! Five relays under load and attack: each honest message arrives everywhere, once, and soon.
+//! Five relays under load and attack: each honest message arrives everywhere, once.
 
 mod support;
 
@@ -9,9 +9,8 @@ use std::net::SocketAddr;
 use std::process::{Child, Command, Stdio};
 use std::thread::{sleep, spawn};
 use std::time::{Duration, Instant};
-use support::hostile::{Hostile, frame, have, now};
+use support::hostile::{Hostile, frame, now, report};
 use support::lab::Lab;
-use support::load::{Beside, Machine, must_be_in_time};
 use support::strangers::{Habit, Strangers};
 use support::{Key, Relay, folder, keygen, wait_for};
 
@@ -24,13 +23,9 @@ const TICK: Duration = Duration::from_millis(20);
 const TRICKLE: usize = 64;
 const SILENT: usize = 200;
 const HOSTILE: usize = 60;
-/// Bounds of a machine that checks a signature in 140 µs. A slower one has as much more time.
-const SOON: Duration = Duration::from_secs(1);
-const P99: Duration = Duration::from_millis(100);
 /// How long a test waits for what must come, whatever else the machine does.
 const PATIENCE: Duration = Duration::from_secs(120);
-const LIMITS: &str =
-    "[limits]\nbytes_per_peer = 4194304\nhandshakes = 128\nhandshakes_per_address = 16";
+const LIMITS: &str = "[limits]\nhandshakes = 128\nhandshakes_per_address = 16";
 
 /// Becomes a process with no greater claim to the processors than any other.
 const ORDINARY: &str = "echo 0 2> /dev/null > /proc/self/autogroup; exec nice -n 10 \"$@\"";
@@ -89,11 +84,11 @@ fn flood(hostile: &Hostile, to: SocketAddr, number: usize) -> ! {
             let stamp = now();
             noise[..8].copy_from_slice(&stamp.to_be_bytes());
             let bytes = match round % 6 {
-                // No frame, a wrong message, messages that nobody has and that nobody wants.
+                // No frame, a wrong message, and reports: of everything, and of nothing with all room.
                 0 => noise.clone(),
                 1 => frame(1, &noise),
-                2 => frame(2, &have(&hostile.id, stamp, &noise[..32], 100).repeat(400)),
-                3 => frame(3, &noise[..32 * 400]),
+                2 => report(&hostile.id, &[(0, u64::MAX)], 0, 0).repeat(400),
+                3 => report(&hostile.id, &[], u64::MAX, u64::MAX).repeat(400),
                 // Large fresh messages of its own, and small ones.
                 4 => frame(1, &hostile.message(stamp, &noise[..59_000])),
                 _ => frame(1, &hostile.message(stamp, &noise[..100])),
@@ -178,14 +173,12 @@ impl Typed {
     }
 }
 
-/// Starts the killed relay, and returns how long it takes until it is connected to all others.
-fn come_back(killed: &mut Relay) -> Duration {
-    let start = Instant::now();
+/// Starts the killed relay, and waits until it is connected to all others.
+fn come_back(killed: &mut Relay) {
     killed.start();
-    wait_for("the killed relay is back", PATIENCE, || {
+    wait_for("the killed relay is back", || {
         (0..RELAYS).all(|it| it == KILLED || killed.is_connected(&format!("r{it}")))
     });
-    start.elapsed()
 }
 
 /// What stays the same over all loads.
@@ -199,9 +192,9 @@ struct Network<'a> {
 }
 
 impl Network<'_> {
-    /// Types a line into each relay each tick; one is killed in between. Returns the longest of the dials.
-    fn load(&mut self) -> Duration {
-        let (start, first, mut dial) = (Instant::now(), self.ticks, Duration::ZERO);
+    /// Types a line into each relay each tick; one is killed in between.
+    fn load(&mut self) {
+        let (start, first) = (Instant::now(), self.ticks);
         for tick in first..first + ticks() {
             if tick % ROUND == AWAY.start {
                 self.memory = self.memory.max(self.relays[KILLED].memory("VmHWM"));
@@ -209,9 +202,7 @@ impl Network<'_> {
                 self.typed.lose(&self.relays[KILLED]);
             }
             if tick % ROUND == AWAY.end {
-                let took = come_back(&mut self.relays[KILLED]);
-                println!("the killed relay was connected to all others {took:?} after its start");
-                dial = dial.max(took);
+                come_back(&mut self.relays[KILLED]);
             }
             let is_away = AWAY.contains(&(tick % ROUND));
             for number in (0..RELAYS).filter(|it| *it != KILLED || !is_away) {
@@ -221,20 +212,16 @@ impl Network<'_> {
             sleep(next.saturating_duration_since(Instant::now()));
         }
         self.ticks = first + ticks();
-        dial
     }
 
-    /// Loads the relays, and waits until all have come. Returns whether that was in time, and what the machine did.
-    fn meet(&mut self) -> (bool, Machine) {
-        let beside = Beside::start(&self.relays[0].folder);
+    /// Loads the relays, and waits until all have come. Says how long they took, which is not judged.
+    fn meet(&mut self) {
         let since = Instant::now();
-        let dial = self.load();
+        self.load();
         arrive(self.relays, &self.typed);
-        let machine = beside.end();
         let took = self.typed.latencies(self.relays, since);
         let at = |part: f64| took[(took.len() as f64 * part) as usize];
         println!("p50 {:?}, p99 {:?}, p99.9 {:?}", at(0.5), at(0.99), at(0.999));
-        (machine.is_in_time(dial, SOON) && machine.is_in_time(at(0.99), P99), machine)
     }
 }
 
@@ -277,14 +264,14 @@ fn end(relays: &mut [Relay], typed: &Typed) {
 }
 
 #[test]
-fn each_honest_message_arrives_everywhere_once_and_soon() {
-    Lab::run("each_honest_message_arrives_everywhere_once_and_soon", RELAYS, |lab| {
+fn each_honest_message_arrives_everywhere_once() {
+    Lab::run("each_honest_message_arrives_everywhere_once", RELAYS, |lab| {
         let folder = folder("network");
         let key = keygen(&folder, "hostile");
         let others = [("hostile", &key)];
         let mut relays = Relay::wired(lab, &folder, RELAYS, &others, LIMITS, |_, _| true);
         relays.iter_mut().for_each(Relay::start);
-        wait_for("all are connected", PATIENCE, || {
+        wait_for("all are connected", || {
             relays.iter().all(|it| {
                 (0..RELAYS).all(|other| {
                     it.name == format!("r{other}") || it.is_connected(&format!("r{other}"))
@@ -295,7 +282,7 @@ fn each_honest_message_arrives_everywhere_once_and_soon() {
         let attackers = Attackers::start(&relays, &key);
         sleep(Duration::from_secs(1));
         let mut network = Network { relays: &mut relays, typed: Typed::new(), ticks: 0, memory: 0 };
-        must_be_in_time(|_| network.meet());
+        network.meet();
         let Network { typed, memory, .. } = network;
         let memory = relays.iter().map(|it| it.memory("VmHWM")).max().unwrap().max(memory);
         let metric = |it: &str| relays.iter().map(|relay| relay.metric(it)).collect::<Vec<_>>();

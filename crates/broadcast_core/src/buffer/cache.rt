@@ -1,7 +1,7 @@
 //! The lists of the peers, and each listed message once.
-ghost use Rattle.std.specs.Prelude.{◌≡◌, ◌≤◌, ◌<◌, ◌∷◌, false, true, length, [], None};
+ghost use Rattle.std.specs.Prelude.{◌≡◌, ◌≤◌, ◌<◌, ◌∷◌, Bool, false, true, length, [], None};
 ghost use Rattle.std.specs.Prelude.{is_some, IfOk, IfSome, OnOk, OnErr, IsOk, MatchBool};
-ghost use Rattle.std.specs.Option.{option_copied};
+ghost use Rattle.std.specs.Option.{option_copied, option_map};
 ghost use Rattle.std.specs.List.{IsDistinct, list_any};
 ghost use Rattle.std.specs.Map.{lookup, keys_of};
 ghost use Rattle.std.specs.Ordering.{eq_by_cmp};
@@ -13,15 +13,15 @@ ghost use Rattle.broadcast_core.specs.Stored.{has_digest};
 use crate::buffer::shelf::Shelf;
 use crate::digested::{Digested, Digestible};
 use crate::ordered::{PublicKey, Set};
-use crate::outcome::Outcome;
+use crate::outcome::{Listing, Outcome};
+use entries::Parts;
 use std::alloc::{AllocError, Global};
-use std::collections::BTreeMap;
 use std::marker::Model;
 
 /// The lists of the peers, and the messages of their digests. A list goes by a number.
 #[derive(Drop)]
 pub struct Cache<P: PublicKey, M: Digestible> {
-    numbers: BTreeMap<P, usize>,
+    numbers: Parts<P, usize>,
     shelf: Shelf<M>,
 }
 
@@ -32,20 +32,20 @@ impl<P: PublicKey, M: Digestible> Model for Cache<P, M> {
 
     ghost Value = { Stored P M M.Digest };
 
-    ghost view = { λ it. named_of it.numbers.entries it.shelf };
+    ghost view = { λ it. named_of it.numbers it.shelf };
 
-    ghost invariant = { λ it. IsNumbered P.cmp M.Digest.cmp it.numbers.entries it.shelf };
+    ghost invariant = { λ it. IsNumbered P.cmp M.Digest.cmp it.numbers it.shelf };
 }
 
 impl<P: PublicKey, M: Digestible> Cache<P, M> {
-    ghost use Rattle.broadcast_core.specs.Stored.{Stores, Drops};
+    ghost use Rattle.broadcast_core.specs.Stored.{Stores, StoresIf, Drops};
 
     /// Creates an empty cache. Does not allocate.
     pub fn new(alloc: Global) -> Self
         ensures { result ≡ record { lists = []; messages = [] } }
     {
         Cache {
-            numbers: BTreeMap::new(alloc),
+            numbers: Parts::new(alloc),
             shelf: Shelf::new(alloc),
         }
     }
@@ -68,17 +68,17 @@ impl<P: PublicKey, M: Digestible> Cache<P, M> {
         self.shelf.len()
     }
 
-    /// Puts the digest in front of the list of a primary key, with its charge, and drops the oldest
-    /// digests beyond the limits. Returns also whether its message is known to have been cached.
+    /// Puts the digest in front of the list of a primary key, if it has a charge, and drops the
+    /// oldest digests beyond the limits.
     pub fn take(
         &mut self,
         primary: &Set<P>,
         peer: &P,
         message: &Digested<M>,
-        charge: u64,
+        charge: Option<u64>,
         deque_size: usize,
         byte_budget: u64,
-    ) -> Result<(Outcome, bool), AllocError>
+    ) -> Result<Listing, AllocError>
         requires size { length (items_at (eq_by_cmp P.cmp) peer.now self.old.lists) ≤ deque_size }
         requires bytes { bytes_of (items_at (eq_by_cmp P.cmp) peer.now self.old.lists)
             ≤ byte_budget }
@@ -86,38 +86,43 @@ impl<P: PublicKey, M: Digestible> Cache<P, M> {
             → list_any (eq_by_cmp P.cmp peer.now) primary.now ≡ true }
         ensures outcome { let same = same_by P.cmp M.Digest.cmp in
             let cs = items_at same.key peer.now self.old.lists in
-            IfOk result (λ taken. taken.0 ≡ outcome_of (list_any (same.key peer.now) primary.now)
-            true (has_digest same.digest message.now.digest cs)) }
-        ensures cached { IfOk result (λ taken. taken.1 ≡ true → is_some (lookup
+            IfOk result (λ listing. listing.outcome
+            ≡ outcome_of (list_any (same.key peer.now) primary.now) (is_some charge)
+            (has_digest same.digest message.now.digest cs)) }
+        ensures cached { IfOk result (λ listing. listing.was_cached ≡ true → is_some (lookup
             (eq_by_cmp M.Digest.cmp message.now.digest) self.old.messages) ≡ true) }
-        ensures known { IfOk result (λ taken. taken.0 ≡ Outcome.Inserted → 0 < deque_size
-            → taken.1 ≡ is_some (lookup (eq_by_cmp M.Digest.cmp message.now.digest)
-            self.old.messages)) }
+        ensures known { IfOk result (λ listing. listing.outcome ≡ Outcome.Inserted
+            → 0 < deque_size → listing.was_cached ≡ is_some (lookup
+            (eq_by_cmp M.Digest.cmp message.now.digest) self.old.messages)) }
         ensures stays_at_size_zero { deque_size ≡ 0 → self.new ≡ self.old }
         ensures ok { let same = same_by P.cmp M.Digest.cmp in
-            let cs = items_at same.key peer.now self.old.lists in
-            let c = at_charge message.now.digest charge in
             OnOk result (MatchBool (list_any (same.key peer.now) primary.now)
-            (Stores same peer.now message.now
-            (fronted same.digest deque_size byte_budget c cs) self.old self.new)
+            (StoresIf same peer.now message.now deque_size byte_budget
+            (option_map (at_charge message.now.digest) charge) self.old self.new)
             (self.new ≡ self.old)) }
         ensures err { OnErr result (self.new ≡ self.old) }
 
-        // These do not allocate.
+        // These never fail.
         ensures succeeds_on_duplicate { among (eq_by_cmp M.Digest.cmp) message.now.digest
             (digests_of (items_at (eq_by_cmp P.cmp) peer.now self.old.lists)) ≡ true → IsOk result }
         ensures succeeds_on_ineligible { list_any (eq_by_cmp P.cmp peer.now) primary.now ≡ false
             → IsOk result }
+        ensures succeeds_on_oversize { charge ≡ None → IsOk result }
         ensures succeeds_at_size_zero { deque_size ≡ 0 → IsOk result }
     {
+        let Some(bytes) = charge else {
+            return Ok(Listing::unchanged(without_charge(primary, peer)));
+        };
         match self.numbers.get(peer) {
             // A peer that has a list is primary, so the set is not searched.
             Some(list) => self
                 .shelf
-                .take(*list, message, charge, deque_size, byte_budget),
-            None if primary.position(peer).is_none() => Ok((Outcome::Ineligible, false)),
-            None if deque_size == 0 => Ok((Outcome::Inserted, false)),
-            None => self.take_first(peer, message, charge, deque_size, byte_budget),
+                .take(*list, message, bytes, deque_size, byte_budget),
+            None if primary.position(peer).is_none() => {
+                Ok(Listing::unchanged(Outcome::Ineligible))
+            }
+            None if deque_size == 0 => Ok(Listing::unchanged(Outcome::Inserted)),
+            None => self.take_first(peer, message, bytes, deque_size, byte_budget),
         }
     }
 
@@ -129,13 +134,13 @@ impl<P: PublicKey, M: Digestible> Cache<P, M> {
         charge: u64,
         deque_size: usize,
         byte_budget: u64,
-    ) -> Result<(Outcome, bool), AllocError>
+    ) -> Result<Listing, AllocError>
         requires absent { lookup (eq_by_cmp P.cmp peer.now) self.old.lists ≡ None }
-        ensures outcome { IfOk result (λ taken. taken.0 ≡ outcome_of true true false) }
-        ensures cached { IfOk result (λ taken. taken.1 ≡ true → is_some (lookup
+        ensures outcome { IfOk result (λ listing. listing.outcome ≡ outcome_of true true false) }
+        ensures cached { IfOk result (λ listing. listing.was_cached ≡ true → is_some (lookup
             (eq_by_cmp M.Digest.cmp message.now.digest) self.old.messages) ≡ true) }
-        ensures known { 0 < deque_size → IfOk result (λ taken. taken.1 ≡ is_some (lookup
-            (eq_by_cmp M.Digest.cmp message.now.digest) self.old.messages)) }
+        ensures known { 0 < deque_size → IfOk result (λ listing. listing.was_cached
+            ≡ is_some (lookup (eq_by_cmp M.Digest.cmp message.now.digest) self.old.messages)) }
         ensures ok { let same = same_by P.cmp M.Digest.cmp in
             let c = at_charge message.now.digest charge in
             OnOk result (Stores same peer.now message.now
@@ -144,10 +149,12 @@ impl<P: PublicKey, M: Digestible> Cache<P, M> {
     {
         let owner = peer.clone()?;
         let list = self.shelf.open()?;
-        if let Err(_refused) = self.numbers.insert(owner, list) {
+        let Ok(_none) = self.numbers.find_or_insert(owner, list) else {
             self.shelf.close(list);
             return Err(AllocError);
-        }
+        };
+        // The peers ascend: so says `len`.
+        let _peers = self.numbers.len();
         match self
             .shelf
             .take(list, message, charge, deque_size, byte_budget)
@@ -219,9 +226,24 @@ impl<P: PublicKey, M: Digestible> Cache<P, M> {
     fn remove(&mut self, peer: &P)
         ensures { Drops (same_by P.cmp M.Digest.cmp) (peer.now ∷ []) [] self.old self.new }
     {
-        match self.numbers.remove(peer) {
+        let list = self.numbers.remove(peer);
+        // The peers ascend: so says `len`.
+        let _peers = self.numbers.len();
+        match list {
             Some(list) => self.shelf.remove(list),
             None => {}
         }
+    }
+}
+
+/// Returns the outcome for a message without a charge.
+fn without_charge<P: PublicKey>(primary: &Set<P>, peer: &P) -> Outcome
+    ensures { (has : Bool) → result
+        ≡ outcome_of (list_any (eq_by_cmp P.cmp peer.now) primary.now) false has }
+{
+    if primary.position(peer).is_some() {
+        Outcome::Oversize
+    } else {
+        Outcome::Ineligible
     }
 }

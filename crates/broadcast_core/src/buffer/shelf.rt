@@ -13,8 +13,8 @@ ghost use Rattle.broadcast_core.specs.Stored.{has_digest};
 ghost use Rattle.broadcast_core.specs.Indexed.{names_of, Holds, Pushes};
 
 use crate::digested::{Digested, Digestible};
-use crate::outcome::Outcome;
-use entries::{Charged, Entries, Found, Table};
+use crate::outcome::{Listing, Outcome};
+use entries::{Charged, Entries, Table};
 use std::alloc::{AllocError, Global};
 use std::marker::Model;
 
@@ -91,7 +91,7 @@ impl<M: Digestible> Shelf<M> {
     }
 
     /// Puts the digest in front of the list, with its charge, and drops the oldest digests beyond
-    /// the limits. Returns also whether its message is known to have been cached.
+    /// the limits.
     pub fn take(
         &mut self,
         list: usize,
@@ -99,19 +99,19 @@ impl<M: Digestible> Shelf<M> {
         charge: u64,
         deque_size: usize,
         byte_budget: u64,
-    ) -> Result<(Outcome, bool), AllocError>
+    ) -> Result<Listing, AllocError>
         requires there { is_some (lookup (same_number list) self.old.lists) ≡ true }
         requires size { length (items_at same_number list self.old.lists) ≤ deque_size }
         requires bytes { bytes_of (items_at same_number list self.old.lists)
             ≤ byte_budget }
         ensures outcome { let same = same_listed M.Digest.cmp in
             let cs = items_at same.key list self.old.lists in
-            IfOk result (λ taken. taken.0
+            IfOk result (λ listing. listing.outcome
             ≡ outcome_of true true (has_digest same.digest message.now.digest cs)) }
-        ensures cached { IfOk result (λ taken. taken.1 ≡ true → is_some (lookup
+        ensures cached { IfOk result (λ listing. listing.was_cached ≡ true → is_some (lookup
             (eq_by_cmp M.Digest.cmp message.now.digest) self.old.messages) ≡ true) }
-        ensures known { 0 < deque_size → IfOk result (λ taken. taken.1 ≡ is_some (lookup
-            (eq_by_cmp M.Digest.cmp message.now.digest) self.old.messages)) }
+        ensures known { 0 < deque_size → IfOk result (λ listing. listing.was_cached
+            ≡ is_some (lookup (eq_by_cmp M.Digest.cmp message.now.digest) self.old.messages)) }
         ensures stays_at_size_zero { deque_size ≡ 0 → self.new ≡ self.old }
         ensures ok { let same = same_listed M.Digest.cmp in
             let cs = items_at same.key list self.old.lists in
@@ -120,7 +120,7 @@ impl<M: Digestible> Shelf<M> {
             (fronted same.digest deque_size byte_budget c cs) self.old self.new) }
         ensures err { OnErr result (self.new ≡ self.old) }
 
-        // These do not allocate.
+        // These never fail.
         ensures succeeds_on_duplicate { among (eq_by_cmp M.Digest.cmp) message.now.digest
             (digests_of (items_at same_number list self.old.lists)) ≡ true → IsOk result }
         ensures succeeds_at_size_zero { deque_size ≡ 0 → IsOk result }
@@ -128,14 +128,13 @@ impl<M: Digestible> Shelf<M> {
         if deque_size == 0 {
             // Shows the proof the invariant.
             let _lists = &self.lists;
-            return Ok((Outcome::Inserted, false));
+            return Ok(Listing::unchanged(Outcome::Inserted));
         }
-        let (is_new, was_cached, bytes) = self.insert(list, message, charge, deque_size)?;
-        if bytes <= u128::from(byte_budget) {
-            return Ok((outcome(is_new), was_cached));
+        let (listing, bytes) = self.insert(list, message, charge, deque_size)?;
+        if bytes > u128::from(byte_budget) {
+            self.cut(list, byte_budget);
         }
-        self.cut(list, byte_budget);
-        Ok((outcome(is_new), was_cached))
+        Ok(listing)
     }
 
     /// Drops the oldest digests of the list until their charges sum to at most `byte_budget`.
@@ -148,25 +147,26 @@ impl<M: Digestible> Shelf<M> {
         }
     }
 
-    /// Puts the digest in front of the list, which keeps at least one. Returns whether it
-    /// is new there, whether its message was cached, and the sum of the charges.
+    /// Puts the digest in front of the list, which keeps at least one. Returns also the sum of the
+    /// charges.
     fn insert(
         &mut self,
         list: usize,
         message: &Digested<M>,
         charge: u64,
         size: usize,
-    ) -> Result<(bool, bool, u128), AllocError>
+    ) -> Result<(Listing, u128), AllocError>
         requires there { is_some (lookup (same_number list) self.old.lists) ≡ true }
         requires size { length (items_at same_number list self.old.lists) ≤ size }
         requires some { 0 < size }
         requires room { bytes_of (items_at same_number list self.old.lists) < 2 ^ 64 }
-        ensures new { let same = same_listed M.Digest.cmp in
+        ensures outcome { let same = same_listed M.Digest.cmp in
             let cs = items_at same.key list self.old.lists in
-            IfOk result (λ new. new.0 ≡ not (has_digest same.digest message.now.digest cs)) }
-        ensures cached { IfOk result (λ new. new.1 ≡ is_some (lookup
+            IfOk result (λ put. put.0.outcome
+            ≡ outcome_of true true (has_digest same.digest message.now.digest cs)) }
+        ensures cached { IfOk result (λ put. put.0.was_cached ≡ is_some (lookup
             (eq_by_cmp M.Digest.cmp message.now.digest) self.old.messages)) }
-        ensures bytes { IfOk result (λ new. new.2
+        ensures bytes { IfOk result (λ put. put.1
             ≡ bytes_of (items_at same_number list self.new.lists)) }
         ensures ok { let same = same_listed M.Digest.cmp in
             let cs = items_at same.key list self.old.lists in
@@ -177,7 +177,7 @@ impl<M: Digestible> Shelf<M> {
         ensures succeeds_on_duplicate { among (eq_by_cmp M.Digest.cmp) message.now.digest
             (digests_of (items_at same_number list self.old.lists)) ≡ true → IsOk result }
     {
-        let found = hold(&mut self.table, list, message, self.lists.vacant())?;
+        let found = self.table.insert(message, list, self.lists.vacant())?;
         let charged = Charged {
             digest: found.item,
             charge,
@@ -188,7 +188,11 @@ impl<M: Digestible> Shelf<M> {
         };
         // Both arms leave the invariant here.
         let _lists = &self.lists;
-        Ok((found.place.is_none(), found.was_there, bytes))
+        let listing = Listing {
+            outcome: outcome(found.place),
+            was_cached: found.was_there,
+        };
+        Ok((listing, bytes))
     }
 
     /// Returns the sum of the charges on the list.
@@ -253,42 +257,15 @@ impl<M: Digestible> Shelf<M> {
     }
 }
 
-/// Returns the outcome for a digest that is new on its list, or was on it.
-fn outcome(is_new: bool) -> Outcome
-    ensures { result ≡ outcome_of true true (not is_new) }
+/// Returns the outcome for a digest that had this place on the list.
+fn outcome(place: Option<usize>) -> Outcome
+    ensures { result ≡ outcome_of true true (is_some place) }
 {
-    if is_new {
-        Outcome::Inserted
-    } else {
+    if place.is_some() {
         Outcome::Duplicate
+    } else {
+        Outcome::Inserted
     }
-}
-
-/// Returns where the message stands: its item, and its place on the list if it has one. Otherwise
-/// gives it this place, and caches the message if its digest has none.
-fn hold<M: Digestible>(
-    table: &mut Table<Digested<M>>,
-    list: usize,
-    message: &Digested<M>,
-    place: usize,
-) -> Result<Found, AllocError>
-    ensures found { IfOk result (λ found. found.place ≡ place_at (eq_by_cmp M.Digest.cmp)
-        same_number (items_of table.old) message.now.digest list) }
-    ensures there { IfOk result (λ found. found.was_there ≡ is_some (lookup
-        (eq_by_cmp M.Digest.cmp message.now.digest) (items_of table.old))) }
-    ensures item { IfOk result (λ found.
-        names_of table.new found.item ≡ Some message.now.digest) }
-    ensures stays { IfOk result (λ found. IsSome found.place → table.new ≡ table.old) }
-    ensures held { IfOk result (λ found. found.place ≡ None
-        → Holds (same_listed M.Digest.cmp) M.Digest.cmp list message.now place
-        (items_of table.old) (items_of table.new)) }
-    ensures names { KeepsNames (λ m. m.digest) table.old table.new }
-    ensures fails_for_new_places { OnErr result (place_at (eq_by_cmp M.Digest.cmp)
-        same_number (items_of table.old) message.now.digest list ≡ None) }
-    ensures err { OnErr result (table.new ≡ table.old) }
-    ensures tabled { IsTabled M.Digest.cmp (λ m. m.digest) table.new }
-{
-    table.insert(message, list, place)
 }
 
 /// Puts an item of the table in front of the list, and takes the oldest out of both if the list

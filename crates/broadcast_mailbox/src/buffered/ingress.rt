@@ -12,4 +12,3 @@ pub mod queue;
 pub mod reply;
 pub mod shared;
 pub mod subscription;
-pub mod subscriptions;

@@ -89,29 +89,15 @@ pub type Plain = Message<u64, Note, Line, Line>;
 
 /// Creates a request of the kind.
 pub fn request(alloc: Global, kind: Kind, closed: &ClosedDigests) -> Result<Plain, AllocError> {
-    match kind {
-        Kind::Broadcast(digest) => broadcast(alloc, digest),
-        Kind::Subscribe(digest) => Ok(Message::Subscribe {
-            digest,
-            responder: responder_for(digest, closed)?,
-        }),
-        Kind::Get(digest) => Ok(Message::Get {
-            digest,
-            responder: responder_for(digest, closed)?,
-        }),
-    }
-}
-
-fn broadcast(alloc: Global, digest: u64) -> Result<Plain, AllocError> {
-    Ok(Message::Broadcast {
-        recipients: Recipients::All,
-        message: Digested::precomputed(alloc, Note(1), digest)?,
-    })
-}
-
-fn responder_for(digest: u64, closed: &ClosedDigests) -> Result<Line, AllocError> {
-    Ok(Line {
-        digest,
-        closed: closed.clone()?,
+    let (Kind::Broadcast(digest) | Kind::Subscribe(digest) | Kind::Get(digest)) = kind;
+    let closed = closed.clone()?;
+    let responder = Line { digest, closed };
+    Ok(match kind {
+        Kind::Broadcast(_) => {
+            let message = Digested::precomputed(alloc, Note(1), digest)?;
+            Message::broadcast(Recipients::All, message)
+        }
+        Kind::Subscribe(_) => Message::subscribe(digest, responder),
+        Kind::Get(_) => Message::get(digest, responder),
     })
 }

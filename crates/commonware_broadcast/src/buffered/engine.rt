@@ -19,6 +19,7 @@ mod thread;
 pub use driver::drive;
 pub use laws::new_engine_law;
 pub use report::Report;
+pub(crate) use running::Running;
 pub use state::Engine;
+pub use thread::StartError;
 pub(crate) use thread::{give_up, spawn};
-pub use thread::{Ready, StartError};

@@ -11,7 +11,7 @@ use crate::buffered::runtime::{Movable, Runtime};
 use crate::buffered::started::Handle;
 use broadcast_core::{Codec, Digestible, PublicKey};
 use broadcast_mailbox::buffered::Mailbox;
-use digest_strategies::{Strategy, Threaded, Work};
+use digest_strategies::Strategy;
 use engine_io::{Observer, Provider, Receiver, Sender};
 use std::alloc::{AllocError, AllocGlobal};
 
@@ -35,31 +35,11 @@ where
     N: Sender<P> + Movable,
     V: Receiver<P> + Movable,
     R: Runtime,
+    ensures own_mailbox { IfOk result (λ started. started.0.inbox ≡ started.1.inbox) }
+    ensures mailbox_size { IfOk result (λ started.
+        started.1.inbox.size ≡ non_zero_usize_get cfg.mailbox_size) }
 {
     cfg.observed_by(()).start(rt, network)
-}
-
-/// Creates an engine whose messages are digested on other threads, and its mailbox, and starts it
-/// in a thread of its own, where it runs until it ends.
-///
-/// Fails if an allocation fails or no thread can be started. Then there is no engine.
-pub fn start_threaded<P, M, B, Gate, N, V, R>(
-    rt: &R,
-    cfg: Config<P, M::Cfg, B, Threaded<Gate, R>>,
-    network: (N, V),
-) -> Result<(Handle<P, M, R>, Mailbox<P, M, R>), StartError>
-where
-    P: PublicKey + Send + 'static,
-    M: Digestible + Codec + Work<Gate, R> + Send + Sync + 'static,
-    M::Digest: 'static,
-    M::Cfg: Send + Drop + 'static,
-    B: Provider<P> + Movable,
-    Gate: Send + Sync + Drop + 'static,
-    N: Sender<P> + Movable,
-    V: Receiver<P> + Movable,
-    R: Runtime,
-{
-    cfg.observed_by(()).start_threaded(rt, network)
 }
 
 /// The handle and the mailbox of a started engine that has an observer.
@@ -88,6 +68,9 @@ where
         V: Receiver<P> + Movable,
         R: Runtime,
         W: Observer<P, M::Digest>,
+        ensures own_mailbox { IfOk result (λ started. started.0.inbox ≡ started.1.inbox) }
+        ensures mailbox_size { IfOk result (λ started.
+            started.1.inbox.size ≡ non_zero_usize_get self.config.mailbox_size) }
     {
         let Observed { config, observer } = self;
         let Ok((engine, mailbox)) = new_engine::<P, M, B, T, R>(rt, config) else {
@@ -97,51 +80,6 @@ where
         };
         let handle = engine.start_with(rt, network, observer)?;
         Ok((handle, mailbox))
-    }
-}
-
-impl<P, C, B, Gate, R, W> Observed<P, C, B, Threaded<Gate, R>, W>
-where
-    P: PublicKey + Send + 'static,
-    C: Movable,
-    B: Provider<P> + Movable,
-    Gate: Send + Sync + Drop + 'static,
-    R: Runtime,
-    W: Movable,
-{
-    /// Creates an engine whose messages are digested on other threads, and its mailbox, and starts
-    /// it, as [`start_threaded`] does.
-    pub fn start_threaded<M, N, V>(
-        self,
-        rt: &R,
-        network: (N, V),
-    ) -> Result<Started<P, M, R, W>, StartError>
-    where
-        M: Digestible + Codec<Cfg = C> + Work<Gate, R> + Send + Sync + 'static,
-        M::Digest: 'static,
-        N: Sender<P> + Movable,
-        V: Receiver<P> + Movable,
-        W: Observer<P, M::Digest>,
-    {
-        let Observed { config, observer } = self;
-        let Ok((engine, mailbox)) = new_engine::<P, M, B, Threaded<Gate, R>, R>(rt, config) else {
-            drop::<_>(network);
-            give_up::<P, M::Digest, W>(observer);
-            return Err(StartError::Memory);
-        };
-        match engine.prepare(rt, network, observer) {
-            Ok(prepared) => match prepared.start(rt) {
-                Ok(handle) => Ok((handle, mailbox)),
-                Err(error) => {
-                    drop::<_>(mailbox);
-                    Err(error)
-                }
-            },
-            Err(error) => {
-                drop::<_>(mailbox);
-                Err(error)
-            }
-        }
     }
 }
 

@@ -1,26 +1,30 @@
-//! Clients on several threads, and one that stops the engine meanwhile.
+//! Four clients on threads of their own, whose calls a tally counts, and a stop in the middle.
+ghost use Rattle.std.specs.Prelude.{◌≡◌, ◌<◌, ◌^◌};
+ghost use Rattle.std.specs.NonZero.{non_zero_u32_get};
+
 use super::quiet::{Gives, Sets, Void, Wire, config};
+use crate::nodes::message;
 use crate::patient::{LIMIT, pause};
-use broadcast_core::{Digest, Recipients, TestMessage};
-use broadcast_mailbox::MailboxError;
+use broadcast_core::{Codec, Digest, Digested, Digestible, RangeCfg, Recipients, TestMessage};
 use commonware_broadcast::buffered::{
-    Account, All, Broadcasts, EndCause, Finished, Kind, Leaves, Runtime, Sequential, Session,
-    Watch, WatchedClient,
+    Account, All, Broadcasts, EndCause, Engine, Kind, Runtime, Sequential, Settled, Tally, Watch,
+    WatchedMailbox, WatchedNode,
 };
-use memory_node::support::message::{digest, digested};
-use std::alloc::AllocGlobal;
-use std::marker::PhantomData;
+use std::alloc::{AllocError, AllocGlobal};
+use std::marker::Brand;
 use std::num::NonZeroU32;
 use std::process::Abort;
-use std::random::RandomSource;
-use std::sync::Wait;
+use std::sync::atomic::{AtomicU64, Ordering};
+use std::sync::ledger::Blank;
+use std::sync::{Arc, Wait};
+use std::thread::{self, JoinHandle, Threads};
 use std::time::Clock;
 
-/// How many clients make requests. The next one stops the engine.
-const ASKING: u32 = 4;
+/// How many clients there are.
+const CLIENTS: u32 = 4;
 
-/// How often each of them makes three requests.
-const ROUNDS: u8 = 34;
+/// How often a client makes a call of each kind, and one more get.
+const ROUNDS: u8 = 25;
 
 /// The bytes of a digest that no message has.
 const NOBODYS: [u8; 32] = [7; 32];
@@ -42,217 +46,279 @@ impl Watch<Digest> for Nobodys {
     }
 }
 
-/// A session whose account has the watch.
+/// How many broadcasts, subscribes and gets were accepted, as their caller was told.
+type Told = [u64; 3];
+
+/// What a client calls for.
 #[derive(Drop)]
-struct Asking<R, V> {
+struct Calls<M: Digestible> {
+    /// What it broadcasts and gets.
+    messages: Vec<Digested<M>>,
+    /// What it subscribes to.
+    nobodys: M::Digest,
+}
+
+/// A client.
+#[derive(Drop)]
+struct Client<M: Digestible, R, A: Account, K: Account, V: Watch<M::Digest>> {
+    mailbox: WatchedMailbox<u64, M, R, A, K, V>,
+    tally: Tally<A>,
+    calls: Calls<M>,
+    /// The rounds that all clients have made.
+    made: Arc<AtomicU64>,
     rt: R,
-    of: PhantomData<V>,
 }
 
-/// How many of its broadcasts a client was told are accepted.
-pub type Told = Result<u64, MailboxError>;
+impl<M, R, A, K, V> Client<M, R, A, K, V>
+where
+    M: Digestible,
+    R: Wait + Abort + Drop,
+    A: Account,
+    K: Account,
+    V: Watch<M::Digest>,
+{
+    /// Makes all calls. Returns the tally, and what it was told.
+    fn run(self) -> (Tally<A>, Told) {
+        let Client {
+            mailbox,
+            mut tally,
+            calls,
+            made,
+            rt,
+        } = self;
+        let mut told = [0; 3];
+        let Calls { messages, nobodys } = calls;
+        for message in messages {
+            call(&rt, &mailbox, &mut tally, message, nobodys, &mut told);
+            made.fetch_add(1, Ordering::SeqCst);
+        }
+        (tally, told)
+    }
+}
 
-/// What a client leaves.
-#[derive(Drop)]
+/// Makes a broadcast, a subscribe and two gets, and drops their futures.
+fn call<M, R, A, K, V>(
+    rt: &R,
+    mailbox: &WatchedMailbox<u64, M, R, A, K, V>,
+    tally: &mut Tally<A>,
+    message: Digested<M>,
+    nobodys: M::Digest,
+    told: &mut Told,
+)
+where
+    M: Digestible,
+    R: Wait + Abort,
+    A: Account,
+    K: Account,
+    V: Watch<M::Digest>,
+{
+    let digest = message.digest();
+    let feedback = mailbox.broadcast_as(tally, Recipients::All, message);
+    let is_accepted = feedback.expect(rt, "a broadcast").accepted();
+    told[0] = told[0].saturating_add(u64::from(is_accepted));
+    let subscription = mailbox
+        .subscribe_as(tally, nobodys)
+        .expect(rt, "a subscription");
+    told[1] = told[1].saturating_add(u64::from(subscription.was_accepted()));
+    for _ in 0..2 {
+        let get = mailbox.get_as(tally, digest).expect(rt, "a get");
+        told[2] = told[2].saturating_add(u64::from(get.was_accepted()));
+    }
+}
+
+/// What four clients and their engine leave.
+#[derive(Clone, Copy, Debug)]
 struct Left {
-    number: u32,
-    /// How many of its broadcasts it was told are accepted.
-    told: u64,
-    /// How many of its requests were counted.
+    cause: EndCause,
+    told: Told,
+    /// What the joined tally counts.
     counted: u64,
+    settled: Settled,
 }
 
-impl Leaves for Left {
-    ghost use Rattle.std.specs.Prelude.{◌==◌};
-    ghost use Rattle.broadcast_mailbox.specs.Account.{capped};
-
-    ghost leaves = { λ left number. left.counted == capped number };
-}
-
-impl<R, V> Session<u64, TestMessage, R> for Asking<R, V>
+/// Lets four clients call, and picks the ledgers of their account. It is generic in the message,
+/// since the check refuses a function that makes an engine of a named one.
+fn run<M, V, R>(rt: &R, codec_config: M::Cfg, calls: Vec<Calls<M>>) -> Left
 where
-    R: Wait + Abort + Clock + RandomSource + AllocGlobal,
-    V: Watch<Digest>,
+    M: Digestible + Codec + Send + Sync + 'static,
+    M::Digest: Send + Sync + 'static,
+    M::Cfg: Send + Drop + 'static,
+    V: Watch<M::Digest> + Send + Sync + 'static,
+    R: Runtime + Abort,
 {
-    type Watch = V;
+    let parts = NonZeroU32::new(CLIENTS).unwrap();
+    let accepted = Blank::new(parts.get() as u64);
+    run_with::<M, V, R, Brand, Brand>(rt, codec_config, calls, parts, accepted, Blank::new(1))
+}
 
-    type Output = Left;
-
-    fn run<A: Account, K: Account>(
-        &self,
-        number: u32,
-        client: &mut WatchedClient<u64, TestMessage, R, A, K, V>,
-    ) -> Left {
-        let told = if number < ASKING {
-            ask_often(&self.rt, client)
-        } else {
-            ask_and_stop(&self.rt, client)
-        };
-        Left {
-            number,
+/// Lets four clients call, whose account has these ledgers. Stops the engine in the middle.
+fn run_with<M, V, R, A, K>(
+    rt: &R,
+    codec_config: M::Cfg,
+    calls: Vec<Calls<M>>,
+    parts: NonZeroU32,
+    accepted: Blank,
+    taken: Blank,
+) -> Left
+where
+    M: Digestible + Codec + Send + Sync + 'static,
+    M::Digest: Send + Sync + 'static,
+    M::Cfg: Send + Drop + 'static,
+    V: Watch<M::Digest> + Send + Sync + 'static,
+    R: Runtime + Abort,
+    A: Account + Send + Sync + 'static,
+    K: Account + Send + Sync + 'static,
+    requires accepted { (accepted.name ≡ A.name) × (accepted.parts ≡ A.parts) }
+    requires parts { (A.all ≡ A.parts) × (A.parts ≡ non_zero_u32_get parts) }
+    requires taken { (taken.name ≡ K.name) × (taken.parts ≡ K.parts) }
+    requires one { (K.all ≡ K.parts) × (K.parts ≡ 1) }
+{
+    let sets = Sets::new(rt.alloc(), Gives::Nothing).expect(rt, "memory");
+    let wire = Wire::new(rt.alloc(), Gives::Nothing).expect(rt, "memory");
+    let cfg = config(sets, codec_config, Sequential);
+    let copy = rt.clone().expect(rt, "memory");
+    let node: Result<WatchedNode<u64, M, Sets, Sequential, R, A, K, V>, AllocError> =
+        Engine::new_watched(copy, rt.alloc(), cfg, parts, accepted, taken);
+    let (engine, mailbox, tally) = node.expect(rt, "an engine");
+    let made = Arc::new(rt.alloc(), AtomicU64::new(0)).expect(rt, "memory");
+    let handle = engine.start(rt, (Void, wire)).expect(rt, "a thread");
+    let clients = start_all(rt, &mailbox, tally, calls, &made);
+    wait_for_half(rt, &made);
+    handle.stop();
+    let (tally, told) = join_all(rt, clients);
+    let report = handle.join(rt);
+    let (cause, counted) = (report.cause(), tally.accepted());
+    match report.settle(tally) {
+        Ok(settled) => Left {
+            cause,
             told,
-            counted: client.accepted(),
-        }
+            counted,
+            settled,
+        },
+        Err(_) => panic!(rt; "an account that can't be settled"),
     }
 }
 
-/// Makes all requests of a client.
-fn ask_often<R, A, K, V>(rt: &R, client: &mut WatchedClient<u64, TestMessage, R, A, K, V>) -> u64
-where
-    R: Wait + Abort + AllocGlobal,
-    A: Account,
-    K: Account,
-    V: Watch<Digest>,
-{
-    let mut told = 0u64;
-    for round in 0..ROUNDS {
-        told = told.saturating_add(ask(rt, client, round));
-    }
-    told
-}
-
-/// Makes a request of each kind, and drops the futures. Returns 1 if the broadcast is accepted.
-fn ask<R, A, K, V>(
+/// Starts a client for each list of calls, with a part of the tally each.
+fn start_all<M, R, A, K, V>(
     rt: &R,
-    client: &mut WatchedClient<u64, TestMessage, R, A, K, V>,
-    letter: u8,
-) -> u64
+    mailbox: &WatchedMailbox<u64, M, R, A, K, V>,
+    tally: Tally<A>,
+    calls: Vec<Calls<M>>,
+    made: &Arc<AtomicU64>,
+) -> Vec<JoinHandle<(Tally<A>, Told)>>
 where
-    R: Wait + Abort + AllocGlobal,
-    A: Account,
-    K: Account,
-    V: Watch<Digest>,
+    M: Digestible + Send + Sync + 'static,
+    M::Digest: Send + Sync + 'static,
+    R: Runtime + Abort,
+    A: Account + Send + Sync + 'static,
+    K: Account + Send + Sync + 'static,
+    V: Watch<M::Digest> + Send + Sync + 'static,
 {
-    let message = digested(rt.alloc(), letter, letter).expect(rt, "memory");
-    drop::<_>(client.get(message.digest()).expect(rt, "a get"));
-    let subscription = client.subscribe(Digest { bytes: NOBODYS });
-    drop::<_>(subscription.expect(rt, "a subscription"));
-    let feedback = client.broadcast(Recipients::All, message);
-    u64::from(feedback.expect(rt, "a broadcast").accepted())
-}
-
-/// Makes a request of each kind, waits for the reply to a get, and stops the engine.
-fn ask_and_stop<R, A, K, V>(rt: &R, client: &mut WatchedClient<u64, TestMessage, R, A, K, V>) -> u64
-where
-    R: Wait + Abort + Clock + RandomSource + AllocGlobal,
-    A: Account,
-    K: Account,
-    V: Watch<Digest>,
-{
-    let told = ask(rt, client, 0);
-    let digest = digest(rt.alloc(), 0).expect(rt, "memory");
-    let get = client.get(digest).expect(rt, "a get");
-    drop::<_>(get.wait(rt));
-    client.stop();
-    let more = broadcast_until_closed(rt, client).expect(rt, "a closed mailbox");
-    told.saturating_add(more)
-}
-
-/// Broadcasts until the mailbox is closed, as it is soon after a stop. Returns how many broadcasts
-/// are accepted. A mailbox that stays open is told as one without tickets.
-pub fn broadcast_until_closed<R, A, K, V>(
-    rt: &R,
-    client: &mut WatchedClient<u64, TestMessage, R, A, K, V>,
-) -> Told
-where
-    R: Wait + Clock + AllocGlobal,
-    A: Account,
-    K: Account,
-    V: Watch<Digest>,
-{
-    for accepted in 0..LIMIT {
-        let message = digested(rt.alloc(), 0, 0)?;
-        if !client.broadcast(Recipients::All, message)?.accepted() {
-            return Ok(accepted);
-        }
-        pause(rt);
+    let mut clients = Vec::new(rt.alloc());
+    let mut rest = Some(tally);
+    for calls in calls {
+        let Some(mut tally) = rest.take() else {
+            panic!(rt; "more clients than parts");
+        };
+        // The last client has what is left of the tally.
+        let part = match tally.split_one() {
+            Some(part) => {
+                rest = Some(tally);
+                part
+            }
+            None => tally,
+        };
+        let client = Client {
+            mailbox: mailbox.clone().expect(rt, "memory"),
+            tally: part,
+            calls,
+            made: Arc::try_clone(made).expect(rt, "memory"),
+            rt: rt.clone().expect(rt, "memory"),
+        };
+        let client = thread::spawn(rt, move || client.run()).expect(rt, "a thread");
+        clients.push(client).expect(rt, "memory");
     }
-    Err(MailboxError::Exhausted)
+    clients
 }
 
-/// Runs a session. Returns how many broadcasts its clients were told are accepted, and what else it
-/// leaves.
-fn run<V, R>(rt: &R) -> (u64, Finished<Left, u64>)
+/// Joins the clients, and their tallies. Returns what they were told in all.
+fn join_all<R, A>(rt: &R, clients: Vec<JoinHandle<(Tally<A>, Told)>>) -> (Tally<A>, Told)
+where
+    R: Threads + Abort,
+    A: Account,
+    requires { A.parts < 2 ^ 64 }
+{
+    let mut all = None;
+    let mut told = [0u64; 3];
+    for client in clients {
+        let (tally, own) = client.join(rt);
+        for (sum, number) in told.iter_mut().zip(own.iter()) {
+            *sum = sum.saturating_add(*number);
+        }
+        all = match all {
+            Some(others) => Some(Tally::join(others, tally)),
+            None => Some(tally),
+        };
+    }
+    (all.expect(rt, "a client"), told)
+}
+
+/// Waits until the clients have made half of their rounds.
+fn wait_for_half(clock: &impl Clock, made: &AtomicU64) {
+    for _ in 0..LIMIT {
+        if made.load(Ordering::SeqCst) >= u64::from(CLIENTS) * u64::from(ROUNDS) / 2 {
+            return;
+        }
+        pause(clock);
+    }
+}
+
+/// Creates the calls of all clients.
+fn calls_of_all<R: Abort + AllocGlobal>(rt: &R) -> Vec<Calls<TestMessage>> {
+    let mut all = Vec::new(rt.alloc());
+    for _ in 0..CLIENTS {
+        let mut messages = Vec::new(rt.alloc());
+        for letter in 0..ROUNDS {
+            messages.push(message(rt, letter)).expect(rt, "memory");
+        }
+        let nobodys = Digest { bytes: NOBODYS };
+        all.push(Calls { messages, nobodys }).expect(rt, "memory");
+    }
+    all
+}
+
+/// Lets four clients call. Returns how many calls of each kind were accepted as they were told, how
+/// many were counted, and how many of these were skipped. Each of these was settled once.
+fn counted<V, R>(rt: &R) -> (Told, u64, u64)
 where
     V: Watch<Digest> + Send + Sync + 'static,
     R: Runtime + Abort,
 {
-    let session: Asking<R, V> = Asking {
-        rt: rt.clone().expect(rt, "memory"),
-        of: PhantomData,
-    };
-    let sets = Sets::new(rt.alloc(), Gives::Nothing).expect(rt, "memory");
-    let wire = Wire::new(rt.alloc(), Gives::Nothing).expect(rt, "memory");
-    let clients = NonZeroU32::new(ASKING + 1).unwrap();
-    let config = config(sets, Sequential);
-    let finished = config.run_session(rt, (Void, wire), clients, session, ());
-    let finished = finished.expect(rt, "a session");
-    (told_by_all(&finished), finished)
+    let left = run::<TestMessage, V, R>(rt, RangeCfg::any(), calls_of_all(rt));
+    let it = left.settled;
+    let numbers = [it.applied, it.refused, it.skipped, it.given_up];
+    assert!(rt;
+        left.cause == EndCause::Stopped && sum(&numbers) == left.counted,
+        "{left:?}"
+    );
+    (left.told, left.counted, it.skipped)
 }
 
-/// Returns how many broadcasts all clients were told are accepted.
-fn told_by_all(finished: &Finished<Left, u64>) -> u64 {
-    let mut all = 0u64;
-    for left in &finished.outputs {
-        all = all.saturating_add(left.told);
-    }
-    all
-}
-
-/// Returns how many requests of all clients were counted.
-fn counted_by_all(finished: &Finished<Left, u64>) -> u64 {
-    let mut all = 0u64;
-    for left in &finished.outputs {
-        all = all.saturating_add(left.counted);
-    }
-    all
-}
-
-/// Returns whether the clients had the numbers from 0, and left their outputs in this order.
-fn are_in_order(outputs: &[Left]) -> bool {
-    let mut next = 0u32;
-    for left in outputs {
-        if left.number != next {
-            return false;
-        }
-        next = next.saturating_add(1);
-    }
-    next == ASKING + 1
-}
-
-/// Returns whether a session ended by the stop, and as many requests were counted as were applied,
-/// refused, skipped or given up, but not none.
-fn adds_up(finished: &Finished<Left, u64>) -> bool {
-    let it = finished.settled;
-    let ends = [it.applied, it.refused, it.skipped, it.given_up];
+fn sum(numbers: &[u64]) -> u64 {
     let mut sum = 0u64;
-    for number in ends {
-        sum = sum.saturating_add(number);
+    for number in numbers {
+        sum = sum.saturating_add(*number);
     }
-    finished.cause == EndCause::Stopped && finished.accepted == sum && sum > 0
+    sum
 }
 
 #[test]
-fn all_requests_of_four_threads_are_accounted_for(rt: HostRuntime) {
-    let (told, finished) = run::<All, HostRuntime>(&rt);
-    assert!(rt; adds_up(&finished) && are_in_order(&finished.outputs));
-    assert_eq!(rt; finished.accepted, counted_by_all(&finished));
-    // The client that stops the engine also makes a subscribe and two gets, and waits for the last.
-    assert!(rt; finished.accepted >= told.saturating_add(3));
-    // Its broadcast and its last get are applied; a request without a caller may be skipped.
-    assert!(rt; finished.settled.applied >= 2);
-}
-
-#[test]
-fn broadcasts_of_four_threads_are_those_that_they_were_told_of(rt: HostRuntime) {
-    let (told, finished) = run::<Broadcasts, HostRuntime>(&rt);
-    assert!(rt; adds_up(&finished));
-    assert_eq!(rt; finished.accepted, told);
-    assert_eq!(rt; finished.settled.skipped, 0);
-}
-
-#[test]
-fn subscribes_of_four_threads_to_one_digest_are_accounted_for(rt: HostRuntime) {
-    let (_told, finished) = run::<Nobodys, HostRuntime>(&rt);
-    assert!(rt; adds_up(&finished));
+fn calls_of_four_threads_are_accounted_for(rt: HostRuntime) {
+    let (told, counted_calls, _) = counted::<All, _>(&rt);
+    assert_eq!(rt; counted_calls, sum(&told));
+    let (told, counted_calls, skipped) = counted::<Broadcasts, _>(&rt);
+    assert_eq!(rt; (counted_calls, skipped), (told[0], 0));
+    let (told, counted_calls, _) = counted::<Nobodys, _>(&rt);
+    assert_eq!(rt; counted_calls, told[1]);
 }

@@ -2,18 +2,16 @@
 ghost use Rattle.std.specs.Prelude.{◌≡◌, ◌<◌, ◌^◌};
 ghost use Rattle.std.specs.NonZero.{non_zero_u32_get};
 
-use super::ending_rows::{Ending, Row, rows};
-use super::quiet::{Sets, Void, Wire, config};
-use crate::mute::Mute;
-use broadcast_core::{Codec, Digested, Digestible, Recipients};
+use super::quiet::{Gives, Sets, Void, Wire, config};
+use crate::nodes::message;
+use broadcast_core::{Codec, Digested, Digestible, RangeCfg, Recipients, TestMessage};
 use broadcast_mailbox::Feedback;
 use commonware_broadcast::buffered::{
-    Account, All, Books, Config, Engine, Get, MailboxReport, Movable, Runtime, Settled, Status,
-    Strategy, Subscription, Tally, WatchedEngine, WatchedMailbox, WatchedNode, drive,
+    Account, All, Books, EndCause, Engine, Get, MailboxReport, Runtime, Settled, Status, Tally,
+    WatchedEngine, WatchedMailbox, WatchedNode, drive,
 };
 use commonware_broadcast::mocks::Slow;
 use futures::task::{Doorbell, Poll, Solo};
-use memory_node::support::message::digested;
 use std::alloc::{AllocError, AllocGlobal};
 use std::marker::Brand;
 use std::num::NonZeroU32;
@@ -21,38 +19,75 @@ use std::process::Abort;
 use std::sync::Wait;
 use std::sync::ledger::Blank;
 
-/// The network of an engine.
-type Network = (Void, Wire);
+/// What an engine does before its account is settled, and what must come of it.
+struct Row {
+    name: &'static str,
+    gives: Gives,
+    /// How often it is polled before its start.
+    polls: usize,
+    /// Whether it is asked to stop after its start.
+    stops: bool,
+    /// Whether the account is first settled with a part of the tally alone.
+    lacks_part: bool,
+    ending: Ending,
+}
 
-/// Lets the engine of the row end.
-fn ending_of<R>(rt: &R, row: &Row) -> Ending
-where
-    R: Runtime + Abort,
-{
-    let sets = Sets::new(rt.alloc(), row.gives).expect(rt, "memory");
-    let wire = Wire::new(rt.alloc(), row.gives).expect(rt, "memory");
-    // The job of the payload is still pending after the polls before the start.
-    let cfg = config(sets, Slow { polls: 9 });
-    if row.is_mute {
-        let message = Digested::compute(rt.alloc(), Mute(7)).expect(rt, "memory");
-        return end(rt, row, cfg, (Void, wire), message);
+/// Why an engine ended, how many payloads it took, and how many requests were applied, refused,
+/// skipped and given up.
+#[derive(Clone, Copy, Debug, PartialEq, Eq)]
+struct Ending(EndCause, u64, [u64; 4]);
+
+static ROWS: [Row; 4] = [
+    Row {
+        name: "a stop with no request left",
+        gives: Gives::Nothing,
+        polls: 2,
+        stops: true,
+        lacks_part: false,
+        ending: Ending(EndCause::Stopped, 0, [2, 0, 1, 0]),
+    },
+    Row {
+        name: "the end of the peer sets with a request left",
+        gives: Gives::EndOfSets,
+        polls: 1,
+        stops: false,
+        lacks_part: false,
+        ending: Ending(EndCause::PeersClosed, 0, [1, 0, 1, 1]),
+    },
+    Row {
+        name: "a part of the tally is missing at first",
+        gives: Gives::Nothing,
+        polls: 2,
+        stops: true,
+        lacks_part: true,
+        ending: Ending(EndCause::Stopped, 0, [2, 0, 1, 0]),
+    },
+    Row {
+        name: "a job that is pending at the start moves along",
+        gives: Gives::Payload,
+        polls: 4,
+        stops: false,
+        lacks_part: false,
+        ending: Ending(EndCause::NetworkFailed, 1, [2, 0, 1, 0]),
+    },
+];
+
+fn rows() -> &'static [Row] {
+    &ROWS
+}
+
+#[test]
+fn each_request_is_settled_once(rt: HostRuntime) {
+    for row in rows() {
+        let ending = end(&rt, row, RangeCfg::any(), message(&rt, b'a'));
+        assert_eq!(rt; ending, row.ending, "{}", row.name);
     }
-    let message = digested(rt.alloc(), b'a', b'a').expect(rt, "memory");
-    end(rt, row, cfg, (Void, wire), message)
 }
 
 /// Lets an engine end after three requests, and picks the ledgers of its account. It is generic in
-/// message and strategy, since the check refuses a function that makes an engine of named ones.
-fn end<M, T, R>(
-    rt: &R,
-    row: &Row,
-    cfg: Config<u64, M::Cfg, Sets, T>,
-    network: Network,
-    message: Digested<M>,
-) -> Ending
+/// the message, since the check refuses a function that makes an engine of a named one.
+fn end<M, R>(rt: &R, row: &Row, codec_config: M::Cfg, message: Digested<M>) -> Ending
 where
-    T: Strategy<M> + Movable,
-    T::Job: Send + 'static,
     M: Digestible + Codec + Send + Sync + 'static,
     M::Digest: Send + 'static,
     M::Cfg: Send + Drop + 'static,
@@ -60,24 +95,28 @@ where
 {
     let parts = NonZeroU32::new(2).unwrap();
     let accepted = Blank::new(parts.get() as u64);
-    let taken = Blank::new(1);
-    end_with::<M, T, R, Brand, Brand>(rt, row, cfg, network, message, parts, accepted, taken)
+    end_with::<M, R, Brand, Brand>(
+        rt,
+        row,
+        codec_config,
+        message,
+        parts,
+        accepted,
+        Blank::new(1),
+    )
 }
 
 /// Lets an engine end after three requests, whose account has these ledgers.
-fn end_with<M, T, R, A, K>(
+fn end_with<M, R, A, K>(
     rt: &R,
     row: &Row,
-    cfg: Config<u64, M::Cfg, Sets, T>,
-    network: Network,
+    codec_config: M::Cfg,
     message: Digested<M>,
     parts: NonZeroU32,
     accepted: Blank,
     taken: Blank,
 ) -> Ending
 where
-    T: Strategy<M> + Movable,
-    T::Job: Send + 'static,
     M: Digestible + Codec + Send + Sync + 'static,
     M::Digest: Send + 'static,
     M::Cfg: Send + Drop + 'static,
@@ -89,19 +128,17 @@ where
     requires taken { (taken.name ≡ K.name) × (taken.parts ≡ K.parts) }
     requires one { (K.all ≡ K.parts) × (K.parts ≡ 1) }
 {
+    let sets = Sets::new(rt.alloc(), row.gives).expect(rt, "memory");
+    let wire = Wire::new(rt.alloc(), row.gives).expect(rt, "memory");
+    // The job of the payload is still pending after the polls before the start.
+    let cfg = config(sets, codec_config, Slow { polls: 9 });
     let copy = rt.clone().expect(rt, "memory");
-    let node: Result<WatchedNode<u64, M, Sets, T, R, A, K, All>, AllocError> = Engine::new_watched(
-        copy,
-        rt.alloc(),
-        cfg,
-        parts,
-        accepted,
-        taken,
-    );
+    let node: Result<WatchedNode<u64, M, Sets, Slow, R, A, K, All>, AllocError> =
+        Engine::new_watched(copy, rt.alloc(), cfg, parts, accepted, taken);
     let (engine, mailbox, tally) = node.expect(rt, "an engine");
-    let asked = ask(rt, &mailbox, tally, message, row.is_mute);
+    let asked = ask(rt, &mailbox, tally, message);
     drop::<_>(mailbox);
-    let report = run(rt, row, engine, network);
+    let report = run(rt, row, engine, (Void, wire));
     finish(rt, report, asked, row.lacks_part)
 }
 
@@ -109,13 +146,12 @@ where
 type Asked<M, A> = (Get<M>, Tally<A>, Tally<A>);
 
 /// Makes a get, a subscribe whose caller hangs up, and a broadcast, with a part of the tally. The
-/// ready list has one place, so the broadcast is told to slow down, unless it comes first.
+/// ready list has one place, so the broadcast is told to slow down.
 fn ask<M, R, A, K>(
     rt: &R,
     mailbox: &WatchedMailbox<u64, M, R, A, K, All>,
     tally: Tally<A>,
     message: Digested<M>,
-    comes_first: bool,
 ) -> Asked<M, A>
 where
     M: Digestible,
@@ -127,72 +163,28 @@ where
         panic!(rt; "a tally that can't be split");
     };
     let digest = message.digest();
-    if comes_first {
-        broadcast(rt, mailbox, &mut second, message, Feedback::Ok);
-        let (get, subscription) = ask_twice(rt, mailbox, &mut second, digest);
-        drop::<_>(subscription);
-        return (get, first, second);
-    }
-    let (get, subscription) = ask_twice(rt, mailbox, &mut second, digest);
-    broadcast(rt, mailbox, &mut second, message, Feedback::Backoff);
-    drop::<_>(subscription);
-    (get, first, second)
-}
-
-/// Makes a get and a subscribe.
-fn ask_twice<M, R, A, K>(
-    rt: &R,
-    mailbox: &WatchedMailbox<u64, M, R, A, K, All>,
-    tally: &mut Tally<A>,
-    digest: M::Digest,
-) -> (Get<M>, Subscription<M>)
-where
-    M: Digestible,
-    R: Wait + Abort,
-    A: Account,
-    K: Account,
-{
-    let get = mailbox.get_as(tally, digest).expect(rt, "a get");
-    let subscription = mailbox
-        .subscribe_as(tally, digest)
-        .expect(rt, "a subscription");
-    (get, subscription)
-}
-
-/// Makes a broadcast. The test fails if something else is told of it.
-fn broadcast<M, R, A, K>(
-    rt: &R,
-    mailbox: &WatchedMailbox<u64, M, R, A, K, All>,
-    tally: &mut Tally<A>,
-    message: Digested<M>,
-    wanted: Feedback,
-)
-where
-    M: Digestible,
-    R: Wait + Abort,
-    A: Account,
-    K: Account,
-{
-    let told = mailbox.broadcast_as(tally, Recipients::All, message);
+    let get = mailbox.get_as(&mut second, digest).expect(rt, "a get");
+    let subscription = mailbox.subscribe_as(&mut second, digest);
+    let told = mailbox.broadcast_as(&mut second, Recipients::All, message);
     assert!(rt;
-        told.expect(rt, "a broadcast") == wanted,
+        told == Ok(Feedback::Backoff),
         "a broadcast is told otherwise"
     );
+    drop::<_>(subscription.expect(rt, "a subscription"));
+    (get, first, second)
 }
 
 /// What an engine leaves that counts requests.
 type Left<M, R, A, K> = MailboxReport<u64, M, R, Books<A, K, All, <M as Digestible>::Digest>>;
 
 /// Polls the engine, and starts it, and lets it end.
-fn run<M, T, R, A, K>(
+fn run<M, R, A, K>(
     rt: &R,
     row: &Row,
-    engine: WatchedEngine<u64, M, Sets, T, R, A, K, All>,
-    network: Network,
+    engine: WatchedEngine<u64, M, Sets, Slow, R, A, K, All>,
+    network: (Void, Wire),
 ) -> Left<M, R, A, K>
 where
-    T: Strategy<M> + Movable,
-    T::Job: Send + 'static,
     M: Digestible + Codec + Send + Sync + 'static,
     M::Digest: Send + 'static,
     M::Cfg: Send + Drop + 'static,
@@ -211,14 +203,13 @@ where
 }
 
 /// Polls the engine this many times.
-fn poll_often<M, T, R, A, K>(
+fn poll_often<M, R, A, K>(
     rt: &R,
     polls: usize,
-    engine: &mut WatchedEngine<u64, M, Sets, T, R, A, K, All>,
-    network: &mut Network,
+    engine: &mut WatchedEngine<u64, M, Sets, Slow, R, A, K, All>,
+    network: &mut (Void, Wire),
 )
 where
-    T: Strategy<M>,
     M: Digestible + Codec,
     R: Runtime + Abort,
     A: Account,
@@ -258,11 +249,11 @@ where
         report.settle(first.join(second)).ok()
     };
     match settled {
-        Some(settled) => Ending {
+        Some(it) => Ending(
             cause,
             taken,
-            settled,
-        },
+            [it.applied, it.refused, it.skipped, it.given_up],
+        ),
         None => panic!(rt; "an account settles otherwise"),
     }
 }
@@ -287,12 +278,5 @@ where
             None
         }
         Err((report, first)) => report.settle(first.join(second)).ok(),
-    }
-}
-
-#[test]
-fn each_request_is_settled_once(rt: HostRuntime) {
-    for row in rows() {
-        assert_eq!(rt; ending_of(&rt, row), row.ending, "{}", row.name);
     }
 }

@@ -1,15 +1,12 @@
 //! A node to whose clients alone something happens, or to which one thing more does.
 ghost use Rattle.std.specs.Prelude.{⊤};
 
-use broadcast_core::{Items, RangeCfg, Recipients, Set};
+use crate::nodes::{PEER, payload};
+use broadcast_core::{Items, Recipients, Set};
 use commonware_broadcast::buffered::{Config, NetworkFailed, Provider, Receiver, Sender};
 use futures::task::{Context, Poll, Source, Waker};
-use memory_node::support::message::{payload, peers};
 use std::alloc::{AllocError, Global};
 use std::num::NonZeroUsize;
-
-/// The key of the only peer.
-const PEER: u64 = 5;
 
 /// What the sources of a node give.
 #[derive(Clone, Copy, PartialEq, Eq)]
@@ -18,9 +15,7 @@ pub enum Gives {
     Nothing,
     /// At the second poll, that there are no more peer sets.
     EndOfSets,
-    /// That the network failed.
-    Failure,
-    /// A peer, and a payload of it.
+    /// A peer, a payload of it, and that the network failed.
     Payload,
 }
 
@@ -37,7 +32,7 @@ pub struct Sets {
 impl Sets {
     pub fn new(alloc: Global, gives: Gives) -> Result<Self, AllocError> {
         let first = match gives {
-            Gives::Payload => Some(peers(alloc, &[PEER])?),
+            Gives::Payload => { Some(Set::from_iter_dedup(Vec::from_slice(alloc, &[PEER])?)?) }
             _ => None,
         };
         Ok(Sets {
@@ -73,19 +68,26 @@ type Received = Result<(u64, Items<u8>), NetworkFailed>;
 #[derive(Drop)]
 pub struct Wire {
     first: Option<Received>,
+    second: Option<Received>,
     never: Source,
     waker: Option<Waker>,
 }
 
 impl Wire {
     pub fn new(alloc: Global, gives: Gives) -> Result<Self, AllocError> {
-        let first = match gives {
-            Gives::Payload => Some(Ok((PEER, Items::from_vec(payload(alloc, b'a')?)))),
-            Gives::Failure => Some(Err(NetworkFailed)),
-            _ => None,
+        let (first, second) = match gives {
+            Gives::Payload => {
+                let bytes = Vec::from_slice(alloc, &payload(b'a'))?;
+                (
+                    Some(Ok((PEER, Items::from_vec(bytes)))),
+                    Some(Err(NetworkFailed)),
+                )
+            }
+            _ => (None, None),
         };
         Ok(Wire {
             first,
+            second,
             never: Source::new(),
             waker: None,
         })
@@ -98,7 +100,10 @@ impl Receiver<u64> for Wire {
 
     fn poll_recv(&mut self, cx: &mut Context<'_>) -> Poll<Received> {
         match self.first.take() {
-            Some(received) => Poll::Ready(received),
+            Some(received) => {
+                self.first = self.second.take();
+                Poll::Ready(received)
+            }
             None => cx.register(&self.never, &mut self.waker),
         }
     }
@@ -117,14 +122,18 @@ impl Sender<u64> for Void {
 }
 
 /// Creates the configuration of the node of key 1. Its mailbox has a ready list of one place.
-pub fn config<T: Drop>(sets: Sets, strategy: T) -> Config<u64, RangeCfg, Sets, T> {
+pub fn config<C: Drop, T: Drop>(
+    sets: Sets,
+    codec_config: C,
+    strategy: T,
+) -> Config<u64, C, Sets, T> {
     Config {
         public_key: 1,
         mailbox_size: NonZeroUsize::MIN,
         deque_size: 4,
         byte_budget: u64::MAX,
         priority: false,
-        codec_config: RangeCfg::any(),
+        codec_config,
         peer_provider: sets,
         strategy,
     }

@@ -1,4 +1,4 @@
-//! What is done to the nodes of a scenario, and what must come of it, as `crates/engine_tests/src/act.rt` tells.
+//! What is done to the nodes of a scenario, and what must come of it, as `crates/broadcast_tests/src/engine/act.rt` tells.
 
 use broadcast_engine::Feedback;
 
@@ -24,6 +24,7 @@ pub enum Given {
 /// An action on the node of a key, or what must be seen of it. A letter names a message.
 #[derive(Clone, Copy, Debug, PartialEq, Eq)]
 pub enum Act {
+    Nodes(u64, usize, usize),
     AllTrack(&'static [u64]),
     Track(u64, &'static [u64]),
     Broadcast(u64, To, u8),
@@ -39,14 +40,14 @@ pub enum Act {
     Comes(u64, u64, u8),
     Run,
     Lose(u64),
-    Totals(u64, [u64; 4], [u64; 3], [u64; 2], [u64; 3], u64),
+    All(u64, [u64; 4], [u64; 3], [u64; 2], [u64; 3], u64),
 }
+
+/// Actions.
+pub struct Line(pub &'static [Act]);
 
 /// A scenario.
 pub struct Row {
     pub name: &'static str,
-    pub nodes: u64,
-    /// The size of each mailbox, and of each list.
-    pub sizes: (usize, usize),
-    pub acts: &'static [Act],
+    pub acts: &'static [Line],
 }

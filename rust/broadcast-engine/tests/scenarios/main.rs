@@ -1,9 +1,8 @@
-//! The engine in Rattle and this one do the same and count the same: both run the tables of `crates/engine_tests`,
+//! The engine in Rattle and this one do the same and count the same: both run the tables of `crates/broadcast_tests`,
 //! which this test includes as they are.
 
-// The names by which the tables find what they need.
+// The name by which the tables find a feedback.
 extern crate self as broadcast_mailbox;
-extern crate self as memory_node;
 
 mod act;
 #[path = "../support/mod.rs"]
@@ -12,10 +11,10 @@ mod world;
 
 // The tables themselves are laid out as sources in Rattle are.
 #[rustfmt::skip]
-#[path = "../../../../crates/engine_tests/src/counter_rows.rt"]
+#[path = "../../../../crates/broadcast_tests/src/engine/counter_rows.rt"]
 mod counter_rows;
 #[rustfmt::skip]
-#[path = "../../../../crates/engine_tests/src/scenario_rows.rt"]
+#[path = "../../../../crates/broadcast_tests/src/engine/scenario_rows.rt"]
 mod scenario_rows;
 
 use broadcast_engine::Feedback;
@@ -35,8 +34,8 @@ use world::World;
 
 async fn all_go(rows: &[Row]) {
     for row in rows {
-        let mut world = World::new(row).await;
-        for (place, act) in row.acts.iter().enumerate() {
+        let mut world = World::new();
+        for (place, act) in row.acts.iter().flat_map(|line| line.0).enumerate() {
             if let Err(why) = world.goes(*act).await {
                 panic!("{}, action {place}: {act:?}, but {why}", row.name);
             }

@@ -1,9 +1,8 @@
 //! Nodes with the keys from 1, their callers, and what feeds them.
 
-use crate::act::{Act, Given, Row, To};
+use crate::act::{Act, Given, To};
 use crate::engines::{
-    Key, Network, TestEngine, TestMailbox, TestMessage, Tracker, config, metric, payloads_of,
-    settle,
+    Key, Network, TestEngine, TestMailbox, TestMessage, Tracker, config, count, payloads_of, settle,
 };
 use broadcast_engine::{Digested, Handle, Message, Metrics, Recipients};
 use std::fmt::Debug;
@@ -14,14 +13,6 @@ use std::task::{Context, Poll, Waker};
 
 /// What an action shows that it should not.
 pub type Wrong = String;
-
-/// What is never counted, by family and status.
-const NEVER: [(&str, &str); 4] = [
-    ("receive", "Failure"),
-    ("subscribe", "Failure"),
-    ("subscribe", "Invalid"),
-    ("get", "Invalid"),
-];
 
 /// A future of a get or a subscribe, until it is ready or dropped.
 type Asked = Option<Pin<Box<dyn Future<Output = Given>>>>;
@@ -83,46 +74,43 @@ fn same<T: PartialEq + Debug>(wanted: T, found: T) -> Result<(), Wrong> {
 impl Node {
     fn start(network: &Network, number: u64, sizes: (usize, usize)) -> Node {
         let tracker = Tracker::new(1);
-        let mut config = config(key(number), tracker.clone());
+        let mut config = config(key(number), &tracker);
         config.mailbox_size = NonZeroUsize::new(sizes.0).unwrap();
         config.deque_size = sizes.1;
         // That of ten messages of letters.
         config.byte_budget = 100;
-        let (engine, mailbox) = TestEngine::new(config);
+        let (engine, mailbox) = TestEngine::new(config).unwrap();
         let metrics = engine.metrics();
         let handle = engine.start(network.join(key(number)));
         Node { tracker, mailbox, metrics, _handle: handle }
     }
 
-    /// The counter of a family and a status.
-    fn counter(&self, family: &str, status: &str) -> u64 {
-        metric(&self.metrics, &format!("{family}_total{{status=\"{status}\"}}")) as u64
-    }
-
     fn by<const N: usize>(&self, family: &str, statuses: [&str; N]) -> [u64; N] {
-        statuses.map(|it| self.counter(family, it))
+        statuses.map(|it| count(&self.metrics, &format!("{family}.{it}")))
     }
 
-    /// The counters as `Act::Totals` has them, if all others are 0.
-    fn totals(&self, number: u64) -> Result<Act, Wrong> {
-        let peers = [1, 2, 3, 4].map(|it| payloads_of(&self.metrics, &key(it)));
-        let received = self.by("receive", ["Success", "Dropped", "Invalid"]);
-        let subscribed = self.by("subscribe", ["Success", "Dropped"]);
-        let got = self.by("get", ["Success", "Failure", "Dropped"]);
-        let waiters = metric(&self.metrics, "waiters") as u64;
-        match NEVER.iter().find(|it| self.counter(it.0, it.1) != 0) {
-            Some(it) => Err(format!("{it:?} is counted")),
-            None => Ok(Act::Totals(number, peers, received, subscribed, got, waiters)),
-        }
+    /// Compares the counters with those of `Act::All`. All others must be 0. What came from a key while it was not
+    /// primary is counted with that of all such keys, so only the sum over all keys is equal.
+    fn has(&self, totals: Act) -> Result<(), Wrong> {
+        let Act::All(_, peers, received, subscribed, got, waiters) = totals else {
+            return Ok(());
+        };
+        let own = [1, 2, 3, 4].map(|it| payloads_of(&self.metrics, &key(it)).unwrap_or(0));
+        let others = self.metrics.snapshot().other_peers;
+        same(peers.iter().sum(), own.iter().sum::<u64>() + others)?;
+        same(true, own.iter().zip(peers).all(|(own, all)| *own <= all))?;
+        same(received, self.by("receive", ["success", "dropped", "invalid"]))?;
+        same(subscribed, self.by("subscribe", ["success", "dropped"]))?;
+        same(got, self.by("get", ["success", "failure", "dropped"]))?;
+        same(waiters, count(&self.metrics, "waiters"))?;
+        let never = ["receive.failure", "subscribe.failure", "subscribe.invalid", "get.invalid"];
+        same([0; 4], never.map(|it| count(&self.metrics, it)))
     }
 }
 
 impl World {
-    /// Starts the nodes of a scenario.
-    pub async fn new(row: &Row) -> World {
-        let network = Network::new(0.0);
-        let nodes = (1..=row.nodes).map(|it| Node::start(&network, it, row.sizes)).collect();
-        World { network, nodes, asked: Vec::new() }
+    pub fn new() -> World {
+        World { network: Network::new(0.0), nodes: Vec::new(), asked: Vec::new() }
     }
 
     fn node(&self, number: u64) -> &Node {
@@ -132,6 +120,10 @@ impl World {
     /// Does what the action says, and looks whether it goes as it should.
     pub async fn goes(&mut self, act: Act) -> Result<(), Wrong> {
         match act {
+            Act::Nodes(nodes, mailbox, deque) => {
+                let start = |it| Node::start(&self.network, it, (mailbox, deque));
+                self.nodes = (1..=nodes).map(start).collect();
+            }
             Act::AllTrack(peers) => {
                 self.nodes.iter().for_each(|it| it.tracker.track(0, &keys(peers)));
                 settle().await;
@@ -162,7 +154,7 @@ impl World {
             }
             Act::Run => settle().await,
             Act::Lose(sends) => self.network.lose(sends),
-            Act::Totals(number, ..) => same(act, self.node(number).totals(number)?)?,
+            Act::All(number, ..) => self.node(number).has(act)?,
         }
         Ok(())
     }

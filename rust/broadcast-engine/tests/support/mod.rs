@@ -3,7 +3,7 @@
 #![allow(dead_code, reason = "each test file uses some of it")]
 
 use broadcast_engine::{
-    Config, Digested, Engine, Handle, Id, Mailbox, Message, Metrics, Provider, Receiver,
+    ByStatus, Config, Digested, Engine, Handle, Mailbox, Message, Metrics, Provider, Receiver,
     Recipients, Sender, Sequential,
 };
 use bytes::{Buf, Bytes};
@@ -17,8 +17,8 @@ use tokio::sync::mpsc::{UnboundedReceiver, UnboundedSender, unbounded_channel};
 use tokio::time::sleep;
 
 pub type Key = [u8; 32];
-pub type TestEngine = Engine<Key, TestMessage, Tracker, Sequential>;
-pub type TestConfig<T = Sequential> = Config<Key, usize, Tracker, T>;
+pub type TestEngine = Engine<Key, TestMessage, PeerSets, Sequential>;
+pub type TestConfig<T = Sequential> = Config<Key, usize, PeerSets, T>;
 pub type TestMailbox = Mailbox<Key, TestMessage>;
 
 pub const CACHE_SIZE: usize = 10;
@@ -77,9 +77,12 @@ impl Message for TestMessage {
     }
 }
 
-/// Tracks the newest `window` peer sets, and tells the primary peers of all of them.
+/// Tracks the newest `window` peer sets, and reports the primary peers of all of them.
 #[derive(Clone)]
 pub struct Tracker(Arc<Mutex<Tracked>>);
+
+/// The peer sets of a tracker, as an engine reads them.
+pub struct PeerSets(UnboundedReceiver<Vec<Key>>);
 
 struct Tracked {
     window: usize,
@@ -109,17 +112,23 @@ impl Tracker {
     }
 }
 
-impl Provider for Tracker {
-    type PublicKey = Key;
-
-    async fn subscribe(&mut self) -> UnboundedReceiver<Vec<Key>> {
+impl Tracker {
+    pub fn sets(&self) -> PeerSets {
         let (sender, receiver) = unbounded_channel();
         let mut tracked = self.0.lock().unwrap();
         if !tracked.sets.is_empty() {
             let _ = sender.send(tracked.sets.values().flatten().copied().collect());
         }
         tracked.subscribers.push(sender);
-        receiver
+        PeerSets(receiver)
+    }
+}
+
+impl Provider for PeerSets {
+    type PublicKey = Key;
+
+    async fn next(&mut self) -> Option<Vec<Key>> {
+        self.0.recv().await
     }
 }
 
@@ -205,11 +214,11 @@ impl Receiver for NetReceiver {
     }
 }
 
-pub fn config(public_key: Key, peer_provider: Tracker) -> TestConfig {
-    config_with(public_key, peer_provider, Sequential)
+pub fn config(public_key: Key, tracker: &Tracker) -> TestConfig {
+    config_with(public_key, tracker, Sequential)
 }
 
-pub fn config_with<T>(public_key: Key, peer_provider: Tracker, strategy: T) -> TestConfig<T> {
+pub fn config_with<T>(public_key: Key, tracker: &Tracker, strategy: T) -> TestConfig<T> {
     Config {
         public_key,
         mailbox_size: NonZeroUsize::new(1024).unwrap(),
@@ -217,7 +226,7 @@ pub fn config_with<T>(public_key: Key, peer_provider: Tracker, strategy: T) -> T
         byte_budget: 1 << 20,
         priority: false,
         codec_config: 1 << 16,
-        peer_provider,
+        peer_provider: tracker.sets(),
         strategy,
     }
 }
@@ -247,7 +256,7 @@ impl Nodes {
         let (network, tracker) = (Network::new(loss), Tracker::new(window));
         let (mut mailboxes, mut handles, mut metrics) = (vec![], vec![], vec![]);
         for key in &keys {
-            let (engine, mailbox) = TestEngine::new(config(*key, tracker.clone()));
+            let (engine, mailbox) = TestEngine::new(config(*key, &tracker)).unwrap();
             metrics.push(engine.metrics());
             handles.push(engine.start(network.join(*key)));
             mailboxes.push(mailbox);
@@ -272,29 +281,27 @@ pub async fn settle() {
     sleep(2 * NETWORK_SPEED).await;
 }
 
-fn page(metrics: &Metrics) -> String {
-    let registry = prometheus::Registry::new();
-    metrics.register(&registry).unwrap();
-    prometheus::TextEncoder::new().encode_to_string(&registry.gather()).unwrap()
+/// Returns a counter, as of `receive.invalid`.
+pub fn count(metrics: &Metrics, name: &str) -> u64 {
+    let stats = metrics.snapshot();
+    let of = |counts: ByStatus, status: &str| match status {
+        "success" => counts.success,
+        "failure" => counts.failure,
+        "dropped" => counts.dropped,
+        "invalid" => counts.invalid,
+        _ => panic!("there is no {name}"),
+    };
+    match name.split_once('.') {
+        None if name == "waiters" => stats.waiters,
+        Some(("receive", status)) => of(stats.receive, status),
+        Some(("subscribe", status)) => of(stats.subscribe, status),
+        Some(("get", status)) => of(stats.get, status),
+        _ => panic!("there is no {name}"),
+    }
 }
 
-fn value(page: &str, line: &str) -> Option<f64> {
-    page.lines().find_map(|it| it.strip_prefix(line)).map(|it| it.trim().parse().unwrap())
-}
-
-/// Returns the values of counters, as of `receive_total{status="Invalid"}`.
-pub fn values<const N: usize>(metrics: &Metrics, lines: [&str; N]) -> [f64; N] {
-    let page = page(metrics);
-    lines.map(|line| value(&page, line).unwrap_or_else(|| panic!("no {line} in\n{page}")))
-}
-
-/// Returns the value of one counter.
-pub fn metric(metrics: &Metrics, line: &str) -> f64 {
-    values(metrics, [line])[0]
-}
-
-/// Returns how many payloads of a peer are counted.
-pub fn payloads_of(metrics: &Metrics, peer: &Key) -> u64 {
-    let line = format!("peer_total{{sequencer=\"{}\"}}", peer.label());
-    value(&page(metrics), &line).unwrap_or(0.0) as u64
+/// Returns how many payloads of a primary peer are counted.
+pub fn payloads_of(metrics: &Metrics, peer: &Key) -> Option<u64> {
+    let key = broadcast_node::Digest::new(*peer).to_string();
+    metrics.snapshot().peers.get(&key).copied()
 }

@@ -145,7 +145,7 @@ impl Load {
 
     fn payload_node(&self, node: &mut Node<Shared>, n: usize) {
         let (peer, _, payload) = self.take(n);
-        black_box(node.payload(&self.keys[peer], payload).unwrap());
+        let _ = black_box(node.payload(&self.keys[peer], payload).unwrap());
     }
 
     /// What a node does with a payload: the length is looked at, and the message is digested, as there.

@@ -1,13 +1,12 @@
 //! What each peer's payloads were.
 
-use crate::raw;
 use crate::{Error, Key};
 use std::collections::HashMap;
 
 /// How many payloads were what. Each number stops at `u64::MAX`. The library counts.
 #[repr(C)]
 #[derive(Clone, Copy, Debug, Default, PartialEq, Eq, Hash)]
-#[cfg_attr(feature = "serde", derive(serde::Serialize, serde::Deserialize))]
+#[cfg_attr(feature = "serde", derive(serde::Serialize, serde::Deserialize), serde(default))]
 #[non_exhaustive]
 pub struct Counters {
     /// Taken, and put in front of the list.
@@ -38,7 +37,7 @@ impl Books {
         each.extend(keys.iter().map(|key| (*key, self.of(key))));
         let mut others = self.others;
         for (_, counters) in self.each.iter().filter(|it| !each.contains_key(it.0)) {
-            raw::broadcast_counters_add(&mut others, counters);
+            others.add(counters);
         }
         Ok(Books { each, others })
     }
@@ -63,6 +62,8 @@ impl Books {
 #[cfg(test)]
 mod tests {
     use super::*;
+    use crate::Outcome;
+    use crate::backend::Counted;
 
     #[test]
     fn numbers_stop_at_the_greatest() -> Result<(), Error> {
@@ -73,8 +74,8 @@ mod tests {
             assert!(is_own);
             counters.inserted = u64::MAX - 1;
             counters.invalid = 7;
-            raw::broadcast_counters_count(counters, raw::INSERTED);
-            raw::broadcast_counters_count(counters, raw::INSERTED);
+            counters.count(Counted::Outcome(Outcome::Inserted));
+            counters.count(Counted::Outcome(Outcome::Inserted));
         }
         assert_eq!(books.of(&one).inserted, u64::MAX);
         let mut books = books.for_keys(&[one])?.for_keys(&[])?;

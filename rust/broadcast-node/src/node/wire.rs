@@ -1,12 +1,22 @@
 //! The encoding of a message: its length in four bytes, highest first, and then its bytes.
 
+#[cfg(any(not(broadcast_c), test))]
+mod plain;
+#[cfg(broadcast_c)]
+mod verified;
+
 use crate::Error;
+#[cfg(not(broadcast_c))]
+use plain::{head, place};
 use std::fmt;
+#[cfg(broadcast_c)]
+use verified::{head, place};
 
 const HEAD: usize = 4;
 
 /// Why a payload does not decode.
 #[derive(Clone, Copy, Debug, PartialEq, Eq, Hash)]
+#[cfg_attr(feature = "serde", derive(serde::Serialize, serde::Deserialize))]
 #[non_exhaustive]
 pub enum Invalid {
     /// It ends too early.
@@ -31,15 +41,7 @@ impl std::error::Error for Invalid {}
 
 /// Returns the message of a payload, if it has at most `max_len` bytes.
 pub fn decode(payload: &[u8], max_len: usize) -> Result<&[u8], Invalid> {
-    let (head, rest) = payload.split_first_chunk::<HEAD>().ok_or(Invalid::EndOfBuffer)?;
-    let len = u32::from_be_bytes(*head) as usize;
-    if len > max_len {
-        return Err(Invalid::InvalidLength(len));
-    }
-    match rest.split_at_checked(len).ok_or(Invalid::EndOfBuffer)? {
-        (message, []) => Ok(message),
-        (_, left) => Err(Invalid::ExtraData(left.len())),
-    }
+    Ok(&payload[place(payload, max_len)?])
 }
 
 /// Returns the message of a payload that was decoded or encoded before.
@@ -49,14 +51,42 @@ pub fn message_of(payload: &[u8]) -> &[u8] {
 
 /// Returns the payload of a message of at most `max_len` bytes.
 pub fn encode(message: &[u8], max_len: usize) -> Result<Vec<u8>, Error> {
-    let too_long = Error::TooLong(message.len());
-    if message.len() > max_len {
-        return Err(too_long);
-    }
-    let len = u32::try_from(message.len()).map_err(|_| too_long)?;
+    let head = head(message.len()).filter(|_| message.len() <= max_len);
+    let head = head.ok_or(Error::TooLong(message.len()))?;
     let mut payload = Vec::new();
     payload.try_reserve_exact(HEAD + message.len())?;
-    payload.extend_from_slice(&len.to_be_bytes());
+    payload.extend_from_slice(&head);
     payload.extend_from_slice(message);
     Ok(payload)
+}
+
+#[cfg(test)]
+mod tests {
+    use super::*;
+
+    /// All payloads of up to 8 of these bytes, and some that are long.
+    #[test]
+    fn is_read_as_in_plain_rust() {
+        const BYTES: [u8; 4] = [0, 1, 3, 255];
+        for len in 0..=8 {
+            for number in 0..BYTES.len().pow(len) {
+                let at = |place| BYTES[number / BYTES.len().pow(place) % BYTES.len()];
+                let payload: Vec<u8> = (0..len).map(at).collect();
+                for max_len in [0, 2, 3, usize::MAX] {
+                    assert_eq!(place(&payload, max_len), plain::place(&payload, max_len));
+                }
+            }
+        }
+        for len in [255, 256, 65_535, 65_536, 1 << 20] {
+            let mut payload = encode(&vec![7; len], len).unwrap();
+            assert_eq!(decode(&payload, len), Ok(&vec![7; len][..]));
+            assert_eq!(decode(&payload, len - 1), Err(Invalid::InvalidLength(len)));
+            assert_eq!(decode(&payload[..len], len), Err(Invalid::EndOfBuffer));
+            payload.push(7);
+            assert_eq!(decode(&payload, len), Err(Invalid::ExtraData(1)));
+        }
+        for len in [0, 258, u32::MAX as usize, u32::MAX as usize + 1, usize::MAX] {
+            assert_eq!(head(len), plain::head(len));
+        }
+    }
 }

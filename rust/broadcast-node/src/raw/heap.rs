@@ -5,7 +5,7 @@
 use std::alloc::{Layout, alloc, dealloc, realloc};
 use std::ptr::NonNull;
 
-/// The room in front of a block, which is also the alignment of each: the library asks for at most 16.
+/// The room in front of a block, which is also the alignment of each.
 const HEAD: usize = 16;
 
 /// Whether there is memory, and where.
@@ -35,9 +35,9 @@ impl Tried {
     }
 }
 
-/// The layout of a block of `n` bytes with its head.
-fn layout(n: usize) -> Option<Layout> {
-    Layout::from_size_align(n.checked_add(HEAD)?, HEAD).ok()
+/// The layout of a block of `n` bytes with its head, if the head is aligned as the block is to be.
+fn layout(n: usize, align: usize) -> Option<Layout> {
+    Layout::from_size_align(n.checked_add(HEAD)?, HEAD).ok().filter(|_| align <= HEAD)
 }
 
 /// # Safety
@@ -51,24 +51,24 @@ unsafe fn head(p: *mut u8) -> (*mut u8, Layout) {
     }
 }
 
-/// Returns a block of `n` bytes. Alignments are at most 16.
+/// Returns a block of `n` bytes. Fails if the alignment is above 16.
 #[unsafe(no_mangle)]
-extern "C" fn rattle_alloc(n: usize, _align: usize) -> Tried {
-    match layout(n) {
+extern "C" fn rattle_alloc(n: usize, align: usize) -> Tried {
+    match layout(n, align) {
         // SAFETY: the layout is not empty.
         Some(layout) => unsafe { Tried::of(alloc(layout), layout) },
         None => Tried::FAILED,
     }
 }
 
-/// Makes the block one of `n` bytes, or leaves it as it was.
+/// Makes the block one of `n` bytes, or leaves it as it was. Fails if the alignment is above 16.
 ///
 /// # Safety
 ///
 /// `p` is what one of these functions returned, and was not freed.
 #[unsafe(no_mangle)]
-unsafe extern "C" fn rattle_realloc(p: *mut u8, _kept: usize, n: usize, _align: usize) -> Tried {
-    let Some(new) = layout(n) else { return Tried::FAILED };
+unsafe extern "C" fn rattle_realloc(p: *mut u8, _kept: usize, n: usize, align: usize) -> Tried {
+    let Some(new) = layout(n, align) else { return Tried::FAILED };
     // SAFETY: the block is one of these, and the new layout is not empty.
     unsafe {
         let (at, old) = head(p);
@@ -94,4 +94,25 @@ unsafe extern "C" fn rattle_dealloc(p: *mut u8) {
 /// and not those of an archive that has its own.
 pub fn addresses() -> [*const (); 3] {
     [rattle_alloc as *const (), rattle_realloc as *const (), rattle_dealloc as *const ()]
+}
+
+#[cfg(test)]
+mod tests {
+    use super::*;
+
+    #[test]
+    fn blocks_are_aligned_or_refused() {
+        for align in [1, 8, 16] {
+            let block = rattle_alloc(100, align);
+            assert!(block.ok && block.p.addr() % align == 0);
+            // SAFETY: the block was just made, and is freed once.
+            unsafe {
+                assert!(!rattle_realloc(block.p, 100, 200, 32).ok);
+                let block = rattle_realloc(block.p, 100, 200, align);
+                assert!(block.ok);
+                rattle_dealloc(block.p);
+            }
+        }
+        assert!(!rattle_alloc(100, 32).ok && !rattle_alloc(usize::MAX, 8).ok);
+    }
 }

@@ -43,34 +43,71 @@ pub fn frames(bytes: &[u8]) -> impl Iterator<Item = &[u8]> {
     })
 }
 
-/// The frame that tells of a message.
-pub fn have(author: &[u8], stamp: u64, digest: &[u8], len: u32) -> Vec<u8> {
-    [author, &stamp.to_be_bytes(), digest, &len.to_be_bytes()].concat()
+/// The first frame of a peer.
+pub fn hello() -> Vec<u8> {
+    frame(3, &3_u16.to_be_bytes())
+}
+
+/// A report: which intervals of an author's stamps a peer has had, since when it can send them, and what room it has.
+pub fn report(author: &[u8], runs: &[(u64, u64)], since: u64, room: u64) -> Vec<u8> {
+    let runs = runs.iter().flat_map(|it| [it.0.to_be_bytes(), it.1.to_be_bytes()].concat());
+    let body = [author, &since.to_be_bytes(), &room.to_be_bytes(), &[0]].concat();
+    frame(2, &body.into_iter().chain(runs).collect::<Vec<u8>>())
+}
+
+fn certificate(key: &PKey<Private>, name: &str, issuer: &PKey<Private>, of: &str) -> X509 {
+    let named = |it: &str| {
+        let mut name = X509NameBuilder::new().unwrap();
+        name.append_entry_by_text("CN", it).unwrap();
+        name.build()
+    };
+    let mut builder = X509::builder().unwrap();
+    builder.set_version(2).unwrap();
+    builder.set_subject_name(&named(name)).unwrap();
+    builder.set_issuer_name(&named(of)).unwrap();
+    builder.set_not_before(&Asn1Time::days_from_now(0).unwrap()).unwrap();
+    builder.set_not_after(&Asn1Time::days_from_now(9).unwrap()).unwrap();
+    builder.set_pubkey(key).unwrap();
+    builder.sign(issuer, MessageDigest::null()).unwrap();
+    builder.build()
 }
 
 impl Hostile {
     pub fn new(key: &Key) -> Hostile {
         let key = PKey::private_key_from_pem(&fs::read(&key.file).unwrap()).unwrap();
-        let mut name = X509NameBuilder::new().unwrap();
-        name.append_entry_by_text("CN", "hostile").unwrap();
-        let name = name.build();
-        let mut builder = X509::builder().unwrap();
-        builder.set_version(2).unwrap();
-        builder.set_subject_name(&name).unwrap();
-        builder.set_issuer_name(&name).unwrap();
-        builder.set_not_before(&Asn1Time::days_from_now(0).unwrap()).unwrap();
-        builder.set_not_after(&Asn1Time::days_from_now(9).unwrap()).unwrap();
-        builder.set_pubkey(&key).unwrap();
-        builder.sign(&key, MessageDigest::null()).unwrap();
+        let certificate = certificate(&key, "hostile", &key, "hostile");
+        Hostile::of(key, &[certificate])
+    }
+
+    /// A peer whose certificate another key has issued, whose certificate it sends too.
+    pub fn with_chain(key: &Key) -> Hostile {
+        let key = PKey::private_key_from_pem(&fs::read(&key.file).unwrap()).unwrap();
+        let issuer = PKey::generate_ed25519().unwrap();
+        let chain = [
+            certificate(&key, "hostile", &issuer, "issuer"),
+            certificate(&issuer, "issuer", &issuer, "issuer"),
+        ];
+        Hostile::of(key, &chain)
+    }
+
+    fn of(key: PKey<Private>, chain: &[X509]) -> Hostile {
         let mut context = SslContext::builder(SslMethod::tls()).unwrap();
         context.set_verify(SslVerifyMode::NONE);
-        context.set_certificate(&builder.build()).unwrap();
+        context.set_certificate(&chain[0]).unwrap();
+        chain[1..].iter().for_each(|it| context.add_extra_chain_cert(it.clone()).unwrap());
         context.set_private_key(&key).unwrap();
         let id = sha256(&key.raw_public_key().unwrap());
         Hostile { context: context.build(), key, id }
     }
 
+    /// Connects, and says its version.
     pub fn connect(&self, to: SocketAddr) -> Option<SslStream<TcpStream>> {
+        let mut stream = self.connect_silently(to)?;
+        stream.write_all(&hello()).ok()?;
+        Some(stream)
+    }
+
+    pub fn connect_silently(&self, to: SocketAddr) -> Option<SslStream<TcpStream>> {
         let stream = TcpStream::connect_timeout(&to, HANDSHAKE).ok()?;
         stream.set_write_timeout(Some(HANDSHAKE)).ok()?;
         stream.set_read_timeout(Some(HANDSHAKE)).ok()?;
@@ -80,19 +117,24 @@ impl Hostile {
         Some(stream)
     }
 
-    /// The digest of a message of its own.
-    pub fn digest(&self, stamp: u64, text: &[u8]) -> [u8; 32] {
+    fn digest(&self, prev: u64, stamp: u64, text: &[u8]) -> [u8; 32] {
         let public = self.key.raw_public_key().unwrap();
-        let at = stamp.to_be_bytes();
-        sha256(&[b"broadcast-relay message 2", &public[..], &at, text].concat())
+        let (stamp, prev) = (stamp.to_be_bytes(), prev.to_be_bytes());
+        sha256(&[b"broadcast-relay message 3", &public[..], &stamp, &prev, text].concat())
     }
 
-    /// The bytes of a message of its own, rightly signed.
+    /// The bytes of a message of its own, rightly signed, which covers its stamp alone.
     pub fn message(&self, stamp: u64, text: &[u8]) -> Vec<u8> {
+        self.message_after(stamp - 1, stamp, text)
+    }
+
+    /// The same for `(prev, stamp]`.
+    pub fn message_after(&self, prev: u64, stamp: u64, text: &[u8]) -> Vec<u8> {
         let public = self.key.raw_public_key().unwrap();
         let mut signer = Signer::new_without_digest(&self.key).unwrap();
-        let signature = signer.sign_oneshot_to_vec(&self.digest(stamp, text)).unwrap();
-        [&signature, &public[..], &stamp.to_be_bytes(), &[0, 0], text].concat()
+        let signature = signer.sign_oneshot_to_vec(&self.digest(prev, stamp, text)).unwrap();
+        let (stamp, prev) = (stamp.to_be_bytes(), prev.to_be_bytes());
+        [&signature, &public[..], &stamp, &prev, &[0, 0], text].concat()
     }
 
     /// Sends bytes over a connection of its own, and reads until the relay closes it, or for a while. Returns whether the

@@ -2,9 +2,9 @@
 
 #![allow(dead_code, reason = "each test file uses some of it")]
 
+pub mod follower;
 pub mod hostile;
 pub mod lab;
-pub mod load;
 pub mod strangers;
 
 use lab::Lab;
@@ -13,13 +13,18 @@ use std::fs::{self, File};
 use std::io::{BufRead, BufReader, Read, Write};
 use std::net::{IpAddr, SocketAddr, TcpListener, TcpStream};
 use std::path::{Path, PathBuf};
-use std::process::{self, Child, ChildStdin, Command, Stdio};
+use std::process::{self, Child, ChildStderr, ChildStdin, Command, Stdio};
 use std::sync::atomic::{AtomicU32, Ordering};
 use std::sync::{Arc, Mutex};
 use std::thread::{JoinHandle, panicking, sleep, spawn};
 use std::time::{Duration, Instant};
 
 pub const RELAY: &str = env!("CARGO_BIN_EXE_broadcast-relay");
+
+/// The relay that is tested, or another that is to be measured.
+fn binary() -> String {
+    std::env::var("RELAY_BINARY").unwrap_or_else(|_| RELAY.to_owned())
+}
 
 pub fn folder(name: &str) -> PathBuf {
     let folder = Path::new(env!("CARGO_TARGET_TMPDIR")).join(name);
@@ -35,6 +40,14 @@ pub struct Key {
     pub text: String,
 }
 
+impl Key {
+    /// What peers know it by.
+    pub fn id(&self) -> [u8; 32] {
+        let digit = |it: usize| u8::from_str_radix(&self.text[2 * it..2 * it + 2], 16).unwrap();
+        std::array::from_fn(digit)
+    }
+}
+
 pub fn keygen(folder: &Path, name: &str) -> Key {
     let file = folder.join(format!("{name}.pem"));
     let out = Command::new(RELAY).arg("keygen").arg(&file).output().unwrap();
@@ -42,14 +55,16 @@ pub fn keygen(folder: &Path, name: &str) -> Key {
     Key { file, text: String::from_utf8(out.stdout).unwrap().trim().to_owned() }
 }
 
-/// Waits until something is so, for a while.
-pub fn wait_for(what: &str, patience: Duration, mut is_so: impl FnMut() -> bool) -> Duration {
+/// How long a test waits for what must come, whatever else the machine does. How long it took is never judged.
+const PATIENCE: Duration = Duration::from_secs(120);
+
+/// Waits until something is so.
+pub fn wait_for(what: &str, mut is_so: impl FnMut() -> bool) {
     let start = Instant::now();
     while !is_so() {
-        assert!(start.elapsed() < patience, "{what}: not in {patience:?}");
-        sleep(Duration::from_millis(5));
+        assert!(start.elapsed() < PATIENCE, "{what}: not in {PATIENCE:?}");
+        sleep(Duration::from_millis(10));
     }
-    start.elapsed()
 }
 
 /// A line that was printed, and when.
@@ -69,6 +84,8 @@ pub struct Relay {
     namespace: Option<String>,
     /// Words before the command, as `prlimit ..`.
     pub prefix: Vec<String>,
+    /// Where it logs to, if not to its file.
+    pub log_to: Option<Stdio>,
     process: Option<Child>,
     input: Option<ChildStdin>,
     printed: Arc<Mutex<Vec<Printed>>>,
@@ -135,6 +152,7 @@ impl Relay {
             folder: folder.into(),
             namespace: lab.namespace(number),
             prefix: Vec::new(),
+            log_to: None,
             process: None,
             input: None,
             printed: Arc::default(),
@@ -158,18 +176,18 @@ impl Relay {
         self.folder.join(format!("{}.journal", self.name))
     }
 
-    fn command(&self) -> Command {
+    fn command(&mut self) -> Command {
         let words = ["ip", "netns", "exec"].map(str::to_owned);
         let mut words: Vec<String> = match &self.namespace {
             Some(name) => words.into_iter().chain([name.clone()]).collect(),
             None => Vec::new(),
         };
         words.extend(self.prefix.iter().cloned());
-        words.extend([RELAY.to_owned(), "run".to_owned()]);
+        words.extend([binary(), "run".to_owned()]);
         let mut command = Command::new(&words[0]);
         command.args(&words[1..]).arg(self.config());
         let log = File::options().append(true).create(true).open(self.log_file()).unwrap();
-        command.stderr(log);
+        command.stderr(self.log_to.take().unwrap_or(log.into()));
         command
     }
 
@@ -207,9 +225,7 @@ impl Relay {
     }
 
     fn wait_until_it_listens(&self) {
-        wait_for(&format!("{} listens", self.name), Duration::from_secs(30), || {
-            TcpStream::connect(self.metrics).is_ok()
-        });
+        wait_for(&format!("{} listens", self.name), || TcpStream::connect(self.metrics).is_ok());
     }
 
     pub fn id(&self) -> u32 {
@@ -220,8 +236,18 @@ impl Relay {
         self.process.as_mut().is_some_and(|it| it.try_wait().unwrap().is_none())
     }
 
+    /// The end of a pipe that it logs to.
+    pub fn take_log(&mut self) -> ChildStderr {
+        self.process.as_mut().unwrap().stderr.take().unwrap()
+    }
+
     pub fn write(&mut self, line: &str) {
         writeln!(self.input.as_mut().unwrap(), "{line}").unwrap();
+    }
+
+    /// The end of the pipe that it reads.
+    pub fn take_input(&mut self) -> ChildStdin {
+        self.input.take().unwrap()
     }
 
     pub fn close_input(&mut self) {
@@ -268,11 +294,11 @@ impl Relay {
         }
     }
 
-    /// SIGTERM. Returns whether it ended with success in time. What it printed is read then.
+    /// SIGTERM. Returns whether it ended with success. What it printed is read then.
     pub fn terminate(&mut self) -> bool {
         self.signal("-TERM");
         let mut process = self.process.take().unwrap();
-        let end = Instant::now() + Duration::from_secs(8);
+        let end = Instant::now() + PATIENCE;
         while Instant::now() < end {
             if let Some(status) = process.try_wait().unwrap() {
                 self.read_all();
@@ -312,6 +338,10 @@ impl Relay {
     /// What was printed, since the first start.
     pub fn printed(&self) -> Vec<Printed> {
         self.printed.lock().unwrap().clone()
+    }
+
+    pub fn printed_count(&self) -> usize {
+        self.printed.lock().unwrap().len()
     }
 
     pub fn has_printed(&self, author: &str, text: &str) -> bool {

@@ -63,8 +63,8 @@ async fn stay(habit: Habit, from: IpAddr, to: SocketAddr) -> std::io::Result<()>
     socket.bind(SocketAddr::new(from, 0))?;
     let mut stream = socket.connect(to).await?;
     if let Habit::Trickles = habit {
-        // The head of a record of 16,000 bytes of a handshake, and of a hello that is not there in full.
-        stream.write_all(&[22, 3, 1, 62, 128, 1, 0, 62, 124, 3, 3]).await?;
+        // The head of a record of 4,000 bytes of a handshake, and of a hello that is not there in full.
+        stream.write_all(&[22, 3, 1, 15, 160, 1, 0, 15, 156, 3, 3]).await?;
     }
     loop {
         match timeout(Duration::from_millis(500), stream.read_u8()).await {

@@ -191,6 +191,8 @@ impl<M: Digestible> Future for Get<M> {
         ensures none_if_done { self.old.done ≡ true → result ≡ Ready None }
         ensures done { IfReady result (λ outcome. self.new.done ≡ true) }
         ensures not_done { OnPending result (self.new.done ≡ false) }
+        ensures asked { (self.new.digest ≡ self.old.digest)
+            × (self.new.accepted ≡ self.old.accepted) }
         ensures same { OnPending result ((outcome : Option (Carried M M.Digest))
             → IfSome outcome (λ message. GoesBy M.Digest.cmp self.new.digest message)
             → IfSome outcome (λ message. GoesBy M.Digest.cmp self.old.digest message)) }

@@ -1,5 +1,5 @@
 //! The mailbox through which callers on any thread reach a node.
-ghost use Rattle.std.specs.Prelude.{◌≡◌, ◌++◌, ◌∷◌, [], IfOk, OnOk, OnErr, ⊤};
+ghost use Rattle.std.specs.Prelude.{◌≡◌, IfOk, OnErr, ⊤};
 ghost use Rattle.std.specs.Arc.{arc_value};
 ghost use Rattle.std.specs.NonZero.{non_zero_u32_get, non_zero_usize_get};
 ghost use Rattle.broadcast_mailbox.specs.Account.{TallyState, is_accepted, is_taken_up, tallied};
@@ -14,7 +14,6 @@ use crate::buffered::ingress::message::{Kind, Message, Queued, Watch};
 use crate::buffered::ingress::reply::{Answering, Reply};
 use crate::buffered::ingress::shared::Shared;
 use crate::buffered::ingress::subscription::Subscription;
-use crate::buffered::ingress::subscriptions::Subscriptions;
 use crate::{Broadcaster, Feedback, MailboxError};
 use broadcast_core::{Digested, Digestible, EncodeSize, PublicKey, Recipients, Write};
 use std::alloc::{AllocError, Global};
@@ -184,26 +183,6 @@ where
         };
         let queued = self.enqueue(Message::subscribe(digest, responder));
         subscription.once_queued(queued)
-    }
-
-    /// Subscribes as `subscribe` does, and adds the subscription to those of `set`, among which it
-    /// is waited for.
-    ///
-    /// After an error nothing is queued, and nothing added.
-    pub fn subscribe_among(
-        &self,
-        set: &mut Subscriptions<M>,
-        digest: M::Digest,
-    ) -> Result<(), MailboxError>
-        ensures added { OnOk result (set.new ≡ set.old ++ digest ∷ []) }
-        ensures unchanged_on_error { OnErr result (set.new ≡ set.old) }
-    {
-        let before = set.len();
-        let Ok(responder) = set.open(self.alloc, digest, self.inbox.dropped()) else {
-            return Err(MailboxError::Memory);
-        };
-        let queued = self.enqueue(Message::subscribe(digest, responder));
-        set.once_queued(before, queued)
     }
 
     /// Requests the message of `digest` if it is cached.

@@ -279,16 +279,6 @@ pub(super) fn answered<T: Drop>(
     ensures { IfOk result (λ ends. ends.0 ≡ completed_source ends.1) }
 {
     let bell = Arc::new(alloc, Bell::new(taker))?;
-    answered_by(alloc, bell)
-}
-
-/// Creates the channel of a reply, which rings `bell` as one of its own.
-pub(super) fn answered_by<T: Drop>(
-    alloc: Global,
-    bell: Arc<Bell>,
-) -> Result<Answered<T>, AllocError>
-    ensures { IfOk result (λ ends. ends.0 ≡ completed_source ends.1) }
-{
     let own = Arc::try_clone(&bell)?;
     let (sender, receiver) = oneshot::channel(alloc)?;
     let answering = Answering {

@@ -14,7 +14,7 @@ use crate::buffered::ingress::dropped::{Abandoned, Dropped};
 use crate::buffered::ingress::look::Alertness;
 use crate::buffered::ingress::message::Queued;
 use crate::buffered::ingress::reply::{
-    Answered, Answering, Bell, Limit, Reply, Returns, answered, answered_by, try_receive,
+    Answering, Bell, Limit, Reply, Returns, answered, try_receive,
 };
 use broadcast_core::{Digested, Digestible};
 use futures::Future;
@@ -87,45 +87,10 @@ impl<M: Digestible> Subscription<M> {
         let Ok(dropped) = Arc::try_clone(dropped) else {
             return Err(AllocError);
         };
-        let Ok(answered) = answered(alloc, taker) else {
+        let Ok((responder, receiver, bell)) = answered(alloc, taker) else {
             drop(dropped);
             return Err(AllocError);
         };
-        Ok(Self::over(answered, digest, dropped))
-    }
-
-    // Creates the future as `open` does, which rings `bell`.
-    pub(super) fn open_by(
-        alloc: Global,
-        digest: M::Digest,
-        dropped: &Arc<Dropped<M::Digest>>,
-        bell: Arc<Bell>,
-    ) -> Result<(Answering<Reply<M>>, Self), AllocError>
-        ensures digest { IfOk result (λ ends. ends.1.digest ≡ digest) }
-        ensures same_channel { IfOk result (λ ends. ends.1.source ≡ ends.0) }
-    {
-        let Ok(dropped) = Arc::try_clone(dropped) else {
-            drop(bell);
-            return Err(AllocError);
-        };
-        let Ok(answered) = answered_by(alloc, bell) else {
-            drop(dropped);
-            return Err(AllocError);
-        };
-        Ok(Self::over(answered, digest, dropped))
-    }
-
-    // Creates the future over the ends of its channel.
-    fn over(
-        answered: Answered<Reply<M>>,
-        digest: M::Digest,
-        dropped: Arc<Dropped<M::Digest>>,
-    ) -> (Answering<Reply<M>>, Self)
-        requires { answered.0 ≡ completed_source answered.1 }
-        ensures digest { result.1.digest ≡ digest }
-        ensures same_channel { result.1.source ≡ result.0 }
-    {
-        let (responder, receiver, bell) = answered;
         let subscription = Subscription {
             digest,
             receiver,
@@ -134,7 +99,7 @@ impl<M: Digestible> Subscription<M> {
             is_done: false,
             dropped,
         };
-        (responder, subscription)
+        Ok((responder, subscription))
     }
 
     // Returns the future of the request that was enqueued with this result. After an error it is
@@ -245,6 +210,8 @@ impl<M: Digestible> Future for Subscription<M> {
         ensures canceled_if_done { self.old.done ≡ true → result ≡ Ready (Err (record {})) }
         ensures done { IfReady result (λ outcome. self.new.done ≡ true) }
         ensures not_done { OnPending result (self.new.done ≡ false) }
+        ensures asked { (self.new.digest ≡ self.old.digest)
+            × (self.new.accepted ≡ self.old.accepted) }
         ensures same { OnPending result ((outcome : Result (Carried M M.Digest) Canceled)
             → IfOk outcome (λ message. GoesBy M.Digest.cmp self.new.digest message)
             → IfOk outcome (λ message. GoesBy M.Digest.cmp self.old.digest message)) }

@@ -1,6 +1,6 @@
 //! Which waiters the next cleanup asks.
-ghost use Rattle.std.specs.Prelude.{◌≡◌, ◌++◌, ◌<◌, true, false, length, IfSome};
-ghost use Rattle.std.specs.List.{list_any};
+ghost use Rattle.std.specs.Prelude.{◌≡◌, ◌++◌, ◌<◌, nat_lt, true, false, length, IfSome};
+ghost use Rattle.std.specs.List.{filter, list_any};
 ghost use Rattle.std.specs.Ordering.{eq_by_cmp};
 ghost use Rattle.broadcast_core.specs.Content.{same_by, waiting_at};
 
@@ -80,10 +80,15 @@ impl<M: Digestible> Closed<M> {
     /// Forgets the digests that have no waiters any more.
     // Inlined as `Engine::poll_job` is.
     #[inline(always)]
-    pub(super) fn forget<P: PublicKey, Waiter: Drop>(&mut self, core: &Core<P, M, Waiter>) {
-        if !self.applied.is_empty() {
-            self.applied.retain(|digest| core.waiting(digest) > 0);
-        }
+    pub(super) fn forget<P: PublicKey, Waiter: Drop>(&mut self, core: &Core<P, M, Waiter>)
+        ensures kept { let same = same_by P.cmp M.Digest.cmp in
+            self.new.applied.items ≡ filter
+            (λ digest. nat_lt 0 (length (waiting_at same core.now digest)))
+            self.old.applied.items }
+        ensures each { self.old.asks_each ≡ true → 0 < length core.now.waiters
+            → self.new.asks_each ≡ true }
+    {
+        self.applied.retain(|digest| core.waiting(digest) > 0);
         self.asks_each = self.asks_each && core.awaited() > 0;
     }
 }

@@ -10,8 +10,8 @@ ghost use Rattle.engine_io.specs.declared.input.EndCause.{EndCause};
 ghost use Rattle.engine_io.specs.declared.input.Input.TheVariants as input;
 ghost use Rattle.engine_io.specs.Replies.{Asker, Replied, Replies};
 ghost use Rattle.commonware_broadcast.specs.EngineHistory.{applied, swept, ended, end_told};
-ghost use Rattle.commonware_broadcast.specs.CountingCalls.{count_outcome};
-ghost use Rattle.commonware_broadcast.specs.AppliesSteps.{AppliesStep, AppliesInput, requested, replying};
+ghost use Rattle.commonware_broadcast.specs.CountingCalls.{AppliesStep, count_outcome};
+ghost use Rattle.commonware_broadcast.specs.AppliesSteps.{AppliesInput, requested, replying};
 ghost use Rattle.commonware_broadcast.specs.Interfaces.{by_responder};
 
 use crate::buffered::engine::closed::Closed;

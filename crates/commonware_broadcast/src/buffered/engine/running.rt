@@ -1,13 +1,16 @@
 //! An engine that runs until it ends.
-ghost use Rattle.std.specs.Prelude.{◌≡◌, true, None, IfSome, IsSomeAnd, IfOk, IfErr};
+ghost use Rattle.std.specs.Prelude.{◌≡◌, List, [], ◌∷◌, ◌++◌, Some, IfSome, IsSomeAnd};
 ghost use Rattle.futures.specs.Poll.{IfReady, OnPending};
 ghost use Rattle.futures.specs.Task.{IsArmed, Keeps};
 ghost use Rattle.commonware_broadcast.specs.EngineHistory.{end_told};
-ghost use Rattle.commonware_broadcast.specs.Polls.{ShowsPollsTo, ShowsPolls, StopsAt};
+ghost use Rattle.engine_io.specs.declared.input.Turn.TheVariants as turn;
+ghost use Rattle.commonware_broadcast.specs.Polls.{ShowsPollsTo, ShowsPolls, ShowsRun};
 ghost use Rattle.commonware_broadcast.specs.EngineState.{moment};
 ghost use Rattle.commonware_broadcast.specs.Interfaces.{format_of, over};
 
+use crate::buffered::engine::report::Report;
 use crate::buffered::engine::state::Engine;
+use crate::buffered::engine::thread::tell_end;
 use broadcast_core::{Codec, Digestible, PublicKey};
 use broadcast_mailbox::buffered::{Message, Reply, Responder};
 use digest_strategies::Strategy;
@@ -26,9 +29,9 @@ use std::time::Clock;
 /// The turns that a poll takes at most before it lets other tasks run.
 const TURNS: u64 = 128;
 
-/// An engine with its network, and the observer of its turns.
+/// An engine with its network, and the observer of its turns. It moves to the thread that runs it.
 #[derive(Drop)]
-pub(super) struct Running<
+pub(crate) struct Running<
     P: PublicKey,
     M: Digestible + Codec,
     S,
@@ -40,9 +43,9 @@ pub(super) struct Running<
     V,
     W,
 > {
-    pub(super) engine: Engine<P, M, S, O, B, Q, T>,
-    pub(super) network: (N, V),
-    pub(super) observer: W,
+    pub(crate) engine: Engine<P, M, S, O, B, Q, T>,
+    pub(crate) network: (N, V),
+    pub(crate) observer: W,
 }
 
 impl<P, M, S, O, B, Q, T, N, V, W> Running<P, M, S, O, B, Q, T, N, V, W>
@@ -57,14 +60,9 @@ where
     V: Receiver<P> + Drop,
     W: Observer<P, M::Digest> + Drop,
 {
-    /// Polls the engine until it ends, until it is pending, or, if `until_idle`, until it has no
-    /// job. The observer is handed the turns, but not the end.
-    fn poll_turns<G>(
-        &mut self,
-        alloc: Global,
-        cx: &mut Context<'_>,
-        until_idle: bool,
-    ) -> Poll<Option<EndCause>>
+    /// Polls the engine until it ends or is pending. The observer is handed the turns, but not the
+    /// end.
+    fn poll_turns<G>(&mut self, alloc: Global, cx: &mut Context<'_>) -> Poll<EndCause>
     where
         G: Drop,
         O: Outlet<S, G, Reply<M>, Option<Reply<M>>>,
@@ -75,17 +73,14 @@ where
             W.seen (moment self.old.engine self.old.network)
             (moment self.new.engine self.new.network)
             self.old.observer self.new.observer }
-        ensures stopped { IfReady result (StopsAt until_idle self.new.engine) }
+        ensures ended { IfReady result (λ cause. self.new.engine.end ≡ Some cause) }
         ensures armed { OnPending result (IsArmed cx.new) }
         ensures kept { Keeps cx.old cx.new }
     {
         for _ in 0..TURNS {
-            if until_idle && self.engine.is_idle() {
-                return Poll::Ready(None);
-            }
             match self.engine.poll::<G, N, V>(alloc, cx, &mut self.network) {
                 Poll::Ready(turn) => match end_told(&turn) {
-                    Some(cause) => return Poll::Ready(Some(cause)),
+                    Some(cause) => return Poll::Ready(cause),
                     None => self.observer.turn(&turn),
                 },
                 Poll::Pending => return Poll::Pending,
@@ -99,9 +94,8 @@ where
         &mut self,
         rt: &R,
         snapshots: &Snapshots<P>,
-        until_idle: bool,
         cx: &mut Context<'_>,
-    ) -> Poll<Option<EndCause>>
+    ) -> Poll<EndCause>
     where
         G: Drop,
         O: Outlet<S, G, Reply<M>, Option<Reply<M>>>,
@@ -113,13 +107,13 @@ where
             W.seen (moment self.old.engine self.old.network)
             (moment self.new.engine self.new.network)
             self.old.observer self.new.observer }
-        ensures stopped { IfReady result (StopsAt until_idle self.new.engine) }
+        ensures ended { IfReady result (λ cause. self.new.engine.end ≡ Some cause) }
         ensures armed { OnPending result (IsArmed cx.new) }
         ensures kept { Keeps cx.old cx.new }
     {
         let alloc = rt.alloc();
         snapshots.answer_asked(rt, alloc, self.engine.metrics(), cx);
-        match self.poll_turns::<G>(alloc, cx, until_idle) {
+        match self.poll_turns::<G>(alloc, cx) {
             Poll::Ready(end) => Poll::Ready(end),
             Poll::Pending => {
                 let is_asked = self.engine.requests().look(rt);
@@ -137,9 +131,8 @@ where
         running: &mut Option<Box<Self>>,
         rt: &R,
         snapshots: &Snapshots<P>,
-        until_idle: bool,
         cx: &mut Context<'_>,
-    ) -> Poll<(Box<Self>, Option<EndCause>)>
+    ) -> Poll<(Box<Self>, EndCause)>
     where
         G: Drop,
         O: Outlet<S, G, Reply<M>, Option<Reply<M>>> + Drop,
@@ -148,7 +141,7 @@ where
         ensures ready { IfReady result (λ left. IfSome running.old (λ old. ShowsPollsTo
             (format_of P.cmp M.Digest.cmp M.encoding M.digest_of M.reading)
             (over S.may_answer T.Job.is_of O.Outlet N.Sender V.Receiver B.Provider Q.Requests)
-            W.seen until_idle (moment old.value.engine old.value.network) old.value.observer
+            W.seen (moment old.value.engine old.value.network) old.value.observer
             (moment left.0.value.engine left.0.value.network, left.0.value.observer) left.1)) }
         ensures pending { OnPending result (IfSome running.old (λ old.
             IsSomeAnd running.new (λ new. ShowsPolls
@@ -163,7 +156,7 @@ where
         let Some(it) = running else {
             return cx.yield_now();
         };
-        let Poll::Ready(end) = it.poll_asked::<G, R>(rt, snapshots, until_idle, cx) else {
+        let Poll::Ready(end) = it.poll_asked::<G, R>(rt, snapshots, cx) else {
             return Poll::Pending;
         };
         match running.take() {
@@ -172,45 +165,68 @@ where
         }
     }
 
-    /// Runs the engine until it ends, or, if `until_idle`, until it has no job, on a thread that
-    /// sleeps at once while there is nothing to do. Returns it with its network and its observer,
-    /// and the cause of its end, if it ended. If the thread can't wait, or an engine that is to run
-    /// until it is idle has no job, no poll was taken.
-    ///
-    /// The observer was handed the turns, but not the end.
-    pub(super) fn run<G, R>(
-        self,
-        rt: &R,
-        snapshots: &Snapshots<P>,
-        until_idle: bool,
-    ) -> (Self, Result<Option<EndCause>, CannotWait>)
+    /// Runs the engine until it ends, on a thread that sleeps at once while there is nothing to do.
+    /// Returns what it leaves. If the thread can't wait, no poll is taken.
+    pub(crate) fn run<G, R>(self, rt: &R, snapshots: &Snapshots<P>) -> Report<P, Q, W>
     where
         G: Drop,
         O: Outlet<S, G, Reply<M>, Option<Reply<M>>> + Drop,
         Q: Requests<Message<P, M, S, G>> + Drop,
         R: Wait + Clock + RandomSource + AllocGlobal,
-        ensures took { ShowsPolls
+        ensures runs { ShowsRun
             (format_of P.cmp M.Digest.cmp M.encoding M.digest_of M.reading)
             (over S.may_answer T.Job.is_of O.Outlet N.Sender V.Receiver B.Provider Q.Requests)
-            W.seen (moment self.engine self.network) (moment result.0.engine result.0.network)
-            self.observer result.0.observer }
-        ensures stopped { IfOk result.1 (StopsAt until_idle result.0.engine) }
-        ensures same_if_idle { IfOk result.1 (λ end. until_idle ≡ true
-            → self.engine.job ≡ None → result.0 ≡ self) }
-        ensures unchanged_on_error { IfErr result.1 (λ failure. result.0 ≡ self) }
+            W.seen (moment self.engine self.network) self.observer result }
     {
         // A poll that is pending moves no engine in a box.
-        let (seat, running) = match Seat::with_boxed(rt, self) {
-            Ok(made) => made,
-            Err((failure, running)) => return (running, Err(failure)),
-        };
-        if until_idle && running.engine.is_idle() {
-            drop::<_>(seat);
-            return (Box::into_inner(running), Ok(None));
+        match Seat::with_boxed(rt, self) {
+            Ok((seat, running)) => {
+                snapshots.look_again();
+                let (running, cause) = Self::run_on::<G, R>(running, seat, rt, snapshots);
+                Box::into_inner(running).leave(rt, snapshots, cause, None)
+            }
+            Err((failure, running)) => {
+                let mut running = running;
+                running.engine.end::<G>(EndCause::WaitFailed);
+                running.leave(rt, snapshots, EndCause::WaitFailed, Some(failure))
+            }
         }
-        snapshots.look_again();
-        let (running, end) = Self::run_on::<G, R>(running, seat, rt, snapshots, until_idle);
-        (Box::into_inner(running), Ok(end))
+    }
+
+    /// Returns what an engine leaves that has ended for this cause, and tells that it has.
+    fn leave<R>(
+        self,
+        rt: &R,
+        snapshots: &Snapshots<P>,
+        cause: EndCause,
+        failure: Option<CannotWait>,
+    ) -> Report<P, Q, W>
+    where
+        O: Drop,
+        Q: Drop,
+        R: Wait + Clock + AllocGlobal,
+        ensures cause { result.cause ≡ cause }
+        ensures failure { result.failure ≡ failure }
+        ensures metrics { result.metrics ≡ self.engine.node.metrics }
+        ensures requests { result.requests ≡ self.engine.requests }
+        ensures told { (turns : List (Turn P M.Digest)) → W.seen self.observer turns
+            → W.seen result.observer (turns ++ turn.Ended cause ∷ []) }
+    {
+        let Running {
+            engine,
+            network,
+            mut observer,
+        } = self;
+        drop::<_>(network);
+        tell_end(rt, cause, &mut observer, snapshots);
+        let (metrics, requests) = engine.into_metrics();
+        Report {
+            cause,
+            failure,
+            metrics,
+            requests,
+            observer,
+        }
     }
 
     /// Runs the engine on the seat, as `run` does.
@@ -219,8 +235,7 @@ where
         seat: Seat,
         rt: &R,
         snapshots: &Snapshots<P>,
-        until_idle: bool,
-    ) -> (Box<Self>, Option<EndCause>)
+    ) -> (Box<Self>, EndCause)
     where
         G: Drop,
         O: Outlet<S, G, Reply<M>, Option<Reply<M>>> + Drop,
@@ -229,17 +244,17 @@ where
         ensures ran { ShowsPollsTo
             (format_of P.cmp M.Digest.cmp M.encoding M.digest_of M.reading)
             (over S.may_answer T.Job.is_of O.Outlet N.Sender V.Receiver B.Provider Q.Requests)
-            W.seen until_idle (moment running.value.engine running.value.network)
+            W.seen (moment running.value.engine running.value.network)
             running.value.observer
             (moment result.0.value.engine result.0.value.network, result.0.value.observer)
             result.1 }
     {
         let mut running = Some(running);
-        let poll = move |cx: &mut Context<'_>| -> Poll<(Box<Self>, Option<EndCause>)>
+        let poll = move |cx: &mut Context<'_>| -> Poll<(Box<Self>, EndCause)>
             ensures ready { IfReady result (λ left. IfSome running.entry (λ old. ShowsPollsTo
                 (format_of P.cmp M.Digest.cmp M.encoding M.digest_of M.reading)
                 (over S.may_answer T.Job.is_of O.Outlet N.Sender V.Receiver B.Provider Q.Requests)
-                W.seen until_idle (moment old.value.engine old.value.network) old.value.observer
+                W.seen (moment old.value.engine old.value.network) old.value.observer
                 (moment left.0.value.engine left.0.value.network, left.0.value.observer)
                 left.1)) }
             ensures pending { OnPending result (IfSome running.entry (λ old.
@@ -251,7 +266,7 @@ where
                 old.value.observer new.value.observer))) }
             ensures armed { OnPending result (IsArmed cx.new) }
             ensures kept { Keeps cx.old cx.new }
-        { Self::poll_to_end::<G, R>(&mut running, rt, snapshots, until_idle, cx) };
+        { Self::poll_to_end::<G, R>(&mut running, rt, snapshots, cx) };
         block_on_polls(seat, rt, poll)
     }
 }

@@ -9,7 +9,8 @@ ghost use Rattle.engine_io.specs.declared.input.EndCause.{EndCause};
 ghost use Rattle.engine_io.specs.Replies.{Asker};
 ghost use Rattle.broadcast_mailbox.specs.declared.buffered.ingress.message.Request.{Request};
 ghost use Rattle.commonware_broadcast.specs.EngineHistory.{end_told, ended};
-ghost use Rattle.commonware_broadcast.specs.AppliesSteps.{AppliesAndSends, AppliesStep, sinks};
+ghost use Rattle.commonware_broadcast.specs.AppliesSteps.{AppliesAndSends, sinks};
+ghost use Rattle.commonware_broadcast.specs.CountingCalls.{AppliesStep};
 ghost use Rattle.commonware_broadcast.specs.Fresh.{fresh};
 ghost use Rattle.commonware_broadcast.specs.Interfaces.{by_responder};
 
@@ -207,6 +208,32 @@ impl<P: PublicKey, M: Digestible + Codec, S, O, B, Q, T: Strategy<M>> Engine<P, 
         self.job = None;
         self.end = Some(cause);
         Turn::Ended(cause)
+    }
+
+    /// Takes the counters of the engine and its source of requests, and drops the rest.
+    pub(super) fn into_metrics(self) -> (Metrics<P>, Q)
+    where
+        S: Drop,
+        O: Drop,
+        B: Drop,
+        T: Drop,
+        M::Cfg: Drop,
+        ensures metrics { result.0 ≡ self.node.metrics }
+        ensures requests { result.1 ≡ self.requests }
+    {
+        let Engine {
+            node,
+            provider,
+            requests,
+            job,
+            end: _,
+            priority: _,
+            codec_config,
+            strategy,
+            closed,
+        } = self;
+        drop::<_>((provider, job, codec_config, strategy, closed));
+        (node.into_metrics(), requests)
     }
 }
 

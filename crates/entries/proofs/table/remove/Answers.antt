@@ -5,16 +5,16 @@ use Rattle.entries.proofs.table.remove.Goals as goal
 
 pub returns-in-Some : goal.returns-in-Some
 returns-in-Some g c =
-    takes-last g.met.T.Name.Ord.total (record { index = c.args.index.now.entries; slots = c.args.items.now.slots }) c.requires c.len-names.ensures.ordered
+    takes-last g.met.T.Name.Ord.total (record { index = c.args.index.now; slots = c.args.items.now.slots }) c.requires c.len-names.ensures.ordered
     (had_one c.args.item c.args.list c.leave.new.items.slots (get c.args.items.now c.args.item) c.leave.result refl c.if-leave.true c.leave.ensures) (sym c.in-Some.ensures.value) (c.name.ensures ∙ ap g.T.Named.name_of c.message.ensures)
-    c.in-Some.ensures.updates.changed c.in-Some.ensures.updates.others c.remove.ensures.entries c.remove.ensures.updates.0
+    c.in-Some.ensures.updates.changed c.in-Some.ensures.updates.others c.remove.ensures.removed
 
 pub returns-in_default : goal.returns-in_default
 returns-in_default g c =
-    takes-away g.met.T.Name.Ord.total (record { index = c.args.index.now.entries; slots = c.args.items.now.slots }) c.requires
+    takes-away g.met.T.Name.Ord.total (record { index = c.args.index.now; slots = c.args.items.now.slots }) c.requires
     (had_one c.args.item c.args.list c.leave.new.items.slots (get c.args.items.now c.args.item) c.leave.result refl c.if-leave.true c.leave.ensures) (sym c.in_default.ensures.value)
 
 pub returns-else-leave : goal.returns-else-leave
 returns-else-leave g c =
-    takes-some g.met.T.Name.Ord.total (record { index = c.args.index.now.entries; slots = c.args.items.now.slots }) c.requires c.len-names.ensures.ordered
+    takes-some g.met.T.Name.Ord.total (record { index = c.args.index.now; slots = c.args.items.now.slots }) c.requires c.len-names.ensures.ordered
     (get c.args.items.now c.args.item) c.leave.result refl c.if-leave.false refl c.leave.ensures

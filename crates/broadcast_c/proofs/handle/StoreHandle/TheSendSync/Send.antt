@@ -10,8 +10,8 @@ use Rattle.std.specs.Prelude.{Option, Some, None}
 use Rattle.std.proofs.Crossing.{frees}
 use Rattle.std_alloc.proofs.SendSync.{quiet, lies}
 use Rattle.broadcast_c.specs.Holding.{heap, holds_store}
-use Rattle.byte_cache.specs.contracts.store.Store as Store
-use Rattle.byte_cache.proofs.store.Store.TheSendSync.{the_send as store}
+use Rattle.broadcast_c.specs.contracts.store.Store as Store
+use Rattle.broadcast_c.proofs.store.Store.TheSendSync.{the_send as store}
 use Rattle.broadcast_c.specs.contracts.handle.StoreHandle.{the_row, the_type}
 
 held_keyless : (p : Ptr) (o : Option (Store.the_row).Denot) → Keyless (holds_store p o)

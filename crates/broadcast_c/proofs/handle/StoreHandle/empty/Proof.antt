@@ -16,7 +16,7 @@ use denote.Triple.Entry.{alive}
 use denote.Triple.Walked.{Stays, walk_of}
 use Rattle.std.proofs.raw_atomic.Walks.{proved_at, leaves}
 use Rattle.broadcast_c.proofs.Values.{handle_val, handle_own, handle_made, handle_typed}
-use Rattle.byte_cache.specs.declared.store.Store.{Store}
+use Rattle.broadcast_c.specs.declared.store.Store.{Store}
 use Rattle.broadcast_c.specs.contracts.handle.StoreHandle as handle
 use Rattle.broadcast_c.specs.contracts.handle.StoreHandle.empty.{ended, clauses}
 use Rattle.broadcast_c.specs.contracts.handle.StoreHandle.empty.Key.{name as #self}

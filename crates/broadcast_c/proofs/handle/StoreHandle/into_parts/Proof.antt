@@ -23,7 +23,7 @@ use Rattle.std_alloc.proofs.BoxSteps.Form.{D, R, τ, word, box_typed}
 use Rattle.std_alloc.proofs.BoxSteps.Steps.{box_in}
 use Rattle.std.proofs.raw_atomic.Walks.{proved_at, leaves}
 use Rattle.broadcast_c.specs.Holding.{holds_store}
-use Rattle.byte_cache.specs.declared.store.Store.{Store}
+use Rattle.broadcast_c.specs.declared.store.Store.{Store}
 use Rattle.broadcast_c.proofs.StoreBox.{E, FromHandle, FromGlobal}
 use Rattle.broadcast_c.proofs.Values.{handle_val, handle_told, handle_typed, is_there}
 use Rattle.broadcast_c.specs.contracts.handle.StoreHandle.into_parts.{ended, clauses}

@@ -5,7 +5,7 @@ use Rattle.broadcast_core.proofs.Numbering.{named_there, named_nowhere}
 use Rattle.broadcast_core.proofs.buffer.cache.Cache.bytes.Goals as goal
 
 pub returns-in-Some : goal.returns-in-Some
-returns-in-Some g c = rw (← c.self.view_is) (c.bytes.ensures ∙ sym (ap bytes_of (named_there (eq_by_cmp g.P.Ord.cmp) c.self.inside.numbers.entries c.self.inside.shelf.lists c.args.peer.now c.in-Some.list.now (sym c.in-Some.ensures.value))))
+returns-in-Some g c = rw (← c.self.view_is) (c.bytes.ensures ∙ sym (ap bytes_of (named_there (eq_by_cmp g.P.Ord.cmp) c.self.inside.numbers c.self.inside.shelf.lists c.args.peer.now c.in-Some.list.now (sym c.in-Some.ensures.value))))
 
 pub returns-in-None : goal.returns-in-None
-returns-in-None g c = rw (← c.self.view_is) (sym (ap bytes_of (named_nowhere (eq_by_cmp g.P.Ord.cmp) c.self.inside.numbers.entries c.self.inside.shelf.lists c.args.peer.now (sym c.in-None.ensures.value))))
+returns-in-None g c = rw (← c.self.view_is) (sym (ap bytes_of (named_nowhere (eq_by_cmp g.P.Ord.cmp) c.self.inside.numbers c.self.inside.shelf.lists c.args.peer.now (sym c.in-None.ensures.value))))

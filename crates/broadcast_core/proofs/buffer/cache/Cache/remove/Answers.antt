@@ -1,25 +1,46 @@
-use Rattle.std.proofs.Common.{sym}
-use Rattle.std.specs.Map.{keys_of}
-use Rattle.std.specs.Cmp.{eq_by_cmp_equiv}
+use Rattle.std.proofs.Common.{◌≡◌, ℕ, cond, List, None, sym, ap, ◌∙◌}
+use Rattle.std.specs.List.{IsDistinct}
+use Rattle.std.specs.Map.{lookup, keys_of, remove_entry}
+use Rattle.std.specs.Ordering.{eq_by_cmp}
+use Rattle.std.specs.Cmp.{eq_by_cmp_equiv, IsTotalOrder}
+use Rattle.std.specs.declared.cmp.Ordering.{Ordering}
+use Rattle.std.proofs.lemmas.Map.{lookup-remove_entry, none_passes_from_lookup}
 use Rattle.std.proofs.lemmas.Map.Keys.{IsDistinct-from_sorted}
+use Rattle.entries.proofs.Joined.{remove_none}
 use Rattle.broadcast_core.proofs.Numbering.{IsNumbered-dropped, Drops-named, Drops-nothing}
 use Rattle.broadcast_core.proofs.buffer.cache.Cache.remove.Goals as goal
 
+module _ {P : Type 0} {cmp : P → P → Ordering} (order : IsTotalOrder cmp) (p : P) (numbers left : List (P × ℕ)) (removed : left ≡ remove_entry (eq_by_cmp cmp p) numbers) where
+  -- the other peers keep their numbers
+  others : IsDistinct (eq_by_cmp cmp) (keys_of numbers) → (q : P) → lookup (eq_by_cmp cmp q) left ≡ cond (eq_by_cmp cmp p q) None (lookup (eq_by_cmp cmp q) numbers)
+  others distinct q = ap (lookup (eq_by_cmp cmp q)) removed
+      ∙ lookup-remove_entry (eq_by_cmp_equiv order) (eq_by_cmp cmp p) (λ x y is. (eq_by_cmp_equiv order).congr p x y is) q numbers distinct
+
+  -- a peer without a number changes none
+  same : lookup (eq_by_cmp cmp p) numbers ≡ None → left ≡ numbers
+  same none = removed ∙ remove_none (eq_by_cmp cmp p) numbers (none_passes_from_lookup (eq_by_cmp cmp p) numbers none)
+
 pub invariant_of-self : goal.invariant_of-self
 invariant_of-self g c =
-    let laws = eq_by_cmp_equiv g.met.P.Ord.total in
-    let distinct = IsDistinct-from_sorted g.P.Ord.cmp (keys_of c.remove.new.self.entries) c.remove.ensures.ordered in
-    IsNumbered-dropped g.P.Ord.cmp g.M.Digest.Ord.cmp laws c.self.inside.numbers.entries c.remove.new.self.entries c.args.peer.now c.self.inside.shelf c.self.invariant c.in-Some.ensures.updates.0 distinct
-    c.in-Some.list (sym c.in-Some.ensures.value) c.remove-in-Some.new.self c.remove-in-Some.ensures
+    let less = others g.met.P.Ord.total c.args.peer.now c.self.inside.numbers c.remove-list.new.self c.remove-list.ensures.removed c.self.invariant.peers in
+    let distinct = IsDistinct-from_sorted g.P.Ord.cmp (keys_of c.remove-list.new.self) c.len-peers.ensures.ordered in
+    IsNumbered-dropped g.P.Ord.cmp g.M.Digest.Ord.cmp (eq_by_cmp_equiv g.met.P.Ord.total) c.self.inside.numbers c.remove-list.new.self c.args.peer.now c.self.inside.shelf c.self.invariant less distinct
+    c.in-Some.list (sym c.remove-list.ensures.value ∙ c.in-Some.is) c.remove.new.self c.remove.ensures
+
+pub invariant_of-self-in-None : goal.invariant_of-self-in-None
+invariant_of-self-in-None g c =
+    let none = sym c.remove-list.ensures.value ∙ c.in-None.is in
+    rw (same g.met.P.Ord.total c.args.peer.now c.self.inside.numbers c.remove-list.new.self c.remove-list.ensures.removed none) c.self.invariant
 
 pub returns-in-Some : goal.returns-in-Some
 returns-in-Some g c =
-    let laws = eq_by_cmp_equiv g.met.P.Ord.total in
-    let distinct = IsDistinct-from_sorted g.P.Ord.cmp (keys_of c.remove.new.self.entries) c.remove.ensures.ordered in
-    rw (← c.self.view_is) (Drops-named g.P.Ord.cmp g.M.Digest.Ord.cmp laws c.self.inside.numbers.entries c.remove.new.self.entries c.args.peer.now c.self.inside.shelf c.self.invariant c.in-Some.ensures.updates.0 distinct
-    c.in-Some.list (sym c.in-Some.ensures.value) c.remove-in-Some.new.self c.remove-in-Some.ensures)
+    let less = others g.met.P.Ord.total c.args.peer.now c.self.inside.numbers c.remove-list.new.self c.remove-list.ensures.removed c.self.invariant.peers in
+    let distinct = IsDistinct-from_sorted g.P.Ord.cmp (keys_of c.remove-list.new.self) c.len-peers.ensures.ordered in
+    rw (← c.self.view_is) (Drops-named g.P.Ord.cmp g.M.Digest.Ord.cmp (eq_by_cmp_equiv g.met.P.Ord.total) c.self.inside.numbers c.remove-list.new.self c.args.peer.now c.self.inside.shelf c.self.invariant less distinct
+    c.in-Some.list (sym c.remove-list.ensures.value ∙ c.in-Some.is) c.remove.new.self c.remove.ensures)
 
 pub returns-in-None : goal.returns-in-None
 returns-in-None g c =
-    let laws = eq_by_cmp_equiv g.met.P.Ord.total in
-    rw (← c.self.view_is, c.in-None.ensures.unchanged) (Drops-nothing g.P.Ord.cmp g.M.Digest.Ord.cmp laws c.self.inside.numbers.entries c.args.peer.now c.self.inside.shelf c.self.invariant (sym c.in-None.ensures.value))
+    let none = sym c.remove-list.ensures.value ∙ c.in-None.is in
+    rw (← c.self.view_is, same g.met.P.Ord.total c.args.peer.now c.self.inside.numbers c.remove-list.new.self c.remove-list.ensures.removed none)
+    (Drops-nothing g.P.Ord.cmp g.M.Digest.Ord.cmp (eq_by_cmp_equiv g.met.P.Ord.total) c.self.inside.numbers c.args.peer.now c.self.inside.shelf c.self.invariant none)

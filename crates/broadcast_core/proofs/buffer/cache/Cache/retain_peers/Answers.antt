@@ -31,6 +31,6 @@ returns g c =
     let laws = eq_by_cmp_equiv (g.met.M.Digest.Ord g.world.𝓛 g.world.𝓜 g.world.𝓡 (λ s x. x, λ x. x, λ x. x, λ x. x)).total in
     let all = take_all c.loop-peer.peer-index c.args.was.now (omega arith) in
     let dropping = subst (λ ps. Dropping same ps c.args.peers.now c.args.self.now c.loop-peer.self) all c.loop-peer.invariant in
-    rw (← c.self.view_is) (Drops-made same key_laws laws c.args.was.now c.args.peers.now c.args.self.now (named_of c.self.inside.numbers.entries c.self.inside.shelf)
-    (cached_named g.P.Ord.cmp g.M.Digest.Ord.cmp key_laws c.self.inside.numbers.entries c.self.inside.shelf c.self.invariant) (distinct_peers g.P.Ord.cmp g.M.Digest.Ord.cmp key_laws c.self.inside.numbers.entries c.self.inside.shelf c.self.invariant)
+    rw (← c.self.view_is) (Drops-made same key_laws laws c.args.was.now c.args.peers.now c.args.self.now (named_of c.self.inside.numbers c.self.inside.shelf)
+    (cached_named g.P.Ord.cmp g.M.Digest.Ord.cmp key_laws c.self.inside.numbers c.self.inside.shelf c.self.invariant) (distinct_peers g.P.Ord.cmp g.M.Digest.Ord.cmp key_laws c.self.inside.numbers c.self.inside.shelf c.self.invariant)
     (subst (λ s. Dropping same c.args.was.now c.args.peers.now c.args.self.now s) (sym c.self.view_is) dropping))

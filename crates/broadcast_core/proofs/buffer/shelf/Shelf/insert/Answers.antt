@@ -1,20 +1,19 @@
 use Rattle.entries.proofs.Slots.{number_laws}
 use Rattle.entries.specs.Store.{same_number, values_of, items_at as nodes_at}
 use Rattle.entries.specs.Table.{items_of}
-use Rattle.std.proofs.Common.{Result, Ok, Err, OnErr, ◌≡◌, ◌≤◌, ◌<◌, ◌∷◌, take, length, sym, ap, subst, not, ◌∙◌, arith}
+use Rattle.std.proofs.Common.{Result, Ok, Err, OnErr, ◌≡◌, ◌≤◌, ◌<◌, ◌∷◌, true, take, length, sym, ap, subst, ◌∙◌, arith}
 use Rattle.std.specs.Prelude.{is_some, ◌^◌}
 use Rattle.std.specs.Cmp.{eq_by_cmp_equiv}
-use Rattle.broadcast_core.specs.Content.{same_listed, same_charged, without, at_charge, items_at, bytes_of}
+use Rattle.broadcast_core.specs.Content.{same_listed, same_charged, without, at_charge, items_at, bytes_of, outcome_of}
 use Rattle.broadcast_core.specs.Stored.{Stores}
 use Rattle.broadcast_core.specs.Indexed.{names_of, named_lists, IsShelved, shelved_of, Pushes}
-use Rattle.broadcast_core.proofs.Distinct.{flip-not}
 use Rattle.broadcast_core.proofs.Placing.{is_some-digests, length-digests}
 use Rattle.broadcast_core.proofs.Naming.{is_some-named, bytes-listed}
 use Rattle.broadcast_core.proofs.Leaving.{quits-item, pushes-item}
 use Rattle.broadcast_core.proofs.Shelving.{Shelved-moved, Shelved-pushed, Shelved-refused}
 use Rattle.broadcast_core.proofs.Taking.{among-names}
 use Rattle.std.specs.Ordering.{eq_by_cmp}
-use Rattle.broadcast_core.proofs.Holding.{among-indexed, cached-there, no_duplicate}
+use Rattle.broadcast_core.proofs.Holding.{among-indexed, cached-there, no_duplicate, Holds-joined, item-named}
 use Rattle.broadcast_core.proofs.buffer.shelf.Shelf.insert.Given.{Over}
 use Rattle.broadcast_core.proofs.buffer.shelf.Shelf.insert.Goals as goal
 use Rattle.broadcast_core.proofs.buffer.shelf.Shelf.insert.Goals.{in-Some, in-None+in_ok-bytes-in-None}
@@ -49,9 +48,11 @@ push-requires-clause-there g c κs within =
 pub invariant_of-self-in_err-bytes-in-None : goal.invariant_of-self-in_err-bytes-in-None
 invariant_of-self-in_err-bytes-in-None g c =
     let order = (g.met.M.Digest.Ord g.world.𝓛 g.world.𝓜 g.world.𝓡 (λ s x. x, λ x. x, λ x. x, λ x. x)).total in
-    let none = sym c.in_ok-found.ensures.found ∙ c.in-None.is in
-    let quits = quits-item g.M.Digest.Ord.cmp c.in_ok-found.found.item c.args.list c.hold.new.table c.push.new.table c.in_err-bytes-in-None.ensures.err in
-    rw c.in_err-bytes-in-None.ensures.stays (Shelved-refused number_laws order c.self.invariant c.in_ok-found.ensures.names c.in_ok-found.ensures.item none (c.in_ok-found.ensures.held c.in-None.is) quits).0
+    let same = same_listed g.M.Digest.Ord.cmp in
+    let laws = eq_by_cmp_equiv order in
+    let none = sym c.in_ok-found.ensures.place ∙ c.in-None.is in
+    let quits = quits-item g.M.Digest.Ord.cmp c.in_ok-found.found.item c.args.list c.insert.new.self c.push.new.table c.in_err-bytes-in-None.ensures.err in
+    rw c.in_err-bytes-in-None.ensures.stays (Shelved-refused number_laws order c.self.invariant c.in_ok-found.ensures.names (item-named g.M.Digest.Ord.cmp (λ m. m.digest) c.args.message.now.digest c.insert.new.self c.in_ok-found.found.item g.met.M.Digestible.exact c.in_ok-found.ensures.item) none (Holds-joined same number_laws laws _ g.M.Digest.Ord.cmp c.args.list c.args.message.now _ (items_of c.self.inside.table) (items_of c.insert.new.self) (λ copy is. is) (c.in_ok-found.ensures.joined c.in-None.is)) quits).0
 
 on_err : {A E Q : Type 0} (r : Result A E) → Q → OnErr r Q
 on_err (Ok a) q = tt
@@ -60,9 +61,11 @@ on_err (Err e) q = q
 pub returns-in_err-bytes-in-None-clause-err : goal.returns-in_err-bytes-in-None-clause-err
 returns-in_err-bytes-in-None-clause-err g c =
     let order = (g.met.M.Digest.Ord g.world.𝓛 g.world.𝓜 g.world.𝓡 (λ s x. x, λ x. x, λ x. x, λ x. x)).total in
-    let none = sym c.in_ok-found.ensures.found ∙ c.in-None.is in
-    let quits = quits-item g.M.Digest.Ord.cmp c.in_ok-found.found.item c.args.list c.hold.new.table c.push.new.table c.in_err-bytes-in-None.ensures.err in
-    let kept : shelved_of c.push.new.lists.lists c.push.new.table ≡ c.args.self.now = rw (c.in_err-bytes-in-None.ensures.stays, ← c.self.view_is) (Shelved-refused number_laws order c.self.invariant c.in_ok-found.ensures.names c.in_ok-found.ensures.item none (c.in_ok-found.ensures.held c.in-None.is) quits).1 in
+    let same = same_listed g.M.Digest.Ord.cmp in
+    let laws = eq_by_cmp_equiv order in
+    let none = sym c.in_ok-found.ensures.place ∙ c.in-None.is in
+    let quits = quits-item g.M.Digest.Ord.cmp c.in_ok-found.found.item c.args.list c.insert.new.self c.push.new.table c.in_err-bytes-in-None.ensures.err in
+    let kept : shelved_of c.push.new.lists.lists c.push.new.table ≡ c.args.self.now = rw (c.in_err-bytes-in-None.ensures.stays, ← c.self.view_is) (Shelved-refused number_laws order c.self.invariant c.in_ok-found.ensures.names (item-named g.M.Digest.Ord.cmp (λ m. m.digest) c.args.message.now.digest c.insert.new.self c.in_ok-found.found.item g.met.M.Digestible.exact c.in_ok-found.ensures.item) none (Holds-joined same number_laws laws _ g.M.Digest.Ord.cmp c.args.list c.args.message.now _ (items_of c.self.inside.table) (items_of c.insert.new.self) (λ copy is. is) (c.in_ok-found.ensures.joined c.in-None.is)) quits).1 in
     on_err _ kept
 
 pub returns-in_err-bytes-in-None-clause-succeeds_on_duplicate : goal.returns-in_err-bytes-in-None-clause-succeeds_on_duplicate
@@ -70,10 +73,10 @@ returns-in_err-bytes-in-None-clause-succeeds_on_duplicate g c =
     let same = same_listed g.M.Digest.Ord.cmp in
     let laws = eq_by_cmp_equiv (g.met.M.Digest.Ord g.world.𝓛 g.world.𝓜 g.world.𝓡 (λ s x. x, λ x. x, λ x. x, λ x. x)).total in
     let has = among-indexed same number_laws laws (named_lists (names_of c.self.inside.table) c.self.inside.lists.lists) (items_of c.self.inside.table) c.self.invariant.indexed c.args.message.now.digest c.args.list in
-    rw (← c.self.view_is) (no_duplicate _ _ (among-names same.digest c.args.message.now.digest _ ∙ has) (sym c.in_ok-found.ensures.found ∙ c.in-None.is))
+    rw (← c.self.view_is) (no_duplicate _ _ (among-names same.digest c.args.message.now.digest _ ∙ has) (sym c.in_ok-found.ensures.place ∙ c.in-None.is))
 
 -- what both arms leave: the invariant, and the taking
-made : (g : Over) (c : goal.After-is_none g) → let same = same_listed g.M.Digest.Ord.cmp in let now = c.match-found.self-inside in let x = at_charge c.args.message.now.digest c.args.charge in
+made : (g : Over) (c : goal.After-outcome g) → let same = same_listed g.M.Digest.Ord.cmp in let now = c.match-found.self-inside in let x = at_charge c.args.message.now.digest c.args.charge in
     IsShelved same (names_of now.table) now.lists.lists (items_of now.table)
     × Stores same c.args.list c.args.message.now (take c.args.size (x ∷ without (same_charged same.digest) x (items_at same.key c.args.list (shelved_of c.self.inside.lists.lists c.self.inside.table).lists)))
     (shelved_of c.self.inside.lists.lists c.self.inside.table) (shelved_of now.lists.lists now.table)
@@ -86,26 +89,26 @@ made g c =
     elim c.match-found.branch [
       | in-Some w ↦
           let stays = c.in_ok-found.ensures.stays (ap is_some w.in-Some.is) in
-          let item = rw stays at c.in_ok-found.ensures.item in
+          let item = rw stays at (item-named g.M.Digest.Ord.cmp (λ m. m.digest) c.args.message.now.digest c.insert.new.self c.in_ok-found.found.item g.met.M.Digestible.exact c.in_ok-found.ensures.item) in
           rw (w.self-inside-is, stays) (Shelved-moved same number_laws laws c.args.list c.args.message.now c.args.charge c.args.size names c.self.inside.lists.lists w.promote-bytes.new.self.lists items c.self.invariant
-          w.in-Some.place c.in_ok-found.found.item item w.promote-bytes.ensures.apart (sym c.in_ok-found.ensures.found ∙ w.in-Some.is) w.promote-bytes.ensures.moved fits)
+          w.in-Some.place c.in_ok-found.found.item item w.promote-bytes.ensures.apart (sym c.in_ok-found.ensures.place ∙ w.in-Some.is) w.promote-bytes.ensures.moved fits)
       | in-None+in_ok-bytes-in-None w ↦
-          let none = sym c.in_ok-found.ensures.found ∙ w.in-None.is in
-          let pushes = pushes-item g.M.Digest.Ord.cmp c.args.list _ c.args.size c.self.inside.lists.lists w.push.new.lists.lists c.hold.new.table w.push.new.table (subst (λ i. Pushes g.M.Digest.Ord.cmp c.args.list (i, at_charge c.in_ok-found.found.item c.args.charge) c.args.size c.self.inside.lists.lists w.push.new.lists.lists c.hold.new.table w.push.new.table)
+          let none = sym c.in_ok-found.ensures.place ∙ w.in-None.is in
+          let pushes = pushes-item g.M.Digest.Ord.cmp c.args.list _ c.args.size c.self.inside.lists.lists w.push.new.lists.lists c.insert.new.self w.push.new.table (subst (λ i. Pushes g.M.Digest.Ord.cmp c.args.list (i, at_charge c.in_ok-found.found.item c.args.charge) c.args.size c.self.inside.lists.lists w.push.new.lists.lists c.insert.new.self w.push.new.table)
           (sym c.vacant.ensures) w.in_ok-bytes-in-None.ensures.ok) in
           rw w.self-inside-is (Shelved-pushed same number_laws laws c.args.list c.args.message.now c.args.charge c.args.size names c.self.inside.lists.lists w.push.new.lists.lists items c.self.invariant
-          c.in_ok-found.ensures.names c.in_ok-found.ensures.item none (c.in_ok-found.ensures.held w.in-None.is) c.in_ok-found.ensures.tabled.placed w.push.ensures.tabled.placed (omega (arith, fits, length-digests same.key c.args.list (named_lists names c.self.inside.lists.lists))) pushes)
+          c.in_ok-found.ensures.names (item-named g.M.Digest.Ord.cmp (λ m. m.digest) c.args.message.now.digest c.insert.new.self c.in_ok-found.found.item g.met.M.Digestible.exact c.in_ok-found.ensures.item) none (Holds-joined same number_laws laws _ g.M.Digest.Ord.cmp c.args.list c.args.message.now _ (items_of c.self.inside.table) (items_of c.insert.new.self) (λ copy is. is) (c.in_ok-found.ensures.joined w.in-None.is)) c.in_ok-found.ensures.tabled.placed w.push.ensures.tabled.placed (omega (arith, fits, length-digests same.key c.args.list (named_lists names c.self.inside.lists.lists))) pushes)
     ]
 
 pub invariant_of-self-2 : goal.invariant_of-self-2
 invariant_of-self-2 g c = (made g c).0
 
-pub returns-clause-new : goal.returns-clause-new
-returns-clause-new g c =
+pub returns-clause-outcome : goal.returns-clause-outcome
+returns-clause-outcome g c =
     let same = same_listed g.M.Digest.Ord.cmp in
     let laws = eq_by_cmp_equiv (g.met.M.Digest.Ord g.world.𝓛 g.world.𝓜 g.world.𝓡 (λ s x. x, λ x. x, λ x. x, λ x. x)).total in
     let has = among-indexed same number_laws laws (named_lists (names_of c.self.inside.table) c.self.inside.lists.lists) (items_of c.self.inside.table) c.self.invariant.indexed c.args.message.now.digest c.args.list in
-    rw (← c.self.view_is) (flip-not (is_some c.in_ok-found.found.place) c.is_none.result c.is_none.ensures ∙ ap not (ap is_some c.in_ok-found.ensures.found ∙ sym has))
+    rw (← c.self.view_is) (c.outcome.ensures ∙ ap (outcome_of true true) (ap is_some c.in_ok-found.ensures.place ∙ sym has))
 
 pub returns-clause-ok : goal.returns-clause-ok
 returns-clause-ok g c = rw (← c.self.view_is) (made g c).1

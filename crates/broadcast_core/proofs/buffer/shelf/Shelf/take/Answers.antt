@@ -21,13 +21,13 @@ returns-then-deque_size-eq0-clause-ok g c =
     rw (← c.self.view_is) (Stores-fits same number_laws c.args.list c.args.message.now _ c.args.byte_budget all all all
     (Stores-nowhere same number_laws laws c.args.list c.args.message.now c.args.charge c.args.deque_size lists lists (items_of c.self.inside.table) c.self.invariant.indexed distinct distinct c.if-deque_size-eq0.true fits refl) room)
 
-pub returns-clause-ok : goal.returns-clause-ok
-returns-clause-ok g c =
-    let same = same_listed g.M.Digest.Ord.cmp in
-    Stores-cut same number_laws c.args.list c.args.message.now _ c.args.byte_budget c.args.self.now c.insert.new.self c.cut.new.self c.in_ok-is_new.ensures.ok c.cut.ensures
-
 pub returns-then-bytes-from-clause-ok : goal.returns-then-bytes-from-clause-ok
 returns-then-bytes-from-clause-ok g c =
     let same = same_listed g.M.Digest.Ord.cmp in
-    Stores-fits same number_laws c.args.list c.args.message.now _ c.args.byte_budget c.args.self.now c.insert.new.self c.insert.new.self c.in_ok-is_new.ensures.ok
-    (omega (arith, c.in_ok-is_new.ensures.bytes, c.if-bytes-from.true, c.from.ensures))
+    Stores-cut same number_laws c.args.list c.args.message.now _ c.args.byte_budget c.args.self.now c.insert.new.self c.cut.new.self c.in_ok-listing.ensures.ok c.cut.ensures
+
+pub returns-else-bytes-from-clause-ok : goal.returns-else-bytes-from-clause-ok
+returns-else-bytes-from-clause-ok g c =
+    let same = same_listed g.M.Digest.Ord.cmp in
+    Stores-fits same number_laws c.args.list c.args.message.now _ c.args.byte_budget c.args.self.now c.insert.new.self c.insert.new.self c.in_ok-listing.ensures.ok
+    (omega (arith, c.in_ok-listing.ensures.bytes, c.if-bytes-from.false, c.from.ensures))

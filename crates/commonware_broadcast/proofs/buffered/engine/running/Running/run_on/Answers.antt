@@ -12,9 +12,9 @@ pub returns : goal.returns
 returns g c =
     let ran = PollsTo-from c.block_on_polls.ensures (λ p x. IfSome p.0 (λ old. ShowsPollsTo (format (same_by g.P.Ord.cmp g.M.Digest.Ord.cmp) g.M.Write.encoding g.M.Digestible.digest_of (λ cfg. whole (g.M.Read.reading cfg)))
     (interfaces (parties (λ w b. g.S.Responder.may_answer w.responder b) g.T.Job.Job.is_of g.O.Outlet) g.N.Sender g.V.Receiver g.B.Provider g.Q.Requests)
-    g.W.Observer.seen p.3 (moment old.value.engine old.value.network) old.value.observer ((moment x.0.value.engine x.0.value.network), x.0.value.observer) x.1))
+    g.W.Observer.seen (moment old.value.engine old.value.network) old.value.observer ((moment x.0.value.engine x.0.value.network), x.0.value.observer) x.1))
     (λ p cx left q called x ran. ShowsPollsTo-back (format (same_by g.P.Ord.cmp g.M.Digest.Ord.cmp) g.M.Write.encoding g.M.Digestible.digest_of (λ cfg. whole (g.M.Read.reading cfg)))
     (interfaces (parties (λ w b. g.S.Responder.may_answer w.responder b) g.T.Job.Job.is_of g.O.Outlet) g.N.Sender g.V.Receiver g.B.Provider g.Q.Requests)
-    g.W.Observer.seen p.3 (λ w. ((moment w.value.engine w.value.network), w.value.observer)) p.0 q.0 ((moment x.0.value.engine x.0.value.network), x.0.value.observer) x.1 (search rules) (search rules) ran)
+    g.W.Observer.seen (λ w. ((moment w.value.engine w.value.network), w.value.observer)) p.0 q.0 ((moment x.0.value.engine x.0.value.network), x.0.value.observer) x.1 (search rules) ran)
     (λ p cx left q x called. search rules) in
     record { ran = ran }

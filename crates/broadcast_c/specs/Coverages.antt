@@ -1,0 +1,18 @@
+-- Believed.
+-- What covering a message reports.
+use Rattle.std.specs.Prelude.{◌≡◌, ℕ, List, ◌∷◌, drop}
+use Rattle.gossip.specs.Spans.{floor_of, gap_for, with_had}
+use Rattle.gossip.specs.declared.span.Span.{Span}
+use Rattle.broadcast_c.specs.Calls.{IsFilled}
+
+-- all stamps up to the floor, and those of the spans
+abbrev pub coverage_of : ℕ → List Span → List Span
+coverage_of floor spans = record { from = 0; to = floor } ∷ spans
+
+-- what is had with one more span is reported: its floor, the spans after it, and the gap that was
+-- closed
+pub record ReportsCovering (had : List Span) (span : Span) (floor : ℕ) (old new : List Span)
+    (needed : ℕ) (gap : Span) (status : ℕ) : Type 0 where
+  pub floor_reported : floor ≡ floor_of (with_had span had)
+  pub spans_reported : IsFilled (drop 1 (with_had span had)) old new needed status
+  pub gap_reported : gap ≡ gap_for span had

@@ -1,0 +1,8 @@
+//! The exported functions.
+
+mod buffer;
+mod counters;
+mod coverage;
+mod digest;
+mod packet;
+mod store;

@@ -1,0 +1,53 @@
+//! The functions of coverages: which stamps of an author a relay has had.
+ghost use Rattle.std.specs.Prelude.{◌≡◌, ◌<◌, true, false};
+ghost use Rattle.gossip.specs.Spans.{IsCoverage, is_had};
+ghost use Rattle.broadcast_c.specs.Coverages.{ReportsCovering, coverage_of};
+
+use super::buffer::fill;
+use crate::codes::{NO_COVERAGE, NONE, OK};
+use gossip::{Coverage, Span};
+
+/// Reports whether a coverage has the stamp: all stamps up to `floor`, and those of the spans.
+#[unsafe(no_mangle)]
+pub extern "C" fn broadcast_coverage_has(floor: u64, spans: &[Span], stamp: u64) -> u32
+    ensures had { result ≡ OK → is_had stamp (coverage_of floor spans.now) ≡ true }
+    ensures not_had { result ≡ NONE → is_had stamp (coverage_of floor spans.now) ≡ false }
+    ensures invalid { ¬ (result ≡ OK) → ¬ (result ≡ NONE)
+        → (result ≡ NO_COVERAGE) × ¬ (IsCoverage 64 (coverage_of floor spans.now)) }
+{
+    match Coverage::reported(floor, spans) {
+        Some(coverage) => { if coverage.covers(stamp) { OK } else { NONE } }
+        None => NO_COVERAGE,
+    }
+}
+
+/// Covers the stamps after `prev` and up to `stamp` too. Sets `floor`, fills `out` with the spans
+/// after it, and sets `gap` to the gap that was closed if there were too many.
+#[unsafe(no_mangle)]
+pub extern "C" fn broadcast_coverage_cover(
+    floor: &mut u64,
+    spans: &[Span],
+    prev: u64,
+    stamp: u64,
+    out: &mut [Span],
+    needed: &mut usize,
+    gap: &mut Span,
+) -> u32
+    ensures covered { ¬ (result ≡ NO_COVERAGE) → ReportsCovering
+        (coverage_of floor.old spans.now) (record { from = prev; to = stamp })
+        floor.new out.old out.new needed.new gap.new result }
+    ensures invalid { result ≡ NO_COVERAGE → IsCoverage 64 (coverage_of floor.old spans.now)
+        → stamp < prev }
+    ensures reports_nothing { result ≡ NO_COVERAGE → (floor.new ≡ floor.old)
+        × (out.new ≡ out.old) × (needed.new ≡ needed.old) × (gap.new ≡ gap.old) }
+{
+    if stamp < prev {
+        return NO_COVERAGE;
+    }
+    let Some(mut coverage) = Coverage::reported(*floor, spans) else {
+        return NO_COVERAGE;
+    };
+    *gap = coverage.cover(prev, stamp);
+    *floor = coverage.floor();
+    fill(coverage.above_floor(), out, needed)
+}

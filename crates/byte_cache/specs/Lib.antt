@@ -1,4 +1,0 @@
-pub mod Blob
-pub mod Changes
-pub mod Counting
-pub mod Held

@@ -1,0 +1,5 @@
+pub mod Granting
+pub mod Joining
+pub mod CatchingUp
+pub mod Readying
+pub mod Delivering

@@ -1,0 +1,4 @@
+pub mod Deliveries
+pub mod Outbox
+pub mod Spans
+pub mod Tokens

@@ -1,0 +1,128 @@
+//! What is sent to a peer next, and for which peers a relay waits.
+ghost use Rattle.std.specs.Prelude.{◌≡◌, ℕ, ◌<◌, ◌≤◌, ◌+◌, length, nat_eq, nat_lt, true, IsSome, IfSome, IfNone};
+ghost use Rattle.std.specs.List.{list_any};
+ghost use Rattle.gossip.specs.Outbox.{is_within, is_wanted, bytes_of, NoneOfFirst, IsNext, AreLater, AreHad, AreUpTo, WantsNothingBelow, lacking, lag};
+ghost use Rattle.gossip.specs.Spans.{top_of};
+
+use crate::coverage::Coverage;
+
+/// A message on a relay's list of an author: the stamp of the author's message before it, its own
+/// stamp, and its size.
+#[derive(Clone, Copy, Debug, PartialEq, Eq)]
+pub struct Listed {
+    pub prev: u64,
+    pub stamp: u64,
+    pub bytes: u64,
+}
+
+/// Returns the bytes of the messages together.
+pub fn bytes_of(list: &[Listed]) -> u128
+    ensures { result ≡ bytes_of list.now }
+{
+    let mut bytes: u128 = 0;
+    for message in list {
+        bytes += u128::from(message.bytes);
+    }
+    bytes
+}
+
+/// Returns whether the stamp is no later than the top, if there is one.
+fn is_within(stamp: u64, top: Option<u64>) -> bool
+    ensures { result ≡ is_within stamp top }
+{
+    match top {
+        Some(top) => stamp <= top,
+        None => true,
+    }
+}
+
+/// Returns whether the message of the stamp is in flight.
+fn is_in_flight(stamp: u64, in_flight: &[Listed]) -> bool
+    ensures { result ≡ list_any (λ f. nat_eq f.stamp stamp) in_flight.now }
+{
+    in_flight.iter().any(|it| it.stamp == stamp)
+}
+
+/// Returns whether a peer lacks the message, which is no later than the top, and is not in flight.
+fn is_wanted(message: Listed, reported: &Coverage, top: Option<u64>, in_flight: &[Listed]) -> bool
+    ensures { result ≡ is_wanted reported.now top in_flight.now message }
+{
+    !reported.covers(message.stamp)
+        && is_within(message.stamp, top)
+        && !is_in_flight(message.stamp, in_flight)
+}
+
+/// Returns the index of the message that is sent next to a peer with this coverage: the earliest
+/// that the peer wants. While the bytes in flight reach the room, nothing is sent. So the peer gets
+/// the messages in order, without gaps, and at most one message more than its room.
+///
+/// A peer that is held back wants nothing above the top of its coverage.
+pub fn next(
+    list: &[Listed],
+    reported: &Coverage,
+    top: Option<u64>,
+    in_flight: &[Listed],
+    room: u64,
+) -> Option<usize>
+    ensures within { IfSome result (λ i. i < length list.now) }
+    ensures room { IsSome result → bytes_of in_flight.now < room }
+    ensures next { IfSome result (IsNext reported.now top in_flight.now list.now) }
+    ensures none { IfNone result (bytes_of in_flight.now < room
+        → NoneOfFirst reported.now top in_flight.now (length list.now) list.now) }
+{
+    if bytes_of(in_flight) >= u128::from(room) {
+        return None;
+    }
+    for (i, message) in list.iter().enumerate() {
+        if is_wanted(*message, reported, top, in_flight) {
+            return Some(i);
+        }
+    }
+    None
+}
+
+/// Sends the next message until there is none, to a peer that covers what it gets. Returns the
+/// number of messages sent. It shows what the decisions of `next` amount to: the peer has all.
+pub fn catch_up(list: &[Listed], peer: &mut Coverage) -> usize
+    requires { AreLater list.now }
+    ensures all { AreHad peer.new list.now }
+    ensures few { result + lacking peer.new list.now ≤ lacking peer.old list.now }
+{
+    let mut sent = 0;
+    loop {
+        let Some(i) = next(list, peer, None, &[], 1) else {
+            return sent;
+        };
+        let message = list[i];
+        peer.cover(message.prev, message.stamp);
+        sent += 1;
+    }
+}
+
+/// Returns the bytes of the list that a peer with this coverage lacks.
+pub fn lag(list: &[Listed], reported: &Coverage) -> u128
+    ensures { result ≡ lag reported.now list.now }
+{
+    let mut bytes: u128 = 0;
+    for message in list {
+        if !reported.covers(message.stamp) {
+            bytes += u128::from(message.bytes);
+        }
+    }
+    bytes
+}
+
+/// Returns whether a relay waits for a peer: the peer lacks more than the window of the relay's
+/// list. While a relay waits, it is held back: it takes nothing above the top of its coverage.
+///
+/// Relays that wait for each other can't stand in a circle. If a relay waits for a peer that wants
+/// nothing up to the peer's own top, then that top is lower than the relay's, which no message on
+/// its list is above. So of the relays that are held back, the one with the lowest top waits for a
+/// peer that takes something from it.
+pub fn waits_for(list: &[Listed], reported: &Coverage, window: u64) -> bool
+    ensures waits { result ≡ nat_lt window (lag reported.now list.now) }
+    ensures no_circle { result ≡ true → WantsNothingBelow reported.now list.now
+        → (top : ℕ) → AreUpTo top list.now → top_of reported.now < top }
+{
+    u128::from(window) < lag(list, reported)
+}

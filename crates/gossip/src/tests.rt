@@ -1,0 +1,90 @@
+//! Each public call once, at values that were worked out by hand.
+use crate::bucket::{Bucket, Call, take_all};
+use crate::coverage::Coverage;
+use crate::deliveries::{Arrival, Deliveries, deliver_all};
+use crate::outbox::{Listed, bytes_of, catch_up, lag, next, waits_for};
+use crate::span::Span;
+
+const SECOND: u64 = 1_000_000_000;
+
+#[test]
+fn grants_the_burst_and_then_the_rate(rt: HostRuntime) {
+    // 10 tokens at once, and 4 a second.
+    let mut bucket = Bucket::new(4, 10, SECOND);
+    let calls = [
+        Call {
+            now: SECOND,
+            cost: 10,
+        },
+        Call {
+            now: SECOND + SECOND / 4 - 1,
+            cost: 1,
+        },
+        Call {
+            now: SECOND + SECOND / 4,
+            cost: 1,
+        },
+    ];
+    assert_eq!(rt; take_all(&mut bucket, &calls), 11);
+    assert_eq!(rt; bucket.ready(2 * SECOND, 4), Some(2 * SECOND + SECOND / 4));
+    assert_eq!(rt; bucket.ready(2 * SECOND, 11), None);
+}
+
+#[test]
+fn closes_the_oldest_gap(rt: HostRuntime) {
+    let nothing = Span::default();
+    let mut had = Coverage::new(5);
+    for i in 1..64u64 {
+        assert_eq!(rt; had.cover(10 * i, 10 * i + 5), nothing);
+    }
+    // The 65th span closes the gap before the second.
+    let gap = Span { from: 5, to: 10 };
+    assert_eq!(rt; had.deliver(640, 645), Some(gap));
+    assert_eq!(rt; had.deliver(640, 645), None);
+    assert!(rt; had.floor() == 15 && had.top() == 645 && had.above_floor().len() == 63);
+    assert!(rt; had.covers(7) && !had.covers(16) && had.covers(645));
+    let again = Coverage::reported(15, had.above_floor());
+    assert!(rt; again.is_some_and(|it| it.above_floor() == had.above_floor()));
+    assert!(rt; Coverage::reported(30, had.above_floor()).is_none());
+}
+
+#[test]
+fn delivers_once(rt: HostRuntime) {
+    let arrival = |author, prev, stamp| Arrival {
+        author,
+        prev,
+        stamp,
+    };
+    let arrivals = [
+        arrival(1, 4, 9),
+        arrival(1, 4, 9),
+        arrival(0, 4, 9),
+        arrival(1, 0, 4),
+    ];
+    let mut deliveries = Deliveries::new(rt.alloc(), 2).expect(&rt, "memory");
+    let delivered = deliver_all(rt.alloc(), &mut deliveries, &arrivals).expect(&rt, "memory");
+    let expected = [arrivals[0], arrivals[2], arrivals[3]];
+    assert_eq!(rt; delivered.as_slice(), &expected[..]);
+}
+
+#[test]
+fn sends_in_order_within_the_room(rt: HostRuntime) {
+    let listed = |stamp, bytes| Listed {
+        prev: stamp - 1,
+        stamp,
+        bytes,
+    };
+    let list = [listed(1, 9), listed(2, 3), listed(3, 3)];
+    let mut peer = Coverage::new(0);
+    assert_eq!(rt; bytes_of(&list), 15);
+    assert_eq!(rt; next(&list, &peer, None, &[], 1), Some(0));
+    assert_eq!(rt; next(&list, &peer, None, &list[..1], 10), Some(1));
+    assert_eq!(rt; next(&list, &peer, None, &list[..1], 9), None);
+    // A peer that is held back gets what is in its gaps only.
+    peer.cover(1, 2);
+    assert_eq!(rt; next(&list, &peer, Some(2), &[], 9), Some(0));
+    assert_eq!(rt; next(&list, &peer, Some(2), &list[..1], 10), None);
+    assert!(rt; lag(&list, &peer) == 12 && waits_for(&list, &peer, 11));
+    assert!(rt; !waits_for(&list, &peer, 12));
+    assert_eq!(rt; catch_up(&list, &mut peer), 2);
+}

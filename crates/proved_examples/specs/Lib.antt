@@ -1,4 +1,0 @@
-pub mod CoreExamples
-pub mod Driven
-pub mod WorkedExamples
-pub mod WorldExamples

@@ -1,9 +1,0 @@
-use Rattle.std.proofs.Common.{◌≡◌, take}
-use Rattle.replay_lib.specs.Loopback.{broadcasts_in, passed}
-use Rattle.replay_lib.proofs.loopback.loop_back.Given as goal
-
-abbrev pub invariant-loop-i : goal.invariant-loop-i
-invariant-loop-i l = record {
-  same : l.events ≡ l.initial.events;
-  passed : l.inbox ≡ passed l.initial.inbox (broadcasts_in (take l.i l.events));
-}

@@ -1,3 +1,0 @@
-pub mod Arguments
-pub mod Line
-pub mod Report

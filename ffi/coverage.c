@@ -1,0 +1,77 @@
+/* Coverages, from C: what is had with one more message, which gap is closed, and what is refused. */
+#include "broadcast_c.h"
+#include "must.h"
+
+enum { MOST = 63 };
+
+static broadcast_span spans[MOST], out[MOST];
+static uint64_t floor_of;
+static size_t len;
+
+/* Covers a message, and returns the gap that was closed. */
+static broadcast_span cover(uint64_t prev, uint64_t stamp)
+{
+    broadcast_span gap = {9, 9};
+    must(broadcast_coverage_cover(&floor_of, spans, len, prev, stamp, out, MOST, &len, &gap) ==
+         BROADCAST_OK);
+    memcpy(spans, out, sizeof spans);
+    return gap;
+}
+
+static bool has(uint64_t stamp)
+{
+    uint32_t status = broadcast_coverage_has(floor_of, spans, len, stamp);
+    must(status == BROADCAST_OK || status == BROADCAST_NONE);
+    return status == BROADCAST_OK;
+}
+
+static void joins(void)
+{
+    floor_of = 5, len = 0;
+    cover(20, 30);
+    cover(10, 12);
+    must(floor_of == 5 && len == 2 && spans[0].from == 10 && spans[1].to == 30);
+    must(has(5) && !has(6) && !has(20) && has(30));
+    cover(5, 10);
+    must(floor_of == 12 && len == 1);
+    cover(12, 20);
+    must(floor_of == 30 && len == 0);
+}
+
+static void closes_the_oldest_gap(void)
+{
+    broadcast_span gap;
+    floor_of = 5, len = 0;
+    for (uint64_t i = 1; i <= MOST; i++) {
+        gap = cover(10 * i, 10 * i + 5);
+        must(gap.from == 0 && gap.to == 0);
+    }
+    gap = cover(640, 645);
+    must(gap.from == 5 && gap.to == 10 && floor_of == 15 && len == MOST && has(7) && !has(16));
+}
+
+/* What is refused changes nothing. */
+static void refuses(void)
+{
+    static const broadcast_span wrong[][2] = {{{5, 7}, {8, 9}}, {{6, 7}, {7, 9}}, {{8, 7}, {9, 9}}};
+    uint64_t floor = 5;
+    size_t needed = 9;
+    broadcast_span gap = {9, 9}, room = {9, 9};
+    for (size_t i = 0; i < sizeof wrong / sizeof *wrong; i++) {
+        must(broadcast_coverage_has(5, wrong[i], 2, 6) == BROADCAST_NO_COVERAGE);
+        must(broadcast_coverage_cover(&floor, wrong[i], 2, 20, 21, &room, 1, &needed, &gap) ==
+             BROADCAST_NO_COVERAGE);
+    }
+    must(broadcast_coverage_cover(&floor, NULL, 0, 7, 6, &room, 1, &needed, &gap) ==
+         BROADCAST_NO_COVERAGE);
+    must(floor == 5 && needed == 9 && gap.from == 9 && room.to == 9);
+}
+
+int main(void)
+{
+    joins();
+    closes_the_oldest_gap();
+    refuses();
+    puts("coverage: ok");
+    return 0;
+}

@@ -1,0 +1,158 @@
+//! The verified library.
+
+use super::{Counted, Stored};
+use crate::raw::{self, OwnedStore};
+use crate::{Counters, Digest, Error, Key, Outcome, Ticket};
+
+/// A cache of the library.
+pub struct Library(OwnedStore);
+
+/// Returns the error of a status that is not one of those that the call expects.
+fn error(status: u32) -> Error {
+    match status {
+        raw::MEMORY => Error::Memory,
+        other => Error::Status(other),
+    }
+}
+
+fn done(status: u32) -> Result<(), Error> {
+    match status {
+        raw::OK => Ok(()),
+        other => Err(error(other)),
+    }
+}
+
+const fn code(outcome: Outcome) -> u32 {
+    match outcome {
+        Outcome::Inserted => raw::INSERTED,
+        Outcome::Duplicate => raw::DUPLICATE,
+        Outcome::Ineligible => raw::INELIGIBLE,
+        Outcome::Oversize => raw::OVERSIZE,
+    }
+}
+
+impl TryFrom<raw::Stored> for Stored {
+    type Error = Error;
+
+    #[inline]
+    fn try_from(raw: raw::Stored) -> Result<Stored, Error> {
+        let outcome = match raw.outcome {
+            raw::INSERTED => Outcome::Inserted,
+            raw::DUPLICATE => Outcome::Duplicate,
+            raw::INELIGIBLE => Outcome::Ineligible,
+            raw::OVERSIZE => Outcome::Oversize,
+            other => return Err(Error::Status(other)),
+        };
+        Ok(Stored { outcome, is_kept: raw.kept, served: raw.served, cached: raw.cached })
+    }
+}
+
+/// Checks the processor, then the version: the library's functions are for x86-64-v2.
+fn is_usable() -> Result<(), Error> {
+    #[cfg(target_arch = "x86_64")]
+    if !(is_x86_feature_detected!("sse4.2") && is_x86_feature_detected!("popcnt")) {
+        return Err(Error::Processor);
+    }
+    match raw::broadcast_c_version() {
+        raw::VERSION => Ok(()),
+        other => Err(Error::Version(other)),
+    }
+}
+
+impl Library {
+    pub fn new(own: &Key, deque_size: usize, byte_budget: u64) -> Result<Library, Error> {
+        is_usable()?;
+        OwnedStore::new(own, deque_size, byte_budget).map(Library).map_err(error)
+    }
+
+    pub fn peers(&mut self, keys: &[Key]) -> Result<(), Error> {
+        done(self.0.peers(keys))
+    }
+
+    #[inline]
+    pub fn take(
+        &mut self,
+        peer: &Key,
+        digest: &Digest,
+        charge: usize,
+        number: u64,
+    ) -> Result<Stored, Error> {
+        let mut out = raw::Stored::default();
+        done(self.0.take(peer, digest, charge, number, &mut out))?;
+        out.try_into()
+    }
+
+    #[inline]
+    pub fn receive(
+        &mut self,
+        peer: &Key,
+        digest: &Digest,
+        charge: usize,
+        number: u64,
+        counters: &mut Counters,
+    ) -> Result<Stored, Error> {
+        let mut out = raw::Stored::default();
+        done(self.0.receive(peer, digest, charge, number, counters, &mut out))?;
+        out.try_into()
+    }
+
+    pub fn served(&self, room: &mut [Ticket]) -> Result<(), Error> {
+        done(self.0.served(room, &mut 0))
+    }
+
+    pub fn subscribe(&mut self, ticket: u64, digest: &Digest) -> Result<bool, Error> {
+        match self.0.subscribe(ticket, digest) {
+            raw::WAITS => Ok(true),
+            raw::OK => Ok(false),
+            status => Err(error(status)),
+        }
+    }
+
+    pub fn cleanup(&mut self, tickets: &[Ticket]) -> u64 {
+        self.0.cleanup(tickets)
+    }
+
+    pub fn cleanup_of(&mut self, digest: &Digest, tickets: &[Ticket]) -> u64 {
+        self.0.cleanup_of(digest, tickets)
+    }
+
+    #[inline]
+    pub fn get(&self, digest: &Digest) -> Option<u64> {
+        self.0.get(digest)
+    }
+
+    pub fn is_primary(&self, peer: &Key) -> bool {
+        self.0.is_primary(peer)
+    }
+
+    pub fn list(&self, peer: &Key, out: &mut [Digest]) -> Result<(usize, bool), Error> {
+        let mut len = 0;
+        match self.0.list(peer, out, &mut len) {
+            raw::OK => Ok((len, true)),
+            raw::SHORT => Ok((len, false)),
+            status => Err(error(status)),
+        }
+    }
+
+    pub fn count(&self) -> (usize, usize) {
+        let raw::Counts { cached, awaited } = self.0.count();
+        (cached, awaited)
+    }
+}
+
+pub fn count(counters: &mut Counters, what: Counted) {
+    let code = match what {
+        Counted::Outcome(outcome) => code(outcome),
+        Counted::Invalid => raw::INVALID,
+    };
+    raw::broadcast_counters_count(counters, code);
+}
+
+pub fn add(counters: &mut Counters, more: &Counters) {
+    raw::broadcast_counters_add(counters, more);
+}
+
+pub fn sha256(bytes: &[u8]) -> Result<Digest, Error> {
+    is_usable()?;
+    Ok(raw::sha256(bytes))
+}

@@ -1,0 +1,374 @@
+//! One author's log, and all that is decided for it: who is waited for, who feeds this relay, who is to get a report.
+
+use super::feeder::{self, Candidate};
+use super::links::Links;
+use super::patience::{Patience, Wait};
+use super::session::Session;
+use super::view::View;
+use super::{Bounds, Bucket, Coverage, List, Message, NEVER, Report, SECOND, Time};
+
+#[derive(Debug)]
+pub struct Log {
+    author: usize,
+    is_own: bool,
+    pub covered: Coverage,
+    pub list: List,
+    pub bucket: Bucket,
+    pub views: Vec<View>,
+    pub feeder: Option<usize>,
+    /// When the feeder got room, and when it last brought something new.
+    granted: Time,
+    brought: Time,
+    /// Since when others show something that is missing here, and its stamp.
+    short: Option<(Time, u64)>,
+    /// A peer is waited for; and how many bytes are left until one is.
+    pub is_held: bool,
+    left: u64,
+    /// For how long this relay may still hold the author back, whoever is the cause.
+    patience: Patience,
+    /// The bytes that came since the last step.
+    unchecked: u64,
+    /// When a step is due.
+    pub wake: Time,
+    /// So that not all relays report at the same time.
+    spread: u64,
+}
+
+impl Log {
+    pub fn new(author: usize, is_own: bool, bounds: &Bounds, spread: u64) -> Log {
+        Log {
+            author,
+            is_own,
+            covered: Coverage::default(),
+            list: List::new(bounds.list),
+            bucket: Bucket::new(bounds.rate, bounds.burst),
+            views: Vec::new(),
+            feeder: None,
+            granted: 0,
+            brought: 0,
+            short: None,
+            is_held: false,
+            left: bounds.behind,
+            patience: Patience::new(bounds.patience),
+            unchecked: 0,
+            wake: NEVER,
+            spread,
+        }
+    }
+
+    /// Adds the next peer.
+    pub fn add_view(&mut self, bounds: &Bounds) {
+        self.views.push(View::new(Session::new(self.author, 0), bounds));
+    }
+
+    pub fn connect(&mut self, peer: usize, links: &mut Links) {
+        let view = &mut self.views[peer];
+        view.session = Session::new(self.author, self.covered.top());
+        view.record.start_again();
+        self.queue_report(peer, links);
+    }
+
+    pub fn disconnect(&mut self, peer: usize) {
+        self.views[peer].session = Session::new(self.author, 0);
+        if self.feeder == Some(peer) {
+            self.feeder = None;
+        }
+    }
+
+    /// Replaces a peer's report.
+    pub fn hear(&mut self, now: Time, peer: usize, report: Report, bounds: &Bounds) {
+        let view = &mut self.views[peer];
+        let before = view.session.theirs.as_ref().map(|it| self.list.lacking(&it.coverage));
+        let after = self.list.lacking(&report.coverage);
+        if let Some(took) = before.and_then(|it| it.checked_sub(after)) {
+            view.patience.renew(now, took, bounds.pace);
+        }
+        view.session.replace(report);
+    }
+
+    /// Lets messages be sent to a peer.
+    pub fn queue_turn(&mut self, peer: usize, links: &mut Links) {
+        let session = &mut self.views[peer].session;
+        if !session.has_turn && session.has_room() {
+            session.has_turn = true;
+            links.push_turn(peer, self.author);
+        }
+    }
+
+    pub fn queue_report(&mut self, peer: usize, links: &mut Links) {
+        let session = &mut self.views[peer].session;
+        if links.is_connected(peer) && !session.is_due {
+            session.is_due = true;
+            links.push_report(peer, self.author);
+        }
+    }
+
+    /// Takes a new message: covers it, lists it, and sees who is to get it or hear of it. Returns whether a step is due.
+    pub fn take(
+        &mut self,
+        now: Time,
+        from: Option<usize>,
+        message: Message,
+        bounds: &Bounds,
+        links: &mut Links,
+    ) -> bool {
+        let (stamp, size) = (message.stamp, message.size());
+        self.covered.cover(message.prev, stamp, bounds.runs);
+        self.list.insert(message);
+        self.patience.renew(now, size, bounds.pace);
+        let is_fed = from.is_some() && self.feeder == from;
+        if is_fed {
+            self.note_brought(now, stamp, size, bounds);
+        }
+        let mut ahead = None;
+        for peer in 0..self.views.len() {
+            if !links.is_connected(peer) {
+                continue;
+            }
+            if is_fed && from != Some(peer) {
+                let view = &mut self.views[peer];
+                view.record.compare(view.session.covers(stamp));
+                if view.record.is_ahead(now) {
+                    ahead = Some(peer);
+                }
+            }
+            self.offer(now, peer, stamp, size, bounds, links);
+        }
+        self.unchecked += size;
+        match ahead {
+            Some(_) if self.feeder != Some(self.author) => {
+                self.feed_from(now, ahead, bounds, links);
+                true
+            }
+            _ => self.unchecked >= bounds.behind / 16,
+        }
+    }
+
+    /// The feeder brought something new. What is below the missing stamp shows that it is on its way there, and not slow.
+    fn note_brought(&mut self, now: Time, stamp: u64, size: u64, bounds: &Bounds) {
+        self.brought = now;
+        if let Some((since, missing)) = &mut self.short {
+            let more = if stamp < *missing { size * bounds.slow / bounds.room } else { 0 };
+            *since = (self.granted.max(*since) + more).min(now);
+        }
+    }
+
+    /// Sends a peer what is new, or reports it: soon if the peer lacks it, at once if much came, and else at leisure.
+    fn offer(
+        &mut self,
+        now: Time,
+        peer: usize,
+        stamp: u64,
+        size: u64,
+        bounds: &Bounds,
+        links: &mut Links,
+    ) {
+        let join = bounds.join * (1 + self.covered.runs().len() as u64 / 2);
+        let session = &mut self.views[peer].session;
+        let (may_send, is_news) = session.note(stamp, size);
+        if may_send {
+            self.queue_turn(peer, links);
+        } else if is_news && session.news_due == NEVER {
+            // Who is first spares the other its report.
+            let spread = (stamp ^ (self.spread + peer as u64)).wrapping_mul(0x9e37_79b9_7f4a_7c15);
+            session.news_due = now + join + (spread >> 33) % (2 * join).max(1);
+        }
+        let session = &mut self.views[peer].session;
+        session.lazy_due = session.lazy_due.min(now + bounds.lazy);
+        self.wake = self.wake.min(session.wake());
+        let most = match self.feeder == Some(peer) {
+            true => session.ours.room.min(bounds.room) / 4,
+            false => bounds.behind / 4,
+        };
+        if session.unreported >= most {
+            self.queue_report(peer, links);
+        }
+    }
+
+    /// Decides all that depends on reports and on time.
+    pub fn step(&mut self, now: Time, bounds: &Bounds, links: &mut Links) {
+        (self.wake, self.unchecked) = (NEVER, 0);
+        self.hold(now, bounds, links);
+        self.choose(now, bounds, links);
+        self.grant(now, bounds, links);
+        self.report(now, bounds, links);
+    }
+
+    /// Decides which peers are waited for.
+    fn hold(&mut self, now: Time, bounds: &Bounds, links: &Links) {
+        let mut is_held = false;
+        self.left = bounds.behind;
+        for peer in 0..self.views.len() {
+            let lacks = if links.is_connected(peer) { self.lacks(peer) } else { 0 };
+            let view = &mut self.views[peer];
+            view.is_stalled &= lacks > bounds.behind / 2 || !links.is_connected(peer);
+            let end = view.judge(now, lacks, bounds);
+            is_held |= view.is_waited_for;
+            if !view.is_stalled {
+                self.left = self.left.min(bounds.behind.saturating_sub(lacks));
+            }
+            self.wake = self.wake.min(end);
+        }
+        // At the full price, and who waits for this relay pays half: so this relay gives up who stands still, and not the others
+        // this relay.
+        let end = self.patience.wait(now, if is_held { Wait::Yes } else { Wait::No });
+        if end <= now {
+            self.views.iter_mut().filter(|it| it.is_waited_for).for_each(|it| it.give_up(now));
+            self.patience.wait(now, Wait::No);
+            is_held = false;
+        } else {
+            self.wake = self.wake.min(end);
+        }
+        if self.is_held && !is_held {
+            self.granted = now;
+        }
+        self.is_held = is_held;
+    }
+
+    /// The bytes of the list that a connected peer lacks. Before its first report nothing is known but that a peer lists whom it is
+    /// connected to: so of the own log it lacks what is newer than the connection.
+    pub fn lacks(&self, peer: usize) -> u64 {
+        let session = &self.views[peer].session;
+        match &session.theirs {
+            Some(theirs) => self.list.lacking(&theirs.coverage),
+            None if self.is_own => self.list.lacking(&Coverage::up_to(session.began_at)),
+            None => 0,
+        }
+    }
+
+    /// Decides who feeds this relay.
+    fn choose(&mut self, now: Time, bounds: &Bounds, links: &mut Links) {
+        let Some(feeder) = self.feeder else {
+            let best = self.best(now, None, links);
+            return self.feed_from(now, best, bounds, links);
+        };
+        let missing = self.missing(now, feeder, links);
+        // While the author is at the end of its rate nobody is judged.
+        let is_judged = self.bucket.level(now) >= bounds.room;
+        self.short = match (missing, self.short) {
+            (Some(_), Some(short)) if is_judged && !self.covered.covers(short.1) => Some(short),
+            (Some(stamp), _) if is_judged => Some((now, stamp)),
+            _ => None,
+        };
+        let is_free = |it: &View| it.record.barred(now).is_none();
+        if let Some((since, _)) = self.short {
+            let slack = 2 * links.round_trip(feeder).min(SECOND / 4);
+            let (idle, slow) = (bounds.idle + slack, bounds.slow + slack);
+            let end = feeder::deadline(since, self.granted, self.brought, idle, slow);
+            if now < end {
+                self.wake = self.wake.min(end);
+                return;
+            }
+            let is_blamed = self.shown(feeder).is_some();
+            let best = self.best(now, Some(feeder), links);
+            if is_blamed {
+                self.views[feeder].record.fail(now);
+            }
+            self.feed_from(now, best, bounds, links);
+        } else if missing.is_none()
+            && feeder != self.author
+            && links.is_connected(self.author)
+            && is_free(&self.views[self.author])
+        {
+            self.feed_from(now, Some(self.author), bounds, links);
+        }
+    }
+
+    /// The least stamp that peers show beside the feeder. Those that are barred do not count, and are looked at again when they are
+    /// free.
+    fn missing(&mut self, now: Time, feeder: usize, links: &Links) -> Option<u64> {
+        let mut missing = None;
+        for peer in links.others(Some(feeder)) {
+            let Some(stamp) = self.shown(peer) else { continue };
+            match self.views[peer].record.barred(now) {
+                Some(end) => self.wake = self.wake.min(end),
+                None => missing = Some(missing.map_or(stamp, |it: u64| it.min(stamp))),
+            }
+        }
+        missing
+    }
+
+    /// The least stamp that a peer shows and that is wanted.
+    fn shown(&self, peer: usize) -> Option<u64> {
+        let limit = if self.is_held { self.covered.top() } else { u64::MAX };
+        self.views[peer].session.shows(&self.covered, limit)
+    }
+
+    fn best(&self, now: Time, but: Option<usize>, links: &Links) -> Option<usize> {
+        let candidates = links.others(but).map(|peer| Candidate {
+            peer,
+            is_author: peer == self.author,
+            shows: self.shown(peer).is_some(),
+            record: self.views[peer].record,
+            round_trip: links.round_trip(peer),
+        });
+        feeder::best(now, candidates)
+    }
+
+    fn feed_from(&mut self, now: Time, peer: Option<usize>, bounds: &Bounds, links: &mut Links) {
+        let old = std::mem::replace(&mut self.feeder, peer);
+        (self.granted, self.brought, self.short) = (now, 0, None);
+        // A new feeder is judged from then on.
+        self.wake = self.wake.min(now + bounds.idle);
+        self.views.iter_mut().for_each(|it| it.record.start_again());
+        // What is in flight from one of them may come from the other too.
+        for peer in [old, peer].into_iter().flatten() {
+            let repeats = &mut self.views[peer].session.repeats;
+            *repeats = (*repeats + bounds.repeats()).min(16 * bounds.repeats());
+        }
+        if let Some(old) = old.filter(|&it| Some(it) != peer) {
+            self.queue_report(old, links);
+        }
+    }
+
+    /// The room that a peer has now.
+    fn room(&mut self, now: Time, peer: usize, bounds: &Bounds) -> u64 {
+        let level = self.bucket.level(now);
+        if self.feeder != Some(peer) || level < bounds.burst / 8 {
+            return 0;
+        }
+        bounds.room.min(level).min(self.left.max(bounds.step()))
+    }
+
+    /// Reports to the feeder that it has room, or has none.
+    fn grant(&mut self, now: Time, bounds: &Bounds, links: &mut Links) {
+        let Some(feeder) = self.feeder else { return };
+        let room = self.room(now, feeder, bounds);
+        if room == 0 {
+            self.wake = self.wake.min(self.bucket.when(now, bounds.burst / 8));
+        }
+        let known = &self.views[feeder].session.ours;
+        if (known.room == 0) != (room == 0) || known.is_held != self.is_held {
+            self.queue_report(feeder, links);
+        }
+    }
+
+    /// Sees who is to get a report now.
+    fn report(&mut self, now: Time, bounds: &Bounds, links: &mut Links) {
+        let current = self.current(0);
+        for peer in 0..self.views.len() {
+            if !links.is_connected(peer) {
+                continue;
+            }
+            let session = &mut self.views[peer].session;
+            let is_due = session.is_report_due(now, &current, bounds.lazy);
+            self.wake = self.wake.min(session.wake());
+            if is_due {
+                self.queue_report(peer, links);
+            }
+        }
+    }
+
+    fn current(&self, room: u64) -> Report {
+        let (author, coverage) = (self.author, self.covered.clone());
+        Report { author, coverage, since: self.list.since(), room, is_held: self.is_held }
+    }
+
+    /// The report for a peer, which is sent now.
+    pub fn report_to(&mut self, now: Time, peer: usize, bounds: &Bounds) -> Report {
+        let room = self.room(now, peer, bounds);
+        let report = self.current(room);
+        self.views[peer].session.report(&report);
+        report
+    }
+}

@@ -1,0 +1,250 @@
+//! One relay: what comes in, what goes out, and when to look again.
+
+use super::links::Links;
+use super::log::Log;
+use super::{Bounds, Breach, Coverage, Frame, Message, NEVER, Report, Time};
+use bytes::Bytes;
+
+/// What is known of an author from before a start.
+#[derive(Clone, Debug, Default)]
+pub struct Past {
+    pub covered: Coverage,
+    pub messages: Vec<Message>,
+}
+
+/// What became of a message.
+#[derive(Clone, Copy, Debug, PartialEq, Eq)]
+pub enum Taken {
+    New,
+    /// It was had before.
+    Again,
+    /// Its author is not listed.
+    Unlisted,
+}
+
+/// Authors and peers are one set of nodes, which have the same numbers: `0..`, in the order in which they were added.
+#[derive(Debug)]
+pub struct Machine {
+    bounds: Bounds,
+    own: usize,
+    /// The stamp of the last own message, if it is known.
+    last: Option<u64>,
+    logs: Vec<Log>,
+    are_listed: Vec<bool>,
+    links: Links,
+    spread: u64,
+}
+
+impl Machine {
+    /// Creates a relay that is the node `own`. Other relays have another `spread`.
+    pub fn new(bounds: Bounds, own: usize, spread: u64) -> Machine {
+        let (logs, are_listed) = (Vec::new(), Vec::new());
+        Machine { bounds, own, last: None, logs, are_listed, links: Links::default(), spread }
+    }
+
+    /// Adds a node. Returns its number.
+    pub fn add(&mut self, now: Time, past: Past) -> usize {
+        let node = self.logs.len();
+        let mut log = Log::new(node, node == self.own, &self.bounds, self.spread.wrapping_mul(31));
+        (0..node).for_each(|_| log.add_view(&self.bounds));
+        self.logs.push(log);
+        self.links.add();
+        self.are_listed.push(true);
+        self.logs.iter_mut().for_each(|it| it.add_view(&self.bounds));
+        self.restore(now, node, past);
+        node
+    }
+
+    /// Lists an author, from now on or again. What was had of it before stays had.
+    pub fn restore(&mut self, now: Time, node: usize, past: Past) {
+        self.are_listed[node] = true;
+        let log = &mut self.logs[node];
+        for (after, upto) in past.covered.runs() {
+            log.covered.cover(*after, *upto, self.bounds.runs);
+        }
+        for message in past.messages {
+            log.covered.cover(message.prev, message.stamp, self.bounds.runs);
+            log.list.insert(message);
+        }
+        if node == self.own && !log.covered.is_empty() {
+            self.last = Some(log.covered.top());
+        }
+        let peers: Vec<usize> = self.links.others(None).collect();
+        for peer in peers {
+            self.logs[node].connect(peer, &mut self.links);
+        }
+        self.step(now, node);
+    }
+
+    /// Neither takes nor sends messages of an author any more.
+    pub fn remove(&mut self, now: Time, node: usize) {
+        self.disconnect(now, node);
+        self.are_listed[node] = false;
+        self.logs[node].list = super::List::new(self.bounds.list);
+        self.logs[node].wake = NEVER;
+        for peer in 0..self.links.len() {
+            self.logs[node].disconnect(peer);
+        }
+    }
+
+    fn listed(&self) -> impl Iterator<Item = usize> + use<> {
+        let listed: Vec<usize> = (0..self.logs.len()).filter(|&it| self.are_listed[it]).collect();
+        listed.into_iter()
+    }
+
+    // What comes in.
+
+    pub fn connect(&mut self, now: Time, peer: usize, round_trip: Time) {
+        self.links.connect(peer, round_trip);
+        for author in self.listed() {
+            self.logs[author].connect(peer, &mut self.links);
+            self.step(now, author);
+        }
+    }
+
+    pub fn disconnect(&mut self, now: Time, peer: usize) {
+        self.links.disconnect(peer);
+        for author in self.listed() {
+            self.logs[author].disconnect(peer);
+            self.step(now, author);
+        }
+    }
+
+    /// Whether an own message may be published: no peer that is waited for is too far behind.
+    pub fn may_publish(&self) -> bool {
+        !self.logs[self.own].is_held
+    }
+
+    /// The interval of the next own message, by the time of a clock. After a start without a journal the first message covers nothing
+    /// that peers may lack.
+    pub fn next_own(&self, clock: u64) -> (u64, u64) {
+        let top = self.logs[self.own].covered.top();
+        let stamp = clock.max(top + 1);
+        (if self.last == Some(top) { top } else { stamp - 1 }, stamp)
+    }
+
+    /// Publishes an own message, whose interval is that of `next_own`.
+    pub fn publish(&mut self, now: Time, prev: u64, stamp: u64, bytes: Bytes) {
+        self.last = Some(stamp);
+        self.accept(now, None, Message { author: self.own, stamp, prev, bytes });
+    }
+
+    /// Whether the signature of a message is worth a check.
+    pub fn wants(&self, author: usize, stamp: u64) -> bool {
+        self.are_listed[author] && !self.logs[author].covered.covers(stamp)
+    }
+
+    /// Takes a message of a peer. Its signature holds, or it is not wanted.
+    pub fn message(&mut self, now: Time, peer: usize, message: Message) -> Result<Taken, Breach> {
+        if message.prev >= message.stamp || message.size() > self.bounds.largest {
+            return Err(Breach::Malformed);
+        }
+        if !self.are_listed[message.author] {
+            return Ok(Taken::Unlisted);
+        }
+        let log = &mut self.logs[message.author];
+        let session = &mut log.views[peer].session;
+        session.has(&message, self.bounds.runs);
+        if log.covered.covers(message.stamp) {
+            let left = session.repeats.checked_sub(message.size());
+            session.repeats = left.ok_or(Breach::Repeats)?;
+            return Ok(Taken::Again);
+        }
+        log.bucket.take(now, message.size().max(self.bounds.least));
+        self.accept(now, Some(peer), message);
+        Ok(Taken::New)
+    }
+
+    /// Takes a peer's report.
+    pub fn report(&mut self, now: Time, peer: usize, report: Report) -> Result<(), Breach> {
+        let author = report.author;
+        if report.coverage.runs().len() > self.bounds.runs {
+            return Err(Breach::Malformed);
+        }
+        if self.are_listed[author] {
+            self.logs[author].hear(now, peer, report, &self.bounds);
+            self.logs[author].queue_turn(peer, &mut self.links);
+            self.step(now, author);
+        }
+        Ok(())
+    }
+
+    /// Charges an author for something beside the bytes of its messages.
+    pub fn charge(&mut self, now: Time, author: usize, amount: u64) {
+        self.logs[author].bucket.take(now, amount);
+    }
+
+    /// When a connection may be read again that brought a message of an author. Only who ignores its room has to wait.
+    pub fn ready(&mut self, now: Time, author: usize) -> Time {
+        let bucket = &mut self.logs[author].bucket;
+        if bucket.level(now) > 0 { now } else { bucket.when(now, 1) }
+    }
+
+    /// Does what is due by now.
+    pub fn timeout(&mut self, now: Time) {
+        for author in 0..self.logs.len() {
+            if self.logs[author].wake <= now {
+                self.step(now, author);
+            }
+        }
+    }
+
+    // What goes out.
+
+    /// When `timeout` is due.
+    pub fn next_time(&self) -> Time {
+        self.logs.iter().map(|it| it.wake).min().unwrap_or(NEVER)
+    }
+
+    /// The peers for whom there may be frames since the last call.
+    pub fn take_woken(&mut self) -> Vec<usize> {
+        self.links.take_woken()
+    }
+
+    /// The next frame for a peer, to be called whenever its connection can carry one.
+    pub fn frame(&mut self, now: Time, peer: usize) -> Option<Frame> {
+        if let Some(author) = self.links.pop_report(peer) {
+            return Some(Frame::Report(self.logs[author].report_to(now, peer, &self.bounds)));
+        }
+        while let Some(author) = self.links.pop_turn(peer) {
+            let log = &mut self.logs[author];
+            let session = &mut log.views[peer].session;
+            if let Some(message) = session.next(&log.list, &self.bounds) {
+                self.links.push_turn(peer, author);
+                return Some(Frame::Message(message));
+            }
+            session.has_turn = false;
+        }
+        None
+    }
+
+    pub fn covered(&self, author: usize) -> &Coverage {
+        &self.logs[author].covered
+    }
+
+    pub fn list(&self, author: usize) -> &super::List {
+        &self.logs[author].list
+    }
+
+    /// The peers that an author is held for: they lack too much.
+    pub fn is_held(&self, author: usize) -> bool {
+        self.logs[author].is_held
+    }
+
+    /// Whether a peer lacks own messages, as far as is known.
+    pub fn lacks_own(&self, peer: usize) -> bool {
+        self.logs[self.own].lacks(peer) > 0
+    }
+
+    fn accept(&mut self, now: Time, from: Option<usize>, message: Message) {
+        let author = message.author;
+        let log = &mut self.logs[author];
+        if log.take(now, from, message, &self.bounds, &mut self.links) {
+            self.step(now, author);
+        }
+    }
+
+    fn step(&mut self, now: Time, author: usize) {
+        self.logs[author].step(now, &self.bounds, &mut self.links);
+    }
+}

@@ -1,0 +1,156 @@
+//! Replication of authors' logs between relays, driven by the receiver.
+//!
+//! Each message of an author covers an interval `(prev, stamp]` of the author's time line. A relay reports to each peer, for each
+//! author, which stamps it has had (its *coverage*) and how many more bytes it takes now (its *room*). A report is the newest state
+//! and replaces older ones, so reports may be late, joined or repeated. A relay sends a peer the message of the smallest stamp that
+//! the peer lacks, that is not in flight and fits the room, authors in turn.
+//!
+//! - **Feeder.** Of each author one peer at a time has room, so a message comes once. A feeder that does not bring what others
+//!   report is replaced, and barred for a while if it had reported the message itself.
+//! - **Hold.** While a peer that is waited for lacks more than `behind` bytes of an author's list, the author is *held*: its own
+//!   relay reads no input, and others report that they want nothing above the top of their coverage. A gap can always be filled,
+//!   so relays never wait for each other in a circle.
+//! - **Patience.** A peer is waited for as long as its patience lasts, which waiting uses up and what it takes renews.
+//!
+//! Nothing here has a clock: times are arguments. Nothing is shared between authors but a peer's turns.
+
+mod bucket;
+mod coverage;
+mod feeder;
+mod links;
+mod list;
+mod log;
+mod machine;
+mod patience;
+mod session;
+mod view;
+
+pub use bucket::Bucket;
+pub use coverage::Coverage;
+pub use list::{List, OVERHEAD};
+pub use machine::{Machine, Past, Taken};
+pub use patience::Patience;
+
+use bytes::Bytes;
+use std::fmt;
+
+/// Microseconds of any clock that does not run backwards.
+pub type Time = u64;
+pub const NEVER: Time = Time::MAX;
+pub const SECOND: Time = 1_000_000;
+
+/// The bounds of the protocol. Needed: `behind + room + largest <= list` and `room <= burst / 8`.
+#[derive(Clone, Debug)]
+pub struct Bounds {
+    /// The most intervals of a coverage.
+    pub runs: usize,
+    /// The most bytes of an author's list.
+    pub list: u64,
+    /// By how many bytes of a list a peer may be behind before it is waited for.
+    pub behind: u64,
+    /// The most bytes of an author in flight to a peer. A sender may go beyond it by one message.
+    pub room: u64,
+    /// The most bytes of a message, with its overhead.
+    pub largest: u64,
+    /// The bytes of an author that are taken in a second, and at once.
+    pub rate: u64,
+    pub burst: u64,
+    /// The bytes that a message counts at least, as far as its author's rate goes.
+    pub least: u64,
+    /// How long a peer is waited for, and the bytes a second at which what it takes renews that.
+    pub patience: Time,
+    pub pace: u64,
+    /// How long a report is delayed for a peer that lacks something, and for any other.
+    pub join: Time,
+    pub lazy: Time,
+    /// How long a feeder may bring nothing, and how long a message may be lacking, while others report it.
+    pub idle: Time,
+    pub slow: Time,
+}
+
+impl Default for Bounds {
+    fn default() -> Bounds {
+        Bounds {
+            runs: 16,
+            list: 4 << 20,
+            behind: 2 << 20,
+            room: 256 << 10,
+            largest: 256 << 10,
+            rate: 16 << 20,
+            burst: 2 << 20,
+            least: 0,
+            patience: 6 * SECOND,
+            pace: 64 << 10,
+            join: 10_000,
+            lazy: 200_000,
+            idle: 20_000,
+            slow: SECOND,
+        }
+    }
+}
+
+impl Bounds {
+    /// By how many bytes a peer must come nearer to end the wait for it. It is so small that who waits for this relay sees it move
+    /// before patience ends.
+    fn step(&self) -> u64 {
+        (self.behind / 16).min(self.pace * self.patience / SECOND / 4)
+    }
+
+    /// How many bytes may come again for each change of a feeder: what may be in flight from the one before.
+    fn repeats(&self) -> u64 {
+        2 * (self.room + self.largest)
+    }
+}
+
+/// A signed message. It covers `(prev, stamp]` of its author's log.
+#[derive(Clone, Debug, PartialEq, Eq)]
+pub struct Message {
+    pub author: usize,
+    pub stamp: u64,
+    pub prev: u64,
+    pub bytes: Bytes,
+}
+
+impl Message {
+    /// What it counts wherever bytes are counted.
+    pub fn size(&self) -> u64 {
+        self.bytes.len() as u64 + OVERHEAD
+    }
+}
+
+/// The newest state of an author's log at a relay.
+#[derive(Clone, Debug, PartialEq, Eq)]
+pub struct Report {
+    pub author: usize,
+    pub coverage: Coverage,
+    /// Nothing at or below it can be had from that relay.
+    pub since: u64,
+    /// The bytes that may be in flight to that relay beyond `coverage`.
+    pub room: u64,
+    /// The relay waits for others: it wants nothing above its top.
+    pub is_held: bool,
+}
+
+#[derive(Clone, Debug, PartialEq, Eq)]
+pub enum Frame {
+    Report(Report),
+    Message(Message),
+}
+
+/// What a peer did that no honest one does.
+#[derive(Clone, Copy, Debug, PartialEq, Eq)]
+pub enum Breach {
+    /// A message that is too long or covers nothing, or a coverage with too many intervals.
+    Malformed,
+    /// More came again than changes of feeders explain.
+    Repeats,
+}
+
+impl fmt::Display for Breach {
+    fn fmt(&self, f: &mut fmt::Formatter<'_>) -> fmt::Result {
+        f.write_str(match self {
+            Breach::Malformed => "a message or report that cannot be",
+            Breach::Repeats => "messages again and again",
+        })
+    }
+}

@@ -1,0 +1,156 @@
+//! A connection of a peer, as far as one author's log goes.
+
+use super::{Bounds, Coverage, List, Message, NEVER, Report, Time};
+use std::collections::VecDeque;
+
+#[derive(Debug)]
+pub struct Session {
+    /// The peer's newest report. What the peer sends is added to its coverage.
+    pub theirs: Option<Report>,
+    /// What the peer knows of this relay: by the last report, and by what was sent.
+    pub ours: Report,
+    /// The top of this relay's coverage when the connection began.
+    pub began_at: u64,
+    /// Sent, and not in the peer's coverage: stamps and sizes, and the sum of these.
+    flying: VecDeque<(u64, u64)>,
+    in_flight: u64,
+    /// Everything on the list at or below is in the peer's coverage or flying.
+    cursor: u64,
+    /// The bytes that may still come again.
+    pub repeats: u64,
+    /// The author is among the peer's turns.
+    pub has_turn: bool,
+    /// A report is due, or will be at these times.
+    pub is_due: bool,
+    pub news_due: Time,
+    pub lazy_due: Time,
+    /// The bytes that came since the last report.
+    pub unreported: u64,
+}
+
+impl Session {
+    pub fn new(author: usize, began_at: u64) -> Session {
+        let ours =
+            Report { author, coverage: Coverage::default(), since: 0, room: 0, is_held: false };
+        Session {
+            theirs: None,
+            ours,
+            began_at,
+            flying: VecDeque::new(),
+            in_flight: 0,
+            cursor: 0,
+            repeats: 0,
+            has_turn: false,
+            is_due: false,
+            news_due: NEVER,
+            lazy_due: NEVER,
+            unreported: 0,
+        }
+    }
+
+    pub fn covers(&self, stamp: u64) -> bool {
+        self.theirs.as_ref().is_some_and(|it| it.coverage.covers(stamp))
+    }
+
+    /// The least stamp that the peer can send, that `covered` lacks, and that is not above `limit`.
+    pub fn shows(&self, covered: &Coverage, limit: u64) -> Option<u64> {
+        let theirs = self.theirs.as_ref()?;
+        covered.lowest_missing(&theirs.coverage, theirs.since, limit)
+    }
+
+    /// Notes that the peer has a message, since it sent it.
+    pub fn has(&mut self, message: &Message, runs: usize) {
+        if let Some(theirs) = &mut self.theirs {
+            theirs.coverage.cover(message.prev, message.stamp, runs);
+            theirs.since = theirs.since.min(message.prev);
+        }
+    }
+
+    pub fn is_held(&self) -> bool {
+        self.theirs.as_ref().is_some_and(|it| it.is_held)
+    }
+
+    /// Replaces the peer's report. What has landed is not in flight any more.
+    pub fn replace(&mut self, report: Report) {
+        let in_flight = &mut self.in_flight;
+        self.flying.retain(|&(stamp, size)| {
+            let flies = !report.coverage.covers(stamp);
+            *in_flight -= if flies { 0 } else { size };
+            flies
+        });
+        self.theirs = Some(report);
+    }
+
+    fn room(&self) -> u64 {
+        self.theirs.as_ref().map_or(0, |it| it.room)
+    }
+
+    pub fn has_room(&self) -> bool {
+        self.room() > self.in_flight
+    }
+
+    /// A message is on the list now. Returns whether the peer may be sent it, and whether it is to be told of it instead.
+    pub fn note(&mut self, stamp: u64, size: u64) -> (bool, bool) {
+        self.unreported += size;
+        self.cursor = self.cursor.min(stamp - 1);
+        let lacks = !self.covers(stamp);
+        (lacks && self.has_room(), lacks && self.room() == 0)
+    }
+
+    /// Takes the next message for the peer, which is in flight then.
+    pub fn next(&mut self, list: &List, bounds: &Bounds) -> Option<Message> {
+        let theirs = self.theirs.as_ref()?;
+        if self.in_flight >= theirs.room.min(bounds.room) {
+            return None;
+        }
+        loop {
+            let message = list.after(self.cursor)?;
+            if theirs.is_held && message.stamp > theirs.coverage.top() {
+                return None;
+            }
+            self.cursor = message.stamp;
+            if let Some(end) = theirs.coverage.end_of(message.stamp) {
+                self.cursor = end;
+            } else if !self.flying.iter().rev().any(|it| it.0 == message.stamp) {
+                self.flying.push_back((message.stamp, message.size()));
+                self.in_flight += message.size();
+                self.ours.coverage.cover(message.prev, message.stamp, bounds.runs);
+                return Some(message.clone());
+            }
+        }
+    }
+
+    /// Notes that this report is sent.
+    pub fn report(&mut self, report: &Report) {
+        self.ours.clone_from(report);
+        self.unreported = 0;
+        self.is_due = false;
+        (self.news_due, self.lazy_due) = (NEVER, NEVER);
+    }
+
+    /// Whether a report is due by now. Those times that have come are past.
+    pub fn is_report_due(&mut self, now: Time, current: &Report, lazy: Time) -> bool {
+        if self.ours.is_held != current.is_held {
+            self.lazy_due = self.lazy_due.min(now + lazy);
+        }
+        let mut is_due = false;
+        if self.news_due <= now {
+            self.news_due = NEVER;
+            is_due = self.theirs.as_ref().is_some_and(|it| {
+                let lowest = it.coverage.lowest_missing(&current.coverage, current.since, u64::MAX);
+                lowest.is_some()
+            });
+        }
+        if self.lazy_due <= now {
+            self.lazy_due = NEVER;
+            is_due |=
+                self.ours.coverage != current.coverage || self.ours.is_held != current.is_held;
+        }
+        is_due
+    }
+
+    /// When a report may be due next.
+    pub fn wake(&self) -> Time {
+        self.lazy_due.min(self.news_due)
+    }
+}

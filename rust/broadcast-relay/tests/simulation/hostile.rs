@@ -1,0 +1,97 @@
+//! What hostile relays do.
+
+use crate::world::{Event, FULL, Kind, World};
+use broadcast_relay::gossip::{Coverage, Frame, Message, Report, SECOND};
+use bytes::Bytes;
+
+impl World {
+    /// Returns what a relay sends in place of what an honest one would, if anything.
+    pub fn bend(&mut self, from: usize, to: usize, frame: Frame) -> Option<Frame> {
+        let kind = self.nodes[from].kind;
+        match frame {
+            _ if kind == Kind::Honest => Some(frame),
+            Frame::Report(report) if report.author != from => {
+                Some(Frame::Report(self.bend_report(kind, from, to, report)))
+            }
+            Frame::Message(message) if message.author != from => {
+                self.brings(kind, from, to).then_some(Frame::Message(message))
+            }
+            frame => Some(frame),
+        }
+    }
+
+    /// Whether it sends a message of another author.
+    fn brings(&mut self, kind: Kind, from: usize, to: usize) -> bool {
+        let link = self.links.get_mut(&(from, to)).unwrap();
+        match kind {
+            Kind::Mute | Kind::Sly => false,
+            Kind::Drip if self.now < link.last_drip + SECOND => false,
+            Kind::Drip => {
+                link.last_drip = self.now;
+                true
+            }
+            _ => true,
+        }
+    }
+
+    fn bend_report(&mut self, kind: Kind, from: usize, to: usize, mut report: Report) -> Report {
+        let now = self.now;
+        match kind {
+            Kind::Mute => {
+                report.coverage = Coverage::up_to(now + 1_000_000_000);
+                report.since = 0;
+            }
+            Kind::Empty => report.coverage = Coverage::default(),
+            Kind::Lag | Kind::Again | Kind::Creep => {
+                let is_full = self.nodes[report.author].rate == FULL;
+                let link = self.links.get_mut(&(from, to)).unwrap();
+                let entry =
+                    link.frozen.entry(report.author).or_insert((now, report.coverage.clone()));
+                let is_true = kind == Kind::Again && now % (8 * SECOND) > 7 * SECOND;
+                if entry.1.is_empty() || is_true {
+                    entry.1 = report.coverage.clone();
+                }
+                if kind == Kind::Creep && now > entry.0 + 100_000 && entry.1.top() > 0 {
+                    let upto = entry.1.top() + if is_full { 1_000 } else { 20_000 };
+                    if upto < report.coverage.top() {
+                        entry.1.cover(0, upto, 16);
+                    }
+                    entry.0 = now;
+                }
+                report.coverage = entry.1.clone();
+            }
+            _ => {}
+        }
+        report
+    }
+
+    /// Sends a hostile author's messages, as no relay would.
+    pub fn raw(&mut self, author: usize) {
+        let now = self.now;
+        for _ in 0..1 + self.random.below(3) {
+            let is_gappy = self.nodes[author].kind == Kind::Gappy;
+            let stamp = match is_gappy {
+                true => now + 10,
+                false => now.saturating_sub(self.random.below(2_000_000)) + 2,
+            };
+            let prev = match (is_gappy, self.random.below(4)) {
+                (true, _) => stamp - 2,
+                (_, 0) => 0,
+                (_, 1) => stamp - 1,
+                _ => stamp - 1 - self.random.below(stamp.min(3_000_000) - 1),
+            };
+            for to in self.near[author].clone() {
+                let is_up = self.links[&(author, to)].is_up;
+                if is_up && self.random.chance(60) && self.links[&(author, to)].transit < 500_000 {
+                    let bytes = Bytes::from(vec![self.random.below(256) as u8; 100]);
+                    let message = Message { author, stamp, prev, bytes };
+                    self.send(author, to, Frame::Message(message));
+                }
+            }
+        }
+        if now < self.scene.end - 10 * SECOND {
+            let time = now + self.random.between(2_000, 10_000);
+            self.at(time, Event::Raw(author));
+        }
+    }
+}

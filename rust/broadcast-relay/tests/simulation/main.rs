@@ -1,0 +1,195 @@
+//! Relays in a simulated world: faults of the network and hostile relays, thousands of runs in `scripts/relays soak`.
+
+mod hostile;
+mod scenes;
+mod verdict;
+mod world;
+
+use broadcast_relay::gossip::{Bounds, Frame, Machine, Message, Past, SECOND, Taken};
+use scenes::CLASSES;
+use verdict::Outcome;
+use world::{World, machine};
+
+fn check(class: &str, world: World) -> Outcome {
+    let outcome = world.run(true);
+    let Outcome { wrong, what, copies, deliveries, .. } = &outcome;
+    assert!(wrong.is_empty(), "{class}, {what}: {} of {}", wrong[0], wrong.len());
+    // Each message comes once, but for what is in flight when feeders change.
+    let most = if ["crash", "mixed"].contains(&class) { 1.6 } else { 1.25 };
+    let is_few = *copies as f64 <= most * *deliveries as f64;
+    assert!(*deliveries < 5_000 || is_few, "{class}, {what}: {copies} copies of {deliveries}");
+    outcome
+}
+
+/// Some runs of a class with few relays, which take little time.
+fn small_runs(class: &str, stop: u64, is_default: bool) -> impl Iterator<Item = World> {
+    let class = class.to_owned();
+    let runs = (1..).map(move |seed| World::new(&class, seed, stop, is_default));
+    runs.filter(|it| it.nodes.len() <= 8)
+}
+
+#[test]
+fn in_each_class_of_runs_all_arrives_once() {
+    for class in CLASSES {
+        let mut deliveries = 0;
+        for world in small_runs(class, 4 * SECOND, false).take(2) {
+            deliveries += check(class, world).deliveries;
+        }
+        assert!(deliveries > 0, "{class}");
+    }
+}
+
+/// Gaps are what the protocol stood still in before its rules were what they are.
+#[test]
+fn a_gap_is_filled() {
+    for world in small_runs("gaps", 2 * SECOND, false).take(24) {
+        check("gaps", world);
+    }
+}
+
+/// The bounds of the program's own defaults take longer to be met.
+#[test]
+fn the_default_bounds_hold_too() {
+    for class in ["rows", "lag", "creep"] {
+        check(class, small_runs(class, 6 * SECOND, true).next().unwrap());
+    }
+}
+
+/// `SOAK_SEEDS=FIRST,COUNT`: so many seeds of each class.
+#[test]
+#[ignore = "it takes hours"]
+fn thousands_of_seeds() {
+    let seeds = std::env::var("SOAK_SEEDS").unwrap_or_else(|_| "1000,50".into());
+    let (first, count) = seeds.split_once(',').expect("FIRST,COUNT");
+    let (first, count): (u64, u64) = (first.parse().unwrap(), count.parse().unwrap());
+    let (mut failed, mut total) = (0, 0);
+    println!(
+        "class, bounds: seeds, deliveries, copies, bytes of reports, ms of slow authors p50 p99"
+    );
+    for (class, is_default) in CLASSES.iter().flat_map(|it| [(it, false), (it, true)]) {
+        let (mut sum, mut ages) = (Outcome::default(), Vec::new());
+        for seed in first..first + count {
+            total += 1;
+            let outcome = World::new(class, seed, 5 * SECOND, is_default).run(false);
+            if let Some(wrong) = outcome.wrong.first() {
+                failed += 1;
+                println!("WRONG {class} {seed}, default {is_default}: {}: {wrong}", outcome.what);
+            }
+            sum.deliveries += outcome.deliveries;
+            sum.copies += outcome.copies;
+            sum.report_bytes += outcome.report_bytes;
+            ages.extend(outcome.slow_ages);
+        }
+        ages.sort_unstable();
+        let at = |part: usize| ages.get(ages.len().saturating_sub(1) * part / 100).unwrap_or(&0);
+        let each = sum.deliveries.max(1) as f64;
+        println!(
+            "{class}, {}: {count}, {}, {:.3}, {:.0}, {} {}",
+            if is_default { "default" } else { "small" },
+            sum.deliveries,
+            sum.copies as f64 / each,
+            sum.report_bytes as f64 / each,
+            at(50),
+            at(99),
+        );
+    }
+    assert_eq!(failed, 0, "of {total} runs");
+}
+
+/// Carries all frames between two relays, 0 and 1.
+fn meet(now: u64, one: &mut Machine, other: &mut Machine) {
+    loop {
+        let (to_other, to_one) = (one.frame(now, 1), other.frame(now, 0));
+        if to_other.is_none() && to_one.is_none() {
+            break;
+        }
+        for (frame, to, from) in [(to_other, &mut *other, 0), (to_one, &mut *one, 1)] {
+            match frame {
+                Some(Frame::Report(report)) => to.report(now, from, report).unwrap(),
+                Some(Frame::Message(message)) => drop(to.message(now, from, message).unwrap()),
+                None => {}
+            }
+        }
+    }
+}
+
+fn publish(now: u64, clock: u64, machine: &mut Machine) -> (u64, u64) {
+    let (prev, stamp) = machine.next_own(clock);
+    machine.publish(now, prev, stamp, vec![0; 10].into());
+    (prev, stamp)
+}
+
+#[test]
+fn an_author_that_lost_its_journal_closes_nothing() {
+    let bounds = Bounds::default();
+    let (mut one, mut other) = (machine(&bounds, 0, 2, None), machine(&bounds, 1, 2, None));
+    one.connect(0, 1, 100);
+    other.connect(0, 0, 100);
+    for it in 1..=5 {
+        publish(it, 1_000 + it, &mut one);
+    }
+    meet(10, &mut one, &mut other);
+    assert_eq!(other.covered(0).runs(), [(1_000, 1_005)]);
+    other.disconnect(20, 0);
+    let mut one = machine(&bounds, 0, 2, None);
+    one.connect(30, 1, 100);
+    other.connect(30, 0, 100);
+    // Its clock went back.
+    assert_eq!(publish(30, 900, &mut one), (899, 900));
+    meet(40, &mut one, &mut other);
+    assert_eq!(one.covered(0).runs(), [(899, 900), (1_000, 1_005)]);
+    assert_eq!(publish(50, 901, &mut one), (1_005, 1_006));
+    meet(60, &mut one, &mut other);
+    assert_eq!(other.covered(0).runs(), [(899, 900), (1_000, 1_006)]);
+}
+
+/// Each lacks more of the other's list than it waits for, and both are held: a gap is filled all the same, at once.
+#[test]
+fn relays_that_lack_each_others_messages_do_not_wait_for_each_other() {
+    let bounds = Bounds { behind: 2 << 10, room: 64 << 10, ..Bounds::default() };
+    let past = |parts: &[std::ops::Range<u64>]| {
+        let stamps = parts.iter().cloned().flatten();
+        let message =
+            |stamp| Message { author: 2, stamp, prev: stamp - 1, bytes: vec![0; 900].into() };
+        let log = Past { messages: stamps.map(message).collect(), ..Past::default() };
+        Some(vec![Past::default(), Past::default(), log])
+    };
+    let mut one = machine(&bounds, 0, 3, past(&[1..20, 40..60]));
+    let mut other = machine(&bounds, 1, 3, past(&[20..40, 60..61]));
+    one.connect(0, 1, 0);
+    other.connect(0, 0, 0);
+    // No time passes, so no patience ends.
+    meet(0, &mut one, &mut other);
+    for now in 1..100 {
+        one.timeout(now);
+        other.timeout(now);
+        meet(now, &mut one, &mut other);
+    }
+    assert_eq!(one.covered(2).runs(), [(0, 60)]);
+    assert_eq!(other.covered(2).runs(), [(0, 60)]);
+}
+
+/// Who ignores its room is taken at its author's rate: its connection rests.
+#[test]
+fn an_author_is_taken_at_its_rate_whatever_it_sends() {
+    for (rate, least, len, cost) in
+        [(1 << 20, 0, 10_000, 0), (1 << 20, 10_486, 10, 0), (1 << 20, 0, 10, 10_348)]
+    {
+        let bounds = Bounds { rate, burst: 512 << 10, room: 64 << 10, least, ..Bounds::default() };
+        let mut machine = machine(&bounds, 0, 3, None);
+        machine.connect(0, 1, 100);
+        machine.connect(0, 2, 100);
+        let (mut now, mut stamp, mut taken) = (0, 0, 0_u64);
+        while now < 10 * SECOND {
+            stamp += 1;
+            let message = Message { author: 2, stamp, prev: stamp - 1, bytes: vec![0; len].into() };
+            machine.charge(now, 2, cost);
+            let peer = 1 + stamp as usize % 2;
+            assert_eq!(machine.message(now, peer, message), Ok(Taken::New));
+            taken += 1;
+            now = now.max(machine.ready(now, 2));
+        }
+        // Ten seconds and the burst, of some 10,000 bytes each.
+        assert!((1_050..=1_200).contains(&taken), "{taken}");
+    }
+}

@@ -1,0 +1,95 @@
+//! What is judged at the end of a run: what happened, and never how long it took on this machine.
+
+use crate::world::{FULL, World};
+use broadcast_relay::gossip::SECOND;
+
+#[derive(Default)]
+pub struct Outcome {
+    pub wrong: Vec<String>,
+    /// The run in words.
+    pub what: String,
+    pub published: u64,
+    pub deliveries: u64,
+    /// The messages of honest authors that came to honest relays, however often.
+    pub copies: u64,
+    pub report_bytes: u64,
+    pub lost: u64,
+    /// How long deliveries took, in simulated milliseconds, of slow authors and of fast ones.
+    pub slow_ages: Vec<u32>,
+    pub full_ages: Vec<u32>,
+}
+
+impl Outcome {
+    pub fn note_age(&mut self, is_full: bool, age: u64) {
+        let ages = if is_full { &mut self.full_ages } else { &mut self.slow_ages };
+        ages.push((age / 1_000) as u32);
+    }
+}
+
+impl World {
+    /// Says what is wrong at the end.
+    pub fn judge(&mut self) {
+        let (mut wrong, lost) = self.faults();
+        wrong.sort();
+        self.outcome.wrong.extend(wrong);
+        self.outcome.lost = lost;
+    }
+
+    /// What is wrong now, and how many deliveries are lacking.
+    pub fn faults(&self) -> (Vec<String>, u64) {
+        let honest: Vec<usize> =
+            (0..self.nodes.len()).filter(|&it| self.nodes[it].is_honest()).collect();
+        let (mut wrong, mut lost) = (Vec::new(), 0);
+        for &node in &honest {
+            match &self.nodes[node].machine {
+                None => wrong.push(format!("{node} is down")),
+                Some(it) if !it.may_publish() => wrong.push(format!("{node} still waits")),
+                Some(_) => {}
+            }
+        }
+        if wrong.is_empty() {
+            self.judge_lists(&honest, &mut wrong);
+            lost = self.judge_messages(&honest, &mut wrong);
+        }
+        (wrong, lost)
+    }
+
+    /// What is on a list has come to each neighbour.
+    fn judge_lists(&self, honest: &[usize], wrong: &mut Vec<String>) {
+        for &node in honest {
+            let machine = self.nodes[node].machine.as_ref().unwrap();
+            let peers = honest.iter().filter(|it| self.near[node].contains(it));
+            for (&author, &peer) in
+                honest.iter().flat_map(|author| peers.clone().map(move |peer| (author, peer)))
+            {
+                let seen = &self.nodes[peer].seen;
+                let lacks = |stamp: u64| !seen.contains_key(&(author, stamp));
+                let listed = machine.list(author).iter();
+                wrong.extend(listed.filter(|it| lacks(it.stamp)).map(|it| {
+                    format!("{author}/{} is on the list of {node}, not at {peer}", it.stamp)
+                }));
+            }
+        }
+    }
+
+    /// All messages of slow honest authors are everywhere, and those of fast ones if nothing broke.
+    fn judge_messages(&self, honest: &[usize], wrong: &mut Vec<String>) -> u64 {
+        let mut lost = 0;
+        for (&(author, stamp), &born) in &self.born {
+            let node = &self.nodes[author];
+            // What was published just before a crash may be lost with it.
+            let near_crash = |at: &u64| born <= *at && born + 3 * SECOND > *at;
+            if !node.is_honest() || node.crashed.iter().any(near_crash) {
+                continue;
+            }
+            let lacks = |it: &&usize| !self.nodes[**it].seen.contains_key(&(author, stamp));
+            for &lacking in honest.iter().filter(lacks) {
+                lost += 1;
+                if self.scene.is_strict || node.rate != FULL {
+                    wrong.push(format!("{author}/{stamp} is lost at {lacking}"));
+                }
+            }
+        }
+        lost
+    }
+}
