@@ -37,7 +37,7 @@ def crate_of(by):
 
 def copy(top, mutants):
     """Copies what `rt` reads, with all mutants side by side, each of which is chosen by its place in the list."""
-    shutil.copytree(TOP / "crates", top / "crates", ignore=shutil.ignore_patterns("out", "must-fail"))
+    shutil.copytree(TOP / "crates", top / "crates", ignore=shutil.ignore_patterns("out"))
     shutil.copy(TOP / "HANDLES", top)
     for file, source in (("src/lib.rt", "wrong_body.rt.txt"), ("c/wrong_body.c", "wrong_body.c")):
         path = top / "crates" / CHOICE / file

@@ -77,21 +77,11 @@ def misplaced(mutant, texts):
     return None if mutant.changes and mutant.by and mutant.why else f"{mutant.label} lacks a part"
 
 
-def must_fail_edits():
-    """The must-fail edits of the crates, which `rt ci` tries, as mutants."""
-    for path in sorted(TOP.glob("crates/*/must-fail/*.edit")):
-        crate, changes = path.parts[-3], []
-        for part in re.split(r"^file: ", path.read_text(), flags=re.M)[1:]:
-            file, pairs = part.split("\n")[0], re.findall(r"^old: (.*)\nnew: (.*)$", part, re.M)
-            changes += [(f"crates/{crate}/{file}", *pair) for pair in pairs]
-        yield Mutant(crate, f"must-fail/{path.stem}", "-", (("prover",),), tuple(changes))
-
-
 def faults_of_places(mutants):
     """Yields, of each wrong body, what is wrong with its places, or `None`: each text stands once in its file. Those of
     the tests are looked at side by side, those of the prover and of `mutants/rust` by themselves."""
     beside = {}
-    for it in [*mutants, *must_fail_edits()]:
+    for it in mutants:
         yield misplaced(it, {} if it.is_of_prover else beside)
     for it in read_all("mutants/rust"):
         yield misplaced(it, {})

@@ -23,13 +23,13 @@ def seconds_of(process):
 
 
 def work_of(process):
-    """What a prover proves: its crate, and whether that is the crate itself, and not its tests or edits. `None` for a
-    process that is no prover of this repository."""
+    """What a prover proves: its crate, and whether that is the crate itself, and not its tests. `None` for a process
+    that is no prover of this repository."""
     words = (process / "cmdline").read_bytes().decode(errors="replace").split("\0")
     if not words[0].endswith("/bin/rattle") or "--crate-name" not in words or str(TOP) not in " ".join(words):
         return None
     is_own = os.readlink(process / "cwd").startswith(f"{TOP}/crates/") and "--test" not in words
-    return words[words.index("--crate-name") + 1], is_own and not any("/seed" in it for it in words)
+    return words[words.index("--crate-name") + 1], is_own
 
 
 class Watch:
@@ -75,7 +75,7 @@ class Watch:
                 )
 
     def by_crate(self, only_own=False):
-        """The seconds of processor time of each crate's provers; those of its tests and edits too, unless `only_own`."""
+        """The seconds of processor time of each crate's provers; those of its tests too, unless `only_own`."""
         taken = Counter()
         for (_, (crate, is_own)), seconds in self.taken.items():
             taken[crate] += seconds if is_own or not only_own else 0
