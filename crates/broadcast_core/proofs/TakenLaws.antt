@@ -1,6 +1,7 @@
 -- What is cached, and what is replied, was taken.
-use Rattle.std.proofs.Common.{◌≡◌, ℕ, ◌+◌, Bool, true, false, cond, ◌&&◌, List, [], ◌∷◌, ◌++◌, Option, None, Some, is_some, refl, sym, ap, ◌∙◌, subst, ◌⊎◌, inl, inr, ⊎_elim}
+use Rattle.std.proofs.Common.{◌≡◌, ℕ, ◌+◌, Bool, true, false, cond, ◌&&◌, ◌||◌, List, [], ◌∷◌, ◌++◌, length, Option, None, Some, is_some, refl, sym, ap, ◌∙◌, subst, arith, add-one, ◌↔◌, ⊎_elim}
 use Rattle.std.specs.Option.{option_map}
+use Rattle.std.specs.List.{list_any}
 use Rattle.std.specs.Cmp.{IsEquivalence}
 use Rattle.broadcast_core.specs.Carried.{Carried}
 use Rattle.broadcast_core.specs.Content.{among, digests_of, with_taken}
@@ -13,10 +14,10 @@ use Rattle.broadcast_core.specs.Waiting.{Awaiting, Reply, cleans, reply_from, re
 use Rattle.broadcast_core.specs.Log.{Log, history}
 use Rattle.broadcast_core.specs.Answers.{answer_to, answer_to_subscribe, IsAllocFailure}
 use Rattle.broadcast_core.specs.HasRun.{IsAnswered}
-use Rattle.broadcast_core.specs.TakenLaw.{IsFrom, FoundWasTaken, asked, found}
+use Rattle.broadcast_core.specs.TakenLaw.{IsFrom, IsFirst, FoundWasTaken, asked, found}
 use Rattle.broadcast_core.specs.declared.event.Event.{Event}
 use Rattle.broadcast_core.specs.declared.event.Event.TheVariants.{Peers, Broadcast, Payload, Subscribe, Get, Cleanup}
-use Rattle.broadcast_core.proofs.Distinct.{by_test}
+use Rattle.broadcast_core.proofs.Distinct.{by_test, or_false}
 use Rattle.broadcast_core.proofs.Listing.{from-any, charged-taken}
 use Rattle.broadcast_core.proofs.Listed.{listed-before}
 use Rattle.broadcast_core.proofs.Following.{listed, message-none, message-some}
@@ -30,6 +31,10 @@ module _ {P M D : Type 0} (s : Setting P M D) where
   later-named : (d : D) (c : Carried M D) (o : Option (Taking P M D)) → of_digest s d o ≡ true → carried_by s o ≡ Some c → s.same.digest d c.digest ≡ true
   later-named d c None it_takes h = absurd cc
   later-named d c (Some t) it_takes h = let same : t.carried ≡ c = cc in subst (λ (x : Carried M D). s.same.digest d x.digest ≡ true) same it_takes
+
+  taken-named : (d : D) (c : Carried M D) (o : Option (Taking P M D)) → carried_by s o ≡ Some c → s.same.digest d c.digest ≡ true → of_digest s d o ≡ true
+  taken-named d c None h named = absurd cc
+  taken-named d c (Some t) h named = let same : c ≡ t.carried = cc in subst (λ (x : Carried M D). s.same.digest d x.digest ≡ true) same named
 
 module _ {P M D W V : Type 0} (s : Setting P M D) where
   -- what a happening takes is from all that it is the first of
@@ -88,25 +93,46 @@ module _ {P M D W V : Type 0} (s : Setting P M D) where
     pub subscribe-from : (w : W) (d : D) (past : List (Happening P M D W V)) (c : Carried M D) → message s d (subscribe w d ∷ past) ≡ Some c → IsFrom s d past c
     subscribe-from w d past c h = from-fewer d c (subscribe w d) past refl (message-from d (subscribe w d ∷ past) c h)
 
-    later-from : (w : Awaiting W D) (es : List (Happening P M D W V)) (r : Reply M D) → reply_from s w es ≡ Some r → IsFrom s w.digest es r.1
-    later-from w [] r h = absurd cc
-    later-from w (e ∷ es) r h = by_test (takes s w.digest e)
-        (λ yes.
-        let x = mapped-some (λ (c : Carried M D). (1, c)) (carried_by s (taken s e)) r (rw yes at h) in
-        let first : carried_by s (taken s e) ≡ Some r.1 = x.1 ∙ ap (λ (p : Reply M D). Some p.1) x.2 in
-        from-first w.digest r.1 e es first (later-named s w.digest r.1 (taken s e) yes first))
-        (λ no. by_test (cleans s w e)
-        (λ gone. absurd (let none = rw (no, gone) at h in cc))
-        (λ stays.
-        let x = mapped-some (λ (p : Reply M D). (p.0 + 1, p.1)) (reply_from s w es) r (rw (no, stays) at h) in
-        from-more w.digest r.1 e es (subst (λ (c : Carried M D). IsFrom s w.digest es c) (ap (λ (p : Reply M D). p.1) x.2) (later-from w es x.0 x.1))))
-
-    pub reply-from : (w : Awaiting W D) (past es : List (Happening P M D W V)) (r : Reply M D) → reply s w past es ≡ Some r → IsFrom s w.digest past r.1 ⊎ IsFrom s w.digest es r.1
-    reply-from w past es r h = by_test (is_listed s w.digest past)
-        (λ now.
+    pub reply-listed : (w : Awaiting W D) (past es : List (Happening P M D W V)) (r : Reply M D) → is_listed s w.digest past ≡ true → reply s w past es ≡ Some r → IsFrom s w.digest past r.1
+    reply-listed w past es r now h =
         let x = mapped-some (λ (c : Carried M D). (0, c)) (message s w.digest past) r (rw now at h) in
-        inl (message-from w.digest past r.1 (x.1 ∙ ap (λ (p : Reply M D). Some p.1) x.2)))
-        (λ not_yet. inr (later-from w es r (rw not_yet at h)))
+        message-from w.digest past r.1 (x.1 ∙ ap (λ (p : Reply M D). Some p.1) x.2)
+
+module _ {P M D W V : Type 0} (s : Setting P M D) where
+  first-here : (w : Awaiting W D) (e : Happening P M D W V) (es : List (Happening P M D W V)) (c : Carried M D) → carried_by s (taken s e) ≡ Some c → s.same.digest w.digest c.digest ≡ true → IsFirst s w (e ∷ es) (1, c)
+  unfolding from-first
+  first-here w e es c is named = (from-first s w.digest c e es is named, refl, refl)
+
+  first-more : (w : Awaiting W D) (e : Happening P M D W V) (es : List (Happening P M D W V)) (r : Reply M D) → takes s w.digest e ≡ false → cleans s w e ≡ false → IsFirst s w es r → IsFirst s w (e ∷ es) (r.0 + 1, r.1)
+  unfolding from-more
+  first-more w e es r other stays later = (from-more s w.digest r.1 e es later.0, omega (arith, later.1), rw (other, stays) later.2)
+
+  first-later : (w : Awaiting W D) (es : List (Happening P M D W V)) (r : Reply M D) → reply_from s w es ≡ Some r → IsFirst s w es r
+  first-later w [] r h = absurd cc
+  first-later w (e ∷ es) r h = by_test (takes s w.digest e)
+      (λ yes.
+      let x = mapped-some (λ (c : Carried M D). (1, c)) (carried_by s (taken s e)) r (rw yes at h) in
+      subst (λ (p : Reply M D). IsFirst s w (e ∷ es) p) x.2 (first-here w e es x.0 x.1 (later-named s w.digest x.0 (taken s e) yes x.1)))
+      (λ no. by_test (cleans s w e)
+      (λ gone. absurd (let none = rw (no, gone) at h in cc))
+      (λ stays.
+      let x = mapped-some (λ (p : Reply M D). (p.0 + 1, p.1)) (reply_from s w es) r (rw (no, stays) at h) in
+      subst (λ (p : Reply M D). IsFirst s w (e ∷ es) p) x.2 (first-more w e es x.0 no stays (first-later w es x.0 x.1))))
+
+  later-first : (w : Awaiting W D) (before : List (Happening P M D W V)) (e : Happening P M D W V) (after : List (Happening P M D W V)) (c : Carried M D)
+      → carried_by s (taken s e) ≡ Some c → s.same.digest w.digest c.digest ≡ true → list_any (λ x. takes s w.digest x || cleans s w x) before ≡ false
+      → reply_from s w (before ++ e ∷ after) ≡ Some (length before + 1, c)
+  later-first w [] e after c is named none = rw (taken-named s w.digest c (taken s e) is named, is) refl
+  later-first w (x ∷ xs) e after c is named none =
+      let here = or_false (takes s w.digest x || cleans s w x) (list_any (λ x. takes s w.digest x || cleans s w x) xs) none in
+      let each = or_false (takes s w.digest x) (cleans s w x) here.0 in
+      rw (each.0, each.1, later-first w xs e after c is named here.1) (ap (λ n. Some (n + 1, c)) (add-one (length xs)))
+
+  pub reply-waits : (w : Awaiting W D) (past es : List (Happening P M D W V)) (r : Reply M D) → is_listed s w.digest past ≡ false → (reply s w past es ≡ Some r) ↔ IsFirst s w es r
+  reply-waits w past es r not_yet = (
+    λ h. first-later w es r (rw not_yet at h),
+    λ f. rw (not_yet, f.0.place, later-first w f.0.before f.0.happening f.0.after r.1 f.0.takes f.0.named f.2, sym f.1) refl,
+  )
 
 module _ {P M D : Type 0} (s : Setting P M D) (key_laws : IsEquivalence s.same.key) (laws : IsEquivalence s.same.digest) where
   found-subscribe : (o : Option (Carried M D)) → found (answer_to_subscribe s o) ≡ o

@@ -1,9 +1,11 @@
 -- Believed.
 -- What follows from the definitions of the cache and of the replies.
-use Rattle.std.specs.Prelude.{◌≡◌, true, List, [], ◌∷◌, ◌++◌, Option, None, Some}
+use Rattle.std.specs.Prelude.{◌≡◌, ◌+◌, ◌||◌, true, false, List, [], ◌∷◌, ◌++◌, length, Option, None, Some}
+use Rattle.std.specs.List.{list_any}
 use Rattle.broadcast_core.specs.Carried.{Carried}
 use Rattle.broadcast_core.specs.Setting.{Setting}
-use Rattle.broadcast_core.specs.Happening.{Happening, carried_by, taken}
+use Rattle.broadcast_core.specs.Happening.{Happening, Future, carried_by, taken, takes}
+use Rattle.broadcast_core.specs.Waiting.{Awaiting, Reply, cleans}
 use Rattle.broadcast_core.specs.Log.{Log, history}
 use Rattle.broadcast_core.specs.declared.event.Event.{Event}
 use Rattle.broadcast_core.specs.declared.event.Event.TheVariants.{Subscribe, Get}
@@ -20,6 +22,12 @@ module _ {P M D W V : Type 0} (s : Setting P M D) where
     pub place : happenings ≡ before ++ happening ∷ after
     pub takes : carried_by s (taken s happening) ≡ Some c
     pub named : s.same.digest d c.digest ≡ true
+
+  -- the reply is the message of the first happening that takes the subscribe's digest, and no
+  -- cleanup before that names the subscribe
+  abbrev pub IsFirst : Awaiting W D → Future P M D W V → Reply M D → Type 0
+  IsFirst w es r = (x : IsFrom w.digest es r.1) × (r.0 ≡ length x.before + 1)
+      × (list_any (λ e. takes s w.digest e || cleans s w e) x.before ≡ false)
 
 -- the digest that an event asks for
 abbrev pub asked : {P M D : Type 0} → Event P M D → Option D

@@ -34,7 +34,8 @@ abbrev pub first_with : {D W : Type 0} → (W → Bool) → List (D × List W) �
 first_with test [] = None
 first_with test (e ∷ es) = if list_any test e.1 then Some e.0 else first_with test es
 
--- each waiter is asked once, in order, and those that are closed are dropped
+-- what is left of the waiters, in order: one that is dropped may answer that it is closed, and one
+-- that stays that it is open
 abbrev pub DropsClosed : {W : Type 0} → (W → Bool → Type 0) → List W → List W → Type 0
 DropsClosed answers [] ys = ys ≡ []
 DropsClosed {W} answers (x ∷ xs) ys =

@@ -121,10 +121,10 @@ pub trait Read {
         → reading cfg bytes ≡ Err e → IsRefusal e };
 }
 
-/// A type whose encoding decodes to the value that was encoded.
+/// A type whose encoding decodes to the value that was encoded, if it decodes.
 pub trait Codec: Write + EncodeSize + Read {
-    /// What is read from the encoding of a value, followed by any bytes, is the value and the
-    /// length of its encoding.
+    /// If a value is read from an encoding that any bytes follow, it is the one that was encoded,
+    /// and takes the length of the encoding.
     ghost reads_back: { (cfg : Self.Cfg) (v w : Self) (encoded rest : List ℕ) (n : ℕ)
         → Self.encoding v ≡ Some encoded → Self.reading cfg (encoded ++ rest) ≡ Ok (w, n)
         → (w ≡ v) × (n ≡ length encoded) };

@@ -1,6 +1,6 @@
 //! Laws of lists, of the cache, of answers and of the codec, which a caller cites by calling them.
 //! They do nothing when they run.
-ghost use Rattle.std.specs.Prelude.{◌≡◌, ◌≤◌, ◌↔◌, ◌⊎◌, ℕ, Bool, true, List, ◌∷◌, Option, Some, is_some, Ok};
+ghost use Rattle.std.specs.Prelude.{◌≡◌, ◌≤◌, ◌↔◌, ℕ, Bool, false, true, List, ◌∷◌, Option, Some, is_some, Ok};
 ghost use Rattle.broadcast_core.specs.Codec.{whole};
 ghost use Rattle.std.specs.Cmp.{IsEquivalence};
 ghost use Rattle.entries.specs.declared.entry.Charged.{Charged};
@@ -15,7 +15,7 @@ ghost use Rattle.broadcast_core.specs.Cache.{is_listed, message};
 ghost use Rattle.broadcast_core.specs.Waiting.{Awaiting, Reply, reply};
 ghost use Rattle.broadcast_core.specs.Log.{Log};
 ghost use Rattle.broadcast_core.specs.HasRun.{IsAnswered};
-ghost use Rattle.broadcast_core.specs.TakenLaw.{IsFrom, FoundWasTaken};
+ghost use Rattle.broadcast_core.specs.TakenLaw.{IsFrom, IsFirst, FoundWasTaken};
 ghost use Rattle.broadcast_core.specs.ListLaw.{FitTogether, HasAlwaysFitted, last_distinct, messages_under};
 
 use crate::codec::Codec;
@@ -63,8 +63,9 @@ pub fn cache_law<P: PublicKey, M: Digestible, W, V>()
 /// Proves what follows from the definitions of the replies, for every history.
 ///
 /// The message with which a get is answered was taken before, and goes by the digest that was
-/// asked for. The reply to a subscribe was taken before the subscribe or after it, and goes by its
-/// digest. Each message that the answers of a run find was taken by an earlier event.
+/// asked for; so does the reply to a subscribe of a listed digest. The reply to a subscribe that
+/// waits is the first later message that goes by its digest, if no cleanup before that names it.
+/// Each message that the answers of a run find was taken by an earlier event.
 pub fn answer_law<P: PublicKey, M: Digestible, W, V>()
     ensures to_get { (s : Setting P M M.Digest) → IsEquivalence s.same.key
         → IsEquivalence s.same.digest → (past : History P M M.Digest W V) (v : V) (d : M.Digest)
@@ -72,8 +73,13 @@ pub fn answer_law<P: PublicKey, M: Digestible, W, V>()
     ensures to_subscribe { (s : Setting P M M.Digest) → IsEquivalence s.same.key
         → IsEquivalence s.same.digest → (w : Awaiting W M.Digest)
         (past : History P M M.Digest W V) (after : Future P M M.Digest W V)
-        (r : Reply M M.Digest) → reply s w past after ≡ Some r
-        → IsFrom s w.digest past r.1 ⊎ IsFrom s w.digest after r.1 }
+        (r : Reply M M.Digest) → is_listed s w.digest past ≡ true
+        → reply s w past after ≡ Some r → IsFrom s w.digest past r.1 }
+    ensures to_waiting { (s : Setting P M M.Digest) → IsEquivalence s.same.key
+        → IsEquivalence s.same.digest → (w : Awaiting W M.Digest)
+        (past : History P M M.Digest W V) (after : Future P M M.Digest W V)
+        (r : Reply M M.Digest) → is_listed s w.digest past ≡ false
+        → (reply s w past after ≡ Some r) ↔ IsFirst s w after r }
     ensures found { (s : Setting P M M.Digest) → IsEquivalence s.same.key
         → IsEquivalence s.same.digest → (log : Log P M M.Digest) → IsAnswered s log
         → FoundWasTaken s log }

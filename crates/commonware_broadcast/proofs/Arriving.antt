@@ -61,7 +61,7 @@ module _ {P M D S G O J B Q C T : Type 0} {s : Setting P M D} {i : Parties M D S
         goes_on = goes-on-at input one.step [] one.of_input;
         read_from = reads-none input one.step one.of_input ∙ sym silent;
         remote = subst (λ l. IsRemote l) (sym is) (remote s arrival);
-        asks_none = omega (arith, sweeps-none input one.step one.of_input);
+        none_swept = omega (arith, sweeps-none input one.step one.of_input);
         pending = None;
         held = subst (λ x. HoldsJob i.is_of x None) (sym idle) tt;
         flow = sym is ∙ sym (append-nil (inputs (one.step ∷ [])));
@@ -76,7 +76,7 @@ module _ {P M D S G O J B Q C T : Type 0} {s : Setting P M D} {i : Parties M D S
     goes_on = refl;
     read_from = refl;
     remote = record { no_sets = refl; no_requests = refl; all = refl };
-    asks_none = refl;
+    none_swept = refl;
     pending = Some (p, m);
     held = subst (λ x. HoldsJob i.is_of x (Some (p, m))) (sym at) (refl, of_job);
     flow = refl;
@@ -95,7 +95,7 @@ module _ {P M D S G O J B Q C T : Type 0} {s : Setting P M D} {i : Parties M D S
         goes_on = end_of-append one.steps earlier refl ∙ one.goes_on;
         read_from = read_from-append one.steps earlier ∙ ap (λ ps. message.0 ∷ ps) one.read_from;
         remote = subst (λ l. IsRemote l) (sym all) one.remote;
-        asks_none = omega (arith, one.asks_none, sweeps-append one.steps earlier);
+        none_swept = omega (arith, one.none_swept, sweeps-append one.steps earlier);
         pending = one.pending;
         held = one.held;
         flow = one.flow ∙ ap (λ l. l ++ pending_input s one.pending) (sym all);
@@ -116,7 +116,7 @@ module _ {P M D S G O J B Q C T : Type 0} {s : Setting P M D} {i : Parties M D S
     goes_on = refl;
     read_from = refl;
     remote = record { no_sets = refl; no_requests = refl; all = refl };
-    asks_none = refl;
+    none_swept = refl;
     pending = None;
     held = subst (λ x. HoldsJob i.is_of x None) (sym idle) tt;
     flow = refl;

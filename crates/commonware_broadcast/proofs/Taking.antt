@@ -89,7 +89,7 @@ flow-append b m n p q i j first second =
 -- nothing is taken where the engine and its network stay
 idle : {P M D S G O J N V B Q C T : Type 0} {old new : Moment P M S O D J B Q C T N V} {steps : List (Step P M D S G)} → new.engine.provider ≡ old.engine.provider → new.receiver ≡ old.receiver
     → requests_in (inputs steps) ≡ [] → sweeps steps ≡ 0 → TakesNone old new steps
-idle provider receiver none unasked = record { provider = provider; receiver = receiver; requests = none; asks_none = unasked }
+idle provider receiver none unasked = record { provider = provider; receiver = receiver; requests = none; none_swept = unasked }
 
 -- what the sources gave: these inputs, none of which is a payload, with these outcomes of its requests, and these payloads
 pub record Gave {P M D S G O J N V B Q C T : Type 0} (i : Interfaces P M D S G O J N V B Q) (old new : Moment P M S O D J B Q C T N V) (given : List (Input P M S G D))
@@ -124,7 +124,7 @@ module _ {P M D S G O J N V B Q C T : Type 0} (s : Setting P M D) (i : Interface
   -- so it did, and asked no waiter whether it is closed
   pub record TakesOnly (past : History P M D (Asker S) (Asker G)) (before : Option (P × M)) (old new : Moment P M S O D J B Q C T N V) (listed : List (Turn P D)) : Type 0 where
     pub took : TakesSteps s i past before old new listed
-    pub asks_none : sweeps took.steps ≡ 0
+    pub none_swept : sweeps took.steps ≡ 0
 
   -- so it did, and one cleanup of its waiters came first
   pub record CleansUpFirst (past : History P M D (Asker S) (Asker G)) (before : Option (P × M)) (old new : Moment P M S O D J B Q C T N V) (listed : List (Turn P D)) : Type 0 where
@@ -198,7 +198,7 @@ module _ {P M D S G O J N V B Q C T : Type 0} {x : Course P M D S G O J N V B Q 
             (subst (λ l. Gave x.i x.old x.new l (outcomes_at done.step) []) (sym is)
             (subst (λ bs. Gave x.i x.old x.new (input ∷ []) bs []) (sym (outcome-at x.s x.past input turn done.step done.of_input done.turned)) gave))
             (reads-none input done.step done.of_input) held;
-        asks_none = omega (arith, sweeps-none input done.step done.of_input);
+        none_swept = omega (arith, sweeps-none input done.step done.of_input);
       }
 
   -- an end
@@ -208,7 +208,7 @@ module _ {P M D S G O J N V B Q C T : Type 0} {x : Course P M D S G O J N V B Q 
     took = TakesSteps-step (AppliesSteps-one one tt)
         (subst (λ n. Sends {S = S} {G = G} x.s x.i.sender.told (ended cause ∷ []) x.old.sender n) (sym sender) (Sends-silent {S = S} {G = G} x.s x.i.sender.told (ended cause ∷ []) x.old.sender refl))
         refl end gave refl (subst (λ e. Holds x.i.of_arrivals.is_of e x.new.engine.job x.before) (sym end) empty);
-    asks_none = refl;
+    none_swept = refl;
   }
 
   -- a cleanup
@@ -252,7 +252,7 @@ module _ {P M D S G O J N V B Q C T : Type 0} {x : Course P M D S G O J N V B Q 
       record {
         took = TakesSteps-arrival {received = (p, bytes) ∷ []} one lives_on sender gave
             (ap (λ b. pending_input x.s b ++ payload_inputs x.s ((p, bytes) ∷ [])) (sym none)) (sym (append-nil (sender_of x.s p (x.s.reading bytes))));
-        asks_none = one.asks_none;
+        none_swept = one.none_swept;
       }
 
   -- steps, and then more
@@ -294,7 +294,7 @@ module _ {P M D S G O J N V B Q C T : Type 0} {x : Course P M D S G O J N V B Q 
       test = one.swept_once.test;
       later = more.took.steps ++ one.swept_once.later;
       first = ap (λ l. more.took.steps ++ l) one.swept_once.first ∙ sym (append_assoc more.took.steps one.swept_once.later (swept one.swept_once.test ∷ []));
-      once = omega (arith, sweeps-append more.took.steps one.took.steps, one.swept_once.once, more.asks_none);
+      once = omega (arith, sweeps-append more.took.steps one.took.steps, one.swept_once.once, more.none_swept);
     };
   }
 
@@ -313,7 +313,7 @@ module _ {P M D S G O J N V B Q C T : Type 0} {x : Course P M D S G O J N V B Q 
       → x.new ≡ x.old → TakesPoll x.s x.i x.past x.before x.old x.new result
   TakesPoll-ended {cause} {result} has held at same = subst (λ n. TakesPoll x.s x.i x.past x.before x.old n result) (sym same) (record {
     took = TakesSteps-none has held (λ lives. absurd (let no : Some cause ≡ None = sym at ∙ lives in cc)) refl refl (λ told h. told-same x.i.receiver.told x.old.receiver told h);
-    job_alone = λ job is. record { provider = refl; receiver = refl; requests = refl; asks_none = refl };
+    job_alone = λ job is. record { provider = refl; receiver = refl; requests = refl; none_swept = refl };
     swept_once = λ lives. absurd (let no : Some cause ≡ None = sym at ∙ lives in cc);
   })
 
@@ -338,7 +338,7 @@ module _ {P M D S G O J N V B Q C T : Type 0} {x : Course P M D S G O J N V B Q 
       let one = arrives m.0 m.2 in
       record {
         took = TakesSteps-arrival {received = []} one lives sender gave (ap (λ b. pending_input x.s b) (sym m.1) ∙ sym (append-nil (pending_input x.s x.before))) refl;
-        job_alone = λ held_job is. idle provider receiver one.remote.no_requests one.asks_none;
+        job_alone = λ held_job is. idle provider receiver one.remote.no_requests one.none_swept;
         swept_once = λ _ none. absurd (let no : Some job ≡ None = sym at ∙ none in cc);
       }
 

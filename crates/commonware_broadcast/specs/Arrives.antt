@@ -59,8 +59,8 @@ module _ {P M D S G O J B Q C T : Type 0} (s : Setting P M D) (i : Parties M D S
     pub goes_on : end_of steps ≡ None
     pub read_from : read_from steps ≡ reader_of s arrival
     pub remote : IsRemote (inputs steps)
-    -- no waiter was asked whether it is closed
-    pub asks_none : sweeps steps ≡ 0
+    -- there was no cleanup
+    pub none_swept : sweeps steps ≡ 0
     -- it is the input, or the message of the job that is pending now
     pub pending : Option (P × M)
     pub held : HoldsJob i.is_of new.job pending

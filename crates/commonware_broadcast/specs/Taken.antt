@@ -53,4 +53,4 @@ pub record TakesNone {P M D S G O J B Q C T N V : Type 0}
   pub provider : new.engine.provider ≡ old.engine.provider
   pub receiver : new.receiver ≡ old.receiver
   pub requests : requests_in (inputs steps) ≡ []
-  pub asks_none : sweeps steps ≡ 0
+  pub none_swept : sweeps steps ≡ 0

@@ -245,7 +245,7 @@ returns-in-Pending-poll_recv-clause-polled g c = rw (← c.self.view_is) (
       outcomes = λ told h. told-same g.Q.Requests.outcomes c.next_input.new.requests told (next.outcomes told (subst (λ q. g.Q.Requests.outcomes q told) (sym c.cleanup_waiters.ensures.same) h));
       payloads = told-same g.V.Receiver.told c.args.network.now.1;
     })
-    (record { took = TakesSteps-none swept.1.content holds (λ _. refl) refl refl got.tells; asks_none = refl }))
+    (record { took = TakesSteps-none swept.1.content holds (λ _. refl) refl refl got.tells; none_swept = refl }))
     c.comes_first.ensures.tells c.comes_first.ensures.outcomes)
     (record {
       stop_first = λ stops. no_stop (c.in-Sources.ensures.stop_first stops);
