@@ -5,7 +5,9 @@ use crate::slots::Slots;
 use crate::taken::{Evicted, Held, Subscribed, Taken};
 use crate::tickets::Tickets;
 use crate::{Counters, Counts, Digest, Error, Key, Refused, Ticket};
+use std::cell::Cell;
 use std::fmt;
+use std::marker::PhantomData;
 
 /// A node's cache of messages, and the tickets that wait for one.
 ///
@@ -41,6 +43,8 @@ pub struct Cache<M> {
     primary: Vec<Key>,
     slots: Slots<M>,
     tickets: Tickets,
+    /// A cache is not `Sync`, whatever the backend is.
+    unshared: PhantomData<Cell<()>>,
 }
 
 impl<M> Cache<M> {
@@ -63,7 +67,14 @@ impl<M> Cache<M> {
     }
 
     const fn over(backend: Backend, own: Key) -> Cache<M> {
-        Cache { backend, own, primary: Vec::new(), slots: Slots::new(), tickets: Tickets::new() }
+        Cache {
+            backend,
+            own,
+            primary: Vec::new(),
+            slots: Slots::new(),
+            tickets: Tickets::new(),
+            unshared: PhantomData,
+        }
     }
 
     /// Returns whether the verified library decides what is listed, cached and served, and not the plain cache of the feature
@@ -236,6 +247,11 @@ impl<M> Cache<M> {
 
     /// Returns the cached messages with their digests, in any order.
     pub fn iter(&self) -> impl Iterator<Item = (&Digest, &M)> {
+        self.charged().map(|(digest, _, message)| (digest, message))
+    }
+
+    /// Returns them with what they were charged, too.
+    pub(crate) fn charged(&self) -> impl Iterator<Item = (&Digest, usize, &M)> {
         self.slots.iter(|digest, number| self.backend.get(digest) == Some(number))
     }
 

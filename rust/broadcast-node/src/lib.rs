@@ -62,6 +62,7 @@ mod node;
 #[allow(unsafe_code)]
 mod raw;
 mod slots;
+mod snapshot;
 mod taken;
 mod tickets;
 
@@ -69,6 +70,7 @@ pub use cache::Cache;
 pub use error::{Error, Refused};
 pub use key::{Digest, Key, ParseError};
 pub use node::{Broadcast, Counters, Invalid, Limits, Message, Node, Received, Recipients};
+pub use snapshot::Snapshot;
 pub use taken::{Evicted, Held, Subscribed, Taken};
 pub use tickets::Ticket;
 

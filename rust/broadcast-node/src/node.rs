@@ -11,7 +11,9 @@ pub use results::{Broadcast, Message, Received, Recipients};
 pub use wire::Invalid;
 
 use crate::backend::Counted;
-use crate::{Cache, Counts, Digest, Error, Evicted, Key, Outcome, Refused, Subscribed, Ticket};
+use crate::{
+    Cache, Counts, Digest, Error, Evicted, Key, Outcome, Refused, Snapshot, Subscribed, Ticket,
+};
 use books::Books;
 use std::fmt;
 
@@ -267,6 +269,15 @@ impl<B: AsRef<[u8]>> Node<B> {
         self.cache.list(peer)
     }
 
+    /// Puts the digests on the list of `peer` into `list`, as [`Cache::list_into`] does.
+    ///
+    /// # Errors
+    ///
+    /// [`Error::Memory`].
+    pub fn list_into(&self, peer: &Key, list: &mut Vec<Digest>) -> Result<(), Error> {
+        self.cache.list_into(peer, list)
+    }
+
     /// Drops the waiters with these tickets. Returns how many they were.
     pub fn cleanup(&mut self, tickets: &[Ticket]) -> u64 {
         self.cache.cleanup(tickets)
@@ -316,6 +327,28 @@ impl<B: AsRef<[u8]>> Node<B> {
     /// Returns how many messages are cached, how many digests are awaited, and how many tickets wait.
     pub fn counts(&self) -> Counts {
         self.cache.counts()
+    }
+}
+
+impl<B: AsRef<[u8]> + Clone> Node<B> {
+    /// Returns the lists and their payloads, as [`Cache::snapshot`] does. Counters are no part of it.
+    ///
+    /// # Errors
+    ///
+    /// [`Error::Memory`].
+    pub fn snapshot(&self) -> Result<Snapshot<B>, Error> {
+        self.cache.snapshot()
+    }
+
+    /// Creates a node with the primary keys and lists of the snapshot, as [`Cache::restore`] does.
+    ///
+    /// # Errors
+    ///
+    /// Those of [`Cache::new`].
+    pub fn restore(own: Key, limits: Limits, snapshot: &Snapshot<B>) -> Result<Node<B>, Error> {
+        let cache = Cache::restore(own, limits.deque_size, limits.byte_budget, snapshot)?;
+        let books = Books::default().for_keys(cache.primary_peers())?;
+        Ok(Node { cache, limits, books })
     }
 }
 

@@ -152,8 +152,8 @@ impl<M> Slots<M> {
     pub fn iter(
         &self,
         is_cached: impl Fn(&Digest, u64) -> bool,
-    ) -> impl Iterator<Item = (&Digest, &M)> {
-        self.cached(is_cached).map(|it| (&it.digest, &it.message))
+    ) -> impl Iterator<Item = (&Digest, usize, &M)> {
+        self.cached(is_cached).map(|it| (&it.digest, it.charge, &it.message))
     }
 
     /// Returns the sum of the charges of the cached messages.

@@ -108,6 +108,7 @@ fn a_cache_loses_no_taking() {
     assert!(refuse_each(cache, |it| take(it, 8)) > 0);
     assert!(refuse_each(cache, |it| take(it, 9)) > 0);
     assert_eq!(refuse_each(cache, |it| it.list(&own())), 1);
+    assert!(refuse_each(cache, |it| it.snapshot()) > 0);
     assert_eq!(refuse_each(cache, |it| Ok(it.get(&digest(8)).copied())), 0);
     assert_eq!(refuse_each(cache, |it| Ok(it.cleanup(&[]))), 0);
     let mut waiting = cache();
@@ -124,6 +125,19 @@ fn a_cache_loses_no_taking() {
     };
     refuse_each(cache, answered);
     refuse_each(cache, |it| it.update_primary_peers(&[peer(), own(), peer()]).map(drop));
+}
+
+/// Lists, messages and primary keys are looked at without an allocation.
+#[test]
+fn looking_allocates_nothing() {
+    let cache = cache();
+    let mut list = Vec::with_capacity(10);
+    let (found, was_refused) = refusing(0, || {
+        let of = |key| cache.list_into(key, &mut list).map(|()| list.len());
+        let listed: Result<usize, Error> = cache.primary_peers().iter().map(of).sum();
+        (listed, cache.iter().map(|it| it.1.len()).sum::<usize>())
+    });
+    assert_eq!((found, was_refused), ((Ok(1), "cached".len()), false));
 }
 
 /// A message that the cache does not keep leaves its place to the next one: a repeat, or a stranger's message, does

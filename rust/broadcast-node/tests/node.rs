@@ -46,6 +46,7 @@ struct Pair {
     others: [u64; 5],
     messages: Vec<(Digest, Vec<u8>)>,
     tickets: Vec<Ticket>,
+    list: Vec<Digest>,
     random: Random,
     seen: BTreeMap<String, u64>,
 }
@@ -68,6 +69,7 @@ impl Pair {
             others: [0; 5],
             messages: messages(),
             tickets: Vec::new(),
+            list: Vec::new(),
             random,
             seen: BTreeMap::new(),
         }
@@ -222,7 +224,8 @@ impl Pair {
             80..85 => self.cancel(),
             _ => self.get(),
         }
-        assert_eq!(self.node.list(&peer).unwrap(), self.model.list(&peer));
+        self.node.list_into(&peer, &mut self.list).unwrap();
+        assert_eq!(self.list, self.model.list(&peer));
         let counts = self.node.counts();
         let wanted = (self.model.messages.len(), self.model.awaited(), self.model.waiters.len());
         assert_eq!((counts.cached, counts.awaited, counts.waiting), wanted);
