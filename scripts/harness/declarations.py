@@ -55,7 +55,7 @@ class Texts:
             it = re.search(BYTES_STRUCT % name, (CORE / file).read_text())[1]
             exports = re.sub(rf"&(mut )?{name}\b", rf"&\1{it}", exports)
             exports = re.sub(rf"&(mut )?\[{name}\]", rf"&\1[{it}]", exports)
-        names = ("raw.rs", "key.rs", "tickets.rs", "node/books.rs")
+        names = ("raw.rs", "key.rs", "tickets.rs", "coverage.rs", "node/books.rs")
         rust = "\n".join((RUST / it).read_text() for it in names)
         return Texts(exports, HEADER.read_text(), rust)
 

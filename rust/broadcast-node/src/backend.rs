@@ -7,7 +7,7 @@ mod library;
 #[cfg(feature = "plain")]
 mod plain;
 
-use crate::{Counters, Digest, Error, Key, Outcome, Ticket};
+use crate::{Counters, Digest, Error, Key, Outcome, Span, Ticket};
 
 /// What became of a message.
 pub struct Stored {
@@ -187,6 +187,30 @@ impl Counters {
 pub fn sha256(bytes: &[u8]) -> Result<Digest, Error> {
     #[cfg(broadcast_c)]
     return library::sha256(bytes);
+    #[cfg(not(broadcast_c))]
+    return Err(Error::NoLibrary);
+}
+
+/// Returns an error if the verified library is not there, or cannot be used.
+pub fn is_usable() -> Result<(), Error> {
+    #[cfg(broadcast_c)]
+    return library::is_usable();
+    #[cfg(not(broadcast_c))]
+    return Err(Error::NoLibrary);
+}
+
+/// Returns whether a coverage has the stamp, or `None` if it is no coverage.
+pub fn has(floor: u64, spans: &[Span], stamp: u64) -> Result<Option<bool>, Error> {
+    #[cfg(broadcast_c)]
+    return library::has(floor, spans, stamp);
+    #[cfg(not(broadcast_c))]
+    return Err(Error::NoLibrary);
+}
+
+/// Covers one more span. Returns the gap that was closed, or `None` if the span ends before it begins.
+pub fn cover(floor: &mut u64, spans: &mut Vec<Span>, span: Span) -> Result<Option<Span>, Error> {
+    #[cfg(broadcast_c)]
+    return library::cover(floor, spans, span);
     #[cfg(not(broadcast_c))]
     return Err(Error::NoLibrary);
 }

@@ -8,6 +8,7 @@
 //!
 //! - A [`Cache`] has messages of any type.
 //! - A [`Node`] has messages of bytes. It encodes, decodes and digests them, and counts what its peers send.
+//! - A [`Coverage`] says which stamps of an author a relay has had.
 //!
 //! ```
 //! use broadcast_node::{Key, Limits, Node, Received, Recipients};
@@ -53,6 +54,7 @@
 
 mod backend;
 mod cache;
+mod coverage;
 #[cfg(feature = "serde")]
 mod de;
 mod error;
@@ -67,6 +69,7 @@ mod taken;
 mod tickets;
 
 pub use cache::Cache;
+pub use coverage::{Coverage, Span};
 pub use error::{Error, Refused};
 pub use key::{Digest, Key, ParseError};
 pub use node::{Broadcast, Counters, Invalid, Limits, Message, Node, Received, Recipients};

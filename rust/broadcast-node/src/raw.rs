@@ -6,7 +6,7 @@ mod store;
 
 pub use store::OwnedStore;
 
-use crate::{Counters, Digest, Key, Ticket};
+use crate::{Counters, Digest, Key, Span, Ticket};
 use std::ffi::c_void;
 use std::ptr::null_mut;
 
@@ -15,10 +15,12 @@ pub const VERSION: u32 = 6;
 
 pub const OK: u32 = 0;
 pub const MEMORY: u32 = 1;
+pub const NONE: u32 = 3;
 pub const SHORT: u32 = 4;
 pub const WAITS: u32 = 5;
 pub const INVALID_LENGTH: u32 = 8;
 pub const EXTRA_DATA: u32 = 9;
+pub const NO_COVERAGE: u32 = 10;
 
 pub const INSERTED: u32 = 0;
 pub const DUPLICATE: u32 = 1;
@@ -68,6 +70,18 @@ unsafe extern "C" {
     fn broadcast_sha256(bytes: *const u8, len: usize, out: &mut Digest);
     fn broadcast_packet_read(bytes: *const u8, len: usize, max_len: usize, out: &mut Place) -> u32;
     pub safe fn broadcast_packet_head(len: usize, out: &mut [u8; 4]) -> u32;
+    fn broadcast_coverage_has(floor: u64, spans: *const Span, len: usize, stamp: u64) -> u32;
+    fn broadcast_coverage_cover(
+        floor: &mut u64,
+        spans: *const Span,
+        len: usize,
+        prev: u64,
+        stamp: u64,
+        out: *mut Span,
+        out_len: usize,
+        needed: &mut usize,
+        gap: &mut Span,
+    ) -> u32;
     fn broadcast_store_new(
         store: &mut StoreHandle,
         own: &Key,
@@ -139,4 +153,35 @@ pub fn packet_read(bytes: &[u8], max_len: usize) -> (u32, Place) {
     // SAFETY: the pointer and the length are those of a slice that is borrowed for the call.
     let status = unsafe { broadcast_packet_read(bytes.as_ptr(), bytes.len(), max_len, &mut out) };
     (status, out)
+}
+
+/// Reports whether a coverage has the stamp.
+pub fn coverage_has(floor: u64, spans: &[Span], stamp: u64) -> u32 {
+    // SAFETY: the pointer and the length are those of a slice that is borrowed for the call.
+    unsafe { broadcast_coverage_has(floor, spans.as_ptr(), spans.len(), stamp) }
+}
+
+/// What `coverage_cover` sets beside the floor: how many spans there are, and the gap that was closed.
+#[derive(Default)]
+pub struct Covered {
+    pub len: usize,
+    pub gap: Span,
+}
+
+/// Covers the stamps after `span.from` and up to `span.to` too. Fills `out` with the spans that there are then.
+pub fn coverage_cover(
+    floor: &mut u64,
+    spans: &[Span],
+    span: Span,
+    out: &mut [Span],
+) -> (u32, Covered) {
+    let (at, out, room) = (spans.as_ptr(), out.as_mut_ptr(), out.len());
+    let (len, Span { from, to }) = (spans.len(), span);
+    let mut set = Covered::default();
+    let (needed, gap) = (&mut set.len, &mut set.gap);
+    // SAFETY: the pointers and the lengths are those of two slices that are borrowed for the call. The other pointers lead
+    // to a number of the caller, and into `set`: nothing overlaps.
+    let status =
+        unsafe { broadcast_coverage_cover(floor, at, len, from, to, out, room, needed, gap) };
+    (status, set)
 }

@@ -262,7 +262,7 @@ impl Hub {
                 && let Some(frame) = gossip.machine.frame(now, session.node)
             {
                 let frame = gossip.encoded(frame);
-                len += if let wire::Frame::Message(bytes) = &frame { bytes.len() } else { 320 };
+                len += frame.len();
                 frames.push(frame);
             }
         }
@@ -275,16 +275,16 @@ impl Hub {
     }
 
     /// Takes a peer's report of an author.
-    pub fn hear(&self, session: &Session, report: wire::Report) -> io::Result<()> {
+    pub fn hear(&self, session: &Session, report: wire::Report) {
         self.act(|gossip, now| {
-            let Some(&author) = gossip.nodes.get(&report.author) else { return Ok(()) };
+            let Some(&author) = gossip.nodes.get(&report.author) else { return };
             if session.is_over() {
-                return Ok(());
+                return;
             }
             let wire::Report { coverage, since, room, is_held, .. } = report;
             let report = Report { author, coverage, since, room, is_held };
-            gossip.machine.report(now, session.node, report).map_err(invalid)
-        })
+            gossip.machine.report(now, session.node, report);
+        });
     }
 
     /// Takes a message: checks the signature, journals it and prints it, if it is new. Returns how long the connection rests then, which

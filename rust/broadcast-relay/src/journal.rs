@@ -9,7 +9,7 @@
 
 use crate::identity::{PeerId, from_hex, to_hex};
 use crate::message::{MAX_MESSAGE, Signed};
-use broadcast_relay::gossip::{Bounds, Coverage};
+use broadcast_relay::gossip::Coverage;
 use bytes::Bytes;
 use openssl::sha::Sha256;
 use std::collections::VecDeque;
@@ -21,9 +21,8 @@ use std::path::{Path, PathBuf};
 /// Begins each file: what it is, and its version.
 const MAGIC: &[u8; 8] = b"relay\0\0\x03";
 const CHECK: usize = 8;
-/// The most intervals of a coverage, which all have a place in the head of a file.
-pub const RUNS: usize = 16;
-const HEAD: usize = MAGIC.len() + 16 * RUNS + CHECK;
+/// The head of a file has room for any coverage.
+const HEAD: usize = MAGIC.len() + 8 + 16 * (Coverage::MOST - 1) + CHECK;
 /// A length and a checksum stand before each message.
 const RECORD: usize = 4 + CHECK;
 
@@ -69,7 +68,7 @@ pub struct Past {
 
 impl Past {
     fn push(&mut self, message: Signed, most: u64) {
-        self.covered.cover(message.prev, message.stamp, RUNS);
+        self.covered.cover(message.prev, message.stamp);
         self.bytes += message.len() as u64;
         self.messages.push_back(message);
         while self.bytes > most
@@ -128,7 +127,7 @@ impl Journal {
             records.extend_from_slice(message.bytes());
         }
         self.write(&records)?;
-        messages.iter().for_each(|it| self.covered.cover(it.prev, it.stamp, RUNS));
+        messages.iter().for_each(|it| self.covered.cover(it.prev, it.stamp));
         Ok(())
     }
 
@@ -161,11 +160,8 @@ impl Journal {
 
 fn head(covered: &Coverage) -> Vec<u8> {
     let mut head = MAGIC.to_vec();
-    for place in 0..RUNS {
-        let (after, upto) = covered.runs().get(place).copied().unwrap_or_default();
-        head.extend(after.to_be_bytes());
-        head.extend(upto.to_be_bytes());
-    }
+    covered.encode(&mut head);
+    head.resize(HEAD - CHECK, 0);
     let check = check(&[&head]);
     head.extend(check);
     head
@@ -225,7 +221,7 @@ fn parse(bytes: &[u8], past: &mut Past, most: u64) -> Parsed {
     };
     let covered = parse_head(head);
     for (after, upto) in covered.iter().flat_map(Coverage::runs) {
-        past.covered.cover(*after, *upto, RUNS);
+        past.covered.cover(after, upto);
     }
     let (mut at, mut wrong) = (HEAD, usize::from(covered.is_none()));
     let mut parsed = Parsed { whole: at, wrong };
@@ -245,11 +241,8 @@ fn parse(bytes: &[u8], past: &mut Past, most: u64) -> Parsed {
 
 fn parse_head(head: &[u8]) -> Option<Coverage> {
     let (rest, found) = head.split_last_chunk::<CHECK>()?;
-    let runs = rest.strip_prefix(MAGIC)?;
-    let number = |it: &[u8]| it.iter().fold(0, |sum, it| sum << 8 | u64::from(*it));
-    let runs = runs.chunks_exact(16).map(|it| (number(&it[..8]), number(&it[8..])));
-    let runs = runs.filter(|it| it.1 > 0).collect();
-    (*found == check(&[rest])).then(|| Coverage::from_runs(runs, Bounds::default().runs))?
+    let covered = rest.strip_prefix(MAGIC)?;
+    if *found == check(&[rest]) { Coverage::decode(covered) } else { None }
 }
 
 /// Reads the record at a place. Returns the message, unless it is wrong, and where the record ends.
@@ -297,7 +290,7 @@ mod tests {
                 journal.append(&message(&author, round * 7 + more)).unwrap();
             }
             if round > 1 {
-                assert_eq!(past.covered.runs(), [(6, round * 7 - 1)]);
+                assert!(past.covered.runs().eq([(6, round * 7 - 1)]));
                 assert!(
                     stamps(&past).is_sorted() && stamps(&past).last() == Some(&(round * 7 - 1))
                 );
@@ -320,13 +313,13 @@ mod tests {
         // Between the two steps, and with a new file that has no head yet.
         fs::rename(&file, file.with_extension("old")).unwrap();
         let (_, past) = Journal::open(&folder, &author.id, MOST).unwrap();
-        assert_eq!(past.covered.runs(), [(0, 100)]);
+        assert!(past.covered.runs().eq([(0, 100)]));
         fs::write(&file, [0; 20]).unwrap();
         let (mut journal, past) = Journal::open(&folder, &author.id, MOST).unwrap();
-        assert_eq!(past.covered.runs(), [(0, 100)]);
+        assert!(past.covered.runs().eq([(0, 100)]));
         journal.append(&message(&author, 101)).unwrap();
         let (_, past) = Journal::open(&folder, &author.id, MOST).unwrap();
-        assert_eq!(past.covered.runs(), [(0, 101)]);
+        assert!(past.covered.runs().eq([(0, 101)]));
         fs::remove_dir_all(&folder).unwrap();
     }
 

@@ -14,6 +14,7 @@ use crate::peer::Peer;
 use crate::places::Places;
 use crate::setup;
 use crate::tls::Tls;
+use broadcast_relay::gossip::Coverage;
 use std::fs::File;
 use std::io::{self, IsTerminal, stdin};
 use std::net::SocketAddr;
@@ -33,6 +34,7 @@ const DRAIN: Duration = Duration::from_secs(10);
 
 /// Runs the relay of a configuration until SIGTERM or SIGINT.
 pub fn run(file: &Path) -> io::Result<()> {
+    Coverage::check().map_err(io::Error::other)?;
     let mut config = Config::load(file)?;
     let metrics = Metrics::new().map_err(io::Error::other)?;
     let log = Lines::start(&metrics)?;

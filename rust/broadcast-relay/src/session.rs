@@ -87,7 +87,7 @@ async fn read(hub: &Hub, session: &Session, from: impl AsyncRead + Unpin) -> io:
         match frame {
             Frame::Beat => {}
             Frame::Report(report) => {
-                hub.hear(session, report)?;
+                hub.hear(session, report);
                 // What is owed may be no more.
                 if session.is_finishing() {
                     session.due.notify_one();

@@ -1,7 +1,6 @@
 //! Frames: a length of four bytes, big-endian, a byte that tells the kind, and the body.
 
 use crate::identity::PeerId;
-use crate::journal::RUNS;
 use crate::message::MAX_MESSAGE;
 use broadcast_relay::gossip::Coverage;
 use bytes::Bytes;
@@ -57,6 +56,15 @@ impl Frame {
         out[start..start + 4].copy_from_slice(&len.to_be_bytes());
     }
 
+    /// About how many bytes it takes.
+    pub fn len(&self) -> usize {
+        match self {
+            Frame::Message(bytes) => bytes.len(),
+            Frame::Report(report) => 64 + 16 * report.coverage.gaps(),
+            Frame::Beat | Frame::Hello(_) => 8,
+        }
+    }
+
     fn decode(mut bytes: Bytes) -> Option<Frame> {
         let kind = *bytes.first()?;
         let body = bytes.split_off(1);
@@ -76,21 +84,14 @@ impl Report {
         out.extend(self.since.to_be_bytes());
         out.extend(self.room.to_be_bytes());
         out.push(self.is_held.into());
-        for (after, upto) in self.coverage.runs() {
-            out.extend(after.to_be_bytes());
-            out.extend(upto.to_be_bytes());
-        }
+        self.coverage.encode(out);
     }
 
     fn decode(mut body: &[u8]) -> Option<Report> {
         let author = take(&mut body)?;
         let (since, room) = (number(&mut body)?, number(&mut body)?);
         let [held] = take(&mut body)?;
-        let mut runs = Vec::new();
-        while !body.is_empty() && runs.len() <= RUNS {
-            runs.push((number(&mut body)?, number(&mut body)?));
-        }
-        let coverage = Coverage::from_runs(runs, RUNS)?;
+        let coverage = Coverage::decode(body)?;
         (held < 2).then_some(Report { author, coverage, since, room, is_held: held == 1 })
     }
 }
@@ -131,8 +132,8 @@ mod tests {
 
     #[tokio::test]
     async fn a_frame_is_read_back() {
-        let runs = (0..RUNS as u64).map(|it| (2 * it, 2 * it + 1)).collect();
-        let coverage = Coverage::from_runs(runs, RUNS).unwrap();
+        let mut coverage = Coverage::up_to(5);
+        (5..=67).for_each(|it| coverage.cover(2 * it, 2 * it + 1));
         let report = |coverage, is_held| {
             Frame::Report(Report { author: [1; 32], coverage, since: 7, room: 9, is_held })
         };
@@ -152,17 +153,16 @@ mod tests {
 
     #[tokio::test]
     async fn what_is_no_frame_is_invalid() {
-        let runs = (0..=RUNS as u64).map(|it| (2 * it, 2 * it + 1)).collect();
-        let coverage = Coverage::from_runs(runs, RUNS + 1).unwrap();
-        let (author, since, room, is_held) = ([1; 32], 0, 0, false);
-        let many = Frame::Report(Report { author, coverage, since, room, is_held });
-        for bytes in [
-            &[0, 0, 0, 0][..],
-            &[0, 0, 0, 1, 7],
-            &[0, 0, 0, 2, 2, 0],
-            &[255, 0, 0, 0],
-            &bytes_of(&many),
-        ] {
+        let (author, coverage) = ([1; 32], Coverage::up_to(5));
+        let report = Frame::Report(Report { author, coverage, since: 0, room: 0, is_held: false });
+        let mut many = bytes_of(&report);
+        (5..=68_u64)
+            .for_each(|it| many.extend([2 * it, 2 * it + 1].map(u64::to_be_bytes).concat()));
+        let len = (many.len() - 4) as u32;
+        many[..4].copy_from_slice(&len.to_be_bytes());
+        for bytes in
+            [&[0, 0, 0, 0][..], &[0, 0, 0, 1, 7], &[0, 0, 0, 2, 2, 0], &[255, 0, 0, 0], &many]
+        {
             let why = read_frame(&mut &*bytes).await.unwrap_err();
             assert_eq!(why.kind(), io::ErrorKind::InvalidData);
         }

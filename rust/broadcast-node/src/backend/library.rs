@@ -2,7 +2,7 @@
 
 use super::{Counted, Stored};
 use crate::raw::{self, OwnedStore};
-use crate::{Counters, Digest, Error, Key, Outcome, Ticket};
+use crate::{Counters, Coverage, Digest, Error, Key, Outcome, Span, Ticket};
 
 /// A cache of the library.
 pub struct Library(OwnedStore);
@@ -48,7 +48,7 @@ impl TryFrom<raw::Stored> for Stored {
 }
 
 /// Checks the processor, then the version: the library's functions are for x86-64-v2.
-fn is_usable() -> Result<(), Error> {
+pub fn is_usable() -> Result<(), Error> {
     #[cfg(target_arch = "x86_64")]
     if !(is_x86_feature_detected!("sse4.2") && is_x86_feature_detected!("popcnt")) {
         return Err(Error::Processor);
@@ -155,4 +155,27 @@ pub fn add(counters: &mut Counters, more: &Counters) {
 pub fn sha256(bytes: &[u8]) -> Result<Digest, Error> {
     is_usable()?;
     Ok(raw::sha256(bytes))
+}
+
+pub fn has(floor: u64, spans: &[Span], stamp: u64) -> Result<Option<bool>, Error> {
+    match raw::coverage_has(floor, spans, stamp) {
+        raw::OK => Ok(Some(true)),
+        raw::NONE => Ok(Some(false)),
+        raw::NO_COVERAGE => Ok(None),
+        status => Err(error(status)),
+    }
+}
+
+pub fn cover(floor: &mut u64, spans: &mut Vec<Span>, span: Span) -> Result<Option<Span>, Error> {
+    let mut out = [Span::default(); Coverage::MOST];
+    spans.try_reserve(1)?;
+    let (status, covered) = raw::coverage_cover(floor, spans, span, &mut out);
+    match status {
+        raw::OK => {}
+        raw::NO_COVERAGE => return Ok(None),
+        other => return Err(error(other)),
+    }
+    spans.clear();
+    spans.extend_from_slice(&out[..covered.len]);
+    Ok(Some(covered.gap))
 }

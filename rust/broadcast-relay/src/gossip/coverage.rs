@@ -1,89 +1,94 @@
-//! What a relay has had of one author's log: disjoint intervals `(after, upto]` of stamps.
+//! What a relay has had of one author's log: intervals `(after, upto]` of stamps. The verified library decides what is had, what
+//! it is with a message more, and whether a report is one.
 
-/// In order, disjoint, not touching, none empty. Nothing that is covered is ever uncovered.
-#[derive(Clone, Debug, Default, PartialEq, Eq)]
-pub struct Coverage {
-    runs: Vec<(u64, u64)>,
+use broadcast_node::{Coverage as Verified, Error, Span};
+
+/// All stamps up to a floor, and those of at most 63 intervals behind it: in order, with gaps before and between them. Nothing that
+/// is had is ever lacking again.
+#[derive(Clone, Debug, PartialEq, Eq)]
+pub struct Coverage(Verified);
+
+const LINKED: &str = "the verified library is linked, and there is memory";
+
+impl Default for Coverage {
+    fn default() -> Coverage {
+        Coverage::up_to(0)
+    }
 }
 
 impl Coverage {
+    /// The most intervals.
+    pub const MOST: usize = Verified::MOST + 1;
+
+    /// Returns an error if the verified library is not there. Nothing else of this module may be called then.
+    pub fn check() -> Result<(), Error> {
+        Verified::new(0).map(drop)
+    }
+
     /// Everything up to a stamp.
     pub fn up_to(stamp: u64) -> Coverage {
-        Coverage { runs: (stamp > 0).then_some((0, stamp)).into_iter().collect() }
+        Coverage(Verified::new(stamp).expect(LINKED))
     }
 
-    /// Returns `None` unless the intervals are in order, disjoint, not touching, not empty, and at most `most`.
-    pub fn from_runs(runs: Vec<(u64, u64)>, most: usize) -> Option<Coverage> {
-        let are_apart = runs.windows(2).all(|pair| pair[0].1 < pair[1].0);
-        let are_filled = runs.iter().all(|&(after, upto)| after < upto);
-        (runs.len() <= most && are_apart && are_filled).then_some(Coverage { runs })
+    /// Reads what `encode` wrote, which zeros may follow. Returns `None` for whatever is no coverage.
+    pub fn decode(bytes: &[u8]) -> Option<Coverage> {
+        let (floor, rest) = bytes.split_first_chunk()?;
+        let (numbers, left) = rest.as_chunks::<8>();
+        let (pairs, odd) = numbers.as_chunks::<2>();
+        let pairs = pairs.iter().map(|it| it.map(u64::from_be_bytes));
+        let spans = pairs.map(|[from, to]| Span { from, to }).filter(|it| it.to > 0).collect();
+        let floor = u64::from_be_bytes(*floor);
+        let read = Verified::reported(floor, spans).expect(LINKED).map(Coverage);
+        read.filter(|_| left.is_empty() && odd.is_empty())
     }
 
-    pub fn runs(&self) -> &[(u64, u64)] {
-        &self.runs
+    /// Appends the floor, and the ends of each interval behind it.
+    pub fn encode(&self, out: &mut Vec<u8>) {
+        out.extend(self.0.floor().to_be_bytes());
+        let ends = self.0.spans().iter().flat_map(|it| [it.from, it.to]);
+        ends.for_each(|it| out.extend(it.to_be_bytes()));
     }
 
-    pub fn is_empty(&self) -> bool {
-        self.runs.is_empty()
+    /// The intervals in order. None is empty, and none touches another.
+    pub fn runs(&self) -> impl Iterator<Item = (u64, u64)> {
+        let first = Some((0, self.0.floor())).filter(|it| it.1 > 0);
+        first.into_iter().chain(self.0.spans().iter().map(|it| (it.from, it.to)))
+    }
+
+    /// How many gaps there are.
+    pub fn gaps(&self) -> usize {
+        self.0.spans().len()
     }
 
     /// The greatest stamp that is covered, 0 if there is none.
     pub fn top(&self) -> u64 {
-        self.runs.last().map_or(0, |run| run.1)
+        self.0.spans().last().map_or(self.0.floor(), |it| it.to)
+    }
+
+    pub fn covers(&self, stamp: u64) -> bool {
+        self.0.has(stamp)
     }
 
     /// The end of the interval that has a stamp.
     pub fn end_of(&self, stamp: u64) -> Option<u64> {
-        let place = match self.runs.last() {
-            Some(last) if stamp > last.0 => self.runs.len() - 1,
-            _ => self.runs.partition_point(|run| run.1 < stamp),
-        };
-        let run = self.runs.get(place)?;
-        (run.0 < stamp && stamp <= run.1).then_some(run.1)
+        let ends = || self.runs().map(|it| it.1).find(|it| stamp <= *it);
+        if self.covers(stamp) { ends() } else { None }
     }
 
-    pub fn covers(&self, stamp: u64) -> bool {
-        self.end_of(stamp).is_some()
-    }
-
-    /// Adds `(after, upto]`. Beyond `most` intervals the oldest gaps are closed: all up to the end of the second interval counts
-    /// as had.
-    pub fn cover(&mut self, after: u64, upto: u64, most: usize) {
-        debug_assert!(after < upto && most > 0);
-        if let Some(last) = self.runs.last_mut()
-            && last.0 <= after
-            && after <= last.1
-        {
-            last.1 = last.1.max(upto);
-            return;
-        }
-        let first = self.runs.partition_point(|run| run.1 < after);
-        let end = self.runs.partition_point(|run| run.0 <= upto);
-        if first == end {
-            self.runs.insert(first, (after, upto));
-        } else {
-            self.runs[first].0 = self.runs[first].0.min(after);
-            self.runs[first].1 = self.runs[end - 1].1.max(upto);
-            self.runs.drain(first + 1..end);
-        }
-        let excess = self.runs.len().saturating_sub(most);
-        if excess > 0 {
-            self.runs[excess].0 = 0;
-            self.runs.drain(..excess);
-        }
+    /// Adds `(after, upto]`. Beyond `MOST` intervals the oldest gap is closed: all in it counts as had.
+    pub fn cover(&mut self, after: u64, upto: u64) {
+        self.0.cover(after, upto).expect(LINKED);
     }
 
     /// The least stamp above `above` and at most `upto` that `other` covers and this does not.
     pub fn lowest_missing(&self, other: &Coverage, above: u64, upto: u64) -> Option<u64> {
-        let mut mine = self.runs.iter().peekable();
-        for &(after, end) in &other.runs {
+        let mut mine = self.runs().peekable();
+        for (after, end) in other.runs() {
             let (mut at, end) = (after.max(above), end.min(upto));
             while at < end {
-                while mine.peek().is_some_and(|run| run.1 <= at) {
-                    mine.next();
-                }
+                while mine.next_if(|run| run.1 <= at).is_some() {}
                 match mine.peek() {
-                    Some(&&(from, to)) if from <= at => at = to,
+                    Some(&(from, to)) if from <= at => at = to,
                     _ => return Some(at + 1),
                 }
             }
@@ -111,35 +116,45 @@ mod tests {
                     0 => (&mut ours, &mut set),
                     _ => (&mut theirs, &mut other),
                 };
-                coverage.cover(after, upto, 100);
+                coverage.cover(after, upto);
                 (after + 1..=upto).for_each(|it| set[it as usize] = true);
                 assert!((1..64).all(|it| coverage.covers(it) == set[it as usize]));
-                assert!(Coverage::from_runs(coverage.runs.clone(), 100).is_some());
             }
+            let end = |of: u64| (of..64).take_while(|it| set[*it as usize]).last();
+            assert!((1..64).all(|it| ours.end_of(it) == end(it)));
+            let had: u64 = ours.runs().map(|(after, upto)| upto - after).sum();
+            assert_eq!(had, set.iter().map(|it| u64::from(*it)).sum());
+            assert_eq!(ours.top(), (1..64).rfind(|it| set[*it as usize]).unwrap_or(0));
             let (above, upto) = (random.gen_range(0..20), random.gen_range(0..64));
             let missing = (above + 1..=upto).find(|&it| other[it as usize] && !set[it as usize]);
             assert_eq!(ours.lowest_missing(&theirs, above, upto), missing);
-            let before = ours.clone();
-            let after = random.gen_range(0..30);
-            ours.cover(after, 31 + random.gen_range(0..30), 3);
-            assert!(ours.runs.len() <= 3.max(before.runs.len()));
-            assert!((1..64).all(|it| !before.covers(it) || ours.covers(it)));
-            // Only the oldest gaps are closed.
-            let floor = ours.runs[0].1;
-            assert!((floor + 1..=after).all(|it| before.covers(it) == ours.covers(it)));
+            let mut bytes = Vec::new();
+            ours.encode(&mut bytes);
+            assert_eq!(Coverage::decode(&bytes), Some(ours));
         }
     }
 
     #[test]
     fn what_is_no_coverage_is_refused() {
-        for (runs, is_one) in [
-            (vec![(0, 3), (4, 5)], true),
-            (vec![(0, 3), (3, 5)], false),
-            (vec![(4, 5), (0, 3)], false),
-            (vec![(3, 3)], false),
-            (vec![(0, 1), (2, 3), (4, 5)], false),
+        for (numbers, is_one) in [
+            (&[0][..], true),
+            (&[3, 4, 5], true),
+            (&[3, 3, 5], false),
+            (&[3, 7, 9, 5, 6], false),
+            (&[3, 4, 5, 6], false),
+            (&[], false),
         ] {
-            assert_eq!(Coverage::from_runs(runs.clone(), 2).is_some(), is_one, "{runs:?}");
+            let bytes: Vec<u8> = numbers.iter().flat_map(|it: &u64| it.to_be_bytes()).collect();
+            assert_eq!(Coverage::decode(&bytes).is_some(), is_one, "{numbers:?}");
+            assert_eq!(Coverage::decode(&[&bytes[..], &[0]].concat()), None);
         }
+        let mut many = Coverage::default();
+        (1..=99).for_each(|it| many.cover(2 * it, 2 * it + 1));
+        assert_eq!(many.runs().count(), Coverage::MOST);
+        let mut bytes = Vec::new();
+        many.encode(&mut bytes);
+        assert_eq!(Coverage::decode(&bytes), Some(many));
+        bytes.extend([u64::MAX - 1, u64::MAX].map(u64::to_be_bytes).concat());
+        assert_eq!(Coverage::decode(&bytes), None);
     }
 }

@@ -52,8 +52,8 @@ impl List {
     /// The bytes on the list that `coverage` lacks.
     pub fn lacking(&self, coverage: &Coverage) -> u64 {
         let had =
-            |&(after, upto)| self.sum(self.count_up_to(upto)) - self.sum(self.count_up_to(after));
-        self.bytes() - coverage.runs().iter().map(had).sum::<u64>()
+            |(after, upto)| self.sum(self.count_up_to(upto)) - self.sum(self.count_up_to(after));
+        self.bytes() - coverage.runs().map(had).sum::<u64>()
     }
 
     /// How many are at or below `stamp`.
@@ -97,7 +97,7 @@ mod tests {
             let mut coverage = Coverage::default();
             for _ in 0..random.gen_range(0..4) {
                 let after = random.gen_range(0..900);
-                coverage.cover(after, after + random.gen_range(1..200), 9);
+                coverage.cover(after, after + random.gen_range(1..200));
             }
             let lacking = all.iter().filter(|it| !coverage.covers(it.stamp));
             assert_eq!(list.lacking(&coverage), lacking.map(Message::size).sum::<u64>());

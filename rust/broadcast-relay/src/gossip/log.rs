@@ -113,7 +113,7 @@ impl Log {
         links: &mut Links,
     ) -> bool {
         let (stamp, size) = (message.stamp, message.size());
-        self.covered.cover(message.prev, stamp, bounds.runs);
+        self.covered.cover(message.prev, stamp);
         self.list.insert(message);
         self.patience.renew(now, size, bounds.pace);
         let is_fed = from.is_some() && self.feeder == from;
@@ -125,14 +125,15 @@ impl Log {
             if !links.is_connected(peer) {
                 continue;
             }
+            let view = &mut self.views[peer];
+            let has = view.session.covers(stamp);
             if is_fed && from != Some(peer) {
-                let view = &mut self.views[peer];
-                view.record.compare(view.session.covers(stamp));
+                view.record.compare(has);
                 if view.record.is_ahead(now) {
                     ahead = Some(peer);
                 }
             }
-            self.offer(now, peer, stamp, size, bounds, links);
+            self.offer(now, peer, (stamp, size, has), bounds, links);
         }
         self.unchecked += size;
         match ahead {
@@ -158,14 +159,13 @@ impl Log {
         &mut self,
         now: Time,
         peer: usize,
-        stamp: u64,
-        size: u64,
+        (stamp, size, has): (u64, u64, bool),
         bounds: &Bounds,
         links: &mut Links,
     ) {
-        let join = bounds.join * (1 + self.covered.runs().len() as u64 / 2);
+        let join = bounds.join * (1 + self.covered.gaps() as u64 / 2);
         let session = &mut self.views[peer].session;
-        let (may_send, is_news) = session.note(stamp, size);
+        let (may_send, is_news) = session.note(stamp, size, has);
         if may_send {
             self.queue_turn(peer, links);
         } else if is_news && session.news_due == NEVER {

@@ -60,13 +60,13 @@ impl Machine {
         self.are_listed[node] = true;
         let log = &mut self.logs[node];
         for (after, upto) in past.covered.runs() {
-            log.covered.cover(*after, *upto, self.bounds.runs);
+            log.covered.cover(after, upto);
         }
         for message in past.messages {
-            log.covered.cover(message.prev, message.stamp, self.bounds.runs);
+            log.covered.cover(message.prev, message.stamp);
             log.list.insert(message);
         }
-        if node == self.own && !log.covered.is_empty() {
+        if node == self.own && log.covered.top() > 0 {
             self.last = Some(log.covered.top());
         }
         let peers: Vec<usize> = self.links.others(None).collect();
@@ -144,7 +144,7 @@ impl Machine {
         }
         let log = &mut self.logs[message.author];
         let session = &mut log.views[peer].session;
-        session.has(&message, self.bounds.runs);
+        session.has(&message);
         if log.covered.covers(message.stamp) {
             let left = session.repeats.checked_sub(message.size());
             session.repeats = left.ok_or(Breach::Repeats)?;
@@ -156,17 +156,13 @@ impl Machine {
     }
 
     /// Takes a peer's report.
-    pub fn report(&mut self, now: Time, peer: usize, report: Report) -> Result<(), Breach> {
+    pub fn report(&mut self, now: Time, peer: usize, report: Report) {
         let author = report.author;
-        if report.coverage.runs().len() > self.bounds.runs {
-            return Err(Breach::Malformed);
-        }
         if self.are_listed[author] {
             self.logs[author].hear(now, peer, report, &self.bounds);
             self.logs[author].queue_turn(peer, &mut self.links);
             self.step(now, author);
         }
-        Ok(())
     }
 
     /// Charges an author for something beside the bytes of its messages.

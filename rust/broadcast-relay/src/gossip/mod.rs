@@ -42,8 +42,6 @@ pub const SECOND: Time = 1_000_000;
 /// The bounds of the protocol. Needed: `behind + room + largest <= list` and `room <= burst / 8`.
 #[derive(Clone, Debug)]
 pub struct Bounds {
-    /// The most intervals of a coverage.
-    pub runs: usize,
     /// The most bytes of an author's list.
     pub list: u64,
     /// By how many bytes of a list a peer may be behind before it is waited for.
@@ -71,7 +69,6 @@ pub struct Bounds {
 impl Default for Bounds {
     fn default() -> Bounds {
         Bounds {
-            runs: 16,
             list: 4 << 20,
             behind: 2 << 20,
             room: 256 << 10,
@@ -140,7 +137,7 @@ pub enum Frame {
 /// What a peer did that no honest one does.
 #[derive(Clone, Copy, Debug, PartialEq, Eq)]
 pub enum Breach {
-    /// A message that is too long or covers nothing, or a coverage with too many intervals.
+    /// A message that is too long or covers nothing.
     Malformed,
     /// More came again than changes of feeders explain.
     Repeats,
@@ -149,7 +146,7 @@ pub enum Breach {
 impl fmt::Display for Breach {
     fn fmt(&self, f: &mut fmt::Formatter<'_>) -> fmt::Result {
         f.write_str(match self {
-            Breach::Malformed => "a message or report that cannot be",
+            Breach::Malformed => "a message that cannot be",
             Breach::Repeats => "messages again and again",
         })
     }

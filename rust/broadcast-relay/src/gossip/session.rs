@@ -1,7 +1,7 @@
 //! A connection of a peer, as far as one author's log goes.
 
 use super::{Bounds, Coverage, List, Message, NEVER, Report, Time};
-use std::collections::VecDeque;
+use std::collections::BTreeMap;
 
 #[derive(Debug)]
 pub struct Session {
@@ -12,7 +12,7 @@ pub struct Session {
     /// The top of this relay's coverage when the connection began.
     pub began_at: u64,
     /// Sent, and not in the peer's coverage: stamps and sizes, and the sum of these.
-    flying: VecDeque<(u64, u64)>,
+    flying: BTreeMap<u64, u64>,
     in_flight: u64,
     /// Everything on the list at or below is in the peer's coverage or flying.
     cursor: u64,
@@ -36,7 +36,7 @@ impl Session {
             theirs: None,
             ours,
             began_at,
-            flying: VecDeque::new(),
+            flying: BTreeMap::new(),
             in_flight: 0,
             cursor: 0,
             repeats: 0,
@@ -59,9 +59,9 @@ impl Session {
     }
 
     /// Notes that the peer has a message, since it sent it.
-    pub fn has(&mut self, message: &Message, runs: usize) {
+    pub fn has(&mut self, message: &Message) {
         if let Some(theirs) = &mut self.theirs {
-            theirs.coverage.cover(message.prev, message.stamp, runs);
+            theirs.coverage.cover(message.prev, message.stamp);
             theirs.since = theirs.since.min(message.prev);
         }
     }
@@ -72,12 +72,12 @@ impl Session {
 
     /// Replaces the peer's report. What has landed is not in flight any more.
     pub fn replace(&mut self, report: Report) {
-        let in_flight = &mut self.in_flight;
-        self.flying.retain(|&(stamp, size)| {
-            let flies = !report.coverage.covers(stamp);
-            *in_flight -= if flies { 0 } else { size };
-            flies
-        });
+        for (after, upto) in report.coverage.runs() {
+            while let Some((&stamp, &size)) = self.flying.range(..=upto).rfind(|it| *it.0 > after) {
+                self.flying.remove(&stamp);
+                self.in_flight -= size;
+            }
+        }
         self.theirs = Some(report);
     }
 
@@ -89,12 +89,11 @@ impl Session {
         self.room() > self.in_flight
     }
 
-    /// A message is on the list now. Returns whether the peer may be sent it, and whether it is to be told of it instead.
-    pub fn note(&mut self, stamp: u64, size: u64) -> (bool, bool) {
+    /// A message is on the list now, which the peer has or lacks. Returns whether the peer may be sent it, and whether it is to be told of it instead.
+    pub fn note(&mut self, stamp: u64, size: u64, has: bool) -> (bool, bool) {
         self.unreported += size;
         self.cursor = self.cursor.min(stamp - 1);
-        let lacks = !self.covers(stamp);
-        (lacks && self.has_room(), lacks && self.room() == 0)
+        (!has && self.has_room(), !has && self.room() == 0)
     }
 
     /// Takes the next message for the peer, which is in flight then.
@@ -111,10 +110,9 @@ impl Session {
             self.cursor = message.stamp;
             if let Some(end) = theirs.coverage.end_of(message.stamp) {
                 self.cursor = end;
-            } else if !self.flying.iter().rev().any(|it| it.0 == message.stamp) {
-                self.flying.push_back((message.stamp, message.size()));
+            } else if self.flying.insert(message.stamp, message.size()).is_none() {
                 self.in_flight += message.size();
-                self.ours.coverage.cover(message.prev, message.stamp, bounds.runs);
+                self.ours.coverage.cover(message.prev, message.stamp);
                 return Some(message.clone());
             }
         }

@@ -48,13 +48,13 @@ impl World {
                 let entry =
                     link.frozen.entry(report.author).or_insert((now, report.coverage.clone()));
                 let is_true = kind == Kind::Again && now % (8 * SECOND) > 7 * SECOND;
-                if entry.1.is_empty() || is_true {
+                if entry.1.top() == 0 || is_true {
                     entry.1 = report.coverage.clone();
                 }
                 if kind == Kind::Creep && now > entry.0 + 100_000 && entry.1.top() > 0 {
                     let upto = entry.1.top() + if is_full { 1_000 } else { 20_000 };
                     if upto < report.coverage.top() {
-                        entry.1.cover(0, upto, 16);
+                        entry.1.cover(0, upto);
                     }
                     entry.0 = now;
                 }

@@ -105,7 +105,7 @@ fn meet(now: u64, one: &mut Machine, other: &mut Machine) {
         }
         for (frame, to, from) in [(to_other, &mut *other, 0), (to_one, &mut *one, 1)] {
             match frame {
-                Some(Frame::Report(report)) => to.report(now, from, report).unwrap(),
+                Some(Frame::Report(report)) => to.report(now, from, report),
                 Some(Frame::Message(message)) => drop(to.message(now, from, message).unwrap()),
                 None => {}
             }
@@ -129,7 +129,7 @@ fn an_author_that_lost_its_journal_closes_nothing() {
         publish(it, 1_000 + it, &mut one);
     }
     meet(10, &mut one, &mut other);
-    assert_eq!(other.covered(0).runs(), [(1_000, 1_005)]);
+    assert!(other.covered(0).runs().eq([(1_000, 1_005)]));
     other.disconnect(20, 0);
     let mut one = machine(&bounds, 0, 2, None);
     one.connect(30, 1, 100);
@@ -137,10 +137,10 @@ fn an_author_that_lost_its_journal_closes_nothing() {
     // Its clock went back.
     assert_eq!(publish(30, 900, &mut one), (899, 900));
     meet(40, &mut one, &mut other);
-    assert_eq!(one.covered(0).runs(), [(899, 900), (1_000, 1_005)]);
+    assert!(one.covered(0).runs().eq([(899, 900), (1_000, 1_005)]));
     assert_eq!(publish(50, 901, &mut one), (1_005, 1_006));
     meet(60, &mut one, &mut other);
-    assert_eq!(other.covered(0).runs(), [(899, 900), (1_000, 1_006)]);
+    assert!(other.covered(0).runs().eq([(899, 900), (1_000, 1_006)]));
 }
 
 /// Each lacks more of the other's list than it waits for, and both are held: a gap is filled all the same, at once.
@@ -165,8 +165,8 @@ fn relays_that_lack_each_others_messages_do_not_wait_for_each_other() {
         other.timeout(now);
         meet(now, &mut one, &mut other);
     }
-    assert_eq!(one.covered(2).runs(), [(0, 60)]);
-    assert_eq!(other.covered(2).runs(), [(0, 60)]);
+    assert!(one.covered(2).runs().eq([(0, 60)]));
+    assert!(other.covered(2).runs().eq([(0, 60)]));
 }
 
 /// Who ignores its room is taken at its author's rate: its connection rests.

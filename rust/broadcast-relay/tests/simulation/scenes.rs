@@ -295,7 +295,7 @@ impl World {
             let last = first + 1 + self.random.below(600 - first);
             let listed =
                 if self.random.chance(70) { first } else { self.random.between(first, last) };
-            covered.cover(1_000 * first, 1_000 * last, 16);
+            covered.cover(1_000 * first, 1_000 * last);
             for place in first..last {
                 let stamp = 1_000 * (place + 1);
                 let is_new = self.nodes[own].seen.insert((0, stamp), 0).is_none();

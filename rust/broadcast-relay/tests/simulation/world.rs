@@ -395,7 +395,8 @@ impl World {
         let result = match frame {
             Frame::Report(report) => {
                 self.outcome.report_bytes += if is_honest { wire } else { 0 };
-                machine.report(now, from, report)
+                machine.report(now, from, report);
+                Ok(())
             }
             Frame::Message(message) => {
                 let id = (message.author, message.stamp);
@@ -482,7 +483,7 @@ impl World {
 
     pub fn send(&mut self, from: usize, to: usize, frame: Frame) {
         let wire = match &frame {
-            Frame::Report(report) => 18 + 16 * report.coverage.runs().len() as u64,
+            Frame::Report(report) => 26 + 16 * report.coverage.gaps() as u64,
             Frame::Message(message) => 96 + message.bytes.len() as u64,
         };
         let link = self.links.get_mut(&(from, to)).unwrap();

@@ -50,9 +50,13 @@ pub fn hello() -> Vec<u8> {
 
 /// A report: which intervals of an author's stamps a peer has had, since when it can send them, and what room it has.
 pub fn report(author: &[u8], runs: &[(u64, u64)], since: u64, room: u64) -> Vec<u8> {
-    let runs = runs.iter().flat_map(|it| [it.0.to_be_bytes(), it.1.to_be_bytes()].concat());
-    let body = [author, &since.to_be_bytes(), &room.to_be_bytes(), &[0]].concat();
-    frame(2, &body.into_iter().chain(runs).collect::<Vec<u8>>())
+    let mut body = [author, &since.to_be_bytes(), &room.to_be_bytes(), &[0]].concat();
+    // The floor comes first: an interval that begins at 0 ends there.
+    let has_floor = runs.first().is_some_and(|it| it.0 == 0);
+    let numbers = runs.iter().flat_map(|it| [it.0, it.1]).skip(has_floor.into());
+    let numbers = std::iter::repeat_n(0, (!has_floor).into()).chain(numbers);
+    numbers.for_each(|it| body.extend(it.to_be_bytes()));
+    frame(2, &body)
 }
 
 fn certificate(key: &PKey<Private>, name: &str, issuer: &PKey<Private>, of: &str) -> X509 {

@@ -1,0 +1,91 @@
+//! Which stamps of an author a relay has had.
+
+use crate::{Error, backend};
+
+/// The stamps after `from`, up to `to`.
+#[repr(C)]
+#[derive(Clone, Copy, Debug, Default, PartialEq, Eq, Hash)]
+#[cfg_attr(feature = "serde", derive(serde::Serialize, serde::Deserialize))]
+pub struct Span {
+    /// The stamp before the first one.
+    pub from: u64,
+    /// The last stamp.
+    pub to: u64,
+}
+
+/// Which stamps of an author a relay has had: all up to a floor, and those of some spans behind it, which have gaps before
+/// and between them. The verified library decides; there is no plain coverage.
+///
+/// ```
+/// # fn main() -> Result<(), broadcast_node::Error> {
+/// use broadcast_node::{Coverage, Span};
+///
+/// let mut had = Coverage::new(5)?; // the stamps 1 to 5
+/// had.cover(7, 9)?; // a message of the stamp 9, whose author sent 7 before it
+/// assert!(had.has(9) && had.has(8) && !had.has(7));
+/// assert_eq!(had.spans(), [Span { from: 7, to: 9 }]);
+/// had.cover(5, 7)?;
+/// assert_eq!((had.floor(), had.spans()), (9, &[][..]));
+/// # Ok(())
+/// # }
+/// ```
+#[derive(Clone, Debug, PartialEq, Eq)]
+pub struct Coverage {
+    floor: u64,
+    spans: Vec<Span>,
+}
+
+impl Coverage {
+    /// The most spans behind the floor.
+    pub const MOST: usize = 63;
+
+    /// Creates the coverage of all stamps up to `floor`.
+    ///
+    /// # Errors
+    ///
+    /// [`Error::NoLibrary`], [`Error::Processor`] and [`Error::Version`].
+    pub fn new(floor: u64) -> Result<Coverage, Error> {
+        backend::is_usable()?;
+        Ok(Coverage { floor, spans: Vec::new() })
+    }
+
+    /// Creates the coverage that a peer reported. Returns `None` if there are more than [`Coverage::MOST`] spans, or the
+    /// spans are not in order with gaps before and between them.
+    ///
+    /// # Errors
+    ///
+    /// As [`Coverage::new`].
+    pub fn reported(floor: u64, spans: Vec<Span>) -> Result<Option<Coverage>, Error> {
+        backend::is_usable()?;
+        let is_one = backend::has(floor, &spans, 0)?.is_some();
+        Ok(is_one.then_some(Coverage { floor, spans }))
+    }
+
+    /// Returns the floor: all stamps up to it were had.
+    pub const fn floor(&self) -> u64 {
+        self.floor
+    }
+
+    /// Returns the spans behind the floor, in order.
+    pub fn spans(&self) -> &[Span] {
+        &self.spans
+    }
+
+    /// Returns whether the stamp was had.
+    pub fn has(&self, stamp: u64) -> bool {
+        backend::has(self.floor, &self.spans, stamp) == Ok(Some(true))
+    }
+
+    /// Covers the stamps after `prev` and up to `stamp` too; none if `stamp` is less than `prev`. If there are more than
+    /// [`Coverage::MOST`] spans then, the gap after the floor is closed: its stamps count as had. Returns that gap, or an
+    /// empty span.
+    ///
+    /// # Errors
+    ///
+    /// [`Error::Memory`].
+    pub fn cover(&mut self, prev: u64, stamp: u64) -> Result<Span, Error> {
+        let span = Span { from: prev, to: stamp };
+        let gap = backend::cover(&mut self.floor, &mut self.spans, span)?;
+        Ok(gap.unwrap_or_default())
+    }
+}
