@@ -3,7 +3,7 @@
 use crate::cw;
 use broadcast_engine as engine;
 use bytes::{Buf, Bytes};
-use std::fmt::Debug;
+use std::fmt::{self, Debug};
 use std::future::Future;
 use std::pin::Pin;
 use std::sync::Arc;
@@ -28,7 +28,7 @@ impl<M> Message for M where
 }
 
 /// A message of commonware, as the engine has it.
-pub struct Wire<M>(Arc<M>);
+struct Wire<M>(Arc<M>);
 
 impl<M: Message> engine::Message for Wire<M> {
     type Digest = M::Digest;
@@ -57,7 +57,7 @@ fn digested<M: Message>(message: engine::Digested<Wire<M>>) -> cw::Digested<M> {
 }
 
 /// A provider of commonware: the primary peers of all tracked sets.
-pub struct PeerSets<D: cw::Provider> {
+struct PeerSets<D: cw::Provider> {
     provider: D,
     updates: Option<cw::Updates<D::PublicKey>>,
 }
@@ -75,7 +75,7 @@ impl<D: cw::Provider<PublicKey: engine::Id>> engine::Provider for PeerSets<D> {
 }
 
 /// A sender of commonware.
-pub struct Outgoing<S>(S);
+struct Outgoing<S>(S);
 
 impl<S: cw::Sender<PublicKey: engine::Id>> engine::Sender for Outgoing<S> {
     type PublicKey = S::PublicKey;
@@ -91,7 +91,7 @@ impl<S: cw::Sender<PublicKey: engine::Id>> engine::Sender for Outgoing<S> {
 }
 
 /// A receiver of commonware.
-pub struct Arriving<R>(R);
+struct Arriving<R>(R);
 
 impl<R: cw::Receiver<PublicKey: engine::Id, Error: Debug + Send>> engine::Receiver for Arriving<R> {
     type PublicKey = R::PublicKey;
@@ -164,6 +164,12 @@ where
     }
 }
 
+impl<P: engine::Id, M: Message, D: cw::Provider, T> Debug for Engine<P, M, D, T> {
+    fn fmt(&self, f: &mut fmt::Formatter<'_>) -> fmt::Result {
+        self.0.fmt(f)
+    }
+}
+
 /// The mailbox of an engine.
 pub struct Mailbox<P, M: Message>(engine::Mailbox<P, Wire<M>>);
 
@@ -185,6 +191,12 @@ impl<P: engine::Id, M: Message> Mailbox<P, M> {
     }
 }
 
+impl<P, M: Message> Debug for Mailbox<P, M> {
+    fn fmt(&self, f: &mut fmt::Formatter<'_>) -> fmt::Result {
+        self.0.fmt(f)
+    }
+}
+
 /// A future of a message. Dropping it cancels the subscription.
 pub struct Subscription<P, M: Message>(engine::Subscription<P, Wire<M>>);
 
@@ -193,6 +205,12 @@ impl<P, M: Message> Future for Subscription<P, M> {
 
     fn poll(mut self: Pin<&mut Self>, cx: &mut Context<'_>) -> Poll<Self::Output> {
         Pin::new(&mut self.0).poll(cx).map(|it| it.map(digested))
+    }
+}
+
+impl<P, M: Message> Debug for Subscription<P, M> {
+    fn fmt(&self, f: &mut fmt::Formatter<'_>) -> fmt::Result {
+        self.0.fmt(f)
     }
 }
 

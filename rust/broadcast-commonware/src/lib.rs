@@ -2,6 +2,8 @@
 //!
 //! The feature `registry` turns the adapter on.
 
+#![deny(missing_debug_implementations)]
+
 #[cfg(feature = "registry")]
 mod adapter;
 
