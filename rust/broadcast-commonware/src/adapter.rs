@@ -2,31 +2,35 @@
 
 use crate::cw;
 use broadcast_engine as engine;
-use bytes::Bytes;
-use std::fmt::Debug;
+use bytes::{Buf, Bytes};
+use std::fmt::{self, Debug};
 use std::future::Future;
-use std::ops::Deref;
+use std::pin::Pin;
+use std::sync::Arc;
+use std::task::{Context, Poll};
 
-pub use engine::{Blocking, Canceled, Config, Digested, End, Error, Handle, Metrics, Sequential};
+pub use cw::Broadcaster;
+pub use engine::{Blocking, Canceled, Config, End, Error, Handle, Metrics, Sequential};
 
-/// A message of commonware, as the engine has it. It derefs to the message.
-#[derive(Clone, Debug, PartialEq, Eq)]
-pub struct Wire<M>(pub M);
-
-impl<M> Deref for Wire<M> {
-    type Target = M;
-
-    fn deref(&self) -> &M {
-        &self.0
-    }
+/// A message that `commonware_broadcast` takes too. Each type with these traits is one.
+pub trait Message:
+    cw::Digestible<Digest: engine::Id> + cw::Codec<Cfg: Send + Sync + 'static> + Send + Sync + 'static
+{
 }
 
-impl<M> engine::Message for Wire<M>
-where
-    M: cw::Digestible + cw::Codec + Send + Sync + 'static,
-    M::Digest: engine::Id,
-    M::Cfg: Send + Sync + 'static,
+impl<M> Message for M where
+    M: cw::Digestible<Digest: engine::Id>
+        + cw::Codec<Cfg: Send + Sync + 'static>
+        + Send
+        + Sync
+        + 'static
 {
+}
+
+/// A message of commonware, as the engine has it.
+struct Wire<M>(Arc<M>);
+
+impl<M: Message> engine::Message for Wire<M> {
     type Digest = M::Digest;
     type Config = M::Cfg;
     type Error = String;
@@ -36,7 +40,10 @@ where
     }
 
     fn decode(bytes: Bytes, config: &M::Cfg) -> Result<Self, String> {
-        M::decode_cfg(bytes, config).map(Wire).map_err(|it| format!("{it:?}"))
+        match M::decode_cfg(bytes, config) {
+            Ok(message) => Ok(Wire(Arc::new(message))),
+            Err(err) => Err(format!("{err:?}")),
+        }
     }
 
     fn digest(&self) -> M::Digest {
@@ -44,8 +51,13 @@ where
     }
 }
 
+/// Returns the message as commonware has it. Both share it.
+fn digested<M: Message>(message: engine::Digested<Wire<M>>) -> cw::Digested<M> {
+    cw::Digested::precomputed(message.0.clone(), message.digest())
+}
+
 /// A provider of commonware: the primary peers of all tracked sets.
-pub struct PeerSets<D: cw::Provider> {
+struct PeerSets<D: cw::Provider> {
     provider: D,
     updates: Option<cw::Updates<D::PublicKey>>,
 }
@@ -63,7 +75,7 @@ impl<D: cw::Provider<PublicKey: engine::Id>> engine::Provider for PeerSets<D> {
 }
 
 /// A sender of commonware.
-pub struct Outgoing<S>(S);
+struct Outgoing<S>(S);
 
 impl<S: cw::Sender<PublicKey: engine::Id>> engine::Sender for Outgoing<S> {
     type PublicKey = S::PublicKey;
@@ -74,44 +86,42 @@ impl<S: cw::Sender<PublicKey: engine::Id>> engine::Sender for Outgoing<S> {
             engine::Recipients::Some(keys) => cw::Recipients::Some(keys),
             engine::Recipients::One(key) => cw::Recipients::One(key),
         };
-        let _ = self.0.send(to, message, priority);
+        let _ = self.0.send(to, cw::IoBuf::from(Vec::from(message)), priority);
     }
 }
 
 /// A receiver of commonware.
-pub struct Arriving<R>(R);
+struct Arriving<R>(R);
 
 impl<R: cw::Receiver<PublicKey: engine::Id, Error: Debug + Send>> engine::Receiver for Arriving<R> {
     type PublicKey = R::PublicKey;
     type Error = R::Error;
 
     async fn recv(&mut self) -> Result<(R::PublicKey, Bytes), R::Error> {
-        self.0.recv().await.map(|(peer, bytes)| (peer, bytes.into()))
+        let (peer, mut bytes) = self.0.recv().await?;
+        let len = bytes.remaining();
+        Ok((peer, bytes.copy_to_bytes(len)))
     }
 }
 
 /// The engine of `commonware_broadcast::buffered`.
-pub struct Engine<P, M, D, T>(engine::Engine<P, Wire<M>, PeerSets<D>, T>)
-where
-    P: engine::Id,
-    D: cw::Provider,
-    Wire<M>: engine::Message;
+pub struct Engine<P: engine::Id, M: Message, D: cw::Provider, T>(
+    engine::Engine<P, Wire<M>, PeerSets<D>, T>,
+);
 
 impl<P, M, D, T> Engine<P, M, D, T>
 where
     P: cw::PublicKey + engine::Id,
+    M: Message,
     D: cw::Provider<PublicKey = P>,
     T: engine::Strategy,
-    Wire<M>: engine::Message,
 {
     /// Creates an engine and its mailbox.
     ///
     /// # Errors
     ///
     /// Those of `broadcast_engine::Engine::new`.
-    pub fn new(
-        config: Config<P, <Wire<M> as engine::Message>::Config, D, T>,
-    ) -> Result<(Self, Mailbox<P, M>), Error> {
+    pub fn new(config: Config<P, M::Cfg, D, T>) -> Result<(Self, Mailbox<P, M>), Error> {
         let (engine, mailbox) = engine::Engine::new(Config {
             public_key: config.public_key,
             mailbox_size: config.mailbox_size,
@@ -154,53 +164,68 @@ where
     }
 }
 
-/// The mailbox of an engine.
-pub struct Mailbox<P, M>(engine::Mailbox<P, Wire<M>>)
-where
-    Wire<M>: engine::Message;
+impl<P: engine::Id, M: Message, D: cw::Provider, T> Debug for Engine<P, M, D, T> {
+    fn fmt(&self, f: &mut fmt::Formatter<'_>) -> fmt::Result {
+        self.0.fmt(f)
+    }
+}
 
-impl<P, M> Clone for Mailbox<P, M>
-where
-    Wire<M>: engine::Message,
-{
+/// The mailbox of an engine.
+pub struct Mailbox<P, M: Message>(engine::Mailbox<P, Wire<M>>);
+
+impl<P, M: Message> Clone for Mailbox<P, M> {
     fn clone(&self) -> Self {
         Mailbox(self.0.clone())
     }
 }
 
-type DigestOf<M> = <Wire<M> as engine::Message>::Digest;
-
-impl<P: engine::Id, M> Mailbox<P, M>
-where
-    Wire<M>: engine::Message,
-{
+impl<P: engine::Id, M: Message> Mailbox<P, M> {
     /// Subscribes to the message of a digest.
-    pub fn subscribe(&self, digest: DigestOf<M>) -> engine::Subscription<P, Wire<M>> {
-        self.0.subscribe(digest)
+    pub fn subscribe(&self, digest: M::Digest) -> Subscription<P, M> {
+        Subscription(self.0.subscribe(digest))
     }
 
     /// Returns the cached message of a digest.
-    pub async fn get(&self, digest: DigestOf<M>) -> Option<Digested<Wire<M>>> {
-        self.0.get(digest).await
+    pub async fn get(&self, digest: M::Digest) -> Option<cw::Digested<M>> {
+        self.0.get(digest).await.map(digested)
     }
 }
 
-impl<P, M> cw::Broadcaster for Mailbox<P, M>
-where
-    P: engine::Id,
-    M: cw::Encode + Clone + Send + Sync + 'static,
-    Wire<M>: engine::Message,
-{
-    type Recipients = cw::Recipients<P>;
-    type Message = M;
+impl<P, M: Message> Debug for Mailbox<P, M> {
+    fn fmt(&self, f: &mut fmt::Formatter<'_>) -> fmt::Result {
+        self.0.fmt(f)
+    }
+}
 
-    fn broadcast(&self, to: cw::Recipients<P>, message: M) -> cw::Feedback {
+/// A future of a message. Dropping it cancels the subscription.
+pub struct Subscription<P, M: Message>(engine::Subscription<P, Wire<M>>);
+
+impl<P, M: Message> Future for Subscription<P, M> {
+    type Output = Result<cw::Digested<M>, Canceled>;
+
+    fn poll(mut self: Pin<&mut Self>, cx: &mut Context<'_>) -> Poll<Self::Output> {
+        Pin::new(&mut self.0).poll(cx).map(|it| it.map(digested))
+    }
+}
+
+impl<P, M: Message> Debug for Subscription<P, M> {
+    fn fmt(&self, f: &mut fmt::Formatter<'_>) -> fmt::Result {
+        self.0.fmt(f)
+    }
+}
+
+impl<P: engine::Id, M: Message> Broadcaster for Mailbox<P, M> {
+    type Recipients = cw::Recipients<P>;
+    type Message = cw::Digested<M>;
+
+    fn broadcast(&self, to: cw::Recipients<P>, message: cw::Digested<M>) -> cw::Feedback {
         let to = match to {
             cw::Recipients::All => engine::Recipients::All,
             cw::Recipients::Some(keys) => engine::Recipients::Some(keys),
             cw::Recipients::One(key) => engine::Recipients::One(key),
         };
-        match self.0.broadcast(to, Wire(message)) {
+        let wire = Wire(message.inner_shared());
+        match self.0.broadcast(to, engine::Digested::precomputed(wire, message.digest())) {
             engine::Feedback::Ok => cw::Feedback::Ok,
             engine::Feedback::Backoff => cw::Feedback::Backoff,
             _ => cw::Feedback::Closed,

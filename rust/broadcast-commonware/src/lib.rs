@@ -2,6 +2,8 @@
 //!
 //! The feature `registry` turns the adapter on.
 
+#![deny(missing_debug_implementations)]
+
 #[cfg(feature = "registry")]
 mod adapter;
 
@@ -13,8 +15,9 @@ pub use adapter::*;
 mod cw {
     pub use commonware_actor::Feedback;
     pub use commonware_broadcast::Broadcaster;
-    pub use commonware_codec::{Codec, Decode, Encode};
-    pub use commonware_cryptography::{Digestible, PublicKey};
+    pub use commonware_codec::Codec;
+    pub use commonware_cryptography::{Digested, Digestible, PublicKey};
     pub use commonware_p2p::PeerSetSubscription as Updates;
     pub use commonware_p2p::{Provider, Receiver, Recipients, Sender};
+    pub use commonware_runtime::IoBuf;
 }

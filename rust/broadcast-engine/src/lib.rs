@@ -72,6 +72,9 @@
 //! [`Receiver`], which must know beyond doubt who sent a message. The verified cache decides which messages are
 //! kept, for whom and until when. This crate around it is tested.
 
+#![forbid(unsafe_code)]
+#![deny(missing_debug_implementations)]
+
 mod config;
 mod deliveries;
 mod engine;

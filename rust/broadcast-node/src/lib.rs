@@ -50,6 +50,7 @@
 //! cache, which is not verified.
 
 #![deny(missing_docs)]
+#![deny(missing_debug_implementations)]
 #![deny(unsafe_code)]
 
 mod backend;

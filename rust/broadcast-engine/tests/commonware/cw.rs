@@ -1,26 +1,91 @@
-//! Stand-ins of commonware's traits, as `commonware-broadcast` uses them.
+//! Stand-ins of commonware's traits, as `commonware-broadcast` and its tests use them.
 
-use bytes::{Bytes, BytesMut};
+use bytes::{Buf, Bytes, BytesMut};
 use std::fmt::Debug;
 use std::future::Future;
 use std::hash::Hash;
+use std::sync::Arc;
 use tokio::sync::mpsc::UnboundedReceiver;
 
 pub trait PublicKey: Clone + Ord + Hash + Debug + AsRef<[u8]> + Send + Sync + 'static {}
 
 pub trait Digestible {
-    type Digest;
+    type Digest: Clone;
     fn digest(&self) -> Self::Digest;
+}
+
+/// A message and its digest.
+#[derive(Debug)]
+pub struct Digested<M: Digestible> {
+    message: Arc<M>,
+    digest: M::Digest,
+}
+
+impl<M: Digestible> Digested<M> {
+    pub fn precomputed(message: impl Into<Arc<M>>, digest: M::Digest) -> Self {
+        Digested { message: message.into(), digest }
+    }
+
+    pub fn digest(&self) -> M::Digest {
+        self.digest.clone()
+    }
+
+    pub fn inner(&self) -> &M {
+        &self.message
+    }
+
+    pub fn inner_shared(&self) -> Arc<M> {
+        self.message.clone()
+    }
+}
+
+impl<M: Digestible> Clone for Digested<M> {
+    fn clone(&self) -> Self {
+        Digested { message: self.message.clone(), digest: self.digest.clone() }
+    }
+}
+
+impl<M: Digestible + Encode> Encode for Digested<M> {
+    fn encode(&self) -> BytesMut {
+        self.message.encode()
+    }
 }
 
 pub trait Encode {
     fn encode(&self) -> BytesMut;
 }
 
-pub trait Codec: Encode + Sized {
-    type Cfg;
-    type Error: Debug;
-    fn decode_cfg(bytes: Bytes, config: &Self::Cfg) -> Result<Self, Self::Error>;
+pub trait Decode: Sized {
+    type Cfg: Clone + Send + Sync + 'static;
+    fn decode_cfg(bytes: impl Buf, config: &Self::Cfg) -> Result<Self, &'static str>;
+}
+
+pub trait Codec: Encode + Decode {}
+
+impl<T: Encode + Decode> Codec for T {}
+
+/// Bytes of the network.
+#[derive(Debug, Clone)]
+pub struct IoBuf(Bytes);
+
+impl From<Vec<u8>> for IoBuf {
+    fn from(bytes: Vec<u8>) -> IoBuf {
+        IoBuf(bytes.into())
+    }
+}
+
+impl Buf for IoBuf {
+    fn remaining(&self) -> usize {
+        self.0.remaining()
+    }
+
+    fn chunk(&self) -> &[u8] {
+        self.0.chunk()
+    }
+
+    fn advance(&mut self, n: usize) {
+        self.0.advance(n);
+    }
 }
 
 #[derive(Clone, Debug)]
@@ -37,6 +102,12 @@ pub enum Feedback {
     Closed,
 }
 
+impl Feedback {
+    pub fn accepted(self) -> bool {
+        self != Feedback::Closed
+    }
+}
+
 pub trait Broadcaster: Clone + Send + 'static {
     type Recipients;
     type Message: Encode + Clone + Send + 'static;
@@ -45,7 +116,12 @@ pub trait Broadcaster: Clone + Send + 'static {
 
 pub trait Sender: Send + 'static {
     type PublicKey: PublicKey;
-    fn send(&mut self, to: Recipients<Self::PublicKey>, message: Bytes, priority: bool) -> usize;
+    fn send(
+        &mut self,
+        recipients: Recipients<Self::PublicKey>,
+        message: impl Into<IoBuf> + Send,
+        priority: bool,
+    ) -> Vec<Self::PublicKey>;
 }
 
 pub trait Receiver: Send + 'static {
@@ -53,7 +129,7 @@ pub trait Receiver: Send + 'static {
     type Error;
     fn recv(
         &mut self,
-    ) -> impl Future<Output = Result<(Self::PublicKey, BytesMut), Self::Error>> + Send;
+    ) -> impl Future<Output = Result<(Self::PublicKey, IoBuf), Self::Error>> + Send;
 }
 
 pub struct Peers<P> {

@@ -7,9 +7,10 @@ mod adapter;
 mod cw;
 
 use adapter::{Config, Engine, Sequential};
-use bytes::{Bytes, BytesMut};
-use cw::Broadcaster;
+use bytes::{Buf, Bytes, BytesMut};
+use cw::{Broadcaster, Digested, Digestible, IoBuf};
 use std::num::NonZeroUsize;
+use std::sync::Arc;
 use tokio::sync::mpsc::{self, UnboundedReceiver, unbounded_channel};
 
 #[derive(Clone, Debug, PartialEq, Eq, PartialOrd, Ord, Hash)]
@@ -26,7 +27,7 @@ impl cw::PublicKey for PublicKey {}
 #[derive(Clone, Debug, PartialEq)]
 struct Block(Bytes);
 
-impl cw::Digestible for Block {
+impl Digestible for Block {
     type Digest = [u8; 32];
 
     fn digest(&self) -> [u8; 32] {
@@ -40,12 +41,12 @@ impl cw::Encode for Block {
     }
 }
 
-impl cw::Codec for Block {
+impl cw::Decode for Block {
     type Cfg = usize;
-    type Error = &'static str;
 
-    fn decode_cfg(bytes: Bytes, max: &usize) -> Result<Block, &'static str> {
-        if bytes.len() > *max { Err("too long") } else { Ok(Block(bytes)) }
+    fn decode_cfg(mut bytes: impl Buf, max: &usize) -> Result<Block, &'static str> {
+        let len = bytes.remaining();
+        if len > *max { Err("too long") } else { Ok(Block(bytes.copy_to_bytes(len))) }
     }
 }
 
@@ -63,14 +64,22 @@ impl cw::Provider for Oracle {
     }
 }
 
-struct Out(PublicKey, mpsc::Sender<(PublicKey, Bytes)>);
-struct In(mpsc::Receiver<(PublicKey, Bytes)>);
+type Packet = (PublicKey, IoBuf);
+
+struct Out(PublicKey, mpsc::Sender<Packet>);
+struct In(mpsc::Receiver<Packet>);
 
 impl cw::Sender for Out {
     type PublicKey = PublicKey;
 
-    fn send(&mut self, _: cw::Recipients<PublicKey>, message: Bytes, _: bool) -> usize {
-        usize::from(self.1.try_send((self.0.clone(), message)).is_ok())
+    fn send(
+        &mut self,
+        _: cw::Recipients<PublicKey>,
+        message: impl Into<IoBuf> + Send,
+        _: bool,
+    ) -> Vec<PublicKey> {
+        assert!(self.1.try_send((self.0.clone(), message.into())).is_ok());
+        Vec::new()
     }
 }
 
@@ -78,12 +87,12 @@ impl cw::Receiver for In {
     type PublicKey = PublicKey;
     type Error = &'static str;
 
-    async fn recv(&mut self) -> Result<(PublicKey, BytesMut), &'static str> {
-        let (peer, bytes) = self.0.recv().await.ok_or("closed")?;
-        Ok((peer, bytes[..].into()))
+    async fn recv(&mut self) -> Result<Packet, &'static str> {
+        self.0.recv().await.ok_or("closed")
     }
 }
 
+/// What a program has, but for its `use` lines: as in the tests of `commonware_broadcast`.
 #[tokio::test(start_paused = true)]
 async fn a_message_goes_from_one_node_to_the_other() {
     let keys = [PublicKey([1; 33]), PublicKey([2; 33])];
@@ -100,16 +109,18 @@ async fn a_message_goes_from_one_node_to_the_other() {
             peer_provider: Oracle(keys.to_vec()),
             strategy: Sequential,
         };
-        let (engine, mailbox) = Engine::new(config).unwrap();
+        let (engine, mailbox) = Engine::<PublicKey, Block, _, Sequential>::new(config).unwrap();
         engine.start((Out(key.clone(), to), In(from)));
         mailbox
     };
     let mailboxes: Vec<_> = keys.iter().zip(ends).map(start).collect();
-    let block = Block(Bytes::from_static(b"a block"));
-    let digest = cw::Digestible::digest(&block);
+    let message = Arc::new(Block(Bytes::from_static(b"a block")));
+    let digest = message.digest();
     let awaited = mailboxes[1].subscribe(digest);
-    let feedback = mailboxes[0].broadcast(cw::Recipients::All, block.clone());
-    assert_eq!(feedback, cw::Feedback::Ok);
-    assert_eq!(awaited.await.unwrap().inner().0, block);
-    assert_eq!(mailboxes[1].get(digest).await.unwrap().inner().0, block);
+    let sent = Digested::precomputed(Arc::clone(&message), digest);
+    assert!(mailboxes[0].broadcast(cw::Recipients::All, sent).accepted());
+    assert_eq!(awaited.await.unwrap().inner(), &*message);
+    let cached = mailboxes[0].get(digest).await;
+    assert!(Arc::ptr_eq(&cached.unwrap().inner_shared(), &message));
+    assert_eq!(mailboxes[1].get(digest).await.as_ref().map(Digested::inner), Some(&*message));
 }
