@@ -1,6 +1,7 @@
 //! The network of some nodes.
 ghost use Rattle.std.specs.Prelude.{◌≡◌, true, false, Err, map, [], ◌∷◌, ◌++◌, IfOk, OnOk, IfSome, IfNone};
 ghost use Rattle.std.specs.Arc.{arc_value};
+ghost use Rattle.std.specs.List.{list_any};
 ghost use Rattle.std.specs.Ordering.{eq_by_cmp};
 ghost use Rattle.memory_network.specs.Nodes.{AreNodesOf, has_node, others_of};
 ghost use Rattle.memory_network.specs.declared.network.JoinError.TheVariants.{Unknown};
@@ -79,7 +80,10 @@ impl<P: PublicKey> Network<P> {
 
     /// Creates the network of the nodes with these keys, as [`Network::new`] does. Of several equal
     /// keys it keeps the first.
-    pub fn between<R: Wait + AllocGlobal>(rt: &R, keys: &[P]) -> Result<Self, AllocError> {
+    pub fn between<R: Wait + AllocGlobal>(rt: &R, keys: &[P]) -> Result<Self, AllocError>
+        ensures { IfOk result (λ network. (key : P)
+            → has_node P.cmp key network ≡ list_any (eq_by_cmp P.cmp key) keys.now) }
+    {
         let mut copies = Vec::new(rt.alloc());
         for key in keys {
             copies.push(key.clone()?)?;
