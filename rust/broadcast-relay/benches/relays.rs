@@ -5,15 +5,19 @@ mod support;
 
 use std::collections::HashMap;
 use std::fs;
+use std::io::Write;
+use std::process::ChildStdin;
 use std::thread::{sleep, spawn};
 use std::time::{Duration, Instant};
 use support::lab::Lab;
-use support::{Relay, folder, wait_for};
+use support::{Printed, Relay, folder, wait_for};
 
 /// An author may send as fast as it can.
 const LIMITS: &str =
     "[limits]\nauthor_messages_per_second = 1000000\nauthor_bytes_per_second = 1000000000";
 const SIZE: usize = 1_000;
+/// How many deliveries each row has, of lines of a kilobyte.
+const DELIVERIES: usize = 40_000;
 
 #[derive(Clone, Copy)]
 enum Shape {
@@ -68,72 +72,104 @@ fn at(part: f64, sorted: &[Duration]) -> f64 {
     sorted.get((sorted.len() as f64 * part) as usize).map_or(0.0, |it| it.as_secs_f64() * 1e3)
 }
 
-/// Lets each author write lines, as fast as its relay reads them or at a rate, until all others have printed them.
-fn run(shape: Shape, count: usize, authors: usize, lines: usize, rate: Option<u32>) {
-    let mut relays = start(shape, count);
-    let inputs: Vec<_> = relays[..authors].iter_mut().map(Relay::take_input).collect();
-    let (begin, before) = (Instant::now(), processor(&relays));
-    let writers = inputs.into_iter().enumerate().map(|(author, mut input)| {
-        spawn(move || {
-            let mut written = HashMap::new();
-            for number in 0..lines {
-                if let Some(rate) = rate {
-                    let due = begin + Duration::from_secs(1) * number as u32 / rate;
-                    sleep(due.saturating_duration_since(Instant::now()));
-                }
-                let head = format!("{author}-{number}");
-                let filler = "x".repeat(if rate.is_some() { 190 } else { SIZE - 10 });
-                std::io::Write::write_all(&mut input, format!("{head} {filler}\n").as_bytes())
-                    .unwrap();
-                written.insert(head, Instant::now());
+/// What is measured: authors that write lines, as fast as their relays read them or at a rate.
+#[derive(Clone, Copy)]
+struct Load {
+    shape: Shape,
+    count: usize,
+    authors: usize,
+    lines: usize,
+    rate: Option<u32>,
+}
+
+/// When each line was written, by its first word.
+type Written = HashMap<String, Instant>;
+
+impl Load {
+    /// Writes an author's lines.
+    fn write(self, author: usize, begin: Instant, mut input: ChildStdin) -> Written {
+        let filler = "x".repeat(if self.rate.is_some() { 190 } else { SIZE - 10 });
+        let mut written = HashMap::new();
+        for number in 0..self.lines {
+            if let Some(rate) = self.rate {
+                let due = begin + Duration::from_secs(1) * number as u32 / rate;
+                sleep(due.saturating_duration_since(Instant::now()));
             }
-            (written, input)
-        })
-    });
-    let writers: Vec<_> = writers.collect();
-    let expected = |number: usize| lines * (authors - usize::from(number < authors));
-    wait_for("all lines", || (0..count).all(|it| relays[it].printed_count() == expected(it)));
-    let spent = processor(&relays) - before;
-    let written: HashMap<String, Instant> =
-        writers.into_iter().flat_map(|it| it.join().unwrap().0).collect();
-    let printed: Vec<_> = relays.iter().flat_map(Relay::printed).collect();
-    let last = printed.iter().map(|it| it.at).max().unwrap_or(begin);
-    let age = |it: &support::Printed| {
-        let head = it.text.split(' ').next().unwrap_or_default();
-        it.at.saturating_duration_since(written[head])
-    };
-    let mut ages: Vec<Duration> = printed.iter().map(age).collect();
-    ages.sort();
-    let again: f64 = relays
-        .iter()
-        .flat_map(|it| {
-            (0..count).map(|to| it.metric(&format!("relay_again_total{{peer=\"r{to}\"}}")))
-        })
-        .sum();
-    let memory = relays.iter().map(|it| it.memory("VmHWM") >> 20).max().unwrap_or(0);
-    println!(
-        "| {} of {count}, {authors} type{} | {:.0} | {:.0} | {:.1} | {:.0} | {:.0} | {again} | {memory} |",
-        shape.name(),
-        rate.map(|it| format!(" {it} a second")).unwrap_or_default(),
-        (lines * authors) as f64 / (last - begin).as_secs_f64(),
-        printed.len() as f64 / (last - begin).as_secs_f64(),
-        spent * 1e6 / printed.len() as f64,
-        at(0.5, &ages),
-        at(0.99, &ages),
-    );
+            let head = format!("{author}-{number}");
+            input.write_all(format!("{head} {filler}\n").as_bytes()).unwrap();
+            written.insert(head, Instant::now());
+        }
+        // The relay reads on until it ends.
+        std::mem::forget(input);
+        written
+    }
+
+    /// Runs it until all lines are printed everywhere, and prints a row of the table.
+    fn run(self) {
+        let Load { shape, count, authors, lines, rate } = self;
+        let mut relays = start(shape, count);
+        let inputs: Vec<_> = relays[..authors].iter_mut().map(Relay::take_input).collect();
+        let (begin, before) = (Instant::now(), processor(&relays));
+        let writers = inputs.into_iter().enumerate();
+        let writers: Vec<_> = writers
+            .map(|(author, input)| spawn(move || self.write(author, begin, input)))
+            .collect();
+        let expected = |number: usize| lines * (authors - usize::from(number < authors));
+        wait_for("all lines", || (0..count).all(|it| relays[it].printed_count() == expected(it)));
+        let spent = processor(&relays) - before;
+        let written: Written = writers.into_iter().flat_map(|it| it.join().unwrap()).collect();
+        let printed: Vec<_> = relays.iter().flat_map(Relay::printed).collect();
+        let took = printed.iter().map(|it| it.at).max().unwrap_or(begin) - begin;
+        let mut ages: Vec<Duration> = printed.iter().map(|it| age(it, &written)).collect();
+        ages.sort();
+        println!(
+            "| {} of {count}, {authors} type{} | {:.0} | {:.0} | {:.1} | {:.0} | {:.0} | {:.3} | {} |",
+            shape.name(),
+            rate.map(|it| format!(" {it} a second")).unwrap_or_default(),
+            (lines * authors) as f64 / took.as_secs_f64(),
+            printed.len() as f64 / took.as_secs_f64(),
+            spent * 1e6 / printed.len() as f64,
+            at(0.5, &ages),
+            at(0.99, &ages),
+            again(&relays) / printed.len() as f64,
+            relays.iter().map(|it| it.memory("VmHWM") >> 20).max().unwrap_or(0),
+        );
+    }
+}
+
+/// How long a line took to come.
+fn age(printed: &Printed, written: &Written) -> Duration {
+    let head = printed.text.split(' ').next().unwrap_or_default();
+    printed.at.saturating_duration_since(written[head])
+}
+
+/// How many messages came again.
+fn again(relays: &[Relay]) -> f64 {
+    let of = |it: &Relay, to| it.metric(&format!("relay_again_total{{peer=\"r{to}\"}}"));
+    relays.iter().flat_map(|it| (0..relays.len()).map(move |to| of(it, to))).sum()
 }
 
 fn main() {
     println!(
-        "| | lines a second | deliveries a second | µs of processor a delivery | p50, ms | p99, ms | came again | MiB |"
+        "| | lines a second | deliveries a second | µs of processor a delivery | p50, ms | p99, ms | copies for nothing a delivery | MiB |"
     );
     println!("|---|---|---|---|---|---|---|---|");
-    for (count, lines) in [(2, 15_000), (4, 4_000), (8, 1_000), (16, 200)] {
-        run(Shape::Mesh, count, count, lines, None);
+    let sizes = [
+        (Shape::Mesh, &[2, 4, 8, 16][..]),
+        (Shape::Ring, &[4, 8, 16]),
+        (Shape::Row, &[3, 4, 8, 16]),
+    ];
+    for (shape, counts) in sizes {
+        for &count in counts {
+            let lines = DELIVERIES / (count * (count - 1));
+            Load { shape, count, authors: count, lines, rate: None }.run();
+        }
     }
-    run(Shape::Ring, 8, 8, 1_000, None);
-    run(Shape::Row, 3, 1, 20_000, None);
-    run(Shape::Row, 6, 1, 15_000, None);
-    run(Shape::Mesh, 8, 8, 500, Some(50));
-    run(Shape::Row, 3, 1, 2_000, Some(500));
+    for (shape, count, authors, lines, rate) in [
+        (Shape::Row, 3, 1, DELIVERIES / 2, None),
+        (Shape::Mesh, 8, 8, 500, Some(50)),
+        (Shape::Row, 3, 1, 2_000, Some(500)),
+    ] {
+        Load { shape, count, authors, lines, rate }.run();
+    }
 }

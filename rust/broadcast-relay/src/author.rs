@@ -9,8 +9,7 @@ use crate::message::{Seal, Signed};
 use std::collections::VecDeque;
 use std::io;
 use std::path::Path;
-use std::sync::{Mutex, MutexGuard};
-use std::time::{Duration, SystemTime, UNIX_EPOCH};
+use std::sync::Mutex;
 
 /// How many checked signatures are remembered.
 const SEALS: usize = 64;
@@ -18,55 +17,32 @@ const SEALS: usize = 64;
 pub struct Author {
     pub id: PeerId,
     seals: Mutex<VecDeque<Seal>>,
-    journal: Mutex<Option<Journal>>,
-}
-
-/// The time since 1970, by this machine's clock.
-pub fn clock() -> Duration {
-    SystemTime::now().duration_since(UNIX_EPOCH).unwrap_or_default()
+    /// Whoever locks it is the only one that takes a message of the author.
+    pub journal: Mutex<Option<Journal>>,
 }
 
 impl Author {
     /// Reads the author's journal. Returns besides what it had.
     pub fn new(id: PeerId, limits: &Limits, journal: Option<&Path>) -> io::Result<(Author, Past)> {
-        let (journal, past) = match journal {
-            Some(folder) => {
-                let (journal, past) = Journal::open(folder, &id, limits.bytes_per_peer)?;
-                (Some(journal), past)
-            }
-            None => (None, Past::default()),
-        };
+        let opened = journal.map(|it| Journal::open(it, &id, limits.bytes_per_peer)).transpose()?;
+        let (journal, past) = opened.map_or_else(Default::default, |(it, past)| (Some(it), past));
         Ok((Author { id, seals: Mutex::default(), journal: Mutex::new(journal) }, past))
     }
 
-    /// The author's journal. Whoever has it is the only one that takes a message of the author.
-    pub fn journal(&self) -> Writing<'_> {
-        Writing(lock(&self.journal))
-    }
-
-    /// Whether the author signed a message, and whether that took a check: the signature of a batch is checked once.
-    pub fn has_signed(&self, message: &Signed) -> (bool, bool) {
+    /// Checks that the author signed a message. Returns how many signatures that took: that of a batch is checked once.
+    pub fn check(&self, message: &Signed) -> Result<u64, &'static str> {
         let seal = message.seal();
         if lock(&self.seals).contains(&seal) {
-            return (true, false);
+            return Ok(0);
         }
-        let is_signed = message.is_signed(&seal);
-        if is_signed {
-            let mut seals = lock(&self.seals);
-            seals.push_back(seal);
-            if seals.len() > SEALS {
-                seals.pop_front();
-            }
+        if !message.is_signed(&seal) {
+            return Err("a wrong signature");
         }
-        (is_signed, true)
-    }
-}
-
-pub struct Writing<'a>(MutexGuard<'a, Option<Journal>>);
-
-impl Writing<'_> {
-    /// Writes messages to the journal, if there is one.
-    pub fn append(&mut self, messages: &[Signed]) -> io::Result<()> {
-        self.0.as_mut().map_or(Ok(()), |it| it.append(messages))
+        let mut seals = lock(&self.seals);
+        seals.push_back(seal);
+        if seals.len() > SEALS {
+            seals.pop_front();
+        }
+        Ok(1)
     }
 }

@@ -217,6 +217,7 @@ mod tests {
             (peer("b", "a", "") + &peer("b", "c", ""), "twice"),
             (peer("b", "x", ""), "hexadecimal"),
             (peer("b c", "a", ""), "no name"),
+            (peer("own", "a", ""), "no name"),
             (peer("b", "a", "address = \"h\""), "no port"),
             (peer("b", "a", "port = 1"), "unknown field"),
             ("[limits]\nbytes_per_peer = 10".into(), "at least"),

@@ -2,7 +2,7 @@
 //! each address in turn, so that no address takes the pace of another.
 
 use crate::lock;
-use std::collections::{HashMap, VecDeque};
+use crate::turns::Turns;
 use std::net::IpAddr;
 use std::sync::Mutex;
 use std::time::Duration;
@@ -19,14 +19,8 @@ const HEAD: usize = 5;
 const MAX_HELLO: usize = 4_096;
 
 #[derive(Default)]
-struct State {
-    addresses: HashMap<IpAddr, VecDeque<oneshot::Sender<()>>>,
-    turns: VecDeque<IpAddr>,
-}
-
-#[derive(Default)]
 pub struct Handshakes {
-    state: Mutex<State>,
+    waiting: Mutex<Turns<IpAddr, oneshot::Sender<()>>>,
     come: Notify,
 }
 
@@ -34,14 +28,7 @@ impl Handshakes {
     /// Waits for the turn of a handshake.
     pub async fn turn(&self, address: IpAddr) {
         let (sender, turn) = oneshot::channel();
-        {
-            let mut state = lock(&self.state);
-            let waiting = state.addresses.entry(address).or_default();
-            waiting.push_back(sender);
-            if waiting.len() == 1 {
-                state.turns.push_back(address);
-            }
-        }
+        lock(&self.waiting).push(address, sender);
         self.come.notify_one();
         let _ = turn.await;
     }
@@ -50,16 +37,12 @@ impl Handshakes {
     pub async fn give_turns(&self) {
         let mut saved = BURST;
         loop {
-            match self.next() {
-                Some(turn) => {
-                    if turn.send(()).is_ok() {
-                        if saved == 0 {
-                            sleep(PACE).await;
-                        } else {
-                            saved -= 1;
-                        }
-                    }
-                }
+            // Who does not wait any more takes no turn.
+            let is_taken = lock(&self.waiting).pop().map(|(_, turn)| turn.send(()).is_ok());
+            match is_taken {
+                Some(false) => {}
+                Some(true) if saved > 0 => saved -= 1,
+                Some(true) => sleep(PACE).await,
                 None if saved < BURST => {
                     sleep(PACE).await;
                     saved += 1;
@@ -67,18 +50,6 @@ impl Handshakes {
                 None => self.come.notified().await,
             }
         }
-    }
-
-    fn next(&self) -> Option<oneshot::Sender<()>> {
-        let mut state = lock(&self.state);
-        let address = state.turns.pop_front()?;
-        let waiting = state.addresses.get_mut(&address)?;
-        let turn = waiting.pop_front();
-        match waiting.is_empty() {
-            true => drop(state.addresses.remove(&address)),
-            false => state.turns.push_back(address),
-        }
-        turn
     }
 }
 
@@ -88,20 +59,17 @@ pub async fn has_hello(stream: &TcpStream) -> std::io::Result<bool> {
     let mut rest = Duration::from_millis(2);
     loop {
         let len = stream.peek(&mut bytes).await?;
-        let Some(&[kind, _, _, high, low]) = bytes[..len].first_chunk() else {
-            if len == 0 {
-                return Ok(false);
-            }
-            sleep(rest).await;
-            rest = (rest * 2).min(Duration::from_millis(100));
-            continue;
-        };
-        let record = usize::from(u16::from_be_bytes([high, low]));
-        if kind != 22 || record > MAX_HELLO {
+        if len == 0 {
             return Ok(false);
         }
-        if len >= HEAD + record {
-            return Ok(true);
+        if let Some(&[kind, _, _, high, low]) = bytes[..len].first_chunk() {
+            let record = usize::from(u16::from_be_bytes([high, low]));
+            if kind != 22 || record > MAX_HELLO {
+                return Ok(false);
+            }
+            if len >= HEAD + record {
+                return Ok(true);
+            }
         }
         sleep(rest).await;
         rest = (rest * 2).min(Duration::from_millis(100));
@@ -112,6 +80,25 @@ pub async fn has_hello(stream: &TcpStream) -> std::io::Result<bool> {
 mod tests {
     use super::*;
     use std::sync::Arc;
+
+    #[tokio::test]
+    async fn a_handshake_begins_with_a_whole_short_record() {
+        use tokio::io::AsyncWriteExt;
+        let listener = tokio::net::TcpListener::bind("127.0.0.1:0").await.unwrap();
+        let head = |kind, len: usize| [kind, 3, 1, (len >> 8) as u8, len as u8];
+        for (kind, len, is_one) in
+            [(22, 300, true), (22, MAX_HELLO, true), (22, MAX_HELLO + 1, false), (23, 300, false)]
+        {
+            let mut peer = TcpStream::connect(listener.local_addr().unwrap()).await.unwrap();
+            let (stream, _) = listener.accept().await.unwrap();
+            peer.write_all(&head(kind, len)).await.unwrap();
+            // Of a record that may be one all has to come.
+            if is_one {
+                peer.write_all(&vec![1; len]).await.unwrap();
+            }
+            assert_eq!(has_hello(&stream).await.unwrap(), is_one, "{kind} {len}");
+        }
+    }
 
     #[tokio::test(start_paused = true)]
     async fn turns_have_a_pace_and_each_address_its_own() {

@@ -1,6 +1,6 @@
 //! What all connections of a relay share: the peers, the authors, and the protocol.
 
-use crate::author::{Author, clock};
+use crate::author::Author;
 use crate::config::{Config, Limits};
 use crate::identity::{Identity, PeerId, to_hex};
 use crate::journal;
@@ -16,7 +16,7 @@ use std::collections::HashMap;
 use std::io::{self, ErrorKind};
 use std::path::PathBuf;
 use std::sync::{Arc, Mutex, MutexGuard};
-use std::time::{Duration, Instant};
+use std::time::{Duration, Instant, SystemTime, UNIX_EPOCH};
 use tokio::sync::Notify;
 use tokio::time::{sleep_until, timeout};
 use tracing::{debug, info, warn};
@@ -275,15 +275,13 @@ impl Hub {
     }
 
     /// Takes a peer's report of an author.
-    pub fn hear(&self, session: &Session, report: wire::Report) {
+    pub fn hear(&self, session: &Session, author: &PeerId, report: Report) {
         self.act(|gossip, now| {
-            let Some(&author) = gossip.nodes.get(&report.author) else { return };
-            if session.is_over() {
-                return;
+            if let Some(&author) = gossip.nodes.get(author)
+                && !session.is_over()
+            {
+                gossip.machine.report(now, session.node, author, report);
             }
-            let wire::Report { coverage, since, room, is_held, .. } = report;
-            let report = Report { author, coverage, since, room, is_held };
-            gossip.machine.report(now, session.node, report);
         });
     }
 
@@ -297,31 +295,27 @@ impl Hub {
         };
         let node = author.node;
         let wants = || lock(&self.gossip).machine.wants(node, message.stamp);
-        let mut cost = 0;
-        if wants() {
-            let (is_signed, is_checked) = author.author.has_signed(&message);
-            if !is_signed {
-                return Err(invalid("a wrong signature"));
-            }
-            cost = if is_checked { self.limits.signature_cost() } else { 0 };
+        let checks = if wants() { author.author.check(&message).map_err(invalid)? } else { 0 };
+        let cost = checks * self.limits.signature_cost();
+        let mut journal = lock(&author.author.journal);
+        // An own message that comes back is not journaled: the journal has those after which the next one comes.
+        if let Some(journal) = &mut *journal
+            && wants()
+            && node != self.own.node
+        {
+            journal.append(std::slice::from_ref(&message))?;
         }
-        let (taken, rest) = {
-            let mut journal = author.author.journal();
-            // An own message that comes back is not journaled: the journal has those after which the next one comes.
-            if wants() && node != self.own.node {
-                journal.append(std::slice::from_ref(&message))?;
+        let taken = self.act(|gossip, now| {
+            // What came over a connection that is replaced counts against none.
+            if session.is_over() && !gossip.machine.wants(node, message.stamp) {
+                return Ok((Taken::Again, 0));
             }
-            self.act(|gossip, now| {
-                // What came over a connection that is replaced counts against none.
-                if session.is_over() && !gossip.machine.wants(node, message.stamp) {
-                    return Ok((Taken::Again, 0));
-                }
-                gossip.machine.charge(now, node, cost);
-                let taken = gossip.machine.message(now, session.node, item(node, &message));
-                taken.map(|it| (it, gossip.machine.ready(now, node) - now))
-            })
-            .map_err(invalid)?
-        };
+            gossip.machine.charge(now, node, cost);
+            let taken = gossip.machine.message(now, session.node, item(node, &message));
+            taken.map(|it| (it, gossip.machine.ready(now, node) - now))
+        });
+        drop(journal);
+        let (taken, rest) = taken.map_err(invalid)?;
         match taken {
             Taken::New if node != self.own.node => self.deliver(&author, &message),
             Taken::New => {}
@@ -349,10 +343,13 @@ impl Hub {
 
     /// Signs texts as one batch, journals and publishes them. After an error nothing is published.
     pub fn publish(&self, texts: &[Vec<u8>]) -> io::Result<()> {
-        let mut journal = self.own.author.journal();
-        let next = lock(&self.gossip).machine.next_own(clock().as_nanos() as u64);
+        let mut journal = lock(&self.own.author.journal);
+        let clock = SystemTime::now().duration_since(UNIX_EPOCH).unwrap_or_default();
+        let next = lock(&self.gossip).machine.next_own(clock.as_nanos() as u64);
         let messages = Signed::batch(&self.identity, next, texts)?;
-        journal.append(&messages)?;
+        if let Some(journal) = &mut *journal {
+            journal.append(&messages)?;
+        }
         self.metrics.published.inc_by(messages.len() as u64);
         self.act(|gossip, now| {
             for it in &messages {
@@ -377,10 +374,7 @@ impl Gossip {
     fn encoded(&self, frame: Frame) -> wire::Frame {
         match frame {
             Frame::Message(message) => wire::Frame::Message(message.bytes),
-            Frame::Report(Report { author, coverage, since, room, is_held }) => {
-                let author = self.ids[author];
-                wire::Frame::Report(wire::Report { author, coverage, since, room, is_held })
-            }
+            Frame::Report(author, report) => wire::Frame::Report(self.ids[author], report),
         }
     }
 }

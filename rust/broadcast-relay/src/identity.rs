@@ -1,6 +1,7 @@
 //! The key of a relay. A peer is known by the SHA-256 of its Ed25519 public key. A certificate is made from the key at
 //! each start, signed by it, and says nothing else.
 
+use crate::of;
 use openssl::asn1::Asn1Time;
 use openssl::bn::BigNum;
 use openssl::error::ErrorStack;
@@ -9,9 +10,9 @@ use openssl::pkey::{Id, PKey, Private};
 use openssl::sha::sha256;
 use openssl::sign::{Signer, Verifier};
 use openssl::x509::{X509, X509Builder, X509NameBuilder, X509Ref};
-use std::fs::{OpenOptions, read};
+use std::fs::{OpenOptions, metadata, read};
 use std::io::{self, Write};
-use std::os::unix::fs::OpenOptionsExt;
+use std::os::unix::fs::{OpenOptionsExt, PermissionsExt};
 use std::path::Path;
 
 /// The SHA-256 of a peer's public key.
@@ -27,7 +28,8 @@ pub struct Identity {
 pub fn keygen(file: &Path) -> io::Result<Identity> {
     let identity = Identity::generate()?;
     let pem = identity.key.private_key_to_pem_pkcs8()?;
-    let mut file = OpenOptions::new().write(true).create_new(true).mode(0o600).open(file)?;
+    let mut file =
+        OpenOptions::new().write(true).create_new(true).mode(0o600).open(file).map_err(of(file))?;
     file.write_all(&pem)?;
     file.sync_all()?;
     Ok(identity)
@@ -39,7 +41,15 @@ impl Identity {
     }
 
     pub fn load(file: &Path) -> io::Result<Identity> {
-        Identity::of(PKey::private_key_from_pem(&read(file)?)?)
+        let mode = metadata(file).map_err(of(file))?.permissions().mode();
+        if mode & 0o077 != 0 {
+            tracing::warn!(file = %file.display(), "others may read this key");
+        }
+        let pem = read(file).map_err(of(file))?;
+        PKey::private_key_from_pem(&pem)
+            .map_err(Into::into)
+            .and_then(Identity::of)
+            .map_err(of(file))
     }
 
     fn of(key: PKey<Private>) -> io::Result<Identity> {

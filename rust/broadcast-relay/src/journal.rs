@@ -9,6 +9,7 @@
 
 use crate::identity::{PeerId, from_hex, to_hex};
 use crate::message::{MAX_MESSAGE, Signed};
+use crate::of;
 use broadcast_relay::gossip::Coverage;
 use bytes::Bytes;
 use openssl::sha::Sha256;
@@ -25,11 +26,6 @@ const CHECK: usize = 8;
 const HEAD: usize = MAGIC.len() + 8 + 16 * (Coverage::MOST - 1) + CHECK;
 /// A length and a checksum stand before each message.
 const RECORD: usize = 4 + CHECK;
-
-/// Names an error by its file.
-fn of(path: &Path) -> impl FnOnce(io::Error) -> io::Error + use<'_> {
-    move |why| io::Error::new(why.kind(), format!("{}: {why}", path.display()))
-}
 
 /// Makes the folder of a journal, and locks it for as long as the file lives: another relay would write into the same files.
 pub fn lock_folder(folder: &Path) -> io::Result<File> {
@@ -263,6 +259,7 @@ fn parse_record(bytes: &[u8], at: usize) -> Option<(Option<Signed>, usize)> {
 mod tests {
     use super::*;
     use crate::identity::Identity;
+    use std::os::unix::fs::PermissionsExt;
 
     const MOST: u64 = 10_000;
 
@@ -320,6 +317,29 @@ mod tests {
         journal.append(&message(&author, 101)).unwrap();
         let (_, past) = Journal::open(&folder, &author.id, MOST).unwrap();
         assert!(past.covered.runs().eq([(0, 101)]));
+        fs::remove_dir_all(&folder).unwrap();
+    }
+
+    #[test]
+    fn a_rotation_that_fails_is_tried_again() {
+        let (folder, author) = (folder("journal-refused"), Identity::generate().unwrap());
+        let (mut journal, _) = Journal::open(&folder, &author.id, MOST).unwrap();
+        let mut stamp = 0;
+        let mut append = || {
+            stamp += 1;
+            journal.append(&message(&author, stamp))
+        };
+        (0..15).for_each(|_| append().unwrap());
+        // As where no descriptor is left, or the disk is full.
+        let fresh = folder.join(to_hex(&author.id)).with_extension("new");
+        fs::create_dir(&fresh).unwrap();
+        assert!(append().unwrap_err().to_string().contains(&to_hex(&author.id)));
+        fs::remove_dir(&fresh).unwrap();
+        (0..9).for_each(|_| append().unwrap());
+        let (_, past) = Journal::open(&folder, &author.id, MOST).unwrap();
+        assert_eq!(stamps(&past).last(), Some(&25));
+        let is_private = |it: fs::DirEntry| it.metadata().unwrap().permissions().mode() & 0o77 == 0;
+        assert!(fs::read_dir(&folder).unwrap().all(|it| is_private(it.unwrap())));
         fs::remove_dir_all(&folder).unwrap();
     }
 

@@ -161,16 +161,9 @@ async fn dial(network: Arc<Network>, peer: Arc<Peer>, resolver: Arc<Resolver>) {
 }
 
 async fn connect(network: &Network, peer: &Peer, resolver: &Resolver) -> io::Result<Proved> {
-    let mut result = Err(io::Error::other("the name has no address"));
-    let mut start = Instant::now();
-    for address in resolver.resolve().await? {
-        start = Instant::now();
-        result = TcpStream::connect(address).await;
-        if result.is_ok() {
-            break;
-        }
-    }
-    let (stream, round_trip) = (result?, start.elapsed());
+    let (addresses, start) = (resolver.resolve().await?, Instant::now());
+    let stream = TcpStream::connect(&addresses[..]).await?;
+    let round_trip = start.elapsed();
     stream.set_nodelay(true)?;
     let mut stream = network.tls.connect(stream, peer.id).await?;
     let refused = |why: io::Error| match why.kind() {

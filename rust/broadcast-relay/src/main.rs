@@ -17,7 +17,6 @@ mod logging;
 mod message;
 mod metrics;
 mod output;
-mod pace;
 mod peer;
 mod places;
 mod relay;
@@ -25,13 +24,14 @@ mod resolve;
 mod session;
 mod setup;
 mod tls;
+mod turns;
 mod wire;
 
 use clap::{Parser, Subcommand};
 use config::Config;
 use identity::{Identity, keygen, to_hex};
 use std::io;
-use std::path::PathBuf;
+use std::path::{Path, PathBuf};
 use std::process::ExitCode;
 use std::sync::{Mutex, MutexGuard, PoisonError};
 
@@ -101,6 +101,11 @@ fn run(command: Command) -> io::Result<()> {
             println!("{} {} {}", to_hex(&it.author), it.stamp, output::shown(it.text()));
         }),
     }
+}
+
+/// Names an error by its file.
+fn of(path: &Path) -> impl FnOnce(io::Error) -> io::Error + use<'_> {
+    move |why| io::Error::new(why.kind(), format!("{}: {why}", path.display()))
 }
 
 /// Locks a mutex, also if a task that held it has panicked.

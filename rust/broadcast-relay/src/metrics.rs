@@ -1,6 +1,11 @@
-//! What a relay counts beside its engine. README.md says what each counter means.
+//! What a relay counts. README.md says what each counter means.
 
-use prometheus::{IntCounter, IntCounterVec, IntGauge, IntGaugeVec, Opts, Registry};
+use prometheus::{
+    IntCounter, IntCounterVec, IntGauge, IntGaugeVec, Registry,
+    register_int_counter_vec_with_registry as counters,
+    register_int_counter_with_registry as counter, register_int_gauge_vec_with_registry as gauges,
+    register_int_gauge_with_registry as gauge,
+};
 
 pub struct Metrics {
     pub registry: Registry,
@@ -22,37 +27,20 @@ pub struct Metrics {
 impl Metrics {
     pub fn new() -> prometheus::Result<Metrics> {
         let registry = Registry::new_custom(Some("relay".into()), None)?;
-        let counters = |name, help, label| {
-            let it = IntCounterVec::new(Opts::new(name, help), &[label])?;
-            registry.register(Box::new(it.clone()))?;
-            prometheus::Result::Ok(it)
-        };
-        let counter = |name, help| {
-            let it = IntCounter::new(name, help)?;
-            registry.register(Box::new(it.clone()))?;
-            prometheus::Result::Ok(it)
-        };
-        let gauges = |name, help, label| {
-            let it = IntGaugeVec::new(Opts::new(name, help), &[label])?;
-            registry.register(Box::new(it.clone()))?;
-            prometheus::Result::Ok(it)
-        };
-        let handshakes = IntGauge::new("handshakes", "Connections that have proved no key")?;
-        registry.register(Box::new(handshakes.clone()))?;
         Ok(Metrics {
-            connected: gauges("connected", "Whether a peer is connected", "peer")?,
-            held: gauges("held", "Whether an author waits for a peer that is behind", "author")?,
-            handshakes,
-            published: counter("published_total", "Own messages")?,
-            delivered: counters("delivered_total", "New messages, by author", "author")?,
-            again: counters("again_total", "Messages that came again, by peer", "peer")?,
-            unlisted: counters("unlisted_total", "Messages of unlisted authors", "peer")?,
-            invalid: counters("invalid_total", "Connections closed for what came", "peer")?,
-            strangers: counter("strangers_total", "Connections that proved no listed key")?,
-            pushed_out: counter("pushed_out_total", "Handshakes that lost their place")?,
-            turned_away: counter("turned_away_total", "Connections that got no place")?,
-            output_dropped: counter("output_dropped_total", "Lines that nobody read in time")?,
-            log_dropped: counter("log_dropped_total", "Lines of the log that nobody read")?,
+            connected: gauges!("connected", "Whether a peer is connected", &["peer"], registry)?,
+            held: gauges!("held", "Whether an author waits for a peer", &["author"], registry)?,
+            handshakes: gauge!("handshakes", "Connections that have proved no key", registry)?,
+            published: counter!("published_total", "Own messages", registry)?,
+            delivered: counters!("delivered_total", "New messages", &["author"], registry)?,
+            again: counters!("again_total", "Messages that came again", &["peer"], registry)?,
+            unlisted: counters!("unlisted_total", "Of unlisted authors", &["peer"], registry)?,
+            invalid: counters!("invalid_total", "Closed for what came", &["peer"], registry)?,
+            strangers: counter!("strangers_total", "Who proved no listed key", registry)?,
+            pushed_out: counter!("pushed_out_total", "Handshakes that lost a place", registry)?,
+            turned_away: counter!("turned_away_total", "Who got no place", registry)?,
+            output_dropped: counter!("output_dropped_total", "Lines nobody read", registry)?,
+            log_dropped: counter!("log_dropped_total", "Log lines nobody read", registry)?,
             registry,
         })
     }

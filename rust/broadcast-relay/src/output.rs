@@ -3,7 +3,8 @@
 use crate::identity::PeerId;
 use crate::lock;
 use crate::message::Signed;
-use std::collections::{HashMap, VecDeque};
+use crate::turns::Turns;
+use std::collections::HashMap;
 use std::fs::File;
 use std::io::{self, ErrorKind, Write};
 use std::os::fd::AsFd;
@@ -17,34 +18,13 @@ pub const MAX_WAITING: usize = 2 << 20;
 /// How long an output that failed rests.
 const REST: Duration = Duration::from_millis(100);
 
-/// The lines of each author, which are printed in turn: so a flood of one holds up no other.
+/// The lines of each author, which are printed in turn, and how many bytes they are.
 #[derive(Default)]
 struct Lines {
-    authors: HashMap<PeerId, Waiting>,
-    turns: VecDeque<PeerId>,
+    waiting: Turns<PeerId, Vec<u8>>,
+    bytes: HashMap<PeerId, usize>,
     /// Whoever read them is gone.
     is_closed: bool,
-}
-
-#[derive(Default)]
-struct Waiting {
-    lines: VecDeque<Vec<u8>>,
-    bytes: usize,
-}
-
-impl Lines {
-    /// Takes the next line of the next author.
-    fn pop(&mut self) -> Option<Vec<u8>> {
-        let author = self.turns.pop_front()?;
-        let waiting = self.authors.get_mut(&author)?;
-        let line = waiting.lines.pop_front()?;
-        waiting.bytes -= line.len();
-        match waiting.lines.is_empty() {
-            true => drop(self.authors.remove(&author)),
-            false => self.turns.push_back(author),
-        }
-        Some(line)
-    }
 }
 
 pub struct Output(Arc<(Mutex<Lines>, Condvar)>);
@@ -70,34 +50,31 @@ impl Output {
         if lines.is_closed {
             return false;
         }
-        let waiting = lines.authors.entry(message.author).or_default();
-        if waiting.bytes + line.len() > MAX_WAITING {
+        let bytes = lines.bytes.entry(message.author).or_default();
+        if *bytes + line.len() > MAX_WAITING {
             return false;
         }
-        waiting.bytes += line.len();
-        waiting.lines.push_back(line);
-        if waiting.lines.len() == 1 {
-            lines.turns.push_back(message.author);
-        }
+        *bytes += line.len();
+        lines.waiting.push(message.author, line);
         self.0.1.notify_one();
         true
     }
 
     pub fn is_empty(&self) -> bool {
         let lines = lock(&self.0.0);
-        lines.is_closed || lines.turns.is_empty()
+        lines.is_closed || lines.waiting.is_empty()
     }
 }
 
 /// Waits for lines, and takes up to 16 KiB of them, and at least one.
 fn next((lines, filled): &(Mutex<Lines>, Condvar)) -> Vec<u8> {
-    let waits = |it: &mut Lines| it.turns.is_empty();
-    let waited = filled.wait_while(lock(lines), waits);
+    let waited = filled.wait_while(lock(lines), |it| it.waiting.is_empty());
     let mut lines = waited.unwrap_or_else(PoisonError::into_inner);
     let mut batch = Vec::new();
     while batch.len() < 1 << 14
-        && let Some(line) = lines.pop()
+        && let Some((author, line)) = lines.waiting.pop()
     {
+        *lines.bytes.entry(author).or_default() -= line.len();
         batch.extend(line);
     }
     batch
@@ -137,11 +114,31 @@ pub fn shown(text: &[u8]) -> String {
 
 #[cfg(test)]
 mod tests {
-    use super::shown;
+    use super::*;
+    use std::io::Read;
+    use std::os::fd::OwnedFd;
+    use std::os::unix::net::UnixStream;
+
+    /// An output that refuses more until it is read, as a full disk does.
+    #[test]
+    fn what_fails_is_tried_again_until_nobody_reads() {
+        let (out, mut reader) = UnixStream::pair().unwrap();
+        out.set_nonblocking(true).unwrap();
+        let mut out = File::from(OwnedFd::from(out));
+        let lines = vec![b'x'; 4 << 20];
+        thread::scope(|threads| {
+            let printed = threads.spawn(|| print(&mut out, &lines));
+            let mut read = vec![0; lines.len()];
+            reader.read_exact(&mut read).unwrap();
+            assert!(printed.join().unwrap() && read == lines);
+        });
+        drop(reader);
+        assert!(!print(&mut out, &lines));
+    }
 
     #[test]
     fn what_a_terminal_obeys_is_not_shown() {
-        assert_eq!(shown("ä \u{1b}[2J\u{202e}x\u{2066}\n".as_bytes()), "ä �[2J�x��");
+        assert_eq!(shown("ä \u{1b}[2J\u{202e}x\u{2066}\u{61c}\n".as_bytes()), "ä �[2J�x���");
         assert_eq!(shown(&[0xff, b'a']), "�a");
     }
 }

@@ -3,17 +3,14 @@
 use crate::author::Author;
 use crate::identity::PeerId;
 use crate::lock;
-use broadcast_relay::gossip::{Bucket, Time};
+use broadcast_relay::gossip::{Bar, Bucket, SECOND, Time};
 use std::sync::atomic::{AtomicBool, Ordering};
 use std::sync::{Arc, Mutex};
 use std::time::{Duration, Instant};
 use tokio::sync::Notify;
 
-/// How long a peer that broke the rules is refused at first, and at most.
-const BAN: Duration = Duration::from_secs(1);
-const MAX_BAN: Duration = Duration::from_secs(60);
 /// After a ban ended so long ago, the next is again like the first.
-const FORGIVEN: Duration = Duration::from_secs(600);
+const FORGIVEN: Time = 600 * SECOND;
 /// A connection of which nothing was heard for so long may always be replaced.
 const QUIET: Duration = Duration::from_secs(3);
 /// How often it is logged in a second that a peer comes or goes, and how often at once.
@@ -31,8 +28,7 @@ pub struct Peer {
 
 struct State {
     session: Option<Arc<Session>>,
-    strikes: u32,
-    banned: Option<Instant>,
+    ban: Bar,
     start: Instant,
     logged: Bucket,
 }
@@ -63,8 +59,7 @@ impl Peer {
     pub fn new(author: Arc<Author>, name: String, address: Option<String>, node: usize) -> Peer {
         let state = State {
             session: None,
-            strikes: 0,
-            banned: None,
+            ban: Bar::default(),
             start: Instant::now(),
             logged: Bucket::new(LOGGED.0, LOGGED.1),
         };
@@ -136,24 +131,15 @@ impl Peer {
 
     /// Refuses the peer for a while, the longer the more often. Returns for how long.
     pub fn ban(&self) -> Duration {
-        self.ban_at(Instant::now())
-    }
-
-    fn ban_at(&self, now: Instant) -> Duration {
         let mut state = lock(&self.state);
-        if state.banned.is_some_and(|it| now.saturating_duration_since(it) > FORGIVEN) {
-            state.strikes = 0;
-        }
-        let ban = MAX_BAN.min(BAN * 2_u32.pow(state.strikes.min(6)));
-        state.strikes = state.strikes.saturating_add(1);
-        state.banned = Some(now + ban);
-        ban
+        let now = state.now();
+        Duration::from_micros(state.ban.fail(now, FORGIVEN))
     }
 
     /// Whether it is to be logged that it comes or goes: not again and again.
     pub fn is_logged(&self) -> bool {
         let mut state = lock(&self.state);
-        let now = state.start.elapsed().as_micros() as Time;
+        let now = state.now();
         let is_due = state.logged.level(now) > 0;
         if is_due {
             state.logged.take(now, 1);
@@ -163,8 +149,12 @@ impl Peer {
 }
 
 impl State {
+    fn now(&self) -> Time {
+        self.start.elapsed().as_micros() as Time
+    }
+
     fn is_banned(&self) -> bool {
-        self.banned.is_some_and(|it| it > Instant::now())
+        self.ban.until(self.now()).is_some()
     }
 }
 
@@ -234,17 +224,15 @@ mod tests {
     #[test]
     fn a_banned_peer_is_refused() {
         let peer = peer();
-        assert_eq!((peer.ban(), peer.ban()), (BAN, 2 * BAN));
+        let seconds = Duration::from_secs;
+        assert_eq!((peer.ban(), peer.ban(), peer.ban()), (seconds(1), seconds(2), seconds(4)));
         assert_eq!(attach(&peer, [1; 32], true).err(), Some(Refused::Banned));
-        (0..100).for_each(|_| assert!(peer.ban() <= MAX_BAN));
     }
 
     #[test]
-    fn a_ban_of_long_ago_is_forgiven() {
-        let (peer, now) = (peer(), Instant::now());
-        assert_eq!((peer.ban_at(now), peer.ban_at(now)), (BAN, 2 * BAN));
-        // The second ended after two seconds.
-        assert_eq!(peer.ban_at(now + 2 * BAN + FORGIVEN), 4 * BAN);
-        assert_eq!(peer.ban_at(now + 7 * BAN + 2 * FORGIVEN), BAN);
+    fn who_comes_again_and_again_is_logged_seldom() {
+        let peer = peer();
+        let logged = (0..300).filter(|_| peer.is_logged()).count();
+        assert!((10..30).contains(&logged), "{logged}");
     }
 }

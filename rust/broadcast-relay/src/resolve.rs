@@ -7,7 +7,8 @@ use std::sync::mpsc::{Sender, channel};
 use std::thread;
 use tokio::sync::oneshot;
 
-type Reply = oneshot::Sender<io::Result<Vec<SocketAddr>>>;
+type Found = io::Result<Vec<SocketAddr>>;
+type Reply = oneshot::Sender<Found>;
 
 pub enum Resolver {
     Known(SocketAddr),
@@ -20,30 +21,50 @@ impl Resolver {
         if let Ok(address) = name.parse() {
             return Ok(Resolver::Known(address));
         }
-        let (sender, replies) = channel::<Reply>();
         let name = name.to_owned();
+        Resolver::by(move || name.to_socket_addrs().map(Iterator::collect))
+    }
+
+    fn by(look_up: impl Fn() -> Found + Send + 'static) -> io::Result<Resolver> {
+        let (sender, replies) = channel::<Reply>();
         thread::Builder::new().name("resolver".into()).spawn(move || {
             for reply in replies {
                 // One that nobody waits for any more is not looked up.
                 if !reply.is_closed() {
-                    let _ = reply.send(name.to_socket_addrs().map(Iterator::collect));
+                    let _ = reply.send(look_up());
                 }
             }
         })?;
         Ok(Resolver::Named(sender))
     }
 
-    pub async fn resolve(&self) -> io::Result<Vec<SocketAddr>> {
-        let Resolver::Named(sender) = self else {
-            return Ok(self.known().into_iter().collect());
+    pub async fn resolve(&self) -> Found {
+        let sender = match self {
+            Resolver::Known(address) => return Ok(vec![*address]),
+            Resolver::Named(sender) => sender,
         };
         let gone = || io::Error::other("the resolver is gone");
         let (reply, addresses) = oneshot::channel();
         sender.send(reply).map_err(|_| gone())?;
         addresses.await.map_err(|_| gone())?
     }
+}
 
-    fn known(&self) -> Option<SocketAddr> {
-        if let Resolver::Known(address) = self { Some(*address) } else { None }
+#[cfg(test)]
+mod tests {
+    use super::*;
+
+    #[tokio::test]
+    async fn a_name_server_that_does_not_answer_keeps_no_other_peer_away() {
+        let (hangs, never) = channel::<Found>();
+        let hang = move || never.recv().unwrap_or_else(|why| Err(io::Error::other(why)));
+        let silent = Resolver::by(hang).unwrap();
+        let silent = tokio::spawn(async move { silent.resolve().await });
+        let other = Resolver::start("localhost:7").unwrap();
+        assert!(other.resolve().await.unwrap().iter().all(|it| it.port() == 7));
+        let known = Resolver::start("10.0.0.1:7").unwrap();
+        assert_eq!(known.resolve().await.unwrap(), ["10.0.0.1:7".parse().unwrap()]);
+        assert!(!silent.is_finished());
+        drop(hangs);
     }
 }

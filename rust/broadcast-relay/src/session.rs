@@ -2,10 +2,10 @@
 
 use crate::hub::Hub;
 use crate::message::Signed;
-use crate::pace::Pace;
 use crate::peer::Session;
 use crate::tls::Stream;
 use crate::wire::{Frame, VERSION, read_frame};
+use broadcast_relay::gossip::{Bucket, Time};
 use std::future::pending;
 use std::io::{self, ErrorKind};
 use std::sync::Arc;
@@ -17,8 +17,8 @@ use tokio::time::{Instant, sleep, timeout, timeout_at};
 const BEAT: Duration = Duration::from_secs(1);
 const SILENCE: Duration = Duration::from_secs(10);
 /// How many frames are read of a peer in a second. A report counts as many, since it makes the protocol decide anew.
-const FRAMES_PER_SECOND: f64 = 100_000.0;
-const REPORT: f64 = 5.0;
+const FRAMES_PER_SECOND: u64 = 100_000;
+const REPORT: u64 = 5;
 /// How much is written at once.
 const BATCH: usize = 64 << 10;
 
@@ -79,15 +79,18 @@ async fn write(hub: &Hub, session: &Session, mut to: impl AsyncWrite + Unpin) ->
 
 async fn read(hub: &Hub, session: &Session, from: impl AsyncRead + Unpin) -> io::Result<()> {
     let mut from = BufReader::with_capacity(1 << 16, from);
-    let mut pace = Pace::new(FRAMES_PER_SECOND, FRAMES_PER_SECOND / 8.0);
+    let start = Instant::now();
+    let mut frames = Bucket::new(FRAMES_PER_SECOND, FRAMES_PER_SECOND / 8);
     loop {
         let frame = timeout(SILENCE, read_frame(&mut from)).await??;
         session.hear();
-        pace.take(if let Frame::Report(_) = frame { REPORT } else { 1.0 }).await;
+        let now = start.elapsed().as_micros() as Time;
+        frames.take(now, if let Frame::Report(..) = frame { REPORT } else { 1 });
+        let mut rest = Duration::from_micros(frames.when(now, 1) - now);
         match frame {
             Frame::Beat => {}
-            Frame::Report(report) => {
-                hub.hear(session, report);
+            Frame::Report(author, report) => {
+                hub.hear(session, &author, report);
                 // What is owed may be no more.
                 if session.is_finishing() {
                     session.due.notify_one();
@@ -95,14 +98,14 @@ async fn read(hub: &Hub, session: &Session, from: impl AsyncRead + Unpin) -> io:
             }
             Frame::Message(bytes) => {
                 let invalid = |why| io::Error::new(ErrorKind::InvalidData, why);
-                let rest = hub.take(session, Signed::decode(bytes).map_err(invalid)?)?;
-                if !rest.is_zero() {
-                    sleep(rest.min(SILENCE / 2)).await;
-                }
+                rest = rest.max(hub.take(session, Signed::decode(bytes).map_err(invalid)?)?);
             }
             Frame::Hello(_) => {
                 return Err(io::Error::new(ErrorKind::InvalidData, "a second first frame"));
             }
+        }
+        if !rest.is_zero() {
+            sleep(rest.min(SILENCE / 2)).await;
         }
     }
 }

@@ -2,7 +2,7 @@
 
 use crate::identity::PeerId;
 use crate::message::MAX_MESSAGE;
-use broadcast_relay::gossip::Coverage;
+use broadcast_relay::gossip::{Coverage, Report};
 use bytes::Bytes;
 use std::io;
 use tokio::io::{AsyncRead, AsyncReadExt};
@@ -12,22 +12,13 @@ pub const VERSION: u16 = 3;
 /// The most bytes of a kind and a body.
 const MAX_FRAME: usize = MAX_MESSAGE + 1;
 
-/// What a relay reports of an author's log.
-#[derive(Clone, Debug, PartialEq, Eq)]
-pub struct Report {
-    pub author: PeerId,
-    pub coverage: Coverage,
-    pub since: u64,
-    pub room: u64,
-    pub is_held: bool,
-}
-
 #[derive(Clone, Debug, PartialEq, Eq)]
 pub enum Frame {
     /// Nothing: the peer is alive.
     Beat,
     Message(Bytes),
-    Report(Report),
+    /// Of an author.
+    Report(PeerId, Report),
     /// The version that the peer speaks. It is the first frame, and the same in all versions.
     Hello(u16),
 }
@@ -43,9 +34,13 @@ impl Frame {
                 out.push(1);
                 out.extend_from_slice(bytes);
             }
-            Frame::Report(report) => {
+            Frame::Report(author, report) => {
                 out.push(2);
-                report.encode(out);
+                out.extend_from_slice(author);
+                out.extend(report.since.to_be_bytes());
+                out.extend(report.room.to_be_bytes());
+                out.push(report.is_held.into());
+                report.coverage.encode(out);
             }
             Frame::Hello(version) => {
                 out.push(3);
@@ -60,7 +55,7 @@ impl Frame {
     pub fn len(&self) -> usize {
         match self {
             Frame::Message(bytes) => bytes.len(),
-            Frame::Report(report) => 64 + 16 * report.coverage.gaps(),
+            Frame::Report(_, report) => 64 + 16 * report.coverage.gaps(),
             Frame::Beat | Frame::Hello(_) => 8,
         }
     }
@@ -71,29 +66,20 @@ impl Frame {
         match kind {
             0 if body.is_empty() => Some(Frame::Beat),
             1 => Some(Frame::Message(body)),
-            2 => Report::decode(&body).map(Frame::Report),
+            2 => report(&body),
             3 => body.first_chunk().map(|it| Frame::Hello(u16::from_be_bytes(*it))),
             _ => None,
         }
     }
 }
 
-impl Report {
-    fn encode(&self, out: &mut Vec<u8>) {
-        out.extend_from_slice(&self.author);
-        out.extend(self.since.to_be_bytes());
-        out.extend(self.room.to_be_bytes());
-        out.push(self.is_held.into());
-        self.coverage.encode(out);
-    }
-
-    fn decode(mut body: &[u8]) -> Option<Report> {
-        let author = take(&mut body)?;
-        let (since, room) = (number(&mut body)?, number(&mut body)?);
-        let [held] = take(&mut body)?;
-        let coverage = Coverage::decode(body)?;
-        (held < 2).then_some(Report { author, coverage, since, room, is_held: held == 1 })
-    }
+fn report(mut body: &[u8]) -> Option<Frame> {
+    let author = take(&mut body)?;
+    let (since, room) = (number(&mut body)?, number(&mut body)?);
+    let [held] = take(&mut body)?;
+    let coverage = Coverage::decode(body)?;
+    let report = Report { coverage, since, room, is_held: held == 1 };
+    (held < 2).then_some(Frame::Report(author, report))
 }
 
 fn take<const LEN: usize>(from: &mut &[u8]) -> Option<[u8; LEN]> {
@@ -135,7 +121,7 @@ mod tests {
         let mut coverage = Coverage::up_to(5);
         (5..=67).for_each(|it| coverage.cover(2 * it, 2 * it + 1));
         let report = |coverage, is_held| {
-            Frame::Report(Report { author: [1; 32], coverage, since: 7, room: 9, is_held })
+            Frame::Report([1; 32], Report { coverage, since: 7, room: 9, is_held })
         };
         for frame in [
             Frame::Beat,
@@ -153,8 +139,8 @@ mod tests {
 
     #[tokio::test]
     async fn what_is_no_frame_is_invalid() {
-        let (author, coverage) = ([1; 32], Coverage::up_to(5));
-        let report = Frame::Report(Report { author, coverage, since: 0, room: 0, is_held: false });
+        let report = Report { coverage: Coverage::up_to(5), ..Report::default() };
+        let report = Frame::Report([1; 32], report);
         let mut many = bytes_of(&report);
         (5..=68_u64)
             .for_each(|it| many.extend([2 * it, 2 * it + 1].map(u64::to_be_bytes).concat()));

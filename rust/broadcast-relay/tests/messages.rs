@@ -241,3 +241,62 @@ fn a_flood_of_one_author_loses_nothing_of_another() {
     });
     assert!(relays.iter_mut().all(Relay::terminate));
 }
+
+/// Stamps order the messages of one author. No relay compares them with its clock.
+#[test]
+fn a_clock_that_was_wrong_keeps_no_message_away() {
+    const HOUR: u64 = 3_600_000_000_000;
+    let (relay, [ahead, behind]) = relay_and("clocks", "", ["ahead", "behind"]);
+    // The clock was an hour ahead for one message. The next one has the stamp behind it.
+    let stamp = now() + HOUR;
+    for (name, author, stamp, text) in [
+        ("ahead", &ahead, stamp, "said"),
+        ("ahead", &ahead, stamp + 1, "said later"),
+        ("behind", &behind, now() - HOUR, "said"),
+    ] {
+        let said = frame(1, &author.message(stamp, text.as_bytes()));
+        send_until(author, &relay, &said, text, || relay.has_printed(name, text));
+    }
+}
+
+#[test]
+fn authors_that_nobody_lists_take_no_memory() {
+    const REPORTS: u64 = 40_000;
+    let (relay, [hostile]) = relay_and("unlisted-authors", "", ["hostile"]);
+    let mut stream = hostile.connect(relay.address).unwrap();
+    stream.get_ref().set_write_timeout(Some(PATIENCE)).unwrap();
+    wait_for("connected", || relay.is_connected("hostile"));
+    let before = relay.memory("VmRSS");
+    let runs: Vec<(u64, u64)> = (1..=63).map(|it| (2 * it, 2 * it + 1)).collect();
+    for it in 0..REPORTS {
+        let mut author = [7; 32];
+        author[..8].copy_from_slice(&it.to_be_bytes());
+        stream.write_all(&report(&author, &runs, 0, u64::MAX)).unwrap();
+    }
+    stream.write_all(&frame(1, &hostile.message(now(), b"said"))).unwrap();
+    wait_for("all is read", || relay.has_printed("hostile", "said"));
+    // The reports alone have 40 MiB.
+    let more = relay.memory("VmHWM").saturating_sub(before);
+    assert!(more < 16 << 20, "{more}");
+}
+
+#[test]
+fn own_messages_that_come_back_are_not_printed() {
+    let folder = folder("own-again");
+    let key = keygen(&folder, "peer");
+    let mut relays = Relay::network(&Lab::loopback(), &folder, 1, &[("peer", &key)]);
+    let (relay, peer) = (&mut relays[0], Hostile::new(&key));
+    relay.forget_journal();
+    relay.start();
+    relay.write("own");
+    let mut follower = Follower::new(&peer, relay.address, relay.key.id());
+    wait_for("the own line", || follower.turn().is_ok_and(|it| it));
+    let own = frame(1, &follower.messages[0]);
+    relay.kill();
+    relay.start();
+    // It knows nothing of what it said before.
+    let said = frame(1, &peer.message(now(), b"said"));
+    let both = [own, said].concat();
+    send_until(&peer, relay, &both, "the message", || relay.has_printed("peer", "said"));
+    assert_eq!(relay.counted().into_keys().collect::<Vec<_>>(), [("peer".into(), "said".into())]);
+}

@@ -4,12 +4,16 @@ mod support;
 
 use std::fs;
 use std::io;
+use std::io::Write;
 use std::net::{TcpListener, TcpStream};
+use std::os::fd::OwnedFd;
+use std::os::unix::fs::PermissionsExt;
+use std::os::unix::net::UnixStream;
 use std::process::{Command, Stdio};
 use std::thread::{sleep, spawn};
 use std::time::Duration;
 use support::follower::Follower;
-use support::hostile::Hostile;
+use support::hostile::{Hostile, frame, now};
 use support::lab::Lab;
 use support::{RELAY, Relay, folder, keygen, wait_for};
 
@@ -95,6 +99,41 @@ fn no_input_and_no_output_end_nothing() {
     assert!(relays[0].http("/healthz").ends_with("ok\n"));
     assert!(relays[0].http("/nothing").starts_with("HTTP/1.1 404"));
     assert!(relays.iter_mut().all(Relay::terminate));
+}
+
+#[test]
+fn an_input_that_does_not_block_is_read_on() {
+    let mut relays = pair("does-not-block");
+    let (mut input, far) = UnixStream::pair().unwrap();
+    far.set_nonblocking(true).unwrap();
+    relays[0].start_with(Stdio::from(OwnedFd::from(far)), Stdio::null());
+    relays[1].start();
+    wait_for("connected", || relays[0].is_connected("r1"));
+    for text in ["said", "said too"] {
+        writeln!(input, "{text}").unwrap();
+        wait_for("the line", || relays[1].has_printed("r0", text));
+    }
+}
+
+#[test]
+fn a_second_start_changes_nothing() {
+    let mut relays = pair("second-start");
+    relays.iter_mut().for_each(Relay::start);
+    wait_for("connected", || relays[0].is_connected("r1"));
+    let config = fs::read_to_string(relays[0].config()).unwrap();
+    // With other ports too: the journal is the first one's.
+    let free = |it: &str, address| it.replace(&format!("\"{address}\""), "\"127.0.0.1:0\"");
+    let other = free(&free(&config, relays[0].address), relays[0].metrics);
+    for (text, why) in [(config, relays[0].address.to_string()), (other, "another relay".into())] {
+        let file = relays[0].folder.join("second.toml");
+        fs::write(&file, text).unwrap();
+        let out = Command::new(RELAY).arg("run").arg(file).output().unwrap();
+        let said = String::from_utf8(out.stderr).unwrap();
+        assert!(out.status.code() == Some(1) && said.contains(&why), "{said}");
+        relays[0].write(&why);
+        wait_for("the first goes on", || relays[1].has_printed("r0", &why));
+    }
+    assert_eq!(relays[0].journal().len(), 2);
 }
 
 /// The middle of a row of three.
@@ -223,6 +262,9 @@ fn a_reload_that_fails_changes_nothing() {
     fs::write(relays[0].config(), moved + &new).unwrap();
     relays[0].signal("-HUP");
     wait_for("not reloaded", || relays[0].log().contains("not reloaded"));
+    let log = relays[0].log();
+    let why = log.lines().find(|it| it.contains("not reloaded")).unwrap();
+    assert!(why.contains(&id), "it names no file: {why}");
     relays[0].write("after it");
     wait_for("the line", || relays[1].has_printed("r0", "after it"));
 }
@@ -263,6 +305,44 @@ fn a_hangup_changes_the_peers() {
     relays[0].signal("-HUP");
     wait_for("back", || relays[1].has_printed("r0", "meanwhile"));
     assert!(relays.iter_mut().all(Relay::terminate));
+}
+
+#[test]
+fn who_is_listed_again_is_not_printed_again() {
+    let folder = folder("listed-again");
+    let key = keygen(&folder, "third");
+    let mut relays = Relay::network(&Lab::loopback(), &folder, 1, &[("third", &key)]);
+    let (relay, third, stamp) = (&mut relays[0], Hostile::new(&key), now());
+    relay.forget_journal();
+    relay.start();
+    let said = |it: u64| frame(1, &third.message(stamp + it, format!("{it}").as_bytes()));
+    let all: Vec<u8> = (0..20).flat_map(said).collect();
+    third.send(relay.address, &all, Duration::from_millis(300));
+    wait_for("all", || relay.printed_count() == 20);
+    let config = fs::read_to_string(relay.config()).unwrap();
+    let without = config.split("[[peer]]").next().unwrap();
+    let renamed = config.replace("\"third\"", "\"again\"");
+    for (config, done) in [(without, 1), (&renamed, 2)] {
+        fs::write(relay.config(), config).unwrap();
+        relay.signal("-HUP");
+        wait_for("reloaded", || relay.log().matches("reloaded changed").count() == done);
+    }
+    wait_for("it is heard again", || {
+        third.send(relay.address, &[all.clone(), said(20)].concat(), Duration::from_millis(300));
+        relay.has_printed("again", "20")
+    });
+    assert_eq!(relay.printed_count(), 21);
+}
+
+#[test]
+fn a_key_that_others_may_read_is_named() {
+    let mut relays = pair("open-key");
+    let file = relays[0].key.file.clone();
+    fs::set_permissions(&file, fs::Permissions::from_mode(0o644)).unwrap();
+    relays.iter_mut().for_each(Relay::start);
+    let warns = |it: &Relay| it.log().contains("others may read");
+    wait_for("a warning", || warns(&relays[0]));
+    assert!(!warns(&relays[1]) && relays[0].log().contains(&*file.to_string_lossy()));
 }
 
 #[test]

@@ -77,7 +77,7 @@ fn a_connected_peer_comes_back_past_strangers() {
 #[test]
 fn refused_descriptors_and_threads_do_not_make_a_relay_deaf() {
     let lab = Lab::loopback();
-    let mut relays = pair(&lab, "refused", "");
+    let mut relays = pair(&lab, "refused", "[limits]\nbytes_per_peer = 1048576");
     // No more than 128 descriptors, where it wants a thousand; and from its start on no thread more.
     relays[0].prefix = ["prlimit", "--nofile=128:128"].map(str::to_owned).to_vec();
     relays[0].start();
@@ -92,6 +92,9 @@ fn refused_descriptors_and_threads_do_not_make_a_relay_deaf() {
     let strangers = Strangers::start(strangers);
     sleep(SETTLED);
     must_get_in("200 strangers with 128 descriptors", &mut relays);
+    // 4 MB, so the journal begins new files meanwhile.
+    (0..80).for_each(|it| relays[1].write(&format!("{it} {}", "x".repeat(50_000))));
+    wait_for("all lines", || relays[0].metric("relay_delivered_total{author=\"r1\"}") == 81.0);
     drop(strangers);
     assert!(relays[0].is_running() && relays[0].terminate());
 }

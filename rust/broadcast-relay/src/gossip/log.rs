@@ -58,18 +58,18 @@ impl Log {
 
     /// Adds the next peer.
     pub fn add_view(&mut self, bounds: &Bounds) {
-        self.views.push(View::new(Session::new(self.author, 0), bounds));
+        self.views.push(View::new(Session::new(0), bounds));
     }
 
     pub fn connect(&mut self, peer: usize, links: &mut Links) {
         let view = &mut self.views[peer];
-        view.session = Session::new(self.author, self.covered.top());
+        view.session = Session::new(self.covered.top());
         view.record.start_again();
         self.queue_report(peer, links);
     }
 
     pub fn disconnect(&mut self, peer: usize) {
-        self.views[peer].session = Session::new(self.author, 0);
+        self.views[peer].session = Session::new(0);
         if self.feeder == Some(peer) {
             self.feeder = None;
         }
@@ -127,11 +127,8 @@ impl Log {
             }
             let view = &mut self.views[peer];
             let has = view.session.covers(stamp);
-            if is_fed && from != Some(peer) {
-                view.record.compare(has);
-                if view.record.is_ahead(now) {
-                    ahead = Some(peer);
-                }
+            if is_fed && from != Some(peer) && view.record.compare(now, has) {
+                ahead = Some(peer);
             }
             self.offer(now, peer, (stamp, size, has), bounds, links);
         }
@@ -250,7 +247,7 @@ impl Log {
             (Some(stamp), _) if is_judged => Some((now, stamp)),
             _ => None,
         };
-        let is_free = |it: &View| it.record.barred(now).is_none();
+        let is_free = |it: &View| it.record.bar.until(now).is_none();
         if let Some((since, _)) = self.short {
             let slack = 2 * links.round_trip(feeder).min(SECOND / 4);
             let (idle, slow) = (bounds.idle + slack, bounds.slow + slack);
@@ -262,7 +259,7 @@ impl Log {
             let is_blamed = self.shown(feeder).is_some();
             let best = self.best(now, Some(feeder), links);
             if is_blamed {
-                self.views[feeder].record.fail(now);
+                self.views[feeder].record.bar.fail(now, 0);
             }
             self.feed_from(now, best, bounds, links);
         } else if missing.is_none()
@@ -280,7 +277,7 @@ impl Log {
         let mut missing = None;
         for peer in links.others(Some(feeder)) {
             let Some(stamp) = self.shown(peer) else { continue };
-            match self.views[peer].record.barred(now) {
+            match self.views[peer].record.bar.until(now) {
                 Some(end) => self.wake = self.wake.min(end),
                 None => missing = Some(missing.map_or(stamp, |it: u64| it.min(stamp))),
             }
@@ -360,8 +357,8 @@ impl Log {
     }
 
     fn current(&self, room: u64) -> Report {
-        let (author, coverage) = (self.author, self.covered.clone());
-        Report { author, coverage, since: self.list.since(), room, is_held: self.is_held }
+        let (coverage, since) = (self.covered.clone(), self.list.since());
+        Report { coverage, since, room, is_held: self.is_held }
     }
 
     /// The report for a peer, which is sent now.

@@ -155,9 +155,8 @@ impl Machine {
         Ok(Taken::New)
     }
 
-    /// Takes a peer's report.
-    pub fn report(&mut self, now: Time, peer: usize, report: Report) {
-        let author = report.author;
+    /// Takes a peer's report of an author.
+    pub fn report(&mut self, now: Time, peer: usize, author: usize, report: Report) {
         if self.are_listed[author] {
             self.logs[author].hear(now, peer, report, &self.bounds);
             self.logs[author].queue_turn(peer, &mut self.links);
@@ -200,7 +199,8 @@ impl Machine {
     /// The next frame for a peer, to be called whenever its connection can carry one.
     pub fn frame(&mut self, now: Time, peer: usize) -> Option<Frame> {
         if let Some(author) = self.links.pop_report(peer) {
-            return Some(Frame::Report(self.logs[author].report_to(now, peer, &self.bounds)));
+            let report = self.logs[author].report_to(now, peer, &self.bounds);
+            return Some(Frame::Report(author, report));
         }
         while let Some(author) = self.links.pop_turn(peer) {
             let log = &mut self.logs[author];

@@ -14,6 +14,7 @@
 //!
 //! Nothing here has a clock: times are arguments. Nothing is shared between authors but a peer's turns.
 
+mod bar;
 mod bucket;
 mod coverage;
 mod feeder;
@@ -25,6 +26,7 @@ mod patience;
 mod session;
 mod view;
 
+pub use bar::Bar;
 pub use bucket::Bucket;
 pub use coverage::Coverage;
 pub use list::{List, OVERHEAD};
@@ -116,9 +118,8 @@ impl Message {
 }
 
 /// The newest state of an author's log at a relay.
-#[derive(Clone, Debug, PartialEq, Eq)]
+#[derive(Clone, Debug, Default, PartialEq, Eq)]
 pub struct Report {
-    pub author: usize,
     pub coverage: Coverage,
     /// Nothing at or below it can be had from that relay.
     pub since: u64,
@@ -130,7 +131,8 @@ pub struct Report {
 
 #[derive(Clone, Debug, PartialEq, Eq)]
 pub enum Frame {
-    Report(Report),
+    /// Of an author.
+    Report(usize, Report),
     Message(Message),
 }
 

@@ -29,12 +29,10 @@ pub struct Session {
 }
 
 impl Session {
-    pub fn new(author: usize, began_at: u64) -> Session {
-        let ours =
-            Report { author, coverage: Coverage::default(), since: 0, room: 0, is_held: false };
+    pub fn new(began_at: u64) -> Session {
         Session {
             theirs: None,
-            ours,
+            ours: Report::default(),
             began_at,
             flying: BTreeMap::new(),
             in_flight: 0,

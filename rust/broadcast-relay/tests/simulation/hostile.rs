@@ -10,8 +10,8 @@ impl World {
         let kind = self.nodes[from].kind;
         match frame {
             _ if kind == Kind::Honest => Some(frame),
-            Frame::Report(report) if report.author != from => {
-                Some(Frame::Report(self.bend_report(kind, from, to, report)))
+            Frame::Report(author, report) if author != from => {
+                Some(Frame::Report(author, self.bend_report(kind, (from, to), author, report)))
             }
             Frame::Message(message) if message.author != from => {
                 self.brings(kind, from, to).then_some(Frame::Message(message))
@@ -34,7 +34,13 @@ impl World {
         }
     }
 
-    fn bend_report(&mut self, kind: Kind, from: usize, to: usize, mut report: Report) -> Report {
+    fn bend_report(
+        &mut self,
+        kind: Kind,
+        link: (usize, usize),
+        author: usize,
+        mut report: Report,
+    ) -> Report {
         let now = self.now;
         match kind {
             Kind::Mute => {
@@ -43,10 +49,9 @@ impl World {
             }
             Kind::Empty => report.coverage = Coverage::default(),
             Kind::Lag | Kind::Again | Kind::Creep => {
-                let is_full = self.nodes[report.author].rate == FULL;
-                let link = self.links.get_mut(&(from, to)).unwrap();
-                let entry =
-                    link.frozen.entry(report.author).or_insert((now, report.coverage.clone()));
+                let is_full = self.nodes[author].rate == FULL;
+                let link = self.links.get_mut(&link).unwrap();
+                let entry = link.frozen.entry(author).or_insert((now, report.coverage.clone()));
                 let is_true = kind == Kind::Again && now % (8 * SECOND) > 7 * SECOND;
                 if entry.1.top() == 0 || is_true {
                     entry.1 = report.coverage.clone();

@@ -105,7 +105,7 @@ fn meet(now: u64, one: &mut Machine, other: &mut Machine) {
         }
         for (frame, to, from) in [(to_other, &mut *other, 0), (to_one, &mut *one, 1)] {
             match frame {
-                Some(Frame::Report(report)) => to.report(now, from, report),
+                Some(Frame::Report(author, report)) => to.report(now, from, author, report),
                 Some(Frame::Message(message)) => drop(to.message(now, from, message).unwrap()),
                 None => {}
             }

@@ -393,9 +393,9 @@ impl World {
         let is_honest = self.nodes[to].is_honest();
         let machine = self.nodes[to].machine.as_mut().unwrap();
         let result = match frame {
-            Frame::Report(report) => {
+            Frame::Report(author, report) => {
                 self.outcome.report_bytes += if is_honest { wire } else { 0 };
-                machine.report(now, from, report);
+                machine.report(now, from, author, report);
                 Ok(())
             }
             Frame::Message(message) => {
@@ -483,7 +483,7 @@ impl World {
 
     pub fn send(&mut self, from: usize, to: usize, frame: Frame) {
         let wire = match &frame {
-            Frame::Report(report) => 26 + 16 * report.coverage.gaps() as u64,
+            Frame::Report(_, report) => 26 + 16 * report.coverage.gaps() as u64,
             Frame::Message(message) => 96 + message.bytes.len() as u64,
         };
         let link = self.links.get_mut(&(from, to)).unwrap();

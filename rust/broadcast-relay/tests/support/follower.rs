@@ -11,15 +11,16 @@ pub struct Follower {
     runs: Vec<(u64, u64)>,
     /// The room that it reports.
     pub room: u64,
-    /// The texts that came.
+    /// The messages that came, and their texts.
+    pub messages: Vec<Vec<u8>>,
     pub texts: Vec<String>,
 }
 
 impl Follower {
     pub fn new(peer: &Hostile, to: SocketAddr, author: [u8; 32]) -> Follower {
         let stream = peer.connect(to).expect("not connected");
-        let mut it =
-            Follower { stream, author, runs: Vec::new(), room: 1 << 20, texts: Vec::new() };
+        let (runs, messages, texts) = (Vec::new(), Vec::new(), Vec::new());
+        let mut it = Follower { stream, author, runs, room: 1 << 20, messages, texts };
         it.report();
         it
     }
@@ -63,6 +64,7 @@ impl Follower {
             None => self.runs.push((prev, stamp)),
         }
         self.texts.push(String::from_utf8_lossy(&bytes[115 + 32 * depth..]).into_owned());
+        self.messages.push(bytes.split_off(1));
         self.report();
         Ok(true)
     }

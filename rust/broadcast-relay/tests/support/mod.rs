@@ -176,6 +176,13 @@ impl Relay {
         self.folder.join(format!("{}.journal", self.name))
     }
 
+    /// Lets it run without a journal.
+    pub fn forget_journal(&self) {
+        let config = fs::read_to_string(self.config()).unwrap();
+        let lines = config.lines().filter(|it| !it.starts_with("journal"));
+        fs::write(self.config(), lines.collect::<Vec<_>>().join("\n")).unwrap();
+    }
+
     fn command(&mut self) -> Command {
         let words = ["ip", "netns", "exec"].map(str::to_owned);
         let mut words: Vec<String> = match &self.namespace {
