@@ -3,6 +3,7 @@
 mod support;
 
 use std::io::Write;
+use std::sync::atomic::{AtomicBool, Ordering::Relaxed};
 use std::thread::sleep;
 use std::time::Duration;
 use support::follower::Follower;
@@ -210,15 +211,15 @@ fn a_flood_of_one_author_loses_nothing_of_another() {
     relays.iter_mut().for_each(Relay::start);
     wait_for("connected", || relays[1].is_connected("r0") && relays[1].is_connected("r2"));
     let to = relays[1].address;
-    let stop = std::sync::atomic::AtomicBool::new(false);
+    let stop = AtomicBool::new(false);
     std::thread::scope(|threads| {
         threads.spawn(|| {
             let hostile = Hostile::new(&key);
             let mut stamp = now();
-            while !stop.load(std::sync::atomic::Ordering::Relaxed) {
+            while !stop.load(Relaxed) {
                 let Some(mut stream) = hostile.connect(to) else { continue };
                 let said = |stamp| frame(1, &hostile.message_after(stamp - 1, stamp, &[b'x'; 400]));
-                while !stop.load(std::sync::atomic::Ordering::Relaxed) {
+                while !stop.load(Relaxed) {
                     let some: Vec<u8> = (stamp + 1..=stamp + 50).flat_map(said).collect();
                     stamp += 50;
                     if stream.write_all(&some).is_err() {
@@ -227,17 +228,13 @@ fn a_flood_of_one_author_loses_nothing_of_another() {
                 }
             }
         });
-        wait_for("the flood", || {
-            relays[2].metric("relay_delivered_total{author=\"hostile\"}") > 0.0
-        });
+        wait_for("the flood", || relays[2].delivered("hostile") > 0);
         for it in 0..200 {
             relays[0].write(&format!("honest {it}"));
             sleep(Duration::from_millis(5));
         }
-        wait_for("all honest lines", || {
-            relays[2].metric("relay_delivered_total{author=\"r0\"}") == 200.0
-        });
-        stop.store(true, std::sync::atomic::Ordering::Relaxed);
+        wait_for("all honest lines", || relays[2].delivered("r0") == 200);
+        stop.store(true, Relaxed);
     });
     assert!(relays.iter_mut().all(Relay::terminate));
 }

@@ -9,6 +9,7 @@ use std::net::{TcpListener, TcpStream};
 use std::os::fd::OwnedFd;
 use std::os::unix::fs::PermissionsExt;
 use std::os::unix::net::UnixStream;
+use std::path::Path;
 use std::process::{Command, Stdio};
 use std::thread::{sleep, spawn};
 use std::time::Duration;
@@ -24,11 +25,6 @@ fn pair(name: &str) -> Vec<Relay> {
     Relay::network(&Lab::loopback(), &folder(name), 2, &[])
 }
 
-/// How many lines of the first relay another took. Of those it drops what its output does not read in time.
-fn delivered(relay: &Relay) -> usize {
-    relay.metric("relay_delivered_total{author=\"r0\"}") as usize
-}
-
 #[test]
 fn of_many_lines_at_once_none_is_lost() {
     for (name, count, filler) in [("many-short", 10_000, 0), ("many-long", 1_000, 10_000)] {
@@ -36,7 +32,7 @@ fn of_many_lines_at_once_none_is_lost() {
         relays.iter_mut().for_each(Relay::start);
         wait_for("connected", || relays[0].is_connected("r1"));
         (0..count).for_each(|it| relays[0].write(&format!("{it} {}", "x".repeat(filler))));
-        wait_for("all lines", || delivered(&relays[1]) == count);
+        wait_for("all lines", || relays[1].delivered("r0") == count);
         let dropped = || relays[1].metric("relay_output_dropped_total") as usize;
         wait_for("the output", || relays[1].printed().len() + dropped() == count);
         assert!(relays[1].counted().values().all(|it| *it == 1));
@@ -150,7 +146,7 @@ fn an_output_that_nobody_reads_stops_nothing() {
     relays[2].start();
     wait_for("connected", || relays[1].is_connected("r0") && relays[1].is_connected("r2"));
     (0..2_000).for_each(|it| relays[0].write(&format!("{it} {}", "x".repeat(1_000))));
-    wait_for("all lines", || delivered(&relays[2]) == 2_000);
+    wait_for("all lines", || relays[2].delivered("r0") == 2_000);
 }
 
 #[test]
@@ -345,17 +341,17 @@ fn a_key_that_others_may_read_is_named() {
     assert!(!warns(&relays[1]) && relays[0].log().contains(&*file.to_string_lossy()));
 }
 
+/// Runs a command in a folder. Returns its status, and what it printed.
+fn run_in(folder: &Path, words: &[&str]) -> (Option<i32>, String, String) {
+    let out = Command::new(RELAY).args(words).current_dir(folder).output().unwrap();
+    let [said, why] = [out.stdout, out.stderr].map(|it| String::from_utf8(it).unwrap());
+    (out.status.code(), said, why)
+}
+
 #[test]
-fn a_wrong_configuration_is_refused() {
+fn the_commands_make_relays_that_know_each_other() {
     let folder = folder("told");
-    let run = |words: &[&str]| {
-        let out = Command::new(RELAY).args(words).current_dir(&folder).output().unwrap();
-        (
-            out.status.code(),
-            String::from_utf8(out.stdout).unwrap(),
-            String::from_utf8(out.stderr).unwrap(),
-        )
-    };
+    let run = |words: &[&str]| run_in(&folder, words);
     assert_eq!(
         run(&["--version"]).1.trim(),
         format!("broadcast-relay {}", env!("CARGO_PKG_VERSION"))
@@ -373,6 +369,17 @@ fn a_wrong_configuration_is_refused() {
     assert_eq!(run(&["entry", "a/relay.toml", "a"]).1, entry);
     // A key is never written over.
     assert_eq!(run(&["keygen", "a/key.pem"]).0, Some(1));
+    // A name that would break a configuration.
+    let (status, _, said) = run(&["init", "a b", "--listen", "127.0.0.1:7003", "--with", "a"]);
+    assert!(status == Some(1) && said.contains("no name"), "{said}");
+    assert_eq!(run(&["run", "--check-config", "a/relay.toml"]).0, Some(0));
+}
+
+#[test]
+fn a_wrong_configuration_is_refused() {
+    let folder = folder("wrong");
+    keygen(&folder, "a");
+    let run = |words: &[&str]| run_in(&folder, words);
     for (text, why) in [("", "key"), ("key = \"none\"\nlisten = \"127.0.0.1:1\"", "No such file")] {
         fs::write(folder.join("wrong.toml"), text).unwrap();
         let (status, _, said) = run(&["run", "--check-config", "wrong.toml"]);
@@ -380,12 +387,7 @@ fn a_wrong_configuration_is_refused() {
     }
     let listener = std::net::TcpListener::bind("127.0.0.1:0").unwrap();
     let taken = listener.local_addr().unwrap();
-    fs::write(folder.join("taken.toml"), format!("key = \"a/key.pem\"\nlisten = \"{taken}\""))
-        .unwrap();
+    fs::write(folder.join("taken.toml"), format!("key = \"a.pem\"\nlisten = \"{taken}\"")).unwrap();
     let (status, _, said) = run(&["run", "taken.toml"]);
     assert!(status == Some(1) && said.contains(&taken.to_string()), "{said}");
-    // A name that would break a configuration.
-    let (status, _, said) = run(&["init", "a b", "--listen", "127.0.0.1:7003", "--with", "a"]);
-    assert!(status == Some(1) && said.contains("no name"), "{said}");
-    assert_eq!(run(&["run", "--check-config", "a/relay.toml"]).0, Some(0));
 }

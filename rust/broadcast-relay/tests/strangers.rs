@@ -94,7 +94,7 @@ fn refused_descriptors_and_threads_do_not_make_a_relay_deaf() {
     must_get_in("200 strangers with 128 descriptors", &mut relays);
     // 4 MB, so the journal begins new files meanwhile.
     (0..80).for_each(|it| relays[1].write(&format!("{it} {}", "x".repeat(50_000))));
-    wait_for("all lines", || relays[0].metric("relay_delivered_total{author=\"r1\"}") == 81.0);
+    wait_for("all lines", || relays[0].delivered("r1") == 81);
     drop(strangers);
     assert!(relays[0].is_running() && relays[0].terminate());
 }

@@ -150,3 +150,56 @@ impl Session {
         self.lazy_due.min(self.news_due)
     }
 }
+
+#[cfg(test)]
+mod tests {
+    use super::*;
+    use rand::{Rng, SeedableRng, rngs::StdRng};
+    use std::collections::BTreeSet;
+
+    /// What clauses `room`, `next` and `none` of the crate `gossip` say.
+    fn wanted(list: &List, told: &Report, flying: &BTreeSet<u64>, bounds: &Bounds) -> Option<u64> {
+        let flies = |it: &&Message| flying.contains(&it.stamp);
+        let limit = if told.is_held { told.coverage.top() } else { u64::MAX };
+        let is_wanted =
+            |it: &&Message| it.stamp <= limit && !told.coverage.covers(it.stamp) && !flies(it);
+        let in_flight: u64 = list.iter().filter(flies).map(Message::size).sum();
+        let has_room = in_flight < told.room.min(bounds.room);
+        list.iter().find(is_wanted).filter(|_| has_room).map(|it| it.stamp)
+    }
+
+    #[test]
+    fn the_earliest_that_is_wanted_is_sent_and_nothing_else() {
+        let mut random = StdRng::seed_from_u64(4);
+        let bounds = Bounds { room: 2_000, ..Bounds::default() };
+        for _ in 0..1_000 {
+            let (mut list, mut session) = (List::new(1 << 20), Session::new(0));
+            let (mut told, mut flying) = (Coverage::default(), BTreeSet::new());
+            let mut listed = BTreeSet::new();
+            for _ in 0..80 {
+                let stamp = random.gen_range(1..200);
+                match random.gen_range(0..4) {
+                    0 if listed.insert(stamp) => {
+                        let bytes = vec![0; random.gen_range(0..400)].into();
+                        let message = Message { author: 0, stamp, prev: stamp - 1, bytes };
+                        session.note(stamp, message.size(), session.covers(stamp));
+                        list.insert(message);
+                    }
+                    1 => {
+                        told.cover(stamp - 1, stamp + random.gen_range(0..9));
+                        flying.retain(|it: &u64| !told.covers(*it));
+                        let (room, is_held) = (random.gen_range(0..3_000), random.gen_bool(0.3));
+                        let coverage = told.clone();
+                        session.replace(Report { coverage, since: 0, room, is_held });
+                    }
+                    _ => {
+                        let sent = session.next(&list, &bounds).map(|it| it.stamp);
+                        let Some(theirs) = &session.theirs else { continue };
+                        assert_eq!(sent, wanted(&list, theirs, &flying, &bounds));
+                        flying.extend(sent);
+                    }
+                }
+            }
+        }
+    }
+}

@@ -8,7 +8,7 @@ mod world;
 use broadcast_relay::gossip::{Bounds, Frame, Machine, Message, Past, SECOND, Taken};
 use scenes::CLASSES;
 use verdict::Outcome;
-use world::{World, machine};
+use world::{Random, World, machine};
 
 fn check(class: &str, world: World) -> Outcome {
     let outcome = world.run(true);
@@ -96,18 +96,19 @@ fn thousands_of_seeds() {
     assert_eq!(failed, 0, "of {total} runs");
 }
 
-/// Carries all frames between two relays, 0 and 1.
-fn meet(now: u64, one: &mut Machine, other: &mut Machine) {
-    loop {
-        let (to_other, to_one) = (one.frame(now, 1), other.frame(now, 0));
-        if to_other.is_none() && to_one.is_none() {
-            break;
-        }
-        for (frame, to, from) in [(to_other, &mut *other, 0), (to_one, &mut *one, 1)] {
+/// Carries all frames between relays, whose places are their numbers.
+fn meet(now: u64, relays: &mut [&mut Machine]) {
+    let ways = (0..relays.len()).flat_map(|from| (0..relays.len()).map(move |to| (from, to)));
+    let ways: Vec<_> = ways.filter(|(from, to)| from != to).collect();
+    let mut is_quiet = false;
+    while !is_quiet {
+        is_quiet = true;
+        for &(from, to) in &ways {
+            let Some(frame) = relays[from].frame(now, to) else { continue };
+            is_quiet = false;
             match frame {
-                Some(Frame::Report(author, report)) => to.report(now, from, author, report),
-                Some(Frame::Message(message)) => drop(to.message(now, from, message).unwrap()),
-                None => {}
+                Frame::Report(author, report) => relays[to].report(now, from, author, report),
+                Frame::Message(it) => drop(relays[to].message(now, from, it).unwrap()),
             }
         }
     }
@@ -128,7 +129,7 @@ fn an_author_that_lost_its_journal_closes_nothing() {
     for it in 1..=5 {
         publish(it, 1_000 + it, &mut one);
     }
-    meet(10, &mut one, &mut other);
+    meet(10, &mut [&mut one, &mut other]);
     assert!(other.covered(0).runs().eq([(1_000, 1_005)]));
     other.disconnect(20, 0);
     let mut one = machine(&bounds, 0, 2, None);
@@ -136,10 +137,10 @@ fn an_author_that_lost_its_journal_closes_nothing() {
     other.connect(30, 0, 100);
     // Its clock went back.
     assert_eq!(publish(30, 900, &mut one), (899, 900));
-    meet(40, &mut one, &mut other);
+    meet(40, &mut [&mut one, &mut other]);
     assert!(one.covered(0).runs().eq([(899, 900), (1_000, 1_005)]));
     assert_eq!(publish(50, 901, &mut one), (1_005, 1_006));
-    meet(60, &mut one, &mut other);
+    meet(60, &mut [&mut one, &mut other]);
     assert!(other.covered(0).runs().eq([(899, 900), (1_000, 1_006)]));
 }
 
@@ -159,11 +160,11 @@ fn relays_that_lack_each_others_messages_do_not_wait_for_each_other() {
     one.connect(0, 1, 0);
     other.connect(0, 0, 0);
     // No time passes, so no patience ends.
-    meet(0, &mut one, &mut other);
+    meet(0, &mut [&mut one, &mut other]);
     for now in 1..100 {
         one.timeout(now);
         other.timeout(now);
-        meet(now, &mut one, &mut other);
+        meet(now, &mut [&mut one, &mut other]);
     }
     assert!(one.covered(2).runs().eq([(0, 60)]));
     assert!(other.covered(2).runs().eq([(0, 60)]));
@@ -191,5 +192,46 @@ fn an_author_is_taken_at_its_rate_whatever_it_sends() {
         }
         // Ten seconds and the burst, of some 10,000 bytes each.
         assert!((1_050..=1_200).contains(&taken), "{taken}");
+    }
+}
+
+/// A log of author `author`: of each of its messages a relay has had none, has had it, or can still send it.
+fn some_of(random: &mut Random, author: usize) -> Vec<Past> {
+    let mut past = vec![Past::default(); author + 1];
+    let log = &mut past[author];
+    for stamp in 1..=random.between(1, 40) {
+        let message = Message { author, stamp, prev: stamp - 1, bytes: vec![0; 900].into() };
+        match random.below(4) {
+            0 => {}
+            1 => log.covered.cover(stamp - 1, stamp),
+            _ => log.messages.push(message),
+        }
+    }
+    past
+}
+
+/// Clause `no_circle` of the crate `gossip`, for this relay: from any state each has at last what its neighbours can send, though nobody
+/// ever loses patience.
+#[test]
+fn no_relays_wait_in_a_circle() {
+    let bounds = Bounds { behind: 2 << 10, patience: 1_000 * SECOND, ..Bounds::default() };
+    for seed in 0..150 {
+        let mut random = Random::new(seed);
+        let count = random.between(2, 5) as usize;
+        let relay = |own| machine(&bounds, own, count + 1, Some(some_of(&mut random, count)));
+        let mut relays: Vec<Machine> = (0..count).map(relay).collect();
+        let is_row = random.chance(50);
+        let near = |one: usize, other: usize| one != other && (!is_row || one.abs_diff(other) == 1);
+        for (one, relay) in relays.iter_mut().enumerate() {
+            (0..count).filter(|it| near(one, *it)).for_each(|it| relay.connect(0, it, 100));
+        }
+        for now in (0..400).map(|it| it * SECOND / 50) {
+            relays.iter_mut().for_each(|it| it.timeout(now));
+            meet(now, &mut relays.iter_mut().collect::<Vec<_>>());
+        }
+        for (one, other) in (0..count).flat_map(|one| (0..count).map(move |it| (one, it))) {
+            let lacks = relays[one].list(count).lacking(relays[other].covered(count));
+            assert!(lacks == 0 || !near(one, other), "{seed}: {other} of {count} lacks {lacks}");
+        }
     }
 }

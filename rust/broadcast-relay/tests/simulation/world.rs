@@ -3,7 +3,9 @@
 
 use crate::scenes::Scene;
 use crate::verdict::Outcome;
-use broadcast_relay::gossip::{Bounds, Coverage, Frame, Machine, NEVER, Past, SECOND, Taken};
+use broadcast_relay::gossip::{
+    Bounds, Breach, Coverage, Frame, Machine, NEVER, Past, SECOND, Taken,
+};
 use std::cmp::Reverse;
 use std::collections::{BinaryHeap, HashMap, VecDeque};
 
@@ -391,26 +393,12 @@ impl World {
             self.at(now + delay, Event::Pull(from, to));
         }
         let is_honest = self.nodes[to].is_honest();
-        let machine = self.nodes[to].machine.as_mut().unwrap();
-        let result = match frame {
-            Frame::Report(author, report) => {
-                self.outcome.report_bytes += if is_honest { wire } else { 0 };
-                machine.report(now, from, author, report);
-                Ok(())
-            }
-            Frame::Message(message) => {
-                let id = (message.author, message.stamp);
-                let taken = machine.message(now, from, message);
-                if is_honest {
-                    self.outcome.copies += u64::from(self.nodes[id.0].is_honest());
-                    if taken == Ok(Taken::New) {
-                        self.deliver(to, id);
-                    }
-                }
-                taken.map(drop)
-            }
-        };
-        if let Err(breach) = result {
+        if let Frame::Report(..) = frame
+            && is_honest
+        {
+            self.outcome.report_bytes += wire;
+        }
+        if let Err(breach) = self.take(from, to, frame) {
             if self.nodes[from].is_honest() && is_honest {
                 let why = format!("{breach:?} of honest {from} at {to}, {} ms", now / 1_000);
                 self.outcome.wrong.push(why);
@@ -418,6 +406,27 @@ impl World {
             self.cut(from, to);
             self.at(now + SECOND, Event::Connect(from.min(to), from.max(to)));
         }
+    }
+
+    /// Hands a frame to a relay.
+    fn take(&mut self, from: usize, to: usize, frame: Frame) -> Result<(), Breach> {
+        let now = self.now;
+        let Node { machine, kind, .. } = &mut self.nodes[to];
+        let (machine, is_honest) = (machine.as_mut().unwrap(), *kind == Kind::Honest);
+        match frame {
+            Frame::Report(author, report) => machine.report(now, from, author, report),
+            Frame::Message(message) => {
+                let id = (message.author, message.stamp);
+                let taken = machine.message(now, from, message)?;
+                if is_honest {
+                    self.outcome.copies += u64::from(self.nodes[id.0].is_honest());
+                    if taken == Taken::New {
+                        self.deliver(to, id);
+                    }
+                }
+            }
+        }
+        Ok(())
     }
 
     fn deliver(&mut self, node: usize, id: (usize, u64)) {

@@ -385,6 +385,11 @@ impl Relay {
         value.and_then(|it| it.trim().parse().ok()).unwrap_or(0.0)
     }
 
+    /// How many messages of an author it took. Of those it drops what its output does not read in time.
+    pub fn delivered(&self, author: &str) -> usize {
+        self.metric(&format!("relay_delivered_total{{author=\"{author}\"}}")) as usize
+    }
+
     pub fn is_connected(&self, peer: &str) -> bool {
         self.metric(&format!("relay_connected{{peer=\"{peer}\"}}")) == 1.0
     }
