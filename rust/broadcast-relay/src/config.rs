@@ -154,7 +154,8 @@ impl Config {
     pub fn memory_bound(&self) -> u64 {
         let (peers, limits) = (self.peers.len() as u64, &self.limits);
         let author = 2 * limits.bytes_per_peer + 2 * MAX_WAITING as u64;
-        let view = 4_096 + 16 * limits.bounds().room / OVERHEAD;
+        // Two coverages, and a place in a tree for each message in flight.
+        let view = 4_096 + 48 * limits.bounds().room / OVERHEAD;
         let peer = (1 << 20) + (peers + 1) * view;
         let handshakes = limits.handshakes as u64 * (96 << 10);
         (48 << 20) + (peers + 1) * author + 3 * limits.bytes_per_peer + peers * peer + handshakes

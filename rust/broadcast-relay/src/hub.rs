@@ -2,13 +2,13 @@
 
 use crate::author::Author;
 use crate::config::{Config, Limits};
-use crate::identity::{Identity, PeerId, to_hex};
+use crate::identity::{Identity, PeerId};
 use crate::journal;
 use crate::lock;
 use crate::message::Signed;
 use crate::metrics::Metrics;
 use crate::output::Output;
-use crate::peer::{Peer, Refused, Session};
+use crate::peer::{Peer, Session};
 use crate::tls::Listed;
 use crate::wire;
 use broadcast_relay::gossip::{Frame, Machine, Message, NEVER, Past, Report, Taken, Time};
@@ -213,20 +213,12 @@ impl Hub {
                 gossip.machine.connect(now, session.node, round_trip);
             });
         });
-        match attached {
-            Ok(session) => {
-                self.metrics.connected.with_label_values(&[&session.name]).set(1);
-                if peer.is_logged() {
-                    info!(peer = session.name, is_dialed, "connected");
-                }
-                Some(session)
-            }
-            Err(Refused::Banned) => {
-                debug!(peer = to_hex(id), "refused: it broke the rules");
-                None
-            }
-            Err(Refused::Second) => None,
+        let session = attached.inspect_err(|why| debug!(peer = peer.name, why, "refused")).ok()?;
+        self.metrics.connected.with_label_values(&[&session.name]).set(1);
+        if peer.is_logged() {
+            info!(peer = session.name, is_dialed, "connected");
         }
+        Some(session)
     }
 
     /// Gives up the place of a connection. A peer that broke the rules is refused for a while.

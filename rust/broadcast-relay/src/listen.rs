@@ -76,9 +76,7 @@ async fn greet(
     hub.metrics.handshakes.dec();
     drop(permit);
     match proved {
-        Ok((stream, peer, round_trip)) => {
-            attend(network.hub.clone(), peer, stream, false, round_trip).await;
-        }
+        Ok(proved) => attend(network.hub.clone(), proved, false).await,
         Err(why) => {
             hub.metrics.strangers.inc();
             debug!(%address, %why, "refused");
@@ -101,13 +99,7 @@ async fn prove(at: &Network, stream: TcpStream, address: IpAddr) -> io::Result<P
     Ok((stream, id, start.elapsed()))
 }
 
-async fn attend(
-    hub: Arc<Hub>,
-    peer: PeerId,
-    stream: Stream,
-    is_dialed: bool,
-    round_trip: Duration,
-) {
+async fn attend(hub: Arc<Hub>, (stream, peer, round_trip): Proved, is_dialed: bool) {
     if let Some(session) = hub.attach(&peer, is_dialed, round_trip) {
         session::run(hub, session, stream).await;
     }
@@ -139,9 +131,9 @@ async fn dial(network: Arc<Network>, peer: Arc<Peer>, resolver: Arc<Resolver>) {
         if peer.session().is_none() && !peer.is_banned() {
             let dialed = timeout(HANDSHAKE, connect(&network, &peer, &resolver)).await;
             match dialed.unwrap_or_else(|_| Err(io::Error::other("it took too long"))) {
-                Ok((stream, id, round_trip)) => {
+                Ok(proved) => {
                     logged = None;
-                    attend(hub.clone(), id, stream, true, round_trip).await;
+                    attend(hub.clone(), proved, true).await;
                 }
                 Err(why) => {
                     let why = Some(why.to_string());

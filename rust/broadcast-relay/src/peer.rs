@@ -48,13 +48,6 @@ pub struct Session {
     heard: Mutex<Instant>,
 }
 
-/// Why a connection got no place.
-#[derive(Clone, Copy, Debug, PartialEq, Eq)]
-pub enum Refused {
-    Banned,
-    Second,
-}
-
 impl Peer {
     pub fn new(author: Arc<Author>, name: String, address: Option<String>, node: usize) -> Peer {
         let state = State {
@@ -87,17 +80,17 @@ impl Peer {
         own: &PeerId,
         is_dialed: bool,
         begin: impl FnOnce(&Session),
-    ) -> Result<Arc<Session>, Refused> {
+    ) -> Result<Arc<Session>, &'static str> {
         let mut state = lock(&self.state);
         if state.is_banned() {
-            return Err(Refused::Banned);
+            return Err("it broke the rules");
         }
         if let Some(old) = &state.session {
             // Of two that were dialed at once, both sides keep that of the lesser id.
             let prefers_old = old.is_dialed == (*own < self.id);
             let lives = lock(&old.heard).elapsed() < QUIET;
             if old.is_dialed != is_dialed && prefers_old && lives {
-                return Err(Refused::Second);
+                return Err("another connection stays");
             }
             old.end();
         }
@@ -195,7 +188,7 @@ mod tests {
         Peer::new(Arc::new(author), "five".into(), None, 1)
     }
 
-    fn attach(peer: &Peer, own: [u8; 32], is_dialed: bool) -> Result<Arc<Session>, Refused> {
+    fn attach(peer: &Peer, own: [u8; 32], is_dialed: bool) -> Result<Arc<Session>, &'static str> {
         peer.attach(&own, is_dialed, |_| {})
     }
 
@@ -226,7 +219,7 @@ mod tests {
         let peer = peer();
         let seconds = Duration::from_secs;
         assert_eq!((peer.ban(), peer.ban(), peer.ban()), (seconds(1), seconds(2), seconds(4)));
-        assert_eq!(attach(&peer, [1; 32], true).err(), Some(Refused::Banned));
+        assert_eq!(attach(&peer, [1; 32], true).err(), Some("it broke the rules"));
     }
 
     #[test]
