@@ -95,8 +95,10 @@ fn requests<M: Digestible>(alloc: Global, message: Digested<M>) -> Result<Asked<
     let responder = Fixed { closed: false };
     let get = asked(1, Message::get(message.digest(), responder));
     let broadcast = asked(0, Message::broadcast(Recipients::All, message));
-    let script = Script::new(vec![in alloc; broadcast, get]?);
-    Ok(ScriptedRequests::new(script, None))
+    let mut results = Vec::new(alloc);
+    results.push(broadcast)?;
+    results.push(get)?;
+    Ok(ScriptedRequests::new(Script::new(results), None))
 }
 
 /// Drives a node over a peer set, a broadcast and a get. Returns its turns.
