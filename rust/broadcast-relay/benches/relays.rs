@@ -17,7 +17,7 @@ const LIMITS: &str =
     "[limits]\nauthor_messages_per_second = 1000000\nauthor_bytes_per_second = 1000000000";
 const SIZE: usize = 1_000;
 /// How many deliveries each row has, of lines of a kilobyte.
-const DELIVERIES: usize = 40_000;
+const DELIVERIES: usize = 120_000;
 
 #[derive(Clone, Copy)]
 enum Shape {

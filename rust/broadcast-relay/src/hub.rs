@@ -8,14 +8,13 @@ use crate::lock;
 use crate::message::Signed;
 use crate::metrics::Metrics;
 use crate::output::Output;
-use crate::peer::{Peer, Session};
-use crate::tls::Listed;
+use crate::peer::{Peer, Peers, Session};
 use crate::wire;
 use broadcast_relay::gossip::{Frame, Machine, Message, NEVER, Past, Report, Taken, Time};
 use std::collections::HashMap;
 use std::io::{self, ErrorKind};
 use std::path::PathBuf;
-use std::sync::{Arc, Mutex, MutexGuard};
+use std::sync::{Arc, Mutex};
 use std::time::{Duration, Instant, SystemTime, UNIX_EPOCH};
 use tokio::sync::Notify;
 use tokio::time::{sleep_until, timeout};
@@ -27,9 +26,8 @@ const LOOK: Duration = Duration::from_secs(1);
 pub struct Hub {
     pub identity: Identity,
     pub metrics: Metrics,
-    pub listed: Listed,
+    pub peers: Peers,
     own: Arc<Peer>,
-    peers: Mutex<HashMap<PeerId, Arc<Peer>>>,
     gossip: Mutex<Gossip>,
     start: Instant,
     /// Notified when more may be published, and when the protocol is to be told the time earlier.
@@ -88,8 +86,7 @@ impl Hub {
             own: Arc::new(Peer::new(Arc::new(own), "own".into(), None, node)),
             identity,
             metrics,
-            listed: Listed::default(),
-            peers: Mutex::default(),
+            peers: Peers::default(),
             gossip: Mutex::new(gossip),
             start: Instant::now(),
             opened: Notify::new(),
@@ -114,7 +111,10 @@ impl Hub {
         for it in &config.peers {
             let (name, address) = (it.name.clone(), it.address.clone());
             let peer = match (known.get(&it.key), opened.remove(&it.key)) {
-                (Some(old), _) if (&old.name, &old.address) == (&name, &address) => old.clone(),
+                (Some(old), _) if (&old.name, &old.address) == (&name, &address) => {
+                    next.insert(it.key, old.clone());
+                    continue;
+                }
                 (Some(old), _) => Arc::new(old.moved(name, address)),
                 (None, Some((author, past))) => {
                     let node = self.act(|gossip, now| gossip.list(now, it.key, past));
@@ -122,13 +122,10 @@ impl Hub {
                 }
                 (None, None) => continue,
             };
-            if known.get(&it.key).is_none_or(|old| !Arc::ptr_eq(old, &peer)) {
-                self.metrics.add_peer(&peer.name);
-                fresh.push(peer.clone());
-            }
+            self.metrics.add_peer(&peer.name);
+            fresh.push(peer.clone());
             next.insert(it.key, peer);
         }
-        self.listed.set(next.keys().copied().collect());
         *lock(&self.peers) = next.clone();
         for gone in known.values().filter(|it| !next.contains_key(&it.id)) {
             info!(peer = gone.name, "removed");
@@ -163,11 +160,6 @@ impl Hub {
     fn act<T>(&self, act: impl FnOnce(&mut Gossip, Time) -> T) -> T {
         let mut gossip = lock(&self.gossip);
         let done = act(&mut gossip, self.now());
-        self.settle(gossip);
-        done
-    }
-
-    fn settle(&self, mut gossip: MutexGuard<'_, Gossip>) {
         for peer in gossip.machine.take_woken() {
             gossip.due[peer].notify_one();
         }
@@ -177,6 +169,7 @@ impl Hub {
         if gossip.machine.next_time() < gossip.timer {
             self.timer.notify_one();
         }
+        done
     }
 
     /// Tells the protocol the time whenever it is due, for ever.

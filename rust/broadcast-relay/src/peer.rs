@@ -4,6 +4,7 @@ use crate::author::Author;
 use crate::identity::PeerId;
 use crate::lock;
 use broadcast_relay::gossip::{Bar, Bucket, SECOND, Time};
+use std::collections::HashMap;
 use std::sync::atomic::{AtomicBool, Ordering};
 use std::sync::{Arc, Mutex};
 use std::time::{Duration, Instant};
@@ -15,6 +16,9 @@ const FORGIVEN: Time = 600 * SECOND;
 const QUIET: Duration = Duration::from_secs(3);
 /// How often it is logged in a second that a peer comes or goes, and how often at once.
 const LOGGED: (u64, u64) = (1, 10);
+
+/// The peers that the configuration lists, which may change.
+pub type Peers = Arc<Mutex<HashMap<PeerId, Arc<Peer>>>>;
 
 pub struct Peer {
     pub id: PeerId,

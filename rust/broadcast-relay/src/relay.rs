@@ -132,7 +132,7 @@ async fn start(config: &Config, metrics: Metrics) -> io::Result<(Arc<Network>, O
     };
     let lock = config.journal.as_deref().map(journal::lock_folder).transpose()?;
     let hub = Arc::new(Hub::new(identity, config, metrics)?);
-    let tls = Tls::new(&hub.identity, hub.listed.clone())?;
+    let tls = Tls::new(&hub.identity, hub.peers.clone())?;
     let limits = &config.limits;
     let network = Arc::new(Network {
         hub: hub.clone(),

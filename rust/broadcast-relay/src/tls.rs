@@ -1,36 +1,23 @@
 //! TLS 1.3 both ways. No authority vouches for a certificate: the configuration lists the key, or the handshake fails.
 
 use crate::identity::{Identity, PeerId, id_of};
+use crate::lock;
+use crate::peer::Peers;
 use openssl::error::ErrorStack;
 use openssl::ssl::{
     Ssl, SslContext, SslMethod, SslOptions, SslSessionCacheMode, SslVerifyMode, SslVersion,
 };
 use openssl::x509::X509StoreContextRef;
-use std::collections::HashSet;
 use std::io;
 use std::pin::Pin;
+use std::sync::Arc;
 use std::sync::atomic::{AtomicBool, Ordering};
-use std::sync::{Arc, PoisonError, RwLock};
 use tokio::net::TcpStream;
 use tokio_openssl::SslStream;
 
-/// The keys that the configuration lists, which may change.
-#[derive(Clone, Default)]
-pub struct Listed(Arc<RwLock<HashSet<PeerId>>>);
-
-impl Listed {
-    pub fn set(&self, ids: HashSet<PeerId>) {
-        *self.0.write().unwrap_or_else(PoisonError::into_inner) = ids;
-    }
-
-    fn contains(&self, id: &PeerId) -> bool {
-        self.0.read().unwrap_or_else(PoisonError::into_inner).contains(id)
-    }
-}
-
 pub struct Tls {
     context: SslContext,
-    listed: Listed,
+    peers: Peers,
 }
 
 /// A connection whose peer has proved its key.
@@ -45,8 +32,13 @@ fn is_of(store: &X509StoreContextRef, may: impl FnOnce(&PeerId) -> bool) -> bool
     is_alone && store.current_cert().and_then(id_of).is_some_and(|it| may(&it))
 }
 
+/// Whether a key is that of a peer, and no ban lasts.
+fn may(peers: &Peers, id: &PeerId) -> bool {
+    lock(peers).get(id).is_some_and(|it| !it.is_banned())
+}
+
 impl Tls {
-    pub fn new(identity: &Identity, listed: Listed) -> Result<Tls, ErrorStack> {
+    pub fn new(identity: &Identity, peers: Peers) -> Result<Tls, ErrorStack> {
         let mut builder = SslContext::builder(SslMethod::tls())?;
         builder.set_min_proto_version(Some(SslVersion::TLS1_3))?;
         let certificate = identity.certificate()?;
@@ -55,10 +47,10 @@ impl Tls {
         builder.set_session_cache_mode(SslSessionCacheMode::OFF);
         builder.set_options(SslOptions::NO_TICKET);
         builder.set_verify_depth(0);
-        let ids = listed.clone();
+        let known = peers.clone();
         // Refuses strangers early; `peer` decides.
-        builder.set_verify_callback(MUTUAL, move |_, store| is_of(store, |it| ids.contains(it)));
-        Ok(Tls { context: builder.build(), listed })
+        builder.set_verify_callback(MUTUAL, move |_, store| is_of(store, |it| may(&known, it)));
+        Ok(Tls { context: builder.build(), peers })
     }
 
     /// Returns the connection, and who it is.
@@ -95,6 +87,6 @@ impl Tls {
     /// Whose key the other side has proved to have, if it is listed.
     fn peer(&self, stream: &Stream) -> io::Result<PeerId> {
         let id = stream.ssl().peer_certificate().and_then(|it| id_of(&it));
-        id.filter(|it| self.listed.contains(it)).ok_or_else(|| io::Error::other("a stranger"))
+        id.filter(|it| may(&self.peers, it)).ok_or_else(|| io::Error::other("a stranger"))
     }
 }

@@ -71,7 +71,9 @@ impl Session {
     /// Replaces the peer's report. What has landed is not in flight any more.
     pub fn replace(&mut self, report: Report) {
         for (after, upto) in report.coverage.runs() {
-            while let Some((&stamp, &size)) = self.flying.range(..=upto).rfind(|it| *it.0 > after) {
+            while let Some((&stamp, &size)) = self.flying.range(..=upto).next_back()
+                && stamp > after
+            {
                 self.flying.remove(&stamp);
                 self.in_flight -= size;
             }
