@@ -1,4 +1,5 @@
-//! Messages a second and latencies through an engine, over the proved cache and over the plain one, in turns.
+//! Messages a second and latencies through an engine, over the proved cache and over the plain one, in turns:
+//! `cargo bench --bench engine`, or `cargo bench --bench engine -- 100` for messages of so many bytes.
 
 use broadcast_engine::{
     Cache, Config, Digested, Engine, Fixed, Mailbox, Message, Recipients, Sender, Sequential,
@@ -167,7 +168,11 @@ async fn main() {
     let (taken, aborted) = flooded().await;
     println!("flooded by requests: a payload after {taken:.1} ms, an abort after {aborted:.1} ms");
     println!("bytes | cache | received/s | broadcast/s | arrival p50 p99 us | get p50 p99 us");
+    let wanted: Vec<usize> = std::env::args().filter_map(|it| it.parse().ok()).collect();
     for (len, count) in [(100, 100_000), (1_000, 50_000), (10_000, 10_000)] {
+        if !wanted.is_empty() && !wanted.contains(&len) {
+            continue;
+        }
         let blobs: Vec<Bytes> = (0..count).map(|it| blob(it, len)).collect();
         let mut best = [[(0.0, 0.0, [(f64::MAX, f64::MAX); 2]); 1]; 2];
         for _ in 0..ROUNDS {

@@ -1,4 +1,5 @@
-//! What calls cost beside a plain Rust cache, in nanoseconds: `cargo bench --offline`.
+//! What calls cost beside a plain Rust cache, in nanoseconds: `cargo bench --bench cost`, or `cargo bench --bench cost -- 10 100`
+//! for the loads of so many peers.
 //!
 //! Other work on a machine, also that of neighbours that one does not see, slows some moments down by a half. So the
 //! calls of a row are timed in stretches of `STRETCH`, and a stretch counts by its least time in `ROUNDS` rounds, in
@@ -361,6 +362,10 @@ fn main() {
             let (peers, size, messages, len) = LOADS[load.parse::<usize>().unwrap()];
             table(&Load::new(peers, size, messages, len));
         }
-        Err(_) => (0..LOADS.len()).for_each(show),
+        Err(_) => {
+            let peers: Vec<usize> = env::args().filter_map(|it| it.parse().ok()).collect();
+            let is_wanted = |load: &usize| peers.is_empty() || peers.contains(&LOADS[*load].0);
+            (0..LOADS.len()).filter(is_wanted).for_each(show);
+        }
     }
 }
