@@ -4,7 +4,6 @@ use crate::hub::Hub;
 use hyper::server::conn::Http;
 use hyper::service::service_fn;
 use hyper::{Body, Method, Request, Response, StatusCode};
-use prometheus::TextEncoder;
 use std::collections::VecDeque;
 use std::convert::Infallible;
 use std::sync::Arc;
@@ -44,11 +43,7 @@ pub async fn serve(hub: Arc<Hub>, listener: TcpListener) {
 
 fn answer(hub: &Hub, request: &Request<Body>) -> Response<Body> {
     let (status, body) = match (request.method(), request.uri().path()) {
-        (&Method::GET, "/metrics") => {
-            hub.measure();
-            let families = hub.metrics.registry.gather();
-            (StatusCode::OK, TextEncoder::new().encode_to_string(&families).unwrap_or_default())
-        }
+        (&Method::GET, "/metrics") => (StatusCode::OK, hub.metrics_page()),
         (&Method::GET, "/healthz") => (StatusCode::OK, "ok\n".to_owned()),
         _ => (StatusCode::NOT_FOUND, String::new()),
     };

@@ -11,6 +11,7 @@ use crate::output::Output;
 use crate::peer::{Peer, Peers, Session};
 use crate::wire;
 use broadcast_relay::gossip::{Frame, Machine, Message, NEVER, Past, Report, Taken, Time};
+use prometheus::TextEncoder;
 use std::collections::HashMap;
 use std::io::{self, ErrorKind};
 use std::path::PathBuf;
@@ -344,14 +345,16 @@ impl Hub {
         Ok(())
     }
 
-    /// Sets the metrics that say what is so now.
-    pub fn measure(&self) {
+    /// The page of all metrics.
+    pub fn metrics_page(&self) -> String {
         let peers: Vec<Arc<Peer>> = lock(&self.peers).values().cloned().collect();
         let gossip = lock(&self.gossip);
         for peer in peers.iter().chain([&self.own]) {
             let is_held = gossip.machine.is_held(peer.node);
             self.metrics.held.with_label_values(&[&peer.name]).set(is_held.into());
         }
+        drop(gossip);
+        TextEncoder::new().encode_to_string(&self.metrics.registry.gather()).unwrap_or_default()
     }
 }
 

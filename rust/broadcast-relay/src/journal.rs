@@ -13,7 +13,7 @@ use crate::of;
 use broadcast_relay::gossip::Coverage;
 use bytes::Bytes;
 use openssl::sha::Sha256;
-use std::collections::VecDeque;
+use std::collections::{BTreeSet, VecDeque};
 use std::fs::{self, File, OpenOptions, TryLockError};
 use std::io::{self, ErrorKind, Write};
 use std::os::unix::fs::{DirBuilderExt, OpenOptionsExt};
@@ -39,6 +39,12 @@ pub fn lock_folder(folder: &Path) -> io::Result<File> {
         }
         Err(TryLockError::Error(why)) => Err(of(&path)(why)),
     }
+}
+
+/// The older and the newer file of an author.
+fn files(folder: &Path, author: &PeerId) -> [PathBuf; 2] {
+    let newer = folder.join(to_hex(author));
+    [newer.with_extension("old"), newer]
 }
 
 /// Files that only their owner may read.
@@ -91,8 +97,7 @@ impl Journal {
     /// Opens the files of an author, which may have some more than `most` bytes each.
     pub fn open(folder: &Path, author: &PeerId, most: u64) -> io::Result<(Journal, Past)> {
         fs::create_dir_all(folder).map_err(of(folder))?;
-        let newer = folder.join(to_hex(author));
-        let older = newer.with_extension("old");
+        let [older, newer] = files(folder, author);
         let mut past = Past::default();
         for path in [&older, &newer] {
             if path.exists() {
@@ -165,18 +170,11 @@ fn head(covered: &Coverage) -> Vec<u8> {
 
 /// Calls `each` with the messages of all authors in a folder.
 pub fn read(folder: &Path, mut each: impl FnMut(Signed)) -> io::Result<()> {
-    let mut files: Vec<PathBuf> = fs::read_dir(folder)
-        .map_err(of(folder))?
-        .map(|it| it.map(|it| it.path()))
-        .collect::<io::Result<_>>()?;
-    let is_of_author = |it: &PathBuf| {
-        let name = it.file_stem().and_then(|it| it.to_str()).and_then(from_hex);
-        name.is_some() && it.extension().is_none_or(|it| it == "old")
-    };
-    files.retain(is_of_author);
-    // The older file of an author before the newer.
-    files.sort_by_key(|it| (it.with_extension(""), it.extension().is_none()));
-    for file in files {
+    let mut authors = BTreeSet::new();
+    for it in fs::read_dir(folder).map_err(of(folder))? {
+        authors.extend(it?.path().file_stem().and_then(|it| from_hex(it.to_str()?)));
+    }
+    for file in authors.iter().flat_map(|it| files(folder, it)).filter(|it| it.exists()) {
         let mut past = Past::default();
         parse(&fs::read(&file).map_err(of(&file))?, &mut past, u64::MAX);
         past.messages.into_iter().for_each(&mut each);

@@ -9,7 +9,6 @@ use std::sync::mpsc::{SyncSender, sync_channel};
 use std::thread;
 use std::time::{Duration, Instant};
 use tracing_subscriber::EnvFilter;
-use tracing_subscriber::fmt::MakeWriter;
 
 /// How many lines wait to be written.
 const WAITING: usize = 1_024;
@@ -39,7 +38,8 @@ impl Lines {
         let filter = EnvFilter::try_from_default_env()
             .unwrap_or_else(|_| "warn,broadcast_relay=info".into());
         let log = tracing_subscriber::fmt().with_env_filter(filter).log_internal_errors(false);
-        log.with_writer(lines.clone()).init();
+        let writer = lines.clone();
+        log.with_writer(move || writer.clone()).init();
         Ok(lines)
     }
 
@@ -64,13 +64,5 @@ impl Write for Lines {
 
     fn flush(&mut self) -> io::Result<()> {
         Ok(())
-    }
-}
-
-impl<'a> MakeWriter<'a> for Lines {
-    type Writer = Lines;
-
-    fn make_writer(&'a self) -> Lines {
-        self.clone()
     }
 }

@@ -109,15 +109,10 @@ async fn drain(hub: &Hub, lines: Option<mpsc::Receiver<Vec<u8>>>) {
 
 /// Logs what was counted.
 fn summary(hub: &Hub) {
-    for family in hub.metrics.registry.gather() {
-        for metric in family.get_metric() {
-            let labels: Vec<_> = metric.get_label().iter().map(|it| it.get_value()).collect();
-            let value = metric.get_counter().get_value() + metric.get_gauge().get_value();
-            if value != 0.0 {
-                info!("{} {} {value}", family.get_name(), labels.join(" "));
-            }
-        }
-    }
+    let page = hub.metrics_page();
+    page.lines()
+        .filter(|it| !it.starts_with('#') && !it.ends_with(" 0"))
+        .for_each(|it| info!("{it}"));
     info!("ended");
 }
 
