@@ -233,6 +233,7 @@ fn a_dial_that_is_passed_on_cuts_no_link() {
     config +=
         &format!("[[peer]]\nname = \"hostile\"\nkey = \"{}\"\naddress = \"{address}\"\n", key.text);
     fs::write(relays[0].config(), config).unwrap();
+    relays[1].prefix = ["env", "RUST_LOG=broadcast_relay=debug"].map(str::to_owned).to_vec();
     relays[1].start();
     relays[0].start();
     wait_for("connected", || relays[1].is_connected("r0"));
@@ -242,6 +243,10 @@ fn a_dial_that_is_passed_on_cuts_no_link() {
     assert!(relays[0].log().contains("another key listens there"));
     assert!(!relays[1].log().contains("replaced"), "{}", relays[1].log());
     assert!(relays[1].metric("relay_strangers_total") >= 1.0);
+    // The first relay ended the handshakes itself, and did not show its key.
+    let log = relays[1].log();
+    let mut refused = log.lines().filter(|it| it.contains("refused"));
+    assert!(refused.all(|it| it.contains("alert")), "{log}");
 }
 
 #[test]
