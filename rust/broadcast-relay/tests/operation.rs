@@ -240,7 +240,7 @@ fn a_dial_that_is_passed_on_cuts_no_link() {
     (0..5).for_each(|_| passed.recv_timeout(PATIENCE).unwrap());
     relays[0].write("said");
     wait_for("the line", || relays[1].has_printed("r0", "said"));
-    assert!(relays[0].log().contains("another key listens there"));
+    wait_for("a warning", || relays[0].log().contains("another key listens there"));
     assert!(!relays[1].log().contains("replaced"), "{}", relays[1].log());
     assert!(relays[1].metric("relay_strangers_total") >= 1.0);
     // The first relay ended the handshakes itself, and did not show its key.

@@ -81,7 +81,7 @@ fn refused_descriptors_and_threads_do_not_make_a_relay_deaf() {
     // No more than 128 descriptors, where it wants a thousand; and from its start on no thread more.
     relays[0].prefix = ["prlimit", "--nofile=128:128"].map(str::to_owned).to_vec();
     relays[0].start();
-    assert!(relays[0].log().contains("few descriptors"));
+    wait_for("a warning", || relays[0].log().contains("few descriptors"));
     let threads = std::process::Command::new("prlimit")
         .args(["--pid", &relays[0].id().to_string(), "--nproc=1:1"])
         .stderr(Stdio::inherit())
