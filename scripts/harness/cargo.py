@@ -13,16 +13,14 @@ CRATES = (
     "bytes clap futures-core hyper openssl prometheus rand serde serde-json sha2 tokio tokio-openssl toml tracing tracing-subscriber"
 )
 PACKAGES = [*(f"librust-{it}-dev" for it in CRATES.split()), "libssl-dev", "pkg-config"]
-# Begins a command with a greater claim to the processors than others have, if that is allowed.
-FIRST = ["setsid", "-w", "sh", "-c", 'echo -15 2> /dev/null > /proc/self/autogroup; exec nice -n -10 "$@"', "sh"]
 
 
-def cargo(command, words, env, limit, cwd=TOP / "rust", before=()):
+def cargo(command, words, env, limit, cwd=TOP / "rust"):
     """Calls cargo, which asks no network. Returns whether it succeeded, and what it printed."""
     # Looked at now: `lacking` may have installed the packages meanwhile.
     config = CONFIG if DEBIAN.exists() else ()
     offline = () if command == "fmt" else ("--offline", *config)
-    return call([*before, "cargo", command, *offline, *words], limit, cwd=cwd, env=env)
+    return call(["cargo", command, *offline, *words], limit, cwd=cwd, env=env)
 
 
 def without_toolchain(**more):

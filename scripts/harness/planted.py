@@ -7,7 +7,7 @@ nothing else may be built there meanwhile.
 import re
 import shutil
 
-from harness.cargo import FIRST, cargo
+from harness.cargo import cargo
 from harness.common import TOP
 from harness.mutants import misplaced, read_all
 
@@ -46,7 +46,7 @@ def run(crate, by, env):
     if not is_built:
         return False, False, said
     words = [*tests, "--", "--test-threads", "1", *words]
-    is_well, said = cargo("test", words, env, LIMIT, cwd=PLACE / "rust", before=FIRST)
+    is_well, said = cargo("test", words, env, LIMIT, cwd=PLACE / "rust")
     return True, is_well and bool(PASSED.search(said)), said
 
 
