@@ -1,7 +1,7 @@
 //! Two workers that must meet at their gate.
 ghost use Rattle.std.specs.Prelude.{◌≡◌, IfOk};
 
-use super::patient::{LIMIT, pause};
+use super::patient::LIMIT;
 use super::task::Task;
 use broadcast_core::{Digest, Digestible, TestMessage};
 use commonware_broadcast::buffered::{
@@ -208,56 +208,4 @@ where
 #[test]
 fn a_dropped_job_waits_until_its_message_was_digested(rt: HostRuntime) {
     assert_eq!(rt; drop_held(&rt), (true, 2));
-}
-
-/// Moves a job to another thread, which waits for its digest there. Returns whether the digest is
-/// that of the message.
-fn move_held<R>(rt: &R) -> bool
-where
-    R: Runtime + Abort,
-{
-    let gate = Meeting::new(rt.alloc()).expect(rt, "memory");
-    let job = hold(rt, &gate);
-    let own = rt.clone().expect(rt, "memory");
-    let waiting = thread::spawn(rt, move || {
-        let mut job = job;
-        digest(&own, &mut job)
-    });
-    let waiting = waiting.expect(rt, "a thread");
-    gate.pass();
-    waiting.join(rt) == message(rt.alloc(), 7).expect(rt, "memory").digest()
-}
-
-#[test]
-fn a_job_moves_to_another_thread(rt: HostRuntime) {
-    assert!(rt; move_held(&rt));
-}
-
-/// Polls a job once whose thread waits at the gate, and lets it pass. Returns whether its task is
-/// woken then, and whether the job is done.
-fn wake<R>(rt: &R) -> (bool, bool)
-where
-    R: Runtime + Abort,
-{
-    let gate = Meeting::new(rt.alloc()).expect(rt, "memory");
-    let mut task = Task::new(rt).expect(rt, "memory");
-    let mut job = hold(rt, &gate);
-    let pending = is_pending(&mut task, &mut job);
-    gate.pass();
-    for _ in 0..LIMIT {
-        task.look();
-        if task.wakes > 0 {
-            break;
-        }
-        pause(rt);
-    }
-    let mut cx = task.solo.begin();
-    let polled = job.poll(&mut cx);
-    task.rest.end(cx);
-    (pending && task.wakes > 0, polled.is_ready())
-}
-
-#[test]
-fn the_task_of_a_job_is_woken(rt: HostRuntime) {
-    assert_eq!(rt; wake(&rt), (true, true));
 }

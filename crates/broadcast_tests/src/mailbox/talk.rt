@@ -4,7 +4,7 @@ ghost use Rattle.std.specs.NonZero.{non_zero_u32_get};
 
 use super::asked::{Asked, Given, How};
 use super::note::Note;
-use super::taken::{Request, end, is_request};
+use super::taken::{Request, end, is_closed, is_request};
 use crate::support::message::{To, recipients};
 use broadcast_core::Digested;
 use broadcast_mailbox::buffered::{
@@ -27,14 +27,14 @@ use std::time::Clock;
 pub const DIGEST: u64 = 7;
 
 /// Who makes a call.
-#[derive(Clone, Copy, Debug)]
+#[derive(Clone, Copy)]
 pub enum By {
     Caller,
     Tally,
 }
 
 /// What is done to a mailbox, or must be seen of it.
-#[derive(Clone, Copy, Debug)]
+#[derive(Clone, Copy)]
 pub enum Act {
     /// A broadcast, whose caller is told this.
     Broadcast(By, To, Feedback),
@@ -144,8 +144,7 @@ where
         taken,
     )
     .expect(rt, "memory");
-    let stopper = ingress.stopper().expect(rt, "memory");
-    stopper.set_may_look(may_look);
+    set_may_look(rt, &ingress, may_look);
     let talk = Talk {
         mailbox,
         ingress,
@@ -157,6 +156,16 @@ where
     };
     let mut talk: Box<Talk<R, A, K, V>> = Box::new(rt.alloc(), talk).expect(rt, "memory");
     wrong_place(rt, &mut talk, lines)
+}
+
+/// Lets whoever takes the requests look before it sleeps, or not.
+fn set_may_look<R, B>(rt: &R, ingress: &Ingress<Incoming<u64, Note>, R, B>, may_look: bool)
+where
+    R: Wait + Abort + Clone + Drop,
+    B: Bookkeeping,
+{
+    let stopper = ingress.stopper().expect(rt, "memory");
+    stopper.set_may_look(may_look);
 }
 
 /// Does what the acts say. Returns the place of the first line that does not go as it should.
@@ -192,9 +201,8 @@ where
             Act::Counted(number) => self.tally.accepted() == number,
             Act::Gives(how, wanted) => gives(rt, &mut self.asked, how, wanted),
             Act::Leave => leave(&mut self.asked),
-            Act::IsClosed(..) | Act::Reply(..) | Act::ReplyNone | Act::Abandon => {
-                end(rt, &mut self.taken, act)
-            }
+            Act::IsClosed(wanted) => is_closed(self.taken.as_ref(), wanted),
+            Act::Reply(..) | Act::ReplyNone | Act::Abandon => end(rt, self.taken.take(), act),
             _ => self.takes(rt, act),
         }
     }
@@ -204,14 +212,9 @@ where
         match act {
             Act::Told(wanted) => self.tells(wanted),
             Act::Take(wanted) => self.take(wanted),
-            Act::Skip(number) => self.skip(number),
-            Act::Stop => self.stop(),
-            Act::Stopped(wanted) => self.ingress.stop_requested() == wanted,
-            Act::Close(wanted) => self.ingress.close() == wanted,
-            Act::Counts(wanted) => numbers(self.ingress.counts()) == wanted,
-            Act::Look(wanted) => self.ingress.look(rt) == wanted,
+            Act::Skip(number) => skip(&self.task, &mut self.ingress, number),
             Act::LookOften => self.looks_again(rt),
-            _ => false,
+            _ => shows(rt, &self.ingress, act),
         }
     }
 
@@ -267,17 +270,10 @@ where
         is_request(self.taken.as_ref(), wanted)
     }
 
-    fn skip(&mut self, number: u64) -> bool {
-        for _ in 0..number {
-            drop::<_>(next(&self.task, &mut self.ingress));
-        }
-        true
-    }
-
     /// Returns whether one of a hundred looks sees the get before it.
     fn looks_again(&mut self, rt: &R) -> bool {
         for _ in 0..100 {
-            let _is_left = self.skip(2);
+            let _are_left = skip(&self.task, &mut self.ingress, 2);
             let _is_accepted = self.get(rt, By::Caller);
             if self.ingress.look(rt) {
                 return true;
@@ -285,10 +281,36 @@ where
         }
         false
     }
+}
 
-    fn stop(&mut self) -> bool {
-        self.ingress.request_stop();
-        true
+/// Takes so many requests.
+fn skip<R, B>(task: &Solo, ingress: &mut Ingress<Incoming<u64, Note>, R, B>, number: u64) -> bool
+where
+    R: Wait,
+    B: Bookkeeping,
+{
+    for _ in 0..number {
+        drop::<_>(next(task, ingress));
+    }
+    true
+}
+
+/// Returns whether the end that takes the requests shows what the act says, or is stopped by it.
+fn shows<R, B>(rt: &R, ingress: &Ingress<Incoming<u64, Note>, R, B>, act: Act) -> bool
+where
+    R: Wait + Clock,
+    B: Bookkeeping,
+{
+    match act {
+        Act::Stop => {
+            ingress.request_stop();
+            true
+        }
+        Act::Stopped(wanted) => ingress.stop_requested() == wanted,
+        Act::Close(wanted) => ingress.close() == wanted,
+        Act::Counts(wanted) => numbers(ingress.counts()) == wanted,
+        Act::Look(wanted) => ingress.look(rt) == wanted,
+        _ => false,
     }
 }
 

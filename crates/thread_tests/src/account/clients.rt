@@ -126,6 +126,9 @@ where
     }
 }
 
+/// A client that was started. It leaves its tally, and what it was told.
+type Running<A> = JoinHandle<(Tally<A>, Told)>;
+
 /// What four clients and their engine leave.
 #[derive(Clone, Copy, Debug)]
 struct Left {
@@ -206,7 +209,7 @@ fn start_all<M, R, A, K, V>(
     tally: Tally<A>,
     calls: Vec<Calls<M>>,
     made: &Arc<AtomicU64>,
-) -> Vec<JoinHandle<(Tally<A>, Told)>>
+) -> Vec<Running<A>>
 where
     M: Digestible + Send + Sync + 'static,
     M::Digest: Send + Sync + 'static,
@@ -215,35 +218,57 @@ where
     K: Account + Send + Sync + 'static,
     V: Watch<M::Digest> + Send + Sync + 'static,
 {
-    let mut clients = Vec::new(rt.alloc());
+    let mut clients = Vec::with_capacity(rt.alloc(), calls.len()).expect(rt, "memory");
     let mut rest = Some(tally);
     for calls in calls {
-        let Some(mut tally) = rest.take() else {
-            panic!(rt; "more clients than parts");
-        };
-        // The last client has what is left of the tally.
-        let part = match tally.split_one() {
-            Some(part) => {
-                rest = Some(tally);
-                part
-            }
-            None => tally,
-        };
-        let client = Client {
-            mailbox: mailbox.clone().expect(rt, "memory"),
-            tally: part,
-            calls,
-            made: Arc::try_clone(made).expect(rt, "memory"),
-            rt: rt.clone().expect(rt, "memory"),
-        };
-        let client = thread::spawn(rt, move || client.run()).expect(rt, "a thread");
-        clients.push(client).expect(rt, "memory");
+        let (part, others) = part_of(rest);
+        rest = others;
+        clients.push_reserved(start(rt, mailbox, part.expect(rt, "a part"), calls, made));
     }
     clients
 }
 
+/// Cuts a part off a tally. The last part is what is left of it.
+fn part_of<A: Account>(tally: Option<Tally<A>>) -> (Option<Tally<A>>, Option<Tally<A>>) {
+    let Some(mut tally) = tally else {
+        return (None, None);
+    };
+    match tally.split_one() {
+        Some(part) => (Some(part), Some(tally)),
+        None => (Some(tally), None),
+    }
+}
+
+/// Starts a client with this part of the tally.
+fn start<M, R, A, K, V>(
+    rt: &R,
+    mailbox: &WatchedMailbox<u64, M, R, A, K, V>,
+    tally: Tally<A>,
+    calls: Calls<M>,
+    made: &Arc<AtomicU64>,
+) -> Running<A>
+where
+    M: Digestible + Send + Sync + 'static,
+    M::Digest: Send + Sync + 'static,
+    R: Runtime + Abort,
+    A: Account + Send + Sync + 'static,
+    K: Account + Send + Sync + 'static,
+    V: Watch<M::Digest> + Send + Sync + 'static,
+{
+    let made = Arc::try_clone(made).expect(rt, "memory");
+    let own = rt.clone().expect(rt, "memory");
+    let client = Client {
+        mailbox: mailbox.clone().expect(rt, "memory"),
+        tally,
+        calls,
+        made,
+        rt: own,
+    };
+    thread::spawn(rt, move || client.run()).expect(rt, "a thread")
+}
+
 /// Joins the clients, and their tallies. Returns what they were told in all.
-fn join_all<R, A>(rt: &R, clients: Vec<JoinHandle<(Tally<A>, Told)>>) -> (Tally<A>, Told)
+fn join_all<R, A>(rt: &R, clients: Vec<Running<A>>) -> (Tally<A>, Told)
 where
     R: Threads + Abort,
     A: Account,
