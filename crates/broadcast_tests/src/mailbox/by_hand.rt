@@ -9,7 +9,7 @@ use std::num::NonZeroUsize;
 use std::process::Abort;
 use std::sync::Wait;
 
-/// How many requests wait before the last one.
+/// How many requests wait behind the first one.
 const MANY: u64 = 1001;
 
 /// Queues many broadcasts.
@@ -35,7 +35,7 @@ fn taken<R: Wait>(ingress: &Ingress<Incoming<u64, Note>, R>) -> u64 {
     MANY + 1
 }
 
-/// Returns how many of many broadcasts and a subscribe are taken in the order of their tickets, how
+/// Returns how many of a subscribe and many broadcasts are taken in the order of their tickets, how
 /// often the mailbox tells of the subscription, which is dropped, before that, and how often
 /// afterwards.
 fn shown<R>(rt: &R) -> (usize, u64, usize)
@@ -45,8 +45,8 @@ where
     let own = rt.clone().expect(rt, "memory");
     let ends = channel::<u64, Note, R>(own, rt.alloc(), NonZeroUsize::MIN);
     let (mailbox, mut ingress) = ends.expect(rt, "memory");
-    fill(rt, &mailbox);
     drop::<_>(mailbox.subscribe(DIGEST).expect(rt, "a subscription"));
+    fill(rt, &mailbox);
     let mut told = Vec::new(rt.alloc());
     let before = dropped(&mut ingress, &mut told);
     let taken = taken(&ingress);
