@@ -1,24 +1,18 @@
 //! Engines that one thread polls.
 mod act;
+mod around;
 mod asked;
 mod asks;
-mod callers;
 mod counter_rows;
-mod driven;
-mod drives;
 mod drops;
-mod feeds;
 mod job;
+mod metric;
 mod network;
 mod node;
-mod nodes;
 mod order;
 mod passing;
 mod peers;
 mod scenario_rows;
 mod scenarios;
-mod scripts;
-mod turns;
 mod wakes;
-mod wires;
 mod world;

@@ -1,44 +1,53 @@
-//! A key whose copy may find no memory.
-ghost use Rattle.std.specs.Prelude.{◌≡◌, true};
+//! A key whose copies may find no memory.
+ghost use Rattle.std.specs.Prelude.{◌≡◌};
 ghost use Rattle.std.proofs.Common.{arith, rules};
 
 use broadcast_core::{Leading, PublicKey};
 use std::alloc::AllocError;
+use std::sync::atomic::{AtomicU64, Ordering};
 
-/// A key that is compared by its number, and that may find no memory for a copy.
+/// A key that is compared by its number. One of its copies may find no memory.
 #[derive(Drop)]
 #[derive_where(Debug, PartialEq, Eq, PartialOrd, Ord, Hash)]
 pub struct Key {
     /// The number that tells keys apart.
-    pub number: u64,
-    /// Whether there is memory for a copy.
+    number: u64,
+    /// Before how many copies that one is made.
     #[derive_where(skip(EqHashOrd))]
-    pub copies: bool,
+    copies: u64,
+    /// How many copies were asked for.
+    #[derive_where(skip(Debug, EqHashOrd))]
+    asked: AtomicU64,
 }
 
 impl Key {
-    /// Creates a key with memory for its copies.
-    pub fn new(number: u64) -> Key
-        ensures { result ≡ record { number = number; copies = true } }
+    /// Creates a key for which there is no memory once this many copies were made.
+    pub fn with_copies(number: u64, copies: u64) -> Key
+        ensures { result.number ≡ number }
     {
         Key {
             number,
-            copies: true,
+            copies,
+            asked: AtomicU64::new(0),
         }
+    }
+
+    /// Creates a key with memory for its copies.
+    pub fn new(number: u64) -> Key
+        ensures { result.number ≡ number }
+    {
+        Key::with_copies(number, u64::MAX)
     }
 }
 
 impl Clone for Key {
-    ghost is_clone = { λ key copy. copy ≡ key };
+    ghost is_clone = { λ key copy. copy.number ≡ key.number };
 
     fn clone(&self) -> Result<Self, AllocError> {
-        if !self.copies {
+        if self.asked.fetch_add(1, Ordering::SeqCst) == self.copies {
             return Err(AllocError);
         }
-        Ok(Key {
-            number: self.number,
-            copies: self.copies,
-        })
+        Ok(Key::with_copies(self.number, self.copies))
     }
 }
 

@@ -17,6 +17,8 @@ mod network;
 #[cfg(test)]
 mod recent;
 #[cfg(test)]
+mod recorder;
+#[cfg(test)]
 mod refused;
 #[cfg(test)]
 mod relays;

@@ -1,7 +1,7 @@
 //! `replay` passes its broadcasts through an inbox.
 use broadcast_mailbox::buffered::Inbox;
 use programs::replay::play;
-use std::alloc::AllocGlobal;
+use std::alloc::{AllocError, AllocGlobal, Global};
 use std::num::NonZeroUsize;
 use std::process::Abort;
 use std::sync::{Mutex, Wait};
@@ -37,6 +37,14 @@ fn each_broadcast_passes_the_inbox(rt: HostRuntime) {
     }
 }
 
+/// The arguments of `replay 1 2`.
+fn words(alloc: Global) -> Result<Vec<String>, AllocError> {
+    let mut words = Vec::new(alloc);
+    words.push(String::from_str(alloc, "1")?)?;
+    words.push(String::from_str(alloc, "2")?)?;
+    Ok(words)
+}
+
 /// Runs `replay 1 2` over the lines, through an inbox of one place. Returns its status, and how many
 /// requests the inbox has accepted and taken.
 fn played<R: Wait + Abort + AllocGlobal>(
@@ -44,11 +52,7 @@ fn played<R: Wait + Abort + AllocGlobal>(
     input: &'static [u8],
     is_closed: bool,
 ) -> (u8, [u64; 2]) {
-    let mut words = Vec::new(rt.alloc());
-    for word in ["1", "2"] {
-        let word = String::from_str(rt.alloc(), word).expect(rt, "memory");
-        words.push(word).expect(rt, "memory");
-    }
+    let words = words(rt.alloc()).expect(rt, "memory");
     let mut inbox = Inbox::new(rt.alloc(), NonZeroUsize::MIN);
     if is_closed {
         inbox.close();

@@ -1,17 +1,15 @@
 //! The network in memory: the nodes to which it hands a payload, also if one is lost, and peer sets.
-ghost use Rattle.std.specs.Prelude.{◌≡◌};
-ghost use Rattle.std.proofs.Common.{arith, rules};
-
+use crate::key::Key;
 use crate::support::message::{To, peers, recipients};
 use crate::support::task::Task;
-use broadcast_core::{Leading, PublicKey, Recipients};
+use broadcast_core::{PublicKey, Recipients};
 use commonware_broadcast::buffered::{Provider, Sender};
 use futures::task::Poll;
-use memory_network::{Mail, Network, Outbound};
-use std::alloc::{AllocError, AllocGlobal};
+use memory_network::{Ends, Mail, Network, Outbound};
+use std::alloc::{AllocError, AllocGlobal, Global};
 use std::process::Abort;
 use std::random::RandomSource;
-use std::sync::atomic::{AtomicU64, Ordering};
+use std::sync::atomic::Ordering;
 use std::sync::{Arc, Wait};
 
 /// Recipients, and whether each of the nodes 1 to 4 is handed a payload of the node 1.
@@ -59,10 +57,10 @@ fn sent<R>(rt: &R, to: To) -> [bool; 4]
 where
     R: Wait + Abort + RandomSource + AllocGlobal + Clone + Drop,
 {
-    let network = Network::between(rt, &[1, 2, 3, 4]).expect(rt, "memory");
-    let mut ends = network.join(rt, &1).expect(rt, "a node");
     let bytes = Vec::from_slice(rt.alloc(), &BYTES).expect(rt, "memory");
     let recipients = recipients(rt.alloc(), to).expect(rt, "memory");
+    let network = Network::between(rt, &[1, 2, 3, 4]).expect(rt, "memory");
+    let mut ends = network.join(rt, &1).expect(rt, "a node");
     ends.sender.send(recipients, bytes, false);
     handed(rt, network.mails())
 }
@@ -74,52 +72,18 @@ fn recipients_alone_are_handed_a_payload(rt: HostRuntime) {
     }
 }
 
-/// A key of which the second copy can't be made.
-#[derive(Drop)]
-#[derive_where(PartialEq, Eq, PartialOrd, Ord, Hash)]
-struct Scarce {
-    /// The number that tells keys apart.
-    number: u64,
-    /// How many copies were asked for.
-    #[derive_where(skip(EqHashOrd))]
-    copies: AtomicU64,
-}
+/// The mails of some nodes.
+type Mails = Vec<Arc<Mail<Key>>>;
 
-impl Scarce {
-    /// Creates the key of this number.
-    fn new(number: u64) -> Self
-        ensures { result.number ≡ number }
-    {
-        Scarce {
-            number,
-            copies: AtomicU64::new(0),
-        }
+/// Creates the mails of the nodes 2 to 5, each twice.
+fn mails(alloc: Global) -> Result<(Mails, Mails), AllocError> {
+    let (mut mails, mut others) = (Vec::new(alloc), Vec::new(alloc));
+    for number in [2, 3, 4, 5] {
+        let mail = Arc::new(alloc, Mail::new(alloc, Key::new(number)))?;
+        others.push(Arc::try_clone(&mail)?)?;
+        mails.push(mail)?;
     }
-}
-
-impl Clone for Scarce {
-    ghost is_clone = { λ key copy. copy.number ≡ key.number };
-
-    fn clone(&self) -> Result<Self, AllocError> {
-        if self.copies.fetch_add(1, Ordering::SeqCst) == 1 {
-            return Err(AllocError);
-        }
-        Ok(Scarce::new(self.number))
-    }
-}
-
-impl Leading for Scarce {
-    ghost leading_of = { λ _. 0 };
-
-    ghost leads = { λ x y more. absurd (Prim.omega arith) };
-
-    fn leading(&self) -> u8 {
-        0
-    }
-}
-
-impl PublicKey for Scarce {
-    ghost copies = { Prim.search rules };
+    Ok((mails, others))
 }
 
 /// Sends a payload to the nodes 2 to 5. There is no copy of the sender's key for the second of
@@ -128,16 +92,8 @@ fn spread<R>(rt: &R) -> [bool; 4]
 where
     R: Wait + Abort + RandomSource + AllocGlobal + Clone + Drop,
 {
-    let mut mails = Vec::new(rt.alloc());
-    let mut others = Vec::new(rt.alloc());
-    for number in [2, 3, 4, 5] {
-        let mail = Mail::new(rt.alloc(), Scarce::new(number));
-        let mail = Arc::new(rt.alloc(), mail).expect(rt, "memory");
-        let other = Arc::try_clone(&mail).expect(rt, "memory");
-        others.push(other).expect(rt, "memory");
-        mails.push(mail).expect(rt, "memory");
-    }
-    let outbound = Outbound::new(rt, &Scarce::new(1), others).expect(rt, "memory");
+    let (mails, others) = mails(rt.alloc()).expect(rt, "memory");
+    let outbound = Outbound::new(rt, &Key::with_copies(1, 1), others).expect(rt, "memory");
     outbound
         .spread(&Recipients::All, &BYTES)
         .expect(rt, "memory");
@@ -155,20 +111,21 @@ fn asked<R>(rt: &R) -> [(bool, u64); 4]
 where
     R: Wait + Abort + RandomSource + AllocGlobal + Clone + Drop,
 {
-    let mut ends = Network::between(rt, &[1])
-        .expect(rt, "memory")
-        .join(rt, &1)
-        .expect(rt, "a node");
     let mut task = Task::new(rt).expect(rt, "memory");
-    let first = ask(&ends.provider, &ends.mail);
     let peers = peers(rt.alloc(), &[1, 2]).expect(rt, "memory");
-    ends.mail.set_peers(rt, peers).expect(rt, "memory");
-    let second = ask(&ends.provider, &ends.mail);
-    poll(&mut ends.provider, &mut task);
-    let third = ask(&ends.provider, &ends.mail);
-    poll(&mut ends.provider, &mut task);
-    let fourth = ask(&ends.provider, &ends.mail);
-    [first, second, third, fourth]
+    let network = Network::between(rt, &[1]).expect(rt, "memory");
+    let Ends {
+        mut provider,
+        mail,
+        ..
+    } = network.join(rt, &1).expect(rt, "a node");
+    let first = ask(&provider, &mail);
+    mail.set_peers(rt, peers).expect(rt, "memory");
+    let second = ask(&provider, &mail);
+    poll(&mut provider, &mut task);
+    let third = ask(&provider, &mail);
+    poll(&mut provider, &mut task);
+    [first, second, third, ask(&provider, &mail)]
 }
 
 /// Asks the provider whether it has a peer set. Returns that, and how often the node was asked.

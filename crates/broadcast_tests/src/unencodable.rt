@@ -32,9 +32,11 @@ fn events(alloc: Global, number: u8) -> Result<Vec<Event<u64, Even>>, AllocError
     Ok(events)
 }
 
-fn run_of(alloc: Global, number: u8) -> Result<Run<u64, Even>, AllocError> {
+/// Returns what a run shows that broadcasts the number.
+fn shown(alloc: Global, number: u8) -> Result<Shown, AllocError> {
     let events = events(alloc, number)?;
-    run(alloc, 1, 2, u64::MAX, true, &(), events)
+    let run = run(alloc, 1, 2, u64::MAX, true, &(), events)?;
+    shown_by(alloc, &run, number)
 }
 
 fn shown_by(alloc: Global, run: &Run<u64, Even>, number: u8) -> Result<Shown, AllocError> {
@@ -50,8 +52,7 @@ fn shown_by(alloc: Global, run: &Run<u64, Even>, number: u8) -> Result<Shown, Al
 #[test]
 fn a_message_without_encoding_is_refused(rt: HostRuntime) {
     for (number, expected) in broadcasts() {
-        let run = run_of(rt.alloc(), *number).expect(&rt, "memory");
-        let shown = shown_by(rt.alloc(), &run, *number).expect(&rt, "memory");
+        let shown = shown(rt.alloc(), *number).expect(&rt, "memory");
         assert_eq!(rt; shown, *expected, "number {number}");
     }
 }

@@ -2,3 +2,4 @@
 mod clients;
 mod endings;
 mod quiet;
+mod tallied;

@@ -1,7 +1,7 @@
 //! Two workers that must meet at their gate.
 ghost use Rattle.std.specs.Prelude.{◌≡◌, IfOk};
 
-use super::patient::{LIMIT, pause};
+use super::patient::LIMIT;
 use super::task::Task;
 use broadcast_core::{Digest, Digestible, TestMessage};
 use commonware_broadcast::buffered::{
@@ -102,9 +102,7 @@ where
     R: Runtime + Abort,
 {
     let gate = Meeting::new(rt.alloc()).expect(rt, "memory");
-    let copy = rt.clone().expect(rt, "memory");
-    let strategy = Threaded::new(copy, rt.alloc(), Arc::try_clone(&gate).expect(rt, "memory"));
-    let (pending, equal) = digests(rt, &gate, &strategy);
+    let (pending, equal) = digests(rt, &gate, &threaded(rt, &gate));
     (gate.met(), pending, equal)
 }
 
@@ -114,17 +112,25 @@ fn digests<R>(rt: &R, gate: &Meeting, strategy: &Threaded<Meeting, R>) -> (bool,
 where
     R: Runtime + Abort,
 {
-    let first = message(rt.alloc(), 1).expect(rt, "memory");
-    let second = message(rt.alloc(), 2).expect(rt, "memory");
-    let wanted = (first.digest(), second.digest());
-    let mut one = strategy.start(first).expect(rt, "a job");
-    let pending = gate.waits_for(1)
-        && is_pending(&mut Task::new(rt).expect(rt, "memory"), &mut one);
-    let mut two = strategy.start(second).expect(rt, "a job");
-    (
-        pending,
-        (digest(rt, &mut one), digest(rt, &mut two)) == wanted,
-    )
+    let mut task = Task::new(rt).expect(rt, "memory");
+    let wanted = (message(rt, 1).digest(), message(rt, 2).digest());
+    let mut one = start(rt, strategy, 1);
+    let pending = gate.waits_for(1) && is_pending(&mut task, &mut one);
+    let mut two = start(rt, strategy, 2);
+    let digests = (digest(rt, &mut one), digest(rt, &mut two));
+    (pending, digests == wanted)
+}
+
+/// Starts the job of a message with this content.
+fn start<R>(
+    rt: &R,
+    strategy: &Threaded<Meeting, R>,
+    content: u8,
+) -> Working<TestMessage, Meeting, R>
+where
+    R: Runtime + Abort,
+{
+    strategy.start(message(rt, content)).expect(rt, "a job")
 }
 
 /// Polls a job some times. Returns whether it stays pending, and nothing wakes its task.
@@ -154,8 +160,9 @@ where
 }
 
 /// Returns a message with this content.
-fn message(alloc: Global, content: u8) -> Result<TestMessage, AllocError> {
-    TestMessage::shared(alloc, vec![in alloc; content]?)
+fn message<R: Abort + AllocGlobal>(rt: &R, content: u8) -> TestMessage {
+    let bytes = vec![in rt.alloc(); content].expect(rt, "memory");
+    TestMessage::shared(rt.alloc(), bytes).expect(rt, "memory")
 }
 
 #[test]
@@ -163,15 +170,21 @@ fn threaded_uses_another_thread(rt: HostRuntime) {
     assert_eq!(rt; meet(&rt), (2, true, true));
 }
 
+/// Creates the strategy whose threads pass the gate.
+fn threaded<R>(rt: &R, gate: &Arc<Meeting>) -> Threaded<Meeting, R>
+where
+    R: Runtime + Abort,
+{
+    let gate = Arc::try_clone(gate).expect(rt, "memory");
+    Threaded::new(rt.clone().expect(rt, "memory"), rt.alloc(), gate)
+}
+
 /// Starts a job whose thread waits at the gate.
 fn hold<R>(rt: &R, gate: &Arc<Meeting>) -> Working<TestMessage, Meeting, R>
 where
     R: Runtime + Abort,
 {
-    let copy = rt.clone().expect(rt, "memory");
-    let strategy = Threaded::new(copy, rt.alloc(), Arc::try_clone(gate).expect(rt, "memory"));
-    let message = message(rt.alloc(), 7).expect(rt, "memory");
-    let job = strategy.start(message).expect(rt, "a job");
+    let job = start(rt, &threaded(rt, gate), 7);
     assert!(rt; gate.waits_for(1), "no thread is at the gate");
     job
 }
@@ -208,56 +221,4 @@ where
 #[test]
 fn a_dropped_job_waits_until_its_message_was_digested(rt: HostRuntime) {
     assert_eq!(rt; drop_held(&rt), (true, 2));
-}
-
-/// Moves a job to another thread, which waits for its digest there. Returns whether the digest is
-/// that of the message.
-fn move_held<R>(rt: &R) -> bool
-where
-    R: Runtime + Abort,
-{
-    let gate = Meeting::new(rt.alloc()).expect(rt, "memory");
-    let job = hold(rt, &gate);
-    let own = rt.clone().expect(rt, "memory");
-    let waiting = thread::spawn(rt, move || {
-        let mut job = job;
-        digest(&own, &mut job)
-    });
-    let waiting = waiting.expect(rt, "a thread");
-    gate.pass();
-    waiting.join(rt) == message(rt.alloc(), 7).expect(rt, "memory").digest()
-}
-
-#[test]
-fn a_job_moves_to_another_thread(rt: HostRuntime) {
-    assert!(rt; move_held(&rt));
-}
-
-/// Polls a job once whose thread waits at the gate, and lets it pass. Returns whether its task is
-/// woken then, and whether the job is done.
-fn wake<R>(rt: &R) -> (bool, bool)
-where
-    R: Runtime + Abort,
-{
-    let gate = Meeting::new(rt.alloc()).expect(rt, "memory");
-    let mut task = Task::new(rt).expect(rt, "memory");
-    let mut job = hold(rt, &gate);
-    let pending = is_pending(&mut task, &mut job);
-    gate.pass();
-    for _ in 0..LIMIT {
-        task.look();
-        if task.wakes > 0 {
-            break;
-        }
-        pause(rt);
-    }
-    let mut cx = task.solo.begin();
-    let polled = job.poll(&mut cx);
-    task.rest.end(cx);
-    (pending && task.wakes > 0, polled.is_ready())
-}
-
-#[test]
-fn the_task_of_a_job_is_woken(rt: HostRuntime) {
-    assert_eq!(rt; wake(&rt), (true, true));
 }

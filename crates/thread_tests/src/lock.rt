@@ -1,7 +1,6 @@
 //! Broadcasts that are answered while a job is pending.
-use super::nodes::{Node, PLACES, broadcast, hold, start_patient, subscribe};
+use super::nodes::{Calls, Holds, Node, PLACES, hold, start_patient};
 use super::patient::Talk;
-use broadcast_core::TestMessage;
 use commonware_broadcast::Feedback;
 use commonware_broadcast::buffered::Runtime;
 use std::process::Abort;
@@ -21,11 +20,21 @@ struct Answered {
 /// ends the engine.
 fn broadcast_meanwhile<R: Runtime + Abort>(rt: &R) -> Answered {
     let (node, talk) = start_patient(rt);
-    let waiting = subscribe(rt, &node.mailbox, 2);
-    let queued = fill(rt, &node, &talk);
+    asked(rt, node, &talk)
+}
+
+fn asked<R, C, H>(rt: &R, node: Node<C, H>, talk: &Talk) -> Answered
+where
+    R: Runtime + Abort,
+    C: Calls<R>,
+    H: Holds<R>,
+{
+    let waiting = node.mailbox.subscribes(rt, 2);
+    hold(rt, &node.mail, talk);
+    let queued = fill(rt, &node.mailbox);
     talk.answer();
     node.mail.fail(rt).expect(rt, "memory");
-    drop::<_>(node.join(rt));
+    let _cause = node.handle.joins(rt);
     Answered {
         queued,
         gave_up: talk.gave_up(),
@@ -33,12 +42,10 @@ fn broadcast_meanwhile<R: Runtime + Abort>(rt: &R) -> Answered {
     }
 }
 
-/// Broadcasts while a job is pending, until the caller is to back off. Returns how many broadcasts
-/// were queued before.
-fn fill<R: Runtime + Abort>(rt: &R, node: &Node<TestMessage, R>, talk: &Talk) -> usize {
-    hold(rt, &node.mail, talk);
+/// Broadcasts until the caller is to back off. Returns how many broadcasts were queued before.
+fn fill<R: Abort, C: Calls<R>>(rt: &R, mailbox: &C) -> usize {
     for queued in 0..=PLACES {
-        if broadcast(rt, &node.mailbox, 1) != Feedback::Ok {
+        if mailbox.broadcasts(rt, 1) != Feedback::Ok {
             return queued;
         }
     }

@@ -2,8 +2,8 @@
 use super::patient::{LIMIT, Patient, Talk, pause};
 use broadcast_core::{Codec, Digest, Digested, Digestible, RangeCfg, Recipients, Set, TestMessage};
 use commonware_broadcast::buffered::{
-    self, Config, Handle, Mailbox, MailboxReport, Movable, Open, Runtime, Sequential, Strategy,
-    Subscription, Threaded,
+    self, Config, EndCause, Handle, Mailbox, Metrics, MetricsError, Movable, Runtime, Sequential,
+    Strategy, Subscription,
 };
 use commonware_broadcast::{Broadcaster, Feedback};
 use memory_network::{Ends, Mail, Network};
@@ -11,6 +11,7 @@ use std::alloc::AllocGlobal;
 use std::num::NonZeroUsize;
 use std::process::Abort;
 use std::sync::{Arc, Wait};
+use std::time::Clock;
 
 /// The key of the only peer of a node.
 pub const PEER: u64 = 5;
@@ -18,21 +19,86 @@ pub const PEER: u64 = 5;
 /// The places of the ready list of a node.
 pub const PLACES: usize = 1000;
 
-/// A node of key 1, whose engine runs in a thread.
+/// A started node of key 1. Tests know its mailbox and its handle by what they call, which keeps
+/// their proofs small.
 #[derive(Drop)]
-pub struct Node<M: Digestible, R: Wait> {
-    pub mailbox: Mailbox<u64, M, R>,
+pub struct Node<C, H> {
+    pub mailbox: C,
+    pub handle: H,
     pub mail: Arc<Mail<u64>>,
-    pub handle: Handle<u64, M, R>,
 }
 
-impl<M: Digestible, R: Runtime> Node<M, R> {
-    /// Waits for the end of the engine. Returns what it leaves.
-    pub fn join(self, rt: &R) -> MailboxReport<u64, M, R> {
-        let Node { handle, .. } = self;
-        handle.join(rt)
+/// The mailbox of a node. A letter names a message, which is its content.
+pub trait Calls<R>: Drop {
+    /// Broadcasts the message.
+    fn broadcasts(&self, rt: &R, letter: u8) -> Feedback;
+
+    /// Subscribes to the message.
+    fn subscribes(&self, rt: &R, letter: u8) -> Subscription<TestMessage>;
+
+    /// Gets the message. Returns whether there is one.
+    fn gets(&self, rt: &R, letter: u8) -> bool;
+}
+
+impl<R: Runtime + Abort> Calls<R> for Mailbox<u64, TestMessage, R> {
+    fn broadcasts(&self, rt: &R, letter: u8) -> Feedback {
+        let feedback = self.broadcast(Recipients::All, message(rt, letter));
+        feedback.expect(rt, "a broadcast")
+    }
+
+    fn subscribes(&self, rt: &R, letter: u8) -> Subscription<TestMessage> {
+        let subscription = self.subscribe(digest(rt, letter));
+        subscription.expect(rt, "a subscription")
+    }
+
+    fn gets(&self, rt: &R, letter: u8) -> bool {
+        let get = self.get(digest(rt, letter)).expect(rt, "a get");
+        get.wait(rt).is_some()
     }
 }
+
+/// The handle of a node.
+pub trait Holds<R>: Drop {
+    /// Asks the engine to stop.
+    fn stops(&self);
+
+    /// Returns whether the engine has ended.
+    fn has_ended(&self) -> bool;
+
+    /// Returns the counters.
+    fn counters(&self, rt: &R) -> Result<Metrics<u64>, MetricsError>;
+
+    /// Lets the engine run on.
+    fn detaches(self);
+
+    /// Waits for the end of the engine. Returns why it ended.
+    fn joins(self, rt: &R) -> EndCause;
+}
+
+impl<R: Runtime + Abort> Holds<R> for Handle<u64, TestMessage, R> {
+    fn stops(&self) {
+        self.stop();
+    }
+
+    fn has_ended(&self) -> bool {
+        self.is_finished()
+    }
+
+    fn counters(&self, rt: &R) -> Result<Metrics<u64>, MetricsError> {
+        self.metrics(rt)
+    }
+
+    fn detaches(self) {
+        self.detach();
+    }
+
+    fn joins(self, rt: &R) -> EndCause {
+        self.join(rt).cause()
+    }
+}
+
+/// A node whose messages are those of tests.
+pub type Started<R> = Node<Mailbox<u64, TestMessage, R>, Handle<u64, TestMessage, R>>;
 
 /// Returns what the node of key 1 has of a network without other nodes. It has no peers yet.
 pub fn ends<R: Runtime + Abort>(rt: &R) -> Ends<u64, R> {
@@ -59,19 +125,12 @@ pub fn config<C: Drop, B: Drop, T: Drop>(
 }
 
 /// Starts a node that digests messages itself.
-pub fn start<R: Runtime + Abort>(rt: &R) -> Node<TestMessage, R> {
+pub fn start<R: Runtime + Abort>(rt: &R) -> Started<R> {
     start_with(rt, RangeCfg::any(), Sequential)
 }
 
-/// Creates the strategy that digests messages on other threads.
-pub fn threaded<R: Runtime + Abort>(rt: &R) -> Threaded<Open, R> {
-    let copy = rt.clone().expect(rt, "memory");
-    let gate = Arc::new(rt.alloc(), Open).expect(rt, "memory");
-    Threaded::new(copy, rt.alloc(), gate)
-}
-
 /// Starts a node whose jobs take part in a talk.
-pub fn start_patient<R: Runtime + Abort>(rt: &R) -> (Node<TestMessage, R>, Arc<Talk>) {
+pub fn start_patient<R: Runtime + Abort>(rt: &R) -> (Started<R>, Arc<Talk>) {
     let talk = Talk::new(rt).expect(rt, "memory");
     let strategy = Patient::new(rt, &talk).expect(rt, "memory");
     (start_with(rt, RangeCfg::any(), strategy), talk)
@@ -79,7 +138,11 @@ pub fn start_patient<R: Runtime + Abort>(rt: &R) -> (Node<TestMessage, R>, Arc<T
 
 /// Starts a node. It is generic in the message, since the check refuses a bound on what
 /// `TestMessage` sends to a thread.
-fn start_with<M, T, R>(rt: &R, codec_config: M::Cfg, strategy: T) -> Node<M, R>
+fn start_with<M, T, R>(
+    rt: &R,
+    codec_config: M::Cfg,
+    strategy: T,
+) -> Node<Mailbox<u64, M, R>, Handle<u64, M, R>>
 where
     M: Digestible + Codec + Send + Sync + 'static,
     M::Digest: 'static,
@@ -88,14 +151,19 @@ where
     T::Job: Send + 'static,
     R: Runtime + Abort,
 {
-    let ends = ends(rt);
-    let cfg = config(ends.provider, codec_config, strategy);
-    let started = buffered::start(rt, cfg, (ends.sender, ends.receiver));
+    let Ends {
+        mail,
+        provider,
+        sender,
+        receiver,
+    } = ends(rt);
+    let cfg = config(provider, codec_config, strategy);
+    let started = buffered::start(rt, cfg, (sender, receiver));
     let (handle, mailbox) = started.expect(rt, "an engine");
     Node {
         mailbox,
-        mail: ends.mail,
         handle,
+        mail,
     }
 }
 
@@ -139,37 +207,6 @@ pub fn digest<R: Abort + AllocGlobal>(rt: &R, letter: u8) -> Digest {
     message(rt, letter).digest()
 }
 
-/// Broadcasts the message of the letter.
-pub fn broadcast<R>(rt: &R, mailbox: &Mailbox<u64, TestMessage, R>, letter: u8) -> Feedback
-where
-    R: Wait + Abort + AllocGlobal + Clone + Send + 'static,
-{
-    let feedback = mailbox.broadcast(Recipients::All, message(rt, letter));
-    feedback.expect(rt, "a broadcast")
-}
-
-/// Subscribes to the message of the letter.
-pub fn subscribe<R>(
-    rt: &R,
-    mailbox: &Mailbox<u64, TestMessage, R>,
-    letter: u8,
-) -> Subscription<TestMessage>
-where
-    R: Wait + Abort + AllocGlobal,
-{
-    let subscription = mailbox.subscribe(digest(rt, letter));
-    subscription.expect(rt, "a subscription")
-}
-
-/// Gets the message of the letter. Returns whether there is one.
-pub fn gets<R>(rt: &R, mailbox: &Mailbox<u64, TestMessage, R>, letter: u8) -> bool
-where
-    R: Wait + Abort + AllocGlobal,
-{
-    let get = mailbox.get(digest(rt, letter)).expect(rt, "a get");
-    get.wait(rt).is_some()
-}
-
 /// Lets a job of the message of the letter 2 be pending at the node.
 pub fn hold<R: Runtime + Abort>(rt: &R, mail: &Mail<u64>, talk: &Talk) {
     track(rt, mail);
@@ -178,12 +215,9 @@ pub fn hold<R: Runtime + Abort>(rt: &R, mail: &Mail<u64>, talk: &Talk) {
 }
 
 /// Waits until the mailbox is closed. Returns whether it is.
-pub fn wait_for_close<R>(rt: &R, mailbox: &Mailbox<u64, TestMessage, R>) -> bool
-where
-    R: Runtime + Abort,
-{
+pub fn wait_for_close<R: Abort + Clock, C: Calls<R>>(rt: &R, mailbox: &C) -> bool {
     for _ in 0..LIMIT {
-        if broadcast(rt, mailbox, 1) == Feedback::Closed {
+        if mailbox.broadcasts(rt, 1) == Feedback::Closed {
             return true;
         }
         pause(rt);

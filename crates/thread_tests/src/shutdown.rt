@@ -1,9 +1,8 @@
 //! Started engines that are stopped.
-use super::nodes::{Node, broadcast, gets, hold, start_patient, subscribe, wait_for_close};
+use super::nodes::{Calls, Holds, Node, hold, start_patient, wait_for_close};
 use super::patient::Talk;
-use broadcast_core::TestMessage;
 use commonware_broadcast::Feedback;
-use commonware_broadcast::buffered::{EndCause, Mailbox, Runtime};
+use commonware_broadcast::buffered::{EndCause, Runtime};
 use std::process::Abort;
 
 /// What a stopped engine left.
@@ -25,42 +24,40 @@ fn stop<R: Runtime + Abort>(rt: &R, is_busy: bool, times: u64) -> Stopped {
     if is_busy {
         hold(rt, &node.mail, &talk);
     }
-    let waiting = subscribe(rt, &node.mailbox, 1);
+    left(rt, node, &talk, times)
+}
+
+fn left<R, C, H>(rt: &R, node: Node<C, H>, talk: &Talk, times: u64) -> Stopped
+where
+    R: Runtime + Abort,
+    C: Calls<R>,
+    H: Holds<R>,
+{
+    let waiting = node.mailbox.subscribes(rt, 1);
     for _ in 0..times {
-        node.handle.stop();
+        node.handle.stops();
     }
-    let is_prompt = closes(rt, &node, &talk);
-    let Node {
-        mailbox,
-        handle,
-        ..
-    } = node;
-    let cause = handle.join(rt).cause();
+    let is_prompt = wait_for_close(rt, &node.mailbox) && !talk.gave_up();
+    // It ends also if it does not stop.
+    node.mail.fail(rt).expect(rt, "memory");
+    let cause = node.handle.joins(rt);
     Stopped {
         is_prompt,
         cause,
         is_canceled: waiting.wait(rt).is_err(),
-        after: ask_closed(rt, &mailbox),
+        after: ask_closed(rt, &node.mailbox),
     }
 }
 
-/// Returns whether a node closes its mailbox before a job gives up. Its network fails then, so that
-/// its engine ends also if it does not stop.
-fn closes<R: Runtime + Abort>(rt: &R, node: &Node<TestMessage, R>, talk: &Talk) -> bool {
-    let is_closed = wait_for_close(rt, &node.mailbox);
-    let is_prompt = is_closed && !talk.gave_up();
-    node.mail.fail(rt).expect(rt, "memory");
-    is_prompt
-}
-
 /// Asks the mailbox of an engine that has ended.
-fn ask_closed<R>(rt: &R, mailbox: &Mailbox<u64, TestMessage, R>) -> (Feedback, bool, bool)
+fn ask_closed<R, C>(rt: &R, mailbox: &C) -> (Feedback, bool, bool)
 where
     R: Runtime + Abort,
+    C: Calls<R>,
 {
-    let feedback = broadcast(rt, mailbox, 1);
-    let is_canceled = subscribe(rt, mailbox, 1).wait(rt).is_err();
-    (feedback, is_canceled, gets(rt, mailbox, 1))
+    let feedback = mailbox.broadcasts(rt, 1);
+    let is_canceled = mailbox.subscribes(rt, 1).wait(rt).is_err();
+    (feedback, is_canceled, mailbox.gets(rt, 1))
 }
 
 #[test]

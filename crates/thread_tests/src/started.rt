@@ -1,18 +1,16 @@
 //! What the holder of a started engine's handle sees and does.
-use super::nodes::{
-    Node, broadcast, gets, send, send_bytes, start, subscribe, track, wait_for_close,
-};
+use super::nodes::{Calls, Holds, Node, send, send_bytes, start, track, wait_for_close};
 use super::patient::{LIMIT, pause};
 use broadcast_core::TestMessage;
 use commonware_broadcast::buffered::{
-    EndCause, Handle, Metrics, MetricsError, Runtime, Status, Subscription,
+    EndCause, Metrics, MetricsError, Runtime, Status, Subscription,
 };
 use memory_network::Mail;
 use std::process::Abort;
 use std::sync::Arc;
 use std::sync::atomic::Ordering;
 use std::thread::{self, JoinHandle};
-use std::time::Clock;
+use std::time::{Clock, Duration};
 
 /// The payloads of the peer that were decoded, messages that were received and that were invalid,
 /// subscribes that were served, gets that gave a message and that gave none, and awaited digests.
@@ -33,21 +31,20 @@ fn counts(metrics: &Metrics<u64>) -> Counts {
 
 /// Feeds a node with a payload that is no message and with one for which a subscriber waits, and
 /// gets both letters. Returns a subscription that waits, for which there is no message.
-fn feed<R: Runtime + Abort>(rt: &R, node: &Node<TestMessage, R>) -> Subscription<TestMessage> {
-    let served = subscribe(rt, &node.mailbox, 2);
-    track(rt, &node.mail);
-    send_bytes(rt, &node.mail, 5, &[9]);
-    send(rt, &node.mail, 2);
+fn feed<R: Runtime + Abort, C: Calls<R>>(
+    rt: &R,
+    mailbox: &C,
+    mail: &Mail<u64>,
+) -> Subscription<TestMessage> {
+    let served = mailbox.subscribes(rt, 2);
+    track(rt, mail);
+    send_bytes(rt, mail, 5, &[9]);
+    send(rt, mail, 2);
     assert!(rt; served.wait(rt).is_ok(), "a subscription");
-    let open = subscribe(rt, &node.mailbox, 3);
-    let found = (gets(rt, &node.mailbox, 2), gets(rt, &node.mailbox, 1));
+    let open = mailbox.subscribes(rt, 3);
+    let found = (mailbox.gets(rt, 2), mailbox.gets(rt, 1));
     assert!(rt; found == (true, false), "gets");
     open
-}
-
-/// Returns what the node tells of its counters.
-fn told<R: Runtime + Abort>(rt: &R, node: &Node<TestMessage, R>) -> Counts {
-    counts(&node.handle.metrics(rt).expect(rt, "counters"))
 }
 
 /// Gives the engine time to be polled, as a test that shall see that it is not.
@@ -57,28 +54,40 @@ fn rest(clock: &impl Clock) {
     }
 }
 
+/// Returns how often the engine was polled.
+fn polls(mail: &Mail<u64>) -> u64 {
+    mail.polls.load(Ordering::SeqCst)
+}
+
 /// Returns what a fed node tells of its counters, and whether that let its engine poll once at most.
-fn serves<R: Runtime + Abort>(rt: &R) -> (Counts, bool) {
-    let node = start(rt);
-    let open = feed(rt, &node);
+fn serves<R, C, H>(rt: &R, node: Node<C, H>) -> (Counts, bool)
+where
+    R: Runtime + Abort,
+    C: Calls<R>,
+    H: Holds<R>,
+{
+    let _open = feed(rt, &node.mailbox, &node.mail);
     // It may be polled once more after its answer.
     rest(rt);
-    let polls = node.mail.polls.load(Ordering::SeqCst);
-    let told = told(rt, &node);
-    let again = node.mail.polls.load(Ordering::SeqCst);
-    drop::<_>((open, node));
-    (told, again <= polls.saturating_add(1))
+    let before = polls(&node.mail);
+    let told = counts(&node.handle.counters(rt).expect(rt, "counters"));
+    (told, polls(&node.mail) <= before.saturating_add(1))
+}
+
+/// Starts a node and feeds it.
+fn serves_new<R: Runtime + Abort>(rt: &R) -> (Counts, bool) {
+    serves(rt, start(rt))
 }
 
 #[test]
 fn counters_are_told_and_cost_a_poll_at_most(rt: HostRuntime) {
-    assert_eq!(rt; serves(&rt), ([1; 7], true));
+    assert_eq!(rt; serves_new(&rt), ([1; 7], true));
 }
 
 /// Waits until the engine has ended. Returns whether it has.
-fn wait_for_end<R: Runtime>(rt: &R, handle: &Handle<u64, TestMessage, R>) -> bool {
+fn wait_for_end<R: Clock, H: Holds<R>>(rt: &R, handle: &H) -> bool {
     for _ in 0..LIMIT {
-        if handle.is_finished() {
+        if handle.has_ended() {
             return true;
         }
         pause(rt);
@@ -88,75 +97,100 @@ fn wait_for_end<R: Runtime>(rt: &R, handle: &Handle<u64, TestMessage, R>) -> boo
 
 /// Stops an engine that runs. Returns whether it had ended before and has afterwards, and why it
 /// does not tell its counters then.
-fn ends<R: Runtime + Abort>(rt: &R) -> (bool, bool, Option<MetricsError>) {
-    let node = start(rt);
-    let _answered = gets(rt, &node.mailbox, 1);
-    let before = node.handle.is_finished();
-    node.handle.stop();
+fn ends<R, C, H>(rt: &R, node: Node<C, H>) -> (bool, bool, Option<MetricsError>)
+where
+    R: Runtime + Abort,
+    C: Calls<R>,
+    H: Holds<R>,
+{
+    let _answered = node.mailbox.gets(rt, 1);
+    let before = node.handle.has_ended();
+    node.handle.stops();
     let after = wait_for_end(rt, &node.handle);
-    let error = node.handle.metrics(rt).err();
-    drop::<_>(node.join(rt));
+    let error = node.handle.counters(rt).err();
+    let _cause = node.handle.joins(rt);
     (before, after, error)
+}
+
+fn ends_new<R: Runtime + Abort>(rt: &R) -> (bool, bool, Option<MetricsError>) {
+    ends(rt, start(rt))
 }
 
 #[test]
 fn an_engine_that_ended_tells_so(rt: HostRuntime) {
-    assert_eq!(rt; ends(&rt), (false, true, Some(MetricsError::Ended)));
+    assert_eq!(rt; ends_new(&rt), (false, true, Some(MetricsError::Ended)));
 }
 
-/// Returns whether an engine ends whose handle is dropped, and whether one runs on that is
-/// detached, until its network fails.
-fn leaves<R: Runtime + Abort>(rt: &R) -> (bool, bool, bool) {
-    let dropped = start(rt);
-    drop::<_>(dropped.handle);
-    let ends = wait_for_close(rt, &dropped.mailbox);
-    let detached = start(rt);
-    detached.handle.detach();
+/// Returns whether an engine ends whose handle is dropped.
+fn ends_dropped<R, C, H>(rt: &R, node: Node<C, H>) -> bool
+where
+    R: Runtime + Abort,
+    C: Calls<R>,
+    H: Holds<R>,
+{
+    drop::<_>(node.handle);
+    wait_for_close(rt, &node.mailbox)
+}
+
+/// Returns whether an engine runs on that is detached, until its network fails.
+fn runs_detached<R, C, H>(rt: &R, node: Node<C, H>) -> bool
+where
+    R: Runtime + Abort,
+    C: Calls<R>,
+    H: Holds<R>,
+{
+    node.handle.detaches();
     rest(rt);
-    let runs = broadcast(rt, &detached.mailbox, 1).accepted();
-    detached.mail.fail(rt).expect(rt, "memory");
-    (ends, runs, wait_for_close(rt, &detached.mailbox))
+    let runs = node.mailbox.broadcasts(rt, 1).accepted();
+    node.mail.fail(rt).expect(rt, "memory");
+    runs && wait_for_close(rt, &node.mailbox)
+}
+
+fn leaves<R: Runtime + Abort>(rt: &R) -> (bool, bool) {
+    (ends_dropped(rt, start(rt)), runs_detached(rt, start(rt)))
 }
 
 #[test]
 fn a_dropped_handle_stops_its_engine_and_a_detached_one_does_not(rt: HostRuntime) {
-    assert_eq!(rt; leaves(&rt), (true, true, true));
+    assert_eq!(rt; leaves(&rt), (true, true));
 }
 
-/// Returns whether an engine that has answered is not polled while nothing happens.
-fn is_idle(clock: &impl Clock, mail: &Mail<u64>) -> bool {
-    let polls = mail.polls.load(Ordering::SeqCst);
-    rest(clock);
-    // It may be polled once more after its answer.
-    mail.polls.load(Ordering::SeqCst) <= polls.saturating_add(1)
-}
-
-/// Starts a thread that lets the network of the node fail after a while. Returns whether its engine
-/// was idle meanwhile, and accepted a broadcast before the failure.
-fn fail_later<R: Runtime + Abort>(rt: &R, node: &Node<TestMessage, R>) -> JoinHandle<bool> {
-    let mailbox = node.mailbox.clone().expect(rt, "memory");
-    let mail = Arc::try_clone(&node.mail).expect(rt, "memory");
+/// Starts a thread that lets the network fail after a while.
+fn fail_later<R: Runtime + Abort>(rt: &R, mail: &Arc<Mail<u64>>) -> JoinHandle<()> {
+    let mail = Arc::try_clone(mail).expect(rt, "memory");
     let own = rt.clone().expect(rt, "memory");
     let failing = thread::spawn(rt, move || {
-        let _found = gets(&own, &mailbox, 1);
-        let is_idle = is_idle(&own, &mail);
-        let is_accepted = broadcast(&own, &mailbox, 1).accepted();
+        thread::sleep(&own, Duration::from_millis(50));
         mail.fail(&own).expect(&own, "memory");
-        is_idle && is_accepted
     });
     failing.expect(rt, "a thread")
 }
 
-/// Joins an engine whose network fails later. Returns whether it was idle before and accepted a
-/// broadcast, and why it ended.
-fn join<R: Runtime + Abort>(rt: &R) -> (bool, EndCause) {
-    let node = start(rt);
-    let failing = fail_later(rt, &node);
-    let cause = node.join(rt).cause();
-    (failing.join(rt), cause)
+/// Joins an engine whose network fails later. Returns whether it was not polled before while nothing
+/// happened, whether it accepted a broadcast, and why it ended.
+fn join<R, C, H>(rt: &R, node: Node<C, H>) -> (bool, bool, EndCause)
+where
+    R: Runtime + Abort,
+    C: Calls<R>,
+    H: Holds<R>,
+{
+    let _found = node.mailbox.gets(rt, 1);
+    let before = polls(&node.mail);
+    rest(rt);
+    // It may be polled once more after its answer.
+    let is_idle = polls(&node.mail) <= before.saturating_add(1);
+    let is_accepted = node.mailbox.broadcasts(rt, 1).accepted();
+    let failing = fail_later(rt, &node.mail);
+    let cause = node.handle.joins(rt);
+    failing.join(rt);
+    (is_idle, is_accepted, cause)
+}
+
+fn join_new<R: Runtime + Abort>(rt: &R) -> (bool, bool, EndCause) {
+    join(rt, start(rt))
 }
 
 #[test]
 fn an_engine_waits_idle_until_its_end(rt: HostRuntime) {
-    assert_eq!(rt; join(&rt), (true, EndCause::NetworkFailed));
+    assert_eq!(rt; join_new(&rt), (true, true, EndCause::NetworkFailed));
 }

@@ -1,12 +1,13 @@
 //! Engines that can't be started, or can't wait once they are.
-use super::nodes::{Node, broadcast, config, ends, wait_for_close};
+use super::nodes::{Calls, Holds, config, ends, wait_for_close};
 use super::poor::Poor;
 use broadcast_core::{Codec, Digest, Digestible, RangeCfg, TestMessage};
 use commonware_broadcast::Feedback;
 use commonware_broadcast::buffered::{
-    EndCause, Engine, Mailbox, MailboxEngine, Observer, Runtime, Sequential, StartError, Turn,
+    EndCause, Engine, Handle, Mailbox, MailboxEngine, Observer, Runtime, Sequential, StartError,
+    Turn,
 };
-use memory_network::PeerSets;
+use memory_network::{Ends, Mail, PeerSets};
 use std::alloc::{AllocError, AllocGlobal};
 use std::process::Abort;
 use std::sync::Arc;
@@ -38,71 +39,81 @@ type Made<M, R> = (
     Mailbox<u64, M, R>,
 );
 
-/// A node that was started, or the mailbox of one that was not, and why.
-type Started<M, R> = Result<Node<M, R>, (Mailbox<u64, M, R>, StartError)>;
+/// A handle and a mailbox of an engine that was started, or the mailbox of one that was not, and
+/// why.
+type Started<M, R> = (Result<Handle<u64, M, R>, StartError>, Mailbox<u64, M, R>);
 
-/// Starts an engine with the supply of the row. It is generic in the message, since the check
-/// refuses a function that makes an engine of a named one.
-fn start<M, R>(rt: &Poor<R>, codec_config: M::Cfg, row: &Row) -> Started<M, Poor<R>>
+/// Starts an engine with the supply of the row. Returns its network, too. It is generic in the
+/// message, since the check refuses a function that makes an engine of a named one.
+fn start<M, R>(
+    rt: &Poor<R>,
+    codec_config: M::Cfg,
+    row: &Row,
+) -> (Started<M, Poor<R>>, Arc<Mail<u64>>)
 where
     M: Digestible + Codec + Send + Sync + 'static,
     M::Digest: 'static,
     M::Cfg: Send + Drop + 'static,
     R: Runtime + Abort,
 {
-    let ends = ends(rt);
-    let config = config(ends.provider, codec_config, Sequential);
+    let Ends {
+        mail,
+        provider,
+        sender,
+        receiver,
+    } = ends(rt);
+    let config = config(provider, codec_config, Sequential);
     let own = rt.clone().expect(rt, "memory");
     let made: Result<Made<M, Poor<R>>, AllocError> = Engine::new(own, rt.alloc(), config);
     let (engine, mailbox) = made.expect(rt, "memory");
     rt.supply.leave(row.0, row.1);
-    match engine.start(rt, (ends.sender, ends.receiver)) {
-        Ok(handle) => Ok(Node {
-            mailbox,
-            mail: ends.mail,
-            handle,
-        }),
-        Err(error) => Err((mailbox, error)),
-    }
+    ((engine.start(rt, (sender, receiver)), mailbox), mail)
 }
 
 /// Stops what was started. Returns how that ends, and whether its mailbox is closed.
-fn stop<R>(rt: &Poor<R>, started: Started<TestMessage, Poor<R>>) -> (Ending, bool)
+fn stop<R, C, H>(
+    rt: &R,
+    started: Result<H, StartError>,
+    mailbox: &C,
+    mail: &Mail<u64>,
+) -> (Ending, bool)
 where
     R: Runtime + Abort,
+    C: Calls<R>,
+    H: Holds<R>,
 {
     match started {
-        Ok(
-            Node {
-                mailbox,
-                mail,
-                handle,
-            },
-        ) => {
-            handle.stop();
-            let is_closed = wait_for_close(rt, &mailbox);
+        Ok(handle) => {
+            handle.stops();
+            let is_closed = wait_for_close(rt, mailbox);
             // It ends also if it does not stop.
             mail.fail(rt).expect(rt, "memory");
-            (Ok(handle.join(rt).cause()), is_closed)
+            (Ok(handle.joins(rt)), is_closed)
         }
-        Err((mailbox, error)) => { (Err(error), broadcast(rt, &mailbox, 1) == Feedback::Closed) }
+        Err(error) => (Err(error), mailbox.broadcasts(rt, 1) == Feedback::Closed),
     }
+}
+
+/// Starts an engine with the supply of the row, and stops it. Returns how that ends, and whether its
+/// mailbox is closed.
+fn ended<R: Runtime + Abort>(rt: &R, row: &Row) -> (Ending, bool) {
+    let poor = Poor::new(rt).expect(rt, "memory");
+    let ((started, mailbox), mail) = start(&poor, RangeCfg::any(), row);
+    stop(&poor, started, &mailbox, &mail)
 }
 
 #[test]
 fn an_engine_that_is_not_started_is_given_up(rt: HostRuntime) {
     for (place, row) in rows().iter().enumerate() {
-        let poor = Poor::new(&rt).expect(&rt, "memory");
-        let ended = stop(&poor, start(&poor, RangeCfg::any(), row));
-        assert!(rt; ended == (row.2, true), "row {place}");
+        assert!(rt; ended(&rt, row) == (row.2, true), "row {place}");
     }
 }
 
 /// Counts that the latest turn is the end of an engine that can't wait.
 #[derive(Drop)]
-struct Ends(Arc<AtomicU64>);
+struct SeesEnd(Arc<AtomicU64>);
 
-impl Observer<u64, Digest> for Ends {
+impl Observer<u64, Digest> for SeesEnd {
     fn turn(&mut self, turn: &Turn<u64, Digest>) {
         let is_end = matches!(turn, Turn::Ended(EndCause::WaitFailed));
         self.0.store(u64::from(is_end), Ordering::SeqCst);
@@ -111,25 +122,40 @@ impl Observer<u64, Digest> for Ends {
 
 /// Starts an engine with an observer and this many copies of the runtime. Returns why it is not
 /// started, and whether the observer was told that end.
-fn observe<R: Runtime + Abort>(rt: &Poor<R>, copies: u64) -> (Option<StartError>, bool) {
+fn observe<R: Runtime + Abort>(rt: &R, copies: u64) -> (Option<StartError>, bool) {
+    let poor = Poor::new(rt).expect(rt, "memory");
     let told = Arc::new(rt.alloc(), AtomicU64::new(0)).expect(rt, "memory");
-    let observer = Ends(Arc::try_clone(&told).expect(rt, "memory"));
-    let ends = ends(rt);
-    let config = config(ends.provider, RangeCfg::any(), Sequential);
-    let network = (ends.sender, ends.receiver);
+    let observer = SeesEnd(Arc::try_clone(&told).expect(rt, "memory"));
+    let error = error_of(&poor, observer, copies);
+    (error, told.load(Ordering::SeqCst) == 1)
+}
+
+/// Starts an engine with an observer and this many copies of the runtime. Returns why it is not
+/// started.
+fn error_of<R: Runtime + Abort>(
+    rt: &Poor<R>,
+    observer: SeesEnd,
+    copies: u64,
+) -> Option<StartError> {
+    let Ends {
+        provider,
+        sender,
+        receiver,
+        ..
+    } = ends(rt);
+    let config = config(provider, RangeCfg::any(), Sequential);
     rt.supply.leave(copies, 9);
     let started = config
         .observed_by(observer)
-        .start::<TestMessage, _, _, _>(rt, network);
-    (started.err(), told.load(Ordering::SeqCst) == 1)
+        .start::<TestMessage, _, _, _>(rt, (sender, receiver));
+    started.err()
 }
 
 #[test]
 fn the_end_of_an_engine_that_is_not_started_is_told(rt: HostRuntime) {
     // There is no copy of the runtime for the engine, its mailbox, its stopper or its thread.
     for copies in 0..4 {
-        let poor = Poor::new(&rt).expect(&rt, "memory");
-        let told = observe(&poor, copies);
+        let told = observe(&rt, copies);
         assert!(rt; told == (Some(StartError::Memory), true), "{copies} copies");
     }
 }

@@ -1,10 +1,12 @@
 //! What is done to the nodes of a scenario, and what must come of it.
 use super::asked::Given;
-use super::node::Metric;
+use super::metric::Metric;
+use super::node::{Caller, Made, Node};
 use super::world::World;
 use crate::support::message::To;
+use broadcast_core::TestMessage;
 use broadcast_mailbox::Feedback;
-use commonware_broadcast::buffered::Turn;
+use commonware_broadcast::buffered::{Mailbox, Turn};
 use std::alloc::AllocGlobal;
 use std::process::Abort;
 use std::random::RandomSource;
@@ -97,39 +99,34 @@ where
     R: Wait + Abort + RandomSource + AllocGlobal + Clone + Send + Drop + 'static,
 {
     for row in rows {
-        let wrong = row.first_wrong(rt);
+        let wrong = wrong_place::<Node<R>, Mailbox<u64, TestMessage, R>, R>(rt, row.acts);
         assert!(rt; wrong.is_none(), "{}: {wrong:?}", row.name);
     }
 }
 
-impl Row {
-    /// Returns the place of the first line that does not go as it should.
-    fn first_wrong<R>(&self, rt: &R) -> Option<usize>
-    where
-        R: Wait + Abort + RandomSource + AllocGlobal + Clone + Send + Drop + 'static,
-    {
-        let mut world: Box<World<R>> = World::new(rt);
-        wrong_place(rt, &mut world, self.acts)
-    }
+/// Makes the actions, and returns the place of the first line that does not go as it should.
+fn wrong_place<N, C, R>(rt: &R, lines: &[Line]) -> Option<usize>
+where
+    N: Made<R, C>,
+    C: Caller,
+    R: Abort + RandomSource + AllocGlobal,
+{
+    let mut world = World::<N, C>::new(rt.alloc());
+    wrong_in(rt, &mut world, lines)
 }
 
-/// Makes the actions, and returns the place of the first line that does not go as it should.
-fn wrong_place<R>(rt: &R, world: &mut World<R>, lines: &[Line]) -> Option<usize>
+fn wrong_in<N, C, R>(rt: &R, world: &mut World<N, C>, lines: &[Line]) -> Option<usize>
 where
-    R: Wait + Abort + RandomSource + AllocGlobal + Clone + Send + Drop + 'static,
+    N: Made<R, C>,
+    C: Caller,
+    R: Abort + RandomSource + AllocGlobal,
 {
     for (place, line) in lines.iter().enumerate() {
-        if !all_as_told(rt, world, line.0) {
-            return Some(place);
+        for act in line.0 {
+            if !world.goes(rt, *act) {
+                return Some(place);
+            }
         }
     }
     None
-}
-
-/// Makes the actions of a line. Returns whether each goes as it should.
-fn all_as_told<R>(rt: &R, world: &mut World<R>, line: &[Act]) -> bool
-where
-    R: Wait + Abort + RandomSource + AllocGlobal + Clone + Send + Drop + 'static,
-{
-    line.iter().all(|act| world.goes(rt, rt.alloc(), *act))
 }

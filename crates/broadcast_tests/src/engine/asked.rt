@@ -1,15 +1,11 @@
 //! The futures of gets and subscribes.
 use crate::support::message::letter_of;
-use broadcast_core::TestMessage;
+use broadcast_core::{Digested, TestMessage};
 use broadcast_mailbox::buffered::{Get, Reply, Subscription};
 use futures::channel::oneshot::Receiver;
-use futures::executor::block_on;
-use futures::future::poll_immediate;
-use std::alloc::AllocGlobal;
-use std::random::RandomSource;
-use std::sync::Wait;
+use futures::task::Poll;
 
-/// A future, until it is ready or dropped.
+/// A future, until it is dropped.
 #[derive(Drop)]
 pub enum Asked {
     Get(Get<TestMessage>),
@@ -32,41 +28,26 @@ pub enum Given {
 
 impl Asked {
     /// Returns what the future gives.
-    pub fn given<R: Wait + RandomSource + AllocGlobal>(&mut self, rt: &R) -> Given {
-        let polled = match self {
-            Asked::Get(get) => got(rt, get),
-            Asked::Subscription(subscription) => heard(rt, subscription),
-            Asked::Applied(_) => None,
-            Asked::Dropped => Some(None),
-        };
-        match polled {
-            None => Given::Waits,
-            Some(None) => Given::Nothing,
-            Some(Some(letter)) => Given::Letter(letter),
+    pub fn given(&mut self) -> Given {
+        match self {
+            Asked::Get(it) => match it.try_wait() {
+                Poll::Ready(message) => letter_in(message),
+                Poll::Pending => Given::Waits,
+            },
+            Asked::Subscription(it) => match it.try_wait() {
+                Poll::Ready(message) => letter_in(message.ok()),
+                Poll::Pending => Given::Waits,
+            },
+            Asked::Applied(_) => Given::Waits,
+            Asked::Dropped => Given::Nothing,
         }
     }
 }
 
-/// Returns the letter that a get gives, if it is ready.
-fn got<R>(rt: &R, get: &mut Get<TestMessage>) -> Option<Option<u8>>
-where
-    R: Wait + RandomSource + AllocGlobal,
-{
-    match block_on(rt, poll_immediate(get)) {
-        Ok(Some(Some(message))) => Some(Some(letter_of(message.inner()))),
-        Ok(None) => None,
-        _ => Some(None),
-    }
-}
-
-/// Returns the letter that a subscription gives, if it is ready.
-fn heard<R>(rt: &R, subscription: &mut Subscription<TestMessage>) -> Option<Option<u8>>
-where
-    R: Wait + RandomSource + AllocGlobal,
-{
-    match block_on(rt, poll_immediate(subscription)) {
-        Ok(Some(Ok(message))) => Some(Some(letter_of(message.inner()))),
-        Ok(None) => None,
-        _ => Some(None),
+/// Returns that the message is given, or none.
+fn letter_in(message: Option<Digested<TestMessage>>) -> Given {
+    match message {
+        Some(message) => Given::Letter(letter_of(message.inner())),
+        None => Given::Nothing,
     }
 }

@@ -1,9 +1,10 @@
 //! Whom a poll of an engine asks whether they still wait.
+use super::node::Caller;
 use broadcast_core::{Codec, Digest, Digestible, Items, RangeCfg, Set, TestMessage};
 use broadcast_mailbox::buffered::{Incoming, Ingress, channel};
 use commonware_broadcast::buffered::{
     Config, Direct, Engine, Fixed, Input, Mailbox, Message, NetworkFailed, Reply, Request,
-    Requests, Responder, Sequential, drive,
+    Requests, Responder, Sequential,
 };
 use commonware_broadcast::mocks::{RecordingSender, Script};
 use futures::task::{Context, Doorbell, Poll, Solo};
@@ -12,15 +13,16 @@ use std::cell::Cell;
 use std::marker::Model;
 use std::num::NonZeroUsize;
 use std::process::Abort;
+use std::random::RandomSource;
 use std::rc::Rc;
 use std::sync::Wait;
 
 /// What happens to a node, as words of bytes:
 /// `sL` its source gives a subscribe to the digest of this letter;
 /// `aL` the same is applied by hand;
-/// `lN` the caller of this place waits no more;
+/// `lN` the waiter of this place waits no more;
 /// `nL` a subscription to the digest of this letter is dropped, so that the mailbox names it;
-/// `pN..` it is polled, and asks the callers of these places, each once, and no other.
+/// `pN..` it is polled, and asks the waiters of these places, each once, and no other.
 static ROWS: [&[u8]; 6] = [
     // Nothing closed.
     b"sa p sb p p",
@@ -43,28 +45,26 @@ fn rows() -> &'static [&'static [u8]] {
 #[test]
 fn a_poll_asks_only_whom_it_must(rt: HostRuntime) {
     for (place, words) in rows().iter().enumerate() {
-        let task = Solo::new(&rt, Doorbell::spinning()).expect(&rt, "a task");
-        let other = goes::<TestMessage, _>(&rt, &task, RangeCfg::any(), words);
-        assert_eq!(rt; other, None, "row {place}");
+        assert_eq!(rt; wrong(&rt, words), None, "row {place}");
     }
 }
 
-/// A caller of a subscribe.
+/// Who waits for a message.
 #[derive(Drop)]
-struct Caller {
+struct Waiter {
     /// Whether it waits no more.
     gone: Cell<bool>,
     /// How often that was asked since the last poll.
     asked: Cell<usize>,
 }
 
-/// The responder of a caller, which counts how often it is asked.
+/// The responder of a waiter, which counts how often it is asked.
 #[derive(Drop)]
 struct Counting {
-    caller: Rc<Caller>,
+    waiter: Rc<Waiter>,
 }
 
-/// A caller is seen by no contract, so either call may return either result.
+/// A waiter is seen by no contract, so either call may return either result.
 impl<M: Digestible> Responder<Reply<M>> for Counting {
     ghost use Rattle.std.specs.Prelude.{⊤};
 
@@ -73,9 +73,9 @@ impl<M: Digestible> Responder<Reply<M>> for Counting {
     ghost may_deliver = { λ _ _. ⊤ };
 
     fn is_closed(&self) -> bool {
-        let asked = &self.caller.asked;
+        let asked = &self.waiter.asked;
         asked.set(asked.get().saturating_add(1));
-        self.caller.gone.get()
+        self.waiter.gone.get()
     }
 
     fn send(self, _value: Reply<M>) -> bool {
@@ -86,10 +86,13 @@ impl<M: Digestible> Responder<Reply<M>> for Counting {
 /// A request of a node.
 type Wanted<M> = Message<u64, M, Counting, Fixed>;
 
+/// The next request of a node.
+type Next<M> = Rc<Cell<Option<Wanted<M>>>>;
+
 /// Gives one request at a time, and names the digests that a mailbox does.
 #[derive(Drop)]
 struct Telling<M: Digestible, R: Wait> {
-    request: Cell<Option<Wanted<M>>>,
+    next: Next<M>,
     ingress: Ingress<Incoming<u64, M>, R>,
 }
 
@@ -109,12 +112,8 @@ impl<M: Digestible, R: Wait> Requests<Wanted<M>> for Telling<M, R> {
     }
 
     fn poll_next(&mut self, cx: &mut Context<'_>) -> Poll<Request<Wanted<M>>> {
-        match self.request.replace(None) {
-            Some(message) => Poll::Ready(Request {
-                ticket: 0,
-                message,
-                counted: false,
-            }),
+        match self.next.replace(None) {
+            Some(message) => Poll::Ready(request(message)),
             None => cx.yield_now(),
         }
     }
@@ -128,178 +127,213 @@ impl<M: Digestible, R: Wait> Requests<Wanted<M>> for Telling<M, R> {
     fn close(&mut self) {}
 }
 
-/// What an engine sends to, and what it receives from.
+/// Returns a request with the message.
+fn request<M: Digestible>(message: Wanted<M>) -> Request<Wanted<M>> {
+    Request {
+        ticket: 0,
+        message,
+        counted: false,
+    }
+}
+
+/// An engine over such a source.
+type Over<M, R> = Engine<
+    u64,
+    M,
+    Counting,
+    Direct,
+    Script<Option<Set<u64>>>,
+    Telling<M, R>,
+    Sequential,
+>;
+
+/// The network of an engine.
 type Network = (
     RecordingSender<u64>,
     Script<Result<(u64, Items<u8>), NetworkFailed>>,
 );
 
-/// An engine over such a source, with its callers. Nothing is known of its state, and it is kept in
-/// a box, which keeps proofs small.
+/// An engine. A test knows no more of it, which keeps its proofs small.
+trait Asking: Drop {
+    /// Polls it once.
+    fn poll(&mut self, alloc: Global, task: &Solo, network: &mut Network);
+
+    /// Applies the request by hand.
+    fn apply(&mut self, alloc: Global, message: Wanted<TestMessage>, network: &mut Network);
+}
+
+/// An engine of which nothing is known.
 #[derive(Drop)]
-struct Node<M: Digestible + Codec, R: Wait>
-where
-    M::Cfg: Drop,
-{
-    engine: Engine<u64, M, Counting, Direct, Script<Option<Set<u64>>>, Telling<M, R>, Sequential>,
-    mailbox: Mailbox<u64, M, R>,
-    network: Network,
-    callers: Vec<Rc<Caller>>,
+struct Node<R: Wait> {
+    engine: Over<TestMessage, R>,
 }
 
-/// Creates a node, and makes the steps. Returns the place of the first at which others are asked.
-fn goes<M, R>(rt: &R, task: &Solo, codec_config: M::Cfg, words: &[u8]) -> Option<usize>
-where
-    M: Digestible<Digest = Digest> + Codec,
-    M::Cfg: Drop,
-    R: Wait + Abort + AllocGlobal + Clone + Drop,
-{
-    let mut node: Box<Node<M, R>> = Node::new(rt, codec_config);
-    other_place(rt, task, &mut node, words)
-}
-
-/// Makes the steps, and returns the place of the first at which others are asked.
-fn other_place<M, R>(rt: &R, task: &Solo, node: &mut Node<M, R>, words: &[u8]) -> Option<usize>
-where
-    M: Digestible<Digest = Digest> + Codec,
-    M::Cfg: Drop,
-    R: Wait + Abort + AllocGlobal + Clone + Drop,
-{
-    for (place, word) in words.split(|byte| *byte == b' ').enumerate() {
-        if !node.goes(rt, task, word) {
-            return Some(place);
-        }
-    }
-    None
-}
-
-impl<M: Digestible + Codec, R: Wait> Model for Node<M, R>
-where
-    M::Cfg: Drop,
-{
+impl<R: Wait> Model for Node<R> {
     ghost Value = { Unit {0} };
 
     ghost view = { λ _. tt };
 }
 
-impl<M, R> Node<M, R>
+impl<R: Wait> From<Over<TestMessage, R>> for Node<R> {
+    fn from(engine: Over<TestMessage, R>) -> Self {
+        Node { engine }
+    }
+}
+
+impl<R: Wait + Drop> Asking for Node<R> {
+    fn poll(&mut self, alloc: Global, task: &Solo, network: &mut Network) {
+        let mut cx = task.begin();
+        let _polled = self.engine.poll(alloc, &mut cx, network);
+        // A task that is parked must have asked for another poll.
+        let _: Poll<()> = cx.yield_now();
+        cx.park();
+    }
+
+    fn apply(&mut self, alloc: Global, message: Wanted<TestMessage>, network: &mut Network) {
+        let input = Input::Request(request(message));
+        let _turn = self.engine.apply(alloc, input, &mut network.0);
+    }
+}
+
+/// Creates an engine and a mailbox that names digests, and returns what is made of the engine. It is
+/// generic in the message, since the check refuses a function that has both for `TestMessage`.
+fn made<M, R, N>(rt: &R, codec_config: M::Cfg, next: Next<M>) -> (N, Mailbox<u64, M, R>)
 where
     M: Digestible<Digest = Digest> + Codec,
     M::Cfg: Drop,
     R: Wait + Abort + AllocGlobal + Clone + Drop,
+    N: From<Over<M, R>>,
 {
-    /// Creates a node without callers.
-    fn new(rt: &R, codec_config: M::Cfg) -> Box<Self> {
-        let alloc = rt.alloc();
-        let own = rt.clone().expect(rt, "memory");
-        let (mailbox, ingress) = channel(own, alloc, NonZeroUsize::MIN).expect(rt, "memory");
-        let requests = Telling {
-            request: Cell::new(None),
-            ingress,
-        };
-        let cfg = Config {
-            public_key: 1,
-            mailbox_size: NonZeroUsize::MIN,
-            deque_size: 10,
-            byte_budget: u64::MAX,
-            priority: false,
-            codec_config,
-            peer_provider: Script::new(Vec::new(alloc)),
-            strategy: Sequential,
-        };
-        let node = Node {
-            engine: Engine::over(alloc, cfg, requests, Direct),
-            mailbox,
-            network: (RecordingSender::new(alloc), Script::new(Vec::new(alloc))),
-            callers: Vec::new(alloc),
-        };
-        Box::new(alloc, node).expect(rt, "memory")
-    }
+    let alloc = rt.alloc();
+    let own = rt.clone().expect(rt, "memory");
+    let (mailbox, ingress) = channel(own, alloc, NonZeroUsize::MIN).expect(rt, "memory");
+    let cfg = Config {
+        public_key: 1,
+        mailbox_size: NonZeroUsize::MIN,
+        deque_size: 10,
+        byte_budget: u64::MAX,
+        priority: false,
+        codec_config,
+        peer_provider: Script::new(Vec::new(alloc)),
+        strategy: Sequential,
+    };
+    let engine = Engine::over(alloc, cfg, Telling { next, ingress }, Direct);
+    (N::from(engine), mailbox)
+}
 
-    /// Does what the word says. Returns whether the callers are asked that are to be.
-    fn goes(&mut self, rt: &R, task: &Solo, word: &[u8]) -> bool {
-        match word {
-            [b'p', places @ ..] => {
-                self.poll(rt.alloc(), task).expect(rt, "memory");
-                self.has_asked(places)
-            }
-            [b'l', place] => self.leave(place_of(*place)),
-            [b's', letter] => self.give(rt, *letter),
-            [b'a', letter] => self.apply(rt, *letter),
-            [b'n', letter] => self.name(rt, *letter),
-            _ => false,
+/// What stands around an engine: its task, its network, who waits, and its next request.
+#[derive(Drop)]
+struct Around {
+    task: Solo,
+    network: Network,
+    waiters: Vec<Rc<Waiter>>,
+    next: Next<TestMessage>,
+}
+
+impl Around {
+    fn new<R: Abort + RandomSource + AllocGlobal>(rt: &R) -> Self {
+        let alloc = rt.alloc();
+        Around {
+            task: Solo::new(rt, Doorbell::spinning()).expect(rt, "a task"),
+            network: (RecordingSender::new(alloc), Script::new(Vec::new(alloc))),
+            waiters: Vec::new(alloc),
+            next: Rc::new(alloc, Cell::new(None)).expect(rt, "memory"),
         }
     }
 
-    fn leave(&mut self, place: usize) -> bool {
-        match self.callers.get(place) {
-            Some(caller) => {
-                caller.gone.set(true);
+    /// Creates the subscribe of a new waiter.
+    fn subscribe(&mut self, alloc: Global, letter: u8) -> Result<Wanted<TestMessage>, AllocError> {
+        let waiter = Rc::new(
+            alloc,
+            Waiter {
+                gone: Cell::new(false),
+                asked: Cell::new(0),
+            },
+        )?;
+        self.waiters.push(waiter.clone()?)?;
+        Ok(Message::subscribe(digest(letter), Counting { waiter }))
+    }
+
+    /// Lets the waiter of the place wait no more. Returns whether there is one.
+    fn leave(&self, place: usize) -> bool {
+        match self.waiters.get(place) {
+            Some(waiter) => {
+                waiter.gone.set(true);
                 true
             }
             None => false,
         }
     }
 
-    fn give(&mut self, rt: &R, letter: u8) -> bool {
-        let message = self.subscribe(rt.alloc(), letter).expect(rt, "memory");
-        self.engine.requests().request.set(Some(message));
-        true
-    }
-
-    fn name(&mut self, rt: &R, letter: u8) -> bool {
-        drop::<_>(
-            self.mailbox
-                .subscribe(digest(letter))
-                .expect(rt, "a request"),
-        );
-        true
-    }
-
-    /// Creates the subscribe of a caller.
-    fn subscribe(&mut self, alloc: Global, letter: u8) -> Result<Wanted<M>, AllocError> {
-        let caller = Rc::new(
-            alloc,
-            Caller {
-                gone: Cell::new(false),
-                asked: Cell::new(0),
-            },
-        )?;
-        self.callers.push(caller.clone()?)?;
-        Ok(Message::subscribe(digest(letter), Counting { caller }))
-    }
-
-    /// Applies a subscribe by hand.
-    fn apply(&mut self, rt: &R, letter: u8) -> bool {
-        let message = self.subscribe(rt.alloc(), letter).expect(rt, "memory");
-        let request = Request {
-            ticket: 0,
-            message,
-            counted: false,
-        };
-        let input = Input::Request(request);
-        let _turn = self.engine.apply(rt.alloc(), input, &mut self.network.0);
-        true
-    }
-
-    /// Polls the engine once.
-    fn poll(&mut self, alloc: Global, task: &Solo) -> Result<(), AllocError> {
-        let mut cx = task.begin();
-        let turns = drive(alloc, &mut self.engine, &mut cx, &mut self.network, 1);
-        // A task that is parked must have asked for another poll.
-        let _: Poll<()> = cx.yield_now();
-        cx.park();
-        drop::<_>(turns?);
-        Ok(())
-    }
-
-    /// Returns whether the callers of these places were asked once since the last call, and no
+    /// Returns whether the waiters of these places were asked once since the last call, and no
     /// other.
     fn has_asked(&self, places: &[u8]) -> bool {
-        self.callers.iter().enumerate().all(|(place, caller)| {
+        self.waiters.iter().enumerate().all(|(place, waiter)| {
             let is_wanted = places.iter().any(|digit| place_of(*digit) == place);
-            caller.asked.replace(0) == usize::from(is_wanted)
+            waiter.asked.replace(0) == usize::from(is_wanted)
         })
+    }
+}
+
+/// Creates an engine, and does what the words say. Returns the place of the first after which others
+/// are asked.
+fn wrong<R>(rt: &R, words: &[u8]) -> Option<usize>
+where
+    R: Wait + Abort + RandomSource + AllocGlobal + Clone + Send + Drop + 'static,
+{
+    let mut around = Around::new(rt);
+    let next = around.next.clone().expect(rt, "memory");
+    let (mut node, mailbox) = made::<TestMessage, R, Node<R>>(rt, RangeCfg::any(), next);
+    wrong_place(rt, &mut node, &mailbox, &mut around, words)
+}
+
+fn wrong_place<N, C, R>(
+    rt: &R,
+    node: &mut N,
+    mailbox: &C,
+    around: &mut Around,
+    words: &[u8],
+) -> Option<usize>
+where
+    N: Asking,
+    C: Caller,
+    R: Abort + AllocGlobal,
+{
+    for (place, word) in words.split(|byte| *byte == b' ').enumerate() {
+        let goes = goes(rt.alloc(), node, mailbox, around, word).expect(rt, "memory");
+        if !goes {
+            return Some(place);
+        }
+    }
+    None
+}
+
+/// Does what the word says. Returns whether the waiters are asked that are to be.
+fn goes<N: Asking, C: Caller>(
+    alloc: Global,
+    node: &mut N,
+    mailbox: &C,
+    around: &mut Around,
+    word: &[u8],
+) -> Result<bool, AllocError> {
+    match word {
+        [b'p', places @ ..] => {
+            node.poll(alloc, &around.task, &mut around.network);
+            Ok(around.has_asked(places))
+        }
+        [b'l', place] => Ok(around.leave(place_of(*place))),
+        [b'n', letter] => Ok(mailbox.ask(false, digest(*letter)).is_some()),
+        [b's', letter] => {
+            let message = around.subscribe(alloc, *letter)?;
+            around.next.set(Some(message));
+            Ok(true)
+        }
+        [b'a', letter] => {
+            let message = around.subscribe(alloc, *letter)?;
+            node.apply(alloc, message, &mut around.network);
+            Ok(true)
+        }
+        _ => Ok(false),
     }
 }
 

@@ -3,7 +3,7 @@ use super::act::Act::{
     Apply, Counts, Hang, HangMany, Nodes, Poll, Run, Subscribe, SubscribeMany, TakeByHand, Track,
 };
 use super::act::{Line, Row, all_go};
-use super::node::Metric::{self, Waiters};
+use super::metric::Metric::{self, Waiters};
 use commonware_broadcast::buffered::{Status, Turn};
 
 /// Dropped subscribes.

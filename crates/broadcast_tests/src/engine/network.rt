@@ -1,65 +1,11 @@
-//! The two ends of a network in memory.
-ghost use Rattle.std.specs.Prelude.{◌≡◌, ℕ, List, [], ◌∷◌, ◌++◌, false};
-ghost use Rattle.broadcast_core.specs.declared.event.Sent.{Sent};
+//! The receiving end of a network in memory.
+ghost use Rattle.std.specs.Prelude.{◌≡◌};
 
-use broadcast_core::{Items, Recipients, Sent};
-use commonware_broadcast::buffered::{NetworkFailed, Receiver, Sender};
+use broadcast_core::Items;
+use commonware_broadcast::buffered::{NetworkFailed, Receiver};
 use futures::task::{Context, Poll, Source, Waker};
 use std::alloc::{AllocError, Global};
 use std::collections::VecDeque;
-
-/// Records what is sent.
-#[derive(Drop)]
-pub struct Outbound {
-    /// What was sent, oldest first.
-    pub sent: Vec<Sent<u64>>,
-    /// How many of them were passed on.
-    passed: usize,
-    /// Whether something could not be recorded.
-    pub lost: bool,
-}
-
-impl Outbound {
-    pub fn new(alloc: Global) -> Self {
-        Outbound {
-            sent: Vec::new(alloc),
-            passed: 0,
-            lost: false,
-        }
-    }
-
-    /// Returns the oldest that was not passed on yet.
-    pub fn next_sent(&mut self) -> Result<Option<Sent<u64>>, AllocError> {
-        let Some(sent) = self.sent.get(self.passed) else {
-            return Ok(None);
-        };
-        self.passed += 1;
-        Ok(Some(sent.clone()?))
-    }
-}
-
-/// The list of what was sent, unless there was no memory to record it.
-impl Sender<u64> for Outbound {
-    ghost told = { λ it sent. it.lost ≡ false → it.sent.items ≡ sent };
-
-    fn send(&mut self, recipients: Recipients<u64>, bytes: Vec<u8>, priority: bool)
-        ensures { (sent : List (Sent ℕ)) → (self.old.lost ≡ false → self.old.sent.items ≡ sent)
-            → self.new.lost ≡ false → self.new.sent.items ≡ sent ++ record {
-              recipients = recipients;
-              bytes = bytes.items;
-              priority = priority;
-            } ∷ [] }
-    {
-        let sent = Sent {
-            recipients,
-            bytes: Items::from_vec(bytes),
-            priority,
-        };
-        if self.sent.push(sent).is_err() {
-            self.lost = true;
-        }
-    }
-}
 
 /// Gives the payloads that were handed to it.
 #[derive(Drop)]
@@ -81,10 +27,11 @@ impl Inbound {
     }
 
     /// Hands over a payload of the peer.
-    pub fn give(&mut self, peer: u64, payload: Vec<u8>) -> Result<(), AllocError> {
-        self.payloads.push_back((peer, Items::from_vec(payload)))?;
+    pub fn give(&mut self, alloc: Global, peer: u64, bytes: &[u8]) -> Result<bool, AllocError> {
+        let payload = Items::from_vec(Vec::from_slice(alloc, bytes)?);
+        self.payloads.push_back((peer, payload))?;
         self.waker = None;
-        Ok(())
+        Ok(true)
     }
 
     /// Fails once the payloads are taken.

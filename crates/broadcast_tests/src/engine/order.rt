@@ -5,7 +5,7 @@ use super::act::Act::{
 };
 use super::act::{Line, Row, all_go};
 use super::asked::Given;
-use super::node::Metric;
+use super::metric::Metric;
 use crate::support::message::To;
 use broadcast_core::{Cause, CodecError, Outcome};
 use broadcast_mailbox::Feedback;

@@ -9,7 +9,7 @@ use super::act::{Line, Row};
 use super::asked::Given;
 use crate::support::message::To;
 
-static ROWS: [Row; 17] = [
+static MESSAGES: [Row; 5] = [
     Row {
         name: "test_broadcast",
         acts: &[
@@ -71,6 +71,9 @@ static ROWS: [Row; 17] = [
             Line(&[All(2, [1, 0, 0, 0], [1, 0, 0], [0, 1], [0, 0, 0], 0)]),
         ],
     },
+];
+
+static LISTS: [Row; 6] = [
     Row {
         name: "test_cache_eviction_single_peer",
         acts: &[
@@ -151,6 +154,9 @@ static ROWS: [Row; 17] = [
             Line(&[All(1, [0, 0, 0, 0], [0, 0, 0], [0, 2], [0, 2, 0], 0)]),
         ],
     },
+];
+
+static PEERS: [Row; 6] = [
     Row {
         name: "test_peer_set_update_evicts_disconnected_peer_buffers",
         acts: &[
@@ -221,6 +227,17 @@ static ROWS: [Row; 17] = [
     },
 ];
 
-pub fn rows() -> &'static [Row] {
-    &ROWS
+/// Returns those of messages that are broadcast and asked for.
+pub fn messages() -> &'static [Row] {
+    &MESSAGES
+}
+
+/// Returns those of lists, of recipients, and of waiters that hang up.
+pub fn lists() -> &'static [Row] {
+    &LISTS
+}
+
+/// Returns those of peer sets that change, or come late.
+pub fn peer_sets() -> &'static [Row] {
+    &PEERS
 }

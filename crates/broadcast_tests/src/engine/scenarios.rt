@@ -4,7 +4,9 @@ use super::{counter_rows, scenario_rows};
 
 #[test]
 fn nodes_do_what_the_rust_crate_does(rt: HostRuntime) {
-    all_go(&rt, scenario_rows::rows());
+    all_go(&rt, scenario_rows::messages());
+    all_go(&rt, scenario_rows::lists());
+    all_go(&rt, scenario_rows::peer_sets());
 }
 
 #[test]

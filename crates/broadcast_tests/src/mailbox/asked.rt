@@ -19,7 +19,7 @@ pub enum Asked {
 }
 
 /// What a future gives.
-#[derive(Clone, Copy, Debug, PartialEq, Eq)]
+#[derive(Clone, Copy, PartialEq, Eq)]
 pub enum Given {
     /// It is still pending.
     Waits,
@@ -30,7 +30,7 @@ pub enum Given {
 }
 
 /// How a caller looks for what its future gives.
-#[derive(Clone, Copy, Debug)]
+#[derive(Clone, Copy)]
 pub enum How {
     /// By a look that does not wait.
     Look,

@@ -9,8 +9,8 @@ use broadcast_mailbox::buffered::All;
 static SEEN: [Row; 3] = [
     // After a look in vain the next ones rest, but not for ever.
     Row(&[
-        Line(&[Take(Request::None), Look(false), Get(Caller, true)]),
-        Line(&[Look(false), LookOften]),
+        Line(&[Take(Request::None), Look(false), Take(Request::None)]),
+        Line(&[Get(Caller, true), Look(false), LookOften]),
     ]),
     Row(&[
         Line(&[Take(Request::None), Get(Caller, true), Look(true)]),

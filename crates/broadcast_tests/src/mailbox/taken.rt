@@ -8,7 +8,7 @@ use std::alloc::AllocGlobal;
 use std::process::Abort;
 
 /// A request that was taken.
-#[derive(Clone, Copy, Debug)]
+#[derive(Clone, Copy)]
 pub enum Request {
     None,
     To(To),
@@ -16,27 +16,26 @@ pub enum Request {
     Get,
 }
 
-/// Does what the act says of the request that is kept. Returns whether it goes as it should.
-pub fn end<R: Abort + AllocGlobal>(
-    rt: &R,
-    taken: &mut Option<Incoming<u64, Note>>,
-    act: Act,
-) -> bool {
-    let Some(request) = taken.take() else {
+/// Replies to the request as the act says, or drops it. Returns whether there is one.
+pub fn end<R: Abort + AllocGlobal>(rt: &R, taken: Option<Incoming<u64, Note>>, act: Act) -> bool {
+    let Some(request) = taken else {
         return false;
     };
     match act {
-        Act::IsClosed(wanted) => {
-            let is_closed = request.is_closed();
-            *taken = Some(request);
-            is_closed == wanted
-        }
         Act::Reply(digest) => {
             let message = Digested::precomputed(rt.alloc(), Note(1), digest).expect(rt, "memory");
             reply(request, Some(Reply::new(message)))
         }
         Act::ReplyNone => reply(request, None),
         _ => true,
+    }
+}
+
+/// Returns whether the caller of the request waits no more, or still does.
+pub fn is_closed(taken: Option<&Incoming<u64, Note>>, wanted: bool) -> bool {
+    match taken {
+        Some(request) => request.is_closed() == wanted,
+        None => false,
     }
 }
 

@@ -3,18 +3,16 @@ ghost use Rattle.std.specs.Prelude.{◌≡◌};
 ghost use Rattle.std.specs.NonZero.{non_zero_u32_get};
 
 use super::asked::{Asked, Given, How};
+use super::ends::{Both, Calls, Takes};
 use super::note::Note;
-use super::taken::{Request, end, is_request};
+use super::taken::{Request, end, is_closed, is_request};
 use crate::support::message::{To, recipients};
 use broadcast_core::Digested;
-use broadcast_mailbox::buffered::{
-    Account, Bookkeeping, Books, Counts, Incoming, Ingress, Tally, Watch, WatchedMailbox,
-    watched_channel,
-};
-use broadcast_mailbox::{Broadcaster, Feedback};
-use futures::task::{Doorbell, Poll, Solo};
+use broadcast_mailbox::Feedback;
+use broadcast_mailbox::buffered::{Account, Incoming, Watch, watched_channel};
+use futures::task::{Doorbell, Solo};
 use std::alloc::AllocGlobal;
-use std::marker::{Brand, Model};
+use std::marker::Brand;
 use std::mem;
 use std::num::{NonZeroU32, NonZeroUsize};
 use std::process::Abort;
@@ -27,14 +25,14 @@ use std::time::Clock;
 pub const DIGEST: u64 = 7;
 
 /// Who makes a call.
-#[derive(Clone, Copy, Debug)]
+#[derive(Clone, Copy)]
 pub enum By {
     Caller,
     Tally,
 }
 
 /// What is done to a mailbox, or must be seen of it.
-#[derive(Clone, Copy, Debug)]
+#[derive(Clone, Copy)]
 pub enum Act {
     /// A broadcast, whose caller is told this.
     Broadcast(By, To, Feedback),
@@ -85,22 +83,15 @@ pub struct Line(pub &'static [Act]);
 /// What is done to a mailbox of one place, in lines.
 pub struct Row(pub &'static [Line]);
 
-/// Both ends of a mailbox, of which nothing is known, a tally, and the future of the latest call.
+/// Both ends of a mailbox, the future of the latest call, and the latest request.
 #[derive(Drop)]
-pub struct Talk<R: Wait, A: Account, K: Account, V: Watch<u64>> {
-    mailbox: WatchedMailbox<u64, Note, R, A, K, V>,
-    ingress: Ingress<Incoming<u64, Note>, R, Books<A, K, V, u64>>,
-    tally: Tally<A>,
+struct Talk<C, T> {
+    calls: C,
+    takes: T,
     task: Solo,
     asked: Asked,
     taken: Option<Incoming<u64, Note>>,
     told: Vec<u64>,
-}
-
-impl<R: Wait, A: Account, K: Account, V: Watch<u64>> Model for Talk<R, A, K, V> {
-    ghost Value = { Unit {0} };
-
-    ghost view = { λ _. tt };
 }
 
 /// Does what the acts say to a mailbox of one place. Returns the place of the first line that
@@ -134,182 +125,153 @@ where
     requires taken { (taken.name ≡ K.name) × (taken.parts ≡ K.parts) }
     requires one { (K.all ≡ K.parts) × (K.parts ≡ 1) }
 {
-    let task = Solo::new(rt, Doorbell::spinning()).expect(rt, "a task");
-    let (mailbox, ingress, tally) = watched_channel::<u64, Note, R, A, K, V>(
-        rt.clone().expect(rt, "memory"),
+    let own = rt.clone().expect(rt, "memory");
+    let size = NonZeroUsize::MIN;
+    let made = watched_channel::<u64, Note, R, A, K, V>(
+        own,
         rt.alloc(),
-        NonZeroUsize::MIN,
+        size,
         parts,
         accepted,
         taken,
-    )
-    .expect(rt, "memory");
-    let stopper = ingress.stopper().expect(rt, "memory");
-    stopper.set_may_look(may_look);
-    let talk = Talk {
-        mailbox,
-        ingress,
-        tally,
-        task,
+    );
+    let (mailbox, ingress, tally) = made.expect(rt, "memory");
+    talks(rt, Both { mailbox, tally }, ingress, may_look, lines)
+}
+
+/// The same, with these ends of a mailbox.
+fn talks<C, T, R>(rt: &R, calls: C, takes: T, may_look: bool, lines: &[Line]) -> Option<usize>
+where
+    C: Calls,
+    T: Takes,
+    R: Wait + Abort + Clock + RandomSource + AllocGlobal,
+{
+    takes.let_look(may_look).expect(rt, "memory");
+    let mut talk = Talk {
+        calls,
+        takes,
+        task: Solo::new(rt, Doorbell::spinning()).expect(rt, "a task"),
         asked: Asked::Dropped,
         taken: None,
         told: Vec::new(rt.alloc()),
     };
-    let mut talk: Box<Talk<R, A, K, V>> = Box::new(rt.alloc(), talk).expect(rt, "memory");
     wrong_place(rt, &mut talk, lines)
 }
 
 /// Does what the acts say. Returns the place of the first line that does not go as it should.
-fn wrong_place<R, A, K, V>(rt: &R, talk: &mut Talk<R, A, K, V>, lines: &[Line]) -> Option<usize>
+fn wrong_place<C, T, R>(rt: &R, talk: &mut Talk<C, T>, lines: &[Line]) -> Option<usize>
 where
-    R: Wait + Abort + Clock + RandomSource + AllocGlobal + Clone + Send + Drop + 'static,
-    A: Account + Send + 'static,
-    K: Account + Send + 'static,
-    V: Watch<u64> + Send + 'static,
+    C: Calls,
+    T: Takes,
+    R: Wait + Abort + Clock + RandomSource + AllocGlobal,
 {
     for (place, line) in lines.iter().enumerate() {
-        if !line.0.iter().all(|act| talk.goes(rt, *act)) {
-            return Some(place);
+        for act in line.0 {
+            if !talk.goes(rt, *act) {
+                return Some(place);
+            }
         }
     }
     None
 }
 
-impl<R, A, K, V> Talk<R, A, K, V>
-where
-    R: Wait + Abort + Clock + RandomSource + AllocGlobal + Clone + Send + Drop + 'static,
-    A: Account + Send + 'static,
-    K: Account + Send + 'static,
-    V: Watch<u64> + Send + 'static,
-{
+impl<C: Calls, T: Takes> Talk<C, T> {
     /// Does what the act says. Returns whether it goes as it should.
-    fn goes(&mut self, rt: &R, act: Act) -> bool {
+    fn goes<R>(&mut self, rt: &R, act: Act) -> bool
+    where
+        R: Wait + Abort + Clock + RandomSource + AllocGlobal,
+    {
         match act {
-            Act::Broadcast(by, to, wanted) => self.broadcast(rt, by, to) == wanted,
-            Act::Subscribe(by, wanted) => self.subscribe(rt, by) == wanted,
-            Act::Get(by, wanted) => self.get(rt, by) == wanted,
+            Act::Broadcast(by, to, wanted) => self.broadcast(rt, by, to) == Some(wanted),
+            Act::Subscribe(by, wanted) => is_accepted(
+                &mut self.asked,
+                self.calls.subscribes(by),
+                wanted,
+            ),
+            Act::Get(by, wanted) => is_accepted(&mut self.asked, self.calls.gets(by), wanted),
             Act::Fill(number) => self.fill(rt, number),
-            Act::Counted(number) => self.tally.accepted() == number,
+            Act::Counted(number) => self.calls.counted() == number,
             Act::Gives(how, wanted) => gives(rt, &mut self.asked, how, wanted),
             Act::Leave => leave(&mut self.asked),
-            Act::IsClosed(..) | Act::Reply(..) | Act::ReplyNone | Act::Abandon => {
-                end(rt, &mut self.taken, act)
-            }
+            Act::IsClosed(wanted) => is_closed(self.taken.as_ref(), wanted),
+            Act::Reply(..) | Act::ReplyNone | Act::Abandon => end(rt, self.taken.take(), act),
             _ => self.takes(rt, act),
         }
     }
 
     /// Does what the act says of whoever takes the requests. Returns whether it goes as it should.
-    fn takes(&mut self, rt: &R, act: Act) -> bool {
+    fn takes<R: Clock>(&mut self, rt: &R, act: Act) -> bool {
         match act {
-            Act::Told(wanted) => self.tells(wanted),
+            Act::Told(wanted) => tells(&mut self.takes, &mut self.told, wanted),
             Act::Take(wanted) => self.take(wanted),
-            Act::Skip(number) => self.skip(number),
-            Act::Stop => self.stop(),
-            Act::Stopped(wanted) => self.ingress.stop_requested() == wanted,
-            Act::Close(wanted) => self.ingress.close() == wanted,
-            Act::Counts(wanted) => numbers(self.ingress.counts()) == wanted,
-            Act::Look(wanted) => self.ingress.look(rt) == wanted,
+            Act::Skip(number) => skip(&mut self.takes, &self.task, number),
+            Act::Look(wanted) => self.takes.looks(rt) == wanted,
             Act::LookOften => self.looks_again(rt),
-            _ => false,
+            _ => self.takes.shows(act),
         }
     }
 
-    fn broadcast(&mut self, rt: &R, by: By, to: To) -> Feedback {
+    fn broadcast<R>(&mut self, rt: &R, by: By, to: To) -> Option<Feedback>
+    where
+        R: Abort + AllocGlobal,
+    {
         let recipients = recipients(rt.alloc(), to).expect(rt, "memory");
         let message = Digested::precomputed(rt.alloc(), Note(3), DIGEST).expect(rt, "memory");
-        let told = match by {
-            By::Caller => self.mailbox.broadcast(recipients, message),
-            By::Tally => self
-                .mailbox
-                .broadcast_as(&mut self.tally, recipients, message),
-        };
-        told.expect(rt, "a feedback")
+        self.calls.broadcasts(by, recipients, message)
     }
 
-    fn subscribe(&mut self, rt: &R, by: By) -> bool {
-        let asked = match by {
-            By::Caller => self.mailbox.subscribe(DIGEST),
-            By::Tally => self.mailbox.subscribe_as(&mut self.tally, DIGEST),
-        };
-        self.asked = Asked::Subscription(asked.expect(rt, "a subscription"));
-        self.asked.was_accepted()
-    }
-
-    fn get(&mut self, rt: &R, by: By) -> bool {
-        let asked = match by {
-            By::Caller => self.mailbox.get(DIGEST),
-            By::Tally => self.mailbox.get_as(&mut self.tally, DIGEST),
-        };
-        self.asked = Asked::Get(asked.expect(rt, "a get"));
-        self.asked.was_accepted()
-    }
-
-    fn fill(&mut self, rt: &R, number: u64) -> bool {
+    fn fill<R: Abort + AllocGlobal>(&mut self, rt: &R, number: u64) -> bool {
         for _ in 0..number {
             let _told = self.broadcast(rt, By::Caller, To::All);
         }
         true
     }
 
-    /// Returns whether one drop is told, or none.
-    fn tells(&mut self, wanted: bool) -> bool {
-        let digests = if wanted { &[DIGEST][..] } else { &[][..] };
-        let may_be_any = self.ingress.take_dropped(&mut self.told);
-        if may_be_any || self.told.as_slice() != digests {
-            return false;
-        }
-        !self.ingress.take_dropped(&mut self.told) && self.told.is_empty()
-    }
-
     fn take(&mut self, wanted: Request) -> bool {
-        self.taken = next(&self.task, &mut self.ingress);
+        self.taken = self.takes.next(&self.task);
         is_request(self.taken.as_ref(), wanted)
     }
 
-    fn skip(&mut self, number: u64) -> bool {
-        for _ in 0..number {
-            drop::<_>(next(&self.task, &mut self.ingress));
-        }
-        true
-    }
-
     /// Returns whether one of a hundred looks sees the get before it.
-    fn looks_again(&mut self, rt: &R) -> bool {
+    fn looks_again<R: Clock>(&mut self, rt: &R) -> bool {
         for _ in 0..100 {
-            let _is_left = self.skip(2);
-            let _is_accepted = self.get(rt, By::Caller);
-            if self.ingress.look(rt) {
+            let _are_left = skip(&mut self.takes, &self.task, 2);
+            let asked = self.calls.gets(By::Caller);
+            if self.takes.looks(rt) {
                 return true;
             }
+            drop::<_>(asked);
         }
         false
     }
+}
 
-    fn stop(&mut self) -> bool {
-        self.ingress.request_stop();
-        true
+/// Keeps the future of a call. Returns whether its caller is told that it was accepted, or not.
+fn is_accepted(kept: &mut Asked, asked: Option<Asked>, wanted: bool) -> bool {
+    match asked {
+        Some(asked) => {
+            *kept = asked;
+            kept.was_accepted() == wanted
+        }
+        None => false,
     }
 }
 
-/// Takes the next request, if there is one.
-fn next<R, B>(
-    task: &Solo,
-    ingress: &mut Ingress<Incoming<u64, Note>, R, B>,
-) -> Option<Incoming<u64, Note>>
-where
-    R: Wait,
-    B: Bookkeeping,
-{
-    let mut cx = task.begin();
-    let polled = ingress.poll_request(&mut cx);
-    // A task that is parked must have asked for another poll.
-    let _: Poll<()> = cx.yield_now();
-    cx.park();
-    match polled {
-        Poll::Ready(request) => Some(request.message),
-        Poll::Pending => None,
+/// Returns whether one drop is told, or none.
+fn tells<T: Takes>(takes: &mut T, told: &mut Vec<u64>, wanted: bool) -> bool {
+    let digests = if wanted { &[DIGEST][..] } else { &[][..] };
+    if takes.take_told(told) || told.as_slice() != digests {
+        return false;
     }
+    !takes.take_told(told) && told.is_empty()
+}
+
+/// Takes so many requests.
+fn skip<T: Takes>(takes: &mut T, task: &Solo, number: u64) -> bool {
+    for _ in 0..number {
+        drop::<_>(takes.next(task));
+    }
+    true
 }
 
 /// Returns whether the future gives this.
@@ -325,15 +287,4 @@ where
 fn leave(asked: &mut Asked) -> bool {
     *asked = Asked::Dropped;
     true
-}
-
-/// Returns the numbers of the counts.
-fn numbers(counts: Counts) -> [u64; 5] {
-    [
-        counts.accepted,
-        counts.taken,
-        counts.skipped,
-        counts.waiting,
-        counts.given_up,
-    ]
 }

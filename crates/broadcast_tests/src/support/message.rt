@@ -5,7 +5,7 @@ use broadcast_core::{
 use std::alloc::{AllocError, Global};
 
 /// Recipients.
-#[derive(Clone, Copy, Debug)]
+#[derive(Clone, Copy)]
 pub enum To {
     All,
     Some(&'static [u64]),

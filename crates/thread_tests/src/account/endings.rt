@@ -3,12 +3,13 @@ ghost use Rattle.std.specs.Prelude.{◌≡◌, ◌<◌, ◌^◌};
 ghost use Rattle.std.specs.NonZero.{non_zero_u32_get};
 
 use super::quiet::{Gives, Sets, Void, Wire, config};
+use super::tallied::Tallied;
 use crate::nodes::message;
-use broadcast_core::{Codec, Digested, Digestible, RangeCfg, Recipients, TestMessage};
+use broadcast_core::{Codec, Digested, Digestible, RangeCfg, Read, TestMessage};
 use broadcast_mailbox::Feedback;
 use commonware_broadcast::buffered::{
-    Account, All, Books, EndCause, Engine, Get, MailboxReport, Runtime, Settled, Status, Tally,
-    WatchedEngine, WatchedMailbox, WatchedNode, drive,
+    Account, All, Books, Config, EndCause, Engine, Get, MailboxReport, Runtime, Settled, Status,
+    Tally, WatchedEngine, WatchedMailbox, WatchedNode, drive,
 };
 use commonware_broadcast::mocks::Slow;
 use futures::task::{Doorbell, Poll, Solo};
@@ -93,12 +94,16 @@ where
     M::Cfg: Send + Drop + 'static,
     R: Runtime + Abort,
 {
+    let sets = Sets::new(rt.alloc(), row.gives).expect(rt, "memory");
+    let wire = Wire::new(rt.alloc(), row.gives).expect(rt, "memory");
+    // The job of the payload is still pending after the polls before the start.
+    let cfg = config(sets, codec_config, Slow { polls: 9 });
     let parts = NonZeroU32::new(2).unwrap();
     let accepted = Blank::new(parts.get() as u64);
     end_with::<M, R, Brand, Brand>(
         rt,
         row,
-        codec_config,
+        (cfg, wire),
         message,
         parts,
         accepted,
@@ -106,11 +111,14 @@ where
     )
 }
 
+/// The configuration and the payloads of an engine.
+type Sources<M> = (Config<u64, <M as Read>::Cfg, Sets, Slow>, Wire);
+
 /// Lets an engine end after three requests, whose account has these ledgers.
 fn end_with<M, R, A, K>(
     rt: &R,
     row: &Row,
-    codec_config: M::Cfg,
+    sources: Sources<M>,
     message: Digested<M>,
     parts: NonZeroU32,
     accepted: Blank,
@@ -128,10 +136,7 @@ where
     requires taken { (taken.name ≡ K.name) × (taken.parts ≡ K.parts) }
     requires one { (K.all ≡ K.parts) × (K.parts ≡ 1) }
 {
-    let sets = Sets::new(rt.alloc(), row.gives).expect(rt, "memory");
-    let wire = Wire::new(rt.alloc(), row.gives).expect(rt, "memory");
-    // The job of the payload is still pending after the polls before the start.
-    let cfg = config(sets, codec_config, Slow { polls: 9 });
+    let (cfg, wire) = sources;
     let copy = rt.clone().expect(rt, "memory");
     let node: Result<WatchedNode<u64, M, Sets, Slow, R, A, K, All>, AllocError> =
         Engine::new_watched(copy, rt.alloc(), cfg, parts, accepted, taken);
@@ -147,30 +152,21 @@ type Asked<M, A> = (Get<M>, Tally<A>, Tally<A>);
 
 /// Makes a get, a subscribe whose caller hangs up, and a broadcast, with a part of the tally. The
 /// ready list has one place, so the broadcast is told to slow down.
-fn ask<M, R, A, K>(
-    rt: &R,
-    mailbox: &WatchedMailbox<u64, M, R, A, K, All>,
-    tally: Tally<A>,
-    message: Digested<M>,
-) -> Asked<M, A>
+fn ask<M, R, A, C>(rt: &R, mailbox: &C, tally: Tally<A>, message: Digested<M>) -> Asked<M, A>
 where
     M: Digestible,
-    R: Wait + Abort,
+    R: Abort,
     A: Account,
-    K: Account,
+    C: Tallied<M, A>,
 {
     let Ok((first, mut second)) = tally.split() else {
         panic!(rt; "a tally that can't be split");
     };
     let digest = message.digest();
-    let get = mailbox.get_as(&mut second, digest).expect(rt, "a get");
-    let subscription = mailbox.subscribe_as(&mut second, digest);
-    let told = mailbox.broadcast_as(&mut second, Recipients::All, message);
-    assert!(rt;
-        told == Ok(Feedback::Backoff),
-        "a broadcast is told otherwise"
-    );
-    drop::<_>(subscription.expect(rt, "a subscription"));
+    let get = mailbox.gets(&mut second, digest).expect(rt, "a get");
+    let is_accepted = mailbox.subscribes(&mut second, digest) == Some(true);
+    let told = mailbox.broadcasts(&mut second, message);
+    assert!(rt; is_accepted && told == Some(Feedback::Backoff), "calls");
     (get, first, second)
 }
 
