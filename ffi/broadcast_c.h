@@ -33,7 +33,7 @@ extern "C" {
 
 /* The version of these functions. It changes whenever one of them does, so a caller compares it with
  * `broadcast_c_version()` once. */
-#define BROADCAST_VERSION 6
+#define BROADCAST_VERSION 7
 
 /* The status that a call returns. After any other than OK and WAITS the store is as it was. After
  * EMPTY, MEMORY, NONE, TOO_LONG and NO_COVERAGE so is each variable that the call could have set. */
@@ -84,6 +84,7 @@ typedef struct {
     bool kept;     /* whether the message is cached, and no message of its digest was */
     size_t served; /* how many tickets `broadcast_store_served` copies */
     size_t cached; /* cached messages */
+    size_t left;   /* messages that left the cache, whose handles were not moved out */
 } broadcast_stored;
 
 /* The numbers of payloads by what happened to them. Each stops at UINT64_MAX. */
@@ -139,8 +140,7 @@ void broadcast_store_free(broadcast_store *store);
 uint32_t broadcast_store_peers(broadcast_store *store, const broadcast_name *names,
                                size_t names_len);
 /* Takes the message of the handle under the key `peer`. The message is cached if a list has its
- * digest then and none had before. It leaves the cache when the last list drops its digest:
- * `broadcast_store_get` reports whether a message is still there, and `cached` how many are. */
+ * digest then and none had before. It leaves the cache when the last list drops its digest. */
 uint32_t broadcast_store_take(broadcast_store *store, const broadcast_name *peer,
                               const uint8_t digest[32], size_t charge, uint64_t handle,
                               broadcast_stored *out);
@@ -152,6 +152,12 @@ uint32_t broadcast_store_receive(broadcast_store *store, const broadcast_name *p
 /* Copies the tickets that the last taken message served, in the order of their subscribes. */
 uint32_t broadcast_store_served(broadcast_store *store, uint64_t *out, size_t out_len,
                                 size_t *needed);
+/* Moves the handles of messages that left the cache to the front of `out`, those that left last
+ * first, as far as there is room, and sets `moved` to their number: OK. A take that was OK or a peer
+ * set adds each message that was cached before it and is not after it, once; a message that was never
+ * cached does not leave. Never fails for memory. */
+uint32_t broadcast_store_left(broadcast_store *store, uint64_t *out, size_t out_len,
+                              size_t *moved);
 /* Sets `handle` to that of the cached message: OK or NONE. */
 uint32_t broadcast_store_get(broadcast_store *store, const uint8_t digest[32], uint64_t *handle);
 /* Lets the ticket wait: WAITS, or OK if the message is cached. */

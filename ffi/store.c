@@ -19,9 +19,18 @@ static broadcast_name name_of(uint8_t byte, uint8_t len)
 static broadcast_stored take(const broadcast_name *key, const uint8_t name[32], size_t charge,
                              uint64_t handle)
 {
-    broadcast_stored stored = {0, false, 9, 9};
+    broadcast_stored stored = {0, false, 9, 9, 9};
     must(broadcast_store_take(&store, key, name, charge, handle, &stored) == BROADCAST_OK);
     return stored;
+}
+
+/* Whether so many handles of messages that left are moved out, at most two, and these ones. */
+static bool left_are(size_t count, uint64_t first, uint64_t second)
+{
+    uint64_t handles[2] = {9, 9};
+    size_t moved = 9;
+    must(broadcast_store_left(&store, handles, 2, &moved) == BROADCAST_OK);
+    return moved == count && handles[0] == first && handles[1] == second;
 }
 
 static void waits_and_is_served(void)
@@ -82,11 +91,15 @@ static void tells_outcomes(void)
 static void evicts(void)
 {
     uint64_t handle = 9;
+    broadcast_stored stored;
     uint8_t list[4][32] = {{0}};
     size_t needed = 0;
     must(broadcast_store_peers(&store, &peer, 1) == BROADCAST_OK);
     must(take(&peer, other, 50, 705).cached == 2);
-    must(take(&peer, third, 50, 706).cached == 2);
+    must(left_are(0, 9, 9));
+    stored = take(&peer, third, 50, 706);
+    must(stored.cached == 2 && stored.left == 1);
+    must(left_are(1, 700, 9) && left_are(0, 9, 9));
     must(broadcast_store_get(&store, digest, &handle) == BROADCAST_NONE);
     must(broadcast_store_get(&store, third, &handle) == BROADCAST_OK && handle == 706);
     must(broadcast_store_list(&store, &peer, list[0], 4, &needed) == BROADCAST_OK);
@@ -157,9 +170,11 @@ int main(void)
     must(sizes.cached == 2 && sizes.awaited == 0);
     counts();
     must(broadcast_store_peers(&store, NULL, 0) == BROADCAST_OK);
+    must(left_are(2, 800, 706) && left_are(1, 705, 9));
     broadcast_store_free(&store);
     broadcast_store_free(&store);
     must(broadcast_store_count(&store, &sizes) == BROADCAST_EMPTY);
+    must(broadcast_store_left(&store, NULL, 0, &sizes.cached) == BROADCAST_EMPTY);
     puts("store: ok");
     return 0;
 }

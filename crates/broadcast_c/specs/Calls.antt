@@ -4,7 +4,8 @@ use Rattle.std.specs.Prelude.{◌≡◌, ℕ, if◌then◌else◌, List, length,
 use Rattle.entries.specs.Store.{overlaid}
 use Rattle.broadcast_core.specs.declared.outcome.Outcome.{Outcome}
 use Rattle.broadcast_core.specs.declared.outcome.Outcome.TheVariants.{Inserted, Duplicate, Ineligible, Oversize}
-use Rattle.broadcast_c.specs.Storing.{TakesHandle, enters}
+use Rattle.broadcast_core.specs.Reports.{Reports}
+use Rattle.broadcast_c.specs.Storing.{TakesHandle, enters, same_bytes}
 use Rattle.broadcast_c.specs.declared.store.name.Name.{Name}
 use Rattle.broadcast_c.specs.declared.store.Store.{Store}
 use Rattle.broadcast_c.specs.declared.exports.store.Stored.{Stored}
@@ -45,7 +46,8 @@ outcome_code Ineligible = 2
 outcome_code Oversize = 3
 
 -- the message of the handle was taken; reported are the outcome, the number of tickets served,
--- whether the message is cached and none of its digest was, and the number of cached messages
+-- whether the message is cached and none of its digest was, the number of cached messages, and the
+-- number of messages that left and were not moved out, to which what left now is added
 pub record ReportsTaking (peer : Name) (digest : List ℕ) (charge handle : ℕ) (old new : Store)
     (report : Stored) : Type 0 where
   pub was : Outcome
@@ -53,4 +55,6 @@ pub record ReportsTaking (peer : Name) (digest : List ℕ) (charge handle : ℕ)
   pub outcome : report.outcome ≡ outcome_code was
   pub served : report.served ≡ length new.served
   pub kept : report.kept ≡ enters digest old new
-  pub cached : report.cached ≡ length new.core.cached
+  pub cached : report.cached ≡ length new.cache.core.cached
+  pub added : Reports same_bytes old.cache new.cache
+  pub left : report.left ≡ length new.cache.left

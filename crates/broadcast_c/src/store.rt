@@ -3,14 +3,15 @@ ghost use Rattle.std.specs.Prelude.{◌≡◌, ◌==◌, List, [], IfOk, IsOk, O
 ghost use Rattle.std.specs.List.{count_by};
 ghost use Rattle.broadcast_core.specs.Content.{has_primary, message_at, waiting_at};
 ghost use Rattle.broadcast_core.specs.Changes.{TakesPeers, Cleans, CleansAt, Awaits};
+ghost use Rattle.broadcast_core.specs.Reports.{Reports};
 ghost use Rattle.broadcast_core.specs.Waiters.{is_gone, gone_from, counted};
-ghost use Rattle.broadcast_c.specs.Storing.{HaveSameNames, TakesHandle, enters, handle_at, same_bytes};
+ghost use Rattle.broadcast_c.specs.Storing.{HaveSameNames, MovesLeft, TakesHandle, enters, handle_at, same_bytes};
 
 mod held;
 mod name;
 mod spare;
 
-use broadcast_core::{Core, Digest, Digested, Items, Outcome, Set, Subscribed};
+use broadcast_core::{Digest, Digested, Items, Outcome, Reporting, Set, Subscribed};
 pub use held::Held;
 pub use name::Name;
 use spare::Spare;
@@ -21,8 +22,8 @@ use std::alloc::{AllocError, Global};
 /// After an `Err`, which is an allocation failure, nothing has changed.
 #[derive(Drop)]
 pub struct Store {
-    /// The lists, the messages and the waiters.
-    pub core: Core<Name, Held, u64>,
+    /// The lists, the messages and the waiters, and the messages that left.
+    pub cache: Reporting<Name, Held, u64>,
     /// The tickets that the last taken message served, in the order of their subscribes.
     pub served: Items<u64>,
     // The block of the message that was taken last.
@@ -33,7 +34,7 @@ impl Store {
     /// Creates an empty store for the node `own` that keeps at most `deque_size` digests a peer,
     /// which are charged at most `byte_budget` bytes together.
     pub fn new(alloc: Global, own: Name, deque_size: usize, byte_budget: u64) -> Self
-        ensures core { result.core ≡ record {
+        ensures core { result.cache.core ≡ record {
           own = own;
           deque_size = deque_size;
           byte_budget = byte_budget;
@@ -43,9 +44,10 @@ impl Store {
           waiters = [];
         } }
         ensures served { result.served ≡ [] }
+        ensures left { result.cache.left ≡ [] }
     {
         Store {
-            core: Core::new(alloc, own, deque_size, byte_budget),
+            cache: Reporting::new(alloc, own, deque_size, byte_budget),
             served: Items::new(alloc),
             spare: Spare::new(),
         }
@@ -55,13 +57,14 @@ impl Store {
     /// allocation.
     pub fn update_primary_peers(&mut self, alloc: Global, names: &[Name]) -> Result<(), AllocError>
         ensures taken { OnOk result ((set : List Name) × HaveSameNames names.now set
-            × TakesPeers same_bytes set self.old.core self.new.core) }
+            × TakesPeers same_bytes set self.old.cache.core self.new.cache.core) }
+        ensures left { OnOk result (Reports same_bytes self.old.cache self.new.cache) }
         ensures served { self.new.served ≡ self.old.served }
         ensures refused { OnErr result (self.new ≡ self.old) }
         ensures succeeds_on_none { names.now ≡ [] → IsOk result }
     {
         let peers = set_of(alloc, names)?;
-        self.core.update_primary_peers(peers);
+        self.cache.update_primary_peers(peers);
         Ok(())
     }
 
@@ -78,6 +81,7 @@ impl Store {
         ensures taken { IfOk result (λ taken. TakesHandle peer.now digest charge handle
             self.old self.new taken.0) }
         ensures kept { IfOk result (λ taken. taken.1 ≡ enters digest self.old self.new) }
+        ensures left { OnOk result (Reports same_bytes self.old.cache self.new.cache) }
         ensures refused { OnErr result (self.new ≡ self.old) }
     {
         let held = Held {
@@ -86,18 +90,34 @@ impl Store {
             digest,
         };
         let message = Digested::precomputed_shared(self.spare.share(alloc, held)?, digest);
-        let taken = self.core.take(peer, &message);
+        let taken = self.cache.take(peer, &message);
         self.spare.put(message.into_shared());
         let taken = taken?;
         self.served = taken.served;
         Ok((taken.outcome, taken.entered))
     }
 
+    /// Moves the handles of messages that left to the front of `out`, the newest first, as many as
+    /// there are places for. Returns how many it moved.
+    pub fn move_left(&mut self, out: &mut [u64]) -> usize
+        ensures { MovesLeft self.old self.new out.old out.new result }
+    {
+        let mut i = 0;
+        while i < out.len() {
+            let Some(message) = self.cache.pop_left() else {
+                break;
+            };
+            out[i] = message.inner().handle;
+            i += 1;
+        }
+        i
+    }
+
     /// Returns the handle of the cached message of the digest.
     pub fn handle(&self, digest: &Digest) -> Option<u64>
-        ensures { result ≡ handle_at self.now.core digest.now }
+        ensures { result ≡ handle_at self.now.cache.core digest.now }
     {
-        match self.core.get(digest) {
+        match self.cache.core().get(digest) {
             Some(message) => Some(message.inner().handle),
             None => None,
         }
@@ -107,15 +127,16 @@ impl Store {
     /// waits.
     pub fn subscribe(&mut self, ticket: u64, digest: Digest) -> Result<bool, AllocError>
         ensures answered { IfOk result (λ waits. waits ≡ false
-            → (is_some (message_at same_bytes self.old.core digest) ≡ true)
+            → (is_some (message_at same_bytes self.old.cache.core digest) ≡ true)
             × (self.new ≡ self.old)) }
         ensures waits { IfOk result (λ waits. waits ≡ true
-            → (message_at same_bytes self.old.core digest ≡ None)
-            × Awaits same_bytes digest ticket self.old.core self.new.core
+            → (message_at same_bytes self.old.cache.core digest ≡ None)
+            × Awaits same_bytes digest ticket self.old.cache.core self.new.cache.core
+            × (self.new.cache.left ≡ self.old.cache.left)
             × (self.new.served ≡ self.old.served)) }
         ensures refused { OnErr result (self.new ≡ self.old) }
     {
-        match self.core.subscribe(digest, ticket) {
+        match self.cache.subscribe(digest, ticket) {
             Ok(Subscribed::Waiting) => Ok(true),
             Ok(Subscribed::Answered(_, _)) => Ok(false),
             Err(_) => Err(AllocError),
@@ -124,31 +145,33 @@ impl Store {
 
     /// Returns whether the key is primary.
     pub fn is_primary(&self, peer: &Name) -> bool
-        ensures { result ≡ has_primary same_bytes self.now.core peer.now }
+        ensures { result ≡ has_primary same_bytes self.now.cache.core peer.now }
     {
-        self.core.primary().position(peer).is_some()
+        self.cache.core().primary().position(peer).is_some()
     }
 
     /// Drops the waiters with these tickets. Returns how many, saturating at `u64::MAX`.
     pub fn cleanup(&mut self, tickets: &[u64]) -> u64
         ensures removed { result
-            ≡ counted (gone_from (λ t. t) tickets.now self.old.core.waiters) }
+            ≡ counted (gone_from (λ t. t) tickets.now self.old.cache.core.waiters) }
         ensures dropped { Cleans same_bytes (is_gone (λ t. t) tickets.now)
-            self.old.core self.new.core }
+            self.old.cache.core self.new.cache.core }
+        ensures left { self.new.cache.left ≡ self.old.cache.left }
         ensures served { self.new.served ≡ self.old.served }
     {
-        self.core.cleanup(tickets)
+        self.cache.cleanup(tickets)
     }
 
     /// Drops the waiters of `digest` with these tickets, and looks at no other. Returns how many.
     pub fn cleanup_of(&mut self, digest: &Digest, tickets: &[u64]) -> u64
         ensures removed { result ≡ count_by (is_gone (λ t. t) tickets.now)
-            (waiting_at same_bytes self.old.core digest.now) }
+            (waiting_at same_bytes self.old.cache.core digest.now) }
         ensures dropped { CleansAt same_bytes digest.now (is_gone (λ t. t) tickets.now)
-            self.old.core self.new.core }
+            self.old.cache.core self.new.cache.core }
+        ensures left { self.new.cache.left ≡ self.old.cache.left }
         ensures served { self.new.served ≡ self.old.served }
     {
-        self.core.cleanup_of(digest, tickets)
+        self.cache.cleanup_of(digest, tickets)
     }
 }
 

@@ -50,7 +50,7 @@ module _ {P D : Type 0} (same : Same P D) where
         and_true true = refl
         and_true false = refl
 
-fewer_from : {X : Type 0} (b : Bool) (now new : Option X) → new ≡ cond b now None → (y : X) → new ≡ Some y → now ≡ Some y
+pub fewer_from : {X : Type 0} (b : Bool) (now new : Option X) → new ≡ cond b now None → (y : X) → new ≡ Some y → now ≡ Some y
 fewer_from true now new is y h = sym is ∙ h
 fewer_from false now new is y h = let no : None ≡ Some y = sym is ∙ h in cc
 

@@ -1,12 +1,11 @@
 -- Whether a message that is taken enters the cache.
-use Rattle.std.proofs.Common.{◌≡◌, ℕ, zero, suc, ◌<◌, Bool, true, false, not, ◌&&◌, ◌||◌, cond, List, [], ◌∷◌, take, Option, Some, None, refl, sym, ap, ◌∙◌, arith}
+use Rattle.std.proofs.Common.{◌≡◌, ℕ, zero, suc, ◌<◌, Bool, true, false, not, ◌&&◌, List, Option, Some, None, refl, sym, ap, ◌∙◌, arith}
 use Rattle.std.specs.Prelude.{is_some, nat_le, MatchBool}
-use Rattle.std.specs.List.{list_any}
 use Rattle.std.specs.Map.{lookup}
 use Rattle.std.specs.Cmp.{IsEquivalence}
 use Rattle.entries.specs.declared.entry.Charged.{Charged}
 use Rattle.broadcast_core.specs.Carried.{Carried}
-use Rattle.broadcast_core.specs.Content.{Same, affordable, at_charge, fronted, within, items_at, same_charged, without, outcome_of}
+use Rattle.broadcast_core.specs.Content.{Same, affordable, at_charge, fronted, items_at, outcome_of}
 use Rattle.broadcast_core.specs.Stored.{Stored, Stores, StoresIf, IsCore, has_digest, is_stored}
 use Rattle.broadcast_core.specs.declared.outcome.Outcome.{Outcome}
 use Rattle.broadcast_core.specs.declared.outcome.Outcome.TheVariants.{Inserted, Duplicate, Ineligible, Oversize}
@@ -48,7 +47,7 @@ module _ {P M D : Type 0} (same : Same P D) (key_laws : IsEquivalence same.key) 
       let no : None ≡ Some c = sym none ∙ is in absurd (cc))
 
   -- the digest in front of a list that has a place
-  has-front : (k : ℕ) (c : Charged D) (cs : List (Charged D)) → c.digest ≡ x.digest → nat_le c.charge budget ≡ true → has_digest same.digest x.digest (fronted same.digest (suc k) budget c cs) ≡ true
+  pub has-front : (k : ℕ) (c : Charged D) (cs : List (Charged D)) → c.digest ≡ x.digest → nat_le c.charge budget ≡ true → has_digest same.digest x.digest (fronted same.digest (suc k) budget c cs) ≡ true
   has-front k c cs one fits =
       let here : same.digest x.digest c.digest ≡ true = ap (same.digest x.digest) one ∙ laws.refl x.digest in
       rw (fits, here) refl

@@ -1,6 +1,6 @@
 -- What a table holds when a message gets a place.
-use Rattle.std.proofs.Common.{◌≡◌, ℕ, Bool, true, false, cond, List, Option, Some, None, Result, Ok, Err, inl, inr, refl, sym, ap, ◌∙◌}
-use Rattle.std.specs.Prelude.{is_some, IfOk}
+use Rattle.std.proofs.Common.{◌≡◌, ℕ, Bool, true, false, cond, List, Option, Some, None, inl, inr, refl, sym, ap, ◌∙◌}
+use Rattle.std.specs.Prelude.{is_some}
 use Rattle.std.specs.Option.{option_map}
 use Rattle.std.specs.Map.{lookup}
 use Rattle.std.specs.BTreeMap.{insert_entry}
@@ -11,7 +11,6 @@ use Rattle.entries.specs.Linked.{Node}
 use Rattle.entries.specs.Placed.{Placed}
 use Rattle.entries.specs.Store.{items_at}
 use Rattle.std.specs.Ordering.{eq_by_cmp}
-use Rattle.entries.specs.declared.table.Found.{Found}
 use Rattle.entries.specs.Table.{messages_of, place_at, Joins, Tabled, name_at, GoesBy}
 use Rattle.entries.proofs.Stores.{found_same}
 use Rattle.entries.proofs.Tables.{lookup-messages}
@@ -28,7 +27,7 @@ none_is : {X : Type 0} (o : Option X) → false ≡ is_some o → o ≡ None
 none_is None h = refl
 none_is (Some x) h = cc
 
-some_message : {P X : Type 0} (o : Option (Placed P X)) → is_some (option_map (λ i. i.message) o) ≡ is_some o
+pub some_message : {P X : Type 0} (o : Option (Placed P X)) → is_some (option_map (λ i. i.message) o) ≡ is_some o
 some_message None = refl
 some_message (Some item) = refl
 

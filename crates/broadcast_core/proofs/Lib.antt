@@ -19,6 +19,7 @@ pub mod Holding
 pub mod Dropping
 pub mod Shortening
 pub mod Leaving
+pub mod Parting
 pub mod Shelving
 pub mod CachedCount
 pub mod Cutting

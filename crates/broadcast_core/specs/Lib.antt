@@ -26,6 +26,8 @@ pub mod Log
 pub mod Answers
 pub mod HasRun
 pub mod Changes
+pub mod Reports
+pub mod Left
 pub mod Stored
 pub mod Numbered
 pub mod Waiters

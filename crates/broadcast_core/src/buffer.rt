@@ -8,9 +8,12 @@ ghost use Rattle.std.specs.Option.{option_copied, option_map};
 ghost use Rattle.std.specs.Ordering.{eq_by_cmp};
 ghost use Rattle.entries.specs.Store.{overlaid};
 ghost use Rattle.broadcast_core.specs.Content.{same_by};
+ghost use Rattle.broadcast_core.specs.Left.{Adds, HasRoom};
 
 mod cache;
 mod gone;
+mod left;
+mod reporting;
 mod shelf;
 mod state;
 mod waiters;
@@ -21,6 +24,8 @@ use crate::ordered::{PublicKey, Set};
 use crate::outcome::{Subscribed, Taken};
 use crate::requests::{Closable, Ticketed};
 use cache::Cache;
+use left::Left;
+pub use reporting::Reporting;
 use state::State;
 use std::alloc::{AllocError, AllocFailed, Global};
 use std::marker::Model;
@@ -175,10 +180,18 @@ impl<P: PublicKey, M: Digestible, W: Drop> Core<P, M, W> {
     pub fn update_primary_peers(&mut self, peers: Set<P>)
         ensures { TakesPeers (same_by P.cmp M.Digest.cmp) peers self.old self.new }
     {
-        self.state
-            .cache
-            .retain_peers(self.state.primary.as_slice(), &peers);
-        self.state.primary = peers;
+        self.update_primary_peers_into(peers, &mut Left::off());
+    }
+
+    /// Makes `peers` the primary keys, and adds the messages that leave to `left`.
+    fn update_primary_peers_into(&mut self, peers: Set<P>, left: &mut Left<M>)
+        requires { HasRoom (length self.old.cached) left.old }
+        ensures taken { TakesPeers (same_by P.cmp M.Digest.cmp) peers self.old self.new }
+        ensures left { Adds (eq_by_cmp M.Digest.cmp) self.old.cached self.new.cached
+            left.old left.new }
+        ensures left_room { HasRoom (length self.new.cached) left.new }
+    {
+        self.state.update_primary_peers(peers, left);
     }
 
     /// Takes `message` under the key `peer`, and serves every waiter of its digest, whether or not
@@ -193,7 +206,26 @@ impl<P: PublicKey, M: Digestible, W: Drop> Core<P, M, W> {
         ensures { IsTaken (same_by P.cmp M.Digest.cmp) peer.now message.now
             (option_map length (M.encoding message.now.message)) self.old self.new result }
     {
-        self.state.take(peer, message)
+        self.state.take(peer, message, &mut Left::off())
+    }
+
+    /// Takes `message` under the key `peer`, and adds the messages that leave to `left`.
+    fn take_into(
+        &mut self,
+        peer: &P,
+        message: &Digested<M>,
+        left: &mut Left<M>,
+    ) -> Result<Taken<W>, AllocError>
+    where
+        M: EncodeSize,
+        requires { HasRoom (length self.old.cached) left.old }
+        ensures taken { IsTaken (same_by P.cmp M.Digest.cmp) peer.now message.now
+            (option_map length (M.encoding message.now.message)) self.old self.new result }
+        ensures left { Adds (eq_by_cmp M.Digest.cmp) self.old.cached self.new.cached
+            left.old left.new }
+        ensures left_room { HasRoom (length self.new.cached) left.new }
+    {
+        self.state.take(peer, message, left)
     }
 
     /// Takes `message` under the own key, as [`Core::take`] does.
@@ -204,7 +236,7 @@ impl<P: PublicKey, M: Digestible, W: Drop> Core<P, M, W> {
             (option_map length (M.encoding message.now.message)) self.old self.new result }
     {
         let Core { own, state } = self;
-        state.take(own, message)
+        state.take(own, message, &mut Left::off())
     }
 
     /// Returns `waiter` with the cached message of `digest`, or puts it behind the other waiters of

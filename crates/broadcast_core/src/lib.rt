@@ -19,7 +19,7 @@ mod outcome;
 pub mod requests;
 pub mod runner;
 
-pub use buffer::Core;
+pub use buffer::{Core, Reporting};
 pub use codec::blocks::{ByteList, OneOf, Record, Tag, Wire};
 pub use codec::{Codec, CodecError, EncodeSize, RangeCfg, Read, Write, byte_list, decode_cfg};
 pub use digest::Digest;

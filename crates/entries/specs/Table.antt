@@ -87,6 +87,11 @@ module _ {D T : Type 0} where
   items_by item [] = []
   items_by item (e ∷ es) = with_item e.0 (item e.1) (items_by item es)
 
+  -- the message of an item that was there and is not any more
+  abbrev pub left_from : ℕ → Tabled D T → Tabled D T → Option T
+  left_from n old new =
+      if is_some (item_at new n) then None else option_map (λ item. item.message) (item_at old n)
+
   -- the items by name
   abbrev pub items_of : Tabled D T → List (D × Placed ℕ T)
   items_of t = items_by (item_at t) t.index

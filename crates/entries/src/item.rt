@@ -61,6 +61,14 @@ impl<K: Ord + Drop, T: Drop> Item<K, T> {
         &self.message
     }
 
+    /// Returns the message, and drops the places.
+    pub fn into_message(self) -> T
+        ensures { result ≡ self.message }
+    {
+        let Item { message, .. } = self;
+        message
+    }
+
     /// Returns the place of `peer`.
     pub fn place(&self, peer: &K) -> Option<usize>
         ensures { result ≡ lookup (eq_by_cmp K.cmp peer.now) self.now.places }

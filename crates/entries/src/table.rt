@@ -9,7 +9,7 @@ ghost use Rattle.std.specs.Ordering.{eq_by_cmp};
 ghost use Rattle.slab.specs.Slab.{get};
 ghost use Rattle.entries.specs.Store.{same_number};
 ghost use Rattle.entries.specs.Table.{place_at, Joins, Leaves, item_at, name_at, items_of};
-ghost use Rattle.entries.specs.Table.{GoesBy, IsTabled, KeepsNames, Takes};
+ghost use Rattle.entries.specs.Table.{GoesBy, IsTabled, KeepsNames, Takes, left_from};
 ghost use Rattle.entries.specs.Slots.{JoinsItem, AddsItem, LeavesItem, Inserts};
 
 use crate::item::Item;
@@ -139,12 +139,13 @@ impl<T: Named + Clone> Table<T> {
         )
     }
 
-    /// Removes the place of the list from an item, and the message with its last place. Does not
-    /// allocate.
-    pub fn remove(&mut self, item: usize, list: usize)
-        ensures { Takes T.Name.cmp T.name_of item list self.old self.new }
+    /// Removes the place of the list from an item, and the message with its last place. Returns the
+    /// message if it leaves. Does not allocate.
+    pub fn remove(&mut self, item: usize, list: usize) -> Option<T>
+        ensures taken { Takes T.Name.cmp T.name_of item list self.old self.new }
+        ensures left { result ≡ left_from item self.old self.new }
     {
-        remove(&mut self.items, &mut self.index, item, list);
+        remove(&mut self.items, &mut self.index, item, list)
     }
 }
 
@@ -225,25 +226,35 @@ fn add<T: Clone + Drop>(
     Ok(items.insert_reserved(item))
 }
 
-/// Removes the place of the list from an item, and the message with its last place.
+/// Removes the place of the list from an item, and the message with its last place. Returns the
+/// message if it leaves.
 fn remove<T: Named>(
     items: &mut Slab<Item<usize, T>>,
     index: &mut Parts<T::Name, usize>,
     item: usize,
     list: usize,
-)
+) -> Option<T>
     requires { IsTabled T.Name.cmp T.name_of
         (record { index = index.old; slots = items.old.slots }) }
-    ensures { Takes T.Name.cmp T.name_of item list
+    ensures taken { Takes T.Name.cmp T.name_of item list
+        (record { index = index.old; slots = items.old.slots })
+        (record { index = index.new; slots = items.new.slots }) }
+    ensures left { result ≡ left_from item
         (record { index = index.old; slots = items.old.slots })
         (record { index = index.new; slots = items.new.slots }) }
 {
     // The names ascend: so says `len`.
     let _names = index.len();
     if leave(items, item, list) {
-        if let Some(found) = items.try_remove(item) {
-            index.remove(&found.message().name());
+        match items.try_remove(item) {
+            Some(found) => {
+                index.remove(&found.message().name());
+                Some(found.into_message())
+            }
+            None => None,
         }
+    } else {
+        None
     }
 }
 

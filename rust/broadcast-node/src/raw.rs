@@ -11,7 +11,7 @@ use std::ffi::c_void;
 use std::ptr::null_mut;
 
 /// The version of the library's functions that this crate was written for.
-pub const VERSION: u32 = 6;
+pub const VERSION: u32 = 7;
 
 pub const OK: u32 = 0;
 pub const MEMORY: u32 = 1;
@@ -46,6 +46,7 @@ pub struct Stored {
     pub kept: bool,
     pub served: usize,
     pub cached: usize,
+    pub left: usize,
 }
 
 #[repr(C)]

@@ -3,10 +3,11 @@ ghost use Rattle.std.specs.Prelude.{◌≡◌, ℕ, List, [], length, is_some, t
 ghost use Rattle.std.specs.List.{count_by};
 ghost use Rattle.broadcast_core.specs.Content.{has_primary, list_at, message_at, waiting_at};
 ghost use Rattle.broadcast_core.specs.Changes.{TakesPeers, Awaits, Cleans, CleansAt};
+ghost use Rattle.broadcast_core.specs.Reports.{Reports};
 ghost use Rattle.broadcast_core.specs.Waiters.{is_gone, gone_from, counted};
 ghost use Rattle.broadcast_c.specs.Calls.{BothHold, Fails, Finds, IsFilled, ReportsTaking};
 ghost use Rattle.broadcast_c.specs.Counting.{counted_as};
-ghost use Rattle.broadcast_c.specs.Storing.{HaveSameNames, handle_at, same_bytes};
+ghost use Rattle.broadcast_c.specs.Storing.{HaveSameNames, MovesLeft, handle_at, same_bytes};
 
 use super::buffer::fill;
 use super::counters::broadcast_counters_count;
@@ -29,6 +30,8 @@ pub struct Stored {
     pub served: usize,
     /// The number of cached messages.
     pub cached: usize,
+    /// The number of messages that left and were not moved out.
+    pub left: usize,
 }
 
 /// The sizes of a store.
@@ -50,7 +53,7 @@ pub extern "C" fn broadcast_store_new(
     deque_size: usize,
     byte_budget: u64,
 ) -> u32
-    ensures made { result ≡ OK → MatchOption store.new.value ⊥ (λ new. (new.core ≡ record {
+    ensures made { result ≡ OK → MatchOption store.new.value ⊥ (λ new. (new.cache.core ≡ record {
       own = own.now;
       deque_size = deque_size;
       byte_budget = byte_budget;
@@ -58,7 +61,7 @@ pub extern "C" fn broadcast_store_new(
       lists = [];
       cached = [];
       waiters = [];
-    }) × (new.served ≡ [])) }
+    }) × (new.served ≡ []) × (new.cache.left ≡ [])) }
     ensures fails { ¬ (result ≡ OK) → (result ≡ MEMORY) × (store.new.value ≡ store.old.value) }
 {
     match Box::new(alloc, Store::new(alloc, *own, deque_size, byte_budget)) {
@@ -88,7 +91,8 @@ pub extern "C" fn broadcast_store_peers(
 ) -> u32
     ensures taken { result ≡ OK → BothHold store.old.value store.new.value (λ old new.
         (set : List Name) × HaveSameNames names.now set
-        × TakesPeers same_bytes set old.core new.core × (new.served ≡ old.served)) }
+        × TakesPeers same_bytes set old.cache.core new.cache.core × (new.served ≡ old.served)
+        × Reports same_bytes old.cache new.cache) }
     ensures fails { ¬ (result ≡ OK) → Fails store.old.value store.new.value result }
     ensures succeeds_on_none { result ≡ MEMORY → ¬ (names.now ≡ []) }
 {
@@ -123,7 +127,8 @@ pub extern "C" fn broadcast_store_take(
         return EMPTY;
     };
     let result = held.take(alloc, peer, *digest, charge, handle);
-    let (served, cached) = (held.served.len(), held.core.cached_len());
+    let (served, cached) = (held.served.len(), held.cache.core().cached_len());
+    let left = held.cache.left_len();
     store.put(held);
     match result {
         Ok((outcome, kept)) => {
@@ -132,6 +137,7 @@ pub extern "C" fn broadcast_store_take(
                 kept,
                 served,
                 cached,
+                left,
             };
             OK
         }
@@ -186,6 +192,26 @@ pub extern "C" fn broadcast_store_served(
     status
 }
 
+/// Moves the handles of messages that left to the front of `out`, the newest first.
+#[unsafe(no_mangle)]
+pub extern "C" fn broadcast_store_left(
+    alloc: Global,
+    store: &mut StoreHandle,
+    out: &mut [u64],
+    moved: &mut usize,
+) -> u32
+    ensures finds { Finds store.old.value store.new.value result (λ old new. (result ≡ OK)
+        × MovesLeft old new out.old out.new moved.new) }
+    ensures reports_nothing { result ≡ EMPTY → (out.new ≡ out.old) × (moved.new ≡ moved.old) }
+{
+    let Some(mut held) = store.take(alloc) else {
+        return EMPTY;
+    };
+    *moved = held.move_left(out);
+    store.put(held);
+    OK
+}
+
 /// Reports the handle of the cached message of the digest.
 #[unsafe(no_mangle)]
 pub extern "C" fn broadcast_store_get(
@@ -195,7 +221,7 @@ pub extern "C" fn broadcast_store_get(
     handle: &mut u64,
 ) -> u32
     ensures finds { Finds store.old.value store.new.value result (λ old new. (new ≡ old)
-        × MatchOption (handle_at old.core digest.now) (result ≡ NONE)
+        × MatchOption (handle_at old.cache.core digest.now) (result ≡ NONE)
         (λ it. (result ≡ OK) × (handle.new ≡ it))) }
     ensures reports_nothing { ¬ (result ≡ OK) → handle.new ≡ handle.old }
 {
@@ -222,10 +248,11 @@ pub extern "C" fn broadcast_store_subscribe(
     digest: &Digest,
 ) -> u32
     ensures waits { result ≡ WAITS → BothHold store.old.value store.new.value (λ old new.
-        (message_at same_bytes old.core digest.now ≡ None)
-        × Awaits same_bytes digest.now ticket old.core new.core × (new.served ≡ old.served)) }
+        (message_at same_bytes old.cache.core digest.now ≡ None)
+        × Awaits same_bytes digest.now ticket old.cache.core new.cache.core
+        × (new.served ≡ old.served) × (new.cache.left ≡ old.cache.left)) }
     ensures answered { result ≡ OK → BothHold store.old.value store.new.value (λ old new.
-        (is_some (message_at same_bytes old.core digest.now) ≡ true) × (new ≡ old)) }
+        (is_some (message_at same_bytes old.cache.core digest.now) ≡ true) × (new ≡ old)) }
     ensures fails { ¬ (result ≡ OK) → ¬ (result ≡ WAITS)
         → Fails store.old.value store.new.value result }
 {
@@ -250,9 +277,9 @@ pub extern "C" fn broadcast_store_cleanup(
     removed: &mut u64,
 ) -> u32
     ensures finds { Finds store.old.value store.new.value result (λ old new. (result ≡ OK)
-        × Cleans same_bytes (is_gone (λ t. t) tickets.now) old.core new.core
-        × (new.served ≡ old.served)
-        × (removed.new ≡ counted (gone_from (λ t. t) tickets.now old.core.waiters))) }
+        × Cleans same_bytes (is_gone (λ t. t) tickets.now) old.cache.core new.cache.core
+        × (new.served ≡ old.served) × (new.cache.left ≡ old.cache.left)
+        × (removed.new ≡ counted (gone_from (λ t. t) tickets.now old.cache.core.waiters))) }
     ensures reports_nothing { result ≡ EMPTY → removed.new ≡ removed.old }
 {
     let Some(mut held) = store.take(alloc) else {
@@ -273,10 +300,10 @@ pub extern "C" fn broadcast_store_cleanup_of(
     removed: &mut u64,
 ) -> u32
     ensures finds { Finds store.old.value store.new.value result (λ old new. (result ≡ OK)
-        × CleansAt same_bytes digest.now (is_gone (λ t. t) tickets.now) old.core new.core
-        × (new.served ≡ old.served)
+        × CleansAt same_bytes digest.now (is_gone (λ t. t) tickets.now) old.cache.core new.cache.core
+        × (new.served ≡ old.served) × (new.cache.left ≡ old.cache.left)
         × (removed.new ≡ count_by (is_gone (λ t. t) tickets.now)
-        (waiting_at same_bytes old.core digest.now))) }
+        (waiting_at same_bytes old.cache.core digest.now))) }
     ensures reports_nothing { result ≡ EMPTY → removed.new ≡ removed.old }
 {
     let Some(mut held) = store.take(alloc) else {
@@ -296,7 +323,7 @@ pub extern "C" fn broadcast_store_is_primary(
     out: &mut bool,
 ) -> u32
     ensures finds { Finds store.old.value store.new.value result (λ old new. (new ≡ old)
-        × (result ≡ OK) × (out.new ≡ has_primary same_bytes old.core peer.now)) }
+        × (result ≡ OK) × (out.new ≡ has_primary same_bytes old.cache.core peer.now)) }
     ensures reports_nothing { result ≡ EMPTY → out.new ≡ out.old }
 {
     let Some(held) = store.take(alloc) else {
@@ -317,14 +344,14 @@ pub extern "C" fn broadcast_store_list(
     needed: &mut usize,
 ) -> u32
     ensures finds { Finds store.old.value store.new.value result (λ old new. (new ≡ old)
-        × IsFilled (list_at same_bytes old.core peer.now) out.old out.new needed.new result) }
+        × IsFilled (list_at same_bytes old.cache.core peer.now) out.old out.new needed.new result) }
     ensures reports_nothing { result ≡ EMPTY
         → (out.new ≡ out.old) × (needed.new ≡ needed.old) }
 {
     let Some(held) = store.take(alloc) else {
         return EMPTY;
     };
-    let len = held.core.list_into(peer, out);
+    let len = held.cache.core().list_into(peer, out);
     *needed = len;
     store.put(held);
     if len <= out.len() { OK } else { SHORT }
@@ -338,15 +365,15 @@ pub extern "C" fn broadcast_store_count(
     out: &mut Counts,
 ) -> u32
     ensures finds { Finds store.old.value store.new.value result (λ old new. (new ≡ old)
-        × (result ≡ OK) × (out.new.cached ≡ length old.core.cached)
-        × (out.new.awaited ≡ length old.core.waiters)) }
+        × (result ≡ OK) × (out.new.cached ≡ length old.cache.core.cached)
+        × (out.new.awaited ≡ length old.cache.core.waiters)) }
     ensures reports_nothing { result ≡ EMPTY → out.new ≡ out.old }
 {
     let Some(held) = store.take(alloc) else {
         return EMPTY;
     };
-    out.cached = held.core.cached_len();
-    out.awaited = held.core.awaited();
+    out.cached = held.cache.core().cached_len();
+    out.awaited = held.cache.core().awaited();
     store.put(held);
     OK
 }

@@ -8,8 +8,10 @@ ghost use Rattle.std.specs.Ordering.{eq_by_cmp};
 ghost use Rattle.entries.specs.Store.{overlaid};
 ghost use Rattle.broadcast_core.specs.Content.{same_by, same_charged, at_charge, digests_of, bytes_of};
 ghost use Rattle.broadcast_core.specs.Content.{among, fronted, items_at, outcome_of};
+ghost use Rattle.broadcast_core.specs.Left.{Adds, HasRoom};
 ghost use Rattle.broadcast_core.specs.Stored.{has_digest};
 
+use crate::buffer::left::Left;
 use crate::buffer::shelf::Shelf;
 use crate::digested::{Digested, Digestible};
 use crate::ordered::{PublicKey, Set};
@@ -69,7 +71,7 @@ impl<P: PublicKey, M: Digestible> Cache<P, M> {
     }
 
     /// Puts the digest in front of the list of a primary key, if it has a charge, and drops the
-    /// oldest digests beyond the limits.
+    /// oldest digests beyond the limits. The messages that leave are added to `left`.
     pub fn take(
         &mut self,
         primary: &Set<P>,
@@ -78,12 +80,15 @@ impl<P: PublicKey, M: Digestible> Cache<P, M> {
         charge: Option<u64>,
         deque_size: usize,
         byte_budget: u64,
+        left: &mut Left<M>,
     ) -> Result<Listing, AllocError>
         requires size { length (items_at (eq_by_cmp P.cmp) peer.now self.old.lists) ≤ deque_size }
         requires bytes { bytes_of (items_at (eq_by_cmp P.cmp) peer.now self.old.lists)
             ≤ byte_budget }
         requires primary_only { is_some (lookup (eq_by_cmp P.cmp peer.now) self.old.lists) ≡ true
             → list_any (eq_by_cmp P.cmp peer.now) primary.now ≡ true }
+        requires affordable { IfSome charge (λ bytes. bytes ≤ byte_budget) }
+        requires left_room { HasRoom (length self.old.messages) left.old }
         ensures outcome { let same = same_by P.cmp M.Digest.cmp in
             let cs = items_at same.key peer.now self.old.lists in
             IfOk result (λ listing. listing.outcome
@@ -101,6 +106,9 @@ impl<P: PublicKey, M: Digestible> Cache<P, M> {
             (option_map (at_charge message.now.digest) charge) self.old self.new)
             (self.new ≡ self.old)) }
         ensures err { OnErr result (self.new ≡ self.old) }
+        ensures left { Adds (eq_by_cmp M.Digest.cmp) self.old.messages self.new.messages
+            left.old left.new }
+        ensures left_room { HasRoom (length self.new.messages) left.new }
 
         // These never fail.
         ensures succeeds_on_duplicate { among (eq_by_cmp M.Digest.cmp) message.now.digest
@@ -117,12 +125,12 @@ impl<P: PublicKey, M: Digestible> Cache<P, M> {
             // A peer that has a list is primary, so the set is not searched.
             Some(list) => self
                 .shelf
-                .take(*list, message, bytes, deque_size, byte_budget),
+                .take(*list, message, bytes, deque_size, byte_budget, left),
             None if primary.position(peer).is_none() => {
                 Ok(Listing::unchanged(Outcome::Ineligible))
             }
             None if deque_size == 0 => Ok(Listing::unchanged(Outcome::Inserted)),
-            None => self.take_first(peer, message, bytes, deque_size, byte_budget),
+            None => self.take_first(peer, message, bytes, deque_size, byte_budget, left),
         }
     }
 
@@ -134,8 +142,11 @@ impl<P: PublicKey, M: Digestible> Cache<P, M> {
         charge: u64,
         deque_size: usize,
         byte_budget: u64,
+        left: &mut Left<M>,
     ) -> Result<Listing, AllocError>
         requires absent { lookup (eq_by_cmp P.cmp peer.now) self.old.lists ≡ None }
+        requires affordable { charge ≤ byte_budget }
+        requires left_room { HasRoom (length self.old.messages) left.old }
         ensures outcome { IfOk result (λ listing. listing.outcome ≡ outcome_of true true false) }
         ensures cached { IfOk result (λ listing. listing.was_cached ≡ true → is_some (lookup
             (eq_by_cmp M.Digest.cmp message.now.digest) self.old.messages) ≡ true) }
@@ -146,6 +157,9 @@ impl<P: PublicKey, M: Digestible> Cache<P, M> {
             OnOk result (Stores same peer.now message.now
             (fronted same.digest deque_size byte_budget c []) self.old self.new) }
         ensures err { OnErr result (self.new ≡ self.old) }
+        ensures left { Adds (eq_by_cmp M.Digest.cmp) self.old.messages self.new.messages
+            left.old left.new }
+        ensures left_room { HasRoom (length self.new.messages) left.new }
     {
         let owner = peer.clone()?;
         let list = self.shelf.open()?;
@@ -157,7 +171,7 @@ impl<P: PublicKey, M: Digestible> Cache<P, M> {
         let _peers = self.numbers.len();
         match self
             .shelf
-            .take(list, message, charge, deque_size, byte_budget)
+            .take(list, message, charge, deque_size, byte_budget, left)
         {
             Ok(taken) => Ok(taken),
             Err(refused) => {
@@ -206,16 +220,21 @@ impl<P: PublicKey, M: Digestible> Cache<P, M> {
         }
     }
 
-    /// Drops the lists of those peers of `was` that are not among `peers`.
-    pub fn retain_peers(&mut self, was: &[P], peers: &Set<P>)
-        ensures { Drops (same_by P.cmp M.Digest.cmp) was.now peers.now self.old self.new }
+    /// Drops the lists of those peers of `was` that are not among `peers`. The messages that leave
+    /// are added to `left`.
+    pub fn retain_peers(&mut self, was: &[P], peers: &Set<P>, left: &mut Left<M>)
+        requires { HasRoom (length self.old.messages) left.old }
+        ensures dropped { Drops (same_by P.cmp M.Digest.cmp) was.now peers.now self.old self.new }
+        ensures left { Adds (eq_by_cmp M.Digest.cmp) self.old.messages self.new.messages
+            left.old left.new }
+        ensures left_room { HasRoom (length self.new.messages) left.new }
     {
         let mut at = 0;
         for peer in was {
             let (next, is_there) = peers.seek(at, peer);
             at = next;
             if !is_there {
-                self.remove(peer);
+                self.remove(peer, left);
             }
         }
         // A message is there exactly if its digest is on a list: so says the shelf.
@@ -223,14 +242,19 @@ impl<P: PublicKey, M: Digestible> Cache<P, M> {
     }
 
     /// Drops the list of `peer`.
-    fn remove(&mut self, peer: &P)
-        ensures { Drops (same_by P.cmp M.Digest.cmp) (peer.now ∷ []) [] self.old self.new }
+    fn remove(&mut self, peer: &P, left: &mut Left<M>)
+        requires { HasRoom (length self.old.messages) left.old }
+        ensures dropped { Drops (same_by P.cmp M.Digest.cmp) (peer.now ∷ []) []
+            self.old self.new }
+        ensures left { Adds (eq_by_cmp M.Digest.cmp) self.old.messages self.new.messages
+            left.old left.new }
+        ensures left_room { HasRoom (length self.new.messages) left.new }
     {
         let list = self.numbers.remove(peer);
         // The peers ascend: so says `len`.
         let _peers = self.numbers.len();
         match list {
-            Some(list) => self.shelf.remove(list),
+            Some(list) => self.shelf.remove(list, left),
             None => {}
         }
     }

@@ -1,17 +1,19 @@
 //! Lists by number, and each listed message once.
-ghost use Rattle.std.specs.Prelude.{◌≡◌, ◌≤◌, ◌<◌, ◌+◌, ◌^◌, ◌∷◌, true, not, length, take, [], None, IsSome, is_some};
+ghost use Rattle.std.specs.Prelude.{◌≡◌, ◌≤◌, ◌<◌, ◌+◌, ◌^◌, ◌∷◌, true, not, length, take, [], None, Some, IsSome, is_some};
 ghost use Rattle.std.specs.Prelude.{IfOk, IfSome, OnOk, OnErr, IsOk};
 ghost use Rattle.std.specs.Option.{option_copied};
 ghost use Rattle.std.specs.List.{IsDistinct};
 ghost use Rattle.std.specs.Map.{lookup, keys_of};
 ghost use Rattle.std.specs.Ordering.{eq_by_cmp};
-ghost use Rattle.entries.specs.Store.{same_number, overlaid, items_at as nodes_at, bytes_of as sum_of};
-ghost use Rattle.entries.specs.Table.{place_at, items_of, IsTabled, KeepsNames, Takes};
+ghost use Rattle.entries.specs.Store.{same_number, overlaid, items_at as nodes_at, bytes_of as sum_of, Extends};
+ghost use Rattle.entries.specs.Table.{place_at, items_of, messages_of, IsTabled, KeepsNames, Takes};
 ghost use Rattle.broadcast_core.specs.Content.{same_listed, same_charged, without, at_charge, digests_of, bytes_of};
 ghost use Rattle.broadcast_core.specs.Content.{among, within, fronted, items_at, outcome_of};
 ghost use Rattle.broadcast_core.specs.Stored.{has_digest};
 ghost use Rattle.broadcast_core.specs.Indexed.{names_of, Holds, Pushes};
+ghost use Rattle.broadcast_core.specs.Left.{Adds, HasRoom, Widens};
 
+use crate::buffer::left::Left;
 use crate::digested::{Digested, Digestible};
 use crate::outcome::{Listing, Outcome};
 use entries::{Charged, Entries, Table};
@@ -91,7 +93,7 @@ impl<M: Digestible> Shelf<M> {
     }
 
     /// Puts the digest in front of the list, with its charge, and drops the oldest digests beyond
-    /// the limits.
+    /// the limits. The messages that leave are added to `left`.
     pub fn take(
         &mut self,
         list: usize,
@@ -99,11 +101,14 @@ impl<M: Digestible> Shelf<M> {
         charge: u64,
         deque_size: usize,
         byte_budget: u64,
+        left: &mut Left<M>,
     ) -> Result<Listing, AllocError>
         requires there { is_some (lookup (same_number list) self.old.lists) ≡ true }
         requires size { length (items_at same_number list self.old.lists) ≤ deque_size }
         requires bytes { bytes_of (items_at same_number list self.old.lists)
             ≤ byte_budget }
+        requires affordable { charge ≤ byte_budget }
+        requires left_room { HasRoom (length self.old.messages) left.old }
         ensures outcome { let same = same_listed M.Digest.cmp in
             let cs = items_at same.key list self.old.lists in
             IfOk result (λ listing. listing.outcome
@@ -119,6 +124,9 @@ impl<M: Digestible> Shelf<M> {
             OnOk result (Stores same list message.now
             (fronted same.digest deque_size byte_budget c cs) self.old self.new) }
         ensures err { OnErr result (self.new ≡ self.old) }
+        ensures left { Adds (eq_by_cmp M.Digest.cmp) self.old.messages self.new.messages
+            left.old left.new }
+        ensures left_room { HasRoom (length self.new.messages) left.new }
 
         // These never fail.
         ensures succeeds_on_duplicate { among (eq_by_cmp M.Digest.cmp) message.now.digest
@@ -130,20 +138,24 @@ impl<M: Digestible> Shelf<M> {
             let _lists = &self.lists;
             return Ok(Listing::unchanged(Outcome::Inserted));
         }
-        let (listing, bytes) = self.insert(list, message, charge, deque_size)?;
+        let (listing, bytes) = self.insert(list, message, charge, deque_size, left)?;
         if bytes > u128::from(byte_budget) {
-            self.cut(list, byte_budget);
+            self.cut(list, byte_budget, left);
         }
         Ok(listing)
     }
 
     /// Drops the oldest digests of the list until their charges sum to at most `byte_budget`.
-    fn cut(&mut self, list: usize, byte_budget: u64)
-        ensures { Cuts (same_listed M.Digest.cmp) list (within byte_budget
+    fn cut(&mut self, list: usize, byte_budget: u64, left: &mut Left<M>)
+        requires { HasRoom (length self.old.messages) left.old }
+        ensures cut { Cuts (same_listed M.Digest.cmp) list (within byte_budget
             (items_at same_number list self.old.lists)) self.old self.new }
+        ensures left { Adds (eq_by_cmp M.Digest.cmp) self.old.messages self.new.messages
+            left.old left.new }
+        ensures left_room { HasRoom (length self.new.messages) left.new }
     {
         while let Some(stale) = self.lists.evict_over(list, byte_budget) {
-            self.table.remove(stale.digest, list);
+            leave(&mut self.table, stale.digest, list, left);
         }
     }
 
@@ -155,11 +167,13 @@ impl<M: Digestible> Shelf<M> {
         message: &Digested<M>,
         charge: u64,
         size: usize,
+        left: &mut Left<M>,
     ) -> Result<(Listing, u128), AllocError>
         requires there { is_some (lookup (same_number list) self.old.lists) ≡ true }
         requires size { length (items_at same_number list self.old.lists) ≤ size }
         requires some { 0 < size }
         requires room { bytes_of (items_at same_number list self.old.lists) < 2 ^ 64 }
+        requires left_room { HasRoom (length self.old.messages) left.old }
         ensures outcome { let same = same_listed M.Digest.cmp in
             let cs = items_at same.key list self.old.lists in
             IfOk result (λ put. put.0.outcome
@@ -174,6 +188,14 @@ impl<M: Digestible> Shelf<M> {
             OnOk result (Stores same list message.now
             (take size (c ∷ without (same_charged same.digest) c cs)) self.old self.new) }
         ensures err { OnErr result (self.new ≡ self.old) }
+        ensures left { Adds (eq_by_cmp M.Digest.cmp) self.old.messages self.new.messages
+            left.old left.new }
+        ensures left_room { HasRoom (length self.new.messages) left.new }
+        ensures there { OnOk result (is_some (lookup
+            (eq_by_cmp M.Digest.cmp message.now.digest) self.new.messages) ≡ true) }
+        ensures named { (d : M.Digest) (x : _)
+            → lookup (eq_by_cmp M.Digest.cmp d) self.new.messages ≡ Some x
+            → eq_by_cmp M.Digest.cmp d x.digest ≡ true }
         ensures succeeds_on_duplicate { among (eq_by_cmp M.Digest.cmp) message.now.digest
             (digests_of (items_at same_number list self.old.lists)) ≡ true → IsOk result }
     {
@@ -184,7 +206,7 @@ impl<M: Digestible> Shelf<M> {
         };
         let bytes = match found.place {
             Some(place) => self.lists.promote(list, place, charged),
-            None => push(&mut self.lists, &mut self.table, list, charged, size)?,
+            None => push(&mut self.lists, &mut self.table, list, charged, size, left)?,
         };
         // Both arms leave the invariant here.
         let _lists = &self.lists;
@@ -246,12 +268,16 @@ impl<M: Digestible> Shelf<M> {
         self.lists.count(list)
     }
 
-    /// Drops the list.
-    pub fn remove(&mut self, list: usize)
-        ensures { Drops (same_listed M.Digest.cmp) (list ∷ []) [] self.old self.new }
+    /// Drops the list. The messages that leave are added to `left`.
+    pub fn remove(&mut self, list: usize, left: &mut Left<M>)
+        requires { HasRoom (length self.old.messages) left.old }
+        ensures dropped { Drops (same_listed M.Digest.cmp) (list ∷ []) [] self.old self.new }
+        ensures left { Adds (eq_by_cmp M.Digest.cmp) self.old.messages self.new.messages
+            left.old left.new }
+        ensures left_room { HasRoom (length self.new.messages) left.new }
     {
         while let Some(stale) = self.lists.evict(list) {
-            self.table.remove(stale.digest, list);
+            leave(&mut self.table, stale.digest, list, left);
         }
         self.lists.remove(list);
     }
@@ -268,6 +294,27 @@ fn outcome(place: Option<usize>) -> Outcome
     }
 }
 
+/// Removes the place of the list from an item. A message that leaves with its last place is added
+/// to `left`.
+fn leave<M: Digestible>(
+    table: &mut Table<Digested<M>>,
+    item: usize,
+    list: usize,
+    left: &mut Left<M>,
+)
+    requires { HasRoom (length (messages_of (items_of table.old))) left.old }
+    ensures taken { Takes M.Digest.cmp (λ m. m.digest) item list table.old table.new }
+    ensures left { Adds (eq_by_cmp M.Digest.cmp) (messages_of (items_of table.old))
+        (messages_of (items_of table.new)) left.old left.new }
+    ensures room { HasRoom (length (messages_of (items_of table.new))) left.new }
+{
+    // The names differ: so says `len`.
+    let _names = table.len();
+    if let Some(message) = table.remove(item, list) {
+        left.push(message);
+    }
+}
+
 /// Puts an item of the table in front of the list, and takes the oldest out of both if the list
 /// has then more than `size`. Returns the sum of the charges on the list.
 ///
@@ -278,6 +325,7 @@ fn push<M: Digestible>(
     list: usize,
     charged: Charged<usize>,
     size: usize,
+    left: &mut Left<M>,
 ) -> Result<u128, AllocError>
     requires there { is_some (lookup (same_number list) lists.old.lists) ≡ true }
     requires some { 0 < size }
@@ -292,11 +340,16 @@ fn push<M: Digestible>(
     ensures err { OnErr result (Takes M.Digest.cmp (λ m. m.digest) charged.digest list
         table.old table.new) }
     ensures tabled { IsTabled M.Digest.cmp (λ m. m.digest) table.new }
+    ensures left { OnOk result (Adds (eq_by_cmp M.Digest.cmp) (messages_of (items_of table.old))
+        (messages_of (items_of table.new)) left.old left.new) }
+    ensures left_room { OnOk result (HasRoom (length (messages_of (items_of table.new)))
+        left.new) }
+    ensures left_stays { OnErr result (Widens left.old left.new) }
 {
-    match lists.push(list, charged, size) {
+    match push_with_room(lists, table.len(), list, charged, size, left) {
         Ok((bytes, stale)) => {
             if let Some(stale) = stale {
-                table.remove(stale.digest, list);
+                leave(table, stale.digest, list, left);
             }
             Ok(bytes)
         }
@@ -305,4 +358,29 @@ fn push<M: Digestible>(
             Err(refused)
         }
     }
+}
+
+/// Puts an item in front of the list, as [`Entries::push`] does, and makes room for what may leave.
+fn push_with_room<M: Digestible>(
+    lists: &mut Entries<usize>,
+    messages: usize,
+    list: usize,
+    charged: Charged<usize>,
+    size: usize,
+    left: &mut Left<M>,
+) -> Result<(u128, Option<Charged<usize>>), AllocError>
+    requires there { is_some (lookup (same_number list) lists.old.lists) ≡ true }
+    requires some { 0 < size }
+    requires room { sum_of (nodes_at same_number list lists.old.lists) + charged.charge
+        < 2 ^ 128 }
+    ensures bytes { IfOk result (λ pushed. pushed.0
+        ≡ sum_of (nodes_at same_number list lists.new.lists)) }
+    ensures ok { IfOk result (λ pushed. Extends same_number list (lists.old.vacant, charged) size
+        pushed.1 lists.old.lists lists.new.lists) }
+    ensures err { OnErr result (lists.new ≡ lists.old) }
+    ensures left { Widens left.old left.new }
+    ensures left_room { OnOk result (HasRoom messages left.new) }
+{
+    left.make_room(messages)?;
+    lists.push(list, charged, size)
 }

@@ -1,15 +1,17 @@
 //! The state of a core, but for its own key.
-ghost use Rattle.std.specs.Prelude.{◌≡◌, ◌≤◌, ◌<◌, ◌&&◌, not, true, false, length, is_some, IfOk, OnOk, OnErr, IsOk, MatchBool};
+ghost use Rattle.std.specs.Prelude.{◌≡◌, ◌≤◌, ◌<◌, ◌&&◌, not, true, false, length, is_some, IfOk, IfSome, OnOk, OnErr, IsOk, MatchBool};
 ghost use Rattle.std.specs.Option.{option_map};
 ghost use Rattle.std.specs.List.{list_any};
 ghost use Rattle.std.specs.Map.{lookup};
 ghost use Rattle.std.specs.Ordering.{eq_by_cmp};
-ghost use Rattle.broadcast_core.specs.Changes.{IsTaken};
+ghost use Rattle.broadcast_core.specs.Changes.{IsTaken, TakesPeers};
 ghost use Rattle.broadcast_core.specs.Content.{same_by, affordable, among, at_charge, bytes_of, items_at, digests_of};
 ghost use Rattle.broadcast_core.specs.Content.{outcome_of};
+ghost use Rattle.broadcast_core.specs.Left.{Adds, HasRoom};
 ghost use Rattle.broadcast_core.specs.Stored.{StoresIf, has_digest, with_own};
 
 use crate::buffer::cache::Cache;
+use crate::buffer::left::Left;
 use crate::buffer::waiters::Waiters;
 use crate::codec::EncodeSize;
 use crate::digested::{Digested, Digestible};
@@ -52,13 +54,23 @@ impl<P: PublicKey, M: Digestible, W> Model for State<P, M, W> {
 }
 
 impl<P: PublicKey, M: Digestible, W: Drop> State<P, M, W> {
-    /// Takes the message under the key, and takes out the waiters of its digest.
-    pub fn take(&mut self, peer: &P, message: &Digested<M>) -> Result<Taken<W>, AllocError>
+    /// Takes the message under the key, and takes out the waiters of its digest. The messages that
+    /// leave are added to `left`.
+    pub fn take(
+        &mut self,
+        peer: &P,
+        message: &Digested<M>,
+        left: &mut Left<M>,
+    ) -> Result<Taken<W>, AllocError>
     where
         M: EncodeSize,
-        ensures { (own : P) → IsTaken (same_by P.cmp M.Digest.cmp) peer.now message.now
+        requires { HasRoom (length self.old.stored.messages) left.old }
+        ensures taken { (own : P) → IsTaken (same_by P.cmp M.Digest.cmp) peer.now message.now
             (option_map length (M.encoding message.now.message))
             (with_own own self.old) (with_own own self.new) result }
+        ensures left { Adds (eq_by_cmp M.Digest.cmp) self.old.stored.messages
+            self.new.stored.messages left.old left.new }
+        ensures left_room { HasRoom (length self.new.stored.messages) left.new }
     {
         let listing = self.cache.take(
             &self.primary,
@@ -67,6 +79,7 @@ impl<P: PublicKey, M: Digestible, W: Drop> State<P, M, W> {
             charge_of(message, self.byte_budget),
             self.deque_size,
             self.byte_budget,
+            left,
         )?;
         // A cached digest has no waiters.
         let served = self.waiters.take(&message.digest(), listing.was_cached);
@@ -75,6 +88,21 @@ impl<P: PublicKey, M: Digestible, W: Drop> State<P, M, W> {
             served,
             entered: enters(listing, self.deque_size),
         })
+    }
+
+    /// Makes `peers` the primary keys, and drops the lists of all other keys. The messages that
+    /// leave are added to `left`.
+    pub fn update_primary_peers(&mut self, peers: Set<P>, left: &mut Left<M>)
+        requires { HasRoom (length self.old.stored.messages) left.old }
+        ensures taken { (own : P) → TakesPeers (same_by P.cmp M.Digest.cmp) peers
+            (with_own own self.old) (with_own own self.new) }
+        ensures left { Adds (eq_by_cmp M.Digest.cmp) self.old.stored.messages
+            self.new.stored.messages left.old left.new }
+        ensures left_room { HasRoom (length self.new.stored.messages) left.new }
+    {
+        self.cache
+            .retain_peers(self.primary.as_slice(), &peers, left);
+        self.primary = peers;
     }
 }
 
@@ -99,9 +127,10 @@ fn enters(listing: Listing, deque_size: usize) -> bool
 
 /// Returns what the message is charged, if that is within the budget.
 fn charge_of<M: Digestible + EncodeSize>(message: &Digested<M>, byte_budget: u64) -> Option<u64>
-    ensures { affordable byte_budget message.now.digest
+    ensures charge { affordable byte_budget message.now.digest
         (option_map length (M.encoding message.now.message))
         ≡ option_map (at_charge message.now.digest) result }
+    ensures affordable { IfSome result (λ charge. charge ≤ byte_budget) }
 {
     match message.inner().encode_size() {
         Some(size) => {

@@ -4,7 +4,7 @@ use Rattle.broadcast_c.proofs.store.Store.take.Goals as goal
 
 pub returns-clause-taken : goal.returns-clause-taken
 returns-clause-taken c =
-    let taken = rw (c.precomputed_shared-message.ensures, c.in_ok-share.ensures, length-replicate) at c.in_ok-taken.ensures in
+    let taken = rw (c.precomputed_shared-message.ensures, c.in_ok-share.ensures, length-replicate) at c.in_ok-taken.ensures.taken in
     record {
       outcome = taken.outcome;
       served = taken.served;
@@ -18,4 +18,4 @@ returns-clause-taken c =
     }
 
 pub returns-clause-kept : goal.returns-clause-kept
-returns-clause-kept c = (rw (c.precomputed_shared-message.ensures, c.in_ok-share.ensures, length-replicate) at c.in_ok-taken.ensures).entered
+returns-clause-kept c = (rw (c.precomputed_shared-message.ensures, c.in_ok-share.ensures, length-replicate) at c.in_ok-taken.ensures.taken).entered

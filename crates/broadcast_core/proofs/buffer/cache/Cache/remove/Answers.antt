@@ -1,4 +1,4 @@
-use Rattle.std.proofs.Common.{◌≡◌, ℕ, cond, List, None, sym, ap, ◌∙◌}
+use Rattle.std.proofs.Common.{◌≡◌, ℕ, cond, List, None, refl, sym, ap, ◌∙◌}
 use Rattle.std.specs.List.{IsDistinct}
 use Rattle.std.specs.Map.{lookup, keys_of, remove_entry}
 use Rattle.std.specs.Ordering.{eq_by_cmp}
@@ -7,6 +7,7 @@ use Rattle.std.specs.declared.cmp.Ordering.{Ordering}
 use Rattle.std.proofs.lemmas.Map.{lookup-remove_entry, none_passes_from_lookup}
 use Rattle.std.proofs.lemmas.Map.Keys.{IsDistinct-from_sorted}
 use Rattle.entries.proofs.Joined.{remove_none}
+use Rattle.broadcast_core.proofs.Parting.{Adds-none}
 use Rattle.broadcast_core.proofs.Numbering.{IsNumbered-dropped, Drops-named, Drops-nothing}
 use Rattle.broadcast_core.proofs.buffer.cache.Cache.remove.Goals as goal
 
@@ -25,22 +26,34 @@ invariant_of-self g c =
     let less = others g.met.P.Ord.total c.args.peer.now c.self.inside.numbers c.remove-list.new.self c.remove-list.ensures.removed c.self.invariant.peers in
     let distinct = IsDistinct-from_sorted g.P.Ord.cmp (keys_of c.remove-list.new.self) c.len-peers.ensures.ordered in
     IsNumbered-dropped g.P.Ord.cmp g.M.Digest.Ord.cmp (eq_by_cmp_equiv g.met.P.Ord.total) c.self.inside.numbers c.remove-list.new.self c.args.peer.now c.self.inside.shelf c.self.invariant less distinct
-    c.in-Some.list (sym c.remove-list.ensures.value ∙ c.in-Some.is) c.remove.new.self c.remove.ensures
+    c.in-Some.list (sym c.remove-list.ensures.value ∙ c.in-Some.is) c.remove.new.self c.remove.ensures.dropped
 
 pub invariant_of-self-in-None : goal.invariant_of-self-in-None
 invariant_of-self-in-None g c =
     let none = sym c.remove-list.ensures.value ∙ c.in-None.is in
     rw (same g.met.P.Ord.total c.args.peer.now c.self.inside.numbers c.remove-list.new.self c.remove-list.ensures.removed none) c.self.invariant
 
-pub returns-in-Some : goal.returns-in-Some
-returns-in-Some g c =
+pub returns-in-Some-clause-dropped : goal.returns-in-Some-clause-dropped
+returns-in-Some-clause-dropped g c =
     let less = others g.met.P.Ord.total c.args.peer.now c.self.inside.numbers c.remove-list.new.self c.remove-list.ensures.removed c.self.invariant.peers in
     let distinct = IsDistinct-from_sorted g.P.Ord.cmp (keys_of c.remove-list.new.self) c.len-peers.ensures.ordered in
     rw (← c.self.view_is) (Drops-named g.P.Ord.cmp g.M.Digest.Ord.cmp (eq_by_cmp_equiv g.met.P.Ord.total) c.self.inside.numbers c.remove-list.new.self c.args.peer.now c.self.inside.shelf c.self.invariant less distinct
-    c.in-Some.list (sym c.remove-list.ensures.value ∙ c.in-Some.is) c.remove.new.self c.remove.ensures)
+    c.in-Some.list (sym c.remove-list.ensures.value ∙ c.in-Some.is) c.remove.new.self c.remove.ensures.dropped)
 
-pub returns-in-None : goal.returns-in-None
-returns-in-None g c =
+pub returns-in-None-clause-dropped : goal.returns-in-None-clause-dropped
+returns-in-None-clause-dropped g c =
     let none = sym c.remove-list.ensures.value ∙ c.in-None.is in
     rw (← c.self.view_is, same g.met.P.Ord.total c.args.peer.now c.self.inside.numbers c.remove-list.new.self c.remove-list.ensures.removed none)
     (Drops-nothing g.P.Ord.cmp g.M.Digest.Ord.cmp (eq_by_cmp_equiv g.met.P.Ord.total) c.self.inside.numbers c.args.peer.now c.self.inside.shelf c.self.invariant none)
+
+pub remove-requires-after_bounds : goal.remove-requires-after_bounds
+remove-requires-after_bounds g c κs within = rw (← c.self.view_is) at c.requires
+
+pub returns-in-Some-clause-left : goal.returns-in-Some-clause-left
+returns-in-Some-clause-left g c = rw (← c.self.view_is) c.remove.ensures.left
+
+pub returns-in-None-clause-left : goal.returns-in-None-clause-left
+returns-in-None-clause-left g c = rw (← c.self.view_is) (Adds-none (eq_by_cmp g.M.Digest.Ord.cmp) c.self.inside.shelf.messages c.args.left.now c.args.left.now refl)
+
+pub returns-in-None-clause-left_room : goal.returns-in-None-clause-left_room
+returns-in-None-clause-left_room g c = rw (← c.self.view_is) at c.requires

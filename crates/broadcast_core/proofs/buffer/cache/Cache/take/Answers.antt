@@ -1,4 +1,4 @@
-use Rattle.std.proofs.Common.{OnOk, ◌≡◌, Bool, true, false, [], sym, ap, subst, ◌∙◌}
+use Rattle.std.proofs.Common.{OnOk, ◌≡◌, Bool, true, false, [], refl, sym, ap, subst, ◌∙◌}
 use Rattle.std.specs.Prelude.{is_some, not}
 use Rattle.std.specs.Cmp.{eq_by_cmp_equiv}
 use Rattle.std.specs.Ordering.{eq_by_cmp}
@@ -7,6 +7,7 @@ use Rattle.broadcast_core.specs.Content.{same_by, at_charge, fronted, items_at, 
 use Rattle.broadcast_core.specs.declared.outcome.Outcome.TheVariants.{Inserted}
 use Rattle.broadcast_core.specs.Numbered.{named_of}
 use Rattle.broadcast_core.specs.Stored.{Stores}
+use Rattle.broadcast_core.proofs.Parting.{Adds-none}
 use Rattle.broadcast_core.proofs.Numbering.{named_there, named_nowhere, some_named, named_none, front-nothing, IsNumbered-taken, Stores-taken, Stores-nothing}
 use Rattle.broadcast_core.proofs.buffer.cache.Cache.take.Goals as goal
 
@@ -93,3 +94,24 @@ returns-in-None-3-clause-ok g c =
 pub returns-in-None-3-clause-succeeds_on_duplicate : goal.returns-in-None-3-clause-succeeds_on_duplicate
 returns-in-None-3-clause-succeeds_on_duplicate g c =
     rw (← c.self.view_is, named_nowhere (eq_by_cmp g.P.Ord.cmp) c.self.inside.numbers c.self.inside.shelf.lists c.args.peer.now (sym c.in-None-3.ensures.value)) (λ no. absurd (cc))
+
+pub take-requires-clause-affordable : goal.take-requires-clause-affordable
+take-requires-clause-affordable g c κs within = rw c.in-Some.is at c.requires.affordable
+
+pub take-requires-clause-left_room : goal.take-requires-clause-left_room
+take-requires-clause-left_room g c κs within = rw (← c.self.view_is) at c.requires.left_room
+
+pub take_first-requires-clause-affordable : goal.take_first-requires-clause-affordable
+take_first-requires-clause-affordable g c κs within = rw c.in-Some.is at c.requires.affordable
+
+pub returns-in_default-clause-left : goal.returns-in_default-clause-left
+returns-in_default-clause-left g c = Adds-none (eq_by_cmp g.M.Digest.Ord.cmp) c.args.self.now.messages c.args.left.now c.args.left.now refl
+
+pub returns-in-None-clause-left : goal.returns-in-None-clause-left
+returns-in-None-clause-left g c = rw (← c.self.view_is) (Adds-none (eq_by_cmp g.M.Digest.Ord.cmp) c.self.inside.shelf.messages c.args.left.now c.args.left.now refl)
+
+pub returns-in-None-2-clause-left : goal.returns-in-None-2-clause-left
+returns-in-None-2-clause-left g c = rw (← c.self.view_is) (Adds-none (eq_by_cmp g.M.Digest.Ord.cmp) c.self.inside.shelf.messages c.args.left.now c.args.left.now refl)
+
+pub returns-in-Some-get-clause-left : goal.returns-in-Some-get-clause-left
+returns-in-Some-get-clause-left g c = rw (← c.self.view_is) c.take.ensures.left

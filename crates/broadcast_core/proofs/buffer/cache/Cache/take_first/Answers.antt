@@ -1,4 +1,4 @@
-use Rattle.std.proofs.Common.{◌≡◌, ℕ, Bool, true, cond, List, Some, None, sym, ap, subst, ◌∙◌}
+use Rattle.std.proofs.Common.{◌≡◌, ℕ, Bool, true, cond, List, Some, None, refl, sym, ap, subst, ◌∙◌}
 use Rattle.std.specs.List.{IsDistinct}
 use Rattle.std.specs.List.Sorted.{IsStrictlySortedBy}
 use Rattle.std.specs.Map.{lookup, keys_of, remove_entry}
@@ -13,6 +13,8 @@ use Rattle.broadcast_core.specs.Content.{at_charge, fronted, same_by, same_liste
 use Rattle.broadcast_core.specs.Stored.{Stored, Stores}
 use Rattle.broadcast_core.specs.Numbered.{named_of, IsNumbered, Opens, Closes}
 use Rattle.entries.proofs.Tables.{lookup-inserted, remove-inserted}
+use Rattle.broadcast_core.specs.Left.{Adds}
+use Rattle.broadcast_core.proofs.Parting.{Adds-none}
 use Rattle.broadcast_core.proofs.Numbering.{none_named, found_first, opened_first, IsNumbered-opened, IsNumbered-stores, IsNumbered-undone, named-undone, Stores-first}
 use Rattle.broadcast_core.proofs.buffer.cache.Cache.take_first.Goals as goal
 
@@ -98,3 +100,27 @@ returns-in-Err-clause-err g c =
     c.find_or_insert.new.self c.remove.new.self put c.remove.ensures.removed in
     rw same (named-undone g.P.Ord.cmp g.M.Digest.Ord.cmp laws c.self.inside.numbers c.args.peer.now c.in_ok-list.list c.self.inside.shelf c.open.new.self c.self.invariant none c.in_ok-list.ensures.ok
     c.close-in-Err.new.self closes ∙ c.self.view_is)
+
+pub take-requires-clause-left_room : goal.take-requires-clause-left_room
+take-requires-clause-left_room g c κs within = rw (c.in_ok-list.ensures.ok.messages) (rw (← c.self.view_is) at c.requires.left_room)
+
+pub returns-in_err-owner-clause-left : goal.returns-in_err-owner-clause-left
+returns-in_err-owner-clause-left g c = Adds-none (eq_by_cmp g.M.Digest.Ord.cmp) c.args.self.now.messages c.args.left.now c.args.left.now refl
+
+pub returns-in_err-list-clause-left : goal.returns-in_err-list-clause-left
+returns-in_err-list-clause-left g c = rw (← c.self.view_is, c.in_err-list.ensures.err) (Adds-none (eq_by_cmp g.M.Digest.Ord.cmp) c.self.inside.shelf.messages c.args.left.now c.args.left.now refl)
+
+pub returns-in_default-clause-left : goal.returns-in_default-clause-left
+returns-in_default-clause-left g c = rw (← c.self.view_is, c.close.ensures.messages, c.in_ok-list.ensures.ok.messages) (Adds-none (eq_by_cmp g.M.Digest.Ord.cmp) c.self.inside.shelf.messages c.args.left.now c.args.left.now refl)
+
+pub returns-in_default-clause-left_room : goal.returns-in_default-clause-left_room
+returns-in_default-clause-left_room g c = rw (c.close.ensures.messages, c.in_ok-list.ensures.ok.messages) (rw (← c.self.view_is) at c.requires.left_room)
+
+pub returns-in-Ok-take-clause-left : goal.returns-in-Ok-take-clause-left
+returns-in-Ok-take-clause-left g c = rw (← c.self.view_is) (subst (λ m. Adds (eq_by_cmp g.M.Digest.Ord.cmp) m c.take.new.self.messages c.args.left.now c.take.new.left) c.in_ok-list.ensures.ok.messages c.take.ensures.left)
+
+pub returns-in-Err-clause-left : goal.returns-in-Err-clause-left
+returns-in-Err-clause-left g c = rw (← c.self.view_is, c.close-in-Err.ensures.messages) (subst (λ m. Adds (eq_by_cmp g.M.Digest.Ord.cmp) m c.take.new.self.messages c.args.left.now c.take.new.left) c.in_ok-list.ensures.ok.messages c.take.ensures.left)
+
+pub returns-in-Err-clause-left_room : goal.returns-in-Err-clause-left_room
+returns-in-Err-clause-left_room g c = rw c.close-in-Err.ensures.messages c.take.ensures.left_room

@@ -1,7 +1,9 @@
 use Rattle.std.proofs.Common.{length}
+use Rattle.std.specs.Ordering.{eq_by_cmp}
 use Rattle.entries.specs.Store.{same_number, items_at}
-use Rattle.entries.specs.Table.{items_of}
+use Rattle.entries.specs.Table.{items_of, messages_of}
 use Rattle.broadcast_core.specs.Content.{same_listed}
+use Rattle.broadcast_core.specs.Left.{Adds, HasRoom}
 use Rattle.broadcast_core.specs.Indexed.{names_of, named_lists, AllNamed}
 use Rattle.broadcast_core.proofs.Shortening.{Shortening}
 use Rattle.broadcast_core.proofs.buffer.shelf.Shelf.cut.Given as goal
@@ -12,6 +14,8 @@ invariant-loop-stale g l =
     let now = l.self-inside in
     Shortening (same_listed g.M.Digest.Ord.cmp) l.list l.byte_budget (named_lists (names_of old.table) old.lists.lists) (named_lists (names_of now.table) now.lists.lists) (items_of old.table) (items_of now.table)
     × AllNamed (names_of now.table) same_number now.lists.lists
+    × Adds (eq_by_cmp g.M.Digest.Ord.cmp) (messages_of (items_of old.table)) (messages_of (items_of now.table)) l.fn.left l.left
+    × HasRoom (length (messages_of (items_of now.table))) l.left
 
 abbrev pub decreases-loop-stale : goal.decreases-loop-stale
 decreases-loop-stale g l = length (items_at same_number l.list l.self-inside.lists.lists)

@@ -1,11 +1,11 @@
 use Rattle.entries.proofs.Slots.{number_laws}
 use Rattle.entries.specs.Store.{same_number, values_of, items_at as nodes_at}
-use Rattle.entries.specs.Table.{items_of}
-use Rattle.std.proofs.Common.{Result, Ok, Err, OnErr, ◌≡◌, ◌≤◌, ◌<◌, ◌∷◌, true, take, length, sym, ap, subst, ◌∙◌, arith}
+use Rattle.entries.specs.Table.{items_of, messages_of}
+use Rattle.std.proofs.Common.{Result, Ok, Err, OnErr, Some, inl, inr, refl, ◌≡◌, ◌≤◌, ◌<◌, ◌∷◌, true, take, length, sym, ap, subst, ◌∙◌, arith}
 use Rattle.std.specs.Prelude.{is_some, ◌^◌}
+use Rattle.std.specs.Map.{lookup}
 use Rattle.std.specs.Cmp.{eq_by_cmp_equiv}
 use Rattle.broadcast_core.specs.Content.{same_listed, same_charged, without, at_charge, items_at, bytes_of, outcome_of}
-use Rattle.broadcast_core.specs.Stored.{Stores}
 use Rattle.broadcast_core.specs.Indexed.{names_of, named_lists, IsShelved, shelved_of, Pushes}
 use Rattle.broadcast_core.proofs.Placing.{is_some-digests, length-digests}
 use Rattle.broadcast_core.proofs.Naming.{is_some-named, bytes-listed}
@@ -13,6 +13,10 @@ use Rattle.broadcast_core.proofs.Leaving.{quits-item, pushes-item}
 use Rattle.broadcast_core.proofs.Shelving.{Shelved-moved, Shelved-pushed, Shelved-refused}
 use Rattle.broadcast_core.proofs.Taking.{among-names}
 use Rattle.std.specs.Ordering.{eq_by_cmp}
+use Rattle.broadcast_core.specs.Left.{Adds, HasRoom}
+use Rattle.broadcast_core.specs.Stored.{Stores, Stored}
+use Rattle.broadcast_core.proofs.Indexing.{cond_true}
+use Rattle.broadcast_core.proofs.Parting.{Adds-none, Adds-joined, Adds-entered, pushes-fewer, front-there, room-wider}
 use Rattle.broadcast_core.proofs.Holding.{among-indexed, cached-there, no_duplicate, Holds-joined, item-named}
 use Rattle.broadcast_core.proofs.buffer.shelf.Shelf.insert.Given.{Over}
 use Rattle.broadcast_core.proofs.buffer.shelf.Shelf.insert.Goals as goal
@@ -75,6 +79,42 @@ returns-in_err-bytes-in-None-clause-succeeds_on_duplicate g c =
     let has = among-indexed same number_laws laws (named_lists (names_of c.self.inside.table) c.self.inside.lists.lists) (items_of c.self.inside.table) c.self.invariant.indexed c.args.message.now.digest c.args.list in
     rw (← c.self.view_is) (no_duplicate _ _ (among-names same.digest c.args.message.now.digest _ ∙ has) (sym c.in_ok-found.ensures.place ∙ c.in-None.is))
 
+pub returns-in_err-found-clause-left : goal.returns-in_err-found-clause-left
+returns-in_err-found-clause-left g c = rw (c.in_err-found.ensures.err, ← c.self.view_is) (Adds-none (eq_by_cmp g.M.Digest.Ord.cmp) (messages_of (items_of c.self.inside.table)) c.args.left.now c.args.left.now refl)
+
+pub returns-in_err-found-clause-named : goal.returns-in_err-found-clause-named
+returns-in_err-found-clause-named g c = rw c.in_err-found.ensures.err c.self.invariant.indexed.named
+
+pub returns-in_err-bytes-in-None-clause-left : goal.returns-in_err-bytes-in-None-clause-left
+returns-in_err-bytes-in-None-clause-left g c =
+    let order = (g.met.M.Digest.Ord g.world.𝓛 g.world.𝓜 g.world.𝓡 (λ s x. x, λ x. x, λ x. x, λ x. x)).total in
+    let same = same_listed g.M.Digest.Ord.cmp in
+    let laws = eq_by_cmp_equiv order in
+    let none = sym c.in_ok-found.ensures.place ∙ c.in-None.is in
+    let quits = quits-item g.M.Digest.Ord.cmp c.in_ok-found.found.item c.args.list c.insert.new.self c.push.new.table c.in_err-bytes-in-None.ensures.err in
+    let kept : shelved_of c.push.new.lists.lists c.push.new.table ≡ c.args.self.now = rw (c.in_err-bytes-in-None.ensures.stays, ← c.self.view_is) (Shelved-refused number_laws order c.self.invariant c.in_ok-found.ensures.names (item-named g.M.Digest.Ord.cmp (λ m. m.digest) c.args.message.now.digest c.insert.new.self c.in_ok-found.found.item g.met.M.Digestible.exact c.in_ok-found.ensures.item) none (Holds-joined same number_laws laws _ g.M.Digest.Ord.cmp c.args.list c.args.message.now _ (items_of c.self.inside.table) (items_of c.insert.new.self) (λ copy is. is) (c.in_ok-found.ensures.joined c.in-None.is)) quits).1 in
+    subst (λ (s : Stored _ _ _). Adds same.digest c.args.self.now.messages s.messages c.args.left.now c.push.new.left) (sym kept) (Adds-none same.digest c.args.self.now.messages c.args.left.now c.push.new.left c.in_err-bytes-in-None.ensures.left_stays.0)
+
+pub returns-in_err-bytes-in-None-clause-left_room : goal.returns-in_err-bytes-in-None-clause-left_room
+returns-in_err-bytes-in-None-clause-left_room g c =
+    let order = (g.met.M.Digest.Ord g.world.𝓛 g.world.𝓜 g.world.𝓡 (λ s x. x, λ x. x, λ x. x, λ x. x)).total in
+    let same = same_listed g.M.Digest.Ord.cmp in
+    let laws = eq_by_cmp_equiv order in
+    let none = sym c.in_ok-found.ensures.place ∙ c.in-None.is in
+    let quits = quits-item g.M.Digest.Ord.cmp c.in_ok-found.found.item c.args.list c.insert.new.self c.push.new.table c.in_err-bytes-in-None.ensures.err in
+    let kept : shelved_of c.push.new.lists.lists c.push.new.table ≡ c.args.self.now = rw (c.in_err-bytes-in-None.ensures.stays, ← c.self.view_is) (Shelved-refused number_laws order c.self.invariant c.in_ok-found.ensures.names (item-named g.M.Digest.Ord.cmp (λ m. m.digest) c.args.message.now.digest c.insert.new.self c.in_ok-found.found.item g.met.M.Digestible.exact c.in_ok-found.ensures.item) none (Holds-joined same number_laws laws _ g.M.Digest.Ord.cmp c.args.list c.args.message.now _ (items_of c.self.inside.table) (items_of c.insert.new.self) (λ copy is. is) (c.in_ok-found.ensures.joined c.in-None.is)) quits).1 in
+    subst (λ (s : Stored _ _ _). HasRoom (length s.messages) c.push.new.left) (sym kept) (room-wider _ c.args.left.now c.push.new.left c.in_err-bytes-in-None.ensures.left_stays c.requires.left_room)
+
+pub returns-in_err-bytes-in-None-clause-named : goal.returns-in_err-bytes-in-None-clause-named
+returns-in_err-bytes-in-None-clause-named g c =
+    let order = (g.met.M.Digest.Ord g.world.𝓛 g.world.𝓜 g.world.𝓡 (λ s x. x, λ x. x, λ x. x, λ x. x)).total in
+    let same = same_listed g.M.Digest.Ord.cmp in
+    let laws = eq_by_cmp_equiv order in
+    let none = sym c.in_ok-found.ensures.place ∙ c.in-None.is in
+    let quits = quits-item g.M.Digest.Ord.cmp c.in_ok-found.found.item c.args.list c.insert.new.self c.push.new.table c.in_err-bytes-in-None.ensures.err in
+    let kept : shelved_of c.push.new.lists.lists c.push.new.table ≡ c.args.self.now = rw (c.in_err-bytes-in-None.ensures.stays, ← c.self.view_is) (Shelved-refused number_laws order c.self.invariant c.in_ok-found.ensures.names (item-named g.M.Digest.Ord.cmp (λ m. m.digest) c.args.message.now.digest c.insert.new.self c.in_ok-found.found.item g.met.M.Digestible.exact c.in_ok-found.ensures.item) none (Holds-joined same number_laws laws _ g.M.Digest.Ord.cmp c.args.list c.args.message.now _ (items_of c.self.inside.table) (items_of c.insert.new.self) (λ copy is. is) (c.in_ok-found.ensures.joined c.in-None.is)) quits).1 in
+    subst (λ (s : Stored _ _ _). (d : _) (x : _) → lookup (same.digest d) s.messages ≡ Some x → same.digest d x.digest ≡ true) (c.self.view_is ∙ sym kept) c.self.invariant.indexed.named
+
 -- what both arms leave: the invariant, and the taking
 made : (g : Over) (c : goal.After-outcome g) → let same = same_listed g.M.Digest.Ord.cmp in let now = c.match-found.self-inside in let x = at_charge c.args.message.now.digest c.args.charge in
     IsShelved same (names_of now.table) now.lists.lists (items_of now.table)
@@ -126,3 +166,44 @@ returns-clause-bytes g c =
       | in-Some w ↦ w.bytes-is ∙ w.promote-bytes.ensures.bytes ∙ sym (ap (λ l. bytes_of (values_of (nodes_at same_number c.args.list l.lists.lists))) w.self-inside-is) ∙ sym is
       | in-None+in_ok-bytes-in-None w ↦ w.bytes-is ∙ w.in_ok-bytes-in-None.ensures.bytes ∙ sym (ap (λ l. bytes_of (values_of (nodes_at same_number c.args.list l.lists.lists))) w.self-inside-is) ∙ sym is
     ]
+
+-- the message that was taken is there
+there : (g : Over) (c : goal.After-outcome g) → is_some (lookup (eq_by_cmp g.M.Digest.Ord.cmp c.args.message.now.digest) (messages_of (items_of c.match-found.self-inside.table))) ≡ true
+there g c =
+    let same = same_listed g.M.Digest.Ord.cmp in
+    let laws = eq_by_cmp_equiv (g.met.M.Digest.Ord g.world.𝓛 g.world.𝓜 g.world.𝓡 (λ s x. x, λ x. x, λ x. x, λ x. x)).total in
+    let now = c.match-found.self-inside in
+    let made_is = made g c in
+    front-there same number_laws laws c.args.list c.args.message.now c.args.charge c.args.size _ (named_lists (names_of now.table) now.lists.lists) (items_of now.table) made_is.0.indexed c.requires.some
+    (made_is.1.put.lists c.args.list ∙ cond_true (same.key c.args.list c.args.list) _ _ (number_laws.refl c.args.list))
+
+pub returns-clause-there : goal.returns-clause-there
+returns-clause-there g c = there g c
+
+pub returns-clause-named : goal.returns-clause-named
+returns-clause-named g c = (made g c).0.indexed.named
+
+pub returns-clause-left : goal.returns-clause-left
+returns-clause-left g c =
+    let same = same_listed g.M.Digest.Ord.cmp in
+    let laws = eq_by_cmp_equiv (g.met.M.Digest.Ord g.world.𝓛 g.world.𝓜 g.world.𝓡 (λ s x. x, λ x. x, λ x. x, λ x. x)).total in
+    let old = messages_of (items_of c.self.inside.table) in
+    let left = c.args.left.now in
+    rw (← c.self.view_is) (elim c.match-found.branch [
+      | in-Some w ↦ rw (w.self-inside-is, w.left-is, c.in_ok-found.ensures.stays (ap is_some w.in-Some.is)) (Adds-none same.digest old left left refl)
+      | in-None+in_ok-bytes-in-None w ↦
+          let mid = messages_of (items_of c.insert.new.self) in
+          let joined = c.in_ok-found.ensures.joined w.in-None.is in
+          let holds = Holds-joined same number_laws laws _ g.M.Digest.Ord.cmp c.args.list c.args.message.now _ (items_of c.self.inside.table) (items_of c.insert.new.self) (λ copy is. is) joined in
+          let entered = Adds-joined c.args.message.now c.args.list _ (items_of c.self.inside.table) (items_of c.insert.new.self) left left joined refl in
+          rw (w.self-inside-is, w.left-is) (Adds-entered laws c.args.message.now old mid (messages_of (items_of w.push.new.table)) left left w.push.new.left entered w.in_ok-bytes-in-None.ensures.left
+          (λ d y h. elim (holds.origin d y h) [ inl was ↦ inl was | inr one ↦ inr one.2 ])
+          (pushes-fewer c.insert.new.self w.push.new.table w.in_ok-bytes-in-None.ensures.ok)
+          (rw w.self-inside-is at (there g c)))
+    ])
+
+pub returns-clause-left_room : goal.returns-clause-left_room
+returns-clause-left_room g c = elim c.match-found.branch [
+  | in-Some w ↦ rw (w.self-inside-is, w.left-is, c.in_ok-found.ensures.stays (ap is_some w.in-Some.is)) (rw (← c.self.view_is) at c.requires.left_room)
+  | in-None+in_ok-bytes-in-None w ↦ rw (w.self-inside-is, w.left-is) w.in_ok-bytes-in-None.ensures.left_room
+]

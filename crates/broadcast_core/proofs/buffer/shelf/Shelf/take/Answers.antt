@@ -1,9 +1,11 @@
 use Rattle.entries.proofs.Slots.{number_laws}
 use Rattle.std.proofs.Common.{refl, sym, subst, length, ◌≤◌, arith}
 use Rattle.std.specs.Cmp.{eq_by_cmp_equiv}
-use Rattle.entries.specs.Table.{items_of}
+use Rattle.entries.specs.Table.{items_of, messages_of}
 use Rattle.broadcast_core.specs.Content.{same_listed, items_at, bytes_of}
 use Rattle.broadcast_core.specs.Indexed.{names_of, named_lists, shelved_of}
+use Rattle.std.specs.Ordering.{eq_by_cmp}
+use Rattle.broadcast_core.proofs.Parting.{Adds-none, Adds-cut}
 use Rattle.broadcast_core.proofs.Placing.{distinct-digests}
 use Rattle.broadcast_core.proofs.Filling.{Stores-nowhere}
 use Rattle.broadcast_core.proofs.Shortening.{Stores-fits, Stores-cut}
@@ -24,10 +26,20 @@ returns-then-deque_size-eq0-clause-ok g c =
 pub returns-then-bytes-from-clause-ok : goal.returns-then-bytes-from-clause-ok
 returns-then-bytes-from-clause-ok g c =
     let same = same_listed g.M.Digest.Ord.cmp in
-    Stores-cut same number_laws c.args.list c.args.message.now _ c.args.byte_budget c.args.self.now c.insert.new.self c.cut.new.self c.in_ok-listing.ensures.ok c.cut.ensures
+    Stores-cut same number_laws c.args.list c.args.message.now _ c.args.byte_budget c.args.self.now c.insert.new.self c.cut.new.self c.in_ok-listing.ensures.ok c.cut.ensures.cut
 
 pub returns-else-bytes-from-clause-ok : goal.returns-else-bytes-from-clause-ok
 returns-else-bytes-from-clause-ok g c =
     let same = same_listed g.M.Digest.Ord.cmp in
     Stores-fits same number_laws c.args.list c.args.message.now _ c.args.byte_budget c.args.self.now c.insert.new.self c.insert.new.self c.in_ok-listing.ensures.ok
     (omega (arith, c.in_ok-listing.ensures.bytes, c.if-bytes-from.false, c.from.ensures))
+
+pub returns-then-deque_size-eq0-clause-left : goal.returns-then-deque_size-eq0-clause-left
+returns-then-deque_size-eq0-clause-left g c = rw (← c.self.view_is) (Adds-none (eq_by_cmp g.M.Digest.Ord.cmp) (messages_of (items_of c.self.inside.table)) c.args.left.now c.args.left.now refl)
+
+pub returns-then-bytes-from-clause-left : goal.returns-then-bytes-from-clause-left
+returns-then-bytes-from-clause-left g c =
+    let same = same_listed g.M.Digest.Ord.cmp in
+    let laws = eq_by_cmp_equiv (g.met.M.Digest.Ord g.world.𝓛 g.world.𝓜 g.world.𝓡 (λ s x. x, λ x. x, λ x. x, λ x. x)).total in
+    Adds-cut same number_laws laws c.args.list c.args.message.now c.args.charge c.args.deque_size c.args.byte_budget _ c.args.self.now c.insert.new.self c.cut.new.self c.args.left.now c.insert.new.left c.cut.new.left
+    c.in_ok-listing.ensures.ok c.cut.ensures.cut (omega (arith, c.if-deque_size-eq0.false)) c.requires.affordable c.in_ok-listing.ensures.there c.insert.ensures.named c.insert.ensures.left c.cut.ensures.left

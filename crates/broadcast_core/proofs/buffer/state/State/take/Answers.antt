@@ -23,19 +23,19 @@ invariant_of-self-2 g c =
     let laws = eq_by_cmp_equiv (g.met.M.Digest.Ord g.world.𝓛 g.world.𝓜 g.world.𝓡 (λ s x. x, λ x. x, λ x. x, λ x. x)).total in
     let waits = rw c.digest.ensures at c.take-served.ensures.left in
     IsCore-taken same key_laws c.self.inside.deque_size c.self.inside.byte_budget laws c.args.peer.now c.args.message.now c.self.inside.primary c.self.inside.cache c.take.new.self
-    c.self.inside.waiters c.take-served.new.self c.self.invariant waits (option_map length (g.M.Write.encoding c.args.message.now.message)) _ refl (rw (← c.charge_of.ensures) at c.in_ok-listing.ensures.ok)
+    c.self.inside.waiters c.take-served.new.self c.self.invariant waits (option_map length (g.M.Write.encoding c.args.message.now.message)) _ refl (rw (← c.charge_of.ensures.charge) at c.in_ok-listing.ensures.ok)
 
-pub returns : goal.returns
-returns g c = λ own.
+pub returns-clause-taken : goal.returns-clause-taken
+returns-clause-taken g c = λ own.
     let same = same_by g.P.Ord.cmp g.M.Digest.Ord.cmp in
     let key_laws = eq_by_cmp_equiv g.met.P.Ord.total in
     let laws = eq_by_cmp_equiv (g.met.M.Digest.Ord g.world.𝓛 g.world.𝓜 g.world.𝓡 (λ s x. x, λ x. x, λ x. x, λ x. x)).total in
     let waits = rw c.digest.ensures at c.take-served.ensures.left in
-    let stores = rw (← c.charge_of.ensures) at c.in_ok-listing.ensures.ok in
+    let stores = rw (← c.charge_of.ensures.charge) at c.in_ok-listing.ensures.ok in
     let primary = list_any (same.key c.args.peer.now) c.self.inside.primary in
     let has = has_digest same.digest c.args.message.now.digest (items_at same.key c.args.peer.now c.self.inside.cache.lists) in
     let charge = affordable c.self.inside.byte_budget c.args.message.now.digest (option_map length (g.M.Write.encoding c.args.message.now.message)) in
-    let charged : is_some charge ≡ is_some c.charge_of.result = ap is_some c.charge_of.ensures ∙ some-mapped (at_charge c.args.message.now.digest) c.charge_of.result in
+    let charged : is_some charge ≡ is_some c.charge_of.result = ap is_some c.charge_of.ensures.charge ∙ some-mapped (at_charge c.args.message.now.digest) c.charge_of.result in
     let told : c.in_ok-listing.listing.outcome ≡ outcome_of primary (is_some charge) has = c.in_ok-listing.ensures.outcome ∙ ap (λ b. outcome_of primary b has) (sym charged) in
     rw (← c.self.view_is) (record {
       outcome = told ∙ ap (outcome_of primary (is_some charge)) (sym (among-names same.digest c.args.message.now.digest (items_at same.key c.args.peer.now c.self.inside.cache.lists)));
@@ -51,3 +51,12 @@ returns g c = λ own.
       succeeds_on_oversize = λ _. refl;
       succeeds_at_size_zero = λ _. refl;
     })
+
+pub take-requires-clause-left_room : goal.take-requires-clause-left_room
+take-requires-clause-left_room g c κs within = rw (← c.self.view_is) at c.requires
+
+pub returns-clause-left : goal.returns-clause-left
+returns-clause-left g c = rw (← c.self.view_is) c.take.ensures.left
+
+pub returns-in_err-listing-clause-left : goal.returns-in_err-listing-clause-left
+returns-in_err-listing-clause-left g c = rw (← c.self.view_is) c.take.ensures.left
