@@ -1,6 +1,6 @@
 -- A list that is put over the front of a room, as a whole.
 use Rattle.std.proofs.Common.{◌≡◌, ◌≤◌, List, [], ◌∷◌, ◌++◌, length, take, drop, refl, ap, arith}
-use Rattle.entries.specs.Store.{overlaid}
+use Rattle.entries.specs.Overlaid.{overlaid}
 
 module _ {X : Type 0} where
   -- there is a place for each

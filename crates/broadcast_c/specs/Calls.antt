@@ -1,7 +1,7 @@
 -- Believed.
 -- What an exported function promises of a handle, of a buffer, and of what it reports.
 use Rattle.std.specs.Prelude.{◌≡◌, ℕ, if◌then◌else◌, List, length, nat_le, Option, Some, None}
-use Rattle.entries.specs.Store.{overlaid}
+use Rattle.entries.specs.Overlaid.{overlaid}
 use Rattle.broadcast_core.specs.declared.outcome.Outcome.{Outcome}
 use Rattle.broadcast_core.specs.declared.outcome.Outcome.TheVariants.{Inserted, Duplicate, Ineligible, Oversize}
 use Rattle.broadcast_core.specs.Reports.{Reports}

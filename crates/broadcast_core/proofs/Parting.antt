@@ -15,7 +15,7 @@ use Rattle.std.proofs.lemmas.List.Elements.{filter-append}
 use Rattle.entries.specs.declared.entry.Charged.{Charged}
 use Rattle.entries.specs.Linked.{Node}
 use Rattle.entries.specs.Placed.{Placed}
-use Rattle.entries.specs.Store.{same_number}
+use Rattle.entries.specs.Overlaid.{same_number}
 use Rattle.entries.specs.Table.{Tabled, item_at, name_at, items_of, messages_of, left_from, IsTabled, Leaves, Takes, Joins}
 use Rattle.entries.proofs.Stores.{found_same}
 use Rattle.entries.proofs.Tables.{lookup-messages}

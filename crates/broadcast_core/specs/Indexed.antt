@@ -6,7 +6,8 @@ use Rattle.std.specs.Map.{lookup, keys_of}
 use Rattle.entries.specs.declared.entry.Charged.{Charged}
 use Rattle.entries.specs.Linked.{Node}
 use Rattle.entries.specs.Placed.{Placed}
-use Rattle.entries.specs.Store.{same_number, values_of, items_at, Extends}
+use Rattle.entries.specs.Overlaid.{same_number}
+use Rattle.entries.specs.Store.{values_of, items_at, Extends}
 use Rattle.entries.specs.Table.{messages_of, place_at, IsPlaced, SetsPlace, Tabled, name_at, items_of, Takes}
 use Rattle.broadcast_core.specs.Carried.{Carried}
 use Rattle.std.specs.BTreeMap.{insert_entry}

@@ -12,7 +12,7 @@ abbrev pub HaveLeft : {M D : Type 0} → (D → D → Bool) → List (D × Carri
 HaveLeft {D = D} same old new gone = (d : D) → filter (λ x. same d x.digest) gone
     ≡ option_to_list (if is_some (lookup (same d) new) then None else lookup (same d) old)
 
--- a core, and the messages that left it and were not handed out yet, the newest last
+-- a core, and the messages that left it and were not reported yet, the newest last
 pub record Reported (P M D W : Type 0) : Type 0 where
   pub core : Content P M D W
   pub left : List (Carried M D)

@@ -6,7 +6,7 @@ ghost use Rattle.std.specs.List.{All, IsDistinct, count_by};
 ghost use Rattle.std.specs.Map.{keys_of};
 ghost use Rattle.std.specs.Option.{option_copied, option_map};
 ghost use Rattle.std.specs.Ordering.{eq_by_cmp};
-ghost use Rattle.entries.specs.Store.{overlaid};
+ghost use Rattle.entries.specs.Overlaid.{overlaid};
 ghost use Rattle.broadcast_core.specs.Content.{same_by};
 ghost use Rattle.broadcast_core.specs.Left.{Adds, HasRoom};
 

@@ -14,7 +14,7 @@ use Rattle.std.proofs.lemmas.Map.{lookup-remove_entry}
 use Rattle.std.proofs.lemmas.Map.Keys.{IsDistinct-from_sorted}
 use Rattle.entries.specs.Placed.{Placed}
 use Rattle.entries.specs.Slots.{JoinsItem, AddsItem, LeavesItem, Inserts}
-use Rattle.entries.specs.Store.{same_number}
+use Rattle.entries.specs.Overlaid.{same_number}
 use Rattle.entries.specs.Table.{Tabled, item_at, name_at, items_by, items_of, place_in, IsPlaced, IsTabled, Takes, Leaves}
 use Rattle.entries.specs.declared.table.Found.{Found}
 use Rattle.entries.proofs.Slots.{number_laws}

@@ -1,6 +1,6 @@
 -- A list that is put over the front of a room, one by one.
 use Rattle.std.proofs.Common.{◌≡◌, ◌+◌, ◌≤◌, ◌<◌, ℕ, zero, suc, List, [], ◌∷◌, length, take, drop, set, refl, sym, ap, arith}
-use Rattle.entries.specs.Store.{overlaid}
+use Rattle.entries.specs.Overlaid.{overlaid}
 
 module _ {X : Type 0} where
   pub length-overlaid : (xs room : List X) → length (overlaid xs room) ≡ length room

@@ -1,6 +1,7 @@
 pub mod Leads
 pub mod Link
 pub mod Linked
+pub mod Overlaid
 pub mod Parts
 pub mod Placed
 pub mod Slots

@@ -1,4 +1,4 @@
--- Believed.
+-- Internal.
 -- Chains of entries in a heap, which says what stands at each place.
 use Rattle.std.specs.Prelude.{◌≡◌, ◌≢◌, ℕ, zero, suc, Bool, true, false, List, [], ◌∷◌, ◌++◌, length, Option, Some, None, ◌⊎◌}
 use Rattle.entries.specs.declared.entry.Entry.{Entry}

@@ -1,4 +1,4 @@
--- Believed.
+-- Internal.
 -- A message with the places of its entries.
 use Rattle.std.specs.Prelude.{ℕ, Bool, if◌then◌else◌, List, ◌∷◌, Option, Some, None}
 

@@ -3,7 +3,7 @@
 use Rattle.std.specs.Prelude.{◌≡◌, ℕ, Bool, true, if◌then◌else◌, List, [], ◌∷◌, Option, Some, None, is_some, IsSome, Result, IfOk, OnErr, MatchBool, slice_index_or, slice_set}
 use Rattle.std.specs.Map.{lookup}
 use Rattle.entries.specs.Placed.{Placed}
-use Rattle.entries.specs.Store.{same_number}
+use Rattle.entries.specs.Overlaid.{same_number}
 use Rattle.entries.specs.Table.{Tabled, GoesBy, IsTabled, KeepsNames, Joins, items_of, place_at}
 use Rattle.entries.specs.declared.table.Found.{Found}
 use Rattle.std.specs.Ordering.{eq_by_cmp}

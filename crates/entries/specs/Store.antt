@@ -1,9 +1,8 @@
--- Believed.
+-- Internal.
 -- The lists of all keys in one heap of places.
 use Rattle.std.specs.Prelude.{◌≡◌, ◌==◌, ◌≤◌, ◌<◌, ◌-◌, ℕ, Bool, true, false, not, ◌||◌, if◌then◌else◌, List, [], ◌∷◌, ◌++◌, length, map, Option, Some, None, is_some, unwrap_or, MatchOption}
 use Rattle.std.specs.List.{filter, list_any, sum_by, IsDistinct}
 use Rattle.std.specs.Map.{lookup, keys_of}
-use Rattle.std.specs.Ordering.{eq_by_cmp, nat_cmp}
 use Rattle.entries.specs.declared.entry.Charged.{Charged}
 use Rattle.entries.specs.declared.entry.Entry.{Entry}
 use Rattle.entries.specs.declared.entry.Chain.{Chain}
@@ -12,16 +11,6 @@ use Rattle.entries.specs.Linked.{Node, walk, IsChain, Pops}
 -- the list that a map has at the key, or none
 abbrev pub items_at : {K X : Type 0} → (K → K → Bool) → K → List (K × List X) → List X
 items_at same k es = unwrap_or (lookup (same k) es) []
-
--- whether two numbers of lists are one
-abbrev pub same_number : ℕ → ℕ → Bool
-same_number = eq_by_cmp nat_cmp
-
--- the list over the front of the room, as far as it goes; the rest of the room stays
-abbrev pub overlaid : {X : Type 0} → List X → List X → List X
-overlaid [] room = room
-overlaid (x ∷ xs) [] = []
-overlaid (x ∷ xs) (r ∷ room) = x ∷ overlaid xs room
 
 -- the charged nodes of each key, the newest first, and the place of the next insert
 pub record Listed (K D : Type 0) : Type 0 where

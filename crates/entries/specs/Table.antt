@@ -1,11 +1,11 @@
--- Believed.
+-- Internal.
 -- The messages by digest, with the places of their entries by key.
 use Rattle.std.specs.Prelude.{◌≡◌, ℕ, Bool, true, ◌&&◌, if◌then◌else◌, List, [], ◌∷◌, map, Option, Some, None, is_some, slice_index_or, ◌⊎◌}
 use Rattle.std.specs.Option.{option_map}
 use Rattle.std.specs.Map.{lookup, remove_entry}
 use Rattle.std.specs.Ordering.{eq_by_cmp}
 use Rattle.entries.specs.Placed.{Placed}
-use Rattle.entries.specs.Store.{same_number}
+use Rattle.entries.specs.Overlaid.{same_number}
 use Rattle.std.specs.BTreeMap.{insert_entry}
 use Rattle.std.specs.declared.cmp.Ordering.{Ordering}
 

@@ -5,7 +5,8 @@ ghost use Rattle.std.specs.Option.{option_copied};
 ghost use Rattle.slab.specs.Slab.{get, HasRoomFor};
 ghost use Rattle.entries.specs.Linked.{IsOn, Admits, Promotes, Pushes, Pops, Frees, IsOwned};
 ghost use Rattle.entries.specs.Linked.{HasNodes, SameValues, entry_at};
-ghost use Rattle.entries.specs.Store.{nodes, bytes_of, digests_of, overlaid, Trims};
+ghost use Rattle.entries.specs.Overlaid.{overlaid};
+ghost use Rattle.entries.specs.Store.{nodes, bytes_of, digests_of, Trims};
 
 use crate::entry::{Chain, Charged, Entry};
 use crate::link::Link;

@@ -6,8 +6,10 @@ ghost use Rattle.std.specs.Map.{lookup};
 ghost use Rattle.slab.specs.Slab.{get, entries};
 ghost use Rattle.entries.specs.Linked.{IsApart, HasNodes};
 ghost use Rattle.entries.specs.Store.{IsStore, IsPlaceOf, IsNoPlaceOf, Puts, Evicts, Extends};
-ghost use Rattle.entries.specs.Store.{Removes, nodes, lists_of, items_at, moved, digests_of, bytes_of, overlaid};
-ghost use Rattle.entries.specs.Store.{IsSummed, same_number};
+ghost use Rattle.entries.specs.Overlaid.{overlaid};
+ghost use Rattle.entries.specs.Store.{Removes, nodes, lists_of, items_at, moved, digests_of, bytes_of};
+ghost use Rattle.entries.specs.Overlaid.{same_number};
+ghost use Rattle.entries.specs.Store.{IsSummed};
 
 use crate::chain::{self, Walk};
 use crate::entry::{Chain, Charged, Entry};
@@ -26,7 +28,8 @@ pub struct Entries<D: Copy> {
 impl<D: Copy> Model for Entries<D> {
     ghost use Rattle.std.specs.Prelude.{ℕ};
     ghost use Rattle.slab.specs.Slab.{get, entries};
-    ghost use Rattle.entries.specs.Store.{Listed, lists_of, IsStore, IsSummed, same_number};
+    ghost use Rattle.entries.specs.Overlaid.{same_number};
+    ghost use Rattle.entries.specs.Store.{Listed, lists_of, IsStore, IsSummed};
 
     ghost Value = { Listed ℕ D };
 

@@ -7,7 +7,7 @@ ghost use Rattle.std.specs.List.{IsDistinct};
 ghost use Rattle.std.specs.Map.{lookup, keys_of};
 ghost use Rattle.std.specs.Ordering.{eq_by_cmp};
 ghost use Rattle.slab.specs.Slab.{get};
-ghost use Rattle.entries.specs.Store.{same_number};
+ghost use Rattle.entries.specs.Overlaid.{same_number};
 ghost use Rattle.entries.specs.Table.{place_at, Joins, Leaves, item_at, name_at, items_of};
 ghost use Rattle.entries.specs.Table.{GoesBy, IsTabled, KeepsNames, Takes, left_from};
 ghost use Rattle.entries.specs.Slots.{JoinsItem, AddsItem, LeavesItem, Inserts};

@@ -1,6 +1,6 @@
 //! Buffers of a caller.
 ghost use Rattle.std.specs.Prelude.{◌≡◌};
-ghost use Rattle.entries.specs.Store.{overlaid};
+ghost use Rattle.entries.specs.Overlaid.{overlaid};
 ghost use Rattle.broadcast_c.specs.Calls.{IsFilled};
 
 use crate::codes::{OK, SHORT};

@@ -5,7 +5,7 @@ ghost use Rattle.std.specs.Option.{option_copied, option_map};
 ghost use Rattle.std.specs.List.{IsDistinct, list_any};
 ghost use Rattle.std.specs.Map.{lookup, keys_of};
 ghost use Rattle.std.specs.Ordering.{eq_by_cmp};
-ghost use Rattle.entries.specs.Store.{overlaid};
+ghost use Rattle.entries.specs.Overlaid.{overlaid};
 ghost use Rattle.broadcast_core.specs.Content.{same_by, same_charged, at_charge, digests_of, bytes_of};
 ghost use Rattle.broadcast_core.specs.Content.{among, fronted, items_at, outcome_of};
 ghost use Rattle.broadcast_core.specs.Left.{Adds, HasRoom};

@@ -18,10 +18,9 @@ use crate::requests::Ticketed;
 use std::alloc::{AllocError, AllocFailed, Global};
 use std::marker::Model;
 
-/// A core, with the messages that left it and that the caller was not handed yet.
+/// A core, with the messages that left it and that it has not reported yet.
 ///
-/// A message leaves when its digest leaves the last list. It stays here until
-/// [`Reporting::pop_left`] hands it out, which happens once.
+/// A message leaves when its digest leaves the last list. [`Reporting::pop_left`] reports it, once.
 #[derive(Drop)]
 pub struct Reporting<P: PublicKey, M: Digestible, W> {
     core: Core<P, M, W>,
@@ -92,14 +91,14 @@ impl<P: PublicKey, M: Digestible, W: Drop> Reporting<P, M, W> {
         self.core.take_into(peer, message, &mut self.left)
     }
 
-    /// Returns the number of messages that left and were not handed out.
+    /// Returns the number of messages that left and were not reported yet.
     pub fn left_len(&self) -> usize
         ensures { result ≡ length self.now.left }
     {
         self.left.len()
     }
 
-    /// Hands out the message that left last, if there is one. Does not allocate.
+    /// Reports the message that left last, if one was not reported yet. Does not allocate.
     pub fn pop_left(&mut self) -> Option<Digested<M>>
         ensures popped { self.old.left ≡ self.new.left ++ option_to_list result }
         ensures empty { result ≡ None → self.old.left ≡ [] }

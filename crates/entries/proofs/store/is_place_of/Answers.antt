@@ -3,7 +3,8 @@ use Rattle.std.specs.Prelude.{MatchBool}
 use Rattle.std.specs.Ordering.{is_eq}
 use Rattle.slab.specs.Slab.{get}
 use Rattle.entries.specs.declared.entry.Entry.{Entry}
-use Rattle.entries.specs.Store.{IsPlaceOf, IsNoPlaceOf, same_number}
+use Rattle.entries.specs.Overlaid.{same_number}
+use Rattle.entries.specs.Store.{IsPlaceOf, IsNoPlaceOf}
 use Rattle.entries.proofs.store.is_place_of.Goals as goal
 
 found : {K D : Type 0} (same : K → K → Bool) (h : ℕ → Option (Entry K D)) (p : K) (place : ℕ) (e : Entry K D) (r : Bool) → h place ≡ Some e → same p e.peer ≡ r

@@ -1,7 +1,7 @@
 use Rattle.std.proofs.Common.{Some, refl, ap, ◌∙◌}
 use Rattle.std.specs.Prelude.{is_some}
 use Rattle.slab.specs.Slab.{get, entries}
-use Rattle.entries.specs.Store.{same_number}
+use Rattle.entries.specs.Overlaid.{same_number}
 use Rattle.entries.proofs.Slots.{number_laws, distinct_slots, found_slot, updated_slot}
 use Rattle.entries.proofs.Opening.{none_listed, bare, opens}
 use Rattle.entries.proofs.Stores.{some_listed}

@@ -1,5 +1,5 @@
 use Rattle.std.proofs.Common.{◌≡◌, ◌≤◌, length, take, drop}
-use Rattle.entries.specs.Store.{overlaid}
+use Rattle.entries.specs.Overlaid.{overlaid}
 use Rattle.broadcast_c.specs.Storing.{left_in}
 use Rattle.broadcast_c.proofs.store.Store.move_left.Given as goal
 

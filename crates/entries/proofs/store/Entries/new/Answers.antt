@@ -5,7 +5,8 @@ use Rattle.slab.specs.Slab.{Slab, get, entries, entries_from}
 use Rattle.entries.specs.declared.entry.Chain.{Chain}
 use Rattle.entries.specs.declared.entry.Charged.{Charged}
 use Rattle.entries.specs.declared.entry.Entry.{Entry}
-use Rattle.entries.specs.Store.{IsStore, IsSummed, same_number}
+use Rattle.entries.specs.Overlaid.{same_number}
+use Rattle.entries.specs.Store.{IsStore, IsSummed}
 use Rattle.entries.proofs.Slots.{distinct_slots}
 use Rattle.entries.proofs.store.Entries.new.Goals as goal
 

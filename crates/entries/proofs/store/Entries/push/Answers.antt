@@ -1,6 +1,6 @@
 use Rattle.std.proofs.Common.{sym, ◌∙◌}
 use Rattle.slab.specs.Slab.{get, entries}
-use Rattle.entries.specs.Store.{same_number}
+use Rattle.entries.specs.Overlaid.{same_number}
 use Rattle.entries.proofs.Stores.{some_listed}
 use Rattle.entries.proofs.store.Entries.push.Goals as goal
 

@@ -1,6 +1,6 @@
 use Rattle.std.proofs.Common.{length, sym, ap, ◌∙◌}
 use Rattle.std.specs.Ordering.{eq_by_cmp}
-use Rattle.entries.specs.Store.{overlaid}
+use Rattle.entries.specs.Overlaid.{overlaid}
 use Rattle.broadcast_core.specs.Content.{digests_of}
 use Rattle.broadcast_core.proofs.Numbering.{named_there, named_nowhere}
 use Rattle.broadcast_core.proofs.buffer.cache.Cache.list_into.Goals as goal

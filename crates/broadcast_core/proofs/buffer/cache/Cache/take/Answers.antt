@@ -2,7 +2,7 @@ use Rattle.std.proofs.Common.{OnOk, ◌≡◌, Bool, true, false, [], refl, sym,
 use Rattle.std.specs.Prelude.{is_some, not}
 use Rattle.std.specs.Cmp.{eq_by_cmp_equiv}
 use Rattle.std.specs.Ordering.{eq_by_cmp}
-use Rattle.entries.specs.Store.{same_number}
+use Rattle.entries.specs.Overlaid.{same_number}
 use Rattle.broadcast_core.specs.Content.{same_by, at_charge, fronted, items_at, outcome_of}
 use Rattle.broadcast_core.specs.declared.outcome.Outcome.TheVariants.{Inserted}
 use Rattle.broadcast_core.specs.Numbered.{named_of}

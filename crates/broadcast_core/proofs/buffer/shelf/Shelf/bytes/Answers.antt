@@ -1,4 +1,4 @@
-use Rattle.entries.specs.Store.{same_number}
+use Rattle.entries.specs.Overlaid.{same_number}
 use Rattle.std.proofs.Common.{sym, ◌∙◌}
 use Rattle.broadcast_core.specs.Indexed.{names_of}
 use Rattle.broadcast_core.proofs.Naming.{bytes-listed}

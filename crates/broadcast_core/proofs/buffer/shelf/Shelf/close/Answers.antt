@@ -1,6 +1,7 @@
 use Rattle.std.proofs.Common.{◌∙◌, [], refl, sym, ap}
 use Rattle.std.specs.Cmp.{eq_by_cmp_equiv}
-use Rattle.entries.specs.Store.{same_number, values_of, items_at}
+use Rattle.entries.specs.Overlaid.{same_number}
+use Rattle.entries.specs.Store.{values_of, items_at}
 use Rattle.entries.specs.Table.{items_of}
 use Rattle.entries.proofs.Slots.{number_laws}
 use Rattle.broadcast_core.specs.Content.{same_listed}

@@ -1,7 +1,7 @@
 use Rattle.std.proofs.Common.{refl, ap, subst, sym, ◌≤◌}
 use Rattle.entries.proofs.Slots.{number_laws}
 use Rattle.std.specs.Cmp.{eq_by_cmp_equiv}
-use Rattle.entries.specs.Store.{same_number}
+use Rattle.entries.specs.Overlaid.{same_number}
 use Rattle.std.specs.Ordering.{eq_by_cmp}
 use Rattle.entries.specs.Table.{items_of, messages_of}
 use Rattle.broadcast_core.specs.Content.{same_listed}

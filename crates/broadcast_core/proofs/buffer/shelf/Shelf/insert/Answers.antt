@@ -1,5 +1,6 @@
 use Rattle.entries.proofs.Slots.{number_laws}
-use Rattle.entries.specs.Store.{same_number, values_of, items_at as nodes_at}
+use Rattle.entries.specs.Overlaid.{same_number}
+use Rattle.entries.specs.Store.{values_of, items_at as nodes_at}
 use Rattle.entries.specs.Table.{items_of, messages_of}
 use Rattle.std.proofs.Common.{Result, Ok, Err, OnErr, Some, inl, inr, refl, ◌≡◌, ◌≤◌, ◌<◌, ◌∷◌, true, take, length, sym, ap, subst, ◌∙◌, arith}
 use Rattle.std.specs.Prelude.{is_some, ◌^◌}

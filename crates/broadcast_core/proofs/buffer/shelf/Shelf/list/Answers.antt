@@ -1,6 +1,7 @@
 use Rattle.std.proofs.Common.{◌∙◌, ◌++◌, length, sym, ap, arith, append-nil}
 use Rattle.std.proofs.lemmas.List.{nil_from_length}
-use Rattle.entries.specs.Store.{same_number, digests_of}
+use Rattle.entries.specs.Overlaid.{same_number}
+use Rattle.entries.specs.Store.{digests_of}
 use Rattle.broadcast_core.specs.Indexed.{names_of, named_lists}
 use Rattle.broadcast_core.proofs.Placing.{items_at-digests}
 use Rattle.broadcast_core.proofs.Naming.{names_at, listed-named, length-listed}

@@ -1,7 +1,8 @@
 use Rattle.std.proofs.Common.{◌≡◌, ◌∙◌, Option, Some, None, length, sym, ap, arith, ℕ}
 use Rattle.std.specs.Option.{option_map}
 use Rattle.entries.specs.Placed.{Placed}
-use Rattle.entries.specs.Store.{same_number, items_at, digests_of, overlaid}
+use Rattle.entries.specs.Overlaid.{same_number, overlaid}
+use Rattle.entries.specs.Store.{items_at, digests_of}
 use Rattle.entries.proofs.Overlaying.{length-overlaid, overlaid-next, drop-next, overlaid-all, overlaid-full}
 use Rattle.broadcast_core.specs.Carried.{Carried}
 use Rattle.broadcast_core.specs.Indexed.{names_of}

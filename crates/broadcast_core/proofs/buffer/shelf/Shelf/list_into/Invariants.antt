@@ -1,5 +1,6 @@
 use Rattle.std.proofs.Common.{◌≡◌, length, take, drop}
-use Rattle.entries.specs.Store.{same_number, items_at, digests_of, overlaid}
+use Rattle.entries.specs.Overlaid.{same_number, overlaid}
+use Rattle.entries.specs.Store.{items_at, digests_of}
 use Rattle.broadcast_core.specs.Indexed.{names_of}
 use Rattle.broadcast_core.proofs.Naming.{names_at}
 use Rattle.broadcast_core.proofs.buffer.shelf.Shelf.list_into.Given as goal

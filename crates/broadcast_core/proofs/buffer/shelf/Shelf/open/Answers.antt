@@ -6,7 +6,8 @@ use Rattle.std.proofs.lemmas.Map.Made.{lookup-map_values}
 use Rattle.entries.specs.declared.entry.Charged.{Charged}
 use Rattle.entries.specs.Linked.{Node}
 use Rattle.std.specs.Cmp.{IsTotalOrder, eq_by_cmp_equiv}
-use Rattle.entries.specs.Store.{same_number, values_of, items_at, Listed, Puts}
+use Rattle.entries.specs.Overlaid.{same_number}
+use Rattle.entries.specs.Store.{values_of, items_at, Listed, Puts}
 use Rattle.entries.proofs.Slots.{number_laws}
 use Rattle.entries.specs.Table.{Tabled, items_of}
 use Rattle.broadcast_core.specs.Carried.{Carried}
