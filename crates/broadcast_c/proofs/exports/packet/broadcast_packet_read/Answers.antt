@@ -1,10 +1,9 @@
-use Rattle.std.proofs.Common.{◌≡◌, ℕ, ◌+◌, ◌<◌, ◌≤◌, List, length, Result, Ok, Err, refl, sym, subst, arith}
+use Rattle.std.proofs.Common.{◌≡◌, ℕ, ◌+◌, ◌<◌, ◌≤◌, List, length, Result, Ok, refl, sym, subst, arith}
 use Rattle.broadcast_core.specs.declared.codec.CodecError.{CodecError}
-use Rattle.broadcast_core.specs.declared.codec.CodecError.TheVariants.{ExtraData}
 use Rattle.broadcast_core.specs.declared.codec.RangeCfg.{RangeCfg}
 use Rattle.broadcast_core.specs.ByteList.{read_list}
 use Rattle.broadcast_c.specs.Packets.{ReportsReading}
-use Rattle.broadcast_c.proofs.Reading.{front, is_whole, is_followed, is_err}
+use Rattle.broadcast_c.proofs.Reading.{front, is_whole, is_followed}
 use Rattle.broadcast_c.proofs.exports.packet.broadcast_packet_read.Goals as goal
 
 pub returns-else-rest-gt0 : goal.returns-else-rest-gt0

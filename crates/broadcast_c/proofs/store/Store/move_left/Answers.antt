@@ -1,6 +1,5 @@
-use Rattle.std.proofs.Common.{◌≡◌, ◌+◌, ◌-◌, ◌≤◌, ◌<◌, ℕ, List, [], ◌∷◌, ◌++◌, length, map, reverse, take, drop, refl, sym, ap, ◌∙◌, arith, length-append}
+use Rattle.std.proofs.Common.{◌≡◌, ◌≤◌, ℕ, List, [], ◌∷◌, ◌++◌, length, map, reverse, take, drop, refl, sym, ap, ◌∙◌, arith, length-append}
 use Rattle.std.proofs.lemmas.List.{append-nil, reverse-append, length-drop, nil_from_length}
-use Rattle.entries.specs.Overlaid.{overlaid}
 use Rattle.entries.proofs.Overlaying.{length-overlaid, overlaid-next, drop-next, overlaid-all, overlaid-full}
 use Rattle.broadcast_core.specs.Carried.{Carried}
 use Rattle.broadcast_c.specs.declared.store.held.Held.{Held}
