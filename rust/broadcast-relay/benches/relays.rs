@@ -1,4 +1,5 @@
-//! Lines through relays over TLS on loopback, as fast as they may, and at a rate. `RELAY_BINARY` names another relay to be measured.
+//! Lines through relays over TLS on loopback, as fast as they may, and at a rate. `RELAY_BINARY` names another relay to be measured, and
+//! words name the rows that are wanted.
 
 #[path = "../tests/support/mod.rs"]
 mod support;
@@ -86,6 +87,12 @@ struct Load {
 type Written = HashMap<String, Instant>;
 
 impl Load {
+    fn name(self) -> String {
+        let Load { shape, count, authors, rate, .. } = self;
+        let rate = rate.map(|it| format!(" {it} a second")).unwrap_or_default();
+        format!("{} of {count}, {authors} type{rate}", shape.name())
+    }
+
     /// Writes an author's lines.
     fn write(self, author: usize, begin: Instant, mut input: ChildStdin) -> Written {
         let filler = "x".repeat(if self.rate.is_some() { 190 } else { SIZE - 10 });
@@ -106,7 +113,7 @@ impl Load {
 
     /// Runs it until all lines are printed everywhere, and prints a row of the table.
     fn run(self) {
-        let Load { shape, count, authors, lines, rate } = self;
+        let Load { shape, count, authors, lines, .. } = self;
         let mut relays = start(shape, count);
         let inputs: Vec<_> = relays[..authors].iter_mut().map(Relay::take_input).collect();
         let (begin, before) = (Instant::now(), processor(&relays));
@@ -123,9 +130,8 @@ impl Load {
         let mut ages: Vec<Duration> = printed.iter().map(|it| age(it, &written)).collect();
         ages.sort();
         println!(
-            "| {} of {count}, {authors} type{} | {:.0} | {:.0} | {:.1} | {:.0} | {:.0} | {:.3} | {} |",
-            shape.name(),
-            rate.map(|it| format!(" {it} a second")).unwrap_or_default(),
+            "| {} | {:.0} | {:.0} | {:.1} | {:.0} | {:.0} | {:.3} | {} |",
+            self.name(),
             (lines * authors) as f64 / took.as_secs_f64(),
             printed.len() as f64 / took.as_secs_f64(),
             spent * 1e6 / printed.len() as f64,
@@ -159,17 +165,18 @@ fn main() {
         (Shape::Ring, &[4, 8, 16]),
         (Shape::Row, &[3, 4, 8, 16]),
     ];
-    for (shape, counts) in sizes {
-        for &count in counts {
-            let lines = DELIVERIES / (count * (count - 1));
-            Load { shape, count, authors: count, lines, rate: None }.run();
-        }
-    }
-    for (shape, count, authors, lines, rate) in [
-        (Shape::Row, 3, 1, DELIVERIES / 2, None),
-        (Shape::Mesh, 8, 8, 500, Some(50)),
-        (Shape::Row, 3, 1, 2_000, Some(500)),
-    ] {
-        Load { shape, count, authors, lines, rate }.run();
-    }
+    let sizes =
+        sizes.into_iter().flat_map(|(shape, counts)| counts.iter().map(move |it| (shape, *it)));
+    let all = sizes.map(|(shape, count)| {
+        let lines = DELIVERIES / (count * (count - 1));
+        Load { shape, count, authors: count, lines, rate: None }
+    });
+    let others = [
+        Load { shape: Shape::Row, count: 3, authors: 1, lines: DELIVERIES / 2, rate: None },
+        Load { shape: Shape::Mesh, count: 8, authors: 8, lines: 500, rate: Some(50) },
+        Load { shape: Shape::Row, count: 3, authors: 1, lines: 2_000, rate: Some(500) },
+    ];
+    let wanted: Vec<String> = std::env::args().skip(1).filter(|it| it != "--bench").collect();
+    let is_wanted = |it: &Load| wanted.is_empty() || wanted.contains(&it.name());
+    all.chain(others).filter(is_wanted).for_each(Load::run);
 }
