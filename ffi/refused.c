@@ -48,6 +48,7 @@ enum { KEYS = 3, DIGESTS = 6, LISTED = 2, CALLS = 60, BUDGET = 10000 };
 static broadcast_name keys[KEYS];
 static uint8_t digests[DIGESTS][32];
 static broadcast_store store;
+static size_t entered;
 
 typedef struct {
     broadcast_counts counts;
@@ -79,7 +80,7 @@ static void look(store_state *to)
 static uint32_t call(int at)
 {
     static const uint64_t gone[] = {4, 8, 11};
-    static const broadcast_stored unset = {9, true, 9, 9};
+    static const broadcast_stored unset = {9, true, 9, 9, 9};
     const broadcast_name *key = &keys[at % KEYS];
     const uint8_t *digest = digests[at * 5 % 7 % DIGESTS];
     broadcast_stored stored = unset;
@@ -95,19 +96,35 @@ static uint32_t call(int at)
     case 5:
         status = broadcast_store_take(&store, key, digest, at * 7, at, &stored);
         must(status == BROADCAST_OK || !memcmp(&stored, &unset, sizeof stored));
+        entered += status == BROADCAST_OK && stored.kept;
         return status;
     case 3:
         status = broadcast_store_receive(&store, key, digest, at, at, &counters, &stored);
         must((counters.inserted + counters.duplicate + counters.ineligible == 1) ==
              (status == BROADCAST_OK));
+        entered += status == BROADCAST_OK && stored.kept;
         return status;
     default: return broadcast_store_cleanup(&store, gone, 3, &removed);
     }
 }
 
+/* Moves out the handles of all messages that left, one by one. Returns how many there were. */
+static size_t move_all(void)
+{
+    uint64_t handle;
+    size_t moved, all = 0;
+    do {
+        must(broadcast_store_left(&store, &handle, 1, &moved) == BROADCAST_OK);
+        all += moved;
+    } while (moved);
+    return all;
+}
+
+/* Each message that entered is cached, or left once. */
 static void run(void)
 {
     static store_state before, after;
+    entered = 0;
     uint32_t status = broadcast_store_new(&store, &keys[0], LISTED, BUDGET);
     must(status == BROADCAST_OK || (status == BROADCAST_MEMORY && !store.full));
     refusals += status == BROADCAST_MEMORY;
@@ -122,6 +139,8 @@ static void run(void)
             must(!memcmp(&before, &after, sizeof before));
         }
     }
+    if (store.full)
+        must(move_all() + after.counts.cached == entered);
     broadcast_store_free(&store);
 }
 
