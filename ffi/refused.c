@@ -51,7 +51,7 @@ static broadcast_store store;
 
 typedef struct {
     broadcast_counts counts;
-    uint64_t served[CALLS], handles[DIGESTS];
+    uint64_t served[CALLS], handles[DIGESTS], charged[KEYS];
     size_t served_len, lengths[KEYS];
     uint8_t lists[KEYS][LISTED][32];
     uint32_t found[DIGESTS];
@@ -69,6 +69,7 @@ static void look(store_state *to)
         must(broadcast_store_list(&store, &keys[i], to->lists[i][0], LISTED, &to->lengths[i]) ==
              BROADCAST_OK);
         must(broadcast_store_is_primary(&store, &keys[i], &to->are_primary[i]) == BROADCAST_OK);
+        must(broadcast_store_bytes(&store, &keys[i], &to->charged[i]) == BROADCAST_OK);
     }
     for (int i = 0; i < DIGESTS; i++)
         to->found[i] = broadcast_store_get(&store, digests[i], &to->handles[i]);
@@ -79,7 +80,7 @@ static void look(store_state *to)
 static uint32_t call(int at)
 {
     static const uint64_t gone[] = {4, 8, 11};
-    static const broadcast_stored unset = {9, true, 9, 9};
+    static const broadcast_stored unset = {9, true, 9, 9, 9};
     const broadcast_name *key = &keys[at % KEYS];
     const uint8_t *digest = digests[at * 5 % 7 % DIGESTS];
     broadcast_stored stored = unset;
