@@ -173,6 +173,8 @@ uint32_t broadcast_store_cleanup_of(broadcast_store *store, const uint8_t digest
                                     uint64_t *removed);
 /* Sets `out` to whether the key is primary. */
 uint32_t broadcast_store_is_primary(broadcast_store *store, const broadcast_name *peer, bool *out);
+/* Sets `out` to what the list of `peer` is charged, at most the byte budget. */
+uint32_t broadcast_store_bytes(broadcast_store *store, const broadcast_name *peer, uint64_t *out);
 /* Copies the digests on the list of `peer`, newest first. */
 uint32_t broadcast_store_list(broadcast_store *store, const broadcast_name *peer, uint8_t *out,
                               size_t out_len, size_t *needed);

@@ -52,7 +52,7 @@ static size_t entered;
 
 typedef struct {
     broadcast_counts counts;
-    uint64_t served[CALLS], handles[DIGESTS];
+    uint64_t served[CALLS], handles[DIGESTS], charged[KEYS];
     size_t served_len, lengths[KEYS];
     uint8_t lists[KEYS][LISTED][32];
     uint32_t found[DIGESTS];
@@ -70,6 +70,7 @@ static void look(store_state *to)
         must(broadcast_store_list(&store, &keys[i], to->lists[i][0], LISTED, &to->lengths[i]) ==
              BROADCAST_OK);
         must(broadcast_store_is_primary(&store, &keys[i], &to->are_primary[i]) == BROADCAST_OK);
+        must(broadcast_store_bytes(&store, &keys[i], &to->charged[i]) == BROADCAST_OK);
     }
     for (int i = 0; i < DIGESTS; i++)
         to->found[i] = broadcast_store_get(&store, digests[i], &to->handles[i]);

@@ -94,7 +94,10 @@ static void evicts(void)
     broadcast_stored stored;
     uint8_t list[4][32] = {{0}};
     size_t needed = 0;
+    uint64_t charged = 9;
     must(broadcast_store_peers(&store, &peer, 1) == BROADCAST_OK);
+    must(broadcast_store_bytes(&store, &peer, &charged) == BROADCAST_OK && charged == 50);
+    must(broadcast_store_bytes(&store, &own, &charged) == BROADCAST_OK && charged == 0);
     must(take(&peer, other, 50, 705).cached == 2);
     must(left_are(0, 9, 9));
     stored = take(&peer, third, 50, 706);

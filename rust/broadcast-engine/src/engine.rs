@@ -332,7 +332,7 @@ impl<P: Id, M: Message, D: Provider<PublicKey = P>, T: Strategy> Engine<P, M, D,
         if let Held::Cached(message) = taken.message {
             self.feeds.retain(|it| it.add(message));
         }
-        for (digest, _) in self.cache.evicted() {
+        for (digest, _) in taken.evicted {
             trace!(%digest, "evicted");
         }
         Ok(outcome)

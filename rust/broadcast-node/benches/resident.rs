@@ -11,10 +11,10 @@ const LARGE: usize = 1 << 20;
 const MANY: usize = 3_900;
 
 /// The resident memory of this process, in bytes.
-fn resident() -> usize {
+fn resident() -> u64 {
     let status = read_to_string("/proc/self/status").unwrap();
     let line = status.lines().find_map(|it| it.strip_prefix("VmRSS:")).unwrap();
-    line.trim().trim_end_matches(" kB").parse::<usize>().unwrap() << 10
+    line.trim().trim_end_matches(" kB").parse::<u64>().unwrap() << 10
 }
 
 /// The encoding of a message of so many bytes, which begin with its number.
@@ -25,10 +25,10 @@ fn payload(n: usize, len: usize) -> Vec<u8> {
     payload
 }
 
-fn show(node: &Node<Vec<u8>>, before: usize, what: &str) {
-    let charged = node.bytes();
+fn show(node: &Node<Vec<u8>>, before: u64, what: &str) {
+    let charged: u64 = node.primary_peers().iter().map(|it| node.bytes_of(it)).sum();
     let kept = resident().saturating_sub(before);
-    let aim = charged + charged / 5 + 400 * node.len();
+    let aim = charged + charged / 5 + 400 * node.len() as u64;
     let of_aim = kept as f64 / aim as f64;
     let messages = node.len();
     println!("{what} | {messages} | {charged} | {kept} | {aim} | {of_aim:.2}");
@@ -51,7 +51,5 @@ fn main() -> Result<(), Error> {
         let _ = node.payload(attacker, payload(n, LARGE))?;
     }
     show(&node, before, "the attack");
-    node.update_primary_peers(&[*attacker])?;
-    show(&node, before, "the others left");
     Ok(())
 }

@@ -16,8 +16,8 @@ pub struct Stored {
     pub is_kept: bool,
     /// The number of tickets that waited for the message.
     pub served: usize,
-    /// The number of cached messages.
-    pub cached: usize,
+    /// The number of messages that left the cache, whose numbers were not moved out.
+    pub left: usize,
 }
 
 /// A cache that knows each message by its digest, its charge and a number.
@@ -108,6 +108,12 @@ impl Backend {
         each!(self, it => it.served(room))
     }
 
+    /// Moves the numbers of messages that left the cache to the front of the room, the newest first. Returns how many.
+    #[inline]
+    pub fn left(&mut self, room: &mut [u64]) -> usize {
+        each!(mut self, it => it.left(room))
+    }
+
     /// Lets a ticket wait. Returns false if the message is cached.
     pub fn subscribe(&mut self, ticket: u64, digest: &Digest) -> Result<bool, Error> {
         each!(mut self, it => it.subscribe(ticket, digest))
@@ -136,6 +142,11 @@ impl Backend {
     /// Writes the list of a peer. Returns its length, and whether there was room.
     pub fn list(&self, peer: &Key, out: &mut [Digest]) -> Result<(usize, bool), Error> {
         each!(self, it => it.list(peer, out))
+    }
+
+    /// Returns what the list of a peer is charged.
+    pub fn bytes(&self, peer: &Key) -> u64 {
+        each!(self, it => it.bytes(peer))
     }
 
     /// Returns how many messages are cached, and how many digests are awaited.

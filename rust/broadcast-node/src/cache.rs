@@ -1,7 +1,7 @@
 //! The cache.
 
 use crate::backend::{Backend, Stored};
-use crate::slots::Slots;
+use crate::slots::{Slot, Slots};
 use crate::taken::{Evicted, Held, Subscribed, Taken};
 use crate::tickets::Tickets;
 use crate::{Counters, Counts, Digest, Error, Key, Refused, Ticket};
@@ -16,7 +16,7 @@ use std::marker::PhantomData;
 /// `Bytes` is not copied.
 ///
 /// ```
-/// use broadcast_node::{Cache, Digest, Key, Outcome, Subscribed};
+/// use broadcast_node::{Cache, Digest, Key, Outcome, Subscribed, Taken};
 /// use std::sync::Arc;
 ///
 /// # fn main() -> Result<(), broadcast_node::Error> {
@@ -28,10 +28,9 @@ use std::marker::PhantomData;
 /// let Subscribed::Waiting(ticket) = cache.subscribe(&digest)? else { panic!("it is cached") };
 ///
 /// let message: Arc<str> = "hello".into();
-/// let taken = cache.take(&peer, &digest, 5, message)?;
-/// assert_eq!(taken.outcome, Outcome::Inserted);
-/// assert_eq!(taken.served, [ticket]);
-/// assert_eq!(&**taken.message, "hello");
+/// let Taken { outcome, served, message, .. } = cache.take(&peer, &digest, 5, message)?;
+/// assert_eq!(outcome, Outcome::Inserted);
+/// assert_eq!((served, &**message), (&[ticket][..], "hello"));
 /// assert_eq!(cache.get(&digest).map(|it| &**it), Some("hello"));
 /// assert_eq!(cache.list(&peer)?, [digest]);
 /// # Ok(())
@@ -115,7 +114,8 @@ impl<M> Cache<M> {
         primary.dedup();
         self.backend.peers(&primary)?;
         self.primary = primary;
-        Ok(self.settled(self.len()))
+        let left = self.slots.release_all(|room| self.backend.left(room))?;
+        Ok(self.slots.evicted(left))
     }
 
     /// Returns the primary keys, in order and without repeats.
@@ -129,12 +129,25 @@ impl<M> Cache<M> {
     }
 
     /// Takes a message under the key `peer` and the digest, at this charge. The cache compares neither with the message.
-    /// Serves all tickets that wait for the digest, whatever the outcome is. Messages that leave the cache are dropped by
-    /// [`Cache::evicted`], or else when the next message comes.
+    /// Serves all tickets that wait for the digest, whatever the outcome is. The result has the messages that leave the
+    /// cache, and drops those that the caller does not ask for.
     ///
     /// # Errors
     ///
     /// [`Error::Memory`], with the message.
+    ///
+    /// ```
+    /// # use broadcast_node::{Cache, Digest, Key};
+    /// # fn main() -> Result<(), broadcast_node::Error> {
+    /// let own = Key::from([1; 32]);
+    /// let mut cache = Cache::new(own, 1, u64::MAX)?; // lists of one digest
+    /// cache.update_primary_peers(&[own])?;
+    /// let _ = cache.take(&own, &Digest::new([7; 32]), 3, "old")?;
+    /// let mut taken = cache.take(&own, &Digest::new([8; 32]), 3, "new")?;
+    /// assert_eq!(taken.evicted.next(), Some((Digest::new([7; 32]), "old")));
+    /// # Ok(())
+    /// # }
+    /// ```
     pub fn take(
         &mut self,
         peer: &Key,
@@ -142,12 +155,9 @@ impl<M> Cache<M> {
         charge: usize,
         message: M,
     ) -> Result<Taken<'_, M>, Refused<M>> {
-        let taken = self.slots.vacant();
-        let stored = taken.and_then(|number| {
-            let stored = self.backend.take(peer, digest, charge, number)?;
-            Ok((stored, number))
-        });
-        self.keep(digest, charge, message, stored)
+        let number = self.slots.vacant();
+        let stored = number.and_then(|it| self.backend.take(peer, digest, charge, it));
+        self.keep(Slot { digest: *digest, charge, message }, stored)
     }
 
     /// Takes a message as `take` does, and counts its outcome.
@@ -159,42 +169,34 @@ impl<M> Cache<M> {
         message: M,
         counters: &mut Counters,
     ) -> Result<Taken<'_, M>, Refused<M>> {
-        let taken = self.slots.vacant();
-        let stored = taken.and_then(|number| {
-            let stored = self.backend.receive(peer, digest, charge, number, counters)?;
-            Ok((stored, number))
-        });
-        self.keep(digest, charge, message, stored)
+        let number = self.slots.vacant();
+        let stored = number.and_then(|it| self.backend.receive(peer, digest, charge, it, counters));
+        self.keep(Slot { digest: *digest, charge, message }, stored)
     }
 
-    /// Keeps the message if the library does. Drops no message: a drop that panics would lose the replies.
+    /// Keeps the message if the backend does. Drops no message: a drop that panics would lose the replies.
     #[inline(always)] // Else a take costs two percent more.
     fn keep(
         &mut self,
-        digest: &Digest,
-        charge: usize,
-        message: M,
-        stored: Result<(Stored, u64), Error>,
+        slot: Slot<M>,
+        stored: Result<Stored, Error>,
     ) -> Result<Taken<'_, M>, Refused<M>> {
-        let served = stored.and_then(|(stored, number)| {
-            self.tickets.serve(stored.served, |room| self.backend.served(room))?;
-            Ok((stored, number))
+        let reported = stored.and_then(|it| {
+            self.tickets.serve(it.served, |room| self.backend.served(room))?;
+            let left = self.slots.release(it.left, |room| self.backend.left(room))?;
+            Ok((it, left))
         });
-        let (stored, number) = match served {
+        let (Stored { outcome, is_kept, .. }, left) = match reported {
             Ok(it) => it,
-            Err(error) => return Err(Refused { error, message }),
+            Err(error) => return Err(Refused { error, message: slot.message }),
         };
-        let backend = &self.backend;
-        let is_cached = |digest: &Digest, number| backend.get(digest) == Some(number);
-        let message = if stored.is_kept {
-            self.slots.put(*digest, charge, message);
-            self.slots.settle(stored.cached, is_cached);
-            Held::Cached(self.slots.get(number).expect("it was put there"))
+        let (message, evicted) = if is_kept {
+            let (message, evicted) = self.slots.put(slot, left);
+            (Held::Cached(message), evicted)
         } else {
-            self.slots.settle(stored.cached, is_cached);
-            Held::Returned(message)
+            (Held::Returned(slot.message), self.slots.evicted(left))
         };
-        Ok(Taken { outcome: stored.outcome, served: self.tickets.served(), message })
+        Ok(Taken { outcome, served: self.tickets.served(), message, evicted })
     }
 
     /// Takes a message under the own key, as [`Cache::take`] does.
@@ -227,24 +229,6 @@ impl<M> Cache<M> {
         self.get(digest).map(Subscribed::Cached).ok_or(Error::Status(0))
     }
 
-    /// Removes and returns the messages that left the cache with the last message taken.
-    ///
-    /// ```
-    /// # use broadcast_node::{Cache, Digest, Key};
-    /// # fn main() -> Result<(), broadcast_node::Error> {
-    /// let own = Key::from([1; 32]);
-    /// let mut cache = Cache::new(own, 1, u64::MAX)?; // lists of one digest
-    /// cache.update_primary_peers(&[own])?;
-    /// let _ = cache.take_own(&Digest::new([7; 32]), 1 << 20, "old")?;
-    /// let _ = cache.take_own(&Digest::new([8; 32]), 1 << 20, "new")?;
-    /// assert_eq!(cache.evicted().next(), Some((Digest::new([7; 32]), "old")));
-    /// # Ok(())
-    /// # }
-    /// ```
-    pub fn evicted(&mut self) -> Evicted<'_, M> {
-        Evicted(&mut self.slots)
-    }
-
     /// Returns the cached messages with their digests, in any order.
     pub fn iter(&self) -> impl Iterator<Item = (&Digest, &M)> {
         self.charged().map(|(digest, _, message)| (digest, message))
@@ -252,12 +236,12 @@ impl<M> Cache<M> {
 
     /// Returns them with what they were charged, too.
     pub(crate) fn charged(&self) -> impl Iterator<Item = (&Digest, usize, &M)> {
-        self.slots.iter(|digest, number| self.backend.get(digest) == Some(number))
+        self.slots.iter().map(|it| (&it.digest, it.charge, &it.message))
     }
 
     /// Returns the cached message of the digest.
     pub fn get(&self, digest: &Digest) -> Option<&M> {
-        self.slots.get(self.backend.get(digest)?)
+        Some(&self.slots.get(self.backend.get(digest)?)?.message)
     }
 
     /// Returns whether a message of the digest is cached.
@@ -380,15 +364,13 @@ impl<M> Cache<M> {
     }
 
     /// Returns the sum of what the cached messages were charged when they came, each once.
-    pub fn bytes(&self) -> usize {
-        self.slots.bytes(|digest, number| self.backend.get(digest) == Some(number))
+    pub fn bytes(&self) -> u64 {
+        u64::try_from(self.slots.bytes()).unwrap_or(u64::MAX)
     }
 
-    /// Finds messages that the library dropped.
-    fn settled(&mut self, cached: usize) -> Evicted<'_, M> {
-        let backend = &self.backend;
-        self.slots.settle(cached, |digest, number| backend.get(digest) == Some(number));
-        Evicted(&mut self.slots)
+    /// Returns the sum of what the list of `peer` is charged.
+    pub fn bytes_of(&self, peer: &Key) -> u64 {
+        self.backend.bytes(peer)
     }
 }
 

@@ -12,7 +12,8 @@ pub use wire::Invalid;
 
 use crate::backend::Counted;
 use crate::{
-    Cache, Counts, Digest, Error, Evicted, Key, Outcome, Refused, Snapshot, Subscribed, Ticket,
+    Cache, Counts, Digest, Error, Evicted, Key, Outcome, Refused, Snapshot, Subscribed, Taken,
+    Ticket,
 };
 use books::Books;
 use std::fmt;
@@ -41,6 +42,7 @@ use std::fmt;
 /// assert_eq!(message.outcome, Outcome::Inserted);
 /// assert_eq!(message.served, [ticket]); // .. are replied to with the message:
 /// assert_eq!(message.bytes(), b"hello");
+/// drop(message); // and what left the cache
 /// assert_eq!(receiver.get(&digest), Some(&b"hello"[..]));
 ///
 /// let garbage: Arc<[u8]> = Arc::from(&b"garbage"[..]);
@@ -144,8 +146,8 @@ impl<B: AsRef<[u8]>> Node<B> {
     {
         let charge = payload.len();
         let taken = self.cache.take_own(&digest, charge, B::from(payload))?;
-        let (outcome, served) = (taken.outcome, taken.served);
-        Ok(Broadcast { recipients, digest, outcome, served, payload: taken.message })
+        let Taken { outcome, served, message: payload, evicted } = taken;
+        Ok(Broadcast { recipients, digest, outcome, served, payload, evicted })
     }
 
     /// Decodes the bytes that the peer sent, and takes the message under its key and the SHA-256 of its
@@ -218,8 +220,8 @@ impl<B: AsRef<[u8]>> Node<B> {
         }
         let digest = digest(message);
         let taken = self.cache.receive(peer, &digest, charge, payload, counters)?;
-        let (outcome, served) = (taken.outcome, taken.served);
-        Ok(Received::Taken(Message { digest, outcome, served, payload: taken.message }))
+        let Taken { outcome, served, message: payload, evicted } = taken;
+        Ok(Received::Taken(Message { digest, outcome, served, payload, evicted }))
     }
 
     /// Returns the cached message of the digest, or a ticket that waits for it.
@@ -232,12 +234,6 @@ impl<B: AsRef<[u8]>> Node<B> {
             Subscribed::Cached(payload) => Subscribed::Cached(wire::message_of(payload.as_ref())),
             Subscribed::Waiting(ticket) => Subscribed::Waiting(ticket),
         })
-    }
-
-    /// Removes and returns the payloads of the messages that left the cache with the last message taken, as
-    /// [`Cache::evicted`] does.
-    pub fn evicted(&mut self) -> Evicted<'_, B> {
-        self.cache.evicted()
     }
 
     /// Returns the payloads of the cached messages with their digests, in any order.
@@ -299,9 +295,14 @@ impl<B: AsRef<[u8]>> Node<B> {
         self.books.others()
     }
 
-    /// Returns the sum of the lengths of the cached payloads.
-    pub fn bytes(&self) -> usize {
+    /// Returns the sum of the lengths of the cached payloads, each once.
+    pub fn bytes(&self) -> u64 {
         self.cache.bytes()
+    }
+
+    /// Returns what the list of `peer` is charged: the sum of the lengths of its payloads.
+    pub fn bytes_of(&self, peer: &Key) -> u64 {
+        self.cache.bytes_of(peer)
     }
 
     /// Returns how many messages are cached.

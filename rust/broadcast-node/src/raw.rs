@@ -114,6 +114,12 @@ unsafe extern "C" {
         len: usize,
         needed: &mut usize,
     ) -> u32;
+    fn broadcast_store_left(
+        store: &mut StoreHandle,
+        out: *mut u64,
+        len: usize,
+        moved: &mut usize,
+    ) -> u32;
     fn broadcast_store_get(store: &mut StoreHandle, digest: &Digest, handle: &mut u64) -> u32;
     fn broadcast_store_subscribe(store: &mut StoreHandle, ticket: u64, digest: &Digest) -> u32;
     fn broadcast_store_cleanup(
@@ -130,6 +136,7 @@ unsafe extern "C" {
         removed: &mut u64,
     ) -> u32;
     fn broadcast_store_is_primary(store: &mut StoreHandle, peer: &Key, out: &mut bool) -> u32;
+    fn broadcast_store_bytes(store: &mut StoreHandle, peer: &Key, out: &mut u64) -> u32;
     fn broadcast_store_list(
         store: &mut StoreHandle,
         peer: &Key,

@@ -1,55 +1,41 @@
-//! The messages of a cache, which the library knows by numbers.
-//!
-//! The library does not report which messages it dropped, but how many are cached. So [`Slots::settle`] asks for
-//! single messages whether they are still cached, the oldest first, while there are half as many dead ones as live
-//! ones, or while the messages are charged more than twice what the live ones were.
+//! The messages of a cache, each at the place that is its number. The backend knows a message by this number, and tells
+//! which messages left.
 
+use crate::taken::Evicted;
 use crate::{Digest, Error};
-use std::collections::VecDeque;
 
-/// A message, and what it was charged.
-struct Slot<M> {
-    digest: Digest,
-    charge: usize,
-    message: M,
+/// A message, and what it was charged when it came.
+pub struct Slot<M> {
+    pub digest: Digest,
+    pub charge: usize,
+    pub message: M,
 }
 
-/// The messages, each at the place that is its number.
+/// The messages, and the places that have none.
 pub struct Slots<M> {
     places: Vec<Option<Slot<M>>>,
-    /// The places whose message is not cached. The last `left` ones still have a message, which left the cache.
-    free: Vec<usize>,
-    left: usize,
-    /// The places of the other messages. The front was checked the longest time ago.
-    order: VecDeque<usize>,
-    /// The sum of the charges of those messages, and the sum above which all are checked.
-    bytes: usize,
-    bound: usize,
+    /// The numbers of the free places, with room for those of all places.
+    free: Vec<u64>,
+    /// The sum of the charges.
+    bytes: u128,
 }
 
-/// The sum of the charges below which not all messages are checked.
-const SLACK: usize = 1 << 16;
 /// The most places that an empty cache keeps.
 const SPARE: usize = 1_024;
 
 impl<M> Slots<M> {
     pub const fn new() -> Slots<M> {
-        Slots {
-            places: Vec::new(),
-            free: Vec::new(),
-            left: 0,
-            order: VecDeque::new(),
-            bytes: 0,
-            bound: SLACK,
-        }
+        Slots { places: Vec::new(), free: Vec::new(), bytes: 0 }
     }
 
     /// Makes room for one more message. Returns its number.
     #[inline]
     pub fn vacant(&mut self) -> Result<u64, Error> {
-        while self.next_left().is_some() {}
+        if self.places.len() > SPARE && self.free.len() == self.places.len() {
+            *self = Slots::new();
+        }
         match self.free.last() {
-            Some(place) => Ok(*place as u64),
+            Some(number) => Ok(*number),
             None => self.grow(),
         }
     }
@@ -57,114 +43,76 @@ impl<M> Slots<M> {
     /// Adds a free place to those that are all taken. Returns its number.
     #[cold]
     fn grow(&mut self) -> Result<u64, Error> {
-        let place = self.places.len();
+        let number = self.places.len() as u64;
         self.places.try_reserve(1)?;
-        // The order, and the list of free places, have room for all places.
-        self.order.try_reserve(1)?;
-        self.free.try_reserve(place + 1)?;
+        self.free.try_reserve(self.places.len() + 1)?;
         self.places.push(None);
-        self.free.push(place);
-        Ok(place as u64)
+        self.free.push(number);
+        Ok(number)
     }
 
-    /// Puts the message at the place that `vacant` returned last.
+    /// Frees the places of messages that left, at most `most`. `fill` writes their numbers, the newest first, and returns how
+    /// many they are; this returns that number. `put` or `evicted` returns the messages.
     #[inline]
-    pub fn put(&mut self, digest: Digest, charge: usize, message: M) {
-        let Some(place) = self.free.pop() else { return };
-        if let Some(slot) = self.places.get_mut(place) {
-            *slot = Some(Slot { digest, charge, message });
-            self.bytes = self.bytes.saturating_add(charge);
-            self.order.push_back(place);
+    pub fn release(
+        &mut self,
+        most: usize,
+        fill: impl FnOnce(&mut [u64]) -> usize,
+    ) -> Result<usize, Error> {
+        if most == 0 {
+            return Ok(0);
         }
+        let start = self.free.len();
+        self.free.try_reserve(most)?; // there is room already
+        self.free.resize(start + most, 0);
+        let left = fill(&mut self.free[start..]);
+        self.free.truncate(start + left);
+        for number in &self.free[start..] {
+            let slot = self.places.get(*number as usize).and_then(Option::as_ref);
+            self.bytes -= slot.map_or(0, |it| it.charge as u128);
+        }
+        Ok(left)
+    }
+
+    /// Frees the places of all messages that left, as `release` does.
+    pub fn release_all(&mut self, fill: impl FnOnce(&mut [u64]) -> usize) -> Result<usize, Error> {
+        self.release(self.places.len() - self.free.len(), fill)
+    }
+
+    /// Puts a message at the place that `vacant` returned. Returns the message, and the `left` ones whose places were freed
+    /// last.
+    #[inline]
+    pub fn put(&mut self, slot: Slot<M>, left: usize) -> (&M, Evicted<'_, M>) {
+        let start = self.free.len() - left;
+        let number = self.free.remove(start - 1) as usize;
+        self.bytes += slot.charge as u128;
+        let (before, rest) = self.places.split_at_mut(number);
+        let (place, after) = rest.split_first_mut().expect("`vacant` returned its number");
+        let message = &place.insert(slot).message;
+        (message, Evicted::new(&self.free[start - 1..], before, after))
+    }
+
+    /// Returns the `left` messages whose places were freed last.
+    #[inline]
+    pub fn evicted(&mut self, left: usize) -> Evicted<'_, M> {
+        let start = self.free.len() - left;
+        Evicted::new(&self.free[start..], &mut self.places, &mut [])
     }
 
     /// Returns the message of the number.
     #[inline]
-    pub fn get(&self, number: u64) -> Option<&M> {
-        let slot = self.places.get(usize::try_from(number).ok()?)?;
-        slot.as_ref().map(|it| &it.message)
+    pub fn get(&self, number: u64) -> Option<&Slot<M>> {
+        self.places.get(usize::try_from(number).ok()?)?.as_ref()
     }
 
-    /// Notes that the message of the place left the cache.
-    fn leave(&mut self, place: usize) {
-        let charge = self.places.get(place).and_then(Option::as_ref).map_or(0, |it| it.charge);
-        self.bytes = self.bytes.saturating_sub(charge);
-        self.free.push(place);
-        self.left += 1;
+    /// Returns the messages, in any order.
+    pub fn iter(&self) -> impl Iterator<Item = &Slot<M>> {
+        self.places.iter().flatten()
     }
 
-    /// Removes one of the messages that left the cache.
-    #[inline]
-    pub fn next_left(&mut self) -> Option<(Digest, M)> {
-        if self.left == 0 {
-            return None;
-        }
-        let place = self.free.get(self.free.len() - self.left)?;
-        self.left -= 1;
-        let slot = self.places.get_mut(*place)?.take()?;
-        Some((slot.digest, slot.message))
-    }
-
-    /// Returns how many messages left the cache, and are still here.
-    pub fn left(&self) -> usize {
-        self.left
-    }
-
-    /// Drops the messages that left the cache, and gives back the room of many if none is here any more.
-    pub fn drop_left(&mut self) {
-        while self.next_left().is_some() {}
-        if self.order.is_empty() && self.places.len() > SPARE {
-            *self = Slots::new();
-        }
-    }
-
-    /// Finds messages that left the cache, until they are few and small.
-    #[inline]
-    pub fn settle(&mut self, cached: usize, is_cached: impl Fn(&Digest, u64) -> bool) {
-        let most = cached.saturating_add(cached / 2);
-        if self.order.len() > most {
-            self.check(most, &is_cached);
-        }
-        if self.bytes > self.bound {
-            for _ in 0..self.order.len() {
-                self.check_one(&is_cached);
-            }
-            self.bound = self.bytes.saturating_mul(2).saturating_add(SLACK);
-        }
-    }
-
-    fn check(&mut self, most: usize, is_cached: &impl Fn(&Digest, u64) -> bool) {
-        while self.order.len() > most {
-            self.check_one(is_cached);
-        }
-    }
-
-    fn check_one(&mut self, is_cached: &impl Fn(&Digest, u64) -> bool) {
-        let Some(place) = self.order.pop_front() else { return };
-        let slot = self.places.get(place).and_then(Option::as_ref);
-        match slot.is_some_and(|it| is_cached(&it.digest, place as u64)) {
-            true => self.order.push_back(place),
-            false => self.leave(place),
-        }
-    }
-
-    /// Returns the cached messages, in any order.
-    pub fn iter(
-        &self,
-        is_cached: impl Fn(&Digest, u64) -> bool,
-    ) -> impl Iterator<Item = (&Digest, usize, &M)> {
-        self.cached(is_cached).map(|it| (&it.digest, it.charge, &it.message))
-    }
-
-    /// Returns the sum of the charges of the cached messages.
-    pub fn bytes(&self, is_cached: impl Fn(&Digest, u64) -> bool) -> usize {
-        self.cached(is_cached).fold(0, |sum, it| it.charge.saturating_add(sum))
-    }
-
-    fn cached(&self, is_cached: impl Fn(&Digest, u64) -> bool) -> impl Iterator<Item = &Slot<M>> {
-        let places = self.places.iter().enumerate();
-        let slots = places.filter_map(|(place, slot)| Some((place as u64, slot.as_ref()?)));
-        slots.filter(move |it| is_cached(&it.1.digest, it.0)).map(|it| it.1)
+    /// Returns the sum of the charges.
+    pub const fn bytes(&self) -> u128 {
+        self.bytes
     }
 }
 
@@ -177,12 +125,18 @@ mod tests {
         let mut slots = Slots::new();
         for number in 0..5_000 {
             assert_eq!(slots.vacant(), Ok(number));
-            slots.put(Digest::default(), 1, number);
+            let slot = Slot { digest: Digest::default(), charge: 1, message: number };
+            assert_eq!(slots.put(slot, 0).0, &number);
         }
-        slots.settle(0, |_, _| false);
-        assert_eq!(slots.left(), 5_000);
-        slots.drop_left();
-        assert_eq!((slots.places.capacity(), slots.free.capacity()), (0, 0));
+        assert_eq!((slots.iter().count(), slots.bytes()), (5_000, 5_000));
+        let all = |room: &mut [u64]| {
+            room.iter_mut().rev().zip(0..).for_each(|(it, number)| *it = number);
+            room.len()
+        };
+        assert_eq!(slots.release_all(all), Ok(5_000));
+        assert!(slots.evicted(5_000).map(|it| it.1).eq(0..5_000));
+        assert_eq!((slots.iter().count(), slots.bytes()), (0, 0));
         assert_eq!(slots.vacant(), Ok(0));
+        assert!(slots.places.capacity() < SPARE && slots.free.capacity() < SPARE);
     }
 }

@@ -1,9 +1,10 @@
 //! What calls of a cache return.
 
-use crate::slots::Slots;
+use crate::slots::Slot;
 use crate::{Digest, Outcome, Ticket};
-use std::fmt;
+use std::iter::Rev;
 use std::ops::Deref;
+use std::{fmt, slice};
 
 /// The result of taking a message.
 #[derive(Debug)]
@@ -16,6 +17,8 @@ pub struct Taken<'a, M> {
     pub served: &'a [Ticket],
     /// The message, which is the reply to them.
     pub message: Held<'a, M>,
+    /// The messages that left the cache.
+    pub evicted: Evicted<'a, M>,
 }
 
 /// A message that was taken. It derefs to the message.
@@ -39,26 +42,57 @@ impl<M> Deref for Held<'_, M> {
     }
 }
 
-/// The messages that left a cache, with their digests. Those that the caller does not ask for are dropped with it.
-pub struct Evicted<'a, M>(pub(crate) &'a mut Slots<M>);
+/// The messages that left the cache with a call, with their digests, in the order in which they left. Those that the caller
+/// does not ask for are dropped with it.
+pub struct Evicted<'a, M> {
+    /// The numbers of their places, the newest first.
+    numbers: Rev<slice::Iter<'a, u64>>,
+    /// The places in front of that of the message which came with the call, and those behind it.
+    before: &'a mut [Option<Slot<M>>],
+    after: &'a mut [Option<Slot<M>>],
+}
+
+impl<'a, M> Evicted<'a, M> {
+    pub(crate) fn new(
+        numbers: &'a [u64],
+        before: &'a mut [Option<Slot<M>>],
+        after: &'a mut [Option<Slot<M>>],
+    ) -> Evicted<'a, M> {
+        Evicted { numbers: numbers.iter().rev(), before, after }
+    }
+}
 
 impl<M> Iterator for Evicted<'_, M> {
     type Item = (Digest, M);
 
     fn next(&mut self) -> Option<(Digest, M)> {
-        self.0.next_left()
+        let number = *self.numbers.next()? as usize;
+        let place = match number.checked_sub(self.before.len() + 1) {
+            None => self.before.get_mut(number),
+            Some(number) => self.after.get_mut(number),
+        };
+        let slot = place?.take()?;
+        Some((slot.digest, slot.message))
     }
 
     fn size_hint(&self) -> (usize, Option<usize>) {
-        (self.0.left(), Some(self.0.left()))
+        self.numbers.size_hint()
     }
 }
 
 impl<M> ExactSizeIterator for Evicted<'_, M> {}
 
 impl<M> Drop for Evicted<'_, M> {
+    /// Drops all messages, also if the drop of one panics.
     fn drop(&mut self) {
-        self.0.drop_left();
+        struct Rest<'a, 'b, M>(&'a mut Evicted<'b, M>);
+        impl<M> Drop for Rest<'_, '_, M> {
+            fn drop(&mut self) {
+                while self.0.next().is_some() {}
+            }
+        }
+        let rest = Rest(self);
+        while rest.0.next().is_some() {}
     }
 }
 

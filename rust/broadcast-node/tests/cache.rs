@@ -16,6 +16,7 @@ struct Seen {
     ineligible: u64,
     oversize: u64,
     returned: u64,
+    evicted: u64,
     served: u64,
     cached: u64,
     waiting: u64,
@@ -25,6 +26,17 @@ struct Seen {
     cancelled: u64,
     not_cancelled: u64,
     strange: u64,
+}
+
+fn sorted(messages: impl IntoIterator<Item = (Digest, Rc<u64>)>) -> Vec<(Digest, Rc<u64>)> {
+    let mut sorted: Vec<_> = messages.into_iter().collect();
+    sorted.sort();
+    sorted
+}
+
+/// The messages that the model had before, and has no more.
+fn left(before: Vec<(Digest, Rc<u64>)>, model: &Model<Rc<u64>, Ticket>) -> Vec<(Digest, Rc<u64>)> {
+    sorted(before.into_iter().filter(|it| model.get(&it.0).is_none()))
 }
 
 /// The cache and the model, both of which share the messages: so their counts show which the cache has.
@@ -54,8 +66,10 @@ impl Pair {
 
     fn peers(&mut self) {
         let keys = some_keys(&mut self.random);
-        self.cache.update_primary_peers(&keys).unwrap();
+        let before = self.model.messages.clone();
         self.model.peers(&keys);
+        let evicted = self.cache.update_primary_peers(&keys).unwrap();
+        assert_eq!(sorted(evicted), left(before, &self.model));
     }
 
     fn charge(&mut self) -> usize {
@@ -76,12 +90,14 @@ impl Pair {
             false => self.cache.take(peer, name, charge, message.clone()),
         };
         let taken = taken.unwrap();
-        let was_cached = self.model.get(name).is_some();
+        let before = self.model.messages.clone();
         let (outcome, served) = self.model.take(peer, name, charge as u64, &message);
         assert_eq!((taken.outcome, taken.served), (outcome, &served[..]));
         assert!(Rc::ptr_eq(&taken.message, &message));
-        let is_kept = !was_cached && self.model.get(name).is_some();
+        let is_kept = self.model.get(name).is_some_and(|it| Rc::ptr_eq(it, &message));
         assert_eq!(matches!(taken.message, Held::Cached(_)), is_kept);
+        self.seen.evicted += taken.evicted.len() as u64;
+        assert_eq!(sorted(taken.evicted), left(before, &self.model));
         self.seen.returned += u64::from(!is_kept);
         self.seen.served += served.len() as u64;
         *match outcome {
@@ -151,7 +167,6 @@ impl Pair {
             75..80 => self.cancel(&name),
             _ => self.get(&name),
         }
-        drop(self.cache.evicted());
         let counts = self.cache.counts();
         assert_eq!(counts.cached, self.model.messages.len());
         assert_eq!(counts.awaited, self.model.awaited());
@@ -162,20 +177,19 @@ impl Pair {
         assert_eq!(self.cache.iter().count(), counts.cached);
         assert!(self.cache.iter().all(|it| self.cache.get(it.0) == Some(it.1)));
         assert_eq!(self.cache.list(&peer).unwrap(), self.model.list(&peer));
+        assert_eq!(u128::from(self.cache.bytes_of(&peer)), self.model.bytes_of(&peer));
         let is_primary = self.model.primary.contains(&peer);
         assert_eq!(self.cache.is_primary(&peer), is_primary);
         self.seen.strange += u64::from(!is_primary);
         self.looks_at_what_is_held();
     }
 
-    /// Of the messages that were given, the cache has those that are cached, and at most half as many more.
-    fn looks_at_what_is_held(&mut self) {
+    /// Of the messages that were given, the cache has those that are cached, and no others.
+    fn looks_at_what_is_held(&self) {
         let is_cached =
             |it: &Rc<u64>| self.model.messages.iter().any(|(_, known)| Rc::ptr_eq(it, known));
-        let held = |it: &Rc<u64>| Rc::strong_count(it) - 1 - usize::from(is_cached(it));
-        assert!(self.given.iter().all(|it| held(it) == 1 || !is_cached(it)));
-        let dead = self.given.iter().filter(|it| !is_cached(it) && held(it) == 1).count();
-        assert!(dead <= self.model.messages.len() / 2, "{dead}");
+        let held = |it: &Rc<u64>| Rc::strong_count(it) - 1;
+        assert!(self.given.iter().all(|it| held(it) == 2 * usize::from(is_cached(it))));
     }
 }
 
@@ -206,13 +220,14 @@ impl Drop for Context {
 }
 
 impl Seen {
-    fn fields(&mut self) -> [&mut u64; 14] {
+    fn fields(&mut self) -> [&mut u64; 15] {
         [
             &mut self.inserted,
             &mut self.duplicate,
             &mut self.ineligible,
             &mut self.oversize,
             &mut self.returned,
+            &mut self.evicted,
             &mut self.served,
             &mut self.cached,
             &mut self.waiting,
@@ -254,8 +269,7 @@ fn nothing_and_much_cross_as_well() -> Result<(), Error> {
             other => panic!("{other:?}"),
         }
     }
-    let taken = cache.take_own(&digest(2), 0, ())?;
-    assert_eq!(taken.served, tickets);
+    assert_eq!(cache.take_own(&digest(2), 0, ())?.served, tickets);
     let mut digests = vec![digest(2)];
     for n in 0..5_000_u64 {
         let mut name = [0xee; 32];

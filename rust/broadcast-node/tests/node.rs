@@ -117,6 +117,7 @@ impl Pair {
         assert_eq!((sent.digest, sent.outcome, sent.served), (digest, outcome, &served[..]));
         assert_eq!(sent.recipients, to);
         assert_eq!(**sent.payload(), encoded(&message));
+        drop(sent);
         self.saw(format!("broadcast: {outcome:?}, serves {}", !served.is_empty()));
     }
 
@@ -141,7 +142,13 @@ impl Pair {
 
     fn payload(&mut self, peer: &Key) {
         let bytes = self.bytes();
-        let received = self.node.payload(peer, bytes.as_slice().into()).unwrap();
+        let what = self.received(peer, &bytes);
+        self.saw(what);
+    }
+
+    /// Hands the bytes to both. Returns what happened.
+    fn received(&mut self, peer: &Key, bytes: &[u8]) -> String {
+        let received = self.node.payload(peer, bytes.into()).unwrap();
         let sent = |it: &&(Digest, Vec<u8>)| encoded(&it.1) == bytes;
         let Some((digest, message)) = self.messages.iter().find(sent).cloned() else {
             let Received::Invalid(reason) = received else { panic!("{received:?}") };
@@ -151,7 +158,7 @@ impl Pair {
                 Invalid::InvalidLength(_) => "length",
                 _ => "extra",
             };
-            return self.saw(format!("invalid: {reason}"));
+            return format!("invalid: {reason}");
         };
         let waits = !self.model.waiters.is_empty();
         let (outcome, served) = self.model.take(peer, &digest, bytes.len() as u64, &message);
@@ -159,13 +166,13 @@ impl Pair {
             Received::Taken(taken) => {
                 assert_eq!((taken.digest, taken.outcome), (digest, outcome));
                 assert_eq!((taken.served, taken.bytes()), (&served[..], &message[..]));
-                assert_eq!(**taken.payload(), bytes);
+                assert_eq!(**taken.payload(), *bytes);
             }
             Received::Ignored(other) => assert_eq!((other, waits), (outcome, false)),
             other => panic!("{other:?}"),
         }
         self.counters.get_mut(peer).unwrap_or(&mut self.others)[outcome as usize] += 1;
-        self.saw(format!("payload: {outcome:?}, serves {}", !served.is_empty()));
+        format!("payload: {outcome:?}, serves {}", !served.is_empty())
     }
 
     fn subscribe(&mut self) {
@@ -226,6 +233,7 @@ impl Pair {
         }
         self.node.list_into(&peer, &mut self.list).unwrap();
         assert_eq!(self.list, self.model.list(&peer));
+        assert_eq!(u128::from(self.node.bytes_of(&peer)), self.model.bytes_of(&peer));
         let counts = self.node.counts();
         let wanted = (self.model.messages.len(), self.model.awaited(), self.model.waiters.len());
         assert_eq!((counts.cached, counts.awaited, counts.waiting), wanted);
@@ -293,10 +301,8 @@ fn a_message_above_the_limit_is_neither_sent_nor_taken() -> Result<(), Error> {
     let long = vec![5; MAX_LEN + 1];
     let sent = node.broadcast(Recipients::All, &long).map(|it| it.outcome);
     assert_eq!(sent, Err(Error::TooLong(MAX_LEN + 1)));
-    let received = node.payload(&key(1), encoded(&long))?;
-    assert!(
-        matches!(received, Received::Invalid(Invalid::InvalidLength(len)) if len == MAX_LEN + 1)
-    );
+    let is_too_long = |it: Received<'_, Vec<u8>>| matches!(it, Received::Invalid(Invalid::InvalidLength(len)) if len == MAX_LEN + 1);
+    assert!(is_too_long(node.payload(&key(1), encoded(&long))?));
     assert!(node.is_empty());
     Ok(())
 }
@@ -309,11 +315,11 @@ fn a_message_that_is_neither_kept_nor_awaited_is_ignored() -> Result<(), Error> 
     let is_ignored =
         |it: &Received<'_, Vec<u8>>| matches!(it, Received::Ignored(Outcome::Ineligible));
     assert!(is_ignored(&node.payload(&key(2), short.clone())?));
-    let oversize = node.payload(&key(1), long.clone())?;
-    assert!(matches!(oversize, Received::Ignored(Outcome::Oversize)));
+    assert!(matches!(node.payload(&key(1), long)?, Received::Ignored(Outcome::Oversize)));
     let _ = node.subscribe(&hash(b"short"))?;
     let Received::Taken(taken) = node.payload(&key(2), short)? else { panic!("somebody waits") };
     assert_eq!((taken.outcome, taken.served.len()), (Outcome::Ineligible, 1));
+    drop(taken);
     assert_eq!((node.other_counters().ineligible, node.counters(&key(1)).oversize), (2, 1));
     Ok(())
 }
@@ -344,6 +350,7 @@ fn a_payload_is_shared() -> Result<(), Error> {
     assert_eq!(node.get(&digest).map(<[u8]>::as_ptr), Some(payload[4..].as_ptr()));
     let sent = node.broadcast(Recipients::All, b"own")?;
     let (digest, payload) = (sent.digest, sent.payload().clone());
+    drop(sent);
     assert_eq!(node.get_payload(&digest).map(|it| it.as_ptr()), Some(payload.as_ptr()));
     Ok(())
 }

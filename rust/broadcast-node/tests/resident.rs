@@ -43,8 +43,7 @@ fn a_refused_message_costs_nothing(before: usize) -> Result<(), Error> {
     let mut long = (MANY as u32).to_be_bytes().to_vec();
     long.resize(MANY + 4, 7);
     for key in [stranger, own] {
-        let refused = node.payload(&key, long.clone())?;
-        assert!(matches!(refused, Received::Invalid(_)));
+        assert!(matches!(node.payload(&key, long.clone())?, Received::Invalid(_)));
         assert_eq!(node.get(&digest(0)), Some(&b"hello"[..]));
         assert_eq!(node.list(&own)?.len(), 1);
     }

@@ -1,7 +1,7 @@
 //! The functions of a store.
 ghost use Rattle.std.specs.Prelude.{◌≡◌, ℕ, List, [], length, is_some, true, None, MatchOption};
 ghost use Rattle.std.specs.List.{count_by};
-ghost use Rattle.broadcast_core.specs.Content.{has_primary, list_at, message_at, waiting_at};
+ghost use Rattle.broadcast_core.specs.Content.{bytes_of, charged_at, has_primary, list_at, message_at, waiting_at};
 ghost use Rattle.broadcast_core.specs.Changes.{TakesPeers, Awaits, Cleans, CleansAt};
 ghost use Rattle.broadcast_core.specs.Reports.{Reports};
 ghost use Rattle.broadcast_core.specs.Waiters.{is_gone, gone_from, counted};
@@ -330,6 +330,26 @@ pub extern "C" fn broadcast_store_is_primary(
         return EMPTY;
     };
     *out = held.is_primary(peer);
+    store.put(held);
+    OK
+}
+
+/// Reports what the list of the key is charged.
+#[unsafe(no_mangle)]
+pub extern "C" fn broadcast_store_bytes(
+    alloc: Global,
+    store: &mut StoreHandle,
+    peer: &Name,
+    out: &mut u64,
+) -> u32
+    ensures finds { Finds store.old.value store.new.value result (λ old new. (new ≡ old)
+        × (result ≡ OK) × (out.new ≡ bytes_of (charged_at same_bytes old.cache.core peer.now))) }
+    ensures reports_nothing { result ≡ EMPTY → out.new ≡ out.old }
+{
+    let Some(held) = store.take(alloc) else {
+        return EMPTY;
+    };
+    *out = held.cache.core().bytes(peer);
     store.put(held);
     OK
 }

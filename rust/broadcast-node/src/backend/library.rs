@@ -43,7 +43,7 @@ impl TryFrom<raw::Stored> for Stored {
             raw::OVERSIZE => Outcome::Oversize,
             other => return Err(Error::Status(other)),
         };
-        Ok(Stored { outcome, is_kept: raw.kept, served: raw.served, cached: raw.cached })
+        Ok(Stored { outcome, is_kept: raw.kept, served: raw.served, left: raw.left })
     }
 }
 
@@ -100,6 +100,11 @@ impl Library {
         done(self.0.served(room, &mut 0))
     }
 
+    #[inline]
+    pub fn left(&mut self, room: &mut [u64]) -> usize {
+        self.0.left(room)
+    }
+
     pub fn subscribe(&mut self, ticket: u64, digest: &Digest) -> Result<bool, Error> {
         match self.0.subscribe(ticket, digest) {
             raw::WAITS => Ok(true),
@@ -132,6 +137,10 @@ impl Library {
             raw::SHORT => Ok((len, false)),
             status => Err(error(status)),
         }
+    }
+
+    pub fn bytes(&self, peer: &Key) -> u64 {
+        self.0.bytes(peer)
     }
 
     pub fn count(&self) -> (usize, usize) {

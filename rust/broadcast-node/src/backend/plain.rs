@@ -40,13 +40,18 @@ pub struct Plain {
     lists: BTreeMap<Key, List>,
     items: BTreeMap<Digest, Item>,
     waiting: BTreeMap<Digest, Vec<Ticket>>,
+    /// The tickets that the last message served.
     served: Vec<Ticket>,
+    /// The numbers of the messages that left, until `left` moves them out.
+    left: Vec<u64>,
 }
 
-fn release(items: &mut BTreeMap<Digest, Item>, digest: &Digest) {
+/// Notes that a list dropped the digest, and in `left` if it was the last one.
+fn release(items: &mut BTreeMap<Digest, Item>, digest: &Digest, left: &mut Vec<u64>) {
     if let Some(item) = items.get_mut(digest) {
         item.lists -= 1;
         if item.lists == 0 {
+            left.push(item.number);
             items.remove(digest);
         }
     }
@@ -62,16 +67,17 @@ impl Plain {
             items: BTreeMap::new(),
             waiting: BTreeMap::new(),
             served: Vec::new(),
+            left: Vec::new(),
         }
     }
 
     pub fn peers(&mut self, keys: &[Key]) -> Result<(), Error> {
         self.primary = keys.iter().copied().collect();
-        let (primary, items) = (&self.primary, &mut self.items);
+        let (primary, items, left) = (&self.primary, &mut self.items, &mut self.left);
         self.lists.retain(|key, list| {
             let stays = primary.contains(key);
             if !stays {
-                list.digests.iter().for_each(|it| release(items, &it.0));
+                list.digests.iter().rev().for_each(|it| release(items, &it.0, left));
             }
             stays
         });
@@ -87,8 +93,8 @@ impl Plain {
     ) -> Result<Stored, Error> {
         self.served = self.waiting.remove(digest).unwrap_or_default();
         let (outcome, is_kept) = self.keep(peer, digest, charge, number);
-        let (served, cached) = (self.served.len(), self.items.len());
-        Ok(Stored { outcome, is_kept, served, cached })
+        let (served, left) = (self.served.len(), self.left.len());
+        Ok(Stored { outcome, is_kept, served, left })
     }
 
     fn keep(&mut self, peer: &Key, digest: &Digest, charge: usize, number: u64) -> (Outcome, bool) {
@@ -97,6 +103,9 @@ impl Plain {
         }
         if charge as u64 > self.byte_budget {
             return (Outcome::Oversize, false);
+        }
+        if self.deque_size == 0 {
+            return (Outcome::Inserted, false); // and at once dropped
         }
         let list = self.lists.entry(*peer).or_default();
         let was_listed = list.push(digest, charge);
@@ -110,7 +119,7 @@ impl Plain {
         while list.digests.len() > deque_size || list.charged > byte_budget {
             let Some((old, charge)) = list.digests.pop_back() else { break };
             list.charged -= charge as u128;
-            release(&mut self.items, &old);
+            release(&mut self.items, &old, &mut self.left);
         }
         let is_kept = self.items.get(digest).is_some_and(|it| it.number == number);
         (if was_listed { Outcome::Duplicate } else { Outcome::Inserted }, is_kept)
@@ -132,6 +141,15 @@ impl Plain {
     pub fn served(&self, room: &mut [Ticket]) -> Result<(), Error> {
         room.iter_mut().zip(&self.served).for_each(|(place, ticket)| *place = *ticket);
         Ok(())
+    }
+
+    pub fn left(&mut self, room: &mut [u64]) -> usize {
+        let moved = room.len().min(self.left.len());
+        for (place, number) in room.iter_mut().zip(self.left.drain(self.left.len() - moved..).rev())
+        {
+            *place = number;
+        }
+        moved
     }
 
     pub fn subscribe(&mut self, ticket: u64, digest: &Digest) -> Result<bool, Error> {
@@ -180,6 +198,10 @@ impl Plain {
             out.iter_mut().zip(&list.digests).for_each(|(place, it)| *place = it.0);
         }
         Ok((list.digests.len(), has_room))
+    }
+
+    pub fn bytes(&self, peer: &Key) -> u64 {
+        self.lists.get(peer).map_or(0, |list| list.charged as u64) // at most the budget
     }
 
     pub fn count(&self) -> (usize, usize) {

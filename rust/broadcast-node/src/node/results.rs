@@ -1,7 +1,7 @@
 //! What calls of a node return.
 
 use super::wire::{self, Invalid};
-use crate::{Digest, Held, Key, Outcome, Ticket};
+use crate::{Digest, Evicted, Held, Key, Outcome, Ticket};
 
 /// The peers that a message is for.
 #[derive(Clone, Debug, Default, PartialEq, Eq, Hash)]
@@ -29,6 +29,8 @@ pub struct Broadcast<'a, B> {
     pub outcome: Outcome,
     /// The tickets that are replied to with the message.
     pub served: &'a [Ticket],
+    /// The payloads of the messages that left the cache.
+    pub evicted: Evicted<'a, B>,
     pub(super) payload: Held<'a, B>,
 }
 
@@ -65,6 +67,8 @@ pub struct Message<'a, B> {
     pub outcome: Outcome,
     /// The tickets that are replied to with the message.
     pub served: &'a [Ticket],
+    /// The payloads of the messages that left the cache.
+    pub evicted: Evicted<'a, B>,
     pub(super) payload: Held<'a, B>,
 }
 

@@ -95,6 +95,16 @@ impl OwnedStore {
         unsafe { super::broadcast_store_served(&mut *self.handle.get(), at, len, needed) }
     }
 
+    /// Moves handles of messages that left to the front of `out`, the newest first. Returns how many.
+    #[inline]
+    pub fn left(&mut self, out: &mut [u64]) -> usize {
+        let (at, len) = (out.as_mut_ptr(), out.len());
+        let mut moved = 0;
+        // SAFETY: see above.
+        unsafe { super::broadcast_store_left(self.handle.get_mut(), at, len, &mut moved) };
+        moved
+    }
+
     /// Returns the handle of the cached message.
     #[inline]
     pub fn get(&self, digest: &Digest) -> Option<u64> {
@@ -109,6 +119,13 @@ impl OwnedStore {
         let mut out = false;
         // SAFETY: see above, and the field.
         unsafe { super::broadcast_store_is_primary(&mut *self.handle.get(), peer, &mut out) };
+        out
+    }
+
+    pub fn bytes(&self, peer: &Key) -> u64 {
+        let mut out = 0;
+        // SAFETY: see above, and the field.
+        unsafe { super::broadcast_store_bytes(&mut *self.handle.get(), peer, &mut out) };
         out
     }
 

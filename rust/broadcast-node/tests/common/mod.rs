@@ -176,6 +176,10 @@ impl<M: Clone, W: Copy + PartialEq> Model<M, W> {
         self.charged(peer).into_iter().map(|it| it.0).collect()
     }
 
+    pub fn bytes_of(&self, peer: &Key) -> u128 {
+        bytes_of(&self.charged(peer))
+    }
+
     pub fn get(&self, digest: &Digest) -> Option<&M> {
         let found = self.messages.iter().find(|(it, _)| it == digest);
         found.map(|(_, message)| message)
