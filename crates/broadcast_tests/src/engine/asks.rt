@@ -113,7 +113,11 @@ impl<M: Digestible, R: Wait> Requests<Wanted<M>> for Telling<M, R> {
 
     fn poll_next(&mut self, cx: &mut Context<'_>) -> Poll<Request<Wanted<M>>> {
         match self.next.replace(None) {
-            Some(message) => Poll::Ready(request(message)),
+            Some(message) => Poll::Ready(Request {
+                ticket: 0,
+                message,
+                counted: false,
+            }),
             None => cx.yield_now(),
         }
     }
@@ -125,15 +129,6 @@ impl<M: Digestible, R: Wait> Requests<Wanted<M>> for Telling<M, R> {
     fn tell_outcome(&mut self, _refused: bool) {}
 
     fn close(&mut self) {}
-}
-
-/// Returns a request with the message.
-fn request<M: Digestible>(message: Wanted<M>) -> Request<Wanted<M>> {
-    Request {
-        ticket: 0,
-        message,
-        counted: false,
-    }
 }
 
 /// An engine over such a source.
@@ -190,7 +185,12 @@ impl<R: Wait + Drop> Asking for Node<R> {
     }
 
     fn apply(&mut self, alloc: Global, message: Wanted<TestMessage>, network: &mut Network) {
-        let input = Input::Request(request(message));
+        let request = Request {
+            ticket: 0,
+            message,
+            counted: false,
+        };
+        let input = Input::Request(request);
         let _turn = self.engine.apply(alloc, input, &mut network.0);
     }
 }

@@ -65,7 +65,10 @@ impl<N: Polled, C: Caller> World<N, C> {
     {
         let mailbox = NonZeroUsize::new(mailbox).unwrap_or(NonZeroUsize::MIN);
         for key in 1..=nodes {
-            self.reserve().expect(rt, "memory");
+            // With room for all, nothing can fail while an engine is at hand.
+            self.nodes.reserve(1).expect(rt, "memory");
+            self.callers.reserve(1).expect(rt, "memory");
+            self.around.reserve(1).expect(rt, "memory");
             let around = Around::new(rt).expect(rt, "memory");
             let cfg = around.config(key, mailbox, deque).expect(rt, "memory");
             let (node, caller) = N::made(rt, cfg);
@@ -74,13 +77,6 @@ impl<N: Polled, C: Caller> World<N, C> {
             self.around.push_reserved(around);
         }
         true
-    }
-
-    /// Reserves the places of one more node.
-    fn reserve(&mut self) -> Result<(), AllocError> {
-        self.nodes.reserve(1)?;
-        self.callers.reserve(1)?;
-        self.around.reserve(1)
     }
 
     /// Does what the action says of all nodes or of the futures.

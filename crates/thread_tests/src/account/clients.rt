@@ -211,7 +211,7 @@ where
     A: Account + Send + Sync + 'static,
     C: Tallied<M, A> + Clone + Send + 'static,
 {
-    let mut clients = Vec::with_capacity(rt.alloc(), calls.len()).expect(rt, "memory");
+    let mut clients = Vec::new(rt.alloc());
     let mut rest = Some(tally);
     for calls in calls {
         let (part, others) = part_of(rest);
@@ -222,7 +222,7 @@ where
             calls,
             made: Arc::try_clone(made).expect(rt, "memory"),
         };
-        clients.push_reserved(start(rt, client));
+        clients.push(start(rt, client)).expect(rt, "memory");
     }
     clients
 }
