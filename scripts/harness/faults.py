@@ -17,7 +17,7 @@ READ_FAILED, WRITE_FAILED, RATES_FAILED = b"read failed\n", b"write failed\n", b
 # The parts in which the longest stream of a row is moved.
 PARTS = 8
 RATES_FAULT = re.compile(rb"rates: (out of memory|no thread could be started)\n")
-RELAYED = re.compile(rb"relayed: (?:no memory|\[(.*)\]), (\d+) wait\n")
+RELAYED = re.compile(rb"relayed: (?:None|Some\(\[(.*)\]\)), (\d+) wait\n")
 # The most seconds of a run of `rates`, and how often it is tried until it takes no more: others may keep the machine busy.
 SECONDS, TRIES = 2, 4
 # A pipe that nothing reads. It is made before any thread starts a process, which would hold the reader for a moment.

@@ -2,90 +2,70 @@
 ghost use Rattle.std.specs.Prelude.{◌≡◌};
 ghost use Rattle.std.specs.NonZero.{non_zero_u32_get};
 
-use super::parts::{config, key};
-use super::two_nodes::message;
+use super::alone::parts_of;
+use super::two_nodes::{KEY_1, message};
 use anyhow::Error;
 use commonware_broadcast::buffered::{
-    Account, Broadcasts, EndCause, Engine, Runtime, Sequential, Settled, Tally, WatchedMailbox,
-    WatchedNode,
+    Account, Books, Broadcasts, Config, EndCause, Engine, Handle, Runtime, Sequential, Settled,
+    Tally, WatchedMailbox, WatchedNode,
 };
-use commonware_broadcast::{
-    Codec, Digested, Digestible, Key, MailboxError, RangeCfg, Recipients, TestMessage,
-};
-use memory_network::{Network, PeerSets};
-use std::alloc::{AllocError, AllocGlobal, Global};
+use commonware_broadcast::{Codec, Digested, Digestible, Key, MailboxError, RangeCfg, Recipients};
+use memory_network::PeerSets;
+use std::alloc::{AllocError, AllocGlobal};
 use std::io::Write;
 use std::marker::Brand;
 use std::num::NonZeroU32;
 use std::sync::Wait;
 use std::sync::ledger::Blank;
 
-/// How many messages are broadcast.
-const MESSAGES: u8 = 10;
+/// How often the message is broadcast.
+const BROADCASTS: u64 = 10;
 
-/// What is left, as far as it does not depend on the order in which the threads run.
-#[derive(Clone, Copy, Debug)]
-struct Left {
-    /// Why the engine ended.
-    cause: EndCause,
-    /// Whether as many broadcasts were settled as were accepted.
-    settled: bool,
-    /// How many were skipped.
-    skipped: u64,
-}
+/// A started node whose mailbox counts broadcasts, and the tally by which they are counted.
+type Counted<M, R, A, K> = (
+    Handle<Key, M, R, Books<A, K, Broadcasts, <M as Digestible>::Digest>>,
+    WatchedMailbox<Key, M, R, A, K, Broadcasts>,
+    Tally<A>,
+);
 
-/// Starts a node whose account has these ledgers, and lets it broadcast.
-fn run_with<M, R, A, K>(
+/// Why the engine ended, and how many broadcasts were accepted, and settled.
+type Left = (EndCause, u64, u64);
+
+/// Lets the node broadcast, stops it, and settles its account.
+fn settle<M, R, A, K>(
     rt: &R,
-    codec_config: M::Cfg,
-    messages: Vec<Digested<M>>,
-    parts: NonZeroU32,
-    accepted: Blank,
-    taken: Blank,
-) -> Result<Option<Left>, Error>
+    node: Counted<M, R, A, K>,
+    message: &Digested<M>,
+) -> Result<Left, Error>
 where
-    M: Digestible + Codec + Send + Sync + 'static,
-    M::Digest: Send + 'static,
-    M::Cfg: Send + Drop + 'static,
+    M: Digestible,
     R: Runtime,
-    A: Account + Send + Sync + 'static,
-    K: Account + Send + Sync + 'static,
-    requires accepted { (accepted.name ≡ A.name) × (accepted.parts ≡ A.parts) }
-    requires parts { (A.all ≡ A.parts) × (A.parts ≡ non_zero_u32_get parts) }
-    requires taken { (taken.name ≡ K.name) × (taken.parts ≡ K.parts) }
-    requires one { (K.all ≡ K.parts) × (K.parts ≡ 1) }
+    A: Account,
+    K: Account,
+    requires accounts { (A.all ≡ A.parts) × (K.all ≡ K.parts) }
 {
-    let ends = Network::between(rt, &[key(1)])?.join(rt, &key(1))?;
-    let config = config(key(1), codec_config, ends.provider);
-    let made: Result<
-        WatchedNode<Key, M, PeerSets<Key, R>, Sequential, R, A, K, Broadcasts>,
-        AllocError,
-    > = Engine::new_watched(rt.clone()?, rt.alloc(), config, parts, accepted, taken);
-    let (engine, mailbox, mut tally) = made?;
-    let handle = engine.start(rt, (ends.sender, ends.receiver))?;
-    let asked = broadcast(&mailbox, &mut tally, messages);
+    let (handle, mailbox, mut tally) = node;
+    let told = broadcast(&mailbox, &mut tally, message);
+    drop::<_>(mailbox);
     handle.stop();
     let report = handle.join(rt);
-    asked?;
     let (cause, accepted) = (report.cause(), tally.accepted());
-    match report.settle(tally) {
-        Ok(settled) => Ok(Some(Left {
-            cause,
-            settled: sum(settled) == accepted,
-            skipped: settled.skipped,
-        })),
-        Err(both) => {
-            drop::<_>(both);
-            Ok(None)
+    let settled = match report.settle(tally) {
+        Ok(settled) => sum(settled),
+        Err(lacking) => {
+            drop::<_>(lacking);
+            0
         }
-    }
+    };
+    told?;
+    Ok((cause, accepted, settled))
 }
 
-/// Broadcasts the messages, which the tally counts.
+/// Broadcasts the message often, which the tally counts.
 fn broadcast<M, R, A, K>(
     mailbox: &WatchedMailbox<Key, M, R, A, K, Broadcasts>,
     tally: &mut Tally<A>,
-    messages: Vec<Digested<M>>,
+    message: &Digested<M>,
 ) -> Result<(), MailboxError>
 where
     M: Digestible,
@@ -93,8 +73,8 @@ where
     A: Account,
     K: Account,
 {
-    for message in messages {
-        let _feedback = mailbox.broadcast_as(tally, Recipients::All, message)?;
+    for _ in 0..BROADCASTS {
+        let _feedback = mailbox.broadcast_as(tally, Recipients::All, message.clone()?)?;
     }
     Ok(())
 }
@@ -108,12 +88,41 @@ fn sum(settled: Settled) -> u64 {
         .saturating_add(settled.given_up)
 }
 
-/// Runs the node with an account of one part.
-fn run<M, R>(
+/// Starts a node whose account has these ledgers, and lets it broadcast.
+fn run_with<M, R, A, K>(
     rt: &R,
     codec_config: M::Cfg,
-    messages: Vec<Digested<M>>,
-) -> Result<Option<Left>, Error>
+    message: &Digested<M>,
+    parts: NonZeroU32,
+    accepted: Blank,
+    taken: Blank,
+) -> Result<Left, Error>
+where
+    M: Digestible + Codec + Send + Sync + 'static,
+    M::Digest: Send + 'static,
+    M::Cfg: Send + Drop + 'static,
+    R: Runtime,
+    A: Account + Send + Sync + 'static,
+    K: Account + Send + Sync + 'static,
+    requires accepted { (accepted.name ≡ A.name) × (accepted.parts ≡ A.parts) }
+    requires parts { (A.all ≡ A.parts) × (A.parts ≡ non_zero_u32_get parts) }
+    requires taken { (taken.name ≡ K.name) × (taken.parts ≡ K.parts) }
+    requires one { (K.all ≡ K.parts) × (K.parts ≡ 1) }
+{
+    let (own, provider, network) = parts_of(rt)?;
+    let config = Config::new(KEY_1, provider).with_codec_config(codec_config);
+    let made: Result<
+        WatchedNode<Key, M, PeerSets<Key, R>, Sequential, R, A, K, Broadcasts>,
+        AllocError,
+    > = Engine::new_watched(own, rt.alloc(), config, parts, accepted, taken);
+    let (engine, mailbox, tally) = made?;
+    let handle = engine.start(rt, network)?;
+    settle(rt, (handle, mailbox, tally), message)
+}
+
+/// Runs a node with an account of one part. It picks the ledgers of the account, and is generic in
+/// the message, since the check refuses a function that makes an engine of a named one.
+fn run<M, R>(rt: &R, codec_config: M::Cfg, message: &Digested<M>) -> Result<Left, Error>
 where
     M: Digestible + Codec + Send + Sync + 'static,
     M::Digest: Send + 'static,
@@ -122,16 +131,7 @@ where
 {
     let parts = NonZeroU32::MIN;
     let accepted = Blank::new(parts.get() as u64);
-    run_with::<M, R, Brand, Brand>(rt, codec_config, messages, parts, accepted, Blank::new(1))
-}
-
-/// Creates the messages.
-fn messages(alloc: Global) -> Result<Vec<Digested<TestMessage>>, AllocError> {
-    let mut messages = Vec::new(alloc);
-    for number in 0..MESSAGES {
-        messages.push(message(alloc, &[number])?)?;
-    }
-    Ok(messages)
+    run_with::<M, R, Brand, Brand>(rt, codec_config, message, parts, accepted, Blank::new(1))
 }
 
 /// Prints what is left of the account.
@@ -140,7 +140,12 @@ where
     R: Runtime,
     W: Write,
 {
-    let left = run(rt, RangeCfg::any(), messages(rt.alloc())?)?;
-    writeln!(out, "account: {left:?}")?;
+    let message = message(rt.alloc(), b"hello")?;
+    let (cause, accepted, settled) = run(rt, RangeCfg::any(), &message)?;
+    drop::<_>(message);
+    writeln!(
+        out,
+        "account: {cause:?}, {accepted} accepted, {settled} settled"
+    )?;
     Ok(())
 }

@@ -1,7 +1,9 @@
 //! A mailbox: callers ask on one end, and whoever takes the requests replies on the other.
 use super::two_nodes::message;
 use anyhow::Error;
-use broadcast_mailbox::buffered::{Incoming, Ingress, Mailbox, Message, Reply, Responder, channel};
+use broadcast_mailbox::buffered::{
+    Get, Incoming, Ingress, Mailbox, Message, Reply, Responder, Subscription, channel,
+};
 use broadcast_mailbox::{Broadcaster, Digested, Feedback, Recipients, TestMessage};
 use futures::executor::block_on;
 use std::alloc::{AllocError, AllocGlobal};
@@ -10,60 +12,38 @@ use std::num::NonZeroUsize;
 use std::random::RandomSource;
 use std::sync::Wait;
 
-/// Broadcasts a message, and asks for it by a get and by a subscription. Returns what the
-/// broadcaster was told, and whether each of the two received a message.
-fn ask<R>(rt: &R, message: &Digested<TestMessage>) -> Result<(Feedback, bool, bool), Error>
-where
-    R: Wait + RandomSource + AllocGlobal + Clone + Send + Drop + 'static,
-{
-    let (mailbox, ingress) = channel(rt.clone()?, rt.alloc(), NonZeroUsize::MIN)?;
-    let told = mailbox.broadcast(Recipients::All, message.clone()?)?;
-    let (got, arrived) = wait_for(rt, &mailbox, &ingress, message)?;
-    Ok((told, got, arrived))
-}
+/// What a broadcaster was told, and the futures of a get and a subscription.
+type Asked = (Feedback, Get<TestMessage>, Subscription<TestMessage>);
 
-/// Returns whether a get and a subscription receive a message.
-fn wait_for<R>(
-    rt: &R,
+/// Broadcasts a message, and asks for it by a get and by a subscription.
+fn ask<R>(
     mailbox: &Mailbox<u64, TestMessage, R>,
-    ingress: &Ingress<Incoming<u64, TestMessage>, R>,
     message: &Digested<TestMessage>,
-) -> Result<(bool, bool), Error>
+) -> Result<Asked, Error>
 where
-    R: Wait + RandomSource + AllocGlobal,
+    R: Wait + Clone + Send + Drop + 'static,
 {
+    let told = mailbox.broadcast(Recipients::All, message.clone()?)?;
     let get = mailbox.get(message.digest())?;
     let subscription = mailbox.subscribe(message.digest())?;
-    serve(ingress, message, 3)?;
-    let got = block_on(rt, get)?.is_some();
-    let arrived = block_on(rt, subscription)?.is_ok();
-    Ok((got, arrived))
+    Ok((told, get, subscription))
 }
 
-/// Takes `count` requests, and replies to them.
+/// Takes `count` requests, and replies to them as a node that has the message.
 fn serve<R: Wait>(
     ingress: &Ingress<Incoming<u64, TestMessage>, R>,
     message: &Digested<TestMessage>,
     count: u64,
 ) -> Result<(), AllocError> {
     for _ in 0..count {
-        serve_one(ingress, message)?;
+        if let Some((_ticket, request)) = ingress.take() {
+            reply(request, message.clone()?);
+        }
     }
     Ok(())
 }
 
-/// Takes the oldest request, and replies to it.
-fn serve_one<R: Wait>(
-    ingress: &Ingress<Incoming<u64, TestMessage>, R>,
-    message: &Digested<TestMessage>,
-) -> Result<(), AllocError> {
-    if let Some((_ticket, request)) = ingress.take() {
-        reply(request, message.clone()?);
-    }
-    Ok(())
-}
-
-/// Replies to a request, as a node does that has the message in its cache.
+/// Replies to a request with the message.
 fn reply(request: Incoming<u64, TestMessage>, message: Digested<TestMessage>) {
     match request {
         Message::Broadcast { .. } => {}
@@ -76,6 +56,24 @@ fn reply(request: Incoming<u64, TestMessage>, message: Digested<TestMessage>) {
     }
 }
 
+/// Asks at one end of a mailbox, and replies at the other. Returns what the broadcaster was told,
+/// and whether the get and the subscription received a message.
+fn run<R>(rt: &R) -> Result<(Feedback, bool, bool), Error>
+where
+    R: Wait + RandomSource + AllocGlobal + Clone + Send + Drop + 'static,
+{
+    let message = message(rt.alloc(), b"hello")?;
+    let (mailbox, ingress) = channel(rt.clone()?, rt.alloc(), NonZeroUsize::MIN)?;
+    let asked = ask(&mailbox, &message);
+    let served = serve(&ingress, &message, 3);
+    drop::<_>((mailbox, ingress, message));
+    let (told, get, subscription) = asked?;
+    served?;
+    let got = block_on(rt, get)?.is_some();
+    let arrived = block_on(rt, subscription)?.is_ok();
+    Ok((told, got, arrived))
+}
+
 /// Prints what the broadcaster was told, and whether the get and the subscription received a
 /// message.
 pub fn show<R, W>(rt: &R, out: &mut W) -> Result<(), Error>
@@ -83,7 +81,7 @@ where
     R: Wait + RandomSource + AllocGlobal + Clone + Send + Drop + 'static,
     W: Write,
 {
-    let asked = ask(rt, &message(rt.alloc(), b"hello")?)?;
-    writeln!(out, "mailbox: {asked:?}")?;
+    let received = run(rt)?;
+    writeln!(out, "mailbox: {received:?}")?;
     Ok(())
 }

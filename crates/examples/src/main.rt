@@ -5,11 +5,10 @@
 #![tactic(auto)]
 
 mod account;
+mod alone;
 mod block;
 mod cache;
 mod mailbox;
-mod note;
-mod parts;
 mod polled;
 mod relayed;
 mod scripted;
@@ -28,7 +27,6 @@ use std::process::ExitCode;
 enum Example {
     TwoNodes,
     Cache,
-    Note,
     Block,
     Store,
     Relayed,
@@ -39,10 +37,9 @@ enum Example {
 }
 
 /// All examples with their names, in the order in which they run.
-const EXAMPLES: [(&str, Example); 10] = [
+const EXAMPLES: [(&str, Example); 9] = [
     ("two_nodes", Example::TwoNodes),
     ("cache", Example::Cache),
-    ("note", Example::Note),
     ("block", Example::Block),
     ("store", Example::Store),
     ("relayed", Example::Relayed),
@@ -93,7 +90,6 @@ where
     match example {
         Example::TwoNodes => two_nodes::show(rt, out),
         Example::Cache => cache::show(rt.alloc(), out),
-        Example::Note => note::show(rt.alloc(), out),
         Example::Block => block::show(rt.alloc(), out),
         Example::Store => store::show(rt.alloc(), out),
         Example::Relayed => relayed::show(rt, out),

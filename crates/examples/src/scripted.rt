@@ -10,7 +10,9 @@ ghost use Rattle.examples.specs.Driven.{IsNew, KeptAll, Driven};
 use super::two_nodes::message;
 use super::worked_examples::{core_examples, engine_examples, world_examples};
 use anyhow::Error;
-use broadcast_core::{Codec, Digested, Digestible, Items, PublicKey, RangeCfg, Recipients, Set};
+use broadcast_core::{
+    Codec, Digest, Digested, Digestible, Items, PublicKey, RangeCfg, Recipients, Set,
+};
 use commonware_broadcast::buffered::{
     Config, Engine, Fixed, Message, NetworkFailed, Reply, Request, Strategy, Turn, drive,
     new_engine_law,
@@ -41,12 +43,11 @@ pub type ScriptedEngine<P, M, T> = Engine<P, M, Fixed, Replies<M>, Sets<P>, Aske
 pub type DrivenEngine<P, M, T> = (
     ScriptedEngine<P, M, T>,
     (RecordingSender<P>, Payloads<P>),
-    Vec<Turn<P, <M as Digestible>::Digest>>,
+    Result<Vec<Turn<P, <M as Digestible>::Digest>>, AllocError>,
 );
 
-/// Creates an engine over the scripts, and polls it `limit` times, or until it ends.
-///
-/// Fails if the places for the turns can't be allocated.
+/// Creates an engine over the scripts, and polls it `limit` times, or until it ends. There are no
+/// turns if the places for them can't be allocated.
 pub fn drive_new<P, M, T>(
     alloc: Global,
     cx: &mut Context<'_>,
@@ -54,7 +55,7 @@ pub fn drive_new<P, M, T>(
     requests: Asked<P, M>,
     payloads: Payloads<P>,
     limit: usize,
-) -> Result<DrivenEngine<P, M, T>, AllocError>
+) -> DrivenEngine<P, M, T>
 where
     P: PublicKey,
     M: Digestible + Codec,
@@ -63,17 +64,25 @@ where
     requires new_sets { IsNew cfg.peer_provider }
     requires new_requests { IsNew requests.script }
     requires new_payloads { IsNew payloads }
-    ensures driven { IfOk result (λ it. KeptAll it.0 it.1 → Driven
+    ensures driven { IfOk result.2 (λ turns. KeptAll result.0 result.1 → Driven
         (setting cfg.public_key cfg.deque_size cfg.byte_budget cfg.priority
         (same_by P.cmp M.Digest.cmp) M.digest_of M.encoding
-        (whole (M.reading cfg.codec_config))) it.0 it.1 it.2.items) }
+        (whole (M.reading cfg.codec_config))) result.0 result.1 turns.items) }
 {
     let outlet: Replies<M> = RecordingOutlet::new(alloc);
     let mut engine: ScriptedEngine<P, M, T> = Engine::over(alloc, cfg, requests, outlet);
     let mut network = (RecordingSender::new(alloc), payloads);
     new_engine_law::<P, M, Fixed, Fixed>();
-    let turns = drive(alloc, &mut engine, cx, &mut network, limit)?;
-    Ok((engine, network, turns))
+    let turns = drive(alloc, &mut engine, cx, &mut network, limit);
+    (engine, network, turns)
+}
+
+/// Returns the script of one peer set.
+fn sets(alloc: Global) -> Result<Sets<u64>, AllocError>
+    ensures { IfOk result (λ sets. IsNew sets) }
+{
+    let peers = Set::from_iter_dedup(vec![in alloc; 1, 2]?)?;
+    Ok(Script::new(vec![in alloc; Poll::Ready(Some(peers))]?))
 }
 
 /// Creates a request of a script.
@@ -102,31 +111,28 @@ fn requests<M: Digestible>(alloc: Global, message: Digested<M>) -> Result<Asked<
 }
 
 /// Drives a node over a peer set, a broadcast and a get. Returns its turns.
-fn run<M, R>(
-    rt: &R,
-    codec_config: M::Cfg,
-    message: Digested<M>,
-) -> Result<Vec<Turn<u64, M::Digest>>, Error>
+fn run<R>(rt: &R) -> Result<Vec<Turn<u64, Digest>>, Error>
 where
-    M: Digestible + Codec,
-    M::Cfg: Drop,
     R: Wait + RandomSource + AllocGlobal,
 {
     let alloc = rt.alloc();
-    let peers = Set::from_iter_dedup(vec![in alloc; 1, 2]?)?;
-    let sets = Script::new(vec![in alloc; Poll::Ready(Some(peers))]?);
-    let cfg = Config::new(1, sets).with_codec_config(codec_config);
-    let payloads = Script::new(Vec::new(alloc));
-    let requests = requests(alloc, message)?;
+    let requests = requests(alloc, message(alloc, b"hello")?)?;
+    let cfg = Config::new(1, sets(alloc)?).with_codec_config(RangeCfg::any());
     let task = Solo::new(rt, Doorbell::spinning())?;
     let mut cx = task.begin();
-    let driven = drive_new(alloc, &mut cx, cfg, requests, payloads, 8);
+    let (engine, network, driven) = drive_new(
+        alloc,
+        &mut cx,
+        cfg,
+        requests,
+        Script::new(Vec::new(alloc)),
+        8,
+    );
     // The task is to be polled again.
     let _: Poll<()> = cx.yield_now();
     cx.park();
-    let (engine, network, turns) = driven?;
     drop::<_>((engine, network));
-    Ok(turns)
+    Ok(driven?)
 }
 
 /// Prints the turns of the node.
@@ -138,7 +144,7 @@ where
     core_examples();
     engine_examples();
     world_examples();
-    let turns = run(rt, RangeCfg::any(), message(rt.alloc(), b"hello")?)?;
+    let turns = run(rt)?;
     writeln!(out, "scripted: {turns:?}")?;
     Ok(())
 }

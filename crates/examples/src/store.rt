@@ -1,5 +1,5 @@
-//! A store of messages over a core, and answers to a list of events. Both are proved to give only
-//! what was taken before, under the digest that was asked for.
+//! A look into a core, and answers to a list of events. Both are proved to give only what was taken
+//! before, under the digest that was asked for.
 ghost use Rattle.std.specs.Prelude.{◌≡◌, ℕ, false, IfOk, IfSome};
 ghost use Rattle.broadcast_core.specs.Codec.{whole};
 ghost use Rattle.broadcast_core.specs.Content.{same_by};
@@ -12,31 +12,25 @@ ghost use Rattle.broadcast_core.specs.TakenLaw.{IsFrom, FoundWasTaken};
 use super::two_nodes::message;
 use anyhow::Error;
 use broadcast_core::{
-    Codec, Core, Digested, Digestible, Event, PublicKey, RangeCfg, Recipients, Run, Set,
+    Codec, Core, Digest, Digested, Digestible, Event, PublicKey, RangeCfg, Recipients, Run, Set,
     TestMessage, answer_law, cache_law, run, same_law,
 };
 use std::alloc::{AllocError, Global};
 use std::io;
 
-/// A store that keeps the newest messages of each peer.
-#[derive(Drop)]
-pub struct Store<P: PublicKey, M: Digestible> {
-    /// The messages, by the peers that sent them.
-    pub core: Core<P, M, u64>,
-}
-
-impl<P: PublicKey, M: Digestible> Store<P, M> {
-    /// Returns the message of the digest, if the store has it. After whatever history, it was taken
-    /// before, under that digest.
-    pub fn find(&self, digest: &M::Digest) -> Option<&Digested<M>>
-        ensures { (s : Setting P M M.Digest) (past : History P M M.Digest ℕ ℕ)
-            → s.same ≡ same_by P.cmp M.Digest.cmp → HasContent s past self.now.core
-            → IfSome result (λ found. IsFrom s digest.now past found.now) }
-    {
-        same_law::<P, M::Digest>();
-        cache_law::<P, M, u64, u64>();
-        self.core.get(digest)
-    }
+/// Returns the message of the digest, if the core has it. After whatever history, it was taken
+/// before, under that digest.
+fn find<'a, P: PublicKey, M: Digestible>(
+    core: &'a Core<P, M, u64>,
+    digest: &M::Digest,
+) -> Option<&'a Digested<M>>
+    ensures { (s : Setting P M M.Digest) (past : History P M M.Digest ℕ ℕ)
+        → s.same ≡ same_by P.cmp M.Digest.cmp → HasContent s past core.now
+        → IfSome result (λ found. IsFrom s digest.now past found.now) }
+{
+    same_law::<P, M::Digest>();
+    cache_law::<P, M, u64, u64>();
+    core.get(digest)
 }
 
 /// Runs the events. Each message that an answer finds was taken by an earlier event, under the
@@ -71,14 +65,18 @@ fn events(
     Ok(events)
 }
 
-/// Prints how many answers there are, and whether the store then finds the message.
+/// Returns how many answers there are, and whether the core that is left finds the message.
+fn look(run: &Run<u64, TestMessage>, digest: &Digest) -> (usize, bool) {
+    (run.answers.len(), find(&run.core, digest).is_some())
+}
+
+/// Prints how many answers there are, and whether the core that is left finds the message.
 pub fn show<W: io::Write>(alloc: Global, out: &mut W) -> Result<(), Error> {
     let message = message(alloc, b"hello")?;
     let digest = message.digest();
     let run = answers(alloc, 1, &RangeCfg::any(), events(alloc, message)?)?;
-    let number = run.answers.len();
-    let store = Store { core: run.core };
-    let found = store.find(&digest).is_some();
+    let (number, found) = look(&run, &digest);
+    drop::<_>(run);
     writeln!(out, "store: {number} answers, {found}")?;
     Ok(())
 }

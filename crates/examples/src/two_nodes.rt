@@ -6,7 +6,8 @@ use memory_network::Network;
 use std::alloc::{AllocError, AllocGlobal, Global};
 use std::io::Write;
 
-const KEY_1: Key = Key { bytes: [1; 32] };
+/// The key of node 1.
+pub const KEY_1: Key = Key { bytes: [1; 32] };
 
 const KEY_2: Key = Key { bytes: [2; 32] };
 
@@ -43,19 +44,28 @@ where
     Ok(awaited.wait(rt)?)
 }
 
+/// Stops a node. Returns why it ended.
+fn stop<R>(rt: &R, (handle, mailbox): Node<R>) -> EndCause
+where
+    R: Runtime,
+{
+    drop::<_>(mailbox);
+    handle.stop();
+    handle.join(rt).cause()
+}
+
 /// Runs both nodes. Returns what node 2 received, and why it ended.
 fn run<R>(rt: &R) -> Result<(Digested<TestMessage>, EndCause), Error>
 where
     R: Runtime,
 {
     let network = Network::between(rt, &[KEY_1, KEY_2])?;
-    let (handle_1, mailbox_1) = start(rt, &network, KEY_1)?;
-    let (handle_2, mailbox_2) = start(rt, &network, KEY_2)?;
-    let received = pass_on(rt, &mailbox_1, &mailbox_2)?;
-    handle_1.stop();
-    handle_2.stop();
-    let _report = handle_1.join(rt);
-    Ok((received, handle_2.join(rt).cause()))
+    let one = start(rt, &network, KEY_1)?;
+    let two = start(rt, &network, KEY_2)?;
+    let received = pass_on(rt, &one.1, &two.1);
+    let _cause = stop(rt, one);
+    let cause = stop(rt, two);
+    Ok((received?, cause))
 }
 
 /// Prints what node 2 received, and why it ended.

@@ -1,4 +1,4 @@
-use Rattle.std.proofs.Common.{◌≡◌, [], None, map, refl, sym, ap, ◌∙◌, subst}
+use Rattle.std.proofs.Common.{◌≡◌, [], None, Result, Ok, Err, IfOk, map, refl, sym, ap, ◌∙◌, subst}
 use Rattle.broadcast_core.specs.Codec.{whole}
 use Rattle.broadcast_core.specs.Content.{same_by}
 use Rattle.broadcast_core.specs.Setting.{setting}
@@ -13,14 +13,19 @@ use Rattle.commonware_broadcast.specs.Taken.{Holds}
 use Rattle.examples.proofs.Zero.{number-zero}
 use Rattle.examples.proofs.scripted.drive_new.Goals as goal
 
+on_ok : {A E : Type 0} (r : Result A E) (P Q : A → Type 0) → ((a : A) → P a → Q a) → IfOk r P → IfOk r Q
+on_ok (Ok a) P Q f p = f a p
+on_ok (Err e) P Q f p = tt
+
 pub returns : goal.returns
 returns g c = record {
-  driven = λ kept.
+  driven =
       let cfg = c.args.cfg in
       let s = setting cfg.public_key cfg.deque_size cfg.byte_budget cfg.priority (same_by g.P.Ord.cmp g.M.Digest.Ord.cmp)
       g.M.Digestible.digest_of g.M.Write.encoding (whole (g.M.Read.reading cfg.codec_config)) in
       let new = c.over-engine.ensures in
-      let took = c.in_ok-turns.ensures.took s (record {
+      on_ok c.drive-turns.result _ _ (λ turns always kept.
+      let took = always s (record {
         same = refl;
         encoding = refl;
         priority = sym (ap (λ e. e.priority) new);
@@ -43,5 +48,5 @@ returns g c = record {
         counted = λ counter. took.ran.counters counter
             ∙ ap (λ n. raised n (count_by (is_counted_as s.same.key counter) (counted s took.steps [])))
             (ap (λ e. number_at s.same.key counter e.node.metrics) new ∙ number-zero s.same.key counter);
-      };
+      }) c.drive-turns.ensures.took;
 }
