@@ -2,4 +2,3 @@
 mod clients;
 mod endings;
 mod quiet;
-mod tallied;

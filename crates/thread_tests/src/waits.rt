@@ -145,11 +145,11 @@ fn a_reply_and_a_close_wake_who_waits(rt: HostRuntime) {
 /// How many subscriptions are dropped beside a thread that looks.
 const ROUNDS: usize = 5_000;
 
-/// A thread looks this often before it lets others run.
-const LOOKS: u64 = 200;
+/// How often a thread looks before it gives up.
+const LOOKS: u64 = 200_000_000;
 
-/// A thread lets others run this often before it gives up.
-const YIELDS: u64 = 1_000_000;
+/// After how many looks it lets others run.
+const IN_A_ROW: u64 = 200;
 
 /// Where a subscription is handed to the thread that drops it.
 type Hand = Mutex<Option<Subscription<TestMessage>>>;
@@ -157,25 +157,41 @@ type Hand = Mutex<Option<Subscription<TestMessage>>>;
 /// Drops each subscription that is handed over.
 fn drop_each<R: Runtime>(rt: &R, hand: &Hand) {
     for _ in 0..ROUNDS {
-        let Some(subscription) = looked_for(|| hand.lock(rt).take()) else {
+        let Some(subscription) = handed(rt, hand) else {
             return;
         };
         drop::<_>(subscription);
     }
 }
 
-/// Looks until there is something.
-fn looked_for<T: Drop>(mut look: impl FnMut() -> Option<T>) -> Option<T> {
-    for _ in 0..YIELDS {
-        for _ in 0..LOOKS {
-            let found = look();
-            if found.is_some() {
-                return found;
-            }
+/// Looks until a subscription is handed over.
+fn handed<R: Runtime>(rt: &R, hand: &Hand) -> Option<Subscription<TestMessage>> {
+    for look in 0..LOOKS {
+        let found = hand.lock(rt).take();
+        if found.is_some() {
+            return found;
         }
-        thread::yield_now();
+        if look % IN_A_ROW == 0 {
+            thread::yield_now();
+        }
     }
     None
+}
+
+/// Looks until the mailbox tells of a drop. Returns whether it does.
+fn is_told<R>(
+    ingress: &mut Ingress<Incoming<u64, TestMessage>, R>,
+    told: &mut Vec<Digest>,
+) -> bool {
+    for look in 0..LOOKS {
+        if ingress.take_dropped(told) || !told.is_empty() {
+            return true;
+        }
+        if look % IN_A_ROW == 0 {
+            thread::yield_now();
+        }
+    }
+    false
 }
 
 /// Starts a thread that drops each subscription that is handed over.
@@ -197,8 +213,7 @@ fn is_open<R: Runtime + Abort>(
     let subscription = mailbox.subscribe(digest(rt, 1)).expect(rt, "a request");
     let (_, request) = ingress.take().expect(rt, "a request that waits");
     *hand.lock(rt) = Some(subscription);
-    let is_told = looked_for(|| (ingress.take_dropped(told) || !told.is_empty()).then_some(()));
-    is_told.is_none() || !request.is_closed()
+    !is_told(ingress, told) || !request.is_closed()
 }
 
 /// Drops subscriptions on another thread, one after another. Returns how many requests were still

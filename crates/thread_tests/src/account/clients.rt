@@ -3,21 +3,20 @@ ghost use Rattle.std.specs.Prelude.{◌≡◌, ◌<◌, ◌^◌};
 ghost use Rattle.std.specs.NonZero.{non_zero_u32_get};
 
 use super::quiet::{Gives, Sets, Void, Wire, config};
-use super::tallied::Tallied;
 use crate::nodes::message;
 use crate::patient::{LIMIT, pause};
-use broadcast_core::{Codec, Digest, Digested, Digestible, RangeCfg, Read, TestMessage};
+use broadcast_core::{Codec, Digest, Digested, Digestible, RangeCfg, Recipients, TestMessage};
 use commonware_broadcast::buffered::{
-    Account, All, Broadcasts, Config, EndCause, Engine, Kind, Runtime, Sequential, Settled, Tally,
-    Watch, WatchedNode,
+    Account, All, Broadcasts, EndCause, Engine, Kind, Runtime, Sequential, Settled, Tally, Watch,
+    WatchedMailbox, WatchedNode,
 };
 use std::alloc::{AllocError, AllocGlobal};
 use std::marker::Brand;
 use std::num::NonZeroU32;
 use std::process::Abort;
-use std::sync::Arc;
 use std::sync::atomic::{AtomicU64, Ordering};
 use std::sync::ledger::Blank;
+use std::sync::{Arc, Wait};
 use std::thread::{self, JoinHandle, Threads};
 use std::time::Clock;
 
@@ -61,15 +60,23 @@ struct Calls<M: Digestible> {
 
 /// A client.
 #[derive(Drop)]
-struct Client<M: Digestible, A: Account, C> {
-    mailbox: C,
+struct Client<M: Digestible, R, A: Account, K: Account, V: Watch<M::Digest>> {
+    mailbox: WatchedMailbox<u64, M, R, A, K, V>,
     tally: Tally<A>,
     calls: Calls<M>,
     /// The rounds that all clients have made.
     made: Arc<AtomicU64>,
+    rt: R,
 }
 
-impl<M: Digestible, A: Account, C: Tallied<M, A>> Client<M, A, C> {
+impl<M, R, A, K, V> Client<M, R, A, K, V>
+where
+    M: Digestible,
+    R: Wait + Abort + Drop,
+    A: Account,
+    K: Account,
+    V: Watch<M::Digest>,
+{
     /// Makes all calls. Returns the tally, and what it was told.
     fn run(self) -> (Tally<A>, Told) {
         let Client {
@@ -77,42 +84,46 @@ impl<M: Digestible, A: Account, C: Tallied<M, A>> Client<M, A, C> {
             mut tally,
             calls,
             made,
+            rt,
         } = self;
         let mut told = [0; 3];
         let Calls { messages, nobodys } = calls;
         for message in messages {
-            call(&mailbox, &mut tally, message, nobodys, &mut told);
+            call(&rt, &mailbox, &mut tally, message, nobodys, &mut told);
             made.fetch_add(1, Ordering::SeqCst);
         }
         (tally, told)
     }
 }
 
-/// Makes a broadcast, a subscribe and two gets, and drops their futures. Counts those of which its
-/// caller is told that they were accepted.
-fn call<M: Digestible, A: Account, C: Tallied<M, A>>(
-    mailbox: &C,
+/// Makes a broadcast, a subscribe and two gets, and drops their futures.
+fn call<M, R, A, K, V>(
+    rt: &R,
+    mailbox: &WatchedMailbox<u64, M, R, A, K, V>,
     tally: &mut Tally<A>,
     message: Digested<M>,
     nobodys: M::Digest,
     told: &mut Told,
-) {
+)
+where
+    M: Digestible,
+    R: Wait + Abort,
+    A: Account,
+    K: Account,
+    V: Watch<M::Digest>,
+{
     let digest = message.digest();
-    let feedback = mailbox.broadcasts(tally, message);
-    count(&mut told[0], feedback.is_some_and(|it| it.accepted()));
-    count(
-        &mut told[1],
-        mailbox.subscribes(tally, nobodys) == Some(true),
-    );
+    let feedback = mailbox.broadcast_as(tally, Recipients::All, message);
+    let is_accepted = feedback.expect(rt, "a broadcast").accepted();
+    told[0] = told[0].saturating_add(u64::from(is_accepted));
+    let subscription = mailbox
+        .subscribe_as(tally, nobodys)
+        .expect(rt, "a subscription");
+    told[1] = told[1].saturating_add(u64::from(subscription.was_accepted()));
     for _ in 0..2 {
-        let get = mailbox.gets(tally, digest);
-        count(&mut told[2], get.is_some_and(|it| it.was_accepted()));
+        let get = mailbox.get_as(tally, digest).expect(rt, "a get");
+        told[2] = told[2].saturating_add(u64::from(get.was_accepted()));
     }
-}
-
-/// Adds one to the number, if a call was accepted.
-fn count(number: &mut u64, is_accepted: bool) {
-    *number = number.saturating_add(u64::from(is_accepted));
 }
 
 /// A client that was started. It leaves its tally, and what it was told.
@@ -138,22 +149,15 @@ where
     V: Watch<M::Digest> + Send + Sync + 'static,
     R: Runtime + Abort,
 {
-    let sets = Sets::new(rt.alloc(), Gives::Nothing).expect(rt, "memory");
-    let wire = Wire::new(rt.alloc(), Gives::Nothing).expect(rt, "memory");
-    let cfg = config(sets, codec_config, Sequential);
     let parts = NonZeroU32::new(CLIENTS).unwrap();
     let accepted = Blank::new(parts.get() as u64);
-    let taken = Blank::new(1);
-    run_with::<M, V, R, Brand, Brand>(rt, (cfg, wire), calls, parts, accepted, taken)
+    run_with::<M, V, R, Brand, Brand>(rt, codec_config, calls, parts, accepted, Blank::new(1))
 }
-
-/// The configuration and the payloads of an engine.
-type Sources<M> = (Config<u64, <M as Read>::Cfg, Sets, Sequential>, Wire);
 
 /// Lets four clients call, whose account has these ledgers. Stops the engine in the middle.
 fn run_with<M, V, R, A, K>(
     rt: &R,
-    sources: Sources<M>,
+    codec_config: M::Cfg,
     calls: Vec<Calls<M>>,
     parts: NonZeroU32,
     accepted: Blank,
@@ -172,19 +176,21 @@ where
     requires taken { (taken.name ≡ K.name) × (taken.parts ≡ K.parts) }
     requires one { (K.all ≡ K.parts) × (K.parts ≡ 1) }
 {
-    let (cfg, wire) = sources;
-    let made = Arc::new(rt.alloc(), AtomicU64::new(0)).expect(rt, "memory");
+    let sets = Sets::new(rt.alloc(), Gives::Nothing).expect(rt, "memory");
+    let wire = Wire::new(rt.alloc(), Gives::Nothing).expect(rt, "memory");
+    let cfg = config(sets, codec_config, Sequential);
     let copy = rt.clone().expect(rt, "memory");
     let node: Result<WatchedNode<u64, M, Sets, Sequential, R, A, K, V>, AllocError> =
         Engine::new_watched(copy, rt.alloc(), cfg, parts, accepted, taken);
     let (engine, mailbox, tally) = node.expect(rt, "an engine");
+    let made = Arc::new(rt.alloc(), AtomicU64::new(0)).expect(rt, "memory");
     let handle = engine.start(rt, (Void, wire)).expect(rt, "a thread");
     let clients = start_all(rt, &mailbox, tally, calls, &made);
     wait_for_half(rt, &made);
     handle.stop();
     let (tally, told) = join_all(rt, clients);
-    let (counted, report) = (tally.accepted(), handle.join(rt));
-    let cause = report.cause();
+    let report = handle.join(rt);
+    let (cause, counted) = (report.cause(), tally.accepted());
     match report.settle(tally) {
         Ok(settled) => Left {
             cause,
@@ -197,9 +203,9 @@ where
 }
 
 /// Starts a client for each list of calls, with a part of the tally each.
-fn start_all<M, R, A, C>(
+fn start_all<M, R, A, K, V>(
     rt: &R,
-    mailbox: &C,
+    mailbox: &WatchedMailbox<u64, M, R, A, K, V>,
     tally: Tally<A>,
     calls: Vec<Calls<M>>,
     made: &Arc<AtomicU64>,
@@ -209,20 +215,16 @@ where
     M::Digest: Send + Sync + 'static,
     R: Runtime + Abort,
     A: Account + Send + Sync + 'static,
-    C: Tallied<M, A> + Clone + Send + 'static,
+    K: Account + Send + Sync + 'static,
+    V: Watch<M::Digest> + Send + Sync + 'static,
 {
     let mut clients = Vec::new(rt.alloc());
     let mut rest = Some(tally);
     for calls in calls {
         let (part, others) = part_of(rest);
         rest = others;
-        let client = Client {
-            mailbox: mailbox.clone().expect(rt, "memory"),
-            tally: part.expect(rt, "a part"),
-            calls,
-            made: Arc::try_clone(made).expect(rt, "memory"),
-        };
-        clients.push(start(rt, client)).expect(rt, "memory");
+        let client = start(rt, mailbox, part.expect(rt, "a part"), calls, made);
+        clients.push(client).expect(rt, "memory");
     }
     clients
 }
@@ -238,15 +240,31 @@ fn part_of<A: Account>(tally: Option<Tally<A>>) -> (Option<Tally<A>>, Option<Tal
     }
 }
 
-/// Starts a client.
-fn start<M, R, A, C>(rt: &R, client: Client<M, A, C>) -> Running<A>
+/// Starts a client with this part of the tally.
+fn start<M, R, A, K, V>(
+    rt: &R,
+    mailbox: &WatchedMailbox<u64, M, R, A, K, V>,
+    tally: Tally<A>,
+    calls: Calls<M>,
+    made: &Arc<AtomicU64>,
+) -> Running<A>
 where
     M: Digestible + Send + Sync + 'static,
     M::Digest: Send + Sync + 'static,
     R: Runtime + Abort,
     A: Account + Send + Sync + 'static,
-    C: Tallied<M, A> + Send + 'static,
+    K: Account + Send + Sync + 'static,
+    V: Watch<M::Digest> + Send + Sync + 'static,
 {
+    let made = Arc::try_clone(made).expect(rt, "memory");
+    let own = rt.clone().expect(rt, "memory");
+    let client = Client {
+        mailbox: mailbox.clone().expect(rt, "memory"),
+        tally,
+        calls,
+        made,
+        rt: own,
+    };
     thread::spawn(rt, move || client.run()).expect(rt, "a thread")
 }
 

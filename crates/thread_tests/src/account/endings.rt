@@ -3,9 +3,8 @@ ghost use Rattle.std.specs.Prelude.{◌≡◌, ◌<◌, ◌^◌};
 ghost use Rattle.std.specs.NonZero.{non_zero_u32_get};
 
 use super::quiet::{Gives, Sets, Void, Wire, config};
-use super::tallied::Tallied;
 use crate::nodes::message;
-use broadcast_core::{Codec, Digested, Digestible, RangeCfg, Read, TestMessage};
+use broadcast_core::{Codec, Digested, Digestible, RangeCfg, Read, Recipients, TestMessage};
 use broadcast_mailbox::Feedback;
 use commonware_broadcast::buffered::{
     Account, All, Books, Config, EndCause, Engine, Get, MailboxReport, Runtime, Settled, Status,
@@ -152,21 +151,30 @@ type Asked<M, A> = (Get<M>, Tally<A>, Tally<A>);
 
 /// Makes a get, a subscribe whose caller hangs up, and a broadcast, with a part of the tally. The
 /// ready list has one place, so the broadcast is told to slow down.
-fn ask<M, R, A, C>(rt: &R, mailbox: &C, tally: Tally<A>, message: Digested<M>) -> Asked<M, A>
+fn ask<M, R, A, K>(
+    rt: &R,
+    mailbox: &WatchedMailbox<u64, M, R, A, K, All>,
+    tally: Tally<A>,
+    message: Digested<M>,
+) -> Asked<M, A>
 where
     M: Digestible,
-    R: Abort,
+    R: Wait + Abort,
     A: Account,
-    C: Tallied<M, A>,
+    K: Account,
 {
     let Ok((first, mut second)) = tally.split() else {
         panic!(rt; "a tally that can't be split");
     };
     let digest = message.digest();
-    let get = mailbox.gets(&mut second, digest).expect(rt, "a get");
-    let is_accepted = mailbox.subscribes(&mut second, digest) == Some(true);
-    let told = mailbox.broadcasts(&mut second, message);
-    assert!(rt; is_accepted && told == Some(Feedback::Backoff), "calls");
+    let get = mailbox.get_as(&mut second, digest).expect(rt, "a get");
+    let subscription = mailbox.subscribe_as(&mut second, digest);
+    let told = mailbox.broadcast_as(&mut second, Recipients::All, message);
+    assert!(rt;
+        told == Ok(Feedback::Backoff),
+        "a broadcast is told otherwise"
+    );
+    drop::<_>(subscription.expect(rt, "a subscription"));
     (get, first, second)
 }
 
