@@ -352,6 +352,8 @@ impl Hub {
         for peer in peers.iter().chain([&self.own]) {
             let is_held = gossip.machine.is_held(peer.node);
             self.metrics.held.with_label_values(&[&peer.name]).set(is_held.into());
+            let given_up = gossip.machine.given_up(peer.node) as i64;
+            self.metrics.given_up.with_label_values(&[&peer.name]).set(given_up);
         }
         drop(gossip);
         TextEncoder::new().encode_to_string(&self.metrics.registry.gather()).unwrap_or_default()

@@ -128,7 +128,9 @@ impl Journal {
             records.extend_from_slice(message.bytes());
         }
         self.write(&records)?;
-        messages.iter().for_each(|it| self.covered.cover(it.prev, it.stamp));
+        for it in messages {
+            self.covered.cover(it.prev, it.stamp);
+        }
         Ok(())
     }
 

@@ -11,6 +11,7 @@ pub struct Metrics {
     pub registry: Registry,
     pub connected: IntGaugeVec,
     pub held: IntGaugeVec,
+    pub given_up: IntGaugeVec,
     pub handshakes: IntGauge,
     pub published: IntCounter,
     pub delivered: IntCounterVec,
@@ -30,6 +31,7 @@ impl Metrics {
         Ok(Metrics {
             connected: gauges!("connected", "Whether a peer is connected", &["peer"], registry)?,
             held: gauges!("held", "Whether an author waits for a peer", &["author"], registry)?,
+            given_up: gauges!("given_up", "Gaps that were closed", &["author"], registry)?,
             handshakes: gauge!("handshakes", "Connections that have proved no key", registry)?,
             published: counter!("published_total", "Own messages", registry)?,
             delivered: counters!("delivered_total", "New messages", &["author"], registry)?,

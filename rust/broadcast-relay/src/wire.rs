@@ -119,7 +119,9 @@ mod tests {
     #[tokio::test]
     async fn a_frame_is_read_back() {
         let mut coverage = Coverage::up_to(5);
-        (5..=67).for_each(|it| coverage.cover(2 * it, 2 * it + 1));
+        for it in 5..=67 {
+            coverage.cover(2 * it, 2 * it + 1);
+        }
         let report = |coverage, is_held| {
             Frame::Report([1; 32], Report { coverage, since: 7, room: 9, is_held })
         };

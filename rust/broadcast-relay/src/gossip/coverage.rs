@@ -75,9 +75,9 @@ impl Coverage {
         if self.covers(stamp) { ends() } else { None }
     }
 
-    /// Adds `(after, upto]`. Beyond `MOST` intervals the oldest gap is closed: all in it counts as had.
-    pub fn cover(&mut self, after: u64, upto: u64) {
-        self.0.cover(after, upto).expect(LINKED);
+    /// Adds `(after, upto]`. Beyond `MOST` intervals the oldest gap is closed: all in it counts as had. Returns whether one was.
+    pub fn cover(&mut self, after: u64, upto: u64) -> bool {
+        self.0.cover(after, upto).expect(LINKED) != Span::default()
     }
 
     /// The least stamp above `above` and at most `upto` that `other` covers and this does not.
@@ -149,7 +149,8 @@ mod tests {
             assert_eq!(Coverage::decode(&[&bytes[..], &[0]].concat()), None);
         }
         let mut many = Coverage::default();
-        (1..=99).for_each(|it| many.cover(2 * it, 2 * it + 1));
+        let closes = (1..=99).filter(|it| many.cover(2 * it, 2 * it + 1));
+        assert_eq!(closes.count(), 99 - Coverage::MOST + 1);
         assert_eq!(many.runs().count(), Coverage::MOST);
         let mut bytes = Vec::new();
         many.encode(&mut bytes);

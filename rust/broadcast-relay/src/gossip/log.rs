@@ -12,6 +12,8 @@ pub struct Log {
     author: usize,
     is_own: bool,
     pub covered: Coverage,
+    /// How many gaps of it were closed, and given up.
+    pub given_up: u64,
     pub list: List,
     pub bucket: Bucket,
     pub views: Vec<View>,
@@ -40,6 +42,7 @@ impl Log {
             author,
             is_own,
             covered: Coverage::default(),
+            given_up: 0,
             list: List::new(bounds.list),
             bucket: Bucket::new(bounds.rate, bounds.burst),
             views: Vec::new(),
@@ -113,7 +116,7 @@ impl Log {
         links: &mut Links,
     ) -> bool {
         let (stamp, size) = (message.stamp, message.size());
-        self.covered.cover(message.prev, stamp);
+        self.given_up += u64::from(self.covered.cover(message.prev, stamp));
         self.list.insert(message);
         self.patience.renew(now, size, bounds.pace);
         let is_fed = from.is_some() && self.feeder == from;

@@ -222,7 +222,12 @@ impl Machine {
         &self.logs[author].list
     }
 
-    /// The peers that an author is held for: they lack too much.
+    /// How many gaps of an author's log were given up: what was in them counts as had, and never comes.
+    pub fn given_up(&self, author: usize) -> u64 {
+        self.logs[author].given_up
+    }
+
+    /// Whether an author is held for peers that lack too much.
     pub fn is_held(&self, author: usize) -> bool {
         self.logs[author].is_held
     }

@@ -144,6 +144,18 @@ fn an_author_that_lost_its_journal_closes_nothing() {
     assert!(other.covered(0).runs().eq([(899, 900), (1_000, 1_006)]));
 }
 
+#[test]
+fn a_gap_that_is_given_up_is_counted() {
+    let mut relay = machine(&Bounds::default(), 0, 2, None);
+    relay.connect(0, 1, 100);
+    for it in 1..=70 {
+        let message = Message { author: 1, stamp: 2 * it, prev: 2 * it - 1, bytes: vec![].into() };
+        assert_eq!(relay.message(it, 1, message), Ok(Taken::New));
+    }
+    // A floor, and 63 intervals behind it.
+    assert_eq!(relay.given_up(1), 70 - 63);
+}
+
 /// Each lacks more of the other's list than it waits for, and both are held: a gap is filled all the same, at once.
 #[test]
 fn relays_that_lack_each_others_messages_do_not_wait_for_each_other() {
@@ -203,7 +215,7 @@ fn some_of(random: &mut Random, author: usize) -> Vec<Past> {
         let message = Message { author, stamp, prev: stamp - 1, bytes: vec![0; 900].into() };
         match random.below(4) {
             0 => {}
-            1 => log.covered.cover(stamp - 1, stamp),
+            1 => drop(log.covered.cover(stamp - 1, stamp)),
             _ => log.messages.push(message),
         }
     }
