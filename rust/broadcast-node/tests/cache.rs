@@ -4,7 +4,7 @@
 
 mod common;
 
-use broadcast_node::{Cache, Digest, Error, Held, Key, Outcome, Subscribed, Ticket};
+use broadcast_node::{Cache, Digest, Error, Evicted, Held, Key, Outcome, Subscribed, Ticket};
 use common::{Model, Random, digest, key, some_keys};
 use std::rc::Rc;
 use std::time::{Duration, Instant};
@@ -28,15 +28,17 @@ struct Seen {
     strange: u64,
 }
 
-fn sorted(messages: impl IntoIterator<Item = (Digest, Rc<u64>)>) -> Vec<(Digest, Rc<u64>)> {
-    let mut sorted: Vec<_> = messages.into_iter().collect();
-    sorted.sort();
-    sorted
+/// Takes some of what left out, and drops the others.
+fn compare(mut evicted: Evicted<'_, Rc<u64>>, left: Vec<(Digest, Rc<u64>)>) {
+    assert_eq!(evicted.len(), left.len());
+    let some = left.len() / 2;
+    assert!(evicted.by_ref().take(some).all(|it| left.contains(&it)));
+    assert_eq!(evicted.len(), left.len() - some);
 }
 
 /// The messages that the model had before, and has no more.
 fn left(before: Vec<(Digest, Rc<u64>)>, model: &Model<Rc<u64>, Ticket>) -> Vec<(Digest, Rc<u64>)> {
-    sorted(before.into_iter().filter(|it| model.get(&it.0).is_none()))
+    before.into_iter().filter(|it| model.get(&it.0).is_none()).collect()
 }
 
 /// The cache and the model, both of which share the messages: so their counts show which the cache has.
@@ -69,7 +71,7 @@ impl Pair {
         let before = self.model.messages.clone();
         self.model.peers(&keys);
         let evicted = self.cache.update_primary_peers(&keys).unwrap();
-        assert_eq!(sorted(evicted), left(before, &self.model));
+        compare(evicted, left(before, &self.model));
     }
 
     fn charge(&mut self) -> usize {
@@ -97,7 +99,7 @@ impl Pair {
         let is_kept = self.model.get(name).is_some_and(|it| Rc::ptr_eq(it, &message));
         assert_eq!(matches!(taken.message, Held::Cached(_)), is_kept);
         self.seen.evicted += taken.evicted.len() as u64;
-        assert_eq!(sorted(taken.evicted), left(before, &self.model));
+        compare(taken.evicted, left(before, &self.model));
         self.seen.returned += u64::from(!is_kept);
         self.seen.served += served.len() as u64;
         *match outcome {
