@@ -4,11 +4,11 @@ ghost use Rattle.std.specs.NonZero.{non_zero_u32_get};
 
 use super::quiet::{Gives, Sets, Void, Wire, config};
 use crate::nodes::message;
-use broadcast_core::{Codec, Digested, Digestible, RangeCfg, Read, Recipients, TestMessage};
+use broadcast_core::{Codec, Digested, Digestible, RangeCfg, Recipients, TestMessage};
 use broadcast_mailbox::Feedback;
 use commonware_broadcast::buffered::{
-    Account, All, Books, Config, EndCause, Engine, Get, MailboxReport, Runtime, Settled, Status,
-    Tally, WatchedEngine, WatchedMailbox, WatchedNode, drive,
+    Account, All, Books, EndCause, Engine, Get, MailboxReport, Runtime, Settled, Status, Tally,
+    WatchedEngine, WatchedMailbox, WatchedNode, drive,
 };
 use commonware_broadcast::mocks::Slow;
 use futures::task::{Doorbell, Poll, Solo};
@@ -93,16 +93,12 @@ where
     M::Cfg: Send + Drop + 'static,
     R: Runtime + Abort,
 {
-    let sets = Sets::new(rt.alloc(), row.gives).expect(rt, "memory");
-    let wire = Wire::new(rt.alloc(), row.gives).expect(rt, "memory");
-    // The job of the payload is still pending after the polls before the start.
-    let cfg = config(sets, codec_config, Slow { polls: 9 });
     let parts = NonZeroU32::new(2).unwrap();
     let accepted = Blank::new(parts.get() as u64);
     end_with::<M, R, Brand, Brand>(
         rt,
         row,
-        (cfg, wire),
+        codec_config,
         message,
         parts,
         accepted,
@@ -110,14 +106,11 @@ where
     )
 }
 
-/// The configuration and the payloads of an engine.
-type Sources<M> = (Config<u64, <M as Read>::Cfg, Sets, Slow>, Wire);
-
 /// Lets an engine end after three requests, whose account has these ledgers.
 fn end_with<M, R, A, K>(
     rt: &R,
     row: &Row,
-    sources: Sources<M>,
+    codec_config: M::Cfg,
     message: Digested<M>,
     parts: NonZeroU32,
     accepted: Blank,
@@ -135,7 +128,10 @@ where
     requires taken { (taken.name ≡ K.name) × (taken.parts ≡ K.parts) }
     requires one { (K.all ≡ K.parts) × (K.parts ≡ 1) }
 {
-    let (cfg, wire) = sources;
+    let sets = Sets::new(rt.alloc(), row.gives).expect(rt, "memory");
+    let wire = Wire::new(rt.alloc(), row.gives).expect(rt, "memory");
+    // The job of the payload is still pending after the polls before the start.
+    let cfg = config(sets, codec_config, Slow { polls: 9 });
     let copy = rt.clone().expect(rt, "memory");
     let node: Result<WatchedNode<u64, M, Sets, Slow, R, A, K, All>, AllocError> =
         Engine::new_watched(copy, rt.alloc(), cfg, parts, accepted, taken);
