@@ -2,15 +2,13 @@
 ghost use Rattle.std.specs.Prelude.{◌≡◌};
 ghost use Rattle.rates.specs.declared.fault.Fault.TheVariants.{Memory};
 
-use crate::words::USAGE;
 use broadcast_mailbox::MailboxError;
 use commonware_broadcast::buffered::StartError;
 use std::alloc::{AllocError, AllocFailed};
-use std::fmt::{self, Display, Formatter};
 use std::io::Write;
 
 /// A fault, which ends a run of the program.
-#[derive(Clone, Copy, Debug)]
+#[derive(Clone, Copy)]
 pub enum Fault {
     /// The arguments are not those of the usage line.
     Usage,
@@ -57,26 +55,22 @@ impl From<StartError> for Fault {
     }
 }
 
-impl Display for Fault {
-    fn fmt<W: fmt::Write>(&self, f: &mut Formatter<W>) -> fmt::Result {
-        f.write_str(match self {
-            Fault::Usage => USAGE,
-            Fault::Thread => "rates: no thread could be started",
-            Fault::Clock => "rates: the clock failed",
-            Fault::Write => "rates: standard output failed",
-            Fault::Memory => "rates: out of memory",
-        })
-    }
-}
-
 impl Fault {
     /// Writes the text in one line, and returns the exit status: 2 for what the caller wrote, 3 for
     /// what the system refused. A failure to write is ignored.
-    pub fn report<E: Write + Drop>(&self, mut err: E) -> u8 {
-        let _ = writeln!(err, "{self}");
-        match self {
-            Fault::Usage => 2,
-            Fault::Thread | Fault::Clock | Fault::Write | Fault::Memory => 3,
-        }
+    pub fn report<E: Write + Drop>(self, mut err: E) -> u8 {
+        let (status, text) = match self {
+            Fault::Usage => (2, USAGE),
+            Fault::Thread => (3, "rates: no thread could be started"),
+            Fault::Clock => (3, "rates: the clock failed"),
+            Fault::Write => (3, "rates: standard output failed"),
+            Fault::Memory => (3, "rates: out of memory"),
+        };
+        let _ = writeln!(err, "{text}");
+        status
     }
 }
+
+/// The usage line.
+const USAGE: &str = "usage: rates cache WHAT KEY PEERS SIZE ROUNDS, \
+    rates payloads HOW PEERS SIZE COUNT, or rates gets CLIENTS ROUNDS DEPTH";

@@ -12,11 +12,9 @@ mod words;
 
 use commonware_broadcast::buffered::Runtime;
 use fault::Fault;
-use std::env;
-use std::io::{ErrorKind, Write};
+use std::io::Write;
 use std::process::ExitCode;
-use std::rt::Env;
-use words::HELP;
+use words::read_arguments;
 
 fn main(rt: HostRuntime) -> ExitCode {
     let played = match read_arguments(&rt) {
@@ -29,18 +27,7 @@ fn main(rt: HostRuntime) -> ExitCode {
     }
 }
 
-/// Returns the arguments of the process without the program's name.
-fn read_arguments<R: Env + AllocGlobal>(rt: &R) -> Result<Vec<String>, Fault> {
-    let mut words = match env::args(rt) {
-        Ok(words) => words,
-        Err(error) if error.kind() == ErrorKind::OutOfMemory => return Err(Fault::Memory),
-        Err(_) => return Err(Fault::Usage),
-    };
-    let _name = words.next();
-    Ok(words.collect(rt.alloc())?)
-}
-
-/// Makes the measurement of the arguments and writes its line, or writes what the arguments are.
+/// Makes the measurement of the arguments, and writes its line.
 fn play<R, W>(rt: &R, words: &[String], out: &mut W) -> Result<(), Fault>
 where
     R: Runtime,
@@ -49,11 +36,10 @@ where
     let [what, rest @ ..] = words else {
         return Err(Fault::Usage);
     };
-    match (what.as_str(), rest) {
-        ("cache", rest) => cache::play(rt, rest, out),
-        ("payloads", rest) => payloads::play(rt, rest, out),
-        ("gets", rest) => gets::play(rt, rest, out),
-        ("--help" | "-h", []) => out.write_all(HELP.as_bytes()).map_err(|_| Fault::Write),
+    match what.as_str() {
+        "cache" => cache::play(rt, rest, out),
+        "payloads" => payloads::play(rt, rest, out),
+        "gets" => gets::play(rt, rest, out),
         _ => Err(Fault::Usage),
     }
 }

@@ -1,21 +1,17 @@
 //! What a payload costs, taken by `run` and by an engine.
-ghost use Rattle.std.specs.Prelude.{⊥};
-
 use crate::fault::Fault;
 use crate::random::Random;
-use crate::words::parse_number;
+use crate::words::parse_numbers;
 use broadcast_core::{
     Answer, Codec, Digestible, Event, Items, RangeCfg, Set, TestMessage, Write as Encode, run,
 };
 use commonware_broadcast::buffered::mocks::{RecordingSender, Script};
 use commonware_broadcast::buffered::{
-    Answering, Config, Engine, Mailbox, MailboxEngine, NetworkFailed, Provider, Reply, Sequential,
-    Turn,
+    Config, Engine, Mailbox, MailboxEngine, NetworkFailed, Sequential, Turn, drive,
 };
-use futures::task::{Context, Doorbell, Poll, Solo};
+use futures::task::{Doorbell, Poll, Solo};
 use std::alloc::{AllocError, AllocGlobal, Global};
 use std::io::Write;
-use std::marker::Model;
 use std::random::RandomSource;
 use std::sync::Wait;
 
@@ -34,12 +30,12 @@ where
     R: Wait + RandomSource + AllocGlobal + Clone + Drop,
     W: Write,
 {
-    let [how, peers, size, count] = words else {
+    let [how, numbers @ ..] = words else {
         return Err(Fault::Usage);
     };
-    let (peers, size) = (parse_number(peers)?, parse_number(size)? as usize);
-    let given = Given::new(rt.alloc(), peers, parse_number(count)?)?;
-    let taken = take(rt, how, size, given)?;
+    let [peers, size, count] = parse_numbers::<3>(numbers)?;
+    let given = Given::new(rt.alloc(), peers, count)?;
+    let taken = take(rt, how, size as usize, given)?;
     writeln!(out, "{taken} payloads").map_err(|_| Fault::Write)
 }
 
@@ -50,7 +46,7 @@ where
 {
     match how {
         "none" => Ok(given.payloads.len()),
-        "run" => Ok(by_run(rt.alloc(), size, given)?),
+        "run" => by_run(rt.alloc(), size, given),
         "engine" => by_engine(rt, size, given),
         _ => Err(Fault::Usage),
     }
@@ -72,10 +68,8 @@ impl Given {
             let message = (at / 4).saturating_sub(random.below(8));
             payloads.push((random.below(peers), payload(alloc, message)?))?;
         }
-        Ok(Given {
-            peers: peers_of(alloc, peers)?,
-            payloads,
-        })
+        let peers = Set::from_iter_dedup((0..peers).collect(alloc)?)?;
+        Ok(Given { peers, payloads })
     }
 }
 
@@ -90,17 +84,8 @@ fn payload(alloc: Global, number: u64) -> Result<Items<u8>, Fault> {
     }
 }
 
-/// Returns the set of this many peers.
-fn peers_of(alloc: Global, peers: u64) -> Result<Set<u64>, AllocError> {
-    let mut keys = Vec::new(alloc);
-    for key in 0..peers {
-        keys.push(key)?;
-    }
-    Set::from_iter_dedup(keys)
-}
-
 /// Runs the payloads on a core whose lists have `size` places. Returns how many were taken.
-fn by_run(alloc: Global, size: usize, given: Given) -> Result<usize, AllocError> {
+fn by_run(alloc: Global, size: usize, given: Given) -> Result<usize, Fault> {
     let events = events_of(alloc, given)?;
     let ran = run(alloc, OWN, size, u64::MAX, false, &RangeCfg::any(), events)?;
     let answers = ran.answers.as_slice().iter();
@@ -119,84 +104,29 @@ fn events_of(alloc: Global, given: Given) -> Result<Vec<Event<u64, TestMessage>>
 }
 
 /// Gives one peer set.
-#[derive(Drop)]
-struct OneSet {
-    set: Option<Set<u64>>,
-}
+type Sets = Script<Option<Set<u64>>>;
 
-impl Provider<u64> for OneSet {
-    // A pending poll asks for another one.
-    ghost needs = { λ _ _. ⊥ };
-
-    fn poll_update(&mut self, cx: &mut Context<'_>) -> Poll<Option<Set<u64>>> {
-        match self.set.take() {
-            Some(set) => Poll::Ready(Some(set)),
-            None => cx.yield_now(),
-        }
-    }
-}
-
-/// Gives payloads, and is pending then.
+/// Gives payloads.
 type Payloads = Script<Result<Payload, NetworkFailed>>;
 
-/// An engine, kept in a box, since a proof pays for the size of what it touches.
-type Idle<M, R> = Box<MailboxEngine<u64, M, OneSet, Sequential, R>>;
+/// An engine that takes them.
+type Idle<M, R> = MailboxEngine<u64, M, Sets, Sequential, R>;
 
-/// Where the reply to a get goes.
-type ToGet = Answering<Option<Reply<TestMessage>>>;
-
-/// An engine with a mailbox that nobody uses, and its network. Nothing is known of their state,
-/// which keeps proofs small.
-#[derive(Drop)]
-struct Node<R: Wait> {
-    engine: Idle<TestMessage, R>,
-    network: (RecordingSender<u64>, Payloads),
-    _mailbox: Mailbox<u64, TestMessage, R>,
-}
-
-impl<R: Wait> Model for Node<R> {
-    ghost Value = { Unit {0} };
-
-    ghost view = { λ _. tt };
-}
-
-impl<R> Node<R>
+/// Gives the payloads to an engine whose lists have `size` places and whose mailbox nobody uses, one
+/// at a poll. Returns how many it took.
+fn by_engine<R>(rt: &R, size: usize, given: Given) -> Result<usize, Fault>
 where
     R: Wait + RandomSource + AllocGlobal + Clone + Drop,
 {
-    /// Creates a node whose lists have `size` places, to which nothing was given yet.
-    fn new(rt: &R, size: usize, given: Given) -> Result<Self, AllocError> {
-        let Given { peers, payloads } = given;
-        let network = (
-            RecordingSender::new(rt.alloc()),
-            script(rt.alloc(), payloads)?,
-        );
-        let (engine, mailbox) = new_engine(rt, size, peers, RangeCfg::any())?;
-        Ok(Node {
-            engine,
-            network,
-            _mailbox: mailbox,
-        })
-    }
-
-    /// Polls the engine as often as is said. Returns how many payloads it took.
-    fn poll_all(&mut self, alloc: Global, cx: &mut Context<'_>, polls: usize) -> usize {
-        let mut taken = 0usize;
-        for _ in 0..polls {
-            if self.poll(alloc, cx) {
-                taken = taken.saturating_add(1);
-            }
-        }
-        taken
-    }
-
-    /// Polls the engine. Returns whether it took a payload.
-    fn poll(&mut self, alloc: Global, cx: &mut Context<'_>) -> bool {
-        let polled = self
-            .engine
-            .poll::<ToGet, _, _>(alloc, cx, &mut self.network);
-        matches!(polled, Poll::Ready(Turn::Payload(..)))
-    }
+    let Given { peers, payloads } = given;
+    // Its first poll takes the peer set.
+    let polls = payloads.len().saturating_add(1);
+    let payloads = script(rt.alloc(), payloads)?;
+    let mut network = (RecordingSender::new(rt.alloc()), payloads);
+    let (mut engine, mailbox) = new_engine(rt, size, peers, RangeCfg::any())?;
+    let taken = drive_all(rt, &mut engine, &mut network, polls);
+    drop::<_>((engine, mailbox, network));
+    Ok(taken?)
 }
 
 /// Returns the script of the payloads.
@@ -221,38 +151,34 @@ where
     M::Cfg: Drop,
     R: Wait + AllocGlobal + Clone + Drop,
 {
-    let config = Config::new(OWN, OneSet { set: Some(peers) })
+    let sets = Script::new(vec![in rt.alloc(); Poll::Ready(Some(peers))]?);
+    let own = rt.clone()?;
+    let config = Config::new(OWN, sets)
         .with_codec_config(codec_config)
         .with_deque_size(size)
         .with_byte_budget(u64::MAX);
-    let (engine, mailbox) = Engine::new(rt.clone()?, rt.alloc(), config)?;
-    Ok((Box::new(rt.alloc(), engine)?, mailbox))
+    Engine::new(own, rt.alloc(), config)
 }
 
-/// Gives the payloads to an engine whose lists have `size` places, one at a poll. Returns how many
-/// it took.
-fn by_engine<R>(rt: &R, size: usize, given: Given) -> Result<usize, Fault>
+/// Polls the engine as often as is said. Returns how many payloads it took.
+fn drive_all<R>(
+    rt: &R,
+    engine: &mut Idle<TestMessage, R>,
+    network: &mut (RecordingSender<u64>, Payloads),
+    polls: usize,
+) -> Result<usize, AllocError>
 where
-    R: Wait + RandomSource + AllocGlobal + Clone + Drop,
-{
-    // Its first poll takes the peer set.
-    let polls = given.payloads.len().saturating_add(1);
-    let mut node = Node::new(rt, size, given)?;
-    Ok(poll_node(rt, &mut node, polls)?)
-}
-
-/// Polls the node as often as is said, as a task. Returns how many payloads it took.
-fn poll_node<R>(rt: &R, node: &mut Node<R>, polls: usize) -> Result<usize, AllocError>
-where
-    R: Wait + RandomSource + AllocGlobal + Clone + Drop,
+    R: Wait + RandomSource + AllocGlobal + Drop,
 {
     let Ok(task) = Solo::new(rt, Doorbell::spinning()) else {
         return Err(AllocError);
     };
     let mut cx = task.begin();
-    let taken = node.poll_all(rt.alloc(), &mut cx, polls);
+    let driven = drive(rt.alloc(), engine, &mut cx, network, polls);
     // The task is to be polled again.
     let _: Poll<()> = cx.yield_now();
     cx.park();
-    Ok(taken)
+    let turns = driven?;
+    let taken = turns.iter().filter(|it| matches!(it, Turn::Payload(..)));
+    Ok(taken.count())
 }

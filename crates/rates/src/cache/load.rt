@@ -1,16 +1,49 @@
 //! A cache, and the calls that it is given.
-
-use super::Settings;
 use super::message::Message;
 use super::name::{Name, Of};
+use crate::fault::Fault;
 use crate::random::Random;
-use broadcast_core::{Core, Outcome, Set};
-use std::alloc::{AllocError, AllocFailed, Global};
+use broadcast_core::{Core, Outcome, Set, Subscribed};
+use std::alloc::{AllocError, Global};
 
 /// The step from one awaited digest to the next that is cleaned up. It is prime.
 const STEP: u64 = 7919;
 
-/// A cache, the keys of its peers, and where the calls are.
+/// A call of a cache.
+#[derive(Clone, Copy)]
+pub enum Call {
+    /// A take of a message under any key, each message under about four, those near by in any order.
+    Take,
+    /// A take under the first key of any of these many messages.
+    TakeAny(u64),
+    /// A take of a message under the next key, each message under all of them.
+    Fill,
+    /// A get of any of these many messages.
+    Get(u64),
+    /// A list of the next peer's digests.
+    List,
+    /// A subscribe to a digest that nobody sends.
+    Subscribe,
+    /// A cleanup of one of these many digests.
+    Cleanup(u64),
+}
+
+/// Calls of one kind.
+#[derive(Clone, Copy)]
+pub struct Calls {
+    call: Call,
+    /// How many there are.
+    pub number: u64,
+}
+
+impl Call {
+    /// Returns these many calls.
+    pub fn often(self, number: u64) -> Calls {
+        Calls { call: self, number }
+    }
+}
+
+/// A cache, the keys of its peers, and where the takes are.
 #[derive(Drop)]
 pub struct Load<K: Name> {
     core: Core<K, Message<K>, u64>,
@@ -20,12 +53,12 @@ pub struct Load<K: Name> {
 }
 
 impl<K: Name> Load<K> {
-    /// Creates an empty cache whose peers are primary.
-    pub fn new(alloc: Global, settings: Settings) -> Result<Load<K>, AllocError> {
-        let keys = keys_of(alloc, settings.peers)?;
-        let peers = Set::from_iter_dedup(Vec::from_slice(alloc, &keys)?)?;
-        let mut core = Core::new(alloc, K::unnamed(), settings.size as usize, u64::MAX);
-        core.update_primary_peers(peers);
+    /// Creates an empty cache, whose peers are primary.
+    pub fn new(alloc: Global, peers: u64, size: u64) -> Result<Load<K>, AllocError> {
+        let primary = Set::from_iter_dedup(keys_of(alloc, peers)?)?;
+        let keys = keys_of(alloc, peers)?;
+        let mut core = Core::new(alloc, K::unnamed(), size as usize, u64::MAX);
+        core.update_primary_peers(primary);
         Ok(Load {
             core,
             keys,
@@ -34,8 +67,41 @@ impl<K: Name> Load<K> {
         })
     }
 
-    /// Takes a message under the key of a peer. Returns 1 if it is new on the list, and else 0.
-    fn take_one(&mut self, alloc: Global, peer: u64, number: u64) -> Result<u64, AllocError> {
+    /// Makes the calls. Returns the sum of what they returned.
+    pub fn make(&mut self, alloc: Global, calls: Calls) -> Result<u64, Fault> {
+        let mut counted = 0u64;
+        for number in 0..calls.number {
+            counted = counted.wrapping_add(self.make_one(alloc, calls.call, number)?);
+        }
+        Ok(counted)
+    }
+
+    /// Makes the call of this number. Returns how many digests are new on a list, messages are
+    /// found, digests are listed or awaited, or waiters are dropped.
+    fn make_one(&mut self, alloc: Global, call: Call, number: u64) -> Result<u64, Fault> {
+        let peers = self.keys.len() as u64;
+        match call {
+            Call::Take => self.take_next(alloc, peers),
+            Call::TakeAny(of) => {
+                let number = self.random.below(of);
+                self.take(alloc, 0, number)
+            }
+            Call::Fill => self.take(alloc, rest(number, peers), quotient(number, peers)),
+            Call::Get(of) => Ok(self.get(of)),
+            Call::List => self.list(alloc, rest(number, peers)),
+            Call::Subscribe => self.subscribe(number),
+            Call::Cleanup(of) => Ok(self.cleanup(rest(number.wrapping_mul(STEP), of))),
+        }
+    }
+
+    fn take_next(&mut self, alloc: Global, peers: u64) -> Result<u64, Fault> {
+        self.at = self.at.wrapping_add(1);
+        let number = (self.at / 4).saturating_sub(self.random.below(8));
+        let peer = self.random.below(peers);
+        self.take(alloc, peer, number)
+    }
+
+    fn take(&mut self, alloc: Global, peer: u64, number: u64) -> Result<u64, Fault> {
         let Some(key) = self.keys.get(peer as usize) else {
             return Ok(0);
         };
@@ -44,84 +110,37 @@ impl<K: Name> Load<K> {
         Ok(u64::from(taken.outcome == Outcome::Inserted))
     }
 
-    /// Takes messages, each under about four keys, those near by in any order. Returns how many
-    /// were new on their lists.
-    pub fn take(&mut self, alloc: Global, takes: u64) -> Result<u64, AllocError> {
-        let mut counted = 0u64;
-        let peers = self.keys.len() as u64;
-        for _ in 0..takes {
-            self.at = self.at.wrapping_add(1);
-            let number = (self.at / 4).saturating_sub(self.random.below(8));
-            let peer = self.random.below(peers);
-            counted = counted.wrapping_add(self.take_one(alloc, peer, number)?);
-        }
-        Ok(counted)
+    fn get(&mut self, of: u64) -> u64 {
+        let name = K::named(Of::Message, self.random.below(of));
+        u64::from(self.core.get(&name).is_some())
     }
 
-    /// Takes messages under one key, any of these many. Returns how many were new on the list.
-    pub fn take_any(&mut self, alloc: Global, takes: u64, of: u64) -> Result<u64, AllocError> {
-        let mut counted = 0u64;
-        for _ in 0..takes {
-            let number = self.random.below(of);
-            counted = counted.wrapping_add(self.take_one(alloc, 0, number)?);
-        }
-        Ok(counted)
+    fn list(&self, alloc: Global, peer: u64) -> Result<u64, Fault> {
+        let Some(key) = self.keys.get(peer as usize) else {
+            return Ok(0);
+        };
+        Ok(self.core.list(alloc, key)?.len() as u64)
     }
 
-    /// Takes messages, each under all keys. Returns how many were new on their lists.
-    pub fn fill(&mut self, alloc: Global, messages: u64) -> Result<u64, AllocError> {
-        let mut counted = 0u64;
-        let peers = self.keys.len() as u64;
-        for number in 0..messages {
-            for peer in 0..peers {
-                counted = counted.wrapping_add(self.take_one(alloc, peer, number)?);
-            }
-        }
-        Ok(counted)
+    fn subscribe(&mut self, ticket: u64) -> Result<u64, Fault> {
+        let subscribed = self.core.subscribe(K::named(Of::Awaited, ticket), ticket)?;
+        Ok(u64::from(matches!(subscribed, Subscribed::Waiting)))
     }
 
-    /// Gets any of these many messages. Returns how many were there.
-    pub fn get(&mut self, gets: u64, of: u64) -> u64 {
-        let mut counted = 0u64;
-        for _ in 0..gets {
-            let name = K::named(Of::Message, self.random.below(of));
-            counted = counted.wrapping_add(u64::from(self.core.get(&name).is_some()));
-        }
-        counted
+    fn cleanup(&mut self, ticket: u64) -> u64 {
+        self.core
+            .cleanup_of(&K::named(Of::Awaited, ticket), &[ticket])
     }
+}
 
-    /// Lists the digests of one peer after the other. Returns how many there are.
-    pub fn list(&self, alloc: Global, lists: u64) -> Result<u64, AllocError> {
-        let mut counted = 0u64;
-        let peers = self.keys.len() as u64;
-        for number in 0..lists {
-            let peer = number.checked_rem(peers).unwrap_or(0);
-            if let Some(key) = self.keys.get(peer as usize) {
-                let digests = self.core.list(alloc, key)?;
-                counted = counted.wrapping_add(digests.len() as u64);
-            }
-        }
-        Ok(counted)
-    }
+/// Returns the quotient, or 0 if there is none.
+fn quotient(number: u64, by: u64) -> u64 {
+    number.checked_div(by).unwrap_or(0)
+}
 
-    /// Subscribes to as many digests. Returns how many are awaited.
-    pub fn subscribe(&mut self, number: u64) -> Result<u64, AllocFailed<u64>> {
-        for ticket in 0..number {
-            self.core.subscribe(K::named(Of::Awaited, ticket), ticket)?;
-        }
-        Ok(self.core.awaited() as u64)
-    }
-
-    /// Drops the waiters of as many digests. Returns how many there were.
-    pub fn cleanup(&mut self, number: u64) -> u64 {
-        let mut counted = 0u64;
-        for round in 0..number {
-            let ticket = round.wrapping_mul(STEP).checked_rem(number).unwrap_or(0);
-            let name = K::named(Of::Awaited, ticket);
-            counted = counted.wrapping_add(self.core.cleanup_of(&name, &[ticket]));
-        }
-        counted
-    }
+/// Returns the rest of the division, or 0 if there is none.
+fn rest(number: u64, by: u64) -> u64 {
+    number.checked_rem(by).unwrap_or(0)
 }
 
 /// Returns the keys of as many peers.
