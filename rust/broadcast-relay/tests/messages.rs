@@ -192,11 +192,13 @@ fn a_newer_connection_replaces_the_older_once_it_speaks() {
 fn another_version_is_no_breach() {
     let (relay, [peer, _]) = relay_and("version", "", ["peer", "other"]);
     let mut stream = peer.connect_silently(relay.address).unwrap();
-    stream.write_all(&frame(3, &9_u16.to_be_bytes())).unwrap();
+    let unheard = frame(1, &peer.message(now(), b"unheard"));
+    stream.write_all(&[frame(3, &9_u16.to_be_bytes()), unheard].concat()).unwrap();
     assert!(is_closed(&mut stream, PATIENCE));
     let mut stream = peer.connect(relay.address).unwrap();
     stream.write_all(&frame(1, &peer.message(now(), b"said"))).unwrap();
     wait_for("it is heard at once", || relay.has_printed("peer", "said"));
+    assert!(!relay.has_printed("peer", "unheard"));
     assert_eq!(relay.metric("relay_invalid_total{peer=\"peer\"}"), 0.0);
 }
 
