@@ -1,5 +1,5 @@
-//! The messages of a cache, each at the place that is its number. The backend knows a message by this number, and tells
-//! which messages left.
+//! The messages of a cache, each at the place that is its number. The backend knows a message by this number, and reports
+//! which ones left.
 
 use crate::taken::Evicted;
 use crate::{Digest, Error};

@@ -1,4 +1,4 @@
-//! Tickets of those who wait, and the room in which those that are served are told.
+//! Tickets of those who wait, and the room for those that are served.
 
 use crate::Error;
 use std::fmt;
@@ -25,8 +25,7 @@ impl From<Ticket> for u64 {
 /// The most places that are kept although nobody needs them.
 const SPARE: usize = 1024;
 
-/// The tickets of a cache. There is always room to tell all that wait, so no call that serves some fails for
-/// want of it.
+/// The tickets of a cache. There is always room for all that wait, so no call that serves some fails for want of it.
 pub struct Tickets {
     next: u64,
     waiting: usize,

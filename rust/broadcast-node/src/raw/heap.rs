@@ -18,7 +18,7 @@ pub struct Tried {
 impl Tried {
     const FAILED: Tried = Tried { ok: false, p: NonNull::dangling().as_ptr() };
 
-    /// Notes the size of the block behind the head at `at`, and tells where it is.
+    /// Notes the size of the block behind the head at `at`, and returns where it is.
     ///
     /// # Safety
     ///
