@@ -1,6 +1,6 @@
 //! What decides: the verified library, or the plain cache where there is none.
 
-#![cfg_attr(not(broadcast_c), allow(unused_variables))]
+#![cfg_attr(not(broadcast_c), allow(unused_variables, clippy::ptr_arg))]
 
 #[cfg(broadcast_c)]
 mod library;
