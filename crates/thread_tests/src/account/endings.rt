@@ -7,8 +7,8 @@ use crate::nodes::message;
 use broadcast_core::{Codec, Digested, Digestible, RangeCfg, Recipients, TestMessage};
 use broadcast_mailbox::Feedback;
 use commonware_broadcast::buffered::{
-    Account, All, Books, EndCause, Engine, Get, MailboxReport, Runtime, Settled, Status, Tally,
-    WatchedEngine, WatchedMailbox, WatchedNode, drive,
+    Account, All, Books, Config, EndCause, Engine, Get, MailboxReport, Movable, Runtime, Settled,
+    Status, Strategy, Tally, WatchedEngine, WatchedMailbox, WatchedNode, drive,
 };
 use commonware_broadcast::mocks::Slow;
 use futures::task::{Doorbell, Poll, Solo};
@@ -79,38 +79,49 @@ fn rows() -> &'static [Row] {
 #[test]
 fn each_request_is_settled_once(rt: HostRuntime) {
     for row in rows() {
-        let ending = end(&rt, row, RangeCfg::any(), message(&rt, b'a'));
+        let ending = end_of(&rt, row);
         assert_eq!(rt; ending, row.ending, "{}", row.name);
     }
 }
 
+/// Lets an engine of this row end.
+fn end_of<R: Runtime + Abort>(rt: &R, row: &Row) -> Ending {
+    let sets = Sets::new(rt.alloc(), row.gives).expect(rt, "memory");
+    let wire = Wire::new(rt.alloc(), row.gives).expect(rt, "memory");
+    // The job of the payload is still pending after the polls before the start.
+    let cfg = config(sets, RangeCfg::any(), Slow { polls: 9 });
+    end(rt, row, cfg, wire, message(rt, b'a'))
+}
+
 /// Lets an engine end after three requests, and picks the ledgers of its account. It is generic in
-/// the message, since the check refuses a function that makes an engine of a named one.
-fn end<M, R>(rt: &R, row: &Row, codec_config: M::Cfg, message: Digested<M>) -> Ending
+/// message and strategy, since the check refuses a function that makes an engine of named ones.
+fn end<M, T, R>(
+    rt: &R,
+    row: &Row,
+    cfg: Config<u64, M::Cfg, Sets, T>,
+    wire: Wire,
+    message: Digested<M>,
+) -> Ending
 where
     M: Digestible + Codec + Send + Sync + 'static,
     M::Digest: Send + 'static,
     M::Cfg: Send + Drop + 'static,
+    T: Strategy<M> + Movable,
+    T::Job: Send + 'static,
     R: Runtime + Abort,
 {
     let parts = NonZeroU32::new(2).unwrap();
     let accepted = Blank::new(parts.get() as u64);
-    end_with::<M, R, Brand, Brand>(
-        rt,
-        row,
-        codec_config,
-        message,
-        parts,
-        accepted,
-        Blank::new(1),
-    )
+    let taken = Blank::new(1);
+    end_with::<M, T, R, Brand, Brand>(rt, row, cfg, wire, message, parts, accepted, taken)
 }
 
 /// Lets an engine end after three requests, whose account has these ledgers.
-fn end_with<M, R, A, K>(
+fn end_with<M, T, R, A, K>(
     rt: &R,
     row: &Row,
-    codec_config: M::Cfg,
+    cfg: Config<u64, M::Cfg, Sets, T>,
+    wire: Wire,
     message: Digested<M>,
     parts: NonZeroU32,
     accepted: Blank,
@@ -120,6 +131,8 @@ where
     M: Digestible + Codec + Send + Sync + 'static,
     M::Digest: Send + 'static,
     M::Cfg: Send + Drop + 'static,
+    T: Strategy<M> + Movable,
+    T::Job: Send + 'static,
     R: Runtime + Abort,
     A: Account + Send + Sync + 'static,
     K: Account + Send + Sync + 'static,
@@ -128,13 +141,15 @@ where
     requires taken { (taken.name ≡ K.name) × (taken.parts ≡ K.parts) }
     requires one { (K.all ≡ K.parts) × (K.parts ≡ 1) }
 {
-    let sets = Sets::new(rt.alloc(), row.gives).expect(rt, "memory");
-    let wire = Wire::new(rt.alloc(), row.gives).expect(rt, "memory");
-    // The job of the payload is still pending after the polls before the start.
-    let cfg = config(sets, codec_config, Slow { polls: 9 });
     let copy = rt.clone().expect(rt, "memory");
-    let node: Result<WatchedNode<u64, M, Sets, Slow, R, A, K, All>, AllocError> =
-        Engine::new_watched(copy, rt.alloc(), cfg, parts, accepted, taken);
+    let node: Result<WatchedNode<u64, M, Sets, T, R, A, K, All>, AllocError> = Engine::new_watched(
+        copy,
+        rt.alloc(),
+        cfg,
+        parts,
+        accepted,
+        taken,
+    );
     let (engine, mailbox, tally) = node.expect(rt, "an engine");
     let asked = ask(rt, &mailbox, tally, message);
     drop::<_>(mailbox);
@@ -178,16 +193,18 @@ where
 type Left<M, R, A, K> = MailboxReport<u64, M, R, Books<A, K, All, <M as Digestible>::Digest>>;
 
 /// Polls the engine, and starts it, and lets it end.
-fn run<M, R, A, K>(
+fn run<M, T, R, A, K>(
     rt: &R,
     row: &Row,
-    engine: WatchedEngine<u64, M, Sets, Slow, R, A, K, All>,
+    engine: WatchedEngine<u64, M, Sets, T, R, A, K, All>,
     network: (Void, Wire),
 ) -> Left<M, R, A, K>
 where
     M: Digestible + Codec + Send + Sync + 'static,
     M::Digest: Send + 'static,
     M::Cfg: Send + Drop + 'static,
+    T: Strategy<M> + Movable,
+    T::Job: Send + 'static,
     R: Runtime + Abort,
     A: Account + Send + Sync + 'static,
     K: Account + Send + Sync + 'static,
@@ -203,14 +220,15 @@ where
 }
 
 /// Polls the engine this many times.
-fn poll_often<M, R, A, K>(
+fn poll_often<M, T, R, A, K>(
     rt: &R,
     polls: usize,
-    engine: &mut WatchedEngine<u64, M, Sets, Slow, R, A, K, All>,
+    engine: &mut WatchedEngine<u64, M, Sets, T, R, A, K, All>,
     network: &mut (Void, Wire),
 )
 where
     M: Digestible + Codec,
+    T: Strategy<M>,
     R: Runtime + Abort,
     A: Account,
     K: Account,
