@@ -7,9 +7,10 @@ use broadcast_core::{
 };
 use commonware_broadcast::buffered::mocks::{RecordingSender, Script};
 use commonware_broadcast::buffered::{
-    Config, Engine, Mailbox, MailboxEngine, NetworkFailed, Sequential, Turn, drive,
+    Answering, Config, Engine, Mailbox, MailboxEngine, NetworkFailed, Provider, Reply, Sequential,
+    Turn,
 };
-use futures::task::{Doorbell, Poll, Solo};
+use futures::task::{Context, Doorbell, Poll, Solo};
 use std::alloc::{AllocError, AllocGlobal, Global};
 use std::io::Write;
 use std::random::RandomSource;
@@ -104,13 +105,31 @@ fn events_of(alloc: Global, given: Given) -> Result<Vec<Event<u64, TestMessage>>
 }
 
 /// Gives one peer set.
-type Sets = Script<Option<Set<u64>>>;
+#[derive(Drop)]
+struct OneSet {
+    set: Option<Set<u64>>,
+}
+
+impl Provider<u64> for OneSet {
+    // A pending poll asks for another one.
+    ghost needs = { λ _ _. ⊥ };
+
+    fn poll_update(&mut self, cx: &mut Context<'_>) -> Poll<Option<Set<u64>>> {
+        match self.set.take() {
+            Some(set) => Poll::Ready(Some(set)),
+            None => cx.yield_now(),
+        }
+    }
+}
 
 /// Gives payloads.
 type Payloads = Script<Result<Payload, NetworkFailed>>;
 
-/// An engine that takes them.
-type Idle<M, R> = MailboxEngine<u64, M, Sets, Sequential, R>;
+/// Where the reply to a get goes.
+type ToGet = Answering<Option<Reply<TestMessage>>>;
+
+/// An engine that takes payloads.
+type Idle<M, R> = MailboxEngine<u64, M, OneSet, Sequential, R>;
 
 /// Gives the payloads to an engine whose lists have `size` places and whose mailbox nobody uses, one
 /// at a poll. Returns how many it took.
@@ -124,7 +143,7 @@ where
     let payloads = script(rt.alloc(), payloads)?;
     let mut network = (RecordingSender::new(rt.alloc()), payloads);
     let (mut engine, mailbox) = new_engine(rt, size, peers, RangeCfg::any())?;
-    let taken = drive_all(rt, &mut engine, &mut network, polls);
+    let taken = run_task(rt, &mut engine, &mut network, polls);
     drop::<_>((engine, mailbox, network));
     Ok(taken?)
 }
@@ -151,17 +170,16 @@ where
     M::Cfg: Drop,
     R: Wait + AllocGlobal + Clone + Drop,
 {
-    let sets = Script::new(vec![in rt.alloc(); Poll::Ready(Some(peers))]?);
     let own = rt.clone()?;
-    let config = Config::new(OWN, sets)
+    let config = Config::new(OWN, OneSet { set: Some(peers) })
         .with_codec_config(codec_config)
         .with_deque_size(size)
         .with_byte_budget(u64::MAX);
     Engine::new(own, rt.alloc(), config)
 }
 
-/// Polls the engine as often as is said. Returns how many payloads it took.
-fn drive_all<R>(
+/// Polls the engine as often as is said, as a task. Returns how many payloads it took.
+fn run_task<R>(
     rt: &R,
     engine: &mut Idle<TestMessage, R>,
     network: &mut (RecordingSender<u64>, Payloads),
@@ -174,11 +192,28 @@ where
         return Err(AllocError);
     };
     let mut cx = task.begin();
-    let driven = drive(rt.alloc(), engine, &mut cx, network, polls);
+    let taken = poll_all(rt.alloc(), &mut cx, engine, network, polls);
     // The task is to be polled again.
     let _: Poll<()> = cx.yield_now();
     cx.park();
-    let turns = driven?;
-    let taken = turns.iter().filter(|it| matches!(it, Turn::Payload(..)));
-    Ok(taken.count())
+    Ok(taken)
+}
+
+/// Polls the engine as often as is said. Returns how many payloads it took.
+fn poll_all<R>(
+    alloc: Global,
+    cx: &mut Context<'_>,
+    engine: &mut Idle<TestMessage, R>,
+    network: &mut (RecordingSender<u64>, Payloads),
+    polls: usize,
+) -> usize
+where
+    R: Wait + AllocGlobal + Drop,
+{
+    let mut taken = 0usize;
+    for _ in 0..polls {
+        let polled = engine.poll::<ToGet, _, _>(alloc, cx, network);
+        taken = taken.saturating_add(usize::from(matches!(polled, Poll::Ready(Turn::Payload(..)))));
+    }
+    taken
 }
