@@ -135,11 +135,16 @@ where
     let copy = rt.clone().expect(rt, "memory");
     let node: Result<WatchedNode<u64, M, Sets, Slow, R, A, K, All>, AllocError> =
         Engine::new_watched(copy, rt.alloc(), cfg, parts, accepted, taken);
-    let (engine, mailbox, tally) = node.expect(rt, "an engine");
+    let (mut engine, mailbox, tally) = node.expect(rt, "an engine");
     let asked = ask(rt, &mailbox, tally, message);
     drop::<_>(mailbox);
-    let report = run(rt, row, engine, (Void, wire));
-    finish(rt, report, asked, row.lacks_part)
+    let mut network = (Void, wire);
+    poll_often(rt, row.polls, &mut engine, &mut network);
+    let handle = engine.start(rt, network).expect(rt, "a thread");
+    if row.stops {
+        handle.stop();
+    }
+    finish(rt, handle.join(rt), asked, row.lacks_part)
 }
 
 /// What is left of the requests: the future of the get, and two parts of the tally.
@@ -176,31 +181,6 @@ where
 
 /// What an engine leaves that counts requests.
 type Left<M, R, A, K> = MailboxReport<u64, M, R, Books<A, K, All, <M as Digestible>::Digest>>;
-
-/// Polls the engine, and starts it, and lets it end.
-fn run<M, R, A, K>(
-    rt: &R,
-    row: &Row,
-    engine: WatchedEngine<u64, M, Sets, Slow, R, A, K, All>,
-    network: (Void, Wire),
-) -> Left<M, R, A, K>
-where
-    M: Digestible + Codec + Send + Sync + 'static,
-    M::Digest: Send + 'static,
-    M::Cfg: Send + Drop + 'static,
-    R: Runtime + Abort,
-    A: Account + Send + Sync + 'static,
-    K: Account + Send + Sync + 'static,
-{
-    let mut engine = engine;
-    let mut network = network;
-    poll_often(rt, row.polls, &mut engine, &mut network);
-    let handle = engine.start(rt, network).expect(rt, "a thread");
-    if row.stops {
-        handle.stop();
-    }
-    handle.join(rt)
-}
 
 /// Polls the engine this many times.
 fn poll_often<M, R, A, K>(
