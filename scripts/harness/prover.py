@@ -16,8 +16,8 @@ from harness.libraries import kit, words
 PARTS = ("src", "specs", "proofs")
 FN = re.compile(r"( *)(?:pub(?:\(\w+\))? )?(?:(?:unsafe|const|final|extern \"C\") )*fn (\w+)")
 IMPL = re.compile(r"impl\b")
-# What the prover says of a proof whose names are gone, which shows nothing of a contract.
-LOST = re.compile(r"has no field|is not in scope|has no `|was not admitted")
+# What the prover says of a proof whose names are gone, or which it does not read, which shows nothing of a contract.
+LOST = re.compile(r"has no field|is not in scope|has no `|was not admitted|rattle does not read")
 # What stands for no function's body.
 OUTSIDE = re.compile(r"\s*(///|//!|use |ghost use |#\[|(pub )?fn )")
 
