@@ -32,7 +32,7 @@ abbrev pub buffer_status : ℕ → ℕ → ℕ
 buffer_status needed places = if nat_le needed places then 0 else 4
 
 -- the list is copied to the front of the buffer, as far as there is room, and its length is
--- reported; the status says whether all of it was copied
+-- reported; the status is OK if all of it was copied
 pub record IsFilled {X : Type 0} (xs old new : List X) (needed status : ℕ) : Type 0 where
   pub filled : new ≡ overlaid xs old
   pub length_reported : needed ≡ length xs

@@ -53,8 +53,8 @@ impl Store {
         }
     }
 
-    /// Makes `names` the primary keys. They may come in any order, and repeat. An empty set needs no
-    /// allocation.
+    /// Makes `names` the primary keys. They may come in any order, and repeat. An empty set needs
+    /// no allocation.
     pub fn update_primary_peers(&mut self, alloc: Global, names: &[Name]) -> Result<(), AllocError>
         ensures taken { OnOk result ((set : List Name) × HaveSameNames names.now set
             × TakesPeers same_bytes set self.old.cache.core self.new.cache.core) }
@@ -123,8 +123,8 @@ impl Store {
         }
     }
 
-    /// Lets the ticket wait for the digest, unless its message is cached. Returns whether the ticket
-    /// waits.
+    /// Lets the ticket wait for the digest, unless its message is cached. Returns whether the
+    /// ticket waits.
     pub fn subscribe(&mut self, ticket: u64, digest: Digest) -> Result<bool, AllocError>
         ensures answered { IfOk result (λ waits. waits ≡ false
             → (is_some (message_at same_bytes self.old.cache.core digest) ≡ true)

@@ -11,7 +11,7 @@ pub record Left (X : Type 0) : Type 0 where
   pub room : ℕ
 
 module _ {X : Type 0} where
-  -- so many more need no allocation
+  -- this number of messages more needs no allocation
   abbrev pub HasRoom : ℕ → Left X → Type 0
   HasRoom more left = IfSome left.items (λ xs. length xs + more ≤ left.room)
 

@@ -45,8 +45,8 @@ fn words(alloc: Global) -> Result<Vec<String>, AllocError> {
     Ok(words)
 }
 
-/// Runs `replay 1 2` over the lines, through an inbox of one place. Returns its status, and how many
-/// requests the inbox has accepted and taken.
+/// Runs `replay 1 2` over the lines, through an inbox of one place. Returns its status, and how
+/// many requests the inbox has accepted and taken.
 fn played<R: Wait + Abort + AllocGlobal>(
     rt: &R,
     input: &'static [u8],

@@ -1,4 +1,4 @@
-//! The network in memory: the nodes to which it hands a payload, also if one is lost, and peer sets.
+//! The network in memory: which nodes receive a payload, also if one is lost, and peer sets.
 use crate::key::Key;
 use crate::support::message::{To, peers, recipients};
 use crate::support::task::Task;

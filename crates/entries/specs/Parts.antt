@@ -23,7 +23,7 @@ module _ {K V : Type 0} (cmp : K → K → Ordering) (leading : K → ℕ) where
   ArePartsFrom byte [] = ⊤
   ArePartsFrom byte (part ∷ parts) = IsPart byte part.entries × ArePartsFrom (suc byte) parts
 
-  -- each key is in the part of its byte, and so many entries are counted
+  -- each key is in the part of its byte, and the number of entries is right
   pub record IsParted (parts : List (BTreeMap K V)) (len : ℕ) : Type 0 where
     pub whole : (parts ≡ []) ⊎ (length parts ≡ 256)
     pub placed : ArePartsFrom 0 parts

@@ -35,7 +35,7 @@ after_all all (m ∷ ms) = if was_had all m then after_all all ms else after_all
 abbrev pub same : Arrival → Arrival → Bool
 same m n = nat_eq m.author n.author && nat_eq m.stamp n.stamp
 
--- each message is of one of so many authors, and later than the one before it
+-- each message is of one of this number of authors, and later than the one before it
 abbrev pub AreFor : ℕ → List Arrival → Type 0
 AreFor authors [] = Unit {0}
 AreFor authors (m ∷ ms) = ((m.author < authors) × (m.prev < m.stamp)) × AreFor authors ms

@@ -25,7 +25,12 @@ impl Model for Bucket {
 
     ghost Value = { Tokens };
 
-    ghost view = { λ it. record { rate = it.rate; burst = it.burst; level = it.level; at = it.at } };
+    ghost view = { λ it. record {
+      rate = it.rate;
+      burst = it.burst;
+      level = it.level;
+      at = it.at;
+    } };
 
     ghost invariant = { λ it. it.level ≤ it.burst * 1000000000 };
 }
@@ -61,10 +66,11 @@ impl Bucket {
         }
     }
 
-    /// Returns the first time from `now` on at which the bucket has `cost` tokens, if none are taken
-    /// meanwhile. Returns `None` if there is no such time, or it has no number.
+    /// Returns the first time from `now` on at which the bucket has `cost` tokens, if none are
+    /// taken meanwhile. Returns `None` if there is no such time, or it has no number.
     pub fn ready(&self, now: u64, cost: u64) -> Option<u64>
-        ensures has { IfSome result (λ at. (now ≤ at) × (cost * 1000000000 ≤ level_at self.now at)) }
+        ensures has { IfSome result (λ at. (now ≤ at)
+            × (cost * 1000000000 ≤ level_at self.now at)) }
         ensures first { IfSome result (λ at. (t : ℕ) → now ≤ t → t < at
             → level_at self.now t < cost * 1000000000) }
         ensures never { IfNone result ((t : ℕ) → now ≤ t → t < 2 ^ 64

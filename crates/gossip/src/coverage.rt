@@ -113,8 +113,8 @@ fn follow(end: u64, spans: &[Span]) -> bool
     true
 }
 
-/// Lengthens the last span if the next begins in it, as it does when messages come in order. Returns
-/// whether it did.
+/// Lengthens the last span if the next begins in it, as it does when messages come in order.
+/// Returns whether it did.
 fn extend_last(spans: &mut ArrayVec<Span, 65>, span: Span) -> bool
     requires order { span.from ≤ span.to }
     requires apart { IsApart spans.old.items }
@@ -199,7 +199,7 @@ impl Coverage {
         }
     }
 
-    /// Returns the spans above the floor. With the floor they are what a relay reports to its peers.
+    /// Returns the spans above the floor. A relay reports them to its peers, with the floor.
     pub fn above_floor(&self) -> &[Span]
         ensures { result.now ≡ drop 1 self.now }
     {

@@ -45,8 +45,8 @@ impl Deliveries {
         Ok(Deliveries { authors: all })
     }
 
-    /// Covers the message that arrives. Returns `None` if its stamp was had. Otherwise the message
-    /// is to be delivered, and the result is the gap that was closed for it, or a span of no stamps.
+    /// Covers the message that arrives. Returns `None` if its stamp was had. Otherwise the caller
+    /// delivers the message, and the result is the gap that was closed, or a span of no stamps.
     pub fn deliver(&mut self, it: Arrival) -> Option<Span>
         requires author { it.author < length self.old }
         requires later { it.prev < it.stamp }

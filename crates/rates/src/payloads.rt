@@ -131,8 +131,8 @@ type ToGet = Answering<Option<Reply<TestMessage>>>;
 /// An engine that takes payloads.
 type Idle<M, R> = MailboxEngine<u64, M, OneSet, Sequential, R>;
 
-/// Gives the payloads to an engine whose lists have `size` places and whose mailbox nobody uses, one
-/// at a poll. Returns how many it took.
+/// Gives the payloads to an engine whose lists have `size` places and whose mailbox nobody uses,
+/// one at a poll. Returns how many it took.
 fn by_engine<R>(rt: &R, size: usize, given: Given) -> Result<usize, Fault>
 where
     R: Wait + RandomSource + AllocGlobal + Clone + Drop,

@@ -59,7 +59,7 @@ fn polls(mail: &Mail<u64>) -> u64 {
     mail.polls.load(Ordering::SeqCst)
 }
 
-/// Returns what a fed node tells of its counters, and whether that let its engine poll once at most.
+/// Returns the counters of a fed node, and whether its engine was polled at most once for them.
 fn serves<R, C, H>(rt: &R, node: Node<C, H>) -> (Counts, bool)
 where
     R: Runtime + Abort,
@@ -166,8 +166,8 @@ fn fail_later<R: Runtime + Abort>(rt: &R, mail: &Arc<Mail<u64>>) -> JoinHandle<(
     failing.expect(rt, "a thread")
 }
 
-/// Joins an engine whose network fails later. Returns whether it was not polled before while nothing
-/// happened, whether it accepted a broadcast, and why it ended.
+/// Joins an engine whose network fails later. Returns whether it was not polled before while
+/// nothing happened, whether it accepted a broadcast, and why it ended.
 fn join<R, C, H>(rt: &R, node: Node<C, H>) -> (bool, bool, EndCause)
 where
     R: Runtime + Abort,

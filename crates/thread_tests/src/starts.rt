@@ -94,8 +94,8 @@ where
     }
 }
 
-/// Starts an engine with the supply of the row, and stops it. Returns how that ends, and whether its
-/// mailbox is closed.
+/// Starts an engine with the supply of the row, and stops it. Returns how that ends, and whether
+/// its mailbox is closed.
 fn ended<R: Runtime + Abort>(rt: &R, row: &Row) -> (Ending, bool) {
     let poor = Poor::new(rt).expect(rt, "memory");
     let ((started, mailbox), mail) = start(&poor, RangeCfg::any(), row);

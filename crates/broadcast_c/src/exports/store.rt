@@ -300,8 +300,8 @@ pub extern "C" fn broadcast_store_cleanup_of(
     removed: &mut u64,
 ) -> u32
     ensures finds { Finds store.old.value store.new.value result (λ old new. (result ≡ OK)
-        × CleansAt same_bytes digest.now (is_gone (λ t. t) tickets.now) old.cache.core new.cache.core
-        × (new.served ≡ old.served) × (new.cache.left ≡ old.cache.left)
+        × CleansAt same_bytes digest.now (is_gone (λ t. t) tickets.now) old.cache.core
+        new.cache.core × (new.served ≡ old.served) × (new.cache.left ≡ old.cache.left)
         × (removed.new ≡ count_by (is_gone (λ t. t) tickets.now)
         (waiting_at same_bytes old.cache.core digest.now))) }
     ensures reports_nothing { result ≡ EMPTY → removed.new ≡ removed.old }

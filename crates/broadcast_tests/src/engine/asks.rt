@@ -195,8 +195,8 @@ impl<R: Wait + Drop> Asking for Node<R> {
     }
 }
 
-/// Creates an engine and a mailbox that names digests, and returns what is made of the engine. It is
-/// generic in the message, since the check refuses a function that has both for `TestMessage`.
+/// Creates an engine and a mailbox that names digests, and returns what is made of the engine. It
+/// is generic in the message, since the check refuses a function that has both for `TestMessage`.
 fn made<M, R, N>(rt: &R, codec_config: M::Cfg, next: Next<M>) -> (N, Mailbox<u64, M, R>)
 where
     M: Digestible<Digest = Digest> + Codec,
@@ -275,8 +275,8 @@ impl Around {
     }
 }
 
-/// Creates an engine, and does what the words say. Returns the place of the first after which others
-/// are asked.
+/// Creates an engine, and does what the words say. Returns the place of the first word after which
+/// others are asked.
 fn wrong<R>(rt: &R, words: &[u8]) -> Option<usize>
 where
     R: Wait + Abort + RandomSource + AllocGlobal + Clone + Send + Drop + 'static,

@@ -309,7 +309,7 @@ fn gives(all: &mut [Asked], number: usize, given: Given) -> bool {
     }
 }
 
-/// Drops so many futures from the number on. Returns whether there is one.
+/// Drops `count` futures from the number on. Returns whether there is one.
 fn hang(all: &mut [Asked], number: usize, count: usize) -> bool {
     for asked in all.iter_mut().skip(number).take(count) {
         *asked = Asked::Dropped;

@@ -24,8 +24,8 @@ where
     }
 }
 
-/// Takes requests until none is left, or one has another ticket than the next. Returns how many were
-/// taken.
+/// Takes requests until none is left, or one has another ticket than the next. Returns how many
+/// were taken.
 fn taken<R: Wait>(ingress: &Ingress<Incoming<u64, Note>, R>) -> u64 {
     for next in 0..=MANY {
         if !ingress.take().is_some_and(|(ticket, _)| ticket == next) {

@@ -1,5 +1,5 @@
-//! Both ends of a mailbox, by what a talk does with them. So a talk knows none of their types, which
-//! keeps its proofs small.
+//! Both ends of a mailbox, by what a talk does with them. So a talk knows none of their types,
+//! which keeps its proofs small.
 use super::asked::Asked;
 use super::note::Note;
 use super::talk::{Act, By, DIGEST};

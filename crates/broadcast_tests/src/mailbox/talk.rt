@@ -41,7 +41,7 @@ pub enum Act {
     Subscribe(By, bool),
     /// A get, as a subscribe.
     Get(By, bool),
-    /// So many broadcasts that nobody looks at.
+    /// This many broadcasts, whose futures are dropped.
     Fill(u64),
     /// The tally counts this many calls.
     Counted(u64),
@@ -53,7 +53,7 @@ pub enum Act {
     Told(bool),
     /// The next request, which is kept.
     Take(Request),
-    /// So many requests are taken.
+    /// This many requests are taken.
     Skip(u64),
     /// Whether the caller of the request that is kept waits no more.
     IsClosed(bool),
@@ -266,7 +266,7 @@ fn tells<T: Takes>(takes: &mut T, told: &mut Vec<u64>, wanted: bool) -> bool {
     !takes.take_told(told) && told.is_empty()
 }
 
-/// Takes so many requests.
+/// Takes `number` requests.
 fn skip<T: Takes>(takes: &mut T, task: &Solo, number: u64) -> bool {
     for _ in 0..number {
         drop::<_>(takes.next(task));

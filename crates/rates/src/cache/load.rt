@@ -12,7 +12,7 @@ const STEP: u64 = 7919;
 /// A call of a cache.
 #[derive(Clone, Copy)]
 pub enum Call {
-    /// A take of a message under any key, each message under about four, those near by in any order.
+    /// A take of a message under any key, each message under about four keys, in mixed order.
     Take,
     /// A take under the first key of any of these many messages.
     TakeAny(u64),
