@@ -1,6 +1,7 @@
 //! The configuration, a TOML file.
 
 use crate::identity::{PeerId, from_hex, to_hex};
+use crate::invalid;
 use crate::message::MAX_MESSAGE;
 use crate::output::MAX_WAITING;
 use broadcast_relay::gossip::{Bounds, OVERHEAD};
@@ -102,10 +103,6 @@ fn yes() -> bool {
 fn key<'de, D: Deserializer<'de>>(from: D) -> Result<PeerId, D::Error> {
     let text = String::deserialize(from)?;
     from_hex(&text).ok_or_else(|| D::Error::custom("a key has 64 hexadecimal digits"))
-}
-
-fn invalid(why: String) -> io::Error {
-    io::Error::new(io::ErrorKind::InvalidData, why)
 }
 
 impl Config {

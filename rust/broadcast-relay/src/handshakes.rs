@@ -14,7 +14,8 @@ use tokio::time::sleep;
 const PACE: Duration = Duration::from_millis(12);
 /// How many are computed at once after a rest, as when all peers of a relay come back.
 const BURST: u32 = 32;
-/// A first record of a handshake has a head of five bytes, and no more behind it than this.
+/// A first record of a handshake has a head of five bytes, and no more behind it than this: one whole message, whose head has a kind
+/// and a length.
 const HEAD: usize = 5;
 const MAX_HELLO: usize = 4_096;
 
@@ -62,9 +63,12 @@ pub async fn has_hello(stream: &TcpStream) -> std::io::Result<bool> {
         if len == 0 {
             return Ok(false);
         }
-        if let Some(&[kind, _, _, high, low]) = bytes[..len].first_chunk() {
+        if let Some(&[kind, _, _, high, low, _, long, rest @ ..]) = bytes[..len].first_chunk::<9>()
+        {
             let record = usize::from(u16::from_be_bytes([high, low]));
-            if kind != 22 || record > MAX_HELLO {
+            // Of a longer message TLS would keep room for all.
+            let is_whole = long == 0 && usize::from(u16::from_be_bytes(rest)) + 4 == record;
+            if kind != 22 || record > MAX_HELLO || !is_whole {
                 return Ok(false);
             }
             if len >= HEAD + record {
@@ -85,18 +89,24 @@ mod tests {
     async fn a_handshake_begins_with_a_whole_short_record() {
         use tokio::io::AsyncWriteExt;
         let listener = tokio::net::TcpListener::bind("127.0.0.1:0").await.unwrap();
-        let head = |kind, len: usize| [kind, 3, 1, (len >> 8) as u8, len as u8];
-        for (kind, len, is_one) in
-            [(22, 300, true), (22, MAX_HELLO, true), (22, MAX_HELLO + 1, false), (23, 300, false)]
-        {
+        let long = 131_000;
+        for (kind, record, message, is_one) in [
+            (22, 304, 300, true),
+            (22, MAX_HELLO, MAX_HELLO - 4, true),
+            (22, MAX_HELLO + 1, MAX_HELLO - 3, false),
+            (23, 304, 300, false),
+            (22, 304, long, false),
+        ] {
             let mut peer = TcpStream::connect(listener.local_addr().unwrap()).await.unwrap();
             let (stream, _) = listener.accept().await.unwrap();
-            peer.write_all(&head(kind, len)).await.unwrap();
+            let [.., high, mid, low] = (message as u32).to_be_bytes();
+            let head = [kind, 3, 1, (record >> 8) as u8, record as u8, 1, high, mid, low];
+            peer.write_all(&head).await.unwrap();
             // Of a record that may be one all has to come.
             if is_one {
-                peer.write_all(&vec![1; len]).await.unwrap();
+                peer.write_all(&vec![1; record - 4]).await.unwrap();
             }
-            assert_eq!(has_hello(&stream).await.unwrap(), is_one, "{kind} {len}");
+            assert_eq!(has_hello(&stream).await.unwrap(), is_one, "{kind} {record} {message}");
         }
     }
 

@@ -1,27 +1,24 @@
 //! What all connections of a relay share: the peers, the authors, and the protocol.
 
-use crate::author::Author;
 use crate::config::{Config, Limits};
 use crate::identity::{Identity, PeerId};
-use crate::journal;
-use crate::lock;
+use crate::journal::{self, Journal};
 use crate::message::Signed;
 use crate::metrics::Metrics;
-use crate::output::Output;
+use crate::output::{self, MAX_WAITING, Output};
 use crate::peer::{Peer, Peers, Session};
-use crate::wire;
+use crate::{invalid, lock, now, wire};
 use broadcast_relay::gossip::{Frame, Machine, Message, NEVER, Past, Report, Taken, Time};
 use prometheus::TextEncoder;
 use std::collections::HashMap;
 use std::io::{self, ErrorKind};
-use std::path::PathBuf;
 use std::sync::{Arc, Mutex};
-use std::time::{Duration, Instant, SystemTime, UNIX_EPOCH};
+use std::time::{Duration, SystemTime, UNIX_EPOCH};
 use tokio::sync::Notify;
-use tokio::time::{sleep_until, timeout};
+use tokio::time::{sleep, timeout};
 use tracing::{debug, info, warn};
 
-/// How often it is looked at least whether more may be published.
+/// How often it is looked at least whether more may be published, or something is due.
 const LOOK: Duration = Duration::from_secs(1);
 
 pub struct Hub {
@@ -30,12 +27,10 @@ pub struct Hub {
     pub peers: Peers,
     own: Arc<Peer>,
     gossip: Mutex<Gossip>,
-    start: Instant,
     /// Notified when more may be published, and when the protocol is to be told the time earlier.
     opened: Notify,
     timer: Notify,
     limits: Limits,
-    journal: Option<PathBuf>,
     output: Option<Output>,
 }
 
@@ -52,7 +47,7 @@ struct Gossip {
 
 /// A message as the protocol has it.
 fn item(author: usize, message: &Signed) -> Message {
-    let (stamp, prev, bytes) = (message.stamp, message.prev, message.bytes().clone());
+    let (stamp, prev, bytes) = (message.stamp, message.prev, message.bytes.clone());
     Message { author, stamp, prev, bytes }
 }
 
@@ -75,26 +70,27 @@ impl Gossip {
 }
 
 impl Hub {
-    /// Creates a hub with the peers of a configuration.
+    /// Creates a hub without peers.
     pub fn new(identity: Identity, config: &Config, metrics: Metrics) -> io::Result<Hub> {
-        let (limits, journal) = (config.limits.clone(), config.journal.clone());
-        let (own, past) = Author::new(identity.id, &limits, journal.as_deref())?;
+        let limits = config.limits.clone();
         let machine = Machine::new(limits.bounds(), 0, rand::random());
         let (nodes, ids, due) = (HashMap::new(), Vec::new(), Vec::new());
         let mut gossip = Gossip { machine, nodes, ids, due, timer: NEVER };
+        let (journal, past) = open(config, &identity.id)?;
         let node = gossip.list(0, identity.id, past);
         Ok(Hub {
-            own: Arc::new(Peer::new(Arc::new(own), "own".into(), None, node)),
+            own: Arc::new(Peer::new(identity.id, "own".into(), None, node, journal)),
             identity,
             metrics,
             peers: Peers::default(),
             gossip: Mutex::new(gossip),
-            start: Instant::now(),
             opened: Notify::new(),
             timer: Notify::new(),
             limits,
-            journal,
-            output: config.output.then(Output::start).transpose()?,
+            output: match config.output {
+                true => Some(Output::start("output", io::stdout(), MAX_WAITING)?),
+                false => None,
+            },
         })
     }
 
@@ -106,7 +102,7 @@ impl Hub {
         let known = lock(&self.peers).clone();
         let mut opened = HashMap::new();
         for it in config.peers.iter().filter(|it| !known.contains_key(&it.key)) {
-            opened.insert(it.key, Author::new(it.key, &self.limits, self.journal.as_deref())?);
+            opened.insert(it.key, open(config, &it.key)?);
         }
         let (mut next, mut fresh) = (HashMap::new(), Vec::new());
         for it in &config.peers {
@@ -117,9 +113,9 @@ impl Hub {
                     continue;
                 }
                 (Some(old), _) => Arc::new(old.moved(name, address)),
-                (None, Some((author, past))) => {
+                (None, Some((journal, past))) => {
                     let node = self.act(|gossip, now| gossip.list(now, it.key, past));
-                    Arc::new(Peer::new(Arc::new(author), name, address, node))
+                    Arc::new(Peer::new(it.key, name, address, node, journal))
                 }
                 (None, None) => continue,
             };
@@ -150,17 +146,13 @@ impl Hub {
 
     /// Whether all that was delivered has been printed.
     pub fn is_printed(&self) -> bool {
-        self.output.as_ref().is_none_or(Output::is_empty)
-    }
-
-    fn now(&self) -> Time {
-        self.start.elapsed().as_micros() as Time
+        self.output.as_ref().is_none_or(Output::is_done)
     }
 
     /// Does something with the protocol, and wakes whoever has something to do then.
     fn act<T>(&self, act: impl FnOnce(&mut Gossip, Time) -> T) -> T {
         let mut gossip = lock(&self.gossip);
-        let done = act(&mut gossip, self.now());
+        let done = act(&mut gossip, now());
         for peer in gossip.machine.take_woken() {
             gossip.due[peer].notify_one();
         }
@@ -181,10 +173,9 @@ impl Hub {
                 gossip.timer = gossip.machine.next_time();
                 gossip.timer
             };
-            // Never farther than that, so the sum is a time.
-            let next = self.start + Duration::from_micros(next.min(self.now() + 1_000_000));
+            let rest = Duration::from_micros(next.saturating_sub(now())).min(LOOK);
             tokio::select! {
-                () = sleep_until(next.into()) => {
+                () = sleep(rest) => {
                     self.act(|gossip, now| gossip.machine.timeout(now));
                 }
                 () = self.timer.notified() => {}
@@ -239,20 +230,18 @@ impl Hub {
 
     /// Adds to what is written to a peer, up to some bytes.
     pub fn fill(&self, session: &Session, most: usize, out: &mut Vec<u8>) {
-        let (mut frames, mut len) = (Vec::new(), 0);
+        let mut gossip = lock(&self.gossip);
+        let now = now();
+        while out.len() < most
+            && !session.is_over()
+            && let Some(frame) = gossip.machine.frame(now, session.node)
         {
-            let mut gossip = lock(&self.gossip);
-            let now = self.now();
-            while len < most
-                && !session.is_over()
-                && let Some(frame) = gossip.machine.frame(now, session.node)
-            {
-                let frame = gossip.encoded(frame);
-                len += frame.len();
-                frames.push(frame);
-            }
+            let frame = match frame {
+                Frame::Message(message) => wire::Frame::Message(message.bytes),
+                Frame::Report(author, report) => wire::Frame::Report(gossip.ids[author], report),
+            };
+            frame.encode(out);
         }
-        frames.iter().for_each(|it| it.encode(out));
     }
 
     /// Whether a peer lacks own messages, as far as it has said.
@@ -281,9 +270,9 @@ impl Hub {
         };
         let node = author.node;
         let wants = || lock(&self.gossip).machine.wants(node, message.stamp);
-        let checks = if wants() { author.author.check(&message).map_err(invalid)? } else { 0 };
+        let checks = if wants() { author.check(&message).map_err(invalid)? } else { 0 };
         let cost = checks * self.limits.signature_cost();
-        let mut journal = lock(&author.author.journal);
+        let mut journal = lock(&author.journal);
         // An own message that comes back is not journaled: the journal has those after which the next one comes.
         if let Some(journal) = &mut *journal
             && wants()
@@ -314,7 +303,7 @@ impl Hub {
     fn deliver(&self, author: &Peer, message: &Signed) {
         self.metrics.delivered.with_label_values(&[&author.name]).inc();
         if let Some(output) = &self.output
-            && !output.print(&author.name, message)
+            && !output.write(author.id, output::line(&author.name, message).into_bytes())
         {
             self.metrics.output_dropped.inc();
         }
@@ -329,7 +318,7 @@ impl Hub {
 
     /// Signs texts as one batch, journals and publishes them. After an error nothing is published.
     pub fn publish(&self, texts: &[Vec<u8>]) -> io::Result<()> {
-        let mut journal = lock(&self.own.author.journal);
+        let mut journal = lock(&self.own.journal);
         let clock = SystemTime::now().duration_since(UNIX_EPOCH).unwrap_or_default();
         let next = lock(&self.gossip).machine.next_own(clock.as_nanos() as u64);
         let messages = Signed::batch(&self.identity, next, texts)?;
@@ -339,7 +328,7 @@ impl Hub {
         self.metrics.published.inc_by(messages.len() as u64);
         self.act(|gossip, now| {
             for it in &messages {
-                gossip.machine.publish(now, it.prev, it.stamp, it.bytes().clone());
+                gossip.machine.publish(now, it.prev, it.stamp, it.bytes.clone());
             }
         });
         Ok(())
@@ -350,25 +339,18 @@ impl Hub {
         let peers: Vec<Arc<Peer>> = lock(&self.peers).values().cloned().collect();
         let gossip = lock(&self.gossip);
         for peer in peers.iter().chain([&self.own]) {
-            let is_held = gossip.machine.is_held(peer.node);
-            self.metrics.held.with_label_values(&[&peer.name]).set(is_held.into());
-            let given_up = gossip.machine.given_up(peer.node) as i64;
-            self.metrics.given_up.with_label_values(&[&peer.name]).set(given_up);
+            let log = gossip.machine.log(peer.node);
+            self.metrics.held.with_label_values(&[&peer.name]).set(log.is_held.into());
+            self.metrics.given_up.with_label_values(&[&peer.name]).set(log.given_up as i64);
         }
         drop(gossip);
         TextEncoder::new().encode_to_string(&self.metrics.registry.gather()).unwrap_or_default()
     }
 }
 
-impl Gossip {
-    fn encoded(&self, frame: Frame) -> wire::Frame {
-        match frame {
-            Frame::Message(message) => wire::Frame::Message(message.bytes),
-            Frame::Report(author, report) => wire::Frame::Report(self.ids[author], report),
-        }
-    }
-}
-
-fn invalid(why: impl ToString) -> io::Error {
-    io::Error::new(ErrorKind::InvalidData, why.to_string())
+/// Opens the journal of an author, if there is to be one. Returns besides what it had.
+fn open(config: &Config, id: &PeerId) -> io::Result<(Option<Journal>, journal::Past)> {
+    let Some(folder) = &config.journal else { return Ok(Default::default()) };
+    let (journal, past) = Journal::open(folder, id, config.limits.bytes_per_peer)?;
+    Ok((Some(journal), past))
 }

@@ -1,12 +1,11 @@
 //! Broadcasts the lines of the standard input.
 
-use crate::batch::MAX_BATCH;
 use crate::hub::Hub;
-use crate::message::MAX_TEXT;
+use crate::message::{MAX_BATCH, MAX_TEXT};
 use std::io::{self, BufRead, ErrorKind, Read};
 use std::thread;
 use std::time::Duration;
-use tokio::sync::mpsc::{self, Receiver, error::TryRecvError};
+use tokio::sync::mpsc::{self, Receiver};
 use tokio::time::{Instant, sleep, sleep_until};
 use tracing::{error, info};
 
@@ -53,17 +52,17 @@ pub fn start() -> io::Result<Receiver<Vec<u8>>> {
 /// Publishes all lines, those that have come meanwhile together. Returns at the end of the input. Dropping the future loses no
 /// line: none is taken before it may be published.
 pub async fn publish(hub: &Hub, lines: &mut Receiver<Vec<u8>>) {
-    while let Some(line) = next(hub, lines).await {
+    loop {
+        hub.may_publish().await;
+        let Some(line) = lines.recv().await else { break };
         let next = Instant::now() + PACE;
         let (mut bytes, mut batch) = (line.len(), vec![line]);
-        while batch.len() < MAX_BATCH && bytes < MAX_BYTES {
-            match lines.try_recv() {
-                Ok(line) => {
-                    bytes += line.len();
-                    batch.push(line);
-                }
-                Err(TryRecvError::Empty | TryRecvError::Disconnected) => break,
-            }
+        while batch.len() < MAX_BATCH
+            && bytes < MAX_BYTES
+            && let Ok(line) = lines.try_recv()
+        {
+            bytes += line.len();
+            batch.push(line);
         }
         publish_all(hub, &batch).await;
         sleep_until(next).await;
@@ -81,9 +80,4 @@ pub async fn publish_all(hub: &Hub, batch: &[Vec<u8>]) {
         }
         sleep(RETRY).await;
     }
-}
-
-async fn next(hub: &Hub, lines: &mut Receiver<Vec<u8>>) -> Option<Vec<u8>> {
-    hub.may_publish().await;
-    lines.recv().await
 }

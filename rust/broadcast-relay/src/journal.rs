@@ -32,13 +32,11 @@ pub fn lock_folder(folder: &Path) -> io::Result<File> {
     fs::DirBuilder::new().recursive(true).mode(0o700).create(folder).map_err(of(folder))?;
     let path = folder.join("lock");
     let file = private().write(true).create(true).open(&path).map_err(of(&path))?;
-    match file.try_lock() {
-        Ok(()) => Ok(file),
-        Err(TryLockError::WouldBlock) => {
-            Err(io::Error::other(format!("{}: another relay uses this journal", folder.display())))
-        }
-        Err(TryLockError::Error(why)) => Err(of(&path)(why)),
-    }
+    file.try_lock().map_err(|why| match why {
+        TryLockError::WouldBlock => of(folder)(io::Error::other("another relay uses this journal")),
+        TryLockError::Error(why) => of(&path)(why),
+    })?;
+    Ok(file)
 }
 
 /// The older and the newer file of an author.
@@ -71,12 +69,12 @@ pub struct Past {
 impl Past {
     fn push(&mut self, message: Signed, most: u64) {
         self.covered.cover(message.prev, message.stamp);
-        self.bytes += message.len() as u64;
+        self.bytes += message.bytes.len() as u64;
         self.messages.push_back(message);
         while self.bytes > most
             && let Some(oldest) = self.messages.pop_front()
         {
-            self.bytes -= oldest.len() as u64;
+            self.bytes -= oldest.bytes.len() as u64;
         }
     }
 }
@@ -104,11 +102,9 @@ impl Journal {
                 recover(path, &mut past, most).map_err(of(path))?;
             }
         }
-        let open = || private().append(true).create(true).open(&newer);
-        let file = open().map_err(of(&newer))?;
+        let file = private().append(true).create(true).open(&newer).map_err(of(&newer))?;
         let len = file.metadata()?.len();
-        let covered = past.covered.clone();
-        let mut journal = Journal { older, newer, file, len, most, covered };
+        let mut journal = Journal { older, newer, file, len, most, covered: past.covered.clone() };
         if len == 0 {
             journal.write(&head(&journal.covered))?;
         }
@@ -122,10 +118,10 @@ impl Journal {
         }
         let mut records = Vec::new();
         for message in messages {
-            let len = (message.len() as u32).to_be_bytes();
+            let len = (message.bytes.len() as u32).to_be_bytes();
             records.extend(len);
-            records.extend(check(&[&len, message.bytes()]));
-            records.extend_from_slice(message.bytes());
+            records.extend(check(&[&len, &message.bytes]));
+            records.extend_from_slice(&message.bytes);
         }
         self.write(&records)?;
         for it in messages {
@@ -187,17 +183,13 @@ pub fn read(folder: &Path, mut each: impl FnMut(Signed)) -> io::Result<()> {
 /// Reads a file. What cannot be read is kept aside and cut off, or passed over if it is one record.
 fn recover(path: &Path, past: &mut Past, most: u64) -> io::Result<()> {
     let bytes = fs::read(path)?;
-    let Parsed { whole, wrong } = parse(&bytes, past, most);
-    if whole == bytes.len() && wrong == 0 {
+    let (whole, wrong) = parse(&bytes, past, most);
+    let cut = bytes.len() - whole;
+    if cut == 0 && wrong == 0 {
         return Ok(());
     }
-    let aside = path.with_extension(match path.extension() {
-        Some(_) => "old.damaged",
-        None => "damaged",
-    });
-    let cut = bytes.len() - whole;
-    let file = path.display();
-    tracing::warn!(%file, wrong, cut, kept = %aside.display(), "damaged records or bytes at the end");
+    let (file, aside) = (path.display(), format!("{}.damaged", path.display()));
+    tracing::warn!(%file, wrong, cut, kept = aside, "damaged records or bytes at the end");
     private().write(true).create(true).truncate(true).open(&aside)?.write_all(&bytes)?;
     if cut > 0 {
         OpenOptions::new().write(true).open(path)?.set_len(whole as u64)?;
@@ -205,29 +197,22 @@ fn recover(path: &Path, past: &mut Past, most: u64) -> io::Result<()> {
     Ok(())
 }
 
-/// How many bytes of a file are whole records, and how many of these are wrong.
-struct Parsed {
-    whole: usize,
-    wrong: usize,
-}
-
-fn parse(bytes: &[u8], past: &mut Past, most: u64) -> Parsed {
-    let Some(head) = bytes.get(..HEAD).filter(|it| it.starts_with(MAGIC)) else {
-        return Parsed { whole: 0, wrong: 0 };
-    };
+/// Returns how many bytes of a file are whole records, and how many of these are wrong.
+fn parse(bytes: &[u8], past: &mut Past, most: u64) -> (usize, usize) {
+    let Some(head) = bytes.get(..HEAD).filter(|it| it.starts_with(MAGIC)) else { return (0, 0) };
     let covered = parse_head(head);
     for (after, upto) in covered.iter().flat_map(Coverage::runs) {
         past.covered.cover(after, upto);
     }
     let (mut at, mut wrong) = (HEAD, usize::from(covered.is_none()));
-    let mut parsed = Parsed { whole: at, wrong };
+    let mut parsed = (at, wrong);
     // Wrong records at the end may be no records at all.
     while let Some((message, end)) = parse_record(bytes, at) {
         at = end;
         match message {
             Some(message) => {
                 past.push(message, most);
-                parsed = Parsed { whole: at, wrong };
+                parsed = (at, wrong);
             }
             None => wrong += 1,
         }
@@ -291,7 +276,7 @@ mod tests {
                 assert!(
                     stamps(&past).is_sorted() && stamps(&past).last() == Some(&(round * 7 - 1))
                 );
-                let bytes: usize = past.messages.iter().map(Signed::len).sum();
+                let bytes: usize = past.messages.iter().map(|it| it.bytes.len()).sum();
                 assert!(bytes <= MOST as usize && (round < 5 || bytes >= 9_000), "{bytes}");
                 let files = fs::read_dir(&folder).unwrap();
                 let bytes: u64 = files.map(|it| it.unwrap().metadata().unwrap().len()).sum();
@@ -352,12 +337,13 @@ mod tests {
         let good = fs::read(&file).unwrap();
         let record = (good.len() - HEAD) / 5;
         let second = HEAD + record;
-        // A bit of the second text, of its stamp, and of its length, which hides all behind it; an unfinished end.
+        // A bit of the second text, of its stamp, and of its length, which hides all behind it; an unfinished end; another version.
         for (at, len, left) in [
             (second + record - 9, good.len(), &[1, 3, 4, 5][..]),
             (second + RECORD + 103, good.len(), &[1, 3, 4, 5]),
             (second + 1, good.len(), &[1]),
             (good.len(), good.len() - 3, &[1, 2, 3, 4]),
+            (MAGIC.len() - 1, good.len(), &[]),
         ] {
             let mut bytes = good.clone();
             bytes.iter_mut().skip(at).take(1).for_each(|it| *it ^= 4);

@@ -4,17 +4,17 @@ use crate::handshakes::{Handshakes, has_hello};
 use crate::hub::Hub;
 use crate::identity::PeerId;
 use crate::peer::Peer;
-use crate::places::{Places, network};
-use crate::resolve::Resolver;
+use crate::places::Places;
 use crate::session;
 use crate::tls::{Stream, Tls};
 use rand::Rng;
 use std::io;
-use std::net::{IpAddr, SocketAddr};
+use std::net::{IpAddr, SocketAddr, ToSocketAddrs};
 use std::sync::Arc;
+use std::thread;
 use std::time::{Duration, Instant};
 use tokio::net::{TcpListener, TcpStream};
-use tokio::sync::{OwnedSemaphorePermit, Semaphore};
+use tokio::sync::{OwnedSemaphorePermit, Semaphore, oneshot};
 use tokio::time::{sleep, timeout};
 use tracing::{debug, error, info, warn};
 
@@ -53,35 +53,31 @@ pub async fn accept(network: Arc<Network>, listener: TcpListener) {
     }
 }
 
-async fn greet(
-    network: Arc<Network>,
-    stream: TcpStream,
-    address: SocketAddr,
-    permit: OwnedSemaphorePermit,
-) {
-    let (hub, places) = (&network.hub, &network.places);
-    let Some(mut place) = places.enter(address.ip()).await else {
-        hub.metrics.turned_away.inc();
-        return;
+async fn greet(at: Arc<Network>, stream: TcpStream, from: SocketAddr, one: OwnedSemaphorePermit) {
+    let metrics = &at.hub.metrics;
+    let Some(mut place) = at.places.enter(from.ip()).await else {
+        return metrics.turned_away.inc();
     };
-    hub.metrics.pushed_out.inc_by(place.has_pushed.into());
-    hub.metrics.handshakes.inc();
+    metrics.pushed_out.inc_by(place.has_pushed.into());
+    metrics.handshakes.inc();
     let proved = tokio::select! {
         _ = &mut place.pushed => Err(io::Error::other("another has taken its place")),
-        proved = timeout(HANDSHAKE, prove(&network, stream, address.ip())) => {
-            proved.unwrap_or_else(|_| Err(io::Error::other("it took too long")))
-        }
+        proved = in_time(prove(&at, stream, place.address)) => proved,
     };
-    places.leave(place.number);
-    hub.metrics.handshakes.dec();
-    drop(permit);
+    at.places.leave(&place);
+    metrics.handshakes.dec();
+    drop(one);
     match proved {
-        Ok(proved) => attend(network.hub.clone(), proved, false).await,
+        Ok(proved) => attend(&at.hub, proved, false).await,
         Err(why) => {
-            hub.metrics.strangers.inc();
-            debug!(%address, %why, "refused");
+            metrics.strangers.inc();
+            debug!(%from, %why, "refused");
         }
     }
+}
+
+async fn in_time<T>(work: impl Future<Output = io::Result<T>>) -> io::Result<T> {
+    timeout(HANDSHAKE, work).await.map_err(|_| io::Error::other("it took too long"))?
 }
 
 async fn prove(at: &Network, stream: TcpStream, address: IpAddr) -> io::Result<Proved> {
@@ -89,53 +85,52 @@ async fn prove(at: &Network, stream: TcpStream, address: IpAddr) -> io::Result<P
     if !has_hello(&stream).await? {
         return Err(io::Error::other("no handshake"));
     }
-    at.handshakes.turn(network(address)).await;
+    at.handshakes.turn(address).await;
     let start = Instant::now();
     let (mut stream, id) = at.tls.accept(stream).await?;
     session::greet(&mut stream).await?;
     Ok((stream, id, start.elapsed()))
 }
 
-async fn attend(hub: Arc<Hub>, (stream, peer, round_trip): Proved, is_dialed: bool) {
+async fn attend(hub: &Arc<Hub>, (stream, peer, round_trip): Proved, is_dialed: bool) {
     if let Some(session) = hub.attach(&peer, is_dialed, round_trip) {
-        session::run(hub, session, stream).await;
+        session::run(hub.clone(), session, stream).await;
     }
 }
 
 /// Dials a peer that has an address, for as long as it is listed with it.
 pub fn start_dialing(network: &Arc<Network>, peer: Arc<Peer>) {
-    let Some(address) = peer.address.clone() else { return };
-    let resolver = match Resolver::start(&address) {
-        Ok(it) => Arc::new(it),
-        Err(why) => return error!(peer = peer.name, %why, "is not dialed: no thread to look it up"),
-    };
     let network = network.clone();
-    tokio::spawn(async move {
-        // Were it to panic, it would go on.
-        while tokio::spawn(dial(network.clone(), peer.clone(), resolver.clone())).await.is_err() {
-            error!(peer = peer.name, "a dial failed, and goes on");
-            sleep(MAX_REST).await;
-        }
-    });
+    tokio::spawn(go_on(move || dial(network.clone(), peer.clone())));
+}
+
+/// Starts a task, and again whenever it panics.
+async fn go_on<F>(mut task: impl FnMut() -> F)
+where
+    F: Future<Output = ()> + Send + 'static,
+{
+    while tokio::spawn(task()).await.is_err() {
+        error!("a task failed, and goes on");
+        sleep(MAX_REST).await;
+    }
 }
 
 /// Dials a peer whenever it is not connected, until it is removed or moves.
-async fn dial(network: Arc<Network>, peer: Arc<Peer>, resolver: Arc<Resolver>) {
-    let hub = &network.hub;
-    let (mut rest, mut logged) = (REST, None);
+async fn dial(network: Arc<Network>, peer: Arc<Peer>) {
+    let (hub, Some(address)) = (&network.hub, &peer.address) else { return };
+    let (mut rest, mut logged, mut looked_up) = (REST, None, None);
     while hub.peer(&peer.id).is_some_and(|it| Arc::ptr_eq(&it, &peer)) {
         let start = Instant::now();
         if peer.session().is_none() && !peer.is_banned() {
-            let dialed = timeout(HANDSHAKE, connect(&network, &peer, &resolver)).await;
-            match dialed.unwrap_or_else(|_| Err(io::Error::other("it took too long"))) {
+            match in_time(connect(&network, &peer, address, &mut looked_up)).await {
                 Ok(proved) => {
                     logged = None;
-                    attend(hub.clone(), proved, true).await;
+                    attend(hub, proved, true).await;
                 }
                 Err(why) => {
                     let why = Some(why.to_string());
                     if why != logged {
-                        info!(peer = peer.name, address = peer.address, why, "not reached");
+                        info!(peer = peer.name, address, why, "not reached");
                         logged = why;
                     }
                 }
@@ -149,8 +144,43 @@ async fn dial(network: Arc<Network>, peer: Arc<Peer>, resolver: Arc<Resolver>) {
     }
 }
 
-async fn connect(network: &Network, peer: &Peer, resolver: &Resolver) -> io::Result<Proved> {
-    let (addresses, start) = (resolver.resolve().await?, Instant::now());
+/// The addresses of a name, once a thread has looked them up.
+type LookUp = Option<oneshot::Receiver<io::Result<Vec<SocketAddr>>>>;
+
+/// Looks up the addresses of `HOST:PORT` in a thread of its own: a name server that does not answer keeps no other peer away. Who asks
+/// again meanwhile waits for the same answer.
+async fn resolve(name: &str, looked_up: &mut LookUp) -> io::Result<Vec<SocketAddr>> {
+    if let Ok(address) = name.parse() {
+        return Ok(vec![address]);
+    }
+    let found = match looked_up {
+        Some(it) => it,
+        None => looked_up.insert(apart({
+            let name = name.to_owned();
+            move || name.to_socket_addrs().map(Iterator::collect)
+        })?),
+    };
+    let found = found.await;
+    *looked_up = None;
+    found.map_err(io::Error::other)?
+}
+
+/// Does what may take long in a thread of its own.
+pub fn apart<T: Send + 'static>(
+    work: impl FnOnce() -> T + Send + 'static,
+) -> io::Result<oneshot::Receiver<T>> {
+    let (sender, done) = oneshot::channel();
+    thread::Builder::new().spawn(move || sender.send(work()))?;
+    Ok(done)
+}
+
+async fn connect(
+    network: &Network,
+    peer: &Peer,
+    address: &str,
+    looked_up: &mut LookUp,
+) -> io::Result<Proved> {
+    let (addresses, start) = (resolve(address, looked_up).await?, Instant::now());
     let stream = TcpStream::connect(&addresses[..]).await?;
     let round_trip = start.elapsed();
     stream.set_nodelay(true)?;
@@ -162,4 +192,38 @@ async fn connect(network: &Network, peer: &Peer, resolver: &Resolver) -> io::Res
     };
     session::greet(&mut stream).await.map_err(refused)?;
     Ok((stream, peer.id, round_trip))
+}
+
+#[cfg(test)]
+mod tests {
+    use super::*;
+    use std::sync::atomic::{AtomicU32, Ordering};
+
+    #[tokio::test]
+    async fn a_name_server_that_does_not_answer_keeps_no_other_peer_away() {
+        // It answers once the sender is dropped.
+        let (silent, answer) = oneshot::channel();
+        let mut looked_up: LookUp = Some(answer);
+        let asked = timeout(REST, resolve("silent.example:7", &mut looked_up)).await;
+        // No second thread is started for it.
+        assert!(asked.is_err() && looked_up.is_some());
+        let found = resolve("localhost:7", &mut None).await.unwrap();
+        assert!(found.iter().all(|it| it.port() == 7));
+        let known = resolve("10.0.0.1:7", &mut None).await.unwrap();
+        assert_eq!(known, ["10.0.0.1:7".parse().unwrap()]);
+        drop(silent);
+        assert!(resolve("silent.example:7", &mut looked_up).await.is_err() && looked_up.is_none());
+    }
+
+    #[tokio::test(start_paused = true)]
+    async fn a_task_that_panics_goes_on() {
+        let starts = Arc::new(AtomicU32::new(0));
+        let count = starts.clone();
+        go_on(move || {
+            let start = count.fetch_add(1, Ordering::Relaxed);
+            async move { assert!(start == 3, "as it must be") }
+        })
+        .await;
+        assert_eq!(starts.load(Ordering::Relaxed), 4);
+    }
 }

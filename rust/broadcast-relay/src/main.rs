@@ -3,8 +3,6 @@
 //! Messages are signed by their authors. Each relay has a part of each author's log, reports to its peers which part, and gets from
 //! them what it lacks: the protocol is in `broadcast_relay::gossip`.
 
-mod author;
-mod batch;
 mod config;
 mod handshakes;
 mod http;
@@ -20,20 +18,21 @@ mod output;
 mod peer;
 mod places;
 mod relay;
-mod resolve;
 mod session;
 mod setup;
 mod tls;
 mod turns;
 mod wire;
 
+use broadcast_relay::gossip::Time;
 use clap::{Parser, Subcommand};
 use config::Config;
 use identity::{Identity, keygen, to_hex};
 use std::io;
 use std::path::{Path, PathBuf};
 use std::process::ExitCode;
-use std::sync::{Mutex, MutexGuard, PoisonError};
+use std::sync::{LazyLock, Mutex, MutexGuard, PoisonError};
+use std::time::Instant;
 
 /// A gossip relay over mutual TLS.
 #[derive(Parser)]
@@ -98,7 +97,7 @@ fn run(command: Command) -> io::Result<()> {
             Ok(())
         }
         Command::Log { journal } => journal::read(&journal, |it| {
-            println!("{} {} {}", to_hex(&it.author), it.stamp, output::shown(it.text()));
+            print!("{}", output::line(&to_hex(&it.author), &it));
         }),
     }
 }
@@ -106,6 +105,17 @@ fn run(command: Command) -> io::Result<()> {
 /// Names an error by its file.
 fn of(path: &Path) -> impl FnOnce(io::Error) -> io::Error + use<'_> {
     move |why| io::Error::new(why.kind(), format!("{}: {why}", path.display()))
+}
+
+/// Microseconds since the first call.
+fn now() -> Time {
+    static START: LazyLock<Instant> = LazyLock::new(Instant::now);
+    START.elapsed().as_micros() as Time
+}
+
+/// What came, or was read, is wrong.
+fn invalid(why: impl ToString) -> io::Error {
+    io::Error::new(io::ErrorKind::InvalidData, why.to_string())
 }
 
 /// Locks a mutex, also if a task that held it has panicked.

@@ -5,8 +5,10 @@
 //! ```
 //!
 //! `prev` is the stamp of the author's message before. The digest covers public key, stamp, prev and text. Numbers are big-endian.
+//!
+//! A signature covers the root of a hash tree over the digests of messages that were typed together. Each message carries the hashes
+//! beside its way to the root, so it can be checked by itself, and who has checked one message of a batch need not check another.
 
-use crate::batch::{self, Hash, MAX_BATCH, MAX_DEPTH};
 use crate::identity::{Identity, PeerId, is_signed};
 use bytes::Bytes;
 use openssl::error::ErrorStack;
@@ -35,17 +37,21 @@ pub struct Signed {
     pub stamp: u64,
     /// The stamp of the author's message before: this message covers `(prev, stamp]`.
     pub prev: u64,
-    bytes: Bytes,
+    pub bytes: Bytes,
 }
 
 fn stamps(stamp: u64, prev: u64) -> [u8; 16] {
     (u128::from(stamp) << 64 | u128::from(prev)).to_be_bytes()
 }
 
-fn digest(public: &[u8], stamps: &[u8], text: &[u8]) -> Hash {
+fn hash(parts: &[&[u8]]) -> Hash {
     let mut hasher = Sha256::new();
-    [PURPOSE, public, stamps, text].iter().for_each(|it| hasher.update(it));
+    parts.iter().for_each(|it| hasher.update(it));
     hasher.finish()
+}
+
+fn digest(public: &[u8], stamps: &[u8], text: &[u8]) -> Hash {
+    hash(&[PURPOSE, public, stamps, text])
 }
 
 impl Signed {
@@ -56,27 +62,17 @@ impl Signed {
         texts: &[Vec<u8>],
     ) -> Result<Vec<Signed>, ErrorStack> {
         let texts = &texts[..texts.len().min(MAX_BATCH)];
-        let public = &author.public;
-        let spans: Vec<(u64, u64)> = [(prev, stamp)]
-            .into_iter()
-            .chain((1..texts.len() as u64).map(|it| (stamp + it - 1, stamp + it)))
-            .collect();
-        let digests: Vec<Hash> = texts
-            .iter()
-            .zip(&spans)
-            .map(|(text, &(prev, stamp))| digest(public, &stamps(stamp, prev), text))
-            .collect();
-        let (root, ways) = batch::tree(&digests);
+        let prev_of = |it: u64| if it == stamp { prev } else { it - 1 };
+        let each = || (stamp..).map(|it| (it, stamps(it, prev_of(it)))).zip(texts);
+        let digests = each().map(|((_, at), text)| digest(&author.public, &at, text));
+        let (root, ways) = tree(&digests.collect::<Vec<_>>());
         let signature = author.sign(&root)?;
-        let messages = texts.iter().zip(ways).zip(spans).enumerate();
-        Ok(messages
-            .map(|(place, ((text, way), (prev, stamp)))| {
-                let (at, place) = (stamps(stamp, prev), [place as u8, way.len() as u8]);
-                let hashes = way.concat();
-                let bytes = [&signature[..], public, &at, &place, &hashes, text].concat().into();
-                Signed { author: author.id, stamp, prev, bytes }
-            })
-            .collect())
+        let messages = each().zip(ways).enumerate().map(|(place, (((stamp, at), text), way))| {
+            let (place, hashes) = ([place as u8, way.len() as u8], way.concat());
+            let bytes = [&signature[..], &author.public, &at, &place, &hashes, text].concat();
+            Signed { author: author.id, stamp, prev: prev_of(stamp), bytes: bytes.into() }
+        });
+        Ok(messages.collect())
     }
 
     fn text_at(&self) -> usize {
@@ -87,19 +83,11 @@ impl Signed {
         &self.bytes[self.text_at()..]
     }
 
-    pub fn bytes(&self) -> &Bytes {
-        &self.bytes
-    }
-
-    pub fn len(&self) -> usize {
-        self.bytes.len()
-    }
-
     /// The batch's root and the signature of it. Whoever has checked both once has checked all messages of the batch.
     pub fn seal(&self) -> Seal {
         let (hashes, _) = self.bytes[HASHES..self.text_at()].as_chunks::<32>();
         let digest = digest(&self.bytes[PUBLIC], &self.bytes[STAMPS], self.text());
-        let root = batch::root(digest, usize::from(self.bytes[PLACE]), hashes.iter());
+        let root = root(digest, usize::from(self.bytes[PLACE]), hashes.iter());
         let mut signature = [0; 64];
         signature.copy_from_slice(&self.bytes[SIGNATURE]);
         Seal { root, signature }
@@ -124,10 +112,7 @@ impl Signed {
             return Err("a message that comes before the one before it");
         }
         // Not by `sha256`, which looks the function up each time: a start would take twice as long to read its journals.
-        let mut hasher = Sha256::new();
-        hasher.update(&bytes[PUBLIC]);
-        let author = hasher.finish();
-        Ok(Signed { author, stamp, prev, bytes })
+        Ok(Signed { author: hash(&[&bytes[PUBLIC]]), stamp, prev, bytes })
     }
 }
 
@@ -136,6 +121,43 @@ impl Signed {
 pub struct Seal {
     root: Hash,
     signature: [u8; 64],
+}
+
+type Hash = [u8; 32];
+
+/// The most messages of a batch, and the most hashes on a way.
+pub const MAX_BATCH: usize = 1 << MAX_DEPTH;
+const MAX_DEPTH: usize = 8;
+
+/// Stands before what is hashed, so a node of the tree is never the digest of a message.
+const NODE: &[u8] = b"broadcast-relay batch 2";
+
+fn parent(left: &Hash, right: &Hash) -> Hash {
+    hash(&[NODE, left, right])
+}
+
+/// The root of a tree and the way from each leaf to it. Missing leaves up to a power of two are zeros.
+fn tree(leaves: &[Hash]) -> (Hash, Vec<Vec<Hash>>) {
+    let mut level = leaves.to_vec();
+    let mut ways = vec![Vec::new(); leaves.len()];
+    let mut depth = 0;
+    while level.len() > 1 {
+        level.resize(level.len().next_multiple_of(2), [0; 32]);
+        for (place, way) in ways.iter_mut().enumerate() {
+            way.push(level[(place >> depth) ^ 1]);
+        }
+        level = level.chunks_exact(2).map(|it| parent(&it[0], &it[1])).collect();
+        depth += 1;
+    }
+    (level.first().copied().unwrap_or_default(), ways)
+}
+
+/// The root to which a way leads from a leaf at a place.
+fn root<'a>(leaf: Hash, place: usize, way: impl Iterator<Item = &'a Hash>) -> Hash {
+    way.enumerate().fold(leaf, |hash, (depth, beside)| match place >> depth & 1 {
+        0 => parent(&hash, beside),
+        _ => parent(beside, &hash),
+    })
 }
 
 #[cfg(test)]
@@ -151,13 +173,13 @@ mod tests {
             assert_eq!(batch.len(), count);
             let (seal, mut prev) = (batch[0].seal(), 7);
             for ((message, text), stamp) in batch.iter().zip(&texts).zip(1_000..) {
-                let read = Signed::decode(message.bytes().clone()).unwrap();
+                let read = Signed::decode(message.bytes.clone()).unwrap();
                 assert_eq!((read.author, read.prev, read.stamp), (author.id, prev, stamp));
                 assert_eq!(read.text(), &text[..]);
                 prev = stamp;
                 assert!(read.seal() == seal && read.is_signed(&seal));
-                for at in [0, PUBLIC.start, STAMP.start, PREV.end - 1, message.len() - 1] {
-                    let mut bytes = message.bytes().to_vec();
+                for at in [0, PUBLIC.start, STAMP.start, PREV.end - 1, message.bytes.len() - 1] {
+                    let mut bytes = message.bytes.to_vec();
                     bytes[at] ^= 1;
                     let forged = Signed::decode(bytes.into());
                     assert!(!forged.is_ok_and(|it| it.is_signed(&it.seal())), "byte {at}");
@@ -174,5 +196,21 @@ mod tests {
         let mut deep = vec![0; MAX_MESSAGE];
         deep[DEPTH] = MAX_DEPTH as u8 + 1;
         assert!(Signed::decode(deep.into()).is_err());
+    }
+
+    #[test]
+    fn each_way_leads_to_the_root() {
+        for count in [1, 2, 3, 5, 8, 100, MAX_BATCH] {
+            let leaves: Vec<Hash> = (0..count).map(|it| [it as u8 ^ 0x55; 32]).collect();
+            let (top, ways) = tree(&leaves);
+            for (place, way) in ways.iter().enumerate() {
+                assert!(way.len() <= MAX_DEPTH);
+                assert_eq!(root(leaves[place], place, way.iter()), top);
+                if count > 1 {
+                    assert_ne!(root(parent(&top, &top), place, way.iter()), top);
+                    assert_ne!(root(leaves[place], place ^ 1, way.iter()), top);
+                }
+            }
+        }
     }
 }

@@ -1,4 +1,4 @@
-//! Prints what is delivered, in a thread of its own: a reader that does not read stops nothing else.
+//! Writes lines in a thread of its own: a reader of the output or of the log that does not read stops nothing else.
 
 use crate::identity::PeerId;
 use crate::lock;
@@ -14,7 +14,6 @@ use std::time::Duration;
 
 /// The most bytes of an author that wait for the reader. What has no room is not printed, and counted; the journal has it.
 pub const MAX_WAITING: usize = 2 << 20;
-
 /// How long an output that failed rests.
 const REST: Duration = Duration::from_millis(100);
 
@@ -23,19 +22,25 @@ const REST: Duration = Duration::from_millis(100);
 struct Lines {
     waiting: Turns<PeerId, Vec<u8>>,
     bytes: HashMap<PeerId, usize>,
+    is_writing: bool,
     /// Whoever read them is gone.
     is_closed: bool,
 }
 
-pub struct Output(Arc<(Mutex<Lines>, Condvar)>);
+#[derive(Clone)]
+pub struct Output {
+    shared: Arc<(Mutex<Lines>, Condvar)>,
+    most: usize,
+}
 
 impl Output {
-    pub fn start() -> io::Result<Output> {
-        let output = Output(Arc::default());
-        let shared = output.0.clone();
+    /// Starts to write to a file, of which at most so many bytes wait of each author.
+    pub fn start(name: &str, file: impl AsFd, most: usize) -> io::Result<Output> {
+        let output = Output { shared: Arc::default(), most };
+        let shared = output.shared.clone();
         // Not by `Stdout`, which keeps what it could not write.
-        let mut out = File::from(io::stdout().as_fd().try_clone_to_owned()?);
-        thread::Builder::new().name("output".into()).spawn(move || {
+        let mut out = File::from(file.as_fd().try_clone_to_owned()?);
+        thread::Builder::new().name(name.into()).spawn(move || {
             while print(&mut out, &next(&shared)) {}
             tracing::warn!("nobody reads the output any more");
             lock(&shared.0).is_closed = true;
@@ -43,33 +48,34 @@ impl Output {
         Ok(output)
     }
 
-    /// Prints `AUTHOR STAMP TEXT`. Returns whether there was room for it.
-    pub fn print(&self, name: &str, message: &Signed) -> bool {
-        let line = format!("{name} {} {}\n", message.stamp, shown(message.text())).into_bytes();
-        let mut lines = lock(&self.0.0);
-        if lines.is_closed {
-            return false;
-        }
-        let bytes = lines.bytes.entry(message.author).or_default();
-        if *bytes + line.len() > MAX_WAITING {
+    /// Writes a line of an author. Returns whether there was room for it.
+    pub fn write(&self, author: PeerId, line: Vec<u8>) -> bool {
+        let mut lines = lock(&self.shared.0);
+        let Lines { waiting, bytes, is_closed, .. } = &mut *lines;
+        let bytes = bytes.entry(author).or_default();
+        if *is_closed || *bytes + line.len() > self.most {
             return false;
         }
         *bytes += line.len();
-        lines.waiting.push(message.author, line);
-        self.0.1.notify_one();
+        waiting.push(author, line);
+        self.shared.1.notify_one();
         true
     }
 
-    pub fn is_empty(&self) -> bool {
-        let lines = lock(&self.0.0);
-        lines.is_closed || lines.waiting.is_empty()
+    /// Whether all is written, or will never be.
+    pub fn is_done(&self) -> bool {
+        let lines = lock(&self.shared.0);
+        lines.is_closed || (lines.waiting.is_empty() && !lines.is_writing)
     }
 }
 
-/// Waits for lines, and takes up to 16 KiB of them, and at least one.
+/// Waits for lines, and takes up to 16 KiB of them, and at least one. What was taken before is written then.
 fn next((lines, filled): &(Mutex<Lines>, Condvar)) -> Vec<u8> {
-    let waited = filled.wait_while(lock(lines), |it| it.waiting.is_empty());
+    let mut lines = lock(lines);
+    lines.is_writing = false;
+    let waited = filled.wait_while(lines, |it| it.waiting.is_empty());
     let mut lines = waited.unwrap_or_else(PoisonError::into_inner);
+    lines.is_writing = true;
     let mut batch = Vec::new();
     while batch.len() < 1 << 14
         && let Some((author, line)) = lines.waiting.pop()
@@ -99,17 +105,22 @@ fn print(out: &mut File, mut batch: &[u8]) -> bool {
     true
 }
 
+/// How a message is printed: `AUTHOR STAMP TEXT`.
+pub fn line(author: &str, message: &Signed) -> String {
+    format!("{author} {} {}\n", message.stamp, shown(message.text()))
+}
+
 /// The text without what a terminal obeys, or what turns it round.
-pub fn shown(text: &[u8]) -> String {
+fn shown(text: &[u8]) -> String {
     let hides = |it: char| {
         it.is_control()
             || matches!(it, '\u{61c}' | '\u{200b}'..='\u{200f}' | '\u{2028}'..='\u{202e}' | '\u{2066}'..='\u{2069}' | '\u{feff}')
     };
-    if text.iter().all(|it| matches!(it, b' '..=b'~')) {
-        return String::from_utf8_lossy(text).into_owned();
+    let shown = String::from_utf8_lossy(text);
+    match text.iter().all(|it| matches!(it, b' '..=b'~')) {
+        true => shown.into_owned(),
+        false => shown.replace(hides, "\u{fffd}"),
     }
-    let text = String::from_utf8_lossy(text);
-    text.chars().map(|it| if hides(it) { '\u{fffd}' } else { it }).collect()
 }
 
 #[cfg(test)]
@@ -134,6 +145,29 @@ mod tests {
         });
         drop(reader);
         assert!(!print(&mut out, &lines));
+    }
+
+    #[test]
+    fn what_is_being_written_is_not_done() {
+        let (out, mut reader) = UnixStream::pair().unwrap();
+        let output = Output::start("test", &out, MAX_WAITING).unwrap();
+        drop(out);
+        // More than the system keeps.
+        let line = vec![b'x'; MAX_WAITING];
+        assert!(output.write([1; 32], line.clone()) && !output.is_done());
+        while !lock(&output.shared.0).waiting.is_empty() {
+            thread::sleep(REST);
+        }
+        assert!(!output.is_done());
+        let mut read = vec![0; line.len()];
+        reader.read_exact(&mut read).unwrap();
+        while !output.is_done() {
+            thread::sleep(REST);
+        }
+        drop(reader);
+        while output.write([1; 32], line.clone()) || !output.is_done() {
+            thread::sleep(REST);
+        }
     }
 
     #[test]

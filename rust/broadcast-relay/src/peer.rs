@@ -1,15 +1,18 @@
-//! A peer and its one connection.
+//! A peer, its one connection, and what a relay has of it as an author beside its log.
 
-use crate::author::Author;
 use crate::identity::PeerId;
-use crate::lock;
+use crate::journal::Journal;
+use crate::message::{Seal, Signed};
+use crate::{lock, now};
 use broadcast_relay::gossip::{Bar, Bucket, SECOND, Time};
-use std::collections::HashMap;
-use std::sync::atomic::{AtomicBool, Ordering};
+use std::collections::{HashMap, VecDeque};
+use std::sync::atomic::{AtomicBool, Ordering::Relaxed};
 use std::sync::{Arc, Mutex};
 use std::time::{Duration, Instant};
 use tokio::sync::Notify;
 
+/// How many checked signatures of an author are remembered.
+const SEALS: usize = 64;
 /// After a ban ended so long ago, the next is again like the first.
 const FORGIVEN: Time = 600 * SECOND;
 /// A connection of which nothing was heard for so long may always be replaced.
@@ -20,20 +23,23 @@ const LOGGED: (u64, u64) = (1, 10);
 /// The peers that the configuration lists, which may change.
 pub type Peers = Arc<Mutex<HashMap<PeerId, Arc<Peer>>>>;
 
+/// Its clones, which may have other names or addresses, have one connection.
+#[derive(Clone)]
 pub struct Peer {
     pub id: PeerId,
     pub name: String,
     pub address: Option<String>,
-    pub author: Arc<Author>,
     /// Its number in the protocol.
     pub node: usize,
+    /// Whoever locks it is the only one that takes a message of the author.
+    pub journal: Arc<Mutex<Option<Journal>>>,
+    seals: Arc<Mutex<VecDeque<Seal>>>,
     state: Arc<Mutex<State>>,
 }
 
 struct State {
     session: Option<Arc<Session>>,
     ban: Bar,
-    start: Instant,
     logged: Bucket,
 }
 
@@ -53,20 +59,39 @@ pub struct Session {
 }
 
 impl Peer {
-    pub fn new(author: Arc<Author>, name: String, address: Option<String>, node: usize) -> Peer {
-        let state = State {
-            session: None,
-            ban: Bar::default(),
-            start: Instant::now(),
-            logged: Bucket::new(LOGGED.0, LOGGED.1),
-        };
-        Peer { id: author.id, name, address, author, node, state: Arc::new(Mutex::new(state)) }
+    pub fn new(
+        id: PeerId,
+        name: String,
+        address: Option<String>,
+        node: usize,
+        journal: Option<Journal>,
+    ) -> Peer {
+        let logged = Bucket::new(LOGGED.0, LOGGED.1);
+        let state = State { session: None, ban: Bar::default(), logged };
+        let (journal, state) = (Arc::new(Mutex::new(journal)), Arc::new(Mutex::new(state)));
+        Peer { id, name, address, node, journal, seals: Arc::default(), state }
     }
 
     /// The same peer with another name or address.
     pub fn moved(&self, name: String, address: Option<String>) -> Peer {
-        let (author, state) = (self.author.clone(), self.state.clone());
-        Peer { id: self.id, name, address, author, node: self.node, state }
+        Peer { name, address, ..self.clone() }
+    }
+
+    /// Checks that the author signed a message. Returns how many signatures that took: that of a batch is checked once.
+    pub fn check(&self, message: &Signed) -> Result<u64, &'static str> {
+        let seal = message.seal();
+        if lock(&self.seals).contains(&seal) {
+            return Ok(0);
+        }
+        if !message.is_signed(&seal) {
+            return Err("a wrong signature");
+        }
+        let mut seals = lock(&self.seals);
+        seals.push_back(seal);
+        if seals.len() > SEALS {
+            seals.pop_front();
+        }
+        Ok(1)
     }
 
     pub fn session(&self) -> Option<Arc<Session>> {
@@ -74,7 +99,7 @@ impl Peer {
     }
 
     pub fn is_banned(&self) -> bool {
-        lock(&self.state).is_banned()
+        lock(&self.state).ban.until(now()).is_some()
     }
 
     /// Gives the peer's one place to a new connection, and calls `begin` before anything else can happen to it. The connection
@@ -86,7 +111,7 @@ impl Peer {
         begin: impl FnOnce(&Session),
     ) -> Result<Arc<Session>, &'static str> {
         let mut state = lock(&self.state);
-        if state.is_banned() {
+        if state.ban.until(now()).is_some() {
             return Err("it broke the rules");
         }
         if let Some(old) = &state.session {
@@ -118,9 +143,8 @@ impl Peer {
     pub fn detach(&self, session: &Arc<Session>, end: impl FnOnce()) -> bool {
         session.end();
         let mut state = lock(&self.state);
-        let had_place = state.session.as_ref().is_some_and(|it| Arc::ptr_eq(it, session));
+        let had_place = state.session.take_if(|it| Arc::ptr_eq(it, session)).is_some();
         if had_place {
-            state.session = None;
             end();
         }
         had_place
@@ -128,30 +152,17 @@ impl Peer {
 
     /// Refuses the peer for a while, the longer the more often. Returns for how long.
     pub fn ban(&self) -> Duration {
-        let mut state = lock(&self.state);
-        let now = state.now();
-        Duration::from_micros(state.ban.fail(now, FORGIVEN))
+        Duration::from_micros(lock(&self.state).ban.fail(now(), FORGIVEN))
     }
 
     /// Whether it is to be logged that it comes or goes: not again and again.
     pub fn is_logged(&self) -> bool {
-        let mut state = lock(&self.state);
-        let now = state.now();
+        let (mut state, now) = (lock(&self.state), now());
         let is_due = state.logged.level(now) > 0;
         if is_due {
             state.logged.take(now, 1);
         }
         is_due
-    }
-}
-
-impl State {
-    fn now(&self) -> Time {
-        self.start.elapsed().as_micros() as Time
-    }
-
-    fn is_banned(&self) -> bool {
-        self.ban.until(self.now()).is_some()
     }
 }
 
@@ -162,34 +173,32 @@ impl Session {
 
     /// Lets the connection end.
     pub fn end(&self) {
-        self.is_over.store(true, Ordering::Relaxed);
+        self.is_over.store(true, Relaxed);
         self.ended.notify_one();
     }
 
     /// Whether another connection may have taken its place.
     pub fn is_over(&self) -> bool {
-        self.is_over.load(Ordering::Relaxed)
+        self.is_over.load(Relaxed)
     }
 
     /// Lets the connection end once the peer has all own messages.
     pub fn finish(&self) {
-        self.is_finishing.store(true, Ordering::Relaxed);
+        self.is_finishing.store(true, Relaxed);
         self.due.notify_one();
     }
 
     pub fn is_finishing(&self) -> bool {
-        self.is_finishing.load(Ordering::Relaxed)
+        self.is_finishing.load(Relaxed)
     }
 }
 
 #[cfg(test)]
 mod tests {
     use super::*;
-    use crate::config::Limits;
 
     fn peer() -> Peer {
-        let (author, _) = Author::new([5; 32], &Limits::default(), None).unwrap();
-        Peer::new(Arc::new(author), "five".into(), None, 1)
+        Peer::new([5; 32], "five".into(), None, 1, None)
     }
 
     fn attach(peer: &Peer, own: [u8; 32], is_dialed: bool) -> Result<Arc<Session>, &'static str> {

@@ -4,13 +4,14 @@
 //! has its share, else the oldest of the address that has most. An address gets its share at once, and then a place each
 //! 8 ms: so a place lasts as long as a share times that, also if strangers come back whenever they are pushed out.
 
+use crate::lock;
+use std::cmp::Reverse;
 use std::collections::{HashMap, VecDeque};
 use std::net::{IpAddr, Ipv6Addr};
 use std::sync::Mutex;
 use std::time::{Duration, Instant};
 use tokio::sync::oneshot;
-
-use crate::lock;
+use tokio::time::sleep;
 
 /// How often an address gets a place beyond its share, and how many of its connections wait for one.
 const PACE: Duration = Duration::from_millis(8);
@@ -26,23 +27,18 @@ pub struct Places {
 
 #[derive(Default)]
 struct State {
-    /// Oldest first.
-    taken: VecDeque<Place>,
+    /// The places of each address, oldest first: their numbers, and what is dropped when another takes the place.
+    taken: HashMap<IpAddr, VecDeque<(u64, oneshot::Sender<()>)>>,
     /// When each address will have waited for all that it got.
     due: HashMap<IpAddr, Instant>,
     waiting: usize,
     number: u64,
 }
 
-struct Place {
-    number: u64,
-    address: IpAddr,
-    pushed: oneshot::Sender<()>,
-}
-
 /// A place that was given.
 pub struct Given {
-    pub number: u64,
+    pub address: IpAddr,
+    number: u64,
     /// Resolves when another connection has taken the place.
     pub pushed: oneshot::Receiver<()>,
     pub has_pushed: bool,
@@ -51,11 +47,8 @@ pub struct Given {
 /// The part of an address that one attacker has: of IPv6 the first half.
 pub fn network(address: IpAddr) -> IpAddr {
     match address.to_canonical() {
-        IpAddr::V4(it) => IpAddr::V4(it),
-        IpAddr::V6(it) => {
-            let bits = it.to_bits() >> 64 << 64;
-            IpAddr::V6(Ipv6Addr::from_bits(bits))
-        }
+        IpAddr::V6(it) => IpAddr::V6(Ipv6Addr::from_bits(it.to_bits() >> 64 << 64)),
+        it => it,
     }
 }
 
@@ -73,8 +66,7 @@ impl Places {
         let share = PACE * self.most_of_address as u32;
         let due = state.due.get(&address).map_or(now, |it| *it.max(&now)) + PACE;
         let wait = due.saturating_duration_since(now + share);
-        let is_full = wait > PACE * LINE || (!wait.is_zero() && state.waiting >= self.most);
-        if is_full {
+        if wait > PACE * LINE || (!wait.is_zero() && state.waiting >= self.most) {
             return None;
         }
         state.due.insert(address, due);
@@ -87,7 +79,7 @@ impl Places {
         let address = network(address);
         let wait = self.line_up(address, Instant::now())?;
         if !wait.is_zero() {
-            tokio::time::sleep(wait).await;
+            sleep(wait).await;
             lock(&self.state).waiting -= 1;
         }
         Some(self.take(address))
@@ -95,30 +87,29 @@ impl Places {
 
     fn take(&self, address: IpAddr) -> Given {
         let mut state = lock(&self.state);
-        let mut of_address: HashMap<IpAddr, usize> = HashMap::new();
-        for place in &state.taken {
-            *of_address.entry(place.address).or_default() += 1;
-        }
-        let leaves = if of_address.get(&address).is_some_and(|it| *it >= self.most_of_address) {
+        let State { taken, number, .. } = &mut *state;
+        let leaves = if taken.get(&address).is_some_and(|it| it.len() >= self.most_of_address) {
             Some(address)
-        } else if state.taken.len() >= self.most {
-            let has_most =
-                |it: &&Place| (of_address.get(&it.address).copied(), u64::MAX - it.number);
-            state.taken.iter().max_by_key(has_most).map(|it| it.address)
+        } else if taken.values().map(VecDeque::len).sum::<usize>() >= self.most {
+            let most = taken.iter().max_by_key(|(_, it)| (it.len(), Reverse(it[0].0)));
+            most.map(|it| *it.0)
         } else {
             None
         };
-        let place = leaves.and_then(|it| state.taken.iter().position(|place| place.address == it));
-        let pushed_out = place.and_then(|it| state.taken.remove(it));
-        let has_pushed = pushed_out.is_some_and(|it| it.pushed.send(()).is_ok());
-        state.number += 1;
-        let (number, (sender, pushed)) = (state.number, oneshot::channel());
-        state.taken.push_back(Place { number, address, pushed: sender });
-        Given { number, pushed, has_pushed }
+        let place = leaves.and_then(|it| taken.get_mut(&it)?.pop_front());
+        *number += 1;
+        let (sender, pushed) = oneshot::channel();
+        taken.entry(address).or_default().push_back((*number, sender));
+        taken.retain(|_, it| !it.is_empty());
+        Given { address, number: *number, pushed, has_pushed: place.is_some() }
     }
 
-    pub fn leave(&self, number: u64) {
-        lock(&self.state).taken.retain(|it| it.number != number);
+    pub fn leave(&self, given: &Given) {
+        let taken = &mut lock(&self.state).taken;
+        if let Some(of_address) = taken.get_mut(&given.address) {
+            of_address.retain(|it| it.0 != given.number);
+        }
+        taken.retain(|_, it| !it.is_empty());
     }
 }
 
@@ -131,7 +122,7 @@ mod tests {
     }
 
     fn is_pushed(given: &mut Given) -> bool {
-        given.pushed.try_recv().is_ok()
+        given.pushed.try_recv() == Err(oneshot::error::TryRecvError::Closed)
     }
 
     #[test]
@@ -154,7 +145,7 @@ mod tests {
         let mut second = places.take(address(4));
         assert!(second.has_pushed && is_pushed(&mut many[1]));
         assert!(!few.iter_mut().chain([&mut newcomer, &mut second]).any(is_pushed));
-        places.leave(newcomer.number);
+        places.leave(&newcomer);
         assert!(!places.take(address(5)).has_pushed);
     }
 

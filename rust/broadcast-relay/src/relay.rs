@@ -7,25 +7,24 @@ use crate::hub::Hub;
 use crate::identity::{Identity, to_hex};
 use crate::input;
 use crate::journal;
-use crate::listen::{Network, accept, start_dialing};
+use crate::listen::{Network, accept, apart, start_dialing};
 use crate::logging::Lines;
 use crate::metrics::Metrics;
-use crate::peer::Peer;
 use crate::places::Places;
 use crate::setup;
 use crate::tls::Tls;
 use broadcast_relay::gossip::Coverage;
 use std::fs::File;
+use std::future::pending;
 use std::io::{self, IsTerminal, stdin};
 use std::net::SocketAddr;
 use std::path::Path;
 use std::sync::Arc;
-use std::thread;
 use std::time::Duration;
 use tokio::net::TcpListener;
 use tokio::runtime::Builder;
 use tokio::signal::unix::{SignalKind, signal};
-use tokio::sync::{Semaphore, mpsc, oneshot};
+use tokio::sync::{Semaphore, mpsc};
 use tokio::time::{sleep, timeout};
 use tracing::{info, warn};
 
@@ -41,7 +40,7 @@ pub fn run(file: &Path) -> io::Result<()> {
     setup::fit(&mut config)?;
     let runtime = Builder::new_multi_thread().enable_all().build()?;
     let result = runtime.block_on(serve(file, config, metrics));
-    log.flush();
+    log.finish();
     result?;
     // The thread that reads the input may wait for it for ever.
     std::process::exit(0)
@@ -52,38 +51,36 @@ async fn serve(file: &Path, config: Config, metrics: Metrics) -> io::Result<()> 
     let mut interrupt = signal(SignalKind::interrupt())?;
     let mut hangup = signal(SignalKind::hangup())?;
     let (network, _lock) = start(&config, metrics).await?;
-    let hub = network.hub.clone();
-    let has_terminal = config.input && stdin().is_terminal();
-    let mut lines = match config.input {
-        true => Some(input::start()?),
-        false => None,
-    };
+    let hub = &network.hub;
+    let mut lines = if config.input { Some(input::start()?) } else { None };
     let publishes = async {
         if let Some(lines) = &mut lines {
-            input::publish(&hub, lines).await;
+            input::publish(hub, lines).await;
         }
-        std::future::pending::<()>().await
+        pending().await
     };
-    let ends = async {
-        tokio::pin!(publishes);
+    let hangs_up = async {
+        let has_terminal = config.input && stdin().is_terminal();
         loop {
-            tokio::select! {
-                _ = terminate.recv() => return "SIGTERM",
-                _ = interrupt.recv() => return "SIGINT",
-                _ = hangup.recv() => {
-                    if has_terminal && !stdin().is_terminal() {
-                        return "SIGHUP: the terminal of the input is closed";
-                    }
-                    reload(&network, file, &config).await;
-                }
-                () = &mut publishes => {}
+            hangup.recv().await;
+            if has_terminal && !stdin().is_terminal() {
+                return;
             }
+            reload(&network, file, &config).await;
         }
     };
-    let why = ends.await;
+    let why = tokio::select! {
+        _ = terminate.recv() => "SIGTERM",
+        _ = interrupt.recv() => "SIGINT",
+        () = hangs_up => "SIGHUP: the terminal of the input is closed",
+        why = publishes => why,
+    };
     info!(why, "ends");
-    drain(&hub, lines).await;
-    summary(&hub);
+    drain(hub, lines).await;
+    let page = hub.metrics_page();
+    let counted = page.lines().filter(|it| !it.starts_with('#') && !it.ends_with(" 0"));
+    counted.for_each(|it| info!("{it}"));
+    info!("ended");
     Ok(())
 }
 
@@ -107,15 +104,6 @@ async fn drain(hub: &Hub, lines: Option<mpsc::Receiver<Vec<u8>>>) {
     }
 }
 
-/// Logs what was counted.
-fn summary(hub: &Hub) {
-    let page = hub.metrics_page();
-    page.lines()
-        .filter(|it| !it.starts_with('#') && !it.ends_with(" 0"))
-        .for_each(|it| info!("{it}"));
-    info!("ended");
-}
-
 /// Starts listener and dialers. No journal is touched before the ports and the folder are this relay's. Returns besides the lock of
 /// the folder.
 async fn start(config: &Config, metrics: Metrics) -> io::Result<(Arc<Network>, Option<File>)> {
@@ -127,26 +115,24 @@ async fn start(config: &Config, metrics: Metrics) -> io::Result<(Arc<Network>, O
     };
     let lock = config.journal.as_deref().map(journal::lock_folder).transpose()?;
     let hub = Arc::new(Hub::new(identity, config, metrics)?);
-    let tls = Tls::new(&hub.identity, hub.peers.clone())?;
-    let limits = &config.limits;
-    let network = Arc::new(Network {
-        hub: hub.clone(),
-        tls,
-        places: Places::new(limits.handshakes, limits.handshakes_per_address),
-        handshakes: Handshakes::default(),
-        accepted: Arc::new(Semaphore::new(2 * limits.handshakes)),
-    });
-    let peers = hub.set_peers(config)?;
-    info!(address = %config.listen, key = to_hex(&hub.identity.id), "listening");
     if let Some((listener, address)) = served {
         info!(%address, "metrics");
         tokio::spawn(http::serve(hub.clone(), listener));
     }
-    tokio::spawn(async move { hub.keep_time().await });
-    let turns = network.clone();
+    let limits = &config.limits;
+    let network = Arc::new(Network {
+        tls: Tls::new(&hub.identity, hub.peers.clone())?,
+        hub,
+        places: Places::new(limits.handshakes, limits.handshakes_per_address),
+        handshakes: Handshakes::default(),
+        accepted: Arc::new(Semaphore::new(2 * limits.handshakes)),
+    });
+    set_peers(&network, config.clone()).await?;
+    info!(address = %config.listen, key = to_hex(&network.hub.identity.id), "listening");
+    let (times, turns) = (network.clone(), network.clone());
+    tokio::spawn(async move { times.hub.keep_time().await });
     tokio::spawn(async move { turns.handshakes.give_turns().await });
     tokio::spawn(accept(network.clone(), listener));
-    peers.into_iter().for_each(|it| start_dialing(&network, it));
     Ok((network, lock))
 }
 
@@ -157,30 +143,24 @@ async fn bind(address: SocketAddr) -> io::Result<TcpListener> {
 
 /// Reads the peers of the configuration again. After an error they stay as they are.
 async fn reload(network: &Arc<Network>, file: &Path, old: &Config) {
-    let reloaded = Config::load(file).inspect(|new| {
-        let rest = |it: &Config| Config { peers: Vec::new(), ..it.clone() };
-        if rest(new) != rest(old) {
+    let reloaded = async {
+        let new = Config::load(file)?;
+        let config = Config { peers: new.peers.clone(), ..old.clone() };
+        if new != config {
             warn!("what is changed beside the peers counts from the next start on");
         }
-    });
-    let reloaded = match reloaded {
-        Ok(new) => set_peers(network.hub.clone(), new).await,
-        Err(why) => Err(why),
+        set_peers(network, config).await
     };
-    match reloaded {
-        Ok(peers) => {
-            info!(changed = peers.len(), "reloaded");
-            peers.into_iter().for_each(|it| start_dialing(network, it));
-        }
+    match reloaded.await {
+        Ok(changed) => info!(changed, "reloaded"),
         Err(why) => warn!(%why, "not reloaded"),
     }
 }
 
-/// Sets the peers in a thread of its own, since that reads journals.
-async fn set_peers(hub: Arc<Hub>, config: Config) -> io::Result<Vec<Arc<Peer>>> {
-    let (sender, peers) = oneshot::channel();
-    thread::Builder::new().name("reload".into()).spawn(move || {
-        let _ = sender.send(hub.set_peers(&config));
-    })?;
-    peers.await.map_err(io::Error::other)?
+/// Sets the peers, in a thread of its own, since that reads journals, and dials those that are new or have moved. Returns how many.
+async fn set_peers(network: &Arc<Network>, config: Config) -> io::Result<usize> {
+    let hub = network.hub.clone();
+    let peers = apart(move || hub.set_peers(&config))?.await.map_err(io::Error::other)??;
+    peers.iter().for_each(|it| start_dialing(network, it.clone()));
+    Ok(peers.len())
 }

@@ -5,7 +5,8 @@ use crate::message::Signed;
 use crate::peer::Session;
 use crate::tls::Stream;
 use crate::wire::{Frame, VERSION, read_frame};
-use broadcast_relay::gossip::{Bucket, Time};
+use crate::{invalid, now};
+use broadcast_relay::gossip::Bucket;
 use std::future::pending;
 use std::io::{self, ErrorKind};
 use std::sync::Arc;
@@ -31,8 +32,7 @@ pub async fn greet(stream: &mut Stream) -> io::Result<()> {
     match read_frame(stream).await? {
         Frame::Hello(VERSION) => Ok(()),
         Frame::Hello(version) => {
-            let why =
-                format!("it speaks version {version} of the protocol, and this relay {VERSION}");
+            let why = format!("its protocol has version {version}, and this relay's {VERSION}");
             Err(io::Error::new(ErrorKind::Unsupported, why))
         }
         _ => Err(io::Error::other("it did not say its version")),
@@ -79,12 +79,11 @@ async fn write(hub: &Hub, session: &Session, mut to: impl AsyncWrite + Unpin) ->
 
 async fn read(hub: &Hub, session: &Session, from: impl AsyncRead + Unpin) -> io::Result<()> {
     let mut from = BufReader::with_capacity(1 << 16, from);
-    let start = Instant::now();
     let mut frames = Bucket::new(FRAMES_PER_SECOND, FRAMES_PER_SECOND / 8);
     loop {
         let frame = timeout(SILENCE, read_frame(&mut from)).await??;
         session.hear();
-        let now = start.elapsed().as_micros() as Time;
+        let now = now();
         frames.take(now, if let Frame::Report(..) = frame { REPORT } else { 1 });
         let mut rest = Duration::from_micros(frames.when(now, 1) - now);
         match frame {
@@ -97,12 +96,9 @@ async fn read(hub: &Hub, session: &Session, from: impl AsyncRead + Unpin) -> io:
                 }
             }
             Frame::Message(bytes) => {
-                let invalid = |why| io::Error::new(ErrorKind::InvalidData, why);
                 rest = rest.max(hub.take(session, Signed::decode(bytes).map_err(invalid)?)?);
             }
-            Frame::Hello(_) => {
-                return Err(io::Error::new(ErrorKind::InvalidData, "a second first frame"));
-            }
+            Frame::Hello(_) => return Err(invalid("a second first frame")),
         }
         if !rest.is_zero() {
             sleep(rest.min(SILENCE / 2)).await;

@@ -1,9 +1,10 @@
 //! Frames: a length of four bytes, big-endian, a byte that tells the kind, and the body.
 
 use crate::identity::PeerId;
+use crate::invalid;
 use crate::message::MAX_MESSAGE;
 use broadcast_relay::gossip::{Coverage, Report};
-use bytes::Bytes;
+use bytes::{Buf, Bytes};
 use std::io;
 use tokio::io::{AsyncRead, AsyncReadExt};
 
@@ -51,57 +52,40 @@ impl Frame {
         out[start..start + 4].copy_from_slice(&len.to_be_bytes());
     }
 
-    /// About how many bytes it takes.
-    pub fn len(&self) -> usize {
-        match self {
-            Frame::Message(bytes) => bytes.len(),
-            Frame::Report(_, report) => 64 + 16 * report.coverage.gaps(),
-            Frame::Beat | Frame::Hello(_) => 8,
-        }
-    }
-
     fn decode(mut bytes: Bytes) -> Option<Frame> {
         let kind = *bytes.first()?;
         let body = bytes.split_off(1);
         match kind {
             0 if body.is_empty() => Some(Frame::Beat),
             1 => Some(Frame::Message(body)),
-            2 => report(&body),
+            2 => report(body),
             3 => body.first_chunk().map(|it| Frame::Hello(u16::from_be_bytes(*it))),
             _ => None,
         }
     }
 }
 
-fn report(mut body: &[u8]) -> Option<Frame> {
-    let author = take(&mut body)?;
-    let (since, room) = (number(&mut body)?, number(&mut body)?);
-    let [held] = take(&mut body)?;
-    let coverage = Coverage::decode(body)?;
-    let report = Report { coverage, since, room, is_held: held == 1 };
+fn report(mut body: Bytes) -> Option<Frame> {
+    if body.len() < 32 + 8 + 8 + 1 {
+        return None;
+    }
+    let mut author = [0; 32];
+    body.copy_to_slice(&mut author);
+    let (since, room, held) = (body.get_u64(), body.get_u64(), body.get_u8());
+    let report = Report { coverage: Coverage::decode(&body)?, since, room, is_held: held == 1 };
     (held < 2).then_some(Frame::Report(author, report))
-}
-
-fn take<const LEN: usize>(from: &mut &[u8]) -> Option<[u8; LEN]> {
-    let (taken, rest) = from.split_first_chunk()?;
-    *from = rest;
-    Some(*taken)
-}
-
-fn number(from: &mut &[u8]) -> Option<u64> {
-    take(from).map(u64::from_be_bytes)
 }
 
 /// Reads a frame. What is no frame is invalid data.
 pub async fn read_frame(from: &mut (impl AsyncRead + Unpin)) -> io::Result<Frame> {
-    let invalid = || io::Error::new(io::ErrorKind::InvalidData, "what is no frame");
+    let wrong = || invalid("what is no frame");
     let len = from.read_u32().await? as usize;
     if len == 0 || len > MAX_FRAME {
-        return Err(invalid());
+        return Err(wrong());
     }
     let mut bytes = vec![0; len];
     from.read_exact(&mut bytes).await?;
-    Frame::decode(bytes.into()).ok_or_else(invalid)
+    Frame::decode(bytes.into()).ok_or_else(wrong)
 }
 
 #[cfg(test)]

@@ -45,13 +45,33 @@ fn a_mesh_of_four_makes_progress() {
     assert!(relays.iter_mut().all(Relay::terminate));
 }
 
+/// A batch was once as long as a short list, and lines were lost.
+#[test]
+fn a_row_with_short_lists_loses_nothing() {
+    let near = |from: usize, to: usize| from.abs_diff(to) == 1;
+    let limits = "[limits]\nbytes_per_peer = 1048576";
+    let mut relays = Relay::wired(&Lab::loopback(), &folder("short"), 3, &[], limits, near);
+    relays.iter_mut().for_each(Relay::start);
+    are_connected(&relays, near);
+    // Six lists of them, short and long ones.
+    for it in 0..6_000 {
+        relays[0].write(&format!("{it} {}", "x".repeat(it % 2 * 1_700)));
+    }
+    wait_for("all lines", || delivered(&relays[2]) == 6_000);
+    assert!(relays.iter_mut().all(Relay::terminate));
+}
+
 /// Most of them were once lost here.
 #[test]
 fn a_relay_that_stands_still_gets_all_that_is_on_the_lists() {
-    let near = |from: usize, to: usize| from.abs_diff(to) == 1;
-    let mut relays = Relay::wired(&Lab::loopback(), &folder("stopped"), 3, &[], "", near);
+    // One of two dials, so no connection is replaced by another that the standing relay does not know of.
+    let dials = |from: usize, to: usize| from + 1 == to;
+    let mut relays = Relay::wired(&Lab::loopback(), &folder("stopped"), 3, &[], "", dials);
     relays.iter_mut().for_each(Relay::start);
-    are_connected(&relays, near);
+    are_connected(&relays, |from, to| from.abs_diff(to) == 1);
+    // A relay is waited for once it has reported what it lacks of an author.
+    relays[0].write("first");
+    wait_for("the first line", || delivered(&relays[2]) == 1);
     relays[2].signal("-STOP");
     let filler = "x".repeat(2_000);
     let mut author = relays.remove(0);
@@ -62,6 +82,6 @@ fn a_relay_that_stands_still_gets_all_that_is_on_the_lists() {
     });
     sleep(Duration::from_secs(4));
     relays[1].signal("-CONT");
-    wait_for("all lines", || delivered(&relays[1]) == 3_001);
+    wait_for("all lines", || delivered(&relays[1]) == 3_002);
     assert!(writer.join().unwrap().terminate());
 }

@@ -61,6 +61,15 @@ fn no_peer_speaks_in_anothers_name() {
     assert!(relay.terminate());
 }
 
+/// While a ban lasts its connections cost no more than a stranger's.
+#[test]
+fn a_banned_peer_does_not_get_to_prove_its_key() {
+    let (relay, [hostile, _]) = relay_and("banned", "", ["hostile", "other"]);
+    let refused = "relay_strangers_total";
+    send_until(&hostile, &relay, &frame(7, &[]), refused, || relay.metric(refused) >= 1.0);
+    assert!(relay.metric("relay_invalid_total{peer=\"hostile\"}") >= 1.0);
+}
+
 #[test]
 fn a_replayed_message_is_not_printed_again() {
     // A journal's file begins anew after 1 MiB.

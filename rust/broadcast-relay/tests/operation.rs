@@ -7,7 +7,7 @@ use std::io;
 use std::io::Write;
 use std::net::{TcpListener, TcpStream};
 use std::os::fd::OwnedFd;
-use std::os::unix::fs::PermissionsExt;
+use std::os::unix::fs::{OpenOptionsExt, PermissionsExt};
 use std::os::unix::net::UnixStream;
 use std::path::Path;
 use std::process::{Command, Stdio};
@@ -94,6 +94,8 @@ fn no_input_and_no_output_end_nothing() {
     assert!(relays.iter_mut().all(|it| it.is_running()));
     assert!(relays[0].http("/healthz").ends_with("ok\n"));
     assert!(relays[0].http("/nothing").starts_with("HTTP/1.1 404"));
+    // What did not happen is counted too.
+    assert!(relays[0].http("/metrics").contains("relay_invalid_total{peer=\"r1\"} 0\n"));
     assert!(relays.iter_mut().all(Relay::terminate));
 }
 
@@ -151,14 +153,14 @@ fn an_output_that_nobody_reads_stops_nothing() {
 
 #[test]
 fn a_log_that_nobody_reads_stops_nothing() {
-    for is_gone in [false, true] {
-        let mut relays = row(if is_gone { "log-gone" } else { "log-unread" });
+    for name in ["log-unread", "log-gone", "log-full"] {
+        let (mut relays, is_gone) = (row(name), name == "log-gone");
         // The pipe has place for 64 KiB. Each request of the metrics' page is logged at this level.
-        relays[1].log_to = Some(Stdio::piped());
+        let full = || fs::OpenOptions::new().write(true).open("/dev/full").unwrap().into();
+        relays[1].log_to = Some(if name == "log-full" { full() } else { Stdio::piped() });
         relays[1].prefix = ["env", "RUST_LOG=trace"].map(str::to_owned).to_vec();
         relays[1].start();
-        let log = relays[1].take_log();
-        let log = if is_gone { None } else { Some(log) };
+        let log = relays[1].take_log().filter(|_| !is_gone);
         relays[0].start();
         relays[2].start();
         wait_for("connected", || relays[1].is_connected("r0") && relays[1].is_connected("r2"));
@@ -270,6 +272,86 @@ fn a_reload_that_fails_changes_nothing() {
     wait_for("the line", || relays[1].has_printed("r0", "after it"));
 }
 
+/// Makes a journal of a peer that is read only once somebody has written it.
+fn endless_journal(relay: &Relay, peer: &str) -> std::path::PathBuf {
+    fs::create_dir_all(relay.journal_folder()).unwrap();
+    let file = relay.journal_folder().join(peer).with_extension("old");
+    assert!(Command::new("mkfifo").arg(&file).status().unwrap().success());
+    file
+}
+
+/// Waits until a journal is being read, which goes on until what is returned is dropped.
+fn reads(file: &Path) -> fs::File {
+    const O_NONBLOCK: i32 = 0o4000;
+    let open = || fs::OpenOptions::new().write(true).custom_flags(O_NONBLOCK).open(file);
+    // It fails for as long as nobody reads.
+    let mut writer = None;
+    wait_for("the journal is read", || {
+        writer = open().ok();
+        writer.is_some()
+    });
+    writer.unwrap()
+}
+
+#[test]
+fn a_reload_that_reads_stops_nothing() {
+    let mut relays = pair("reload-reads");
+    relays.iter_mut().for_each(Relay::start);
+    wait_for("connected", || relays[0].is_connected("r1") && relays[1].is_connected("r0"));
+    let id = "ab".repeat(32);
+    let journal = endless_journal(&relays[0], &id);
+    let config = fs::read_to_string(relays[0].config()).unwrap();
+    let new = format!("[[peer]]\nname = \"new\"\nkey = \"{id}\"\n");
+    fs::write(relays[0].config(), config + &new).unwrap();
+    relays[0].signal("-HUP");
+    let reading = reads(&journal);
+    relays[0].write("out");
+    relays[1].write("in");
+    wait_for("lines", || relays[1].has_printed("r0", "out") && relays[0].has_printed("r1", "in"));
+    assert!(!relays[0].log().contains("reloaded"));
+    drop(reading);
+    wait_for("reloaded", || relays[0].log().contains("reloaded changed=1"));
+}
+
+#[test]
+fn a_start_that_reads_is_well() {
+    let mut relays = pair("start-reads");
+    let journal = endless_journal(&relays[0], &relays[1].key.text);
+    relays[0].start();
+    let reading = reads(&journal);
+    assert!(relays[0].http("/healthz").ends_with("ok\n"));
+    drop(reading);
+    relays[1].start();
+    wait_for("connected", || relays[0].is_connected("r1"));
+}
+
+#[test]
+fn a_start_names_the_file_that_it_cannot_read() {
+    let relays = pair("unreadable");
+    let id = &relays[1].key.text;
+    fs::create_dir_all(relays[0].journal_folder().join(id)).unwrap();
+    let config = relays[0].config();
+    let (status, _, said) = run_in(&relays[0].folder, &["run", config.to_str().unwrap()]);
+    assert!(status == Some(1) && said.contains(id), "{said}");
+}
+
+/// The relay's terminal, which is closed at the end of the input.
+const TERMINAL: &str = "import os, pty, sys
+if pty.fork()[0] == 0: os.execv(sys.argv[1], sys.argv[1:])
+sys.stdin.read()";
+
+#[test]
+fn a_terminal_that_closes_ends_the_relay_that_reads_it() {
+    let mut relays = pair("terminal");
+    relays[0].prefix = ["python3", "-c", TERMINAL].map(str::to_owned).to_vec();
+    relays[0].start();
+    relays[1].start();
+    wait_for("connected", || relays[0].is_connected("r1"));
+    relays[0].close_input();
+    wait_for("its end", || TcpStream::connect(relays[0].metrics).is_err());
+    wait_for("the other sees it", || !relays[1].is_connected("r0"));
+}
+
 #[test]
 fn a_hangup_changes_the_peers() {
     let folder = folder("hangup");
@@ -365,7 +447,8 @@ fn the_commands_make_relays_that_know_each_other() {
     assert_eq!(run(&["nonsense"]).0, Some(2));
     let (status, entry, _) = run(&["init", "a", "--listen", "127.0.0.1:7001"]);
     assert!(status == Some(0) && entry.contains("name = \"a\""));
-    assert_eq!(run(&["init", "b", "--listen", "127.0.0.1:7002", "--with", "a"]).0, Some(0));
+    let (status, _, said) = run(&["init", "b", "--listen", "127.0.0.1:7002", "--with", "a"]);
+    assert!(status == Some(0) && said.contains("b is a peer in a/relay.toml now"), "{said}");
     for name in ["a", "b"] {
         let file = format!("{name}/relay.toml");
         let (status, said, _) = run(&["run", "--check-config", &file]);

@@ -4,9 +4,9 @@ use super::Time;
 use std::collections::VecDeque;
 
 #[derive(Debug, Default)]
-struct Link {
-    is_connected: bool,
-    round_trip: Time,
+pub struct Link {
+    pub is_connected: bool,
+    pub round_trip: Time,
     /// The authors of whom a report is due.
     reports: VecDeque<usize>,
     /// The authors of whom messages may be sent, in turn.
@@ -15,68 +15,43 @@ struct Link {
 
 #[derive(Debug, Default)]
 pub struct Links {
-    links: Vec<Link>,
-    /// The peers to whom something may be sent again.
-    woken: Vec<usize>,
+    pub each: Vec<Link>,
+    /// The peers to whom something may be sent since they were taken last.
+    pub woken: Vec<usize>,
 }
 
 impl Links {
-    pub fn add(&mut self) {
-        self.links.push(Link::default());
-    }
-
-    pub fn len(&self) -> usize {
-        self.links.len()
-    }
-
     pub fn connect(&mut self, peer: usize, round_trip: Time) {
-        self.links[peer] = Link { is_connected: true, round_trip, ..Link::default() };
-    }
-
-    pub fn disconnect(&mut self, peer: usize) {
-        self.links[peer] = Link::default();
-    }
-
-    pub fn is_connected(&self, peer: usize) -> bool {
-        self.links[peer].is_connected
-    }
-
-    pub fn round_trip(&self, peer: usize) -> Time {
-        self.links[peer].round_trip
+        self.each[peer] = Link { is_connected: true, round_trip, ..Link::default() };
     }
 
     /// The peers that are connected, but one.
     pub fn others(&self, but: Option<usize>) -> impl Iterator<Item = usize> {
-        (0..self.links.len()).filter(move |&it| self.is_connected(it) && Some(it) != but)
+        (0..self.each.len()).filter(move |&it| self.each[it].is_connected && Some(it) != but)
     }
 
     pub fn push_report(&mut self, peer: usize, author: usize) {
         self.wake(peer);
-        self.links[peer].reports.push_back(author);
+        self.each[peer].reports.push_back(author);
     }
 
     pub fn push_turn(&mut self, peer: usize, author: usize) {
         self.wake(peer);
-        self.links[peer].turns.push_back(author);
+        self.each[peer].turns.push_back(author);
     }
 
     pub fn pop_report(&mut self, peer: usize) -> Option<usize> {
-        self.links[peer].reports.pop_front()
+        self.each[peer].reports.pop_front()
     }
 
     pub fn pop_turn(&mut self, peer: usize) -> Option<usize> {
-        self.links[peer].turns.pop_front()
+        self.each[peer].turns.pop_front()
     }
 
     fn wake(&mut self, peer: usize) {
-        let link = &self.links[peer];
+        let link = &self.each[peer];
         if link.reports.is_empty() && link.turns.is_empty() {
             self.woken.push(peer);
         }
-    }
-
-    /// The peers to whom something may be sent since the last call.
-    pub fn take_woken(&mut self) -> Vec<usize> {
-        std::mem::take(&mut self.woken)
     }
 }

@@ -1,8 +1,7 @@
 //! One author's log, and all that is decided for it: who is waited for, who feeds this relay, who is to get a report.
 
-use super::feeder::{self, Candidate};
-use super::links::Links;
-use super::patience::{Patience, Wait};
+use super::links::{Link, Links};
+use super::pace::{Patience, Wait};
 use super::session::Session;
 use super::view::View;
 use super::{Bounds, Bucket, Coverage, List, Message, NEVER, Report, SECOND, Time};
@@ -11,10 +10,12 @@ use super::{Bounds, Bucket, Coverage, List, Message, NEVER, Report, SECOND, Time
 pub struct Log {
     author: usize,
     is_own: bool,
+    pub is_listed: bool,
     pub covered: Coverage,
     /// How many gaps of it were closed, and given up.
     pub given_up: u64,
     pub list: List,
+    bounds: Bounds,
     pub bucket: Bucket,
     pub views: Vec<View>,
     pub feeder: Option<usize>,
@@ -41,9 +42,11 @@ impl Log {
         Log {
             author,
             is_own,
+            is_listed: true,
             covered: Coverage::default(),
             given_up: 0,
             list: List::new(bounds.list),
+            bounds: bounds.clone(),
             bucket: Bucket::new(bounds.rate, bounds.burst),
             views: Vec::new(),
             feeder: None,
@@ -60,14 +63,14 @@ impl Log {
     }
 
     /// Adds the next peer.
-    pub fn add_view(&mut self, bounds: &Bounds) {
-        self.views.push(View::new(Session::new(0), bounds));
+    pub fn add_view(&mut self) {
+        self.views.push(View::new(&self.bounds));
     }
 
     pub fn connect(&mut self, peer: usize, links: &mut Links) {
         let view = &mut self.views[peer];
         view.session = Session::new(self.covered.top());
-        view.record.start_again();
+        view.ahead = 0;
         self.queue_report(peer, links);
     }
 
@@ -79,12 +82,12 @@ impl Log {
     }
 
     /// Replaces a peer's report.
-    pub fn hear(&mut self, now: Time, peer: usize, report: Report, bounds: &Bounds) {
+    pub fn hear(&mut self, now: Time, peer: usize, report: Report) {
         let view = &mut self.views[peer];
         let before = view.session.theirs.as_ref().map(|it| self.list.lacking(&it.coverage));
         let after = self.list.lacking(&report.coverage);
         if let Some(took) = before.and_then(|it| it.checked_sub(after)) {
-            view.patience.renew(now, took, bounds.pace);
+            view.patience.renew(now, took, self.bounds.pace);
         }
         view.session.replace(report);
     }
@@ -100,56 +103,48 @@ impl Log {
 
     pub fn queue_report(&mut self, peer: usize, links: &mut Links) {
         let session = &mut self.views[peer].session;
-        if links.is_connected(peer) && !session.is_due {
+        if links.each[peer].is_connected && !session.is_due {
             session.is_due = true;
             links.push_report(peer, self.author);
         }
     }
 
     /// Takes a new message: covers it, lists it, and sees who is to get it or hear of it. Returns whether a step is due.
-    pub fn take(
-        &mut self,
-        now: Time,
-        from: Option<usize>,
-        message: Message,
-        bounds: &Bounds,
-        links: &mut Links,
-    ) -> bool {
-        let (stamp, size) = (message.stamp, message.size());
-        self.given_up += u64::from(self.covered.cover(message.prev, stamp));
-        self.list.insert(message);
-        self.patience.renew(now, size, bounds.pace);
+    pub fn take(&mut self, now: Time, from: Option<usize>, it: Message, links: &mut Links) -> bool {
+        let (stamp, size) = (it.stamp, it.size());
+        self.given_up += u64::from(self.covered.cover(it.prev, stamp));
+        self.list.insert(it);
+        self.patience.renew(now, size, self.bounds.pace);
         let is_fed = from.is_some() && self.feeder == from;
         if is_fed {
-            self.note_brought(now, stamp, size, bounds);
+            self.note_brought(now, stamp, size);
         }
         let mut ahead = None;
         for peer in 0..self.views.len() {
-            if !links.is_connected(peer) {
+            if !links.each[peer].is_connected {
                 continue;
             }
             let view = &mut self.views[peer];
             let has = view.session.covers(stamp);
-            if is_fed && from != Some(peer) && view.record.compare(now, has) {
+            if is_fed && from != Some(peer) && view.compare(now, has) {
                 ahead = Some(peer);
             }
-            self.offer(now, peer, (stamp, size, has), bounds, links);
+            self.offer(now, peer, (stamp, size, has), links);
         }
         self.unchecked += size;
-        match ahead {
-            Some(_) if self.feeder != Some(self.author) => {
-                self.feed_from(now, ahead, bounds, links);
-                true
-            }
-            _ => self.unchecked >= bounds.behind / 16,
+        if ahead.is_some() && self.feeder != Some(self.author) {
+            self.feed_from(now, ahead, links);
+            return true;
         }
+        self.unchecked >= self.bounds.behind / 16
     }
 
     /// The feeder brought something new. What is below the missing stamp shows that it is on its way there, and not slow.
-    fn note_brought(&mut self, now: Time, stamp: u64, size: u64, bounds: &Bounds) {
+    fn note_brought(&mut self, now: Time, stamp: u64, size: u64) {
         self.brought = now;
         if let Some((since, missing)) = &mut self.short {
-            let more = if stamp < *missing { size * bounds.slow / bounds.room } else { 0 };
+            let more = size * self.bounds.slow / self.bounds.room;
+            let more = if stamp < *missing { more } else { 0 };
             *since = (self.granted.max(*since) + more).min(now);
         }
     }
@@ -160,52 +155,53 @@ impl Log {
         now: Time,
         peer: usize,
         (stamp, size, has): (u64, u64, bool),
-        bounds: &Bounds,
         links: &mut Links,
     ) {
-        let join = bounds.join * (1 + self.covered.gaps() as u64 / 2);
+        let join = self.bounds.join * (1 + self.covered.gaps() as u64 / 2);
         let session = &mut self.views[peer].session;
         let (may_send, is_news) = session.note(stamp, size, has);
-        if may_send {
-            self.queue_turn(peer, links);
-        } else if is_news && session.news_due == NEVER {
+        if is_news && session.news_due == NEVER {
             // Who is first spares the other its report.
             let spread = (stamp ^ (self.spread + peer as u64)).wrapping_mul(0x9e37_79b9_7f4a_7c15);
             session.news_due = now + join + (spread >> 33) % (2 * join).max(1);
         }
-        let session = &mut self.views[peer].session;
-        session.lazy_due = session.lazy_due.min(now + bounds.lazy);
+        session.lazy_due = session.lazy_due.min(now + self.bounds.lazy);
         self.wake = self.wake.min(session.wake());
         let most = match self.feeder == Some(peer) {
-            true => session.ours.room.min(bounds.room) / 4,
-            false => bounds.behind / 4,
+            true => session.ours.room.min(self.bounds.room) / 4,
+            false => self.bounds.behind / 4,
         };
-        if session.unreported >= most {
+        let is_due = session.unreported >= most;
+        if may_send {
+            self.queue_turn(peer, links);
+        }
+        if is_due {
             self.queue_report(peer, links);
         }
     }
 
     /// Decides all that depends on reports and on time.
-    pub fn step(&mut self, now: Time, bounds: &Bounds, links: &mut Links) {
+    pub fn step(&mut self, now: Time, links: &mut Links) {
         (self.wake, self.unchecked) = (NEVER, 0);
-        self.hold(now, bounds, links);
-        self.choose(now, bounds, links);
-        self.grant(now, bounds, links);
-        self.report(now, bounds, links);
+        self.hold(now, links);
+        self.choose(now, links);
+        self.grant(now, links);
+        self.report(now, links);
     }
 
     /// Decides which peers are waited for.
-    fn hold(&mut self, now: Time, bounds: &Bounds, links: &Links) {
+    fn hold(&mut self, now: Time, links: &Links) {
         let mut is_held = false;
-        self.left = bounds.behind;
-        for peer in 0..self.views.len() {
-            let lacks = if links.is_connected(peer) { self.lacks(peer) } else { 0 };
+        let behind = self.bounds.behind;
+        self.left = behind;
+        for (peer, Link { is_connected, .. }) in links.each.iter().enumerate() {
+            let lacks = if *is_connected { self.lacks(peer) } else { 0 };
             let view = &mut self.views[peer];
-            view.is_stalled &= lacks > bounds.behind / 2 || !links.is_connected(peer);
-            let end = view.judge(now, lacks, bounds);
+            view.is_stalled &= lacks > behind / 2 || !is_connected;
+            let end = view.judge(now, lacks, &self.bounds);
             is_held |= view.is_waited_for;
             if !view.is_stalled {
-                self.left = self.left.min(bounds.behind.saturating_sub(lacks));
+                self.left = self.left.min(behind.saturating_sub(lacks));
             }
             self.wake = self.wake.min(end);
         }
@@ -237,24 +233,25 @@ impl Log {
     }
 
     /// Decides who feeds this relay.
-    fn choose(&mut self, now: Time, bounds: &Bounds, links: &mut Links) {
+    fn choose(&mut self, now: Time, links: &mut Links) {
         let Some(feeder) = self.feeder else {
             let best = self.best(now, None, links);
-            return self.feed_from(now, best, bounds, links);
+            return self.feed_from(now, best, links);
         };
         let missing = self.missing(now, feeder, links);
         // While the author is at the end of its rate nobody is judged.
-        let is_judged = self.bucket.level(now) >= bounds.room;
+        let is_judged = self.bucket.level(now) >= self.bounds.room;
         self.short = match (missing, self.short) {
             (Some(_), Some(short)) if is_judged && !self.covered.covers(short.1) => Some(short),
             (Some(stamp), _) if is_judged => Some((now, stamp)),
             _ => None,
         };
-        let is_free = |it: &View| it.record.bar.until(now).is_none();
         if let Some((since, _)) = self.short {
-            let slack = 2 * links.round_trip(feeder).min(SECOND / 4);
-            let (idle, slow) = (bounds.idle + slack, bounds.slow + slack);
-            let end = feeder::deadline(since, self.granted, self.brought, idle, slow);
+            let slack = 2 * links.each[feeder].round_trip.min(SECOND / 4);
+            let (idle, slow) = (self.bounds.idle + slack, self.bounds.slow + slack);
+            // It has failed if nothing new comes for a while, and at last if that does not come.
+            let from = since.max(self.granted);
+            let end = (from.max(self.brought) + idle).min(from + slow);
             if now < end {
                 self.wake = self.wake.min(end);
                 return;
@@ -262,15 +259,15 @@ impl Log {
             let is_blamed = self.shown(feeder).is_some();
             let best = self.best(now, Some(feeder), links);
             if is_blamed {
-                self.views[feeder].record.bar.fail(now, 0);
+                self.views[feeder].bar.fail(now, 0);
             }
-            self.feed_from(now, best, bounds, links);
+            self.feed_from(now, best, links);
         } else if missing.is_none()
             && feeder != self.author
-            && links.is_connected(self.author)
-            && is_free(&self.views[self.author])
+            && links.each[self.author].is_connected
+            && self.views[self.author].bar.until(now).is_none()
         {
-            self.feed_from(now, Some(self.author), bounds, links);
+            self.feed_from(now, Some(self.author), links);
         }
     }
 
@@ -280,7 +277,7 @@ impl Log {
         let mut missing = None;
         for peer in links.others(Some(feeder)) {
             let Some(stamp) = self.shown(peer) else { continue };
-            match self.views[peer].record.bar.until(now) {
+            match self.views[peer].bar.until(now) {
                 Some(end) => self.wake = self.wake.min(end),
                 None => missing = Some(missing.map_or(stamp, |it: u64| it.min(stamp))),
             }
@@ -294,27 +291,30 @@ impl Log {
         self.views[peer].session.shows(&self.covered, limit)
     }
 
+    /// The best of those that show something; if none does, the author unless it is barred. Barred ones come last, the soonest free
+    /// first.
     fn best(&self, now: Time, but: Option<usize>, links: &Links) -> Option<usize> {
-        let candidates = links.others(but).map(|peer| Candidate {
-            peer,
-            is_author: peer == self.author,
-            shows: self.shown(peer).is_some(),
-            record: self.views[peer].record,
-            round_trip: links.round_trip(peer),
+        let ranks = links.others(but).map(|peer| {
+            let View { bar, ahead, .. } = &self.views[peer];
+            let (shows, until) = (self.shown(peer).is_some(), bar.until(now).unwrap_or(0));
+            let rank = (bar.failures, u32::MAX - ahead, links.each[peer].round_trip, peer);
+            (!shows, until, peer != self.author, rank)
         });
-        feeder::best(now, candidates)
+        let ranks = ranks.filter(|it| !it.0 || (it.1 == 0 && !it.2));
+        ranks.min().map(|(.., rank)| rank.3)
     }
 
-    fn feed_from(&mut self, now: Time, peer: Option<usize>, bounds: &Bounds, links: &mut Links) {
+    fn feed_from(&mut self, now: Time, peer: Option<usize>, links: &mut Links) {
         let old = std::mem::replace(&mut self.feeder, peer);
         (self.granted, self.brought, self.short) = (now, 0, None);
         // A new feeder is judged from then on.
-        self.wake = self.wake.min(now + bounds.idle);
-        self.views.iter_mut().for_each(|it| it.record.start_again());
+        self.wake = self.wake.min(now + self.bounds.idle);
+        self.views.iter_mut().for_each(|it| it.ahead = 0);
         // What is in flight from one of them may come from the other too.
+        let more = self.bounds.repeats();
         for peer in [old, peer].into_iter().flatten() {
             let repeats = &mut self.views[peer].session.repeats;
-            *repeats = (*repeats + bounds.repeats()).min(16 * bounds.repeats());
+            *repeats = (*repeats + more).min(16 * more);
         }
         if let Some(old) = old.filter(|&it| Some(it) != peer) {
             self.queue_report(old, links);
@@ -322,8 +322,8 @@ impl Log {
     }
 
     /// The room that a peer has now.
-    fn room(&mut self, now: Time, peer: usize, bounds: &Bounds) -> u64 {
-        let level = self.bucket.level(now);
+    fn room(&mut self, now: Time, peer: usize) -> u64 {
+        let (level, bounds) = (self.bucket.level(now), &self.bounds);
         if self.feeder != Some(peer) || level < bounds.burst / 8 {
             return 0;
         }
@@ -331,11 +331,11 @@ impl Log {
     }
 
     /// Reports to the feeder that it has room, or has none.
-    fn grant(&mut self, now: Time, bounds: &Bounds, links: &mut Links) {
+    fn grant(&mut self, now: Time, links: &mut Links) {
         let Some(feeder) = self.feeder else { return };
-        let room = self.room(now, feeder, bounds);
+        let room = self.room(now, feeder);
         if room == 0 {
-            self.wake = self.wake.min(self.bucket.when(now, bounds.burst / 8));
+            self.wake = self.wake.min(self.bucket.when(now, self.bounds.burst / 8));
         }
         let known = &self.views[feeder].session.ours;
         if (known.room == 0) != (room == 0) || known.is_held != self.is_held {
@@ -344,14 +344,14 @@ impl Log {
     }
 
     /// Sees who is to get a report now.
-    fn report(&mut self, now: Time, bounds: &Bounds, links: &mut Links) {
+    fn report(&mut self, now: Time, links: &mut Links) {
         let current = self.current(0);
         for peer in 0..self.views.len() {
-            if !links.is_connected(peer) {
+            if !links.each[peer].is_connected {
                 continue;
             }
             let session = &mut self.views[peer].session;
-            let is_due = session.is_report_due(now, &current, bounds.lazy);
+            let is_due = session.is_report_due(now, &current, self.bounds.lazy);
             self.wake = self.wake.min(session.wake());
             if is_due {
                 self.queue_report(peer, links);
@@ -365,8 +365,8 @@ impl Log {
     }
 
     /// The report for a peer, which is sent now.
-    pub fn report_to(&mut self, now: Time, peer: usize, bounds: &Bounds) -> Report {
-        let room = self.room(now, peer, bounds);
+    pub fn report_to(&mut self, now: Time, peer: usize) -> Report {
+        let room = self.room(now, peer);
         let report = self.current(room);
         self.views[peer].session.report(&report);
         report

@@ -1,8 +1,8 @@
 //! One relay: what comes in, what goes out, and when to look again.
 
-use super::links::Links;
+use super::links::{Link, Links};
 use super::log::Log;
-use super::{Bounds, Breach, Coverage, Frame, Message, NEVER, Report, Time};
+use super::{Bounds, Breach, Coverage, Frame, List, Message, NEVER, Report, Time};
 use bytes::Bytes;
 
 /// What is known of an author from before a start.
@@ -30,7 +30,6 @@ pub struct Machine {
     /// The stamp of the last own message, if it is known.
     last: Option<u64>,
     logs: Vec<Log>,
-    are_listed: Vec<bool>,
     links: Links,
     spread: u64,
 }
@@ -38,27 +37,25 @@ pub struct Machine {
 impl Machine {
     /// Creates a relay that is the node `own`. Other relays have another `spread`.
     pub fn new(bounds: Bounds, own: usize, spread: u64) -> Machine {
-        let (logs, are_listed) = (Vec::new(), Vec::new());
-        Machine { bounds, own, last: None, logs, are_listed, links: Links::default(), spread }
+        Machine { bounds, own, last: None, logs: Vec::new(), links: Links::default(), spread }
     }
 
     /// Adds a node. Returns its number.
     pub fn add(&mut self, now: Time, past: Past) -> usize {
         let node = self.logs.len();
         let mut log = Log::new(node, node == self.own, &self.bounds, self.spread.wrapping_mul(31));
-        (0..node).for_each(|_| log.add_view(&self.bounds));
+        (0..node).for_each(|_| log.add_view());
         self.logs.push(log);
-        self.links.add();
-        self.are_listed.push(true);
-        self.logs.iter_mut().for_each(|it| it.add_view(&self.bounds));
+        self.links.each.push(Link::default());
+        self.logs.iter_mut().for_each(Log::add_view);
         self.restore(now, node, past);
         node
     }
 
     /// Lists an author, from now on or again. What was had of it before stays had.
     pub fn restore(&mut self, now: Time, node: usize, past: Past) {
-        self.are_listed[node] = true;
         let log = &mut self.logs[node];
+        log.is_listed = true;
         for (after, upto) in past.covered.runs() {
             log.covered.cover(after, upto);
         }
@@ -79,16 +76,17 @@ impl Machine {
     /// Neither takes nor sends messages of an author any more.
     pub fn remove(&mut self, now: Time, node: usize) {
         self.disconnect(now, node);
-        self.are_listed[node] = false;
-        self.logs[node].list = super::List::new(self.bounds.list);
-        self.logs[node].wake = NEVER;
-        for peer in 0..self.links.len() {
-            self.logs[node].disconnect(peer);
-        }
+        let count = self.logs.len();
+        let log = &mut self.logs[node];
+        log.is_listed = false;
+        log.list = List::new(self.bounds.list);
+        log.wake = NEVER;
+        (0..count).for_each(|peer| log.disconnect(peer));
     }
 
     fn listed(&self) -> impl Iterator<Item = usize> + use<> {
-        let listed: Vec<usize> = (0..self.logs.len()).filter(|&it| self.are_listed[it]).collect();
+        let listed: Vec<usize> =
+            (0..self.logs.len()).filter(|&it| self.logs[it].is_listed).collect();
         listed.into_iter()
     }
 
@@ -103,7 +101,7 @@ impl Machine {
     }
 
     pub fn disconnect(&mut self, now: Time, peer: usize) {
-        self.links.disconnect(peer);
+        self.links.each[peer] = Link::default();
         for author in self.listed() {
             self.logs[author].disconnect(peer);
             self.step(now, author);
@@ -131,7 +129,7 @@ impl Machine {
 
     /// Whether the signature of a message is worth a check.
     pub fn wants(&self, author: usize, stamp: u64) -> bool {
-        self.are_listed[author] && !self.logs[author].covered.covers(stamp)
+        self.logs[author].is_listed && !self.logs[author].covered.covers(stamp)
     }
 
     /// Takes a message of a peer. Its signature holds, or it is not wanted.
@@ -139,10 +137,10 @@ impl Machine {
         if message.prev >= message.stamp || message.size() > self.bounds.largest {
             return Err(Breach::Malformed);
         }
-        if !self.are_listed[message.author] {
+        let log = &mut self.logs[message.author];
+        if !log.is_listed {
             return Ok(Taken::Unlisted);
         }
-        let log = &mut self.logs[message.author];
         let session = &mut log.views[peer].session;
         session.has(&message);
         if log.covered.covers(message.stamp) {
@@ -157,9 +155,10 @@ impl Machine {
 
     /// Takes a peer's report of an author.
     pub fn report(&mut self, now: Time, peer: usize, author: usize, report: Report) {
-        if self.are_listed[author] {
-            self.logs[author].hear(now, peer, report, &self.bounds);
-            self.logs[author].queue_turn(peer, &mut self.links);
+        let log = &mut self.logs[author];
+        if log.is_listed {
+            log.hear(now, peer, report);
+            log.queue_turn(peer, &mut self.links);
             self.step(now, author);
         }
     }
@@ -193,14 +192,13 @@ impl Machine {
 
     /// The peers for whom there may be frames since the last call.
     pub fn take_woken(&mut self) -> Vec<usize> {
-        self.links.take_woken()
+        std::mem::take(&mut self.links.woken)
     }
 
     /// The next frame for a peer, to be called whenever its connection can carry one.
     pub fn frame(&mut self, now: Time, peer: usize) -> Option<Frame> {
         if let Some(author) = self.links.pop_report(peer) {
-            let report = self.logs[author].report_to(now, peer, &self.bounds);
-            return Some(Frame::Report(author, report));
+            return Some(Frame::Report(author, self.logs[author].report_to(now, peer)));
         }
         while let Some(author) = self.links.pop_turn(peer) {
             let log = &mut self.logs[author];
@@ -214,22 +212,8 @@ impl Machine {
         None
     }
 
-    pub fn covered(&self, author: usize) -> &Coverage {
-        &self.logs[author].covered
-    }
-
-    pub fn list(&self, author: usize) -> &super::List {
-        &self.logs[author].list
-    }
-
-    /// How many gaps of an author's log were given up: what was in them counts as had, and never comes.
-    pub fn given_up(&self, author: usize) -> u64 {
-        self.logs[author].given_up
-    }
-
-    /// Whether an author is held for peers that lack too much.
-    pub fn is_held(&self, author: usize) -> bool {
-        self.logs[author].is_held
+    pub fn log(&self, author: usize) -> &Log {
+        &self.logs[author]
     }
 
     /// Whether a peer lacks own messages, as far as is known.
@@ -239,13 +223,12 @@ impl Machine {
 
     fn accept(&mut self, now: Time, from: Option<usize>, message: Message) {
         let author = message.author;
-        let log = &mut self.logs[author];
-        if log.take(now, from, message, &self.bounds, &mut self.links) {
+        if self.logs[author].take(now, from, message, &mut self.links) {
             self.step(now, author);
         }
     }
 
     fn step(&mut self, now: Time, author: usize) {
-        self.logs[author].step(now, &self.bounds, &mut self.links);
+        self.logs[author].step(now, &mut self.links);
     }
 }

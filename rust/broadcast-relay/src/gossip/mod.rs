@@ -14,24 +14,20 @@
 //!
 //! Nothing here has a clock: times are arguments. Nothing is shared between authors but a peer's turns.
 
-mod bar;
-mod bucket;
 mod coverage;
-mod feeder;
 mod links;
 mod list;
 mod log;
 mod machine;
-mod patience;
+mod pace;
 mod session;
 mod view;
 
-pub use bar::Bar;
-pub use bucket::Bucket;
 pub use coverage::Coverage;
 pub use list::{List, OVERHEAD};
+pub use log::Log;
 pub use machine::{Machine, Past, Taken};
-pub use patience::Patience;
+pub use pace::{Bar, Bucket};
 
 use bytes::Bytes;
 use std::fmt;

@@ -1,14 +1,19 @@
 //! A peer, as far as one author's log goes: what it has, how it does as a feeder, and whether it is waited for.
 
-use super::feeder::Record;
-use super::patience::{Patience, Wait};
+use super::pace::{Bar, Patience, Wait};
 use super::session::Session;
 use super::{Bounds, NEVER, Time};
+
+/// How often in a row, nearly, a peer must have reported a message before the feeder brought it, to take its place.
+const AHEAD: u32 = 32;
 
 #[derive(Debug)]
 pub struct View {
     pub session: Session,
-    pub record: Record,
+    /// It is barred as a feeder if it had room, reported what is missing, and did not bring it.
+    pub bar: Bar,
+    /// How often in a row it was ahead of the feeder.
+    pub ahead: u32,
     pub patience: Patience,
     pub is_waited_for: bool,
     /// Its patience is over, so nobody waits for it until it is near again.
@@ -16,14 +21,22 @@ pub struct View {
 }
 
 impl View {
-    pub fn new(session: Session, bounds: &Bounds) -> View {
+    pub fn new(bounds: &Bounds) -> View {
         View {
-            session,
-            record: Record::default(),
+            session: Session::new(0),
+            bar: Bar::default(),
+            ahead: 0,
             patience: Patience::new(bounds.patience),
             is_waited_for: false,
             is_stalled: false,
         }
+    }
+
+    /// The feeder brought a message, which this peer had reported before, or not. Returns whether it takes the feeder's place.
+    pub fn compare(&mut self, now: Time, was_first: bool) -> bool {
+        let ahead = if was_first { self.ahead + 1 } else { self.ahead.saturating_sub(2) };
+        self.ahead = ahead.min(AHEAD);
+        self.ahead == AHEAD && self.bar.until(now).is_none()
     }
 
     /// Decides whether the peer is waited for. Returns when its patience ends.

@@ -130,7 +130,7 @@ fn an_author_that_lost_its_journal_closes_nothing() {
         publish(it, 1_000 + it, &mut one);
     }
     meet(10, &mut [&mut one, &mut other]);
-    assert!(other.covered(0).runs().eq([(1_000, 1_005)]));
+    assert!(other.log(0).covered.runs().eq([(1_000, 1_005)]));
     other.disconnect(20, 0);
     let mut one = machine(&bounds, 0, 2, None);
     one.connect(30, 1, 100);
@@ -138,10 +138,10 @@ fn an_author_that_lost_its_journal_closes_nothing() {
     // Its clock went back.
     assert_eq!(publish(30, 900, &mut one), (899, 900));
     meet(40, &mut [&mut one, &mut other]);
-    assert!(one.covered(0).runs().eq([(899, 900), (1_000, 1_005)]));
+    assert!(one.log(0).covered.runs().eq([(899, 900), (1_000, 1_005)]));
     assert_eq!(publish(50, 901, &mut one), (1_005, 1_006));
     meet(60, &mut [&mut one, &mut other]);
-    assert!(other.covered(0).runs().eq([(899, 900), (1_000, 1_006)]));
+    assert!(other.log(0).covered.runs().eq([(899, 900), (1_000, 1_006)]));
 }
 
 #[test]
@@ -153,7 +153,7 @@ fn a_gap_that_is_given_up_is_counted() {
         assert_eq!(relay.message(it, 1, message), Ok(Taken::New));
     }
     // A floor, and 63 intervals behind it.
-    assert_eq!(relay.given_up(1), 70 - 63);
+    assert_eq!(relay.log(1).given_up, 70 - 63);
 }
 
 /// Each lacks more of the other's list than it waits for, and both are held: a gap is filled all the same, at once.
@@ -178,8 +178,8 @@ fn relays_that_lack_each_others_messages_do_not_wait_for_each_other() {
         other.timeout(now);
         meet(now, &mut [&mut one, &mut other]);
     }
-    assert!(one.covered(2).runs().eq([(0, 60)]));
-    assert!(other.covered(2).runs().eq([(0, 60)]));
+    assert!(one.log(2).covered.runs().eq([(0, 60)]));
+    assert!(other.log(2).covered.runs().eq([(0, 60)]));
 }
 
 /// Who ignores its room is taken at its author's rate: its connection rests.
@@ -242,7 +242,7 @@ fn no_relays_wait_in_a_circle() {
             meet(now, &mut relays.iter_mut().collect::<Vec<_>>());
         }
         for (one, other) in (0..count).flat_map(|one| (0..count).map(move |it| (one, it))) {
-            let lacks = relays[one].list(count).lacking(relays[other].covered(count));
+            let lacks = relays[one].log(count).list.lacking(&relays[other].log(count).covered);
             assert!(lacks == 0 || !near(one, other), "{seed}: {other} of {count} lacks {lacks}");
         }
     }

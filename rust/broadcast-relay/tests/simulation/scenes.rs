@@ -143,7 +143,8 @@ impl World {
         if is_default {
             bounds = Bounds { largest: 512 << 10, ..Bounds::default() };
         }
-        let more = if ["gaps", "creep", "swarm", "mixed"].contains(&class) { 100 } else { 25 };
+        let more =
+            if ["gaps", "creep", "swarm", "mixed", "heavy"].contains(&class) { 100 } else { 25 };
         let end = stop + more * SECOND;
         let scene = Scene { stop, quiet: stop, end, is_strict: true, ..Scene::default() };
         let mut world = World::empty(scene, bounds, random, count);

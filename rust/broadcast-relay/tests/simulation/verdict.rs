@@ -64,7 +64,7 @@ impl World {
             {
                 let seen = &self.nodes[peer].seen;
                 let lacks = |stamp: u64| !seen.contains_key(&(author, stamp));
-                let listed = machine.list(author).iter();
+                let listed = machine.log(author).list.iter();
                 wrong.extend(listed.filter(|it| lacks(it.stamp)).map(|it| {
                     format!("{author}/{} is on the list of {node}, not at {peer}", it.stamp)
                 }));

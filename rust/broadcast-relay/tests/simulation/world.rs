@@ -351,8 +351,8 @@ impl World {
         let is_kept = |author: usize| author != number || node.has_published;
         let past = |author: usize| match is_kept(author) {
             true => Past {
-                covered: machine.covered(author).clone(),
-                messages: machine.list(author).iter().cloned().collect(),
+                covered: machine.log(author).covered.clone(),
+                messages: machine.log(author).list.iter().cloned().collect(),
             },
             false => Past::default(),
         };

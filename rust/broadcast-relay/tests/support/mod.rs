@@ -243,9 +243,9 @@ impl Relay {
         self.process.as_mut().is_some_and(|it| it.try_wait().unwrap().is_none())
     }
 
-    /// The end of a pipe that it logs to.
-    pub fn take_log(&mut self) -> ChildStderr {
-        self.process.as_mut().unwrap().stderr.take().unwrap()
+    /// The end of a pipe that it logs to, if it does.
+    pub fn take_log(&mut self) -> Option<ChildStderr> {
+        self.process.as_mut().unwrap().stderr.take()
     }
 
     pub fn write(&mut self, line: &str) {
@@ -372,6 +372,7 @@ impl Relay {
     /// The body of an answer of the relay's HTTP server.
     pub fn http(&self, path: &str) -> String {
         let mut stream = TcpStream::connect(self.metrics).unwrap();
+        stream.set_read_timeout(Some(PATIENCE)).unwrap();
         write!(stream, "GET {path} HTTP/1.1\r\nHost: x\r\nConnection: close\r\n\r\n").unwrap();
         let mut text = String::new();
         stream.read_to_string(&mut text).unwrap();
