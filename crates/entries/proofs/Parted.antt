@@ -1,5 +1,5 @@
 -- What a call in one part does to a map.
-use Rattle.std.proofs.Common.{true, false, ◌≡◌, ℕ, ◌+◌, ◌-◌, ◌<◌, ◌≤◌, List, [], ◌∷◌, length, Option, Some, None, refl, sym, ap, ◌∙◌, inl, inr, arith, length-set}
+use Rattle.std.proofs.Common.{true, false, ◌≡◌, ℕ, ◌+◌, ◌-◌, ◌<◌, ◌≤◌, ◌/◌, List, [], ◌∷◌, length, Option, Some, None, refl, sym, ap, ◌∙◌, inl, inr, arith, length-set}
 use Rattle.std.specs.Prelude.{is_some, slice_index_or, slice_set, ◌⊎◌, Result, Ok, Err, OnErr}
 use Rattle.std.specs.Cmp.{IsTotalOrder}
 use Rattle.std.specs.List.{AllByRecursion, slice_get}
@@ -21,7 +21,7 @@ none_value : {X : Type 0} (o : Option X) → is_some o ≡ false → o ≡ None
 none_value None empty = refl
 none_value (Some x) empty = cc
 
-set_whole : {X : Type 0} (parts : List X) (i : ℕ) (now : X) → (parts ≡ []) ⊎ (length parts ≡ 256) → (slice_set parts i now ≡ []) ⊎ (length (slice_set parts i now) ≡ 256)
+set_whole : {X : Type 0} (parts : List X) (i : ℕ) (now : X) → (parts ≡ []) ⊎ (length parts ≡ 64) → (slice_set parts i now ≡ []) ⊎ (length (slice_set parts i now) ≡ 64)
 set_whole [] i now whole = inl refl
 set_whole (p ∷ parts) i now (inl none) = cc
 set_whole (p ∷ parts) i now (inr whole) = inr (length-set (p ∷ parts) i now ∙ whole)
@@ -36,45 +36,49 @@ pub on_err : {A E P : Type 0} (r : Result A E) → P → OnErr r P
 on_err (Ok a) p = tt
 on_err (Err e) p = p
 
+-- a part follows the order as a leading byte does
+pub part-leads : {K : Type 0} {R : K → K → Ordering} {leading : K → ℕ} → ((x y : K) → leading y < leading x → R x y ≡ Greater) → (x y : K) → leading y / 4 < leading x / 4 → R x y ≡ Greater
+part-leads leads x y more = leads x y (omega arith)
+
 module _ {K V : Type 0} {R : K → K → Ordering} {leading : K → ℕ} (o : IsTotalOrder R) (leads : (x y : K) → leading y < leading x → R x y ≡ Greater)
     (parts : List (BTreeMap K V)) (len : ℕ) (ok : IsParted R leading parts len) where
   pub sorted-parted : IsStrictlySortedBy R (keys_of (joined parts))
-  sorted-parted = sorted-joined o leads 0 parts ok.placed
+  sorted-parted = sorted-joined o (part-leads leads) 0 parts ok.placed
 
   -- the parts that are made
-  pub made-parted : (made : List (BTreeMap K V)) → parts ≡ [] → length made ≡ 256 → AllByRecursion (λ part. part.entries ≡ []) made → IsParted R leading made len
+  pub made-parted : (made : List (BTreeMap K V)) → parts ≡ [] → length made ≡ 64 → AllByRecursion (λ part. part.entries ≡ []) made → IsParted R leading made len
   made-parted made none whole empty = record {
     whole = inr whole;
-    placed = empty-parts o leads 0 made empty;
+    placed = empty-parts o (part-leads leads) 0 made empty;
     counted = ok.counted ∙ ap (λ ps. length (joined ps)) none ∙ sym (ap length (empty-joined made empty));
   }
 
-  module _ (k : K) (i : ℕ) (part : BTreeMap K V) (is : i ≡ leading k) (at : part ≡ slice_index_or parts i part) (there : i < length parts) where
-    byte : leading k ≡ 0 + i
+  module _ (k : K) (i : ℕ) (part : BTreeMap K V) (is : i ≡ leading k / 4) (at : part ≡ slice_index_or parts i part) (there : i < length parts) where
+    byte : leading k / 4 ≡ 0 + i
     byte = omega arith
 
     lies : slice_get parts i ≡ Some part
     lies = part-there parts i part at there
 
     pub lookup-parted : lookup (eq_by_cmp R k) (joined parts) ≡ lookup (eq_by_cmp R k) part.entries
-    lookup-parted = lookup-joined o leads k 0 i parts part byte lies ok.placed
+    lookup-parted = lookup-joined o (part-leads leads) k 0 i parts part byte lies ok.placed
 
     module _ (now : BTreeMap K V) where
       pub joined-same : now.entries ≡ part.entries → joined (slice_set parts i now) ≡ joined parts
-      joined-same same = same-joined o leads i parts part now lies same
+      joined-same same = same-joined o (part-leads leads) i parts part now lies same
 
       pub joined-inserted : (v : V) → now.entries ≡ insert_entry R part.entries k v → joined (slice_set parts i now) ≡ insert_entry R (joined parts) k v
-      joined-inserted v put = insert-joined o leads k v 0 i parts part now byte lies ok.placed put
+      joined-inserted v put = insert-joined o (part-leads leads) k v 0 i parts part now byte lies ok.placed put
 
       pub joined-removed : now.entries ≡ remove_entry (eq_by_cmp R k) part.entries → joined (slice_set parts i now) ≡ remove_entry (eq_by_cmp R k) (joined parts)
-      joined-removed left = remove-joined o leads k 0 i parts part now byte lies ok.placed left
+      joined-removed left = remove-joined o (part-leads leads) k 0 i parts part now byte lies ok.placed left
 
       module _ (ordered : IsStrictlySortedBy R (keys_of now.entries)) where
-        was : IsPart R leading (0 + i) part.entries
-        was = part-at o leads 0 i parts part lies ok.placed
+        was : IsPart R (λ q. leading q / 4) (0 + i) part.entries
+        was = part-at o (part-leads leads) 0 i parts part lies ok.placed
 
-        placed : AllByRecursion (λ e. leading e.0 ≡ 0 + i) now.entries → ArePartsFrom R leading 0 (slice_set parts i now)
-        placed led = parts-set o leads 0 i parts now (record { ordered = ordered; led = led }) ok.placed
+        placed : AllByRecursion (λ e. leading e.0 / 4 ≡ 0 + i) now.entries → ArePartsFrom R (λ q. leading q / 4) 0 (slice_set parts i now)
+        placed led = parts-set o (part-leads leads) 0 i parts now (record { ordered = ordered; led = led }) ok.placed
 
         pub parted-same : now.entries ≡ part.entries → IsParted R leading (slice_set parts i now) len
         parted-same same = record {
@@ -86,7 +90,7 @@ module _ {K V : Type 0} {R : K → K → Ordering} {leading : K → ℕ} (o : Is
         pub parted-inserted : (v : V) → now.entries ≡ insert_entry R part.entries k v → lookup (eq_by_cmp R k) part.entries ≡ None → IsParted R leading (slice_set parts i now) (len + 1)
         parted-inserted v put none = record {
           whole = set_whole parts i now ok.whole;
-          placed = placed (rw put (all_inserted R k v (λ q. leading q ≡ 0 + i) byte part.entries was.led));
+          placed = placed (rw put (all_inserted R k v (λ q. leading q / 4 ≡ 0 + i) byte part.entries was.led));
           counted = ap (λ n. n + 1) ok.counted ∙ sym (ap length (joined-inserted v put) ∙ length-inserted R k v (joined parts) (lookup-parted ∙ none));
         }
 
@@ -100,7 +104,7 @@ module _ {K V : Type 0} {R : K → K → Ordering} {leading : K → ℕ} (o : Is
                 omega arith,
                 record {
                   whole = set_whole parts i now ok.whole;
-                  placed = placed (rw left (all_removed (eq_by_cmp R k) (λ e. leading e.0 ≡ 0 + i) part.entries was.led));
+                  placed = placed (rw left (all_removed (eq_by_cmp R k) (λ e. leading e.0 / 4 ≡ 0 + i) part.entries was.led));
                   counted = omega arith;
                 },
               )

@@ -1,5 +1,5 @@
 //! An ordered map in parts, by the leading byte of its keys.
-ghost use Rattle.std.specs.Prelude.{◌≡◌, ℕ, [], length, None, IsSome, IfOk, OnErr, OnOk, ◌⊎◌};
+ghost use Rattle.std.specs.Prelude.{◌≡◌, ◌<◌, ◌/◌, ℕ, [], length, None, IsSome, IfOk, OnErr, OnOk, ◌⊎◌};
 ghost use Rattle.std.specs.Option.{option_copied};
 ghost use Rattle.std.specs.List.Sorted.{IsStrictlySortedBy};
 ghost use Rattle.std.specs.Map.{lookup, keys_of, remove_entry};
@@ -14,10 +14,13 @@ use std::collections::BTreeMap;
 use std::collections::btree_map::Entry;
 use std::marker::Model;
 
-/// How many parts there are: one for each byte.
-const PARTS: usize = 256;
+/// How many parts there are.
+const PARTS: usize = 64;
 
-/// An ordered map, in a smaller one for each leading byte. An empty one has no part yet.
+/// How many leading bytes share a part.
+const WIDTH: usize = 4;
+
+/// An ordered map, in a smaller one for every four leading bytes. An empty one has no part yet.
 #[derive(Drop)]
 pub struct Parts<K: Leading + Drop, V: Copy> {
     alloc: Global,
@@ -61,7 +64,7 @@ impl<K: Leading + Drop, V: Copy> Parts<K, V> {
     pub fn get(&self, key: &K) -> Option<&V>
         ensures value { option_copied result ≡ lookup (eq_by_cmp K.cmp key.now) self.now }
     {
-        match self.parts.get(key.leading() as usize) {
+        match self.parts.get(part_of(key)) {
             Some(part) => part.get(key),
             None => None,
         }
@@ -87,8 +90,8 @@ impl<K: Leading + Drop, V: Copy> Parts<K, V> {
             };
         }
         make_parts(self.alloc, &mut self.parts)?;
-        let leading = key.leading() as usize;
-        match find_or_insert(&mut self.parts[leading], key, value)? {
+        let part = part_of(&key);
+        match find_or_insert(&mut self.parts[part], key, value)? {
             Some(found) => Ok(Some(found)),
             None => {
                 self.len += 1;
@@ -102,11 +105,11 @@ impl<K: Leading + Drop, V: Copy> Parts<K, V> {
         ensures value { result ≡ lookup (eq_by_cmp K.cmp key.now) self.old }
         ensures removed { self.new ≡ remove_entry (eq_by_cmp K.cmp key.now) self.old }
     {
-        let leading = key.leading() as usize;
-        if leading >= self.parts.len() {
+        let part = part_of(key);
+        if part >= self.parts.len() {
             return None;
         }
-        match self.parts[leading].remove(key) {
+        match self.parts[part].remove(key) {
             Some(value) => {
                 self.len -= 1;
                 Some(value)
@@ -116,13 +119,22 @@ impl<K: Leading + Drop, V: Copy> Parts<K, V> {
     }
 }
 
+/// Returns the part of a key.
+#[inline(always)]
+fn part_of<K: Leading>(key: &K) -> usize
+    ensures value { result ≡ K.leading_of key.now / 4 }
+    ensures is_there { result < 64 }
+{
+    key.leading() as usize / WIDTH
+}
+
 /// Makes the parts, if there are none.
 fn make_parts<K: Leading + Drop, V: Copy>(
     alloc: Global,
     parts: &mut Vec<BTreeMap<K, V>>,
 ) -> Result<(), AllocError>
-    requires { (parts.old.items ≡ []) ⊎ (length parts.old.items ≡ 256) }
-    ensures made { OnOk result (length parts.new.items ≡ 256) }
+    requires { (parts.old.items ≡ []) ⊎ (length parts.old.items ≡ 64) }
+    ensures made { OnOk result (length parts.new.items ≡ 64) }
     ensures fails_without_parts { OnErr result (parts.old.items ≡ []) }
     ensures joined { joined parts.new.items ≡ joined parts.old.items }
     ensures parted { (len : ℕ) → IsParted K.cmp K.leading_of parts.old.items len
@@ -136,7 +148,7 @@ fn make_parts<K: Leading + Drop, V: Copy>(
 
 /// Creates the parts, each of them empty.
 fn empty_parts<K: Ord + Drop, V: Copy>(alloc: Global) -> Result<Vec<BTreeMap<K, V>>, AllocError>
-    ensures len { IfOk result (λ parts. length parts.items ≡ 256) }
+    ensures len { IfOk result (λ parts. length parts.items ≡ 64) }
     ensures empty { IfOk result (λ parts. AllByRecursion (λ part. part.entries ≡ []) parts.items) }
 {
     let mut parts = Vec::with_capacity(alloc, PARTS)?;

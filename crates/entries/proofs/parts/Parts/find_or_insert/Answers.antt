@@ -13,55 +13,55 @@ returns-in_err-make_parts-clause-fails_for_new_keys g c =
 
 pub invariant_of-self-in_err-found : goal.invariant_of-self-in_err-found
 invariant_of-self-in_err-found g c =
-    let there : c.leading-leading.result < length c.make_parts.new.parts.items = omega (arith, c.in_ok-make_parts.ensures.made) in
+    let there : c.part_of-part.result < length c.make_parts.new.parts.items = omega (arith, c.in_ok-make_parts.ensures.made, c.part_of-part.ensures.is_there) in
     parted-same g.met.K.Ord.total g.met.K.Leading.leads c.make_parts.new.parts.items c.self.inside.len (c.make_parts.ensures.parted c.self.inside.len c.self.invariant)
-    c.args.key c.leading-leading.result c.index_mut.result.now c.leading-leading.ensures c.index_mut.ensures.value there c.find_or_insert.new.part c.find_or_insert.ensures.ordered c.in_err-found.ensures.err
+    c.args.key c.part_of-part.result c.index_mut.result.now c.part_of-part.ensures.value c.index_mut.ensures.value there c.find_or_insert.new.part c.find_or_insert.ensures.ordered c.in_err-found.ensures.err
 
 pub returns-in_err-found-clause-fails_for_new_keys : goal.returns-in_err-found-clause-fails_for_new_keys
 returns-in_err-found-clause-fails_for_new_keys g c =
-    let there : c.leading-leading.result < length c.make_parts.new.parts.items = omega (arith, c.in_ok-make_parts.ensures.made) in
+    let there : c.part_of-part.result < length c.make_parts.new.parts.items = omega (arith, c.in_ok-make_parts.ensures.made, c.part_of-part.ensures.is_there) in
     on_err _ (ap (lookup (eq_by_cmp g.K.Ord.cmp c.args.key)) (sym (c.make_parts.ensures.joined ∙ c.self.view_is))
     ∙ lookup-parted g.met.K.Ord.total g.met.K.Leading.leads c.make_parts.new.parts.items c.self.inside.len (c.make_parts.ensures.parted c.self.inside.len c.self.invariant)
-    c.args.key c.leading-leading.result c.index_mut.result.now c.leading-leading.ensures c.index_mut.ensures.value there ∙ c.in_err-found.ensures.fails_for_new_keys)
+    c.args.key c.part_of-part.result c.index_mut.result.now c.part_of-part.ensures.value c.index_mut.ensures.value there ∙ c.in_err-found.ensures.fails_for_new_keys)
 
 pub returns-in_err-found-clause-err : goal.returns-in_err-found-clause-err
 returns-in_err-found-clause-err g c =
-    let there : c.leading-leading.result < length c.make_parts.new.parts.items = omega (arith, c.in_ok-make_parts.ensures.made) in
+    let there : c.part_of-part.result < length c.make_parts.new.parts.items = omega (arith, c.in_ok-make_parts.ensures.made, c.part_of-part.ensures.is_there) in
     on_err _ (joined-same g.met.K.Ord.total g.met.K.Leading.leads c.make_parts.new.parts.items c.self.inside.len (c.make_parts.ensures.parted c.self.inside.len c.self.invariant)
-    c.args.key c.leading-leading.result c.index_mut.result.now c.leading-leading.ensures c.index_mut.ensures.value there c.find_or_insert.new.part c.in_err-found.ensures.err ∙ c.make_parts.ensures.joined ∙ c.self.view_is)
+    c.args.key c.part_of-part.result c.index_mut.result.now c.part_of-part.ensures.value c.index_mut.ensures.value there c.find_or_insert.new.part c.in_err-found.ensures.err ∙ c.make_parts.ensures.joined ∙ c.self.view_is)
 
 pub invariant_of-self-in-Some-2 : goal.invariant_of-self-in-Some-2
 invariant_of-self-in-Some-2 g c =
-    let there : c.leading-leading.result < length c.make_parts.new.parts.items = omega (arith, c.in_ok-make_parts.ensures.made) in
+    let there : c.part_of-part.result < length c.make_parts.new.parts.items = omega (arith, c.in_ok-make_parts.ensures.made, c.part_of-part.ensures.is_there) in
     parted-same g.met.K.Ord.total g.met.K.Leading.leads c.make_parts.new.parts.items c.self.inside.len (c.make_parts.ensures.parted c.self.inside.len c.self.invariant)
-    c.args.key c.leading-leading.result c.index_mut.result.now c.leading-leading.ensures c.index_mut.ensures.value there c.find_or_insert.new.part c.find_or_insert.ensures.ordered (c.in_ok-found.ensures.stays (ap is_some c.in-Some-2.is))
+    c.args.key c.part_of-part.result c.index_mut.result.now c.part_of-part.ensures.value c.index_mut.ensures.value there c.find_or_insert.new.part c.find_or_insert.ensures.ordered (c.in_ok-found.ensures.stays (ap is_some c.in-Some-2.is))
 
 pub returns-in-Some-2-clause-found : goal.returns-in-Some-2-clause-found
 returns-in-Some-2-clause-found g c =
-    let there : c.leading-leading.result < length c.make_parts.new.parts.items = omega (arith, c.in_ok-make_parts.ensures.made) in
+    let there : c.part_of-part.result < length c.make_parts.new.parts.items = omega (arith, c.in_ok-make_parts.ensures.made, c.part_of-part.ensures.is_there) in
     sym c.in-Some-2.is ∙ c.in_ok-found.ensures.found ∙ sym (lookup-parted g.met.K.Ord.total g.met.K.Leading.leads c.make_parts.new.parts.items c.self.inside.len (c.make_parts.ensures.parted c.self.inside.len c.self.invariant)
-    c.args.key c.leading-leading.result c.index_mut.result.now c.leading-leading.ensures c.index_mut.ensures.value there) ∙ ap (lookup (eq_by_cmp g.K.Ord.cmp c.args.key)) (c.make_parts.ensures.joined ∙ c.self.view_is)
+    c.args.key c.part_of-part.result c.index_mut.result.now c.part_of-part.ensures.value c.index_mut.ensures.value there) ∙ ap (lookup (eq_by_cmp g.K.Ord.cmp c.args.key)) (c.make_parts.ensures.joined ∙ c.self.view_is)
 
 pub returns-in-Some-2-clause-stays : goal.returns-in-Some-2-clause-stays
 returns-in-Some-2-clause-stays g c =
-    let there : c.leading-leading.result < length c.make_parts.new.parts.items = omega (arith, c.in_ok-make_parts.ensures.made) in
+    let there : c.part_of-part.result < length c.make_parts.new.parts.items = omega (arith, c.in_ok-make_parts.ensures.made, c.part_of-part.ensures.is_there) in
     λ _. joined-same g.met.K.Ord.total g.met.K.Leading.leads c.make_parts.new.parts.items c.self.inside.len (c.make_parts.ensures.parted c.self.inside.len c.self.invariant)
-    c.args.key c.leading-leading.result c.index_mut.result.now c.leading-leading.ensures c.index_mut.ensures.value there c.find_or_insert.new.part (c.in_ok-found.ensures.stays (ap is_some c.in-Some-2.is)) ∙ c.make_parts.ensures.joined ∙ c.self.view_is
+    c.args.key c.part_of-part.result c.index_mut.result.now c.part_of-part.ensures.value c.index_mut.ensures.value there c.find_or_insert.new.part (c.in_ok-found.ensures.stays (ap is_some c.in-Some-2.is)) ∙ c.make_parts.ensures.joined ∙ c.self.view_is
 
 pub invariant_of-self-in-None-2 : goal.invariant_of-self-in-None-2
 invariant_of-self-in-None-2 g c =
-    let there : c.leading-leading.result < length c.make_parts.new.parts.items = omega (arith, c.in_ok-make_parts.ensures.made) in
+    let there : c.part_of-part.result < length c.make_parts.new.parts.items = omega (arith, c.in_ok-make_parts.ensures.made, c.part_of-part.ensures.is_there) in
     parted-inserted g.met.K.Ord.total g.met.K.Leading.leads c.make_parts.new.parts.items c.self.inside.len (c.make_parts.ensures.parted c.self.inside.len c.self.invariant)
-    c.args.key c.leading-leading.result c.index_mut.result.now c.leading-leading.ensures c.index_mut.ensures.value there c.find_or_insert.new.part c.find_or_insert.ensures.ordered c.args.value (c.in_ok-found.ensures.inserted c.in-None-2.is) (sym c.in_ok-found.ensures.found ∙ c.in-None-2.is)
+    c.args.key c.part_of-part.result c.index_mut.result.now c.part_of-part.ensures.value c.index_mut.ensures.value there c.find_or_insert.new.part c.find_or_insert.ensures.ordered c.args.value (c.in_ok-found.ensures.inserted c.in-None-2.is) (sym c.in_ok-found.ensures.found ∙ c.in-None-2.is)
 
 pub returns-in-None-2-clause-found : goal.returns-in-None-2-clause-found
 returns-in-None-2-clause-found g c =
-    let there : c.leading-leading.result < length c.make_parts.new.parts.items = omega (arith, c.in_ok-make_parts.ensures.made) in
+    let there : c.part_of-part.result < length c.make_parts.new.parts.items = omega (arith, c.in_ok-make_parts.ensures.made, c.part_of-part.ensures.is_there) in
     sym c.in-None-2.is ∙ c.in_ok-found.ensures.found ∙ sym (lookup-parted g.met.K.Ord.total g.met.K.Leading.leads c.make_parts.new.parts.items c.self.inside.len (c.make_parts.ensures.parted c.self.inside.len c.self.invariant)
-    c.args.key c.leading-leading.result c.index_mut.result.now c.leading-leading.ensures c.index_mut.ensures.value there) ∙ ap (lookup (eq_by_cmp g.K.Ord.cmp c.args.key)) (c.make_parts.ensures.joined ∙ c.self.view_is)
+    c.args.key c.part_of-part.result c.index_mut.result.now c.part_of-part.ensures.value c.index_mut.ensures.value there) ∙ ap (lookup (eq_by_cmp g.K.Ord.cmp c.args.key)) (c.make_parts.ensures.joined ∙ c.self.view_is)
 
 pub returns-in-None-2-clause-inserted : goal.returns-in-None-2-clause-inserted
 returns-in-None-2-clause-inserted g c =
-    let there : c.leading-leading.result < length c.make_parts.new.parts.items = omega (arith, c.in_ok-make_parts.ensures.made) in
+    let there : c.part_of-part.result < length c.make_parts.new.parts.items = omega (arith, c.in_ok-make_parts.ensures.made, c.part_of-part.ensures.is_there) in
     λ _. joined-inserted g.met.K.Ord.total g.met.K.Leading.leads c.make_parts.new.parts.items c.self.inside.len (c.make_parts.ensures.parted c.self.inside.len c.self.invariant)
-    c.args.key c.leading-leading.result c.index_mut.result.now c.leading-leading.ensures c.index_mut.ensures.value there c.find_or_insert.new.part c.args.value (c.in_ok-found.ensures.inserted c.in-None-2.is) ∙ ap (λ es. insert_entry g.K.Ord.cmp es c.args.key c.args.value) (c.make_parts.ensures.joined ∙ c.self.view_is)
+    c.args.key c.part_of-part.result c.index_mut.result.now c.part_of-part.ensures.value c.index_mut.ensures.value there c.find_or_insert.new.part c.args.value (c.in_ok-found.ensures.inserted c.in-None-2.is) ∙ ap (λ es. insert_entry g.K.Ord.cmp es c.args.key c.args.value) (c.make_parts.ensures.joined ∙ c.self.view_is)

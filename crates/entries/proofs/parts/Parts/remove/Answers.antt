@@ -4,38 +4,38 @@ use Rattle.entries.proofs.parts.Parts.remove.Goals as goal
 
 pub overflow_sub-self : goal.overflow_sub-self
 overflow_sub-self g c =
-    let there : c.leading-leading.result < length c.self.inside.parts.items = omega (arith, c.len.ensures) in
-    (parted-removed g.met.K.Ord.total g.met.K.Leading.leads c.self.inside.parts.items c.self.inside.len c.self.invariant c.args.key.now c.leading-leading.result c.index_mut.result.now c.leading-leading.ensures c.index_mut.ensures.value there
+    let there : c.part_of-part.result < length c.self.inside.parts.items = omega (arith, c.len.ensures) in
+    (parted-removed g.met.K.Ord.total g.met.K.Leading.leads c.self.inside.parts.items c.self.inside.len c.self.invariant c.args.key.now c.part_of-part.result c.index_mut.result.now c.part_of-part.ensures.value c.index_mut.ensures.value there
     c.remove.new.self c.remove.ensures.ordered c.remove.ensures.entries (Some c.in-Some.value) c.in-Some.ensures.value refl).0
 
 pub invariant_of-self : goal.invariant_of-self
 invariant_of-self g c =
-    let there : c.leading-leading.result < length c.self.inside.parts.items = omega (arith, c.len.ensures) in
-    (parted-removed g.met.K.Ord.total g.met.K.Leading.leads c.self.inside.parts.items c.self.inside.len c.self.invariant c.args.key.now c.leading-leading.result c.index_mut.result.now c.leading-leading.ensures c.index_mut.ensures.value there
+    let there : c.part_of-part.result < length c.self.inside.parts.items = omega (arith, c.len.ensures) in
+    (parted-removed g.met.K.Ord.total g.met.K.Leading.leads c.self.inside.parts.items c.self.inside.len c.self.invariant c.args.key.now c.part_of-part.result c.index_mut.result.now c.part_of-part.ensures.value c.index_mut.ensures.value there
     c.remove.new.self c.remove.ensures.ordered c.remove.ensures.entries (Some c.in-Some.value) c.in-Some.ensures.value refl).1
 
 pub returns-in-Some-clause-value : goal.returns-in-Some-clause-value
 returns-in-Some-clause-value g c =
-    let there : c.leading-leading.result < length c.self.inside.parts.items = omega (arith, c.len.ensures) in
-    rw (← c.self.view_is) (c.in-Some.ensures.value ∙ sym (lookup-parted g.met.K.Ord.total g.met.K.Leading.leads c.self.inside.parts.items c.self.inside.len c.self.invariant c.args.key.now c.leading-leading.result c.index_mut.result.now c.leading-leading.ensures c.index_mut.ensures.value there))
+    let there : c.part_of-part.result < length c.self.inside.parts.items = omega (arith, c.len.ensures) in
+    rw (← c.self.view_is) (c.in-Some.ensures.value ∙ sym (lookup-parted g.met.K.Ord.total g.met.K.Leading.leads c.self.inside.parts.items c.self.inside.len c.self.invariant c.args.key.now c.part_of-part.result c.index_mut.result.now c.part_of-part.ensures.value c.index_mut.ensures.value there))
 
 pub returns-in-Some-clause-removed : goal.returns-in-Some-clause-removed
 returns-in-Some-clause-removed g c =
-    let there : c.leading-leading.result < length c.self.inside.parts.items = omega (arith, c.len.ensures) in
-    rw (← c.self.view_is) (joined-removed g.met.K.Ord.total g.met.K.Leading.leads c.self.inside.parts.items c.self.inside.len c.self.invariant c.args.key.now c.leading-leading.result c.index_mut.result.now c.leading-leading.ensures c.index_mut.ensures.value there c.remove.new.self c.remove.ensures.entries)
+    let there : c.part_of-part.result < length c.self.inside.parts.items = omega (arith, c.len.ensures) in
+    rw (← c.self.view_is) (joined-removed g.met.K.Ord.total g.met.K.Leading.leads c.self.inside.parts.items c.self.inside.len c.self.invariant c.args.key.now c.part_of-part.result c.index_mut.result.now c.part_of-part.ensures.value c.index_mut.ensures.value there c.remove.new.self c.remove.ensures.entries)
 
 pub invariant_of-self-in-None : goal.invariant_of-self-in-None
 invariant_of-self-in-None g c =
-    let there : c.leading-leading.result < length c.self.inside.parts.items = omega (arith, c.len.ensures) in
-    parted-kept g.met.K.Ord.total g.met.K.Leading.leads c.self.inside.parts.items c.self.inside.len c.self.invariant c.args.key.now c.leading-leading.result c.index_mut.result.now c.leading-leading.ensures c.index_mut.ensures.value there
+    let there : c.part_of-part.result < length c.self.inside.parts.items = omega (arith, c.len.ensures) in
+    parted-kept g.met.K.Ord.total g.met.K.Leading.leads c.self.inside.parts.items c.self.inside.len c.self.invariant c.args.key.now c.part_of-part.result c.index_mut.result.now c.part_of-part.ensures.value c.index_mut.ensures.value there
     c.remove.new.self c.remove.ensures.ordered c.remove.ensures.entries None c.in-None.ensures.value refl
 
 pub returns-in-None-clause-value : goal.returns-in-None-clause-value
 returns-in-None-clause-value g c =
-    let there : c.leading-leading.result < length c.self.inside.parts.items = omega (arith, c.len.ensures) in
-    rw (← c.self.view_is) (c.in-None.ensures.value ∙ sym (lookup-parted g.met.K.Ord.total g.met.K.Leading.leads c.self.inside.parts.items c.self.inside.len c.self.invariant c.args.key.now c.leading-leading.result c.index_mut.result.now c.leading-leading.ensures c.index_mut.ensures.value there))
+    let there : c.part_of-part.result < length c.self.inside.parts.items = omega (arith, c.len.ensures) in
+    rw (← c.self.view_is) (c.in-None.ensures.value ∙ sym (lookup-parted g.met.K.Ord.total g.met.K.Leading.leads c.self.inside.parts.items c.self.inside.len c.self.invariant c.args.key.now c.part_of-part.result c.index_mut.result.now c.part_of-part.ensures.value c.index_mut.ensures.value there))
 
 pub returns-in-None-clause-removed : goal.returns-in-None-clause-removed
 returns-in-None-clause-removed g c =
-    let there : c.leading-leading.result < length c.self.inside.parts.items = omega (arith, c.len.ensures) in
-    rw (← c.self.view_is) (joined-removed g.met.K.Ord.total g.met.K.Leading.leads c.self.inside.parts.items c.self.inside.len c.self.invariant c.args.key.now c.leading-leading.result c.index_mut.result.now c.leading-leading.ensures c.index_mut.ensures.value there c.remove.new.self c.remove.ensures.entries)
+    let there : c.part_of-part.result < length c.self.inside.parts.items = omega (arith, c.len.ensures) in
+    rw (← c.self.view_is) (joined-removed g.met.K.Ord.total g.met.K.Leading.leads c.self.inside.parts.items c.self.inside.len c.self.invariant c.args.key.now c.part_of-part.result c.index_mut.result.now c.part_of-part.ensures.value c.index_mut.ensures.value there c.remove.new.self c.remove.ensures.entries)
