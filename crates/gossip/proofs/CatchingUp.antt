@@ -9,15 +9,15 @@ use Rattle.gossip.specs.Spans.{is_had, top_of, with_had}
 use Rattle.gossip.specs.Outbox.{NoneOfFirst, IsNext, AreHad, AreLater, AreUpTo, WantsNothingBelow, lacking, lag}
 use Rattle.gossip.proofs.Delivering.{had_stays, had_now}
 
-is_lacking : (a b c : Bool) → (not a && b && c) ≡ true → a ≡ false
+pub is_lacking : (a b c : Bool) → (not a && b && c) ≡ true → a ≡ false
 is_lacking false b c h = refl
 is_lacking true b c h = (let no : ⊥ = cc in absurd no)
 
-is_not_lacking : (a : Bool) → (not a && true && true) ≡ false → a ≡ true
+pub is_not_lacking : (a : Bool) → (not a && true && true) ≡ false → a ≡ true
 is_not_lacking true h = refl
 is_not_lacking false h = (let no : ⊥ = cc in absurd no)
 
-head_falls : (old new : Bool) → (old ≡ true → new ≡ true) → (if new then 0 else 1) ≤ (if old then 0 else 1)
+pub head_falls : (old new : Bool) → (old ≡ true → new ≡ true) → (if new then 0 else 1) ≤ (if old then 0 else 1)
 head_falls true new h = rw (h refl) (omega arith)
 head_falls false true h = omega arith
 head_falls false false h = omega arith

@@ -3,3 +3,4 @@ pub mod Joining
 pub mod CatchingUp
 pub mod Readying
 pub mod Delivering
+pub mod Meshing

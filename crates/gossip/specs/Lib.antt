@@ -1,4 +1,6 @@
 pub mod Deliveries
+pub mod Mesh
 pub mod Outbox
 pub mod Spans
+pub mod Steps
 pub mod Tokens

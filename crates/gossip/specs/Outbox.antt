@@ -1,6 +1,6 @@
 -- Believed.
 -- What is sent to a peer next, and for which peers a relay waits.
-use Rattle.std.specs.Prelude.{◌≡◌, ◌<◌, ◌≤◌, ◌+◌, ℕ, Bool, true, false, not, nat_le, nat_lt, nat_eq, ◌&&◌, if◌then◌else◌, List, [], ◌∷◌, length, slice_get, Option, Some, None}
+use Rattle.std.specs.Prelude.{◌≡◌, ◌<◌, ◌≤◌, ◌+◌, ℕ, Bool, true, false, not, nat_le, nat_eq, ◌&&◌, if◌then◌else◌, List, [], ◌∷◌, length, slice_get, Option, Some, None}
 use Rattle.std.specs.List.{list_any, sum_by}
 use Rattle.gossip.specs.Spans.{is_had, top_of}
 use Rattle.gossip.specs.declared.span.Span.{Span}

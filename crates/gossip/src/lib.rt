@@ -7,6 +7,7 @@
 pub mod bucket;
 pub mod coverage;
 pub mod deliveries;
+pub mod mesh;
 pub mod outbox;
 pub mod span;
 #[cfg(test)]
@@ -15,5 +16,6 @@ mod tests;
 pub use bucket::{Bucket, Call, take_all};
 pub use coverage::Coverage;
 pub use deliveries::{Arrival, Deliveries, deliver_all};
+pub use mesh::{Delivery, Event, Log, run_mesh};
 pub use outbox::{Listed, bytes_of, catch_up, lag, next, waits_for};
 pub use span::Span;

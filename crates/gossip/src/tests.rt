@@ -2,6 +2,7 @@
 use crate::bucket::{Bucket, Call, take_all};
 use crate::coverage::Coverage;
 use crate::deliveries::{Arrival, Deliveries, deliver_all};
+use crate::mesh::{Event, Log, run_mesh};
 use crate::outbox::{Listed, bytes_of, catch_up, lag, next, waits_for};
 use crate::span::Span;
 
@@ -87,4 +88,43 @@ fn sends_in_order_within_the_room(rt: HostRuntime) {
     assert!(rt; lag(&list, &peer) == 12 && waits_for(&list, &peer, 11));
     assert!(rt; !waits_for(&list, &peer, 12));
     assert_eq!(rt; catch_up(&list, &mut peer), 2);
+}
+
+#[test]
+fn relays_in_a_row_beside_a_hostile_one(rt: HostRuntime) {
+    // The logs of one author that three relays have. What arrives comes from the author, from a
+    // network that repeats and reorders, or from a hostile relay.
+    let log = || Log {
+        had: Coverage::new(0),
+        list: Vec::new(rt.alloc()),
+    };
+    let listed = |prev, stamp| Listed {
+        prev,
+        stamp,
+        bytes: 1,
+    };
+    let [one, two, three, invented] = [listed(0, 1), listed(1, 2), listed(2, 3), listed(7, 9)];
+    let arrives = |to, message| Event::Arrives { to, message };
+    let exchange = |from, to| Event::Exchange { from, to };
+    let events = [
+        arrives(0, one),
+        arrives(0, two),
+        arrives(0, three),
+        exchange(0, 1),
+        arrives(1, one),
+        arrives(1, three),
+        exchange(0, 1),
+        exchange(0, 1),
+        exchange(1, 2),
+        arrives(2, invented),
+        exchange(1, 2),
+        exchange(1, 2),
+        exchange(2, 0),
+    ];
+    let mut logs = [log(), log(), log()];
+    let delivered = run_mesh(rt.alloc(), &mut logs, &events).expect(&rt, "memory");
+    assert_eq!(rt; logs[0].list.as_slice(), &[one, two, three, invented][..]);
+    assert_eq!(rt; logs[1].list.as_slice(), &[one, three, two][..]);
+    assert_eq!(rt; logs[2].list.as_slice(), &[one, invented, three, two][..]);
+    assert!(rt; delivered.len() == 11 && logs[2].had.floor() == 3 && logs[2].had.top() == 9);
 }
