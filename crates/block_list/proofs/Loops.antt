@@ -7,8 +7,8 @@ use Rattle.broadcast_core.specs.declared.codec.CodecError.{CodecError}
 use Rattle.broadcast_core.specs.declared.codec.CodecError.TheVariants.{Memory}
 use Rattle.broadcast_core.specs.ByteList.{◌>>=◌}
 use Rattle.broadcast_core.specs.Codec.{Appends, layout_of, GivesOrLacks}
-use Rattle.broadcast_core.specs.Blocks.{joined, mapped, IsWithin}
-use Rattle.broadcast_core.specs.BlockLaws.{joined_parts, layout_fits}
+use Rattle.broadcast_core.specs.Blocks.{joined, mapped}
+use Rattle.broadcast_core.specs.BlockLaws.{IsWithin, joined_parts, layout_fits}
 use Rattle.block_list.specs.ListOf.{each_encoded, read_each}
 
 -- the bytes from k on, as a range has them

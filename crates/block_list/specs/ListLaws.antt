@@ -9,8 +9,8 @@ use Rattle.broadcast_core.specs.declared.codec.RangeCfg.{RangeCfg}
 use Rattle.broadcast_core.specs.ByteList.{◌>>=◌, contains}
 use Rattle.broadcast_core.specs.Codec.{IsRefusal}
 use Rattle.broadcast_core.specs.CodecLaws.{bind_ok, bind_err, guard_ok, guard_err, chosen_ok, ok_is}
-use Rattle.broadcast_core.specs.Blocks.{read_both, number_encoding, read_number, IsWithin, RefusesBy, ReadsBack}
-use Rattle.broadcast_core.specs.BlockLaws.{joined_parts, number_refusals, number_reads_back, both_within, both_refusals, mapped_ok, mapped_within, mapped_refusals}
+use Rattle.broadcast_core.specs.Blocks.{read_both, number_encoding, read_number}
+use Rattle.broadcast_core.specs.BlockLaws.{IsWithin, RefusesBy, ReadsBack, joined_parts, number_refusals, number_reads_back, both_within, both_refusals, mapped_ok, mapped_within, mapped_refusals}
 use Rattle.block_list.specs.ListOf.{each_encoded, list_encoding, read_count, read_each, read_list_of}
 
 -- ---- the number of elements

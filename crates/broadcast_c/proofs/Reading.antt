@@ -8,7 +8,7 @@ use Rattle.broadcast_core.specs.declared.codec.CodecError.TheVariants.{EndOfBuff
 use Rattle.broadcast_core.specs.declared.codec.RangeCfg.{RangeCfg}
 use Rattle.broadcast_core.specs.ByteList.{◌>>=◌, contains, read_length, read_bytes, read_list}
 use Rattle.broadcast_core.specs.Blocks.{read_byte_list}
-use Rattle.broadcast_core.specs.Codec.{all_taken, whole}
+use Rattle.broadcast_core.specs.Setting.{all_taken, whole}
 use Rattle.broadcast_core.specs.CodecLaws.{bind_ok, guard_ok, chosen_ok}
 
 differ : (a b : ℕ) → (a ≡ b → ⊥) → eqb a b ≡ false

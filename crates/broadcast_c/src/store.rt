@@ -1,10 +1,13 @@
 //! A cache of messages that the caller keeps.
-ghost use Rattle.std.specs.Prelude.{◌≡◌, ◌==◌, List, [], IfOk, IsOk, OnErr, OnOk, is_some, true, false, None, Ok};
+ghost use Rattle.std.specs.Prelude.{◌≡◌, List, [], IfOk, IsOk, OnErr, OnOk, is_some, true, false, None, Ok};
 ghost use Rattle.std.specs.List.{count_by};
-ghost use Rattle.broadcast_core.specs.Content.{has_primary, message_at, waiting_at};
+ghost use Rattle.broadcast_core.specs.Content.{message_at, waiting_at};
+ghost use Rattle.broadcast_core.specs.Empty.{empty};
+ghost use Rattle.broadcast_core.specs.Fronted.{has_primary};
 ghost use Rattle.broadcast_core.specs.Changes.{TakesPeers, Cleans, CleansAt, Awaits};
 ghost use Rattle.broadcast_core.specs.Reports.{Reports};
-ghost use Rattle.broadcast_core.specs.Waiters.{is_gone, gone_from, counted};
+ghost use Rattle.broadcast_core.specs.Waiters.{is_gone, gone_from};
+ghost use Rattle.broadcast_core.specs.Counted.{counted};
 ghost use Rattle.broadcast_c.specs.Storing.{HaveSameNames, MovesLeft, TakesHandle, enters, handle_at, same_bytes};
 
 mod held;
@@ -34,15 +37,7 @@ impl Store {
     /// Creates an empty store for the node `own` that keeps at most `deque_size` digests a peer,
     /// which are charged at most `byte_budget` bytes together.
     pub fn new(alloc: Global, own: Name, deque_size: usize, byte_budget: u64) -> Self
-        ensures core { result.cache.core ≡ record {
-          own = own;
-          deque_size = deque_size;
-          byte_budget = byte_budget;
-          primary = [];
-          lists = [];
-          cached = [];
-          waiters = [];
-        } }
+        ensures core { result.cache.core ≡ empty own deque_size byte_budget }
         ensures served { result.served ≡ [] }
         ensures left { result.cache.left ≡ [] }
     {

@@ -5,9 +5,11 @@ use Rattle.std.specs.Option.{option_map}
 use Rattle.std.specs.List.{list_any, IsDistinct}
 use Rattle.std.specs.Map.{keys_of}
 use Rattle.broadcast_core.specs.Carried.{Carried}
-use Rattle.broadcast_core.specs.Content.{Content, Same, message_at, outcome_at, waiting_at}
+use Rattle.broadcast_core.specs.Content.{Content, Same, message_at, waiting_at}
+use Rattle.broadcast_core.specs.Fronted.{outcome_at}
 use Rattle.broadcast_core.specs.Changes.{Takes, TakesPeers, Awaits, Cleans}
-use Rattle.broadcast_core.specs.Waiters.{gone_from, counted}
+use Rattle.broadcast_core.specs.Waiters.{gone_from}
+use Rattle.broadcast_core.specs.Counted.{counted}
 use Rattle.broadcast_core.specs.Setting.{Setting}
 use Rattle.broadcast_core.specs.Happening.{History, Taking, Happening, get, taken}
 use Rattle.broadcast_core.specs.Log.{arrived, after}
@@ -17,7 +19,8 @@ use Rattle.broadcast_core.specs.HasRun.{counted_in, Applies}
 use Rattle.broadcast_core.specs.Cache.{is_listed}
 use Rattle.broadcast_core.specs.Sent.{sent, sent_at}
 use Rattle.broadcast_core.specs.declared.codec.CodecError.{CodecError}
-use Rattle.broadcast_core.specs.Codec.{IsRefusal, all_taken}
+use Rattle.broadcast_core.specs.Codec.{IsRefusal}
+use Rattle.broadcast_core.specs.Setting.{all_taken}
 use Rattle.broadcast_core.specs.declared.ordered.Recipients.{Recipients}
 use Rattle.broadcast_core.specs.declared.outcome.Outcome.{Outcome}
 use Rattle.broadcast_core.specs.declared.event.Event.{Event}

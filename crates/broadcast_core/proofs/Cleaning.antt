@@ -18,7 +18,8 @@ use Rattle.std.proofs.lemmas.Map.{lookup-none}
 use Rattle.std.proofs.lemmas.Map.Entries.{none_below_head, none_past_head, sum_by-set_value, sum_by-remove_entry}
 use Rattle.std.proofs.lemmas.Map.Keys.{sorted_tail, IsDistinct-tail}
 use Rattle.broadcast_core.specs.Content.{items_at}
-use Rattle.broadcast_core.specs.Waiters.{AreAwaited, first_with, counted}
+use Rattle.broadcast_core.specs.Awaited.{AreAwaited, first_with}
+use Rattle.broadcast_core.specs.Counted.{counted}
 use Rattle.broadcast_core.proofs.Distinct.{by_test}
 use Rattle.broadcast_core.proofs.Entries.{by_order, lookup-equal}
 use Rattle.broadcast_core.proofs.WaitersLemmas.{digests_apart, lists-updated, length-filter_not}

@@ -9,7 +9,8 @@ use Rattle.std.specs.Ordering.{eq_by_cmp}
 use Rattle.std.specs.declared.cmp.Ordering.{Ordering}
 use Rattle.std.proofs.lemmas.Map.Entries.{sum_by-set_value, sum_by-remove_entry}
 use Rattle.broadcast_core.specs.Content.{items_at}
-use Rattle.broadcast_core.specs.Waiters.{waiting_in, DropsClosed, DropsClosedIf, counted}
+use Rattle.broadcast_core.specs.Waiters.{waiting_in, DropsClosed, DropsClosedIf}
+use Rattle.broadcast_core.specs.Counted.{counted}
 use Rattle.broadcast_core.proofs.Cleaning.{sum-values, counted_more}
 use Rattle.broadcast_core.proofs.Distinct.{list_any-append, or_none}
 use Rattle.broadcast_core.proofs.Entries.{lookup-equal}

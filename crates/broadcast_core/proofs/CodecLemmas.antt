@@ -3,10 +3,11 @@ use Rattle.std.proofs.Common.{◌≡◌, ℕ, ◌-◌, ◌≤◌, eqb, true, Lis
 use Rattle.std.proofs.lemmas.Bool.{eq-eqb}
 use Rattle.std.proofs.lemmas.List.{append-nil}
 use Rattle.broadcast_core.specs.declared.codec.CodecError.TheVariants.{ExtraData}
-use Rattle.broadcast_core.specs.Blocks.{ReadsBack}
+use Rattle.broadcast_core.specs.BlockLaws.{ReadsBack}
 use Rattle.broadcast_core.specs.CodecLaws.{chosen_ok, ok_is}
 use Rattle.broadcast_core.specs.declared.codec.CodecError.{CodecError}
-use Rattle.broadcast_core.specs.Codec.{layout_of, all_taken, whole, GivesOrLacks}
+use Rattle.broadcast_core.specs.Codec.{layout_of, GivesOrLacks}
+use Rattle.broadcast_core.specs.Setting.{all_taken, whole}
 
 -- where all of the bytes are taken, memory is all that the value can lack
 pub whole_lacks : {M : Type 0} (read : Result (M × ℕ) CodecError) (n used : ℕ) (e : CodecError) (out : Result M CodecError) → layout_of read ≡ Ok used → n ≤ used → ((v : M) (k : ℕ) → read ≡ Ok (v, k) → k ≤ n) → GivesOrLacks (Err e) read → out ≡ Err e → GivesOrLacks out (all_taken n read)

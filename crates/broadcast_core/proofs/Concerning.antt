@@ -4,7 +4,8 @@ use Rattle.std.specs.Prelude.{◌-◌, IsTrue, nat_le}
 use Rattle.std.specs.List.{AllZip, list_any}
 use Rattle.entries.specs.declared.entry.Charged.{Charged}
 use Rattle.std.specs.Cmp.{IsEquivalence}
-use Rattle.broadcast_core.specs.Content.{digests_of, same_charged, within, without}
+use Rattle.broadcast_core.specs.Content.{digests_of, same_charged, without}
+use Rattle.broadcast_core.specs.Fronted.{within}
 use Rattle.broadcast_core.specs.Company.{stayed}
 use Rattle.broadcast_core.specs.Setting.{Setting}
 use Rattle.broadcast_core.specs.Happening.{Happening, History, peers, broadcast, arrival, subscribe, get, cleanup, taken}

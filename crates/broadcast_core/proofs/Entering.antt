@@ -5,7 +5,8 @@ use Rattle.std.specs.Map.{lookup}
 use Rattle.std.specs.Cmp.{IsEquivalence}
 use Rattle.entries.specs.declared.entry.Charged.{Charged}
 use Rattle.broadcast_core.specs.Carried.{Carried}
-use Rattle.broadcast_core.specs.Content.{Same, affordable, at_charge, fronted, items_at, outcome_of}
+use Rattle.broadcast_core.specs.Content.{Same, affordable, at_charge, items_at, outcome_of}
+use Rattle.broadcast_core.specs.Fronted.{fronted}
 use Rattle.broadcast_core.specs.Stored.{Stored, Stores, StoresIf, IsCore, has_digest, is_stored}
 use Rattle.broadcast_core.specs.declared.outcome.Outcome.{Outcome}
 use Rattle.broadcast_core.specs.declared.outcome.Outcome.TheVariants.{Inserted, Duplicate, Ineligible, Oversize}

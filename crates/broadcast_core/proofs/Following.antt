@@ -2,16 +2,16 @@
 use Rattle.std.proofs.Common.{◌≡◌, true, false, if◌then◌else◌, List, [], ◌∷◌, Option, Some, None, is_some, refl, sym, ap, ◌∙◌}
 use Rattle.std.specs.List.{list_any}
 use Rattle.std.specs.Cmp.{IsEquivalence}
-use Rattle.broadcast_core.specs.Content.{Content, among, digests_of, with_taken, items_at, has_primary, charged_at, list_at, is_on_list, message_at, waiting_at, outcome_at, list_with}
+use Rattle.broadcast_core.specs.Content.{Content, among, digests_of, items_at, charged_at, list_at, message_at, waiting_at}
+use Rattle.broadcast_core.specs.Fronted.{with_taken, has_primary, is_on_list, outcome_at, list_with}
 use Rattle.broadcast_core.specs.Carried.{Carried}
 use Rattle.broadcast_core.specs.Changes.{Takes, TakesPeers, KeepsStore}
 use Rattle.broadcast_core.specs.Setting.{Setting}
 use Rattle.broadcast_core.specs.Happening.{Taking, carried_by, Happening, peers, taken}
 use Rattle.broadcast_core.specs.HasContent.{HasContent}
-use Rattle.broadcast_core.specs.Answers.{outcome}
+use Rattle.broadcast_core.specs.Lists.{outcome, charge, charged, charged_list, list}
 use Rattle.broadcast_core.proofs.Distinct.{by_test, list_any-same, among-equal}
 use Rattle.broadcast_core.specs.Peers.{primary, is_primary}
-use Rattle.broadcast_core.specs.Lists.{charge, charged, charged_list, list}
 use Rattle.broadcast_core.specs.Cache.{is_listed, message}
 use Rattle.broadcast_core.specs.Waiting.{waiting_for}
 use Rattle.broadcast_core.proofs.Listing.{any-weaker, from-any, primary-taken, is_primary-equal, list-empty, list-none, list-other, list-equal, charged-peers, charged-other, charged-equal, charged-taken}

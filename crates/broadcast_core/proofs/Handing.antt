@@ -2,7 +2,8 @@
 use Rattle.std.specs.Option.{option_map}
 use Rattle.std.proofs.Common.{◌≡◌, ℕ, Option, length, List, [], ◌∷◌, ◌++◌, map, append_assoc, append-nil, Some, refl, sym, ap, ◌∙◌, subst}
 use Rattle.broadcast_core.specs.Carried.{Carried}
-use Rattle.broadcast_core.specs.Content.{Content, Same, message_at, waiting_at, outcome_at}
+use Rattle.broadcast_core.specs.Content.{Content, Same, message_at, waiting_at}
+use Rattle.broadcast_core.specs.Fronted.{outcome_at}
 use Rattle.broadcast_core.specs.Changes.{IsSubscribed}
 use Rattle.broadcast_core.specs.Setting.{Setting}
 use Rattle.broadcast_core.specs.Happening.{History, Taking, Happening, broadcast, arrival, subscribe, get, taken}
@@ -11,7 +12,7 @@ use Rattle.broadcast_core.specs.Waiting.{Awaiting, waiters_of, replied_at}
 use Rattle.broadcast_core.specs.Handed.{Handed, to_subscribe, to_get, to_each, from_cache, handed_at, handed}
 use Rattle.broadcast_core.specs.Sent.{sent, sent_at}
 use Rattle.broadcast_core.specs.HasContent.{HasContent}
-use Rattle.broadcast_core.specs.Answers.{outcome}
+use Rattle.broadcast_core.specs.Lists.{outcome}
 use Rattle.broadcast_core.specs.declared.ordered.Recipients.{Recipients}
 use Rattle.broadcast_core.specs.declared.outcome.Subscribed.{Subscribed}
 use Rattle.broadcast_core.specs.declared.outcome.Subscribed.TheVariants as subscribed

@@ -13,7 +13,8 @@ use Rattle.entries.specs.Store.{values_of, items_at, Puts, Evicts, Extends}
 use Rattle.std.specs.declared.cmp.Ordering.{Ordering}
 use Rattle.entries.specs.Table.{place_at, IsPlaced, Leaves, Tabled, items_of, Takes}
 use Rattle.broadcast_core.specs.Carried.{Carried}
-use Rattle.broadcast_core.specs.Content.{Same, same_charged, same_listed, at_charge, bytes_of}
+use Rattle.broadcast_core.specs.Content.{Same, same_charged, at_charge, bytes_of}
+use Rattle.broadcast_core.specs.Numbered.{same_listed}
 use Rattle.broadcast_core.specs.Stored.{has_digest}
 use Rattle.broadcast_core.specs.Indexed.{place_of, named_front, named_nodes, named_lists, AreNamed, AllNamed, IsIndexed, IsShelved, names_of, Pushes as PushesItem}
 use Rattle.broadcast_core.proofs.Distinct.{or_right}

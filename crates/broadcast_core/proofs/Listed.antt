@@ -7,7 +7,8 @@ use Rattle.std.specs.Cmp.{IsEquivalence}
 use Rattle.std.proofs.lemmas.List.{length-take}
 use Rattle.broadcast_core.specs.Carried.{Carried}
 use Rattle.entries.specs.declared.entry.Charged.{Charged}
-use Rattle.broadcast_core.specs.Content.{affordable, bytes_of, first_places, digests_of, same_charged, with_taken, within, without}
+use Rattle.broadcast_core.specs.Content.{affordable, bytes_of, first_places, digests_of, same_charged, without}
+use Rattle.broadcast_core.specs.Fronted.{with_taken, within}
 use Rattle.broadcast_core.specs.Company.{has_stayed, stayed}
 use Rattle.broadcast_core.specs.Setting.{Setting}
 use Rattle.broadcast_core.specs.Happening.{History}

@@ -4,7 +4,8 @@ use Rattle.std.specs.List.{list_any}
 use Rattle.std.specs.Option.{option_to_list}
 use Rattle.std.specs.Cmp.{IsEquivalence}
 use Rattle.entries.specs.declared.entry.Charged.{Charged}
-use Rattle.broadcast_core.specs.Content.{digests_of, with_taken}
+use Rattle.broadcast_core.specs.Content.{digests_of}
+use Rattle.broadcast_core.specs.Fronted.{with_taken}
 use Rattle.broadcast_core.specs.Company.{stayed}
 use Rattle.broadcast_core.specs.Setting.{Setting}
 use Rattle.broadcast_core.specs.Happening.{Taking, Happening, peers, broadcast, arrival, subscribe, get, cleanup, taken}

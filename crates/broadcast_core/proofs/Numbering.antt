@@ -13,9 +13,10 @@ use Rattle.entries.specs.declared.entry.Charged.{Charged}
 use Rattle.entries.proofs.Slots.{number_laws, number_eq, number_ne, number_same}
 use Rattle.entries.proofs.Stores.{found_same}
 use Rattle.broadcast_core.specs.Carried.{Carried}
-use Rattle.broadcast_core.specs.Content.{items_at, fronted, same_by, same_listed}
+use Rattle.broadcast_core.specs.Content.{items_at, same_by}
+use Rattle.broadcast_core.specs.Fronted.{fronted}
+use Rattle.broadcast_core.specs.Numbered.{same_listed, named_of, IsNumbered, Opens, Closes}
 use Rattle.broadcast_core.specs.Stored.{Stored, PutsList, Stores, Drops, has_digest, is_stored, is_dropped}
-use Rattle.broadcast_core.specs.Numbered.{named_of, IsNumbered, Opens, Closes}
 use Rattle.broadcast_core.proofs.Distinct.{by_test, same_truth, or_right}
 use Rattle.broadcast_core.proofs.Indexing.{cond_true, cond_false}
 use Rattle.broadcast_core.proofs.Caching.{stored-at, holder}

@@ -21,7 +21,8 @@ use Rattle.entries.proofs.Stores.{found_same}
 use Rattle.entries.proofs.Tables.{lookup-messages}
 use Rattle.entries.proofs.Tabled.{by_option, no_some, lookup-name, name_there}
 use Rattle.broadcast_core.specs.Carried.{Carried}
-use Rattle.broadcast_core.specs.Content.{Content, Same, at_charge, items_at, within}
+use Rattle.broadcast_core.specs.Content.{Content, Same, at_charge, items_at}
+use Rattle.broadcast_core.specs.Fronted.{within}
 use Rattle.broadcast_core.specs.Stored.{Stored, Stores, Cuts, has_digest, is_stored}
 use Rattle.broadcast_core.specs.Reports.{HaveLeft, Reported, Reports}
 use Rattle.broadcast_core.specs.Left.{Left, HasRoom, Widens, Adds}

@@ -3,6 +3,7 @@ use Rattle.std.proofs.Common.{◌≡◌, ℕ, suc, ◌≤◌, true, false, if◌
 use Rattle.std.specs.Prelude.{◌-◌, ◌^◌}
 use Rattle.std.specs.List.{zip}
 use Rattle.std.proofs.lemmas.List.{reverse-append, append-nil, length-reverse}
+use Rattle.broadcast_core.specs.Empty.{empty}
 use Rattle.broadcast_core.specs.Carried.{Carried}
 use Rattle.broadcast_core.specs.Content.{Content, digests_of}
 use Rattle.broadcast_core.specs.Setting.{Setting}
@@ -91,7 +92,7 @@ module _ {P M D : Type 0} where
       }
 
       -- no event has been run yet
-      pub HasRun-none : {core : Content P M D ℕ} → core ≡ record { own = s.own; deque_size = s.deque_size; byte_budget = s.byte_budget; primary = []; lists = []; cached = []; waiters = [] } → HasRun s [] [] [] core
+      pub HasRun-none : {core : Content P M D ℕ} → core ≡ empty s.own s.deque_size s.byte_budget → HasRun s [] [] [] core
       HasRun-none {core} new = has_run [] [] [] core refl tt (HasContent-empty new) refl
 
     -- the count of a cleanup is exact where the history is short

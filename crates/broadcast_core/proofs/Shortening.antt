@@ -10,7 +10,8 @@ use Rattle.entries.specs.Placed.{Placed}
 use Rattle.entries.specs.Store.{items_at, values_of, Evicts}
 use Rattle.entries.specs.Table.{messages_of, IsPlaced, Leaves}
 use Rattle.broadcast_core.specs.Carried.{Carried}
-use Rattle.broadcast_core.specs.Content.{Same, bytes_of, within}
+use Rattle.broadcast_core.specs.Content.{Same, bytes_of}
+use Rattle.broadcast_core.specs.Fronted.{within}
 use Rattle.broadcast_core.specs.Indexed.{IsIndexed, digest_lists, stored_of}
 use Rattle.broadcast_core.specs.Stored.{Stored, Stores, Cuts, has_digest, is_stored}
 use Rattle.broadcast_core.proofs.Distinct.{by_test}

@@ -9,7 +9,8 @@ use Rattle.std.proofs.lemmas.List.{append_assoc}
 use Rattle.std.proofs.lemmas.List.Elements.{filter-append}
 use Rattle.std.proofs.lemmas.List.Sums.{sum_by-cons, sum_by-append}
 use Rattle.entries.specs.declared.entry.Charged.{Charged}
-use Rattle.broadcast_core.specs.Content.{among, without, first_places, bytes_of, digests_of, within, same_charged, with_taken}
+use Rattle.broadcast_core.specs.Content.{among, without, first_places, bytes_of, digests_of, same_charged}
+use Rattle.broadcast_core.specs.Fronted.{within, with_taken}
 use Rattle.broadcast_core.specs.Company.{fits, up_to, company, has_stayed, stayed}
 use Rattle.broadcast_core.proofs.Cutting.{take-none, take-moved}
 use Rattle.broadcast_core.proofs.Distinct.{by_test, same_truth, or_false, or_right, filter-same, IsDistinct-moved, IsDistinct-filter}

@@ -5,15 +5,18 @@ use Rattle.std.specs.Prelude.{unwrap_or}
 use Rattle.std.specs.Option.{option_map}
 use Rattle.std.specs.List.{IsDistinct, sum_by, count_by}
 use Rattle.std.specs.Map.{keys_of}
+use Rattle.broadcast_core.specs.Empty.{empty}
 use Rattle.broadcast_core.specs.Carried.{Carried}
 use Rattle.broadcast_core.specs.Content.{Content, Same, items_at, message_at, waiting_at}
 use Rattle.broadcast_core.specs.Changes.{Takes, TakesPeers, KeepsStore, Awaits, Cleans, IsSubscribed}
-use Rattle.broadcast_core.specs.Waiters.{DropsClosed, waiting_in, counted}
+use Rattle.broadcast_core.specs.Waiters.{DropsClosed, waiting_in}
+use Rattle.broadcast_core.specs.Counted.{counted}
 use Rattle.broadcast_core.specs.Setting.{Setting}
 use Rattle.broadcast_core.specs.Happening.{Taking, Happening, peers, broadcast, arrival, subscribe, get, cleanup, taken}
 use Rattle.broadcast_core.specs.Cache.{is_listed, message}
 use Rattle.broadcast_core.specs.Waiting.{with_digest, waiting}
-use Rattle.broadcast_core.specs.HasContent.{HasContent, HasCleaned, named_by}
+use Rattle.broadcast_core.specs.HasContent.{HasContent}
+use Rattle.broadcast_core.specs.Cleaned.{HasCleaned, named_by}
 use Rattle.broadcast_core.specs.declared.ordered.Recipients.{Recipients}
 use Rattle.broadcast_core.specs.declared.outcome.Subscribed.{Subscribed}
 use Rattle.broadcast_core.specs.declared.outcome.Subscribed.TheVariants as subscribed
@@ -27,7 +30,7 @@ use Rattle.broadcast_core.proofs.WaitsCount.{counted_by-entries, named-counted}
 
 -- a new core has what the empty history gives
 pub HasContent-empty : {P M D W V : Type 0} {s : Setting P M D} {core : Content P M D W}
-    → core ≡ record { own = s.own; deque_size = s.deque_size; byte_budget = s.byte_budget; primary = []; lists = []; cached = []; waiters = [] } → HasContent {V = V} s [] core
+    → core ≡ empty s.own s.deque_size s.byte_budget → HasContent {V = V} s [] core
 HasContent-empty {s = s} {core = core} new = HasContent-store s [] core
     (HasStore-empty s core (ap (λ c. c.own) new) (ap (λ c. c.deque_size) new) (ap (λ c. c.byte_budget) new) (ap (λ c. c.primary) new) (ap (λ c. c.lists) new) (ap (λ c. c.cached) new))
     (λ d. ap (λ c. items_at s.same.digest d c.waiters) new)

@@ -4,7 +4,8 @@ use Rattle.std.specs.Option.{option_map}
 use Rattle.std.specs.List.{list_any}
 use Rattle.std.specs.Cmp.{IsEquivalence}
 use Rattle.broadcast_core.specs.Carried.{Carried}
-use Rattle.broadcast_core.specs.Content.{among, digests_of, with_taken}
+use Rattle.broadcast_core.specs.Content.{among, digests_of}
+use Rattle.broadcast_core.specs.Fronted.{with_taken}
 use Rattle.broadcast_core.specs.Setting.{Setting}
 use Rattle.broadcast_core.specs.Happening.{Taking, Happening, History, subscribe, get, carried_by, of_digest, taken, takes}
 use Rattle.broadcast_core.specs.Peers.{primary, is_primary}

@@ -7,7 +7,8 @@ use Rattle.std.specs.Cmp.{IsEquivalence}
 use Rattle.std.proofs.lemmas.List.{length-take}
 use Rattle.entries.specs.declared.entry.Charged.{Charged}
 use Rattle.broadcast_core.specs.Carried.{Carried}
-use Rattle.broadcast_core.specs.Content.{Content, Same, affordable, at_charge, among, fronted, items_at, digests_of, same_charged, without}
+use Rattle.broadcast_core.specs.Content.{Content, Same, affordable, at_charge, among, items_at, digests_of, same_charged, without}
+use Rattle.broadcast_core.specs.Fronted.{fronted}
 use Rattle.broadcast_core.specs.Changes.{Takes, TakesPeers}
 use Rattle.broadcast_core.specs.Stored.{Stored, Stores, StoresIf, Drops, IsCore, has_digest, is_stored}
 use Rattle.broadcast_core.proofs.Distinct.{by_test, same_truth, or_right, among-equal, among-without_other, list_any-same}

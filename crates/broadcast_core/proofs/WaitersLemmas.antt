@@ -17,7 +17,8 @@ use Rattle.std.proofs.lemmas.List.Sums.{sum_by-cons, length-filter}
 use Rattle.std.proofs.lemmas.Map.Keys.{IsDistinct-from_sorted, IsDistinct-head, IsDistinct-tail}
 use Rattle.entries.proofs.Tables.{insert_entry-same}
 use Rattle.broadcast_core.specs.Content.{items_at}
-use Rattle.broadcast_core.specs.Waiters.{NoneEmpty, AreAwaited, waiting_in, DropsClosed}
+use Rattle.broadcast_core.specs.Waiters.{NoneEmpty, waiting_in, DropsClosed}
+use Rattle.broadcast_core.specs.Awaited.{AreAwaited}
 use Rattle.broadcast_core.proofs.Distinct.{by_test}
 use Rattle.broadcast_core.proofs.Entries.{lookup-equal}
 

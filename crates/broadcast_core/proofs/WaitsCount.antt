@@ -8,7 +8,8 @@ use Rattle.std.proofs.lemmas.List.Sums.{sum_by-cons, count_by-le-length}
 use Rattle.broadcast_core.specs.Content.{Content, among, items_at}
 use Rattle.broadcast_core.specs.Setting.{Setting}
 use Rattle.broadcast_core.specs.Happening.{Happening, History, peers, broadcast, arrival, subscribe, get, cleanup}
-use Rattle.broadcast_core.specs.HasContent.{HasContent, named_by}
+use Rattle.broadcast_core.specs.HasContent.{HasContent}
+use Rattle.broadcast_core.specs.Cleaned.{named_by}
 use Rattle.broadcast_core.specs.Answers.{removed}
 use Rattle.broadcast_core.specs.Waiting.{Awaiting, with_digest, waits, subscribes, waiting}
 use Rattle.broadcast_core.proofs.Distinct.{by_test, length-filter_le, or_false, among-equal, among-head, IsDistinct-rest}

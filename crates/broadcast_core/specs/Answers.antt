@@ -3,11 +3,8 @@
 use Rattle.std.specs.Prelude.{◌≡◌, ℕ, Bool, false, true, ◌==◌, IsTrue, List, ◌∷◌, Option, None, Some, is_some, Result, Ok, Err, is_ok, ◌⊎◌}
 use Rattle.std.specs.List.{list_any, count_by}
 use Rattle.broadcast_core.specs.Carried.{Carried}
-use Rattle.broadcast_core.specs.Content.{among, outcome_of}
 use Rattle.broadcast_core.specs.Setting.{Setting, own_digested}
 use Rattle.broadcast_core.specs.Happening.{Happening, History, broadcast, arrival, subscribe, get}
-use Rattle.broadcast_core.specs.Peers.{is_primary}
-use Rattle.broadcast_core.specs.Lists.{charged, list}
 use Rattle.broadcast_core.specs.Cache.{is_listed, message}
 use Rattle.broadcast_core.specs.Waiting.{waiting, replied_at, waiters_of}
 use Rattle.broadcast_core.specs.declared.codec.CodecError.{CodecError}
@@ -17,13 +14,7 @@ use Rattle.broadcast_core.specs.declared.event.Event.TheVariants.{Peers, Broadca
 use Rattle.broadcast_core.specs.declared.event.Cause.TheVariants.{Memory, Unencodable}
 use Rattle.broadcast_core.specs.declared.event.Answer.{Answer}
 use Rattle.broadcast_core.specs.declared.event.Answer.TheVariants as answer
-use Rattle.broadcast_core.specs.declared.outcome.Outcome.{Outcome}
-
-module _ {P M D W V : Type 0} (s : Setting P M D) where
-  -- the outcome of taking the message under the key after a history
-  abbrev pub outcome : P → Carried M D → History P M D W V → Outcome
-  outcome p c past = outcome_of (is_primary s p past) (is_some (charged s c))
-      (among s.same.digest c.digest (list s p past))
+use Rattle.broadcast_core.specs.Lists.{outcome}
 
 module _ {P M D : Type 0} (s : Setting P M D) where
   -- a taking is answered by its outcome, and by the tickets of the subscribes that it replies to

@@ -12,7 +12,21 @@ use Rattle.broadcast_core.specs.ByteList.{◌>>=◌, has_spelling, spelled, read
 use Rattle.broadcast_core.specs.ByteListLaws.{list_refusals, list_reads_back}
 use Rattle.broadcast_core.specs.Codec.{IsRefusal, layout_of, GivesOrLacks}
 use Rattle.broadcast_core.specs.CodecLaws.{bind_ok, bind_err, guard_ok, guard_err, ok_is}
-use Rattle.broadcast_core.specs.Blocks.{number_encoding, read_number, array_encoding, read_array, byte_list_encoding, read_byte_list, joined, read_both, mapped, flat, behind, read_tagged, option_encoding, read_option, IsWithin, RefusesBy, ReadsBack}
+use Rattle.broadcast_core.specs.Blocks.{number_encoding, read_number, array_encoding, read_array, byte_list_encoding, read_byte_list, joined, read_both, mapped, flat, behind, read_tagged, option_encoding, read_option}
+
+-- the laws of a reading, and of a reading with its encoding
+abbrev pub IsWithin : {M : Type 0} → (List ℕ → Result (M × ℕ) CodecError) → Type 0
+IsWithin {M = M} reading = (bytes : List ℕ) (v : M) (n : ℕ) → reading bytes ≡ Ok (v, n)
+    → n ≤ length bytes
+
+abbrev pub RefusesBy : {M : Type 0} → (List ℕ → Result (M × ℕ) CodecError) → Type 0
+RefusesBy reading = (bytes : List ℕ) (e : CodecError) → reading bytes ≡ Err e → IsRefusal e
+
+abbrev pub ReadsBack : {M : Type 0} → (M → Option (List ℕ))
+    → (List ℕ → Result (M × ℕ) CodecError) → Type 0
+ReadsBack {M = M} encoding reading = (v w : M) (encoded rest : List ℕ) (n : ℕ)
+    → encoding v ≡ Some encoded → reading (encoded ++ rest) ≡ Ok (w, n)
+    → (w ≡ v) × (n ≡ length encoded)
 
 -- what is chosen only if a test holds
 some_is : {A : Type 0} (b : Bool) (x y : A) → cond b (Some x) None ≡ Some y → (b ≡ true) × (x ≡ y)

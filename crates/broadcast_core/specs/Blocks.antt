@@ -1,9 +1,8 @@
 -- Believed.
 -- How the blocks of a message are written and read.
-use Rattle.std.specs.Prelude.{◌≡◌, ℕ, ◌+◌, ◌-◌, ◌^◌, ◌≤◌, ◌==◌, if◌then◌else◌, List, [], ◌∷◌, ◌++◌, length, take, drop, Option, None, Some, Result, Ok, Err, nat_lt}
+use Rattle.std.specs.Prelude.{ℕ, ◌+◌, ◌-◌, ◌^◌, ◌==◌, if◌then◌else◌, List, [], ◌∷◌, ◌++◌, length, take, drop, Option, None, Some, Result, Ok, Err, nat_lt}
 use Rattle.byteorder.specs.Endian.{big_bytes, big_number}
 use Rattle.broadcast_core.specs.ByteList.{◌>>=◌, has_spelling, spelled, read_list}
-use Rattle.broadcast_core.specs.Codec.{IsRefusal}
 use Rattle.broadcast_core.specs.declared.codec.CodecError.{CodecError}
 use Rattle.broadcast_core.specs.declared.codec.CodecError.TheVariants.{EndOfBuffer, Invalid}
 use Rattle.broadcast_core.specs.declared.codec.RangeCfg.{RangeCfg}
@@ -74,17 +73,3 @@ abbrev pub read_option : {A : Type 0} → (List ℕ → Result (A × ℕ) CodecE
 read_option reading tag bytes =
     if tag == 0 then Ok (None, 0) else
     if tag == 1 then mapped Some (reading bytes) else Err (Invalid tag)
-
--- the laws of a reading, and of a reading with its encoding
-abbrev pub IsWithin : {M : Type 0} → (List ℕ → Result (M × ℕ) CodecError) → Type 0
-IsWithin {M = M} reading = (bytes : List ℕ) (v : M) (n : ℕ) → reading bytes ≡ Ok (v, n)
-    → n ≤ length bytes
-
-abbrev pub RefusesBy : {M : Type 0} → (List ℕ → Result (M × ℕ) CodecError) → Type 0
-RefusesBy reading = (bytes : List ℕ) (e : CodecError) → reading bytes ≡ Err e → IsRefusal e
-
-abbrev pub ReadsBack : {M : Type 0} → (M → Option (List ℕ))
-    → (List ℕ → Result (M × ℕ) CodecError) → Type 0
-ReadsBack {M = M} encoding reading = (v w : M) (encoded rest : List ℕ) (n : ℕ)
-    → encoding v ≡ Some encoded → reading (encoded ++ rest) ≡ Ok (w, n)
-    → (w ≡ v) × (n ≡ length encoded)

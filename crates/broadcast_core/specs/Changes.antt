@@ -7,7 +7,8 @@ use Rattle.broadcast_core.specs.Carried.{Carried}
 use Rattle.broadcast_core.specs.declared.outcome.Subscribed.{Subscribed}
 use Rattle.broadcast_core.specs.declared.outcome.Subscribed.TheVariants as subscribed
 use Rattle.broadcast_core.specs.declared.outcome.Taken.{Taken}
-use Rattle.broadcast_core.specs.Content.{Content, Same, affordable, among, has_primary, is_on_list, charged_at, list_at, list_with, message_at, outcome_at, waiting_at}
+use Rattle.broadcast_core.specs.Content.{Content, Same, affordable, among, charged_at, list_at, message_at, waiting_at}
+use Rattle.broadcast_core.specs.Fronted.{has_primary, is_on_list, list_with, outcome_at}
 
 module _ {P M D W : Type 0} (same : Same P D) where
   -- the message is taken under the key at this charge: its digest moves to the front of a primary key's
@@ -37,8 +38,7 @@ module _ {P M D W : Type 0} (same : Same P D) where
     pub ok : OnOk result (Takes p x charge old new)
     pub err : OnErr result (new ≡ old)
     -- these never fail
-    pub succeeds_on_duplicate :
-        among same.digest x.digest (list_at same old p) ≡ true → IsOk result
+    pub succeeds_on_duplicate : among same.digest x.digest (list_at same old p) ≡ true → IsOk result
     pub succeeds_on_ineligible : has_primary same old p ≡ false → IsOk result
     pub succeeds_on_oversize :
         is_some (affordable old.byte_budget x.digest charge) ≡ false → IsOk result

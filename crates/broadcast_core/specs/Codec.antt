@@ -1,23 +1,13 @@
 -- Believed.
 -- What reading and writing return.
-use Rattle.std.specs.Prelude.{◌≡◌, ℕ, ◌-◌, ◌==◌, ◌⊎◌, if◌then◌else◌, List, ◌++◌, length, Option, Some, Result, Ok, Err, IsOk}
+use Rattle.std.specs.Prelude.{◌≡◌, ℕ, ◌⊎◌, List, ◌++◌, Option, Some, Result, Ok, Err, IsOk}
 use Rattle.broadcast_core.specs.declared.codec.CodecError.{CodecError}
-use Rattle.broadcast_core.specs.declared.codec.CodecError.TheVariants.{EndOfBuffer, InvalidLength, Invalid, ExtraData, Unencodable, Memory}
+use Rattle.broadcast_core.specs.declared.codec.CodecError.TheVariants.{EndOfBuffer, InvalidLength, Invalid, Unencodable, Memory}
 
 -- the number of bytes that a value takes, of a reading of value and number
 abbrev pub layout_of : {M : Type 0} → Result (M × ℕ) CodecError → Result ℕ CodecError
 layout_of (Ok r) = Ok r.1
 layout_of (Err e) = Err e
-
--- the value, if it takes all n bytes
-abbrev pub all_taken : {M : Type 0} → ℕ → Result (M × ℕ) CodecError → Result M CodecError
-all_taken n (Ok r) = if r.1 == n then Ok r.0 else Err (ExtraData (n - r.1))
-all_taken n (Err e) = Err e
-
--- what the bytes read as, all of them
-abbrev pub whole : {M : Type 0} → (List ℕ → Result (M × ℕ) CodecError) → List ℕ
-    → Result M CodecError
-whole reading bytes = all_taken (length bytes) (reading bytes)
 
 -- the result, seen by view, is what was read
 abbrev pub Gives : {X Y : Type 0} → (X → Y) → Result X CodecError → Result Y CodecError → Type 0

@@ -1,12 +1,11 @@
 -- Believed.
 -- What a core contains, and how it is read.
-use Rattle.std.specs.Prelude.{ℕ, ◌-◌, Bool, not, if◌then◌else◌, List, [], ◌∷◌, map, take, nat_le, Option, None, Some, is_some, unwrap_or}
+use Rattle.std.specs.Prelude.{ℕ, Bool, not, if◌then◌else◌, List, [], ◌∷◌, map, nat_le, Option, None, Some, unwrap_or}
 use Rattle.std.specs.List.{filter, list_any, sum_by}
 use Rattle.std.specs.Map.{lookup}
 use Rattle.std.specs.Ordering.{eq_by_cmp}
 use Rattle.std.specs.declared.cmp.Ordering.{Ordering}
 use Rattle.entries.specs.declared.entry.Charged.{Charged}
-use Rattle.entries.specs.Overlaid.{same_number}
 use Rattle.broadcast_core.specs.Carried.{Carried}
 use Rattle.broadcast_core.specs.declared.outcome.Outcome.{Outcome}
 use Rattle.broadcast_core.specs.declared.outcome.Outcome.TheVariants.{Inserted, Duplicate, Ineligible, Oversize}
@@ -31,10 +30,6 @@ pub record Same (P D : Type 0) : Type 0 where
 abbrev pub same_by : {P D : Type 0} → (P → P → Ordering) → (D → D → Ordering) → Same P D
 same_by key digest = record { key = eq_by_cmp key; digest = eq_by_cmp digest }
 
--- the equalities of numbers of lists and an order of digests
-abbrev pub same_listed : {D : Type 0} → (D → D → Ordering) → Same ℕ D
-same_listed digest = record { key = same_number; digest = eq_by_cmp digest }
-
 module _ {D : Type 0} (same : D → D → Bool) where
   -- whether a digest of the list equals d
   abbrev pub among : D → List D → Bool
@@ -58,12 +53,6 @@ module _ {D : Type 0} where
   abbrev pub bytes_of : List (Charged D) → ℕ
   bytes_of cs = sum_by (λ c. c.charge) cs
 
-  -- the longest beginning whose charges sum to at most the budget
-  abbrev pub within : ℕ → List (Charged D) → List (Charged D)
-  within budget [] = []
-  within budget (c ∷ cs) =
-      if nat_le c.charge budget then c ∷ within (budget - c.charge) cs else []
-
   -- the digest at this charge
   abbrev pub at_charge : D → ℕ → Charged D
   at_charge d n = record { digest = d; charge = n }
@@ -77,15 +66,6 @@ module _ {D : Type 0} where
   affordable budget d None = None
   affordable budget d (Some n) = if nat_le n budget then Some (at_charge d n) else None
 
--- the digest is put in front of the list, which is then cut to its limits
-abbrev pub fronted : {D : Type 0} → (D → D → Bool) → ℕ → ℕ → Charged D → List (Charged D) → List (Charged D)
-fronted same size budget c cs = within budget (take size (c ∷ without (same_charged same) c cs))
-
--- the list after a taking; one that the budget does not afford changes nothing
-abbrev pub with_taken : {D : Type 0} → (D → D → Bool) → ℕ → ℕ → Option (Charged D) → List (Charged D) → List (Charged D)
-with_taken same size budget None cs = cs
-with_taken same size budget (Some c) cs = fronted same size budget c cs
-
 -- the list that a map has at the key, or the empty list
 abbrev pub items_at : {K X : Type 0} → (K → K → Bool) → K → List (K × List X) → List X
 items_at same k es = unwrap_or (lookup (same k) es) []
@@ -98,10 +78,6 @@ outcome_of is_primary is_affordable has_digest = if is_primary
     else Ineligible
 
 module _ {P D : Type 0} (same : Same P D) {M W : Type 0} where
-  -- whether the key is primary
-  abbrev pub has_primary : Content P M D W → P → Bool
-  has_primary c p = list_any (same.key p) c.primary
-
   -- the key's list, with charges
   abbrev pub charged_at : Content P M D W → P → List (Charged D)
   charged_at c p = items_at same.key p c.lists
@@ -110,10 +86,6 @@ module _ {P D : Type 0} (same : Same P D) {M W : Type 0} where
   abbrev pub list_at : Content P M D W → P → List D
   list_at c p = digests_of (charged_at c p)
 
-  -- whether some key's list has the digest; a key that is not primary has an empty list
-  abbrev pub is_on_list : Content P M D W → D → Bool
-  is_on_list c d = list_any (λ p. among same.digest d (list_at c p)) c.primary
-
   -- the cached message of the digest
   abbrev pub message_at : Content P M D W → D → Option (Carried M D)
   message_at c d = lookup (same.digest d) c.cached
@@ -121,14 +93,3 @@ module _ {P D : Type 0} (same : Same P D) {M W : Type 0} where
   -- the waiters of the digest, in the order of their subscribes
   abbrev pub waiting_at : Content P M D W → D → List W
   waiting_at c d = items_at same.digest d c.waiters
-
-  -- the outcome of taking the digest under the key, at this charge
-  abbrev pub outcome_at : Content P M D W → P → D → Option ℕ → Outcome
-  outcome_at c p d charge = outcome_of (has_primary c p) (is_some (affordable c.byte_budget d charge))
-      (among same.digest d (list_at c p))
-
-  -- the key's list after the digest is taken under it, if the key is primary
-  abbrev pub list_with : Content P M D W → P → D → Option ℕ → List (Charged D)
-  list_with c p d charge = if has_primary c p
-      then with_taken same.digest c.deque_size c.byte_budget (affordable c.byte_budget d charge) (charged_at c p)
-      else charged_at c p

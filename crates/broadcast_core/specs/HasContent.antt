@@ -1,15 +1,14 @@
 -- Believed.
 -- What a core contains after a history.
-use Rattle.std.specs.Prelude.{◌≡◌, ℕ, Bool, List, ◌∷◌}
-use Rattle.std.specs.List.{AllByRecursion, count_by}
+use Rattle.std.specs.Prelude.{◌≡◌, ℕ, Bool, List}
+use Rattle.std.specs.List.{AllByRecursion}
 use Rattle.broadcast_core.specs.Content.{Content, charged_at, message_at, waiting_at}
 use Rattle.broadcast_core.specs.Setting.{Setting}
-use Rattle.broadcast_core.specs.Happening.{History, cleanup}
+use Rattle.broadcast_core.specs.Happening.{History}
 use Rattle.broadcast_core.specs.Peers.{primary}
 use Rattle.broadcast_core.specs.Lists.{charged_list}
 use Rattle.broadcast_core.specs.Cache.{message}
-use Rattle.broadcast_core.specs.Waiters.{counted}
-use Rattle.broadcast_core.specs.Waiting.{Awaiting, waiting, waiting_for}
+use Rattle.broadcast_core.specs.Waiting.{Awaiting, waiting_for}
 
 module _ {P M D W V : Type 0} (s : Setting P M D) where
   -- the core has what the history gives
@@ -26,16 +25,3 @@ module _ {P M D W V : Type 0} (s : Setting P M D) where
 abbrev pub AnswersAs : {W D : Type 0} → (W → Bool → Type 0) → (ℕ → W → Bool)
     → List (Awaiting W D) → Type 0
 AnswersAs may_answer test ws = AllByRecursion (λ w. may_answer w.waiter (test w.place w.waiter)) ws
-
--- the number of subscribes that the test names
-abbrev pub named_by : {W D : Type 0} → (ℕ → W → Bool) → List (Awaiting W D) → ℕ
-named_by test ws = count_by (λ w. test w.place w.waiter) ws
-
-module _ {P M D W V : Type 0} (s : Setting P M D) where
-  -- a cleanup of the waiters that answered closed leaves the content, and returns how many they are
-  pub record HasCleaned (may_answer : W → Bool → Type 0) (past : History P M D W V)
-      (new : Content P M D W) (returned : ℕ) : Type 0 where
-    pub test : ℕ → W → Bool
-    pub content : HasContent s (cleanup test ∷ past) new
-    pub answered : AnswersAs may_answer test (waiting s past)
-    pub removed : returned ≡ counted (named_by test (waiting s past))

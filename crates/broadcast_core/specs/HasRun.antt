@@ -10,7 +10,7 @@ use Rattle.broadcast_core.specs.Sent.{sent}
 use Rattle.broadcast_core.specs.HasContent.{HasContent}
 use Rattle.broadcast_core.specs.Log.{Log, is_refused, log_of, after, history, history_of}
 use Rattle.broadcast_core.specs.Answers.{answer_to, IsAllocFailure, MayAnswer}
-use Rattle.broadcast_core.specs.Waiters.{counted}
+use Rattle.broadcast_core.specs.Counted.{counted}
 use Rattle.broadcast_core.specs.declared.event.Event.{Event}
 use Rattle.broadcast_core.specs.declared.event.Answer.{Answer}
 use Rattle.broadcast_core.specs.declared.event.Answer.TheVariants.{Removed}

@@ -11,6 +11,8 @@ pub mod TaggedLaws
 pub mod TestMessage
 pub mod MessageLaws
 pub mod Content
+pub mod Empty
+pub mod Fronted
 pub mod Setting
 pub mod Happening
 pub mod Peers
@@ -22,6 +24,8 @@ pub mod Waiting
 pub mod Handed
 pub mod Sent
 pub mod HasContent
+pub mod Counted
+pub mod Cleaned
 pub mod Log
 pub mod Answers
 pub mod HasRun
@@ -31,6 +35,7 @@ pub mod Left
 pub mod Stored
 pub mod Numbered
 pub mod Waiters
+pub mod Awaited
 pub mod Indexed
 pub mod ListLaw
 pub mod TakenLaw

@@ -2,8 +2,8 @@
 -- Lemmas, not definitions: the laws of `Read` and `Codec` for test messages, which are those of a
 -- pair of byte lists.
 use Rattle.std.proofs.Common.{ℕ, List, refl}
-use Rattle.broadcast_core.specs.Blocks.{byte_list_encoding, joined, read_byte_list, IsWithin, RefusesBy, ReadsBack}
-use Rattle.broadcast_core.specs.BlockLaws.{byte_list_within, byte_list_refusals, byte_list_reads_back, both_within, both_refusals, both_reads_back, mapped_within, mapped_refusals, mapped_reads_back}
+use Rattle.broadcast_core.specs.Blocks.{byte_list_encoding, joined, read_byte_list}
+use Rattle.broadcast_core.specs.BlockLaws.{IsWithin, RefusesBy, ReadsBack, byte_list_within, byte_list_refusals, byte_list_reads_back, both_within, both_refusals, both_reads_back, mapped_within, mapped_refusals, mapped_reads_back}
 use Rattle.broadcast_core.specs.TestMessage.{Parts, parts_of, encoding_of, read_lists, read_message}
 use Rattle.broadcast_core.specs.declared.codec.RangeCfg.{RangeCfg}
 

@@ -6,8 +6,12 @@ use Rattle.std.specs.Map.{lookup, keys_of}
 use Rattle.std.specs.Ordering.{eq_by_cmp}
 use Rattle.std.specs.declared.cmp.Ordering.{Ordering}
 use Rattle.entries.specs.Overlaid.{same_number}
-use Rattle.broadcast_core.specs.Content.{items_at, same_listed}
+use Rattle.broadcast_core.specs.Content.{items_at, Same}
 use Rattle.broadcast_core.specs.Stored.{Stored, PutsList, is_stored}
+
+-- the equalities of numbers of lists and an order of digests
+abbrev pub same_listed : {D : Type 0} → (D → D → Ordering) → Same ℕ D
+same_listed digest = record { key = same_number; digest = eq_by_cmp digest }
 
 -- the content, each list under its peer
 abbrev pub named_of : {P M D : Type 0} → List (P × ℕ) → Stored ℕ M D → Stored P M D

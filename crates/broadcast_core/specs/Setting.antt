@@ -1,9 +1,10 @@
 -- Believed.
 -- What a history is read by.
-use Rattle.std.specs.Prelude.{ℕ, Bool, List, Option, Result}
+use Rattle.std.specs.Prelude.{ℕ, Bool, List, Option, Result, ◌-◌, ◌==◌, if◌then◌else◌, length, Ok, Err}
 use Rattle.broadcast_core.specs.Carried.{Carried}
 use Rattle.broadcast_core.specs.Content.{Same}
 use Rattle.broadcast_core.specs.declared.codec.CodecError.{CodecError}
+use Rattle.broadcast_core.specs.declared.codec.CodecError.TheVariants.{ExtraData}
 
 pub record Setting (P M D : Type 0) : Type 0 where
   -- the key under which broadcasts are taken
@@ -40,3 +41,13 @@ setting own deque_size byte_budget priority same digest_of encoding reading = re
 -- a message under its own digest
 abbrev pub own_digested : {P M D : Type 0} → Setting P M D → M → Carried M D
 own_digested s m = record { message = m; digest = s.digest_of m }
+
+-- the value, if it takes all n bytes
+abbrev pub all_taken : {M : Type 0} → ℕ → Result (M × ℕ) CodecError → Result M CodecError
+all_taken n (Ok r) = if r.1 == n then Ok r.0 else Err (ExtraData (n - r.1))
+all_taken n (Err e) = Err e
+
+-- what the bytes read as, all of them
+abbrev pub whole : {M : Type 0} → (List ℕ → Result (M × ℕ) CodecError) → List ℕ
+    → Result M CodecError
+whole reading bytes = all_taken (length bytes) (reading bytes)

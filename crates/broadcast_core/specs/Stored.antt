@@ -7,7 +7,8 @@ use Rattle.std.specs.Map.{lookup, keys_of}
 use Rattle.std.specs.declared.cmp.Ordering.{Ordering}
 use Rattle.std.specs.declared.cmp.Ordering.TheVariants.{Less}
 use Rattle.broadcast_core.specs.Carried.{Carried}
-use Rattle.broadcast_core.specs.Content.{Content, Same, bytes_of, fronted, items_at}
+use Rattle.broadcast_core.specs.Content.{Content, Same, bytes_of, items_at}
+use Rattle.broadcast_core.specs.Fronted.{fronted}
 
 -- the lists by peer, and the messages by digest
 pub record Stored (P M D : Type 0) : Type 0 where

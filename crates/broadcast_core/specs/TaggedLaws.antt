@@ -7,8 +7,8 @@ use Rattle.broadcast_core.specs.declared.codec.blocks.tagged.OneOf.{OneOf}
 use Rattle.broadcast_core.specs.declared.codec.blocks.tagged.OneOf.TheVariants.{First, Second}
 use Rattle.broadcast_core.specs.Codec.{IsRefusal}
 use Rattle.broadcast_core.specs.CodecLaws.{chosen_ok, ok_is}
-use Rattle.broadcast_core.specs.Blocks.{joined, mapped, read_tagged, IsWithin, RefusesBy, ReadsBack}
-use Rattle.broadcast_core.specs.BlockLaws.{joined_parts, mapped_ok, mapped_within, mapped_refusals, behind_ok, tagged_within, tagged_refusals}
+use Rattle.broadcast_core.specs.Blocks.{joined, mapped, read_tagged}
+use Rattle.broadcast_core.specs.BlockLaws.{IsWithin, RefusesBy, ReadsBack, joined_parts, mapped_ok, mapped_within, mapped_refusals, behind_ok, tagged_within, tagged_refusals}
 use Rattle.broadcast_core.specs.Tagged.{one_of_encoding, read_one_of, tag_encoding, read_tag}
 
 module _ {A B : Type 0} (first : List ℕ → Result (A × ℕ) CodecError)

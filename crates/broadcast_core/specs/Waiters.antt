@@ -1,21 +1,12 @@
 -- Believed.
 -- The waiters, by digest, and the effect of a cleanup on them.
-use Rattle.std.specs.Prelude.{◌≡◌, ℕ, ◌-◌, ◌<◌, ◌^◌, ◌==◌, min, Bool, true, false, if◌then◌else◌, List, [], ◌∷◌, length, Option, None, Some, ◌⊎◌}
+use Rattle.std.specs.Prelude.{◌≡◌, ℕ, ◌<◌, ◌==◌, Bool, true, false, List, [], ◌∷◌, length, Some, ◌⊎◌}
 use Rattle.std.specs.List.{list_any, count_by, sum_by}
-use Rattle.std.specs.List.Sorted.{IsStrictlySortedBy}
-use Rattle.std.specs.Map.{lookup, keys_of}
-use Rattle.std.specs.Ordering.{eq_by_cmp}
-use Rattle.std.specs.declared.cmp.Ordering.{Ordering}
+use Rattle.std.specs.Map.{lookup}
 
 -- each digest of the map has a waiter
 abbrev pub NoneEmpty : {D W : Type 0} → (D → D → Bool) → List (D × List W) → Type 0
 NoneEmpty {D} {W} same es = (d : D) (ws : List W) → lookup (same d) es ≡ Some ws → 0 < length ws
-
--- the digests are sorted, and each has a waiter
-pub record AreAwaited {D W : Type 0} (cmp : D → D → Ordering)
-    (es : List (D × List W)) : Type 0 where
-  pub rises : IsStrictlySortedBy cmp (keys_of es)
-  pub none_empty : NoneEmpty (eq_by_cmp cmp) es
 
 -- the number of all waiters
 abbrev pub waiting_in : {D W : Type 0} → List (D × List W) → ℕ
@@ -29,11 +20,6 @@ is_gone ticket_of gone w = list_any (λ t. ticket_of w == t) gone
 abbrev pub gone_from : {D W : Type 0} → (W → ℕ) → List ℕ → List (D × List W) → ℕ
 gone_from ticket_of gone es = sum_by (λ e. count_by (is_gone ticket_of gone) e.1) es
 
--- the first digest of which a waiter passes the test
-abbrev pub first_with : {D W : Type 0} → (W → Bool) → List (D × List W) → Option D
-first_with test [] = None
-first_with test (e ∷ es) = if list_any test e.1 then Some e.0 else first_with test es
-
 -- what is left of the waiters, in order: one that is dropped may answer that it is closed, and one
 -- that stays that it is open
 abbrev pub DropsClosed : {W : Type 0} → (W → Bool → Type 0) → List W → List W → Type 0
@@ -46,7 +32,3 @@ DropsClosed {W} answers (x ∷ xs) ys =
 abbrev pub DropsClosedIf : {W : Type 0} → Bool → (W → Bool → Type 0) → List W → List W → Type 0
 DropsClosedIf true answers xs ys = DropsClosed answers xs ys
 DropsClosedIf false answers xs ys = ys ≡ xs
-
--- a number, saturating at the greatest of 64 bits
-abbrev pub counted : ℕ → ℕ
-counted n = min n (2 ^ 64 - 1)

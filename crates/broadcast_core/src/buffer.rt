@@ -8,6 +8,7 @@ ghost use Rattle.std.specs.Option.{option_copied, option_map};
 ghost use Rattle.std.specs.Ordering.{eq_by_cmp};
 ghost use Rattle.entries.specs.Overlaid.{overlaid};
 ghost use Rattle.broadcast_core.specs.Content.{same_by};
+ghost use Rattle.broadcast_core.specs.Empty.{empty};
 ghost use Rattle.broadcast_core.specs.Left.{Adds, HasRoom};
 
 mod cache;
@@ -49,22 +50,16 @@ impl<P: PublicKey, M: Digestible, W> Model for Core<P, M, W> {
 
 impl<P: PublicKey, M: Digestible, W: Drop> Core<P, M, W> {
     ghost use Rattle.std.specs.Prelude.{ℕ, ◌+◌, ◌*◌};
-    ghost use Rattle.broadcast_core.specs.Content.{among, has_primary, is_on_list, bytes_of, charged_at, list_at, message_at, waiting_at};
+    ghost use Rattle.broadcast_core.specs.Content.{among, bytes_of, charged_at, list_at, message_at, waiting_at};
+    ghost use Rattle.broadcast_core.specs.Fronted.{has_primary, is_on_list};
     ghost use Rattle.broadcast_core.specs.Changes.{IsTaken, TakesPeers, Cleans, CleansAt, KeepsStore, IsSubscribed};
-    ghost use Rattle.broadcast_core.specs.Waiters.{NoneEmpty, waiting_in, is_gone, gone_from, DropsClosed, DropsClosedIf, counted};
+    ghost use Rattle.broadcast_core.specs.Waiters.{NoneEmpty, waiting_in, is_gone, gone_from, DropsClosed, DropsClosedIf};
+    ghost use Rattle.broadcast_core.specs.Counted.{counted};
 
     /// Creates an empty core for the node `own` that keeps at most `deque_size` digests a peer,
     /// which are charged at most `byte_budget` bytes together. No peer is primary yet.
     pub fn new(alloc: Global, own: P, deque_size: usize, byte_budget: u64) -> Self
-        ensures { result ≡ record {
-          own = own;
-          deque_size = deque_size;
-          byte_budget = byte_budget;
-          primary = [];
-          lists = [];
-          cached = [];
-          waiters = [];
-        } }
+        ensures { result ≡ empty own deque_size byte_budget }
     {
         Core {
             own,
@@ -146,8 +141,7 @@ impl<P: PublicKey, M: Digestible, W: Drop> Core<P, M, W> {
     /// Copies the digests on the list of `peer` to the front of `out`, newest first, as many as
     /// there are places for. Returns how many digests are on the list.
     pub fn list_into(&self, peer: &P, out: &mut [M::Digest]) -> usize
-        ensures len { let same = same_by P.cmp M.Digest.cmp in
-            result ≡ length (list_at same self.now peer.now) }
+        ensures len { result ≡ length (list_at (same_by P.cmp M.Digest.cmp) self.now peer.now) }
         ensures digests { let same = same_by P.cmp M.Digest.cmp in
             out.new ≡ overlaid (list_at same self.now peer.now) out.old }
     {

@@ -2,7 +2,8 @@
 ghost use Rattle.std.specs.Prelude.{◌≡◌, ℕ, ◌≤◌, ◌++◌, ◌↔◌, List, length, IsTrue, Option, Some, None, Result, Ok, Err};
 ghost use Rattle.std.specs.Option.{option_map};
 ghost use Rattle.broadcast_core.specs.declared.codec.CodecError.{CodecError};
-ghost use Rattle.broadcast_core.specs.Codec.{Appends, IsRefusal, layout_of, whole, GivesOrLacks};
+ghost use Rattle.broadcast_core.specs.Codec.{Appends, IsRefusal, layout_of, GivesOrLacks};
+ghost use Rattle.broadcast_core.specs.Setting.{whole};
 
 use std::alloc::{AllocError, Global};
 use thiserror::Error;

@@ -1,13 +1,12 @@
 //! Laws of lists, of the cache, of answers and of the codec, which a caller cites by calling them.
 //! They do nothing when they run.
 ghost use Rattle.std.specs.Prelude.{◌≡◌, ◌≤◌, ◌↔◌, ℕ, Bool, false, true, List, ◌∷◌, Option, Some, is_some, Ok};
-ghost use Rattle.broadcast_core.specs.Codec.{whole};
+ghost use Rattle.broadcast_core.specs.Setting.{whole, Setting};
 ghost use Rattle.std.specs.Cmp.{IsEquivalence};
 ghost use Rattle.entries.specs.declared.entry.Charged.{Charged};
 ghost use Rattle.broadcast_core.specs.Carried.{Carried};
 ghost use Rattle.broadcast_core.specs.Content.{bytes_of, same_by};
 ghost use Rattle.broadcast_core.specs.Company.{has_stayed};
-ghost use Rattle.broadcast_core.specs.Setting.{Setting};
 ghost use Rattle.broadcast_core.specs.Happening.{History, Future, get};
 ghost use Rattle.broadcast_core.specs.Peers.{since};
 ghost use Rattle.broadcast_core.specs.Lists.{charged_list, list};

@@ -1,9 +1,8 @@
 //! A run of a list of events.
 ghost use Rattle.std.specs.Prelude.{◌≡◌, ◌+◌, ◌<◌, ◌≤◌, ◌++◌, [], length, vec_len, vec_capacity, IfOk};
 ghost use Rattle.std.specs.Option.{option_to_list};
-ghost use Rattle.broadcast_core.specs.Codec.{whole};
+ghost use Rattle.broadcast_core.specs.Setting.{whole, setting};
 ghost use Rattle.broadcast_core.specs.Content.{same_by};
-ghost use Rattle.broadcast_core.specs.Setting.{setting};
 ghost use Rattle.broadcast_core.specs.HasRun.{HasRun};
 
 pub mod apply;

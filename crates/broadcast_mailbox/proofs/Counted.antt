@@ -8,7 +8,8 @@ use Rattle.broadcast_mailbox.specs.declared.broadcaster.MailboxError.TheVariants
 use Rattle.broadcast_mailbox.specs.Overflow.{Drains, PutsWithin}
 use Rattle.broadcast_mailbox.specs.Queue.{QueueState, counted_in, request_of, waiting, with_ready, with_overflow}
 use Rattle.broadcast_mailbox.specs.Mailbox.{MailboxState, Enqueues, Takes}
-use Rattle.broadcast_mailbox.specs.Account.{counted_of, is_accepted, is_queued, one_if}
+use Rattle.broadcast_mailbox.specs.Account.{counted_of, is_accepted, one_if}
+use Rattle.broadcast_mailbox.specs.Booked.{is_queued}
 
 and-true : (b : Bool) → (b && true) ≡ b
 and-true true = refl

@@ -10,7 +10,7 @@ use Rattle.broadcast_mailbox.specs.declared.broadcaster.MailboxError.TheVariants
 use Rattle.broadcast_mailbox.specs.Overflow.{Drains, PutsWithin}
 use Rattle.broadcast_mailbox.specs.Queue.{QueueState, counted_in, request_of, waiting}
 use Rattle.broadcast_mailbox.specs.Mailbox.{MailboxState, Enqueues, Takes, count_skipped}
-use Rattle.broadcast_mailbox.specs.Account.{are_open}
+use Rattle.broadcast_mailbox.specs.Booked.{are_open}
 
 and-both : (a b : Bool) → (a && b) ≡ true → (a ≡ true) × (b ≡ true)
 and-both true b both = (refl, both)

@@ -8,8 +8,8 @@ use Rattle.broadcast_mailbox.specs.declared.buffered.ingress.message.Queued.{Que
 use Rattle.broadcast_mailbox.specs.declared.buffered.ingress.message.Queued.TheVariants as queued
 use Rattle.broadcast_mailbox.specs.declared.broadcaster.MailboxError.{MailboxError}
 use Rattle.broadcast_mailbox.specs.Account.{is_accepted, is_taken_up}
-use Rattle.broadcast_mailbox.specs.Queued.{answer_of}
-use Rattle.broadcast_mailbox.specs.Watch.{BroadcastsOnly, is_broadcast, is_watched, kind_of}
+use Rattle.broadcast_mailbox.specs.Booked.{answer_of, is_watched}
+use Rattle.broadcast_mailbox.specs.Watch.{BroadcastsOnly, is_broadcast, kind_of}
 
 -- a request that a watch of broadcasts matches is a broadcast
 pub watched_open : {P M S G D : Type 0} (watched : Kind → D → Bool) (message : Message P M S G D) → BroadcastsOnly watched → is_watched watched message ≡ true → is_broadcast (kind_of message) ≡ true

@@ -1,8 +1,7 @@
 -- Believed.
 -- What is counted of the requests that are made through tallies.
-use Rattle.std.specs.Prelude.{ℕ, ◌+◌, ◌-◌, ◌^◌, min, if◌then◌else◌, ◌&&◌, ◌||◌, not, Bool, true, false}
-use Rattle.std.specs.Prelude.{List, Option, None, Some, Result, Ok, Err}
-use Rattle.std.specs.List.{list_all}
+use Rattle.std.specs.Prelude.{ℕ, ◌+◌, if◌then◌else◌, ◌&&◌, Bool, true, false}
+use Rattle.std.specs.Prelude.{Option, None, Some, Result, Ok, Err}
 use Rattle.broadcast_mailbox.specs.declared.buffered.ingress.message.Request.{Request}
 use Rattle.broadcast_mailbox.specs.declared.buffered.ingress.message.Queued.{Queued}
 use Rattle.broadcast_mailbox.specs.declared.buffered.ingress.message.Queued.TheVariants as queued
@@ -15,10 +14,6 @@ pub record TallyState : Type 0 where
   pub accepted : ℕ
   pub parts : ℕ
 
--- a number as far as 64 bits go
-abbrev pub capped : ℕ → ℕ
-capped number = min number (2 ^ 64 - 1)
-
 abbrev pub one_if : Bool → ℕ
 one_if counts = if counts then 1 else 0
 
@@ -28,17 +23,6 @@ is_accepted (Ok (queued.Ready ticket)) = true
 is_accepted (Ok (queued.Overflow ticket)) = true
 is_accepted (Ok (queued.Skipped ticket)) = true
 is_accepted _ = false
-
--- whether it waits
-abbrev pub is_queued : Result Queued MailboxError → Bool
-is_queued (Ok (queued.Ready ticket)) = true
-is_queued (Ok (queued.Overflow ticket)) = true
-is_queued _ = false
-
--- whether it was skipped at once
-abbrev pub is_skipped : Result Queued MailboxError → Bool
-is_skipped (Ok (queued.Skipped ticket)) = true
-is_skipped _ = false
 
 -- whether a broadcast with this result was accepted
 abbrev pub is_taken_up : Result Feedback MailboxError → Bool
@@ -50,10 +34,6 @@ is_taken_up (Err error) = false
 abbrev pub tallied : Bool → Bool → TallyState → TallyState
 tallied counted accepted tally =
     record tally { accepted = tally.accepted + one_if (counted && accepted) }
-
--- whether each counted request among them is one that stays open
-abbrev pub are_open : {T : Type 0} → (T → Bool) → List (Request T) → Bool
-are_open opens requests = list_all (λ request. not request.counted || opens request.message) requests
 
 -- how many counted requests a take with this result takes
 abbrev pub counted_of : {T : Type 0} → Option (Request T) → ℕ

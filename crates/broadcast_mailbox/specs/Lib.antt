@@ -32,3 +32,4 @@ pub use Rattle.broadcast_core.specs.Answers
 pub use Rattle.broadcast_core.specs.HasRun
 pub use Rattle.broadcast_core.specs.Changes
 pub use Rattle.broadcast_core.specs.Waiters
+pub mod Booked

@@ -7,8 +7,7 @@ use Rattle.broadcast_mailbox.specs.declared.buffered.ingress.message.Queued.{Que
 use Rattle.broadcast_mailbox.specs.declared.buffered.ingress.message.Counts.{Counts}
 use Rattle.broadcast_mailbox.specs.declared.buffered.ingress.message.Queued.TheVariants as queued
 use Rattle.broadcast_mailbox.specs.declared.broadcaster.MailboxError.{MailboxError}
-use Rattle.broadcast_mailbox.specs.Queue.{QueueState, Pushes, Pops}
-use Rattle.broadcast_mailbox.specs.Queue.{queue_after, shut_down, waiting, counted_in}
+use Rattle.broadcast_mailbox.specs.Queue.{QueueState, Pushes, Pops, queue_after, shut_down, waiting}
 
 -- the queue, whether a stop is asked for, and how many requests were taken, skipped and given up
 pub record MailboxState (T : Type 0) : Type 0 where
@@ -38,10 +37,6 @@ module _ {T : Type 0} where
     skipped = 0;
     given_up = 0;
   }
-
-  -- an open, empty mailbox that has accepted no request
-  abbrev pub empty_mailbox : ℕ → MailboxState T
-  empty_mailbox size = mailbox_after size 0
 
   -- each accepted request was taken, was skipped, waits or was given up
   abbrev pub IsCounted : MailboxState T → Type 0
@@ -82,17 +77,6 @@ module _ {T : Type 0} where
           taken = old.taken + count_taken result;
           skipped = old.skipped + length skipped;
         })
-
-    -- the oldest request is taken, and of the requests that are skipped the counted ones are booked:
-    -- `before` were so before, and `after` are so after
-    abbrev pub TakesBooked : MailboxState T → ℕ → Option (Request T) → MailboxState T → ℕ → Type 0
-    TakesBooked old before result new after =
-        (skipped : List (Request T)) × Takes old result skipped new × (after ≡ before + counted_in skipped)
-
-    -- and its ticket and message are given
-    abbrev pub TakesOut : MailboxState T → ℕ → Option (ℕ × T) → MailboxState T → ℕ → Type 0
-    TakesOut old before result new after =
-        (request : Option (Request T)) × TakesBooked old before request new after × (result ≡ taken_of request)
 
   -- a stop is asked for
   abbrev pub RequestsStop : MailboxState T → MailboxState T → Type 0

@@ -86,8 +86,7 @@ module _ {T : Type 0} where
 
   module _ (answers : T → Bool → Type 0) where
     -- what a push may return, and the queue that it leaves
-    abbrev pub Pushes :
-        QueueState T → T → Bool → Result Queued MailboxError → QueueState T → Type 0
+    abbrev pub Pushes : QueueState T → T → Bool → Result Queued MailboxError → QueueState T → Type 0
     Pushes old message counted (Ok queued.Closed) new = (old.closed ≡ true) × (new ≡ old)
     Pushes old message counted (Err Exhausted) new =
         (old.closed ≡ false) × (old.next ≡ last_ticket) × (new ≡ old)
@@ -104,8 +103,7 @@ module _ {T : Type 0} where
 
     -- what a pop may return, what it skips, and the queue that it leaves: the front of the ready
     -- list is removed, and then the ready list is filled from the overflow
-    abbrev pub Pops :
-        QueueState T → Option (Request T) → List (Request T) → QueueState T → Type 0
+    abbrev pub Pops : QueueState T → Option (Request T) → List (Request T) → QueueState T → Type 0
     Pops old None skipped new = (waiting old ≡ []) × (skipped ≡ []) × (new ≡ old)
     Pops old (Some request) skipped new =
         (rest : List (Request T))
@@ -118,10 +116,6 @@ module _ {T : Type 0} where
   abbrev pub queue_after : ℕ → ℕ → QueueState T
   queue_after size drawn =
       record { size = size; ready = []; overflow = []; closed = false; next = drawn }
-
-  -- an open, empty queue with no ticket drawn
-  abbrev pub empty_queue : ℕ → QueueState T
-  empty_queue size = queue_after size 0
 
   -- the queue closed, with no request left
   abbrev pub shut_down : QueueState T → QueueState T

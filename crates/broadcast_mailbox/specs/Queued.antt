@@ -1,11 +1,9 @@
 -- Believed.
 -- What the caller of a broadcast is told.
-use Rattle.std.specs.Prelude.{Result, Ok, Err}
 use Rattle.broadcast_mailbox.specs.declared.buffered.ingress.message.Queued.{Queued}
 use Rattle.broadcast_mailbox.specs.declared.buffered.ingress.message.Queued.TheVariants as queued
 use Rattle.broadcast_mailbox.specs.declared.broadcaster.Feedback.{Feedback}
 use Rattle.broadcast_mailbox.specs.declared.broadcaster.Feedback.TheVariants as feedback
-use Rattle.broadcast_mailbox.specs.declared.broadcaster.MailboxError.{MailboxError}
 
 -- a message in the ready list is accepted, one that found it full is accepted with a warning to
 -- back off, and one that found the mailbox closed is not accepted
@@ -14,8 +12,3 @@ feedback_of (queued.Ready ticket) = feedback.Ok
 feedback_of (queued.Overflow ticket) = feedback.Backoff
 feedback_of (queued.Skipped ticket) = feedback.Backoff
 feedback_of queued.Closed = feedback.Closed
-
--- an error of the inbox is an error of the broadcast
-abbrev pub answer_of : Result Queued MailboxError → Result Feedback MailboxError
-answer_of (Ok queued) = Ok (feedback_of queued)
-answer_of (Err error) = Err error

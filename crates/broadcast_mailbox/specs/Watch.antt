@@ -9,19 +9,11 @@ use Rattle.broadcast_mailbox.specs.declared.buffered.ingress.message.Kind.TheVar
 -- whether the kind is that of a broadcast
 abbrev pub is_broadcast : Kind → Bool
 is_broadcast kind.Broadcast = true
-is_broadcast kind.Subscribe = false
-is_broadcast kind.Get = false
+is_broadcast _ = false
 
 -- the watch matches no other requests than broadcasts
 abbrev pub BroadcastsOnly : {D : Type 0} → (Kind → D → Bool) → Type 0
 BroadcastsOnly {D} watched = (kind : Kind) (digest : D) → watched kind digest ≡ true → is_broadcast kind ≡ true
-
--- whether the watch matches a request, whose digest is the one that it asks for or that was handed
--- in with its message
-abbrev pub is_watched : {P M S G D : Type 0} → (Kind → D → Bool) → Message P M S G D → Bool
-is_watched watched (variant.Broadcast recipients message) = watched kind.Broadcast message.digest
-is_watched watched (variant.Subscribe digest responder) = watched kind.Subscribe digest
-is_watched watched (variant.Get digest responder) = watched kind.Get digest
 
 -- what a request asks for
 abbrev pub kind_of : {P M S G D : Type 0} → Message P M S G D → Kind

@@ -21,14 +21,11 @@ pub struct Relayed {
 /// refuses one.
 ///
 /// Fails if the places for the feedbacks can't be allocated, before anything is broadcast.
-pub fn relay_to<P, B>(
+pub fn relay_to<P: Drop + 'static, B: Broadcaster<Recipients = Recipients<P>>>(
     alloc: Global,
     broadcaster: &B,
     messages: Vec<B::Message>,
 ) -> Result<Relayed, AllocError>
-where
-    P: Drop + 'static,
-    B: Broadcaster<Recipients = Recipients<P>>,
     ensures { IfOk result (λ relayed. AreAnswered
         (λ message answer. B.may_answer broadcaster.now to.All message answer)
         messages.items relayed.feedbacks.items relayed.refused) }

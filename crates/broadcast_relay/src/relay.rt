@@ -2,9 +2,8 @@
 ghost use Rattle.std.specs.Prelude.{◌≡◌, ◌<◌, length, IfOk};
 ghost use Rattle.std.specs.List.{All};
 ghost use Rattle.std.specs.List.Sorted.{IsStrictlyIncreasing};
-ghost use Rattle.broadcast_core.specs.Codec.{whole};
+ghost use Rattle.broadcast_core.specs.Setting.{whole, setting};
 ghost use Rattle.broadcast_core.specs.Content.{same_by};
-ghost use Rattle.broadcast_core.specs.Setting.{setting};
 ghost use Rattle.broadcast_core.specs.Log.{is_refused};
 ghost use Rattle.broadcast_relay.specs.Relay.{relay};
 ghost use Rattle.broadcast_relay.specs.Relayed.{AreRefusable, IsRelay, history_but, places_from};

@@ -9,15 +9,14 @@ use Rattle.broadcast_core.specs.Carried.{Carried}
 use Rattle.broadcast_core.specs.Content.{among, digests_of}
 use Rattle.broadcast_core.specs.Company.{stayed}
 use Rattle.std.specs.Option.{option_to_list}
-use Rattle.broadcast_core.specs.Setting.{own_digested}
-use Rattle.broadcast_core.specs.Codec.{whole}
+use Rattle.broadcast_core.specs.Setting.{own_digested, whole}
 use Rattle.broadcast_core.specs.TestMessage.{Parts, encoding_of, read_message}
 use Rattle.broadcast_core.specs.Happening.{Happening, Future, peers, broadcast, arrival, subscribe, get, cleanup, taken, takes, carried_by}
 use Rattle.broadcast_core.specs.Peers.{primary, is_primary, since}
-use Rattle.broadcast_core.specs.Lists.{charged, charged_list, digest_under, digests_under, list}
+use Rattle.broadcast_core.specs.Lists.{charged, charged_list, digest_under, digests_under, list, outcome}
 use Rattle.broadcast_core.specs.Cache.{is_listed, message}
 use Rattle.broadcast_core.specs.Waiting.{Awaiting, cleans, reply_from, reply, waits, comes_after, subscribes, waiting, replied_at}
-use Rattle.broadcast_core.specs.Answers.{answer_to, answer_to_taking, answer_to_broadcast, answer_to_payload, answer_to_subscribe, may_allocate, outcome}
+use Rattle.broadcast_core.specs.Answers.{answer_to, answer_to_taking, answer_to_broadcast, answer_to_payload, answer_to_subscribe, may_allocate}
 use Rattle.broadcast_core.specs.Log.{after, arrived}
 use Rattle.broadcast_core.specs.declared.codec.CodecError.{CodecError}
 use Rattle.broadcast_core.specs.declared.event.Event.TheVariants.{Peers, Broadcast, Payload, Subscribe, Get, Cleanup}

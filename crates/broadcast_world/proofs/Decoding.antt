@@ -2,7 +2,8 @@
 use Rattle.std.proofs.Common.{◌≡◌, ℕ, true, List, [], length, Some, Result, Ok, Err, refl, ap, ◌∙◌, append-nil}
 use Rattle.std.specs.Prelude.{◌==◌}
 use Rattle.std.proofs.lemmas.Bool.{eq-eqb}
-use Rattle.broadcast_core.specs.Codec.{all_taken, layout_of, whole}
+use Rattle.broadcast_core.specs.Codec.{layout_of}
+use Rattle.broadcast_core.specs.Setting.{all_taken, whole}
 use Rattle.broadcast_core.specs.MessageLaws.{message_reads_back}
 use Rattle.broadcast_core.specs.TestMessage.{Parts, encoding_of, read_message}
 use Rattle.broadcast_core.specs.declared.codec.CodecError.{CodecError}

@@ -20,7 +20,8 @@ use Rattle.broadcast_core.specs.declared.event.Sent.{Sent}
 use Rattle.broadcast_core.proofs.Distinct.{by_test}
 use Rattle.broadcast_world.specs.Scene.{Scene}
 use Rattle.broadcast_world.specs.World.{NodeHistory, at}
-use Rattle.broadcast_world.specs.Steps.{HasNode, NodeContent, NodeFollows, NodeTakes}
+use Rattle.broadcast_world.specs.Steps.{HasNode, NodeContent}
+use Rattle.broadcast_world.specs.Nodes.{NodeFollows, NodeTakes}
 use Rattle.broadcast_world.proofs.Copied.{Twin, twin_peers, twin_arrival, twin_broadcast, twin_subscribe, twin_get, twin_cleanup, given, kept, TwinEvent, given_event, kept_event, primary-twin, charged-twin, message-twin, waiting-twin, answer-twin, refusable-twin, after-twins, after-given, after-kept}
 
 module _ {P : Type 0} {same : P → P → Bool} (laws : IsEquivalence same) where

@@ -17,7 +17,7 @@ use Rattle.broadcast_core.specs.Content.{among}
 use Rattle.broadcast_core.specs.Peers.{primary}
 use Rattle.broadcast_core.specs.Lists.{list}
 use Rattle.broadcast_core.specs.Cache.{is_listed, message}
-use Rattle.broadcast_core.specs.Codec.{whole}
+use Rattle.broadcast_core.specs.Setting.{whole}
 use Rattle.broadcast_core.specs.TestMessage.{Parts, encoding_of, read_message}
 use Rattle.broadcast_core.specs.Log.{after, arrived, is_refused}
 use Rattle.broadcast_core.specs.Answers.{answer_to, answer_to_broadcast, answer_to_payload, answer_to_subscribe}

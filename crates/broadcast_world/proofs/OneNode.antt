@@ -21,8 +21,9 @@ use Rattle.broadcast_core.specs.declared.event.Answer.{Answer}
 use Rattle.broadcast_world.specs.Scene.{Scene}
 use Rattle.broadcast_world.specs.World.{NodeEvent, addressed, event_at, made_by, packets_by, packets_to, unless_refused}
 use Rattle.broadcast_world.specs.Packet.{Packet}
-use Rattle.broadcast_world.specs.Made.{AreEmpty, no_content}
-use Rattle.broadcast_world.specs.Steps.{AreCopies, AtNode, HasNode, NodeContent, NodeFollows}
+use Rattle.broadcast_world.specs.Nodes.{AreEmpty, AtNode, NodeFollows}
+use Rattle.broadcast_core.specs.Empty.{empty}
+use Rattle.broadcast_world.specs.Steps.{AreCopies, HasNode, NodeContent}
 use Rattle.broadcast_world.specs.declared.step.WorldAnswer.{WorldAnswer}
 use Rattle.broadcast_world.specs.declared.step.WorldAnswer.TheVariants.{Given, NoSuch}
 
@@ -61,7 +62,7 @@ module _ {P : Type 0} (cmp : P → P → Ordering) (w : Scene P) where
   NodeFollows-cause n r c core Memory memory none = NodeFollows-refused n r c core (memory refl)
   NodeFollows-cause n r c core Unencodable memory none = NodeFollows-unencodable n r c core (none refl)
 
-  no_history : (n : P) (core : NodeContent P) → eq_by_cmp cmp n core.own ≡ true → core ≡ no_content core.own w.deque_size w.byte_budget → HasNode cmp w n [] core
+  no_history : (n : P) (core : NodeContent P) → eq_by_cmp cmp n core.own ≡ true → core ≡ empty core.own w.deque_size w.byte_budget → HasNode cmp w n [] core
   no_history n core own is = subst (HasNode cmp w n []) (sym is) (record {
     own = own;
     deque_size = refl;
@@ -73,7 +74,7 @@ module _ {P : Type 0} (cmp : P → P → Ordering) (w : Scene P) where
   })
 
   nothing_kept : P → NodeContent P
-  nothing_kept own = no_content own 0 0
+  nothing_kept own = empty own 0 0
 
   -- no content changes
   pub AtNode-refused : {named : Option P} (n : P) {e : NodeEvent P} (place : ℕ) (cores : List (NodeContent P)) {a : Answer Parts (List ℕ)}

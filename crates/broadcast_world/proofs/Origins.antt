@@ -8,7 +8,7 @@ use Rattle.std.specs.Ordering.{eq_by_cmp}
 use Rattle.std.specs.declared.cmp.Ordering.{Ordering}
 use Rattle.broadcast_core.proofs.Distinct.{by_test, or_right, list_any-append}
 use Rattle.broadcast_core.specs.Carried.{Carried}
-use Rattle.broadcast_core.specs.Codec.{all_taken, whole}
+use Rattle.broadcast_core.specs.Setting.{all_taken, whole}
 use Rattle.broadcast_core.specs.MessageLaws.{message_reads_back}
 use Rattle.broadcast_core.specs.Content.{first_places, among, list_at, digests_of}
 use Rattle.broadcast_core.specs.Happening.{Happening, peers, broadcast, arrival, subscribe, get, cleanup, taken}

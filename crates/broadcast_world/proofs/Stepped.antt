@@ -11,7 +11,8 @@ use Rattle.broadcast_core.specs.declared.event.Answer.{Answer}
 use Rattle.broadcast_world.specs.Packet.{Packet}
 use Rattle.broadcast_world.specs.Scene.{Scene}
 use Rattle.broadcast_world.specs.World.{Log, NodeEvent, NodeHistory, at, packets, made_by, unless_refused, event_of, history, history_with}
-use Rattle.broadcast_world.specs.Steps.{AreCopies, AtNode, ChangesNode, HasNode, HasWorld, NodeContent, TakesStep}
+use Rattle.broadcast_world.specs.Steps.{AreCopies, HasNode, HasWorld, NodeContent}
+use Rattle.broadcast_world.specs.Nodes.{AtNode, ChangesNode, TakesStep}
 use Rattle.broadcast_world.specs.declared.step.Step.{Step}
 use Rattle.broadcast_world.specs.declared.step.WorldAnswer.{WorldAnswer}
 use Rattle.broadcast_world.specs.declared.step.WorldAnswer.TheVariants.{Given}

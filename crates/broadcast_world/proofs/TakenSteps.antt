@@ -5,7 +5,8 @@ use Rattle.std.specs.declared.cmp.Ordering.{Ordering}
 use Rattle.std.proofs.lemmas.List.{reverse-append, take_more}
 use Rattle.broadcast_world.specs.Scene.{State}
 use Rattle.broadcast_world.specs.World.{Log, log_of, MayAnswer, AreAnswered}
-use Rattle.broadcast_world.specs.Steps.{HasWorld, TakesStep, TakesSteps}
+use Rattle.broadcast_world.specs.Steps.{HasWorld, TakesSteps}
+use Rattle.broadcast_world.specs.Nodes.{TakesStep}
 use Rattle.broadcast_world.specs.declared.step.Step.{Step}
 use Rattle.broadcast_world.specs.declared.step.WorldAnswer.{WorldAnswer}
 

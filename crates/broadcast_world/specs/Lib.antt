@@ -7,3 +7,4 @@ pub mod Broadcasts
 pub mod TwoRuns
 pub mod Requests
 pub mod SameAnswers
+pub mod Nodes

@@ -1,7 +1,7 @@
 -- Believed.
 -- What a world is made with, and how its nodes are looked up.
-use Rattle.std.specs.Prelude.{◌≡◌, ℕ, IsTrue, Bool, false, ◌||◌, List, [], ◌∷◌, Option}
-use Rattle.std.specs.List.{AllZip, find, list_any, zip}
+use Rattle.std.specs.Prelude.{Bool, false, ◌||◌, List, [], ◌∷◌, Option}
+use Rattle.std.specs.List.{find, list_any, zip}
 use Rattle.std.specs.Option.{option_map}
 use Rattle.std.specs.Ordering.{eq_by_cmp}
 use Rattle.std.specs.declared.cmp.Ordering.{Ordering}
@@ -23,21 +23,3 @@ module _ {P : Type 0} (cmp : P → P → Ordering) where
   abbrev pub content_of : State P → P → Option (NodeContent P)
   content_of world p =
       option_map (λ e. e.1) (find (λ e. eq_by_cmp cmp p e.0) (zip world.scene.nodes world.cores))
-
--- the content of a node without a history
-abbrev pub no_content : {P : Type 0} → P → ℕ → ℕ → NodeContent P
-no_content own deque_size byte_budget = record {
-  own = own;
-  deque_size = deque_size;
-  byte_budget = byte_budget;
-  primary = [];
-  lists = [];
-  cached = [];
-  waiters = [];
-}
-
--- one node without a history for each key; its own key is a copy, which equals that given
-abbrev pub AreEmpty : {P : Type 0} → (P → P → Ordering) → ℕ → ℕ → List P → List (NodeContent P)
-    → Type 0
-AreEmpty cmp deque_size byte_budget nodes cores = AllZip (λ n core.
-    IsTrue (eq_by_cmp cmp n core.own) × (core ≡ no_content core.own deque_size byte_budget)) nodes cores

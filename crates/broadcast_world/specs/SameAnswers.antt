@@ -7,7 +7,7 @@ use Rattle.std.specs.Cmp.Lexicographic.{slice_cmp}
 use Rattle.std.specs.declared.cmp.Ordering.{Ordering}
 use Rattle.sha2.specs.Sha256.{sha256}
 use Rattle.broadcast_core.specs.Carried.{Carried}
-use Rattle.broadcast_core.specs.Codec.{whole}
+use Rattle.broadcast_core.specs.Setting.{whole}
 use Rattle.broadcast_core.specs.TestMessage.{Parts, read_message}
 use Rattle.broadcast_core.specs.declared.codec.CodecError.{CodecError}
 use Rattle.broadcast_core.specs.declared.event.Event.TheVariants as event

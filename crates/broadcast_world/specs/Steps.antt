@@ -1,7 +1,7 @@
 -- Believed.
 -- What steps leave of a world.
-use Rattle.std.specs.Prelude.{◌≡◌, ℕ, IsTrue, if◌then◌else◌, List, ◌∷◌, ◌++◌, length, Option, None, Some, slice_set}
-use Rattle.std.specs.List.{AllZip, slice_get}
+use Rattle.std.specs.Prelude.{◌≡◌, ℕ, IsTrue, List, ◌++◌, length}
+use Rattle.std.specs.List.{AllZip}
 use Rattle.std.specs.declared.cmp.Ordering.{Ordering}
 use Rattle.std.specs.Ordering.{eq_by_cmp}
 use Rattle.broadcast_core.specs.Content.{Content, charged_at, message_at, waiting_at}
@@ -11,14 +11,11 @@ use Rattle.broadcast_core.specs.Lists.{charged_list}
 use Rattle.broadcast_core.specs.Cache.{message}
 use Rattle.broadcast_core.specs.Waiting.{waiting_for}
 use Rattle.broadcast_core.specs.TestMessage.{Parts}
-use Rattle.broadcast_core.specs.Log.{after, is_refused}
-use Rattle.broadcast_core.specs.declared.event.Answer.{Answer}
 use Rattle.broadcast_world.specs.Packet.{Packet}
 use Rattle.broadcast_world.specs.Scene.{Scene, State}
-use Rattle.broadcast_world.specs.World.{Log, log_of, NodeEvent, NodeHistory, NodeMayAnswer, at, packets, history, MayAnswer, AreAnswered}
+use Rattle.broadcast_world.specs.World.{Log, log_of, NodeHistory, at, packets, history, AreAnswered}
 use Rattle.broadcast_world.specs.declared.step.Step.{Step}
 use Rattle.broadcast_world.specs.declared.step.WorldAnswer.{WorldAnswer}
-use Rattle.broadcast_world.specs.declared.step.WorldAnswer.TheVariants.{Given, NoSuch}
 
 abbrev pub NodeContent : Type 0 → Type 0
 NodeContent P = Content P Parts (List ℕ) ℕ
@@ -35,37 +32,6 @@ module _ {P : Type 0} (cmp : P → P → Ordering) (w : Scene P) where
     pub waiters :
         (d : List ℕ) → waiting_at (at cmp w n).same core d ≡ waiting_for (at cmp w n) d past
 
-  -- an event at node n, after a history of it, is given an answer that it may have; refused, it
-  -- changes nothing
-  pub record NodeTakes (n : P) (past : NodeHistory P) (e : NodeEvent P)
-      (a : Answer Parts (List ℕ)) (new : NodeContent P) : Type 0 where
-    pub answered : NodeMayAnswer cmp w n e past a
-    pub content : HasNode n (if is_refused a then past else after (at cmp w n) e past) new
-
-  -- whatever history gave the node its content
-  abbrev pub NodeFollows : P → NodeEvent P → NodeContent P → NodeContent P
-      → Answer Parts (List ℕ) → Type 0
-  NodeFollows n e old new a =
-      (past : NodeHistory P) → HasNode n past old → NodeTakes n past e a new
-
-  -- an event at node n changes that node's content alone
-  pub record ChangesNode (n : P) (e : NodeEvent P) (a : Answer Parts (List ℕ))
-      (old new : List (NodeContent P)) : Type 0 where
-    pub place : ℕ
-    pub is_node : slice_get w.nodes place ≡ Some n
-    pub before : NodeContent P
-    pub was : slice_get old place ≡ Some before
-    pub core : NodeContent P
-    pub only : new ≡ slice_set old place core
-    pub follows : NodeFollows n e before core a
-
-  -- an event at a node is given the node's answer; without an event nothing changes
-  abbrev pub AtNode : Option (P × NodeEvent P) → List (NodeContent P) → List (NodeContent P)
-      → WorldAnswer → Type 0
-  AtNode None old new answer = (answer ≡ NoSuch) × (new ≡ old)
-  AtNode (Some e) old new answer =
-      (a : Answer Parts (List ℕ)) × (answer ≡ Given a) × ChangesNode e.0 e.1 a old new
-
 module _ {P : Type 0} (cmp : P → P → Ordering) where
   -- the packets are the same, one by one; their keys are copies, which equal those given
   abbrev pub AreCopies : List (Packet P) → List (Packet P) → Type 0
@@ -78,13 +44,6 @@ module _ {P : Type 0} (cmp : P → P → Ordering) where
     pub cores : AllZip (λ n core. HasNode cmp now.scene n (history cmp now.scene n log) core)
         now.scene.nodes now.cores
     pub packets : AreCopies now.packets (packets cmp now.scene log)
-
-  -- one more step, after a log
-  pub record TakesStep (log : Log P) (step : Step P) (answer : WorldAnswer)
-      (old new : State P) : Type 0 where
-    pub scene : new.scene ≡ old.scene
-    pub answered : MayAnswer cmp old.scene (step, answer) log
-    pub world : HasWorld ((step, answer) ∷ log) new
 
   -- a list of steps, after a log
   pub record TakesSteps (log : Log P) (steps : List (Step P)) (answers : List WorldAnswer)

@@ -7,10 +7,9 @@ use Rattle.std.specs.Ordering.{eq_by_cmp, nat_cmp}
 use Rattle.std.specs.Cmp.Lexicographic.{slice_cmp}
 use Rattle.std.specs.declared.cmp.Ordering.{Ordering}
 use Rattle.sha2.specs.Sha256.{sha256}
-use Rattle.broadcast_core.specs.Codec.{whole}
+use Rattle.broadcast_core.specs.Setting.{whole, Setting, setting}
 use Rattle.broadcast_core.specs.Content.{same_by, first_places, without}
 use Rattle.broadcast_core.specs.TestMessage.{Parts, encoding_of, read_message}
-use Rattle.broadcast_core.specs.Setting.{Setting, setting}
 use Rattle.broadcast_core.specs.Happening.{History}
 use Rattle.broadcast_core.specs.Log.{after, is_refused}
 use Rattle.broadcast_core.specs.Answers.{answer_to, may_allocate}

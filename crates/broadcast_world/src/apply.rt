@@ -7,7 +7,8 @@ ghost use Rattle.broadcast_core.specs.declared.event.Event.TheVariants as event;
 ghost use Rattle.broadcast_world.specs.Packet.{Packet as Keyed};
 ghost use Rattle.broadcast_world.specs.Scene.{Scene};
 ghost use Rattle.broadcast_world.specs.World.{delivery, event_at, event_of, made_by, unless_refused};
-ghost use Rattle.broadcast_world.specs.Steps.{AreCopies, AtNode};
+ghost use Rattle.broadcast_world.specs.Steps.{AreCopies};
+ghost use Rattle.broadcast_world.specs.Nodes.{AtNode};
 
 use crate::broadcast::broadcast;
 use crate::nodes::Nodes;

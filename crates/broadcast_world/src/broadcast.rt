@@ -7,7 +7,8 @@ ghost use Rattle.broadcast_core.specs.declared.ordered.Recipients.{Recipients};
 ghost use Rattle.broadcast_world.specs.Packet.{Packet as Keyed};
 ghost use Rattle.broadcast_world.specs.Scene.{Scene};
 ghost use Rattle.broadcast_world.specs.World.{NodeEvent, event_at, made_by, packets_by, packets_to, addressed, unless_refused};
-ghost use Rattle.broadcast_world.specs.Steps.{AreCopies, AtNode, NodeFollows};
+ghost use Rattle.broadcast_world.specs.Steps.{AreCopies};
+ghost use Rattle.broadcast_world.specs.Nodes.{AtNode, NodeFollows};
 ghost use Rattle.broadcast_world.specs.declared.step.WorldAnswer.TheVariants as world;
 
 use crate::encoded::Encoded;

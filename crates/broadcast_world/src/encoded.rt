@@ -1,7 +1,8 @@
 //! A message with its encoding.
 ghost use Rattle.std.specs.Prelude.{◌≡◌, true, Some, None, is_some, IfOk, Err};
 ghost use Rattle.sha2.specs.Sha256.{sha256};
-ghost use Rattle.broadcast_core.specs.Codec.{Gives, whole};
+ghost use Rattle.broadcast_core.specs.Codec.{Gives};
+ghost use Rattle.broadcast_core.specs.Setting.{whole};
 ghost use Rattle.broadcast_core.specs.TestMessage.{encoding_of, read_message};
 
 use broadcast_core::{Cause, CodecError, Digested, Digestible, Items, RangeCfg, Read, TestMessage};

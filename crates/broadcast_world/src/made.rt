@@ -2,7 +2,8 @@
 ghost use Rattle.std.specs.Prelude.{◌≡◌, IfOk};
 ghost use Rattle.std.specs.List.{list_any};
 ghost use Rattle.std.specs.Ordering.{eq_by_cmp};
-ghost use Rattle.broadcast_world.specs.Made.{AreEmpty, has_repeat, shares_key};
+ghost use Rattle.broadcast_world.specs.Made.{has_repeat, shares_key};
+ghost use Rattle.broadcast_world.specs.Nodes.{AreEmpty};
 
 use crate::packet::is_among;
 use broadcast_core::{Core, PublicKey, TestMessage};

@@ -2,13 +2,13 @@
 ghost use Rattle.std.specs.Prelude.{◌≡◌, ℕ, IsTrue, List, Some, Ok, IfOk, OnErr};
 ghost use Rattle.std.specs.Ordering.{eq_by_cmp};
 ghost use Rattle.sha2.specs.Sha256.{sha256};
-ghost use Rattle.broadcast_core.specs.Codec.{whole};
+ghost use Rattle.broadcast_core.specs.Setting.{whole};
 ghost use Rattle.broadcast_core.specs.TestMessage.{encoding_of, read_message};
 ghost use Rattle.broadcast_core.specs.declared.outcome.Outcome.{Outcome};
 ghost use Rattle.broadcast_core.specs.declared.ordered.Recipients.{Recipients};
 ghost use Rattle.broadcast_core.specs.declared.event.Answer.TheVariants as answer;
 ghost use Rattle.broadcast_world.specs.Scene.{Scene};
-ghost use Rattle.broadcast_world.specs.Steps.{NodeFollows};
+ghost use Rattle.broadcast_world.specs.Nodes.{NodeFollows};
 ghost use Rattle.broadcast_core.specs.declared.event.Event.TheVariants as event;
 
 use crate::encoded::Encoded;

@@ -3,10 +3,9 @@ ghost use Rattle.std.specs.Prelude.{◌≡◌, ◌<◌, IsTrue, None, Some, leng
 ghost use Rattle.std.specs.Arc.{arc_value};
 ghost use Rattle.std.specs.List.{find, slice_get};
 ghost use Rattle.std.specs.Ordering.{eq_by_cmp};
-ghost use Rattle.broadcast_world.specs.Made.{AreEmpty};
+ghost use Rattle.broadcast_world.specs.Nodes.{AreEmpty, AtNode};
 ghost use Rattle.broadcast_world.specs.Scene.{Scene};
 ghost use Rattle.broadcast_world.specs.World.{event_at};
-ghost use Rattle.broadcast_world.specs.Steps.{AtNode};
 ghost use Rattle.broadcast_core.specs.declared.event.Event.TheVariants as event;
 
 use crate::encoded::Encoded;

@@ -6,7 +6,8 @@ ghost use Rattle.std.specs.Option.{option_copied};
 ghost use Rattle.std.specs.Ordering.{eq_by_cmp};
 ghost use Rattle.broadcast_world.specs.World.{Log};
 ghost use Rattle.broadcast_world.specs.Made.{content_of, shares_key};
-ghost use Rattle.broadcast_world.specs.Steps.{HasWorld, TakesStep};
+ghost use Rattle.broadcast_world.specs.Steps.{HasWorld};
+ghost use Rattle.broadcast_world.specs.Nodes.{TakesStep};
 
 use crate::apply::apply;
 use crate::error::WorldError;

@@ -105,8 +105,7 @@ pub fn compare<P: PublicKey>(
     ensures deque_size { IfOk result (λ both. both.with_world.scene.deque_size ≡ deque_size) }
     ensures byte_budget { IfOk result (λ both. both.with_world.scene.byte_budget ≡ byte_budget) }
     ensures range { IfOk result (λ both. both.with_world.scene.range ≡ range) }
-    ensures same_scene { IfOk result (λ both.
-        both.without_world.scene ≡ both.with_world.scene) }
+    ensures same_scene { IfOk result (λ both. both.without_world.scene ≡ both.with_world.scene) }
     ensures with_run { IfOk result (λ both.
         IsRun P.cmp steps.now both.with_log.answers both.with_world) }
     ensures without_run { IfOk result (λ both.

@@ -17,19 +17,20 @@ use Rattle.engine_io.specs.declared.input.Turn.{Turn}
 use Rattle.engine_io.specs.declared.input.Turn.TheVariants as turn
 use Rattle.commonware_broadcast.specs.declared.buffered.engine.node.Node.{Node}
 use Rattle.engine_io.specs.Counters.{Counters, number_at}
+use Rattle.broadcast_core.specs.declared.event.Sent.{Sent}
 use Rattle.engine_io.specs.Replies.{Asker, Replies}
 use Rattle.commonware_broadcast.specs.EngineHistory.{Step, applied, refused, happenings_at, happenings, peer_of, turns_at}
 use Rattle.commonware_broadcast.specs.StepLaws.{MayRefuse, MayRefuseRequest}
 use Rattle.commonware_broadcast.proofs.Counting.{IsNotDecoded, step-counted, step-waits}
-use Rattle.commonware_broadcast.specs.CountingCalls.{AppliesStep}
-use Rattle.commonware_broadcast.specs.AppliesSteps.{AppliesSteps, AppliesInput, AppliesAndSends, Replying, Sinks, requested}
+use Rattle.commonware_broadcast.specs.CountingCalls.{AppliesStep, requested}
+use Rattle.commonware_broadcast.specs.AppliesSteps.{AppliesSteps, AppliesInput, AppliesAndSends}
 use Rattle.commonware_broadcast.proofs.Composing.{told-same}
 use Rattle.commonware_broadcast.proofs.Sending.{Sends-silent, Sends-input}
 use Rattle.engine_io.specs.Inputs.{requests_in}
 
-module _ {P M D S G O : Type 0} {s : Setting P M D} {r : Replying M D S G O} {past : History P M D (Asker S) (Asker G)} where
-  pub AppliesSteps-one : {step : Step P M D S G} {old new : Node P M S O D} → AppliesStep s r.may_answer r.told past step old new → IsNotDecoded step
-      → AppliesSteps s r.may_answer r.told past (step ∷ []) old new
+module _ {P M D S G O : Type 0} {s : Setting P M D} {may_answer : Asker S → Bool → Type 0} {told : O → Replies S G M D → Type 0} {past : History P M D (Asker S) (Asker G)} where
+  pub AppliesSteps-one : {step : Step P M D S G} {old new : Node P M S O D} → AppliesStep s may_answer told past step old new → IsNotDecoded step
+      → AppliesSteps s may_answer told past (step ∷ []) old new
   AppliesSteps-one {step} {old} {new} one quiet = record {
     lawful = (one.lawful, tt);
     content = subst (λ hs. HasContent s (hs ++ past) new.core) (sym (append-nil (happenings_at step))) one.content;
@@ -39,34 +40,34 @@ module _ {P M D S G O : Type 0} {s : Setting P M D} {r : Replying M D S G O} {pa
   }
 
   abbrev pub AppliesInput-applied : {input : Input P M S G D} {replies : Replies S G M D} {result : Turn P D} {old new : Node P M S O D}
-      → AppliesStep s r.may_answer r.told past (applied input replies) old new → turns_at s (applied input replies) past ≡ result ∷ [] → AppliesInput s r past input result old new
+      → AppliesStep s may_answer told past (applied input replies) old new → turns_at s (applied input replies) past ≡ result ∷ [] → AppliesInput s may_answer told past input result old new
   AppliesInput-applied {input} {replies} one turned = record { step = applied input replies; of_input = refl; turned = turned; ran = AppliesSteps-one one tt }
 
   abbrev pub AppliesInput-refused : {input : Input P M S G D} {cause : Cause} {old new : Node P M S O D} → HasContent s past old.core → new ≡ old → MayRefuse s input cause past
-      → AppliesInput s r past input (turn.Refused (peer_of input) cause) old new
+      → AppliesInput s may_answer told past input (turn.Refused (peer_of input) cause) old new
   AppliesInput-refused {input} {cause} {old} has same may = record {
     step = refused input cause;
     of_input = refl;
     turned = refl;
-    ran = AppliesSteps-one (subst (λ n. AppliesStep s r.may_answer r.told past (refused input cause) old n) (sym same)
-        (record { lawful = may; content = has; counted = refl; replied = told-same r.told old.outlet })) tt;
+    ran = AppliesSteps-one (subst (λ n. AppliesStep s may_answer told past (refused input cause) old n) (sym same)
+        (record { lawful = may; content = has; counted = refl; replied = told-same told old.outlet })) tt;
   }
 
-module _ {P M D S G O N : Type 0} {s : Setting P M D} {k : Sinks P M D S G O N} {past : History P M D (Asker S) (Asker G)} where
+module _ {P M D S G O N : Type 0} {s : Setting P M D} {may_answer : Asker S → Bool → Type 0} {told : O → Replies S G M D → Type 0} {sender_told : N → List (Sent P) → Type 0} {past : History P M D (Asker S) (Asker G)} where
   -- an input at which nothing is sent
-  pub AppliesAndSends-silent : {input : Input P M S G D} {result : Turn P D} {old new : Node P M S O D} {sender : N} → (one : AppliesInput s k.of_replies past input result old new)
-      → sent s (happenings (one.step ∷ [])) ≡ [] → AppliesAndSends s k past input result (old, sender) (new, sender)
-  AppliesAndSends-silent {sender = sender} one none = record { handled = one; sends = Sends-silent s k.sender_told (one.step ∷ []) sender none }
+  pub AppliesAndSends-silent : {input : Input P M S G D} {result : Turn P D} {old new : Node P M S O D} {sender : N} → (one : AppliesInput s may_answer told past input result old new)
+      → sent s (happenings (one.step ∷ [])) ≡ [] → AppliesAndSends s may_answer told sender_told past input result (old, sender) (new, sender)
+  AppliesAndSends-silent {sender = sender} one none = record { handled = one; sends = Sends-silent s sender_told (one.step ∷ []) sender none }
 
   -- an input that is no request
   pub AppliesAndSends-handled : {input : Input P M S G D} {result : Turn P D} {old new : Node P M S O D} {sender : N} → requests_in (input ∷ []) ≡ []
-      → AppliesInput s k.of_replies past input result old new → AppliesAndSends s k past input result (old, sender) (new, sender)
-  AppliesAndSends-handled {input} {sender = sender} none one = record { handled = one; sends = Sends-input s k.sender_told input one.step sender one.of_input none }
+      → AppliesInput s may_answer told past input result old new → AppliesAndSends s may_answer told sender_told past input result (old, sender) (new, sender)
+  AppliesAndSends-handled {input} {sender = sender} none one = record { handled = one; sends = Sends-input s sender_told input one.step sender one.of_input none }
 
   -- the same request, its message written otherwise
   pub AppliesAndSends-message : {request : RequestOf (Message P M S G D)} {message : Message P M S G D} {result : Turn P D} {old new : Node P M S O D × N} → request.message ≡ message
-      → AppliesAndSends s k past (requested request.ticket request.counted message) result old new → AppliesAndSends s k past (Request request) result old new
-  AppliesAndSends-message {request} {result = result} {old} {new} is one = subst (λ m. AppliesAndSends s k past (requested request.ticket request.counted m) result old new) (sym is) one
+      → AppliesAndSends s may_answer told sender_told past (requested request.ticket request.counted message) result old new → AppliesAndSends s may_answer told sender_told past (Request request) result old new
+  AppliesAndSends-message {request} {result = result} {old} {new} is one = subst (λ m. AppliesAndSends s may_answer told sender_told past (requested request.ticket request.counted m) result old new) (sym is) one
 
 -- a broadcast whose encoding was refused
 pub may-refuse : {P M D S G : Type 0} (s : Setting P M D) (past : History P M D (Asker S) (Asker G)) (r : Recipients P) (c : Carried M D) (cause : Cause)

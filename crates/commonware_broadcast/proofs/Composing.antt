@@ -7,11 +7,11 @@ use Rattle.broadcast_core.specs.Waiting.{awaited}
 use Rattle.broadcast_core.specs.HasContent.{HasContent}
 use Rattle.commonware_broadcast.specs.declared.buffered.engine.node.Node.{Node}
 use Rattle.engine_io.specs.Counters.{raised, is_counted_as, number_at}
-use Rattle.engine_io.specs.Replies.{Asker}
+use Rattle.engine_io.specs.Replies.{Asker, Replies}
 use Rattle.commonware_broadcast.specs.EngineHistory.{Step, swept, applied, refused, decoded, uncounted, ended, happenings_at, happenings, handed_out_at, handed_out}
 use Rattle.commonware_broadcast.specs.StepLaws.{AreSteps, IsStep}
 use Rattle.commonware_broadcast.specs.Counting.{counted_at, counted, gauge}
-use Rattle.commonware_broadcast.specs.AppliesSteps.{AppliesSteps, Replying}
+use Rattle.commonware_broadcast.specs.AppliesSteps.{AppliesSteps}
 use Rattle.commonware_broadcast.proofs.Counting.{raised-none, raised-more, count-append}
 
 -- what told a list tells it with nothing after it
@@ -56,21 +56,21 @@ module _ {P M D S G : Type 0} (s : Setting P M D) where
   gauge-append (uncounted p c ∷ later) earlier past n = gauge-append later earlier past n
   gauge-append (ended cause ∷ later) earlier past n = gauge-append later earlier past n
 
-module _ {P M D S G O : Type 0} {s : Setting P M D} {r : Replying M D S G O} {past : History P M D (Asker S) (Asker G)} where
-  pub AppliesSteps-none : {node : Node P M S O D} → HasContent s past node.core → AppliesSteps s r.may_answer r.told past [] node node
+module _ {P M D S G O : Type 0} {s : Setting P M D} {may_answer : Asker S → Bool → Type 0} {told : O → Replies S G M D → Type 0} {past : History P M D (Asker S) (Asker G)} where
+  pub AppliesSteps-none : {node : Node P M S O D} → HasContent s past node.core → AppliesSteps s may_answer told past [] node node
   AppliesSteps-none {node} has = record {
     lawful = tt;
     content = has;
     counters = λ c. sym (raised-none (number_at s.same.key c node.metrics));
     waiters = refl;
-    replied = told-same r.told node.outlet;
+    replied = told-same told node.outlet;
   }
 
   -- steps, and then more
-  pub AppliesSteps-more : {earlier later : List (Step P M D S G)} {old mid new : Node P M S O D} → AppliesSteps s r.may_answer r.told past earlier old mid
-      → AppliesSteps s r.may_answer r.told (happenings earlier ++ past) later mid new → AppliesSteps s r.may_answer r.told past (later ++ earlier) old new
+  pub AppliesSteps-more : {earlier later : List (Step P M D S G)} {old mid new : Node P M S O D} → AppliesSteps s may_answer told past earlier old mid
+      → AppliesSteps s may_answer told (happenings earlier ++ past) later mid new → AppliesSteps s may_answer told past (later ++ earlier) old new
   AppliesSteps-more {earlier} {later} {old} {new = new} begun more = record {
-    lawful = AreSteps-append s r.may_answer later earlier past more.lawful begun.lawful;
+    lawful = AreSteps-append s may_answer later earlier past more.lawful begun.lawful;
     content = subst (λ hs. HasContent s hs new.core) (sym (history-append later earlier past)) more.content;
     counters = λ c.
         let test = is_counted_as s.same.key c in
@@ -78,6 +78,6 @@ module _ {P M D S G O : Type 0} {s : Setting P M D} {r : Replying M D S G O} {pa
         ∙ raised-more (number_at s.same.key c old.metrics) (count_by test (counted s earlier past)) (count_by test (counted s later (happenings earlier ++ past)))
         ∙ ap (raised (number_at s.same.key c old.metrics)) (sym (ap (count_by test) (counted-append s later earlier past) ∙ count-append test (counted s earlier past) (counted s later (happenings earlier ++ past))));
     waiters = more.waiters ∙ ap (gauge s later (happenings earlier ++ past)) begun.waiters ∙ sym (gauge-append s later earlier past old.metrics.totals.waiters);
-    replied = λ before h. subst (r.told new.outlet) (append_assoc before (handed_out earlier) (handed_out later) ∙ ap (λ rs. before ++ rs) (sym (handed_out-append later earlier)))
+    replied = λ before h. subst (told new.outlet) (append_assoc before (handed_out earlier) (handed_out later) ∙ ap (λ rs. before ++ rs) (sym (handed_out-append later earlier)))
         (more.replied (before ++ handed_out earlier) (begun.replied before h));
   }

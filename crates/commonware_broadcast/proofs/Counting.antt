@@ -6,9 +6,9 @@ use Rattle.broadcast_core.specs.Content.{Same}
 use Rattle.broadcast_core.specs.Setting.{Setting}
 use Rattle.broadcast_core.specs.Happening.{History, cleanup}
 use Rattle.broadcast_core.specs.Waiting.{Awaiting, waiting, awaited}
-use Rattle.broadcast_core.specs.HasContent.{named_by}
-use Rattle.broadcast_core.specs.Waiters.{counted}
-use Rattle.broadcast_core.specs.Answers.{outcome}
+use Rattle.broadcast_core.specs.Cleaned.{named_by}
+use Rattle.broadcast_core.specs.Counted.{counted}
+use Rattle.broadcast_core.specs.Lists.{outcome}
 use Rattle.broadcast_core.specs.declared.outcome.Outcome.{Outcome}
 use Rattle.broadcast_core.specs.declared.outcome.Outcome.TheVariants.{Inserted, Duplicate, Ineligible, Oversize}
 use Rattle.engine_io.specs.declared.input.Input.{Input}

@@ -11,8 +11,8 @@ use Rattle.engine_io.specs.Sources.{given}
 use Rattle.commonware_broadcast.specs.EngineHistory.{happenings, end_told}
 use Rattle.commonware_broadcast.specs.EngineState.{Moment}
 use Rattle.commonware_broadcast.specs.Interfaces.{Format, Interfaces}
-use Rattle.commonware_broadcast.specs.Polls.{Polls}
-use Rattle.commonware_broadcast.specs.TakesSteps.{TakesSteps, AlwaysTakes}
+use Rattle.commonware_broadcast.specs.Drives.{Polls, AlwaysTakes}
+use Rattle.commonware_broadcast.specs.TakesSteps.{TakesSteps}
 use Rattle.commonware_broadcast.proofs.Composing.{told-same}
 use Rattle.commonware_broadcast.proofs.Taking.{IsSetting-later, TakesSteps-none, TakesSteps-more}
 

@@ -16,7 +16,8 @@ use Rattle.commonware_broadcast.specs.EngineHistory.{end_told}
 use Rattle.commonware_broadcast.specs.EngineState.{EngineState, Moment}
 use Rattle.commonware_broadcast.specs.Interfaces.{Format, Interfaces}
 use Rattle.commonware_broadcast.specs.FirstSource.{UnlessPeerSet, EndsBy}
-use Rattle.commonware_broadcast.specs.Order.{UnlessPeers, IfNetwork, end_in}
+use Rattle.commonware_broadcast.specs.Order.{UnlessPeers, IfNetwork}
+use Rattle.commonware_broadcast.specs.Arrives.{end_in}
 use Rattle.commonware_broadcast.specs.Polls.{KeepsOrder, IsPoll}
 use Rattle.commonware_broadcast.specs.TakesSteps.{TakesPoll, Always}
 

@@ -11,7 +11,9 @@ use Rattle.commonware_broadcast.specs.declared.buffered.engine.report.Report.{Re
 use Rattle.commonware_broadcast.specs.EngineHistory.{end_told}
 use Rattle.commonware_broadcast.specs.EngineState.{Moment}
 use Rattle.commonware_broadcast.specs.Interfaces.{Format, Interfaces}
-use Rattle.commonware_broadcast.specs.Polls.{IsPoll, Polls, SomePolls, ShowsPolls, ShowsPollsTo, ShowsRun, unended}
+use Rattle.commonware_broadcast.specs.Polls.{IsPoll}
+use Rattle.commonware_broadcast.specs.Drives.{Polls}
+use Rattle.commonware_broadcast.specs.Shown.{SomePolls, ShowsPolls, ShowsPollsTo, ShowsRun, unended}
 
 -- a poll after others that had these turns, and what they are with its own
 pub record Next {P M D S G O J N V B Q C T : Type 0} (f : Format P M D C) (i : Interfaces P M D S G O J N V B Q) (mid new : Moment P M S O D J B Q C T N V) (turns listed : List (Turn P D)) : Type 0 where

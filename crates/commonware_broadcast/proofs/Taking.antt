@@ -14,12 +14,12 @@ use Rattle.engine_io.specs.declared.input.Input.TheVariants.{Peers, Request, Arr
 use Rattle.engine_io.specs.declared.input.Turn.{Turn}
 use Rattle.engine_io.specs.declared.input.Turn.TheVariants.{Ended}
 use Rattle.engine_io.specs.Inputs.{sets_in, requests_in, payloads_in}
-use Rattle.engine_io.specs.Refused.{refuses, is_request, outcome_of}
+use Rattle.engine_io.specs.Refused.{refuses, is_request}
 use Rattle.engine_io.specs.Replies.{Asker}
 use Rattle.engine_io.specs.Sources.{given}
 use Rattle.commonware_broadcast.specs.declared.buffered.engine.node.Node.{Node}
-use Rattle.commonware_broadcast.specs.AppliesSteps.{AppliesSteps, AppliesAndSends, Sends, sinks}
-use Rattle.commonware_broadcast.specs.CountingCalls.{AppliesStep}
+use Rattle.commonware_broadcast.specs.AppliesSteps.{AppliesSteps, AppliesAndSends, Sends}
+use Rattle.commonware_broadcast.specs.CountingCalls.{AppliesStep, outcome_of}
 use Rattle.commonware_broadcast.specs.Arrives.{Arrival, Arrives, message_of, payload_of, input_of, reader_of}
 use Rattle.commonware_broadcast.specs.EngineHistory.{Step, IsSweptOnce, swept, ended, happenings, inputs, inputs_at, outcomes, outcomes_at, read_from, read_from_at, end_of, sweeps, turns, turns_at}
 use Rattle.commonware_broadcast.specs.EngineState.{Moment}
@@ -142,12 +142,12 @@ pub record Course (P M D S G O J N V B Q C T : Type 0) : Type 1 where
 
 module _ {P M D S G O J N V B Q C T : Type 0} {x : Course P M D S G O J N V B Q C T} where
   -- the engine stays, and the network gives nothing
-  abbrev pub TakesSteps-none : {listed : List (Turn P D)} → HasContent x.s x.past x.old.engine.node.core → Holds x.i.of_arrivals.is_of x.old.engine.end x.old.engine.job x.before → (x.old.engine.end ≡ None → listed ≡ [])
+  abbrev pub TakesSteps-none : {listed : List (Turn P D)} → HasContent x.s x.past x.old.engine.node.core → Holds x.i.is_of x.old.engine.end x.old.engine.job x.before → (x.old.engine.end ≡ None → listed ≡ [])
       → x.new.engine ≡ x.old.engine → x.new.sender ≡ x.old.sender → ((told : List (P × List ℕ)) → x.i.receiver.told x.old.receiver told → x.i.receiver.told x.new.receiver (told ++ []))
       → TakesSteps x.s x.i x.past x.before x.old x.new listed
   TakesSteps-none has held none same sender gives = record {
     steps = [];
-    ran = subst (λ e. AppliesSteps x.s x.i.of_arrivals.may_answer x.i.of_arrivals.outlet.told x.past [] x.old.engine.node e.node) (sym same) (AppliesSteps-none has);
+    ran = subst (λ e. AppliesSteps x.s x.i.may_answer x.i.outlet.told x.past [] x.old.engine.node e.node) (sym same) (AppliesSteps-none has);
     sends = subst (λ n. Sends {S = S} {G = G} x.s x.i.sender.told [] x.old.sender n) (sym sender) (Sends-silent {S = S} {G = G} x.s x.i.sender.told [] x.old.sender refl);
     due = refl;
     turned = λ lives. sym (none lives);
@@ -158,20 +158,20 @@ module _ {P M D S G O J N V B Q C T : Type 0} {x : Course P M D S G O J N V B Q 
     received = [];
     given = gives;
     pending = x.before;
-    held = subst (λ e. Holds x.i.of_arrivals.is_of e.end e.job x.before) (sym same) held;
+    held = subst (λ e. Holds x.i.is_of e.end e.job x.before) (sym same) held;
     flow = append-nil (pending_input x.s x.before);
     read = refl;
   }
 
   -- one step, which takes nothing from the network
-  abbrev TakesSteps-step : {step : Step P M D S G} {listed : List (Turn P D)} → AppliesSteps x.s x.i.of_arrivals.may_answer x.i.of_arrivals.outlet.told x.past (step ∷ []) x.old.engine.node x.new.engine.node
+  abbrev TakesSteps-step : {step : Step P M D S G} {listed : List (Turn P D)} → AppliesSteps x.s x.i.may_answer x.i.outlet.told x.past (step ∷ []) x.old.engine.node x.new.engine.node
       → Sends x.s x.i.sender.told (step ∷ []) x.old.sender x.new.sender → turns_at x.s step x.past ≡ listed → x.new.engine.end ≡ end_of (step ∷ []) → Gave x.i x.old x.new (inputs_at step) (outcomes_at step) []
-      → read_from_at step ≡ [] → Holds x.i.of_arrivals.is_of x.new.engine.end x.new.engine.job x.before → TakesSteps x.s x.i x.past x.before x.old x.new listed
+      → read_from_at step ≡ [] → Holds x.i.is_of x.new.engine.end x.new.engine.job x.before → TakesSteps x.s x.i x.past x.before x.old x.new listed
   TakesSteps-step {step} ran sends turned ends gave reads held = record {
     steps = step ∷ [];
     ran = ran;
     sends = sends;
-    due = all-due x.s x.past x.i.of_arrivals.may_answer (step ∷ []) ran.lawful;
+    due = all-due x.s x.past x.i.may_answer (step ∷ []) ran.lawful;
     turned = λ _. turned;
     ends = λ _. ends;
     sets = gave.sets;
@@ -187,8 +187,8 @@ module _ {P M D S G O J N V B Q C T : Type 0} {x : Course P M D S G O J N V B Q 
 
   -- one input, which was applied or refused
   pub TakesOnly-input : {input : Input P M S G D} {turn : Turn P D}
-      → AppliesAndSends x.s (sinks x.i.of_arrivals.may_answer x.i.of_arrivals.outlet.told x.i.sender.told) x.past input turn (x.old.engine.node, x.old.sender) (x.new.engine.node, x.new.sender)
-      → Gave x.i x.old x.new (input ∷ []) (outcome_of (is_request input) (refuses turn)) [] → x.new.engine.end ≡ None → Holds x.i.of_arrivals.is_of x.new.engine.end x.new.engine.job x.before
+      → AppliesAndSends x.s x.i.may_answer x.i.outlet.told x.i.sender.told x.past input turn (x.old.engine.node, x.old.sender) (x.new.engine.node, x.new.sender)
+      → Gave x.i x.old x.new (input ∷ []) (outcome_of (is_request input) (refuses turn)) [] → x.new.engine.end ≡ None → Holds x.i.is_of x.new.engine.end x.new.engine.job x.before
       → TakesOnly x.s x.i x.past x.before x.old x.new (turn ∷ [])
   TakesOnly-input {input} {turn} one gave lives held =
       let done = one.handled in
@@ -202,18 +202,18 @@ module _ {P M D S G O J N V B Q C T : Type 0} {x : Course P M D S G O J N V B Q 
       }
 
   -- an end
-  abbrev pub TakesOnly-ended : {cause : EndCause} → AppliesStep x.s x.i.of_arrivals.may_answer x.i.of_arrivals.outlet.told x.past (ended cause) x.old.engine.node x.new.engine.node → x.new.engine.end ≡ Some cause
+  abbrev pub TakesOnly-ended : {cause : EndCause} → AppliesStep x.s x.i.may_answer x.i.outlet.told x.past (ended cause) x.old.engine.node x.new.engine.node → x.new.engine.end ≡ Some cause
       → x.new.engine.job ≡ None → x.new.sender ≡ x.old.sender → Gave x.i x.old x.new [] [] [] → TakesOnly x.s x.i x.past x.before x.old x.new (Ended cause ∷ [])
   TakesOnly-ended {cause} one end empty sender gave = record {
     took = TakesSteps-step (AppliesSteps-one one tt)
         (subst (λ n. Sends {S = S} {G = G} x.s x.i.sender.told (ended cause ∷ []) x.old.sender n) (sym sender) (Sends-silent {S = S} {G = G} x.s x.i.sender.told (ended cause ∷ []) x.old.sender refl))
-        refl end gave refl (subst (λ e. Holds x.i.of_arrivals.is_of e x.new.engine.job x.before) (sym end) empty);
+        refl end gave refl (subst (λ e. Holds x.i.is_of e x.new.engine.job x.before) (sym end) empty);
     none_swept = refl;
   }
 
   -- a cleanup
-  abbrev pub CleansUpFirst-alone : {test : ℕ → Asker S → Bool} → AppliesStep x.s x.i.of_arrivals.may_answer x.i.of_arrivals.outlet.told x.past (swept test) x.old.engine.node x.new.engine.node → x.new.engine.end ≡ None
-      → x.new.sender ≡ x.old.sender → Gave x.i x.old x.new [] [] [] → Holds x.i.of_arrivals.is_of x.new.engine.end x.new.engine.job x.before → CleansUpFirst x.s x.i x.past x.before x.old x.new []
+  abbrev pub CleansUpFirst-alone : {test : ℕ → Asker S → Bool} → AppliesStep x.s x.i.may_answer x.i.outlet.told x.past (swept test) x.old.engine.node x.new.engine.node → x.new.engine.end ≡ None
+      → x.new.sender ≡ x.old.sender → Gave x.i x.old x.new [] [] [] → Holds x.i.is_of x.new.engine.end x.new.engine.job x.before → CleansUpFirst x.s x.i x.past x.before x.old x.new []
   CleansUpFirst-alone {test} cleaned lives sender gave held = record {
     took = TakesSteps-step (AppliesSteps-one cleaned tt)
         (subst (λ n. Sends {S = S} {G = G} x.s x.i.sender.told (swept test ∷ []) x.old.sender n) (sym sender) (Sends-silent {S = S} {G = G} x.s x.i.sender.told (swept test ∷ []) x.old.sender refl))
@@ -222,14 +222,14 @@ module _ {P M D S G O J N V B Q C T : Type 0} {x : Course P M D S G O J N V B Q 
   }
 
   -- the steps of an arrival, which is the message held before or what the network gave
-  abbrev pub TakesSteps-arrival : {arrival : Arrival P M} {result : Poll (Turn P D)} {received : List (P × List ℕ)} → Arrives x.s x.i.of_arrivals x.past arrival x.old.engine.node x.new.engine result
+  abbrev pub TakesSteps-arrival : {arrival : Arrival P M} {result : Poll (Turn P D)} {received : List (P × List ℕ)} → Arrives x.s x.i.may_answer x.i.is_of x.i.outlet.told x.past arrival x.old.engine.node x.new.engine result
       → x.new.engine.end ≡ None → x.new.sender ≡ x.old.sender → Gave x.i x.old x.new [] [] received → input_of x.s {S = S} {G = G} arrival ∷ [] ≡ pending_input x.s x.before ++ payload_inputs x.s received
       → reader_of x.s arrival ≡ senders_of x.s received → TakesSteps x.s x.i x.past x.before x.old x.new (given result)
   TakesSteps-arrival {received = received} one lives sender gave coming reads = record {
     steps = one.steps;
     ran = one.ran;
     sends = subst (λ n. Sends x.s x.i.sender.told one.steps x.old.sender n) (sym sender) (Sends-none x.s x.i.sender.told one.steps x.old.sender one.remote.no_requests);
-    due = all-due x.s x.past x.i.of_arrivals.may_answer one.steps one.ran.lawful;
+    due = all-due x.s x.past x.i.may_answer one.steps one.ran.lawful;
     turned = λ _. one.turned;
     ends = λ _. lives ∙ sym one.goes_on;
     sets = λ told h. subst (λ l. x.i.provider.told x.new.engine.provider (told ++ l)) (sym one.remote.no_sets) (gave.sets told h);
@@ -238,17 +238,17 @@ module _ {P M D S G O J N V B Q C T : Type 0} {x : Course P M D S G O J N V B Q 
     received = received;
     given = gave.payloads;
     pending = one.pending;
-    held = subst (λ e. Holds x.i.of_arrivals.is_of e x.new.engine.job one.pending) (sym lives) one.held;
+    held = subst (λ e. Holds x.i.is_of e x.new.engine.job one.pending) (sym lives) one.held;
     flow = sym coming ∙ one.flow ∙ ap (λ l. l ++ pending_input x.s one.pending) (sym one.remote.all);
     read = one.read_from ∙ reads;
   }
 
   -- a payload that the network gave, where no job was pending
-  pub TakesOnly-payload : {p : P} {bytes : List ℕ} {result : Poll (Turn P D)} → x.old.engine.end ≡ None → x.old.engine.job ≡ None → Holds x.i.of_arrivals.is_of x.old.engine.end x.old.engine.job x.before
-      → Arrives x.s x.i.of_arrivals x.past (payload_of p (x.s.reading bytes)) x.old.engine.node x.new.engine result → x.new.engine.end ≡ None → x.new.sender ≡ x.old.sender
+  pub TakesOnly-payload : {p : P} {bytes : List ℕ} {result : Poll (Turn P D)} → x.old.engine.end ≡ None → x.old.engine.job ≡ None → Holds x.i.is_of x.old.engine.end x.old.engine.job x.before
+      → Arrives x.s x.i.may_answer x.i.is_of x.i.outlet.told x.past (payload_of p (x.s.reading bytes)) x.old.engine.node x.new.engine result → x.new.engine.end ≡ None → x.new.sender ≡ x.old.sender
       → Gave x.i x.old x.new [] [] ((p, bytes) ∷ []) → TakesOnly x.s x.i x.past x.before x.old x.new (given result)
   TakesOnly-payload {p} {bytes} lives idle held one lives_on sender gave =
-      let none = no_message x.i.of_arrivals.is_of x.old.engine.end x.old.engine.job x.before lives idle held in
+      let none = no_message x.i.is_of x.old.engine.end x.old.engine.job x.before lives idle held in
       record {
         took = TakesSteps-arrival {received = (p, bytes) ∷ []} one lives_on sender gave
             (ap (λ b. pending_input x.s b ++ payload_inputs x.s ((p, bytes) ∷ [])) (sym none)) (sym (append-nil (sender_of x.s p (x.s.reading bytes))));
@@ -265,7 +265,7 @@ module _ {P M D S G O J N V B Q C T : Type 0} {x : Course P M D S G O J N V B Q 
         steps = more.steps ++ one.steps;
         ran = AppliesSteps-more one.ran more.ran;
         sends = Sends-more x.s x.i.sender.told one.steps more.steps x.old.sender mid.sender x.new.sender one.sends more.sends;
-        due = all-due x.s x.past x.i.of_arrivals.may_answer (more.steps ++ one.steps) (AreSteps-append x.s x.i.of_arrivals.may_answer more.steps one.steps x.past more.ran.lawful one.ran.lawful);
+        due = all-due x.s x.past x.i.may_answer (more.steps ++ one.steps) (AreSteps-append x.s x.i.may_answer more.steps one.steps x.past more.ran.lawful one.ran.lawful);
         turned = λ at. turns-append x.s more.steps one.steps x.past ∙ ap (λ ts. ts ++ turns x.s more.steps (happenings one.steps ++ x.past)) (one.turned at) ∙ ap (λ ts. listed ++ ts) (more.turned (lives at));
         ends = λ at. more.ends (lives at) ∙ sym (end_of-append more.steps one.steps (sym (one.ends at) ∙ lives at));
         sets = λ told h. subst (x.i.provider.told x.new.engine.provider) (append_assoc told (sets_in (inputs one.steps)) (sets_in (inputs more.steps))
@@ -301,7 +301,7 @@ module _ {P M D S G O J N V B Q C T : Type 0} {x : Course P M D S G O J N V B Q 
 module _ {P M D S G O J N V B Q C T : Type 0} {x : Course P M D S G O J N V B Q C T} where
   -- a cleanup, after which the sources of the node may have been asked, and then more
   pub CleansUpFirst-then : {test : ℕ → Asker S → Bool} {node : Node P M S O D} {provider : B} {requests : Q} {listed : List (Turn P D)}
-      → AppliesStep x.s x.i.of_arrivals.may_answer x.i.of_arrivals.outlet.told x.past (swept test) x.old.engine.node node → x.old.engine.end ≡ None → Holds x.i.of_arrivals.is_of x.old.engine.end x.old.engine.job x.before
+      → AppliesStep x.s x.i.may_answer x.i.outlet.told x.past (swept test) x.old.engine.node node → x.old.engine.end ≡ None → Holds x.i.is_of x.old.engine.end x.old.engine.job x.before
       → Gave x.i x.old (record x.old { engine = record x.old.engine { node = node; provider = provider; requests = requests } }) [] [] []
       → TakesOnly x.s x.i (cleanup test ∷ x.past) x.before (record x.old { engine = record x.old.engine { node = node; provider = provider; requests = requests } }) x.new listed
       → CleansUpFirst x.s x.i x.past x.before x.old x.new listed
@@ -309,7 +309,7 @@ module _ {P M D S G O J N V B Q C T : Type 0} {x : Course P M D S G O J N V B Q 
       CleansUpFirst-more {mid = (record x.old { engine = record x.old.engine { node = node; provider = provider; requests = requests } })} (λ _. lives) (CleansUpFirst-alone cleaned lives refl gave held) more
 
   -- a poll of an engine that has ended
-  pub TakesPoll-ended : {cause : EndCause} {result : Poll (Turn P D)} → HasContent x.s x.past x.old.engine.node.core → Holds x.i.of_arrivals.is_of x.old.engine.end x.old.engine.job x.before → x.old.engine.end ≡ Some cause
+  pub TakesPoll-ended : {cause : EndCause} {result : Poll (Turn P D)} → HasContent x.s x.past x.old.engine.node.core → Holds x.i.is_of x.old.engine.end x.old.engine.job x.before → x.old.engine.end ≡ Some cause
       → x.new ≡ x.old → TakesPoll x.s x.i x.past x.before x.old x.new result
   TakesPoll-ended {cause} {result} has held at same = subst (λ n. TakesPoll x.s x.i x.past x.before x.old n result) (sym same) (record {
     took = TakesSteps-none has held (λ lives. absurd (let no : Some cause ≡ None = sym at ∙ lives in cc)) refl refl (λ told h. told-same x.i.receiver.told x.old.receiver told h);
@@ -318,7 +318,7 @@ module _ {P M D S G O J N V B Q C T : Type 0} {x : Course P M D S G O J N V B Q 
   })
 
   -- a stop was asked for, and the engine ended
-  pub TakesPoll-stopped : AppliesStep x.s x.i.of_arrivals.may_answer x.i.of_arrivals.outlet.told x.past (ended Stopped) x.old.engine.node x.new.engine.node
+  pub TakesPoll-stopped : AppliesStep x.s x.i.may_answer x.i.outlet.told x.past (ended Stopped) x.old.engine.node x.new.engine.node
       → x.new.engine.end ≡ Some Stopped → x.new.engine.job ≡ None → x.new.engine.provider ≡ x.old.engine.provider → x.new.sender ≡ x.old.sender → x.new.receiver ≡ x.old.receiver
       → ((told : List (Asked (Message P M S G D))) → x.i.requests.told x.old.engine.requests told → x.i.requests.told x.new.engine.requests told)
       → ((told : List Bool) → x.i.requests.outcomes x.old.engine.requests told → x.i.requests.outcomes x.new.engine.requests told)
@@ -330,11 +330,11 @@ module _ {P M D S G O J N V B Q C T : Type 0} {x : Course P M D S G O J N V B Q 
   }
 
   -- the job that was pending was polled
-  pub TakesPoll-job : {job : P × J} {result : Poll (Turn P D)} → x.old.engine.job ≡ Some job → HoldsJob x.i.of_arrivals.is_of x.old.engine.job x.before
-      → ((m : M) → x.i.of_arrivals.is_of job.1 m → Arrives x.s x.i.of_arrivals x.past (message_of job.0 m) x.old.engine.node x.new.engine result) → x.new.engine.end ≡ None → x.new.engine.provider ≡ x.old.engine.provider
+  pub TakesPoll-job : {job : P × J} {result : Poll (Turn P D)} → x.old.engine.job ≡ Some job → HoldsJob x.i.is_of x.old.engine.job x.before
+      → ((m : M) → x.i.is_of job.1 m → Arrives x.s x.i.may_answer x.i.is_of x.i.outlet.told x.past (message_of job.0 m) x.old.engine.node x.new.engine result) → x.new.engine.end ≡ None → x.new.engine.provider ≡ x.old.engine.provider
       → x.new.sender ≡ x.old.sender → x.new.receiver ≡ x.old.receiver → Gave x.i x.old x.new [] [] [] → TakesPoll x.s x.i x.past x.before x.old x.new result
   TakesPoll-job {job} at held arrives lives provider sender receiver gave =
-      let m = Holds-some x.i.of_arrivals.is_of job.0 job.1 x.before (subst (λ j. HoldsJob x.i.of_arrivals.is_of j x.before) at held) in
+      let m = Holds-some x.i.is_of job.0 job.1 x.before (subst (λ j. HoldsJob x.i.is_of j x.before) at held) in
       let one = arrives m.0 m.2 in
       record {
         took = TakesSteps-arrival {received = []} one lives sender gave (ap (λ b. pending_input x.s b) (sym m.1) ∙ sym (append-nil (pending_input x.s x.before))) refl;

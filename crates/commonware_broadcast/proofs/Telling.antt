@@ -8,7 +8,8 @@ use Rattle.broadcast_mailbox.specs.declared.buffered.ingress.message.Message.The
 use Rattle.engine_io.specs.declared.input.Input.TheVariants.{Peers, Request, Arrived, Invalid}
 use Rattle.engine_io.specs.declared.input.Turn.{Turn}
 use Rattle.engine_io.specs.declared.input.Turn.TheVariants as tell
-use Rattle.engine_io.specs.Refused.{refuses, is_request, outcome_of}
+use Rattle.engine_io.specs.Refused.{refuses, is_request}
+use Rattle.commonware_broadcast.specs.CountingCalls.{outcome_of}
 use Rattle.engine_io.specs.Replies.{Asker}
 use Rattle.commonware_broadcast.specs.EngineHistory.{Step, swept, applied, refused, decoded, uncounted, ended, happenings, inputs, inputs_at, outcomes, outcomes_at, turn_of_request, read_from, read_from_at, end_of, sweeps, sweeps_at, turns, turns_at}
 use Rattle.commonware_broadcast.specs.AppliesSteps.{IsStepOf}

@@ -1,15 +1,13 @@
 -- Believed.
 -- What the steps of an engine leave.
-use Rattle.std.specs.Prelude.{◌≡◌, ℕ, Bool, List, [], ◌∷◌, ◌++◌}
+use Rattle.std.specs.Prelude.{◌≡◌, Bool, List, [], ◌∷◌, ◌++◌}
 use Rattle.std.specs.List.{count_by}
 use Rattle.broadcast_core.specs.Setting.{Setting}
 use Rattle.broadcast_core.specs.Happening.{History}
 use Rattle.broadcast_core.specs.HasContent.{HasContent}
 use Rattle.broadcast_core.specs.Sent.{sent}
 use Rattle.broadcast_core.specs.declared.event.Sent.{Sent}
-use Rattle.broadcast_mailbox.specs.declared.buffered.ingress.message.Message.{Message}
 use Rattle.engine_io.specs.declared.input.Input.{Input}
-use Rattle.engine_io.specs.declared.input.Input.TheVariants.{Request}
 use Rattle.engine_io.specs.declared.input.Turn.{Turn}
 use Rattle.commonware_broadcast.specs.declared.buffered.engine.node.Node.{Node}
 use Rattle.engine_io.specs.Counters.{Counted, raised, is_counted_as, number_at}
@@ -17,11 +15,6 @@ use Rattle.engine_io.specs.Replies.{Asker, Replies}
 use Rattle.commonware_broadcast.specs.EngineHistory.{Step, applied, refused, happenings, handed_out, turns_at}
 use Rattle.commonware_broadcast.specs.StepLaws.{AreSteps}
 use Rattle.commonware_broadcast.specs.Counting.{counted, gauge}
-
--- a request as an input
-abbrev pub requested : {P M D S G : Type 0} → ℕ → Bool → Message P M S G D → Input P M S G D
-requested ticket counted message =
-    Request (record { ticket = ticket; message = message; counted = counted })
 
 -- the step of an input: it was applied, or refused
 abbrev pub IsStepOf : {P M D S G : Type 0} → Input P M S G D → Step P M D S G → Type 0
@@ -43,11 +36,18 @@ module _ {P M D S G O : Type 0} (s : Setting P M D) (may_answer : Asker S → Bo
         (number_at s.same.key c old.metrics)
         (count_by (is_counted_as s.same.key c) (counted s steps past))
     -- the gauge has the number of digests that were awaited after the last cleanup
-    pub waiters : new.metrics.totals.waiters
-        ≡ gauge s steps past old.metrics.totals.waiters
+    pub waiters : new.metrics.totals.waiters ≡ gauge s steps past old.metrics.totals.waiters
     -- the outlet was handed the replies
     pub replied : (replies : Replies S G M D) → outlet_told old.outlet replies
         → outlet_told new.outlet (replies ++ handed_out steps)
+
+  -- an input was applied or refused, with this turn
+  pub record AppliesInput (past : History P M D (Asker S) (Asker G)) (input : Input P M S G D)
+      (turn : Turn P D) (old new : Node P M S O D) : Type 0 where
+    pub step : Step P M D S G
+    pub of_input : IsStepOf input step
+    pub turned : turns_at s step past ≡ turn ∷ []
+    pub ran : AppliesSteps past (step ∷ []) old new
 
 module _ {P M D S G N : Type 0} (s : Setting P M D) (sender_told : N → List (Sent P) → Type 0) where
   -- the sender was handed the broadcasts of the steps
@@ -55,39 +55,10 @@ module _ {P M D S G N : Type 0} (s : Setting P M D) (sender_told : N → List (S
   Sends steps old new = (sends : List (Sent P)) → sender_told old sends
       → sender_told new (sends ++ sent s (happenings steps))
 
--- those who wait, who may answer closed, and the outlet of replies
-pub record Replying (M D S G O : Type 0) : Type 1 where
-  pub may_answer : Asker S → Bool → Type 0
-  pub told : O → Replies S G M D → Type 0
-
-abbrev pub replying : {M D S G O : Type 0} → (Asker S → Bool → Type 0)
-    → (O → Replies S G M D → Type 0) → Replying M D S G O
-replying may_answer told = record { may_answer = may_answer; told = told }
-
--- these, and the sender
-pub record Sinks (P M D S G O N : Type 0) : Type 1 where
-  pub of_replies : Replying M D S G O
-  pub sender_told : N → List (Sent P) → Type 0
-
-abbrev pub sinks : {P M D S G O N : Type 0} → (Asker S → Bool → Type 0)
-    → (O → Replies S G M D → Type 0) → (N → List (Sent P) → Type 0) → Sinks P M D S G O N
-sinks may_answer told sender_told = record {
-  of_replies = replying may_answer told;
-  sender_told = sender_told;
-}
-
-module _ {P M D S G O : Type 0} (s : Setting P M D) (r : Replying M D S G O) where
-  -- an input was applied or refused, with this turn
-  pub record AppliesInput (past : History P M D (Asker S) (Asker G)) (input : Input P M S G D)
-      (turn : Turn P D) (old new : Node P M S O D) : Type 0 where
-    pub step : Step P M D S G
-    pub of_input : IsStepOf input step
-    pub turned : turns_at s step past ≡ turn ∷ []
-    pub ran : AppliesSteps s r.may_answer r.told past (step ∷ []) old new
-
-module _ {P M D S G O N : Type 0} (s : Setting P M D) (k : Sinks P M D S G O N) where
+module _ {P M D S G O N : Type 0} (s : Setting P M D) (may_answer : Asker S → Bool → Type 0)
+    (outlet_told : O → Replies S G M D → Type 0) (sender_told : N → List (Sent P) → Type 0) where
   -- so it was, and the sender was handed its broadcast
   pub record AppliesAndSends (past : History P M D (Asker S) (Asker G)) (input : Input P M S G D)
       (turn : Turn P D) (old new : Node P M S O D × N) : Type 0 where
-    pub handled : AppliesInput s k.of_replies past input turn old.0 new.0
-    pub sends : Sends s k.sender_told (handled.step ∷ []) old.1 new.1
+    pub handled : AppliesInput s may_answer outlet_told past input turn old.0 new.0
+    pub sends : Sends s sender_told (handled.step ∷ []) old.1 new.1

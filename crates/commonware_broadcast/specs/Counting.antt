@@ -5,9 +5,9 @@ use Rattle.std.specs.List.{filter}
 use Rattle.broadcast_core.specs.Setting.{Setting}
 use Rattle.broadcast_core.specs.Happening.{History, cleanup}
 use Rattle.broadcast_core.specs.Waiting.{waiting, awaited}
-use Rattle.broadcast_core.specs.Answers.{outcome}
+use Rattle.broadcast_core.specs.Lists.{outcome}
 use Rattle.broadcast_core.specs.declared.outcome.Outcome.{Outcome}
-use Rattle.broadcast_core.specs.declared.outcome.Outcome.TheVariants.{Inserted, Duplicate, Ineligible, Oversize}
+use Rattle.broadcast_core.specs.declared.outcome.Outcome.TheVariants.{Inserted}
 use Rattle.engine_io.specs.declared.input.Input.{Input}
 use Rattle.engine_io.specs.declared.input.Input.TheVariants.{Arrived, Invalid}
 use Rattle.engine_io.specs.declared.metrics.Status.TheVariants.{Success, Failure, Dropped}
@@ -28,13 +28,10 @@ counted_reply (got v found false) = get Dropped
 -- a message that was received is counted by its outcome
 abbrev pub counted_outcome : {P : Type 0} → Outcome → Counted P
 counted_outcome Inserted = receive Success
-counted_outcome Duplicate = receive Dropped
-counted_outcome Ineligible = receive Dropped
-counted_outcome Oversize = receive Dropped
+counted_outcome _ = receive Dropped
 
 module _ {P M D S G : Type 0} (s : Setting P M D) where
-  abbrev pub counted_input : Input P M S G D → History P M D (Asker S) (Asker G)
-      → List (Counted P)
+  abbrev pub counted_input : Input P M S G D → History P M D (Asker S) (Asker G) → List (Counted P)
   counted_input (Arrived p c) past = counted_outcome (outcome s p c past) ∷ []
   counted_input (Invalid p error) past = receive status.Invalid ∷ []
   counted_input _ past = []
@@ -49,8 +46,7 @@ module _ {P M D S G : Type 0} (s : Setting P M D) where
   counted_at _ past = []
 
   -- what the steps count after a history, the oldest first
-  abbrev pub counted : List (Step P M D S G) → History P M D (Asker S) (Asker G)
-      → List (Counted P)
+  abbrev pub counted : List (Step P M D S G) → History P M D (Asker S) (Asker G) → List (Counted P)
   counted [] past = []
   counted (step ∷ steps) past = counted steps past ++ counted_at step (happenings steps ++ past)
 

@@ -1,15 +1,16 @@
 -- Internal.
 -- What the calls of one step make of an engine's node.
-use Rattle.std.specs.Prelude.{◌≡◌, ◌∷◌, ◌++◌, Bool, length}
+use Rattle.std.specs.Prelude.{◌≡◌, List, [], ◌∷◌, ◌++◌, Bool, true, false, length, ℕ}
 use Rattle.broadcast_core.specs.Setting.{Setting}
 use Rattle.broadcast_core.specs.Happening.{History, cleanup}
 use Rattle.broadcast_core.specs.Waiting.{waiting, awaited}
-use Rattle.broadcast_core.specs.HasContent.{HasContent, named_by}
-use Rattle.broadcast_core.specs.Answers.{outcome}
+use Rattle.broadcast_core.specs.HasContent.{HasContent}
+use Rattle.broadcast_core.specs.Cleaned.{named_by}
+use Rattle.broadcast_core.specs.Lists.{outcome}
 use Rattle.broadcast_core.specs.declared.outcome.Outcome.{Outcome}
 use Rattle.broadcast_core.specs.declared.outcome.Outcome.TheVariants.{Inserted, Duplicate, Ineligible, Oversize}
 use Rattle.engine_io.specs.declared.input.Input.{Input}
-use Rattle.engine_io.specs.declared.input.Input.TheVariants.{Arrived, Invalid}
+use Rattle.engine_io.specs.declared.input.Input.TheVariants.{Arrived, Invalid, Request}
 use Rattle.engine_io.specs.declared.metrics.Status.TheVariants.{Success, Dropped}
 use Rattle.engine_io.specs.declared.metrics.Status.TheVariants as status
 use Rattle.engine_io.specs.Counters.{Totals, added}
@@ -18,6 +19,7 @@ use Rattle.engine_io.specs.ReplyCounts.{count_replies}
 use Rattle.commonware_broadcast.specs.EngineHistory.{Step, swept, applied, happenings_at, handed_out_at}
 use Rattle.commonware_broadcast.specs.StepLaws.{IsStep}
 use Rattle.commonware_broadcast.specs.declared.buffered.engine.node.Node.{Node}
+use Rattle.broadcast_mailbox.specs.declared.buffered.ingress.message.Message.{Message}
 
 -- a message that was received is counted by its outcome
 abbrev pub count_outcome : Outcome → Totals → Totals
@@ -52,3 +54,13 @@ module _ {P M D S G O : Type 0} (s : Setting P M D) (may_answer : Asker S → Bo
     pub counted : new.metrics ≡ record old.metrics { totals = count s step past old.metrics.totals }
     pub replied : (replies : Replies S G M D) → outlet_told old.outlet replies
         → outlet_told new.outlet (replies ++ handed_out_at step)
+
+-- a request as an input
+abbrev pub requested : {P M D S G : Type 0} → ℕ → Bool → Message P M S G D → Input P M S G D
+requested ticket counted message =
+    Request (record { ticket = ticket; message = message; counted = counted })
+
+-- what is told of an input: of a request, whether it was refused
+abbrev pub outcome_of : Bool → Bool → List Bool
+outcome_of true refused = refused ∷ []
+outcome_of false refused = []

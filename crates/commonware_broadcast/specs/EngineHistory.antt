@@ -4,7 +4,7 @@ use Rattle.std.specs.Prelude.{◌≡◌, ℕ, ◌+◌, Bool, true, false, List, 
 use Rattle.broadcast_core.specs.Carried.{Carried}
 use Rattle.broadcast_core.specs.Setting.{Setting}
 use Rattle.broadcast_core.specs.Happening.{Happening, History, peers, broadcast, arrival, subscribe, get, cleanup}
-use Rattle.broadcast_core.specs.Answers.{outcome}
+use Rattle.broadcast_core.specs.Lists.{outcome}
 use Rattle.broadcast_core.specs.declared.event.Cause.{Cause}
 use Rattle.broadcast_core.specs.declared.event.Cause.TheVariants.{Memory}
 use Rattle.broadcast_mailbox.specs.declared.buffered.ingress.message.Message.{Message}

@@ -1,6 +1,7 @@
 -- Believed.
 -- An engine to which nothing has happened.
-use Rattle.std.specs.Prelude.{[], None}
+use Rattle.std.specs.Prelude.{None}
+use Rattle.broadcast_core.specs.Empty.{empty}
 use Rattle.commonware_broadcast.specs.declared.buffered.config.Config.{Config}
 use Rattle.engine_io.specs.Counters.{zero_counters}
 use Rattle.commonware_broadcast.specs.EngineState.{EngineState}
@@ -10,15 +11,7 @@ abbrev pub fresh : {P M S O D J B Q C T : Type 0} → Config P C B T → Q → O
     → EngineState P M S O D J B Q C T
 fresh cfg requests outlet = record {
   node = record {
-    core = record {
-      own = cfg.public_key;
-      deque_size = cfg.deque_size;
-      byte_budget = cfg.byte_budget;
-      primary = [];
-      lists = [];
-      cached = [];
-      waiters = [];
-    };
+    core = empty cfg.public_key cfg.deque_size cfg.byte_budget;
     metrics = zero_counters;
     outlet = outlet;
   };

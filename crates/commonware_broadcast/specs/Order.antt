@@ -1,12 +1,10 @@
 -- Believed.
 -- What an engine takes before it looks at other sources.
-use Rattle.std.specs.Prelude.{◌≡◌, Bool, true, false, Option, Some, None, ⊤}
+use Rattle.std.specs.Prelude.{◌≡◌, Bool, true, false, Some, ⊤}
 use Rattle.futures.specs.declared.task.Poll.{Poll}
 use Rattle.futures.specs.declared.task.Poll.TheVariants.{Ready, Pending}
-use Rattle.engine_io.specs.declared.input.EndCause.{EndCause}
 use Rattle.engine_io.specs.declared.input.Turn.{Turn}
 use Rattle.engine_io.specs.declared.input.Turn.TheVariants as turn
-use Rattle.commonware_broadcast.specs.EngineHistory.{end_told}
 
 module _ {P D : Type 0} where
   -- unless the turn is that of a peer set or of an end, this holds
@@ -26,8 +24,3 @@ module _ {P D : Type 0} where
   abbrev pub IfNetwork : Poll (Turn P D) → Type 0 → Type 0
   IfNetwork (Ready turn) holds = of_network turn ≡ true → holds
   IfNetwork Pending holds = holds
-
-  -- why the engine ended, if the poll tells that
-  abbrev pub end_in : Poll (Turn P D) → Option EndCause
-  end_in (Ready turn) = end_told turn
-  end_in Pending = None

@@ -32,8 +32,7 @@ module _ {P M D : Type 0} (s : Setting P M D) where
   -- the senders of the payloads that are messages
   abbrev pub senders_of : List (P × List ℕ) → List P
   senders_of [] = []
-  senders_of (payload ∷ payloads) =
-      sender_of payload.0 (s.reading payload.1) ++ senders_of payloads
+  senders_of (payload ∷ payloads) = sender_of payload.0 (s.reading payload.1) ++ senders_of payloads
 
 module _ {P M J : Type 0} (is_of : J → M → Type 0) where
   -- a pending job's message, with its sender

@@ -1,7 +1,6 @@
 -- Believed.
 -- What polls of an engine do: the steps that they take.
-use Rattle.std.specs.Prelude.{◌≡◌, ℕ, Bool, List, [], ◌∷◌, ◌++◌, map, Option, None, Some, ◌⊎◌}
-use Rattle.std.specs.List.{All}
+use Rattle.std.specs.Prelude.{◌≡◌, ℕ, Bool, List, ◌++◌, map, Option, None, Some, ◌⊎◌}
 use Rattle.futures.specs.declared.task.Poll.{Poll}
 use Rattle.futures.specs.declared.task.Poll.TheVariants.{Ready}
 use Rattle.broadcast_core.specs.Setting.{Setting}
@@ -10,25 +9,17 @@ use Rattle.broadcast_core.specs.Happening.{History}
 use Rattle.broadcast_core.specs.HasContent.{HasContent}
 use Rattle.broadcast_mailbox.specs.declared.buffered.ingress.message.Message.{Message}
 use Rattle.broadcast_mailbox.specs.declared.buffered.ingress.message.Request.{Request}
-use Rattle.engine_io.specs.declared.input.EndCause.{EndCause}
 use Rattle.engine_io.specs.declared.input.EndCause.TheVariants.{Stopped}
 use Rattle.engine_io.specs.declared.input.Turn.{Turn}
 use Rattle.engine_io.specs.declared.input.Turn.TheVariants.{Ended}
 use Rattle.engine_io.specs.Inputs.{sets_in, requests_in, payloads_in}
 use Rattle.engine_io.specs.Replies.{Asker, reply_of}
 use Rattle.engine_io.specs.Sources.{given}
-use Rattle.commonware_broadcast.specs.EngineHistory.{Step, happenings, handed_out, inputs, outcomes, read_from, end_of, end_told, turns, IsSweptOnce}
+use Rattle.commonware_broadcast.specs.EngineHistory.{Step, happenings, handed_out, inputs, outcomes, read_from, end_of, turns, IsSweptOnce}
 use Rattle.commonware_broadcast.specs.EngineState.{Moment}
 use Rattle.commonware_broadcast.specs.Interfaces.{Format, Interfaces, IsSetting}
 use Rattle.commonware_broadcast.specs.AppliesSteps.{AppliesSteps, Sends}
 use Rattle.commonware_broadcast.specs.Taken.{payload_inputs, pending_input, senders_of, Holds, TakesNone}
-
-module _ {P D : Type 0} where
-  -- the turns tell how the engine ended, if it did: the last of them, and no other
-  abbrev pub TellsEnd : Option EndCause → List (Turn P D) → Type 0
-  TellsEnd None listed = All (λ turn. end_told turn ≡ None) listed
-  TellsEnd (Some cause) listed = (before : List (Turn P D)) × (listed ≡ before ++ Ended cause ∷ [])
-      × All (λ turn. end_told turn ≡ None) before
 
 module _ {P M D S G O J N V B Q C T : Type 0} (s : Setting P M D)
     (i : Interfaces P M D S G O J N V B Q) where
@@ -37,8 +28,7 @@ module _ {P M D S G O J N V B Q C T : Type 0} (s : Setting P M D)
   pub record TakesSteps (past : History P M D (Asker S) (Asker G)) (before : Option (P × M))
       (old new : Moment P M S O D J B Q C T N V) (listed : List (Turn P D)) : Type 0 where
     pub steps : List (Step P M D S G)
-    pub ran : AppliesSteps s i.of_arrivals.may_answer i.of_arrivals.outlet.told past steps
-        old.engine.node new.engine.node
+    pub ran : AppliesSteps s i.may_answer i.outlet.told past steps old.engine.node new.engine.node
     pub sends : Sends s i.sender.told steps old.sender new.sender
     -- the replies are those that are due at its happenings, in order, each to who asked
     pub due : map reply_of (handed_out steps) ≡ handed s (happenings steps) past
@@ -61,7 +51,7 @@ module _ {P M D S G O J N V B Q C T : Type 0} (s : Setting P M D)
     pub given : (told : List (P × List ℕ)) → i.receiver.told old.receiver told
         → i.receiver.told new.receiver (told ++ received)
     pub pending : Option (P × M)
-    pub held : Holds i.of_arrivals.is_of new.engine.end new.engine.job pending
+    pub held : Holds i.is_of new.engine.end new.engine.job pending
     pub flow : pending_input s before ++ payload_inputs s received
         ≡ payloads_in (inputs steps) ++ pending_input s pending
     -- each payload that is a message was decoded once, or refused before it was counted
@@ -85,11 +75,5 @@ module _ {P M D S G O J N V B Q C T : Type 0} (f : Format P M D C)
       → Type 0) → Type 0
   Always holds = (s : Setting P M D) → IsSetting f old.engine.codec_config old.engine.priority s
       → (past : History P M D (Asker S) (Asker G)) → HasContent s past old.engine.node.core
-      → (before : Option (P × M)) → Holds i.of_arrivals.is_of old.engine.end old.engine.job before
+      → (before : Option (P × M)) → Holds i.is_of old.engine.end old.engine.job before
       → holds s past before
-
-module _ {P M D S G O J N V B Q C T : Type 0} (f : Format P M D C)
-    (i : Interfaces P M D S G O J N V B Q) (old new : Moment P M S O D J B Q C T N V) where
-  -- the steps of some polls
-  abbrev pub AlwaysTakes : List (Turn P D) → Type 0
-  AlwaysTakes listed = Always f i old (λ s past before. TakesSteps s i past before old new listed)

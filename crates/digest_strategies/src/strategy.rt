@@ -54,8 +54,7 @@ impl<M: Digestible> Strategy<M> for Sequential {
 
     fn start(&self, message: M) -> Result<Done<M>, AllocError>
         ensures of_message { IfOk result (λ job. HoldsDigested M.digest_of message job.message) }
-        ensures at_once { IfOk result (λ job.
-            job.message ≡ Some (message, M.digest_of message)) }
+        ensures at_once { IfOk result (λ job. job.message ≡ Some (message, M.digest_of message)) }
     {
         let digest = message.digest();
         Ok(Done {
@@ -78,8 +77,7 @@ impl<M: Digestible> Job<M> for Done<M> {
             → HoldsDigested M.digest_of m self.new.message) }
         ensures digested { (m : M) → HoldsDigested M.digest_of m self.old.message
             → IfReady result (λ out. (out.0 ≡ m) × (out.1 ≡ M.digest_of m)) }
-        ensures at_once { (out : M × M.Digest) → self.old.message ≡ Some out
-            → result ≡ Ready out }
+        ensures at_once { (out : M × M.Digest) → self.old.message ≡ Some out → result ≡ Ready out }
         ensures armed { OnPending result (IsArmed cx.new) }
         ensures kept { Keeps cx.old cx.new }
     {

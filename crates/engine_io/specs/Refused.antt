@@ -16,11 +16,6 @@ abbrev pub is_request : {P M S G D : Type 0} → Input P M S G D → Bool
 is_request (input.Request request) = true
 is_request _ = false
 
--- what is told of an input: of a request, whether it was refused
-abbrev pub outcome_of : Bool → Bool → List Bool
-outcome_of true refused = refused ∷ []
-outcome_of false refused = []
-
 -- how many of these outcomes are refusals
 abbrev pub refusals : List Bool → ℕ
 refusals [] = 0

@@ -1,7 +1,7 @@
 -- Believed.
 -- The number of the peer set that is in force after some turns.
 use Rattle.std.specs.Prelude.{ℕ, Bool, true, false, List, count_by}
-use Rattle.broadcast_mailbox.specs.Account.{capped}
+use Rattle.broadcast_core.specs.Counted.{counted as capped}
 use Rattle.engine_io.specs.declared.input.Turn.{Turn}
 use Rattle.engine_io.specs.declared.input.Turn.TheVariants.{Peers}
 

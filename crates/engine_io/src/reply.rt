@@ -14,15 +14,13 @@ use broadcast_mailbox::buffered::Reply;
 use std::alloc::{AllocError, Global};
 
 /// Hands a message to a waiter, and counts whether it was delivered.
-pub fn respond_subscribe<P, M, S, G, O>(
+pub fn respond_subscribe<P: PublicKey, M: Digestible, S, G, O>(
     metrics: &mut Metrics<P>,
     outlet: &mut O,
     waiter: Waiter<M, S>,
     message: Digested<M>,
 )
 where
-    P: PublicKey,
-    M: Digestible,
     O: Outlet<S, G, Reply<M>, Option<Reply<M>>>,
     ensures { (delivered : Bool)
         × Hands O.told outlet.old metrics.old
@@ -38,17 +36,13 @@ where
 }
 
 /// Hands a get its message, or none, and counts whether it was delivered.
-pub fn respond_get<P, M, S, G, O>(
+pub fn respond_get<P: PublicKey, M: Digestible, S, G, O: Outlet<S, G, Reply<M>, Option<Reply<M>>>>(
     metrics: &mut Metrics<P>,
     outlet: &mut O,
     ticket: u64,
     responder: G,
     message: Option<Digested<M>>,
 )
-where
-    P: PublicKey,
-    M: Digestible,
-    O: Outlet<S, G, Reply<M>, Option<Reply<M>>>,
     ensures { (delivered : Bool)
         × Hands O.told outlet.old metrics.old
         (got (record { ticket = ticket; responder = responder }) message delivered ∷ [])
@@ -87,15 +81,13 @@ pub fn copies<M: Digestible>(
 /// Hands a message to each waiter, in order, and counts which were delivered. There is a copy of
 /// the message for each waiter.
 #[inline(always)] // As `copies`.
-pub fn respond_waiters<P, M, S, G, O>(
+pub fn respond_waiters<P: PublicKey, M: Digestible, S, G, O>(
     metrics: &mut Metrics<P>,
     outlet: &mut O,
     waiters: Items<Waiter<M, S>>,
     mut copies: Vec<Digested<M>>,
 )
 where
-    P: PublicKey,
-    M: Digestible,
     O: Outlet<S, G, Reply<M>, Option<Reply<M>>>,
     S: Drop,
     requires { length copies.items ≡ length waiters }

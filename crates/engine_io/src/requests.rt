@@ -121,10 +121,8 @@ pub trait Requests<T: Awaits> {
 /// Other threads queue the requests, so of those only is told how many counted ones were given. No
 /// more of them count as refused than were told to be. A task that waits is woken by the inbox of
 /// the mailbox.
-impl<P, M, R, A> Requests<Incoming<P, M>> for Ingress<Incoming<P, M>, R, A>
+impl<P: PublicKey, M: Digestible, R, A> Requests<Incoming<P, M>> for Ingress<Incoming<P, M>, R, A>
 where
-    P: PublicKey,
-    M: Digestible,
     R: Wait,
     A: Bookkeeping,
 {

@@ -32,16 +32,11 @@ type Counted<M, R, A, K> = (
 type Left = (EndCause, u64, u64);
 
 /// Lets the node broadcast, stops it, and settles its account.
-fn settle<M, R, A, K>(
+fn settle<M: Digestible, R: Runtime, A: Account, K: Account>(
     rt: &R,
     node: Counted<M, R, A, K>,
     message: &Digested<M>,
 ) -> Result<Left, Error>
-where
-    M: Digestible,
-    R: Runtime,
-    A: Account,
-    K: Account,
     requires accounts { (A.all ≡ A.parts) × (K.all ≡ K.parts) }
 {
     let (handle, mailbox, mut tally) = node;
@@ -62,17 +57,11 @@ where
 }
 
 /// Broadcasts the message often, which the tally counts.
-fn broadcast<M, R, A, K>(
+fn broadcast<M: Digestible, R: Wait, A: Account, K: Account>(
     mailbox: &WatchedMailbox<Key, M, R, A, K, Broadcasts>,
     tally: &mut Tally<A>,
     message: &Digested<M>,
-) -> Result<(), MailboxError>
-where
-    M: Digestible,
-    R: Wait,
-    A: Account,
-    K: Account,
-{
+) -> Result<(), MailboxError> {
     for _ in 0..BROADCASTS {
         let _feedback = mailbox.broadcast_as(tally, Recipients::All, message.clone()?)?;
     }
@@ -135,11 +124,7 @@ where
 }
 
 /// Prints what is left of the account.
-pub fn show<R, W>(rt: &R, out: &mut W) -> Result<(), Error>
-where
-    R: Runtime,
-    W: Write,
-{
+pub fn show<R: Runtime, W: Write>(rt: &R, out: &mut W) -> Result<(), Error> {
     let message = message(rt.alloc(), b"hello")?;
     let (cause, accepted, settled) = run(rt, RangeCfg::any(), &message)?;
     drop::<_>(message);

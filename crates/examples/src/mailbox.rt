@@ -16,13 +16,10 @@ use std::sync::Wait;
 type Asked = (Feedback, Get<TestMessage>, Subscription<TestMessage>);
 
 /// Broadcasts a message, and asks for it by a get and by a subscription.
-fn ask<R>(
+fn ask<R: Wait + Clone + Send + Drop + 'static>(
     mailbox: &Mailbox<u64, TestMessage, R>,
     message: &Digested<TestMessage>,
-) -> Result<Asked, Error>
-where
-    R: Wait + Clone + Send + Drop + 'static,
-{
+) -> Result<Asked, Error> {
     let told = mailbox.broadcast(Recipients::All, message.clone()?)?;
     let get = mailbox.get(message.digest())?;
     let subscription = mailbox.subscribe(message.digest())?;

@@ -60,10 +60,7 @@ fn main(rt: HostRuntime) -> Result<ExitCode, Error> {
 }
 
 /// Runs the example of this name, or all if there is none. Returns whether any ran.
-fn show_named<R>(rt: &R, name: Option<String>, out: &mut Stdout) -> Result<bool, Error>
-where
-    R: Runtime,
-{
+fn show_named<R: Runtime>(rt: &R, name: Option<String>, out: &mut Stdout) -> Result<bool, Error> {
     let mut has_run = false;
     for (its_name, example) in EXAMPLES {
         if is_named(&name, its_name.as_bytes()) {
@@ -83,10 +80,7 @@ fn is_named(name: &Option<String>, its_name: &[u8]) -> bool {
 }
 
 /// Runs an example, which prints its results.
-fn show<R>(rt: &R, example: Example, out: &mut Stdout) -> Result<(), Error>
-where
-    R: Runtime,
-{
+fn show<R: Runtime>(rt: &R, example: Example, out: &mut Stdout) -> Result<(), Error> {
     match example {
         Example::TwoNodes => two_nodes::show(rt, out),
         Example::Cache => cache::show(rt.alloc(), out),

@@ -56,14 +56,11 @@ where
 }
 
 /// Polls the engine.
-fn poll<R>(
+fn poll<R: Wait + RandomSource + AllocGlobal + Drop>(
     rt: &R,
     engine: &mut Polled<TestMessage, R>,
     network: &mut Ends<R>,
-) -> Result<Vec<Turn<Key, Digest>>, Error>
-where
-    R: Wait + RandomSource + AllocGlobal + Drop,
-{
+) -> Result<Vec<Turn<Key, Digest>>, Error> {
     let task = Solo::new(rt, Doorbell::spinning())?;
     let mut cx = task.begin();
     let turns = drive(rt.alloc(), engine, &mut cx, network, POLLS);

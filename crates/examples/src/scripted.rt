@@ -2,9 +2,8 @@
 //! replied what, and what it counted. So the promises of an engine are proved whole where its
 //! sources are known.
 ghost use Rattle.std.specs.Prelude.{◌≡◌, [], false, IfOk};
-ghost use Rattle.broadcast_core.specs.Codec.{whole};
+ghost use Rattle.broadcast_core.specs.Setting.{whole, setting};
 ghost use Rattle.broadcast_core.specs.Content.{same_by};
-ghost use Rattle.broadcast_core.specs.Setting.{setting};
 ghost use Rattle.examples.specs.Driven.{IsNew, KeptAll, Driven};
 
 use super::two_nodes::message;
@@ -48,7 +47,7 @@ pub type DrivenEngine<P, M, T> = (
 
 /// Creates an engine over the scripts, and polls it `limit` times, or until it ends. There are no
 /// turns if the places for them can't be allocated.
-pub fn drive_new<P, M, T>(
+pub fn drive_new<P: PublicKey, M: Digestible + Codec, T>(
     alloc: Global,
     cx: &mut Context<'_>,
     cfg: Config<P, M::Cfg, Sets<P>, T>,
@@ -57,8 +56,6 @@ pub fn drive_new<P, M, T>(
     limit: usize,
 ) -> DrivenEngine<P, M, T>
 where
-    P: PublicKey,
-    M: Digestible + Codec,
     M::Cfg: Drop,
     T: Strategy<M> + Drop,
     requires new_sets { IsNew cfg.peer_provider }
@@ -111,10 +108,7 @@ fn requests<M: Digestible>(alloc: Global, message: Digested<M>) -> Result<Asked<
 }
 
 /// Drives a node over a peer set, a broadcast and a get. Returns its turns.
-fn run<R>(rt: &R) -> Result<Vec<Turn<u64, Digest>>, Error>
-where
-    R: Wait + RandomSource + AllocGlobal,
-{
+fn run<R: Wait + RandomSource + AllocGlobal>(rt: &R) -> Result<Vec<Turn<u64, Digest>>, Error> {
     let alloc = rt.alloc();
     let requests = requests(alloc, message(alloc, b"hello")?)?;
     let cfg = Config::new(1, sets(alloc)?).with_codec_config(RangeCfg::any());

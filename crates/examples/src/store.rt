@@ -1,9 +1,8 @@
 //! A look into a core, and answers to a list of events. Both are proved to give only what was taken
 //! before, under the digest that was asked for.
 ghost use Rattle.std.specs.Prelude.{◌≡◌, ℕ, false, IfOk, IfSome};
-ghost use Rattle.broadcast_core.specs.Codec.{whole};
+ghost use Rattle.broadcast_core.specs.Setting.{whole, Setting, setting};
 ghost use Rattle.broadcast_core.specs.Content.{same_by};
-ghost use Rattle.broadcast_core.specs.Setting.{Setting, setting};
 ghost use Rattle.broadcast_core.specs.Happening.{History};
 ghost use Rattle.broadcast_core.specs.HasContent.{HasContent};
 ghost use Rattle.broadcast_core.specs.Log.{log_of};

@@ -24,10 +24,7 @@ type Asked<R> = Mailbox<Key, TestMessage, R>;
 type Node<R> = (Handle<Key, TestMessage, R>, Asked<R>);
 
 /// Starts a node of the network.
-fn start<R>(rt: &R, network: &Network<Key>, public_key: Key) -> Result<Node<R>, Error>
-where
-    R: Runtime,
-{
+fn start<R: Runtime>(rt: &R, network: &Network<Key>, public_key: Key) -> Result<Node<R>, Error> {
     let ends = network.join(rt, &public_key)?;
     let config = Config::new(public_key, ends.provider).with_codec_config(RangeCfg::any());
     Ok(buffered::start(rt, config, (ends.sender, ends.receiver))?)
@@ -45,20 +42,14 @@ where
 }
 
 /// Stops a node. Returns why it ended.
-fn stop<R>(rt: &R, (handle, mailbox): Node<R>) -> EndCause
-where
-    R: Runtime,
-{
+fn stop<R: Runtime>(rt: &R, (handle, mailbox): Node<R>) -> EndCause {
     drop::<_>(mailbox);
     handle.stop();
     handle.join(rt).cause()
 }
 
 /// Runs both nodes. Returns what node 2 received, and why it ended.
-fn run<R>(rt: &R) -> Result<(Digested<TestMessage>, EndCause), Error>
-where
-    R: Runtime,
-{
+fn run<R: Runtime>(rt: &R) -> Result<(Digested<TestMessage>, EndCause), Error> {
     let network = Network::between(rt, &[KEY_1, KEY_2])?;
     let one = start(rt, &network, KEY_1)?;
     let two = start(rt, &network, KEY_2)?;
@@ -69,10 +60,7 @@ where
 }
 
 /// Prints what node 2 received, and why it ended.
-pub fn show<R, W: Write>(rt: &R, out: &mut W) -> Result<(), Error>
-where
-    R: Runtime,
-{
+pub fn show<R: Runtime, W: Write>(rt: &R, out: &mut W) -> Result<(), Error> {
     let (received, cause) = run(rt)?;
     writeln!(out, "two nodes: {:?}, {cause:?}", received.inner().content)?;
     Ok(())

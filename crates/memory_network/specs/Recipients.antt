@@ -1,4 +1,4 @@
--- Believed.
+-- Internal.
 -- Whom a message is for.
 use Rattle.std.specs.Prelude.{Bool, true}
 use Rattle.std.specs.List.{list_any}

@@ -161,8 +161,7 @@ fn mail_between<P: PublicKey, R: Wait + AllocGlobal>(
 
 /// Returns the mail of the node with this key.
 fn mail_of<'a, P: PublicKey>(mails: &'a [Arc<Mail<P>>], key: &P) -> Option<&'a Arc<Mail<P>>>
-    ensures some { IfSome result (λ mail.
-        eq_by_cmp P.cmp (arc_value mail.now).key key.now ≡ true) }
+    ensures some { IfSome result (λ mail. eq_by_cmp P.cmp (arc_value mail.now).key key.now ≡ true) }
     ensures none { IfNone result (has_node P.cmp key.now (map arc_value mails.now) ≡ false) }
 {
     for mail in mails {

@@ -3,7 +3,8 @@ use Rattle.std.proofs.Common.{◌≢◌, All, codes, ◌≡◌, ℕ, suc, zero, 
 use Rattle.std.proofs.lemmas.List.{append_assoc, take_more, take_more_set, take-append-drop, take-take, take_all}
 use Rattle.hex.specs.Hex.{encode_with, encode_lower, lower_digits, IsBytes}
 use Rattle.std.proofs.lemmas.List.Elements.{All-head, All-tail}
-use Rattle.programs.specs.Words.{IsHexDigit, IsSpelled, SpellsBytes, byte_list_word}
+use Rattle.programs.specs.Words.{SpellsBytes, byte_list_word}
+use Rattle.programs.specs.Parsing.{IsHexDigit, IsSpelled}
 use Rattle.hex.proofs.HexLemmas.{length-encode_with}
 
 -- digits of bytes in turn are the digits of all

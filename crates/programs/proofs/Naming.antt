@@ -3,7 +3,8 @@ use Rattle.std.proofs.Common.{◌≡◌, ◌≢◌, ℕ, Bool, true, false, cond
 use Rattle.std.specs.List.{slice_split, onto_first}
 use Rattle.broadcast_core.specs.declared.ordered.Recipients.{Recipients}
 use Rattle.broadcast_core.specs.declared.ordered.Recipients.TheVariants as recipients
-use Rattle.programs.specs.Recipients.{IsKeys, IsRecipients, keys_of, recipients_of}
+use Rattle.programs.specs.Recipients.{IsKeys, IsRecipients, keys_of}
+use Rattle.programs.specs.Parsing.{recipients_of}
 
 -- a text has a word
 split-some : (p : ℕ → Bool) (text : List ℕ) → slice_split p text ≢ []

@@ -7,7 +7,8 @@ use Rattle.std.specs.Io.KnownBytes.{Consumes, IsAtEnd, Keeps}
 use Rattle.std.proofs.KnownBytes.{Consumes-nil, Consumes-trans}
 use Rattle.memchr.specs.Find.{IsFirstByte, is_byte}
 use Rattle.programs.proofs.Splits.{same_at}
-use Rattle.programs.specs.Lines.{AreRead, Extends, IsInLine, IsLineRead, IsFirstUnread, LinesLeft, line_end, lines_of}
+use Rattle.programs.specs.Lines.{AreRead, IsFirstUnread, lines_of}
+use Rattle.programs.specs.Parsing.{Extends, IsInLine, IsLineRead, LinesLeft, line_end}
 
 -- a reader that shows nothing is at its end
 pub end_kept : (a b : Option (List ℕ)) (n : ℕ) → IfSome a (λ xs. n ≡ 0 → xs ≡ []) → Keeps a b → n ≡ 0 → OnSome a (IsAtEnd b)

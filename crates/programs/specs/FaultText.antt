@@ -20,7 +20,4 @@ abbrev pub fault_status : Fault → ℕ
 fault_status (Usage line) = 2
 fault_status SharedKey = 2
 fault_status (Syntax number) = 2
-fault_status Read = 3
-fault_status Mailbox = 3
-fault_status Write = 3
-fault_status Memory = 3
+fault_status _ = 3

@@ -13,3 +13,4 @@ pub mod StepLine
 pub mod Words
 pub mod WorldArguments
 pub mod WorldReport
+pub mod Parsing

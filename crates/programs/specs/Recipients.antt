@@ -23,11 +23,6 @@ IsRecipients word recipients.All = word ≡ codes "all"
 IsRecipients word (recipients.One key) = IsMarked word (key ∷ [])
 IsRecipients word (recipients.Some keys) = IsMarked word keys × (1 < length keys)
 
--- the recipients of one or more keys
-abbrev pub recipients_of : List ℕ → Recipients ℕ
-recipients_of (key ∷ []) = recipients.One key
-recipients_of keys = recipients.Some keys
-
 -- the keys that recipients name
 abbrev pub keys_of : Recipients ℕ → List ℕ
 keys_of recipients.All = []

@@ -5,9 +5,8 @@ use Rattle.std.specs.Fmt.{decimal}
 use Rattle.std.specs.Ordering.{nat_cmp}
 use Rattle.std.specs.Cmp.Lexicographic.{slice_cmp}
 use Rattle.sha2.specs.Sha256.{sha256}
-use Rattle.broadcast_core.specs.Codec.{whole}
+use Rattle.broadcast_core.specs.Setting.{whole, Setting, setting}
 use Rattle.broadcast_core.specs.Content.{same_by}
-use Rattle.broadcast_core.specs.Setting.{Setting, setting}
 use Rattle.broadcast_core.specs.TestMessage.{Parts, encoding_of, read_message}
 use Rattle.broadcast_core.specs.declared.codec.RangeCfg.{RangeCfg}
 use Rattle.programs.specs.declared.replay.settings.Settings.{Settings}
@@ -22,11 +21,6 @@ abbrev pub budget_of : List ℕ → ℕ
 budget_of [] = 2 ^ 64 - 1
 budget_of (max ∷ []) = 2 ^ 64 - 1
 budget_of (max ∷ budget ∷ more) = budget
-
--- these words spell at most two limits
-pub record AreLimits (words : List (List ℕ)) (limits : List ℕ) : Type 0 where
-  pub spelled : words ≡ map decimal limits
-  pub at_most_two : length limits ≤ 2
 
 -- these words spell an own key, a size and limits
 pub record AreArguments (words : List (List ℕ)) (own size : ℕ) (limits : List ℕ) : Type 0 where

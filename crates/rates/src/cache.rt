@@ -94,11 +94,7 @@ fn scenario_of(what: &str, [peers, size, rounds]: [u64; 3]) -> Result<Scenario, 
 }
 
 /// Makes a cache, and times calls of it.
-fn measure<K, R>(rt: &R, scenario: Scenario) -> Result<Measured, Fault>
-where
-    K: Name,
-    R: Clock + AllocGlobal,
-{
+fn measure<K: Name, R: Clock + AllocGlobal>(rt: &R, scenario: Scenario) -> Result<Measured, Fault> {
     let mut load = Load::<K>::new(rt.alloc(), scenario.peers, scenario.size)?;
     time(rt, &mut load, scenario)
 }

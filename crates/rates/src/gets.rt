@@ -16,11 +16,7 @@ use std::time::{Clock, Duration, Instant};
 const KEY: Key = Key { bytes: [1; 32] };
 
 /// Makes the measurement of the words `CLIENTS ROUNDS DEPTH`, and writes its line.
-pub fn play<R, W>(rt: &R, words: &[String], out: &mut W) -> Result<(), Fault>
-where
-    R: Runtime,
-    W: Write,
-{
+pub fn play<R: Runtime, W: Write>(rt: &R, words: &[String], out: &mut W) -> Result<(), Fault> {
     let [clients, rounds, depth] = parse_numbers::<3>(words)?;
     let (answered, took) = measure(rt, clients, rounds, depth)?;
     let milliseconds = u64::try_from(took.as_millis()).unwrap_or(u64::MAX);
@@ -36,10 +32,7 @@ where
 type Measured = (u64, Duration);
 
 /// Lets as many clients get the message of a started node.
-fn measure<R>(rt: &R, clients: u64, rounds: u64, depth: u64) -> Result<Measured, Fault>
-where
-    R: Runtime,
-{
+fn measure<R: Runtime>(rt: &R, clients: u64, rounds: u64, depth: u64) -> Result<Measured, Fault> {
     let message = message(rt.alloc())?;
     let digest = message.digest();
     let (handle, mailbox) = start(rt)?;

@@ -28,11 +28,7 @@ fn main(rt: HostRuntime) -> ExitCode {
 }
 
 /// Makes the measurement of the arguments, and writes its line.
-fn play<R, W>(rt: &R, words: &[String], out: &mut W) -> Result<(), Fault>
-where
-    R: Runtime,
-    W: Write,
-{
+fn play<R: Runtime, W: Write>(rt: &R, words: &[String], out: &mut W) -> Result<(), Fault> {
     let [what, rest @ ..] = words else {
         return Err(Fault::Usage);
     };

@@ -179,15 +179,12 @@ where
 }
 
 /// Polls the engine as often as is said, as a task. Returns how many payloads it took.
-fn run_task<R>(
+fn run_task<R: Wait + RandomSource + AllocGlobal + Drop>(
     rt: &R,
     engine: &mut Idle<TestMessage, R>,
     network: &mut (RecordingSender<u64>, Payloads),
     polls: usize,
-) -> Result<usize, AllocError>
-where
-    R: Wait + RandomSource + AllocGlobal + Drop,
-{
+) -> Result<usize, AllocError> {
     let Ok(task) = Solo::new(rt, Doorbell::spinning()) else {
         return Err(AllocError);
     };
@@ -200,16 +197,13 @@ where
 }
 
 /// Polls the engine as often as is said. Returns how many payloads it took.
-fn poll_all<R>(
+fn poll_all<R: Wait + AllocGlobal + Drop>(
     alloc: Global,
     cx: &mut Context<'_>,
     engine: &mut Idle<TestMessage, R>,
     network: &mut (RecordingSender<u64>, Payloads),
     polls: usize,
-) -> usize
-where
-    R: Wait + AllocGlobal + Drop,
-{
+) -> usize {
     let mut taken = 0usize;
     for _ in 0..polls {
         let polled = engine.poll::<ToGet, _, _>(alloc, cx, network);

@@ -1,7 +1,7 @@
 //! The wire format of a message: its length in four bytes, highest first, and then its bytes.
 ghost use Rattle.std.specs.Prelude.{◌≡◌, ℕ, List, ◌++◌, length, Some, None, Err};
 ghost use Rattle.broadcast_core.specs.Blocks.{byte_list_encoding, read_byte_list};
-ghost use Rattle.broadcast_core.specs.Codec.{whole};
+ghost use Rattle.broadcast_core.specs.Setting.{whole};
 ghost use Rattle.broadcast_c.specs.Packets.{ReportsReading};
 
 use crate::codes::{END_OF_BUFFER, EXTRA_DATA, INVALID_LENGTH, OK, TOO_LONG};

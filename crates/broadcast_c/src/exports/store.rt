@@ -1,10 +1,13 @@
 //! The functions of a store.
-ghost use Rattle.std.specs.Prelude.{◌≡◌, ℕ, List, [], length, is_some, true, None, MatchOption};
+ghost use Rattle.std.specs.Prelude.{◌≡◌, List, [], length, is_some, true, None, MatchOption};
 ghost use Rattle.std.specs.List.{count_by};
-ghost use Rattle.broadcast_core.specs.Content.{bytes_of, charged_at, has_primary, list_at, message_at, waiting_at};
+ghost use Rattle.broadcast_core.specs.Content.{bytes_of, charged_at, list_at, message_at, waiting_at};
+ghost use Rattle.broadcast_core.specs.Empty.{empty};
+ghost use Rattle.broadcast_core.specs.Fronted.{has_primary};
 ghost use Rattle.broadcast_core.specs.Changes.{TakesPeers, Awaits, Cleans, CleansAt};
 ghost use Rattle.broadcast_core.specs.Reports.{Reports};
-ghost use Rattle.broadcast_core.specs.Waiters.{is_gone, gone_from, counted};
+ghost use Rattle.broadcast_core.specs.Waiters.{is_gone, gone_from};
+ghost use Rattle.broadcast_core.specs.Counted.{counted};
 ghost use Rattle.broadcast_c.specs.Calls.{BothHold, Fails, Finds, IsFilled, ReportsTaking};
 ghost use Rattle.broadcast_c.specs.Counting.{counted_as};
 ghost use Rattle.broadcast_c.specs.Storing.{HaveSameNames, MovesLeft, handle_at, same_bytes};
@@ -53,15 +56,9 @@ pub extern "C" fn broadcast_store_new(
     deque_size: usize,
     byte_budget: u64,
 ) -> u32
-    ensures made { result ≡ OK → MatchOption store.new.value ⊥ (λ new. (new.cache.core ≡ record {
-      own = own.now;
-      deque_size = deque_size;
-      byte_budget = byte_budget;
-      primary = [];
-      lists = [];
-      cached = [];
-      waiters = [];
-    }) × (new.served ≡ []) × (new.cache.left ≡ [])) }
+    ensures made { result ≡ OK → MatchOption store.new.value ⊥ (λ new.
+        (new.cache.core ≡ empty own.now deque_size byte_budget)
+        × (new.served ≡ []) × (new.cache.left ≡ [])) }
     ensures fails { ¬ (result ≡ OK) → (result ≡ MEMORY) × (store.new.value ≡ store.old.value) }
 {
     match Box::new(alloc, Store::new(alloc, *own, deque_size, byte_budget)) {
@@ -181,8 +178,7 @@ pub extern "C" fn broadcast_store_served(
 ) -> u32
     ensures finds { Finds store.old.value store.new.value result (λ old new. (new ≡ old)
         × IsFilled old.served out.old out.new needed.new result) }
-    ensures reports_nothing { result ≡ EMPTY
-        → (out.new ≡ out.old) × (needed.new ≡ needed.old) }
+    ensures reports_nothing { result ≡ EMPTY → (out.new ≡ out.old) × (needed.new ≡ needed.old) }
 {
     let Some(held) = store.take(alloc) else {
         return EMPTY;
@@ -365,8 +361,7 @@ pub extern "C" fn broadcast_store_list(
 ) -> u32
     ensures finds { Finds store.old.value store.new.value result (λ old new. (new ≡ old)
         × IsFilled (list_at same_bytes old.cache.core peer.now) out.old out.new needed.new result) }
-    ensures reports_nothing { result ≡ EMPTY
-        → (out.new ≡ out.old) × (needed.new ≡ needed.old) }
+    ensures reports_nothing { result ≡ EMPTY → (out.new ≡ out.old) × (needed.new ≡ needed.old) }
 {
     let Some(held) = store.take(alloc) else {
         return EMPTY;

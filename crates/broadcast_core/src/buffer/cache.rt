@@ -1,13 +1,12 @@
 //! The lists of the peers, and each listed message once.
-ghost use Rattle.std.specs.Prelude.{◌≡◌, ◌≤◌, ◌<◌, ◌∷◌, Bool, false, true, length, [], None};
-ghost use Rattle.std.specs.Prelude.{is_some, IfOk, IfSome, OnOk, OnErr, IsOk, MatchBool};
+ghost use Rattle.std.specs.Prelude.{◌≡◌, ◌≤◌, ◌<◌, ◌∷◌, Bool, false, true, length, [], None, is_some, IfOk, IfSome, OnOk, OnErr, IsOk, MatchBool};
 ghost use Rattle.std.specs.Option.{option_copied, option_map};
 ghost use Rattle.std.specs.List.{IsDistinct, list_any};
 ghost use Rattle.std.specs.Map.{lookup, keys_of};
 ghost use Rattle.std.specs.Ordering.{eq_by_cmp};
 ghost use Rattle.entries.specs.Overlaid.{overlaid};
-ghost use Rattle.broadcast_core.specs.Content.{same_by, same_charged, at_charge, digests_of, bytes_of};
-ghost use Rattle.broadcast_core.specs.Content.{among, fronted, items_at, outcome_of};
+ghost use Rattle.broadcast_core.specs.Content.{same_by, same_charged, at_charge, digests_of, bytes_of, among, items_at, outcome_of};
+ghost use Rattle.broadcast_core.specs.Fronted.{fronted};
 ghost use Rattle.broadcast_core.specs.Left.{Adds, HasRoom};
 ghost use Rattle.broadcast_core.specs.Stored.{has_digest};
 
@@ -244,8 +243,7 @@ impl<P: PublicKey, M: Digestible> Cache<P, M> {
     /// Drops the list of `peer`.
     fn remove(&mut self, peer: &P, left: &mut Left<M>)
         requires { HasRoom (length self.old.messages) left.old }
-        ensures dropped { Drops (same_by P.cmp M.Digest.cmp) (peer.now ∷ []) []
-            self.old self.new }
+        ensures dropped { Drops (same_by P.cmp M.Digest.cmp) (peer.now ∷ []) [] self.old self.new }
         ensures left { Adds (eq_by_cmp M.Digest.cmp) self.old.messages self.new.messages
             left.old left.new }
         ensures left_room { HasRoom (length self.new.messages) left.new }

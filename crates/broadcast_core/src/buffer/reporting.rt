@@ -1,12 +1,12 @@
 //! A core that reports which messages left it.
 ghost use Rattle.std.specs.Prelude.{◌≡◌, ◌++◌, [], length, None, IfOk, IfErr, OnErr};
-ghost use Rattle.std.specs.List.{count_by, IsDistinct};
-ghost use Rattle.std.specs.Map.{keys_of};
+ghost use Rattle.std.specs.List.{count_by};
 ghost use Rattle.std.specs.Option.{option_map, option_to_list};
-ghost use Rattle.std.specs.Ordering.{eq_by_cmp};
 ghost use Rattle.broadcast_core.specs.Content.{same_by, waiting_at};
+ghost use Rattle.broadcast_core.specs.Empty.{empty};
 ghost use Rattle.broadcast_core.specs.Changes.{IsTaken, TakesPeers, Cleans, CleansAt, IsSubscribed};
-ghost use Rattle.broadcast_core.specs.Waiters.{is_gone, gone_from, counted};
+ghost use Rattle.broadcast_core.specs.Waiters.{is_gone, gone_from};
+ghost use Rattle.broadcast_core.specs.Counted.{counted};
 
 use crate::buffer::Core;
 use crate::buffer::left::Left;
@@ -45,15 +45,7 @@ impl<P: PublicKey, M: Digestible, W: Drop> Reporting<P, M, W> {
 
     /// Creates an empty core, as [`Core::new`] does.
     pub fn new(alloc: Global, own: P, deque_size: usize, byte_budget: u64) -> Self
-        ensures core { result.core ≡ record {
-          own = own;
-          deque_size = deque_size;
-          byte_budget = byte_budget;
-          primary = [];
-          lists = [];
-          cached = [];
-          waiters = [];
-        } }
+        ensures core { result.core ≡ empty own deque_size byte_budget }
         ensures left { result.left ≡ [] }
     {
         Reporting {
@@ -71,8 +63,7 @@ impl<P: PublicKey, M: Digestible, W: Drop> Reporting<P, M, W> {
 
     /// Makes `peers` the primary keys, as [`Core::update_primary_peers`] does.
     pub fn update_primary_peers(&mut self, peers: Set<P>)
-        ensures taken { TakesPeers (same_by P.cmp M.Digest.cmp) peers
-            self.old.core self.new.core }
+        ensures taken { TakesPeers (same_by P.cmp M.Digest.cmp) peers self.old.core self.new.core }
         ensures left { Reports (same_by P.cmp M.Digest.cmp) self.old self.new }
     {
         self.core.update_primary_peers_into(peers, &mut self.left);
@@ -128,8 +119,7 @@ impl<P: PublicKey, M: Digestible, W: Drop> Reporting<P, M, W> {
         W: Ticketed,
         ensures dropped { Cleans (same_by P.cmp M.Digest.cmp) (is_gone W.ticket_of gone.now)
             self.old.core self.new.core }
-        ensures removed { result
-            ≡ counted (gone_from W.ticket_of gone.now self.old.core.waiters) }
+        ensures removed { result ≡ counted (gone_from W.ticket_of gone.now self.old.core.waiters) }
         ensures left { self.new.left ≡ self.old.left }
     {
         self.core.cleanup(gone)

@@ -1,6 +1,5 @@
 //! Lists by number, and each listed message once.
-ghost use Rattle.std.specs.Prelude.{◌≡◌, ◌≤◌, ◌<◌, ◌+◌, ◌^◌, ◌∷◌, true, not, length, take, [], None, Some, IsSome, is_some};
-ghost use Rattle.std.specs.Prelude.{IfOk, IfSome, OnOk, OnErr, IsOk};
+ghost use Rattle.std.specs.Prelude.{◌≡◌, ◌≤◌, ◌<◌, ◌+◌, ◌^◌, ◌∷◌, true, not, length, take, [], None, Some, IsSome, is_some, IfOk, IfSome, OnOk, OnErr, IsOk};
 ghost use Rattle.std.specs.Option.{option_copied};
 ghost use Rattle.std.specs.List.{IsDistinct};
 ghost use Rattle.std.specs.Map.{lookup, keys_of};
@@ -8,8 +7,9 @@ ghost use Rattle.std.specs.Ordering.{eq_by_cmp};
 ghost use Rattle.entries.specs.Overlaid.{same_number, overlaid};
 ghost use Rattle.entries.specs.Store.{items_at as nodes_at, bytes_of as sum_of, Extends};
 ghost use Rattle.entries.specs.Table.{place_at, items_of, messages_of, IsTabled, KeepsNames, Takes};
-ghost use Rattle.broadcast_core.specs.Content.{same_listed, same_charged, without, at_charge, digests_of, bytes_of};
-ghost use Rattle.broadcast_core.specs.Content.{among, within, fronted, items_at, outcome_of};
+ghost use Rattle.broadcast_core.specs.Content.{same_charged, without, at_charge, digests_of, bytes_of, among, items_at, outcome_of};
+ghost use Rattle.broadcast_core.specs.Numbered.{same_listed};
+ghost use Rattle.broadcast_core.specs.Fronted.{within, fronted};
 ghost use Rattle.broadcast_core.specs.Stored.{has_digest};
 ghost use Rattle.broadcast_core.specs.Indexed.{names_of, Holds, Pushes};
 ghost use Rattle.broadcast_core.specs.Left.{Adds, HasRoom, Widens};
@@ -31,7 +31,7 @@ pub struct Shelf<M: Digestible> {
 
 impl<M: Digestible> Model for Shelf<M> {
     ghost use Rattle.std.specs.Prelude.{ℕ};
-    ghost use Rattle.broadcast_core.specs.Content.{same_listed};
+    ghost use Rattle.broadcast_core.specs.Numbered.{same_listed};
     ghost use Rattle.broadcast_core.specs.Indexed.{IsShelved, names_of, shelved_of};
     ghost use Rattle.entries.specs.Table.{items_of};
     ghost use Rattle.broadcast_core.specs.Stored.{Stored};
@@ -106,8 +106,7 @@ impl<M: Digestible> Shelf<M> {
     ) -> Result<Listing, AllocError>
         requires there { is_some (lookup (same_number list) self.old.lists) ≡ true }
         requires size { length (items_at same_number list self.old.lists) ≤ deque_size }
-        requires bytes { bytes_of (items_at same_number list self.old.lists)
-            ≤ byte_budget }
+        requires bytes { bytes_of (items_at same_number list self.old.lists) ≤ byte_budget }
         requires affordable { charge ≤ byte_budget }
         requires left_room { HasRoom (length self.old.messages) left.old }
         ensures outcome { let same = same_listed M.Digest.cmp in
@@ -229,8 +228,7 @@ impl<M: Digestible> Shelf<M> {
     pub fn list(&self, alloc: Global, list: usize) -> Result<Vec<M::Digest>, AllocError>
         ensures digests { IfOk result (λ digests. digests.items
             ≡ digests_of (items_at same_number list self.now.lists)) }
-        ensures succeeds_on_empty { items_at same_number list self.now.lists ≡ []
-            → IsOk result }
+        ensures succeeds_on_empty { items_at same_number list self.now.lists ≡ [] → IsOk result }
         ensures distinct { IsDistinct (same_charged (eq_by_cmp M.Digest.cmp))
             (items_at same_number list self.now.lists) }
     {
@@ -330,8 +328,7 @@ fn push<M: Digestible>(
 ) -> Result<u128, AllocError>
     requires there { is_some (lookup (same_number list) lists.old.lists) ≡ true }
     requires some { 0 < size }
-    requires room { sum_of (nodes_at same_number list lists.old.lists) + charged.charge
-        < 2 ^ 128 }
+    requires room { sum_of (nodes_at same_number list lists.old.lists) + charged.charge < 2 ^ 128 }
     requires tabled { IsTabled M.Digest.cmp (λ m. m.digest) table.old }
     ensures bytes { IfOk result (λ bytes. bytes
         ≡ sum_of (nodes_at same_number list lists.new.lists)) }
@@ -343,8 +340,7 @@ fn push<M: Digestible>(
     ensures tabled { IsTabled M.Digest.cmp (λ m. m.digest) table.new }
     ensures left { OnOk result (Adds (eq_by_cmp M.Digest.cmp) (messages_of (items_of table.old))
         (messages_of (items_of table.new)) left.old left.new) }
-    ensures left_room { OnOk result (HasRoom (length (messages_of (items_of table.new)))
-        left.new) }
+    ensures left_room { OnOk result (HasRoom (length (messages_of (items_of table.new))) left.new) }
     ensures left_stays { OnErr result (Widens left.old left.new) }
 {
     match push_with_room(lists, table.len(), list, charged, size, left) {
@@ -372,8 +368,7 @@ fn push_with_room<M: Digestible>(
 ) -> Result<(u128, Option<Charged<usize>>), AllocError>
     requires there { is_some (lookup (same_number list) lists.old.lists) ≡ true }
     requires some { 0 < size }
-    requires room { sum_of (nodes_at same_number list lists.old.lists) + charged.charge
-        < 2 ^ 128 }
+    requires room { sum_of (nodes_at same_number list lists.old.lists) + charged.charge < 2 ^ 128 }
     ensures bytes { IfOk result (λ pushed. pushed.0
         ≡ sum_of (nodes_at same_number list lists.new.lists)) }
     ensures ok { IfOk result (λ pushed. Extends same_number list (lists.old.vacant, charged) size

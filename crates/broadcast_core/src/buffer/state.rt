@@ -5,8 +5,7 @@ ghost use Rattle.std.specs.List.{list_any};
 ghost use Rattle.std.specs.Map.{lookup};
 ghost use Rattle.std.specs.Ordering.{eq_by_cmp};
 ghost use Rattle.broadcast_core.specs.Changes.{IsTaken, TakesPeers};
-ghost use Rattle.broadcast_core.specs.Content.{same_by, affordable, among, at_charge, bytes_of, items_at, digests_of};
-ghost use Rattle.broadcast_core.specs.Content.{outcome_of};
+ghost use Rattle.broadcast_core.specs.Content.{same_by, affordable, among, at_charge, bytes_of, items_at, digests_of, outcome_of};
 ghost use Rattle.broadcast_core.specs.Left.{Adds, HasRoom};
 ghost use Rattle.broadcast_core.specs.Stored.{StoresIf, has_digest, with_own};
 

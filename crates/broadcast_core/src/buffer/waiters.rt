@@ -6,7 +6,9 @@ ghost use Rattle.std.specs.declared.ops.Bound.TheVariants.{Unbounded};
 ghost use Rattle.std.specs.Map.{keys_of};
 ghost use Rattle.std.specs.Ordering.{eq_by_cmp};
 ghost use Rattle.broadcast_core.specs.Content.{items_at};
-ghost use Rattle.broadcast_core.specs.Waiters.{NoneEmpty, AreAwaited, waiting_in, is_gone, gone_from, first_with, DropsClosed, DropsClosedIf, counted};
+ghost use Rattle.broadcast_core.specs.Waiters.{NoneEmpty, waiting_in, is_gone, gone_from, DropsClosed, DropsClosedIf};
+ghost use Rattle.broadcast_core.specs.Awaited.{AreAwaited, first_with};
+ghost use Rattle.broadcast_core.specs.Counted.{counted};
 
 use crate::buffer::gone::Gone;
 use crate::items::Items;
@@ -26,7 +28,7 @@ pub struct Waiters<D: Ord, W> {
 
 impl<D: Ord, W> Model for Waiters<D, W> {
     ghost use Rattle.std.specs.Prelude.{List};
-    ghost use Rattle.broadcast_core.specs.Waiters.{AreAwaited};
+    ghost use Rattle.broadcast_core.specs.Awaited.{AreAwaited};
 
     ghost Value = { List (D × List W) };
 
@@ -343,8 +345,7 @@ fn drop_closed_at<D: Ord + Copy, W: Closable + Drop>(
     ensures lists { let same = eq_by_cmp D.cmp in
         (e : D) → DropsClosedIf (same digest.now e) W.may_answer
         (items_at same e by_digest.old.entries) (items_at same e by_digest.new.entries) }
-    ensures removed { waiting_in by_digest.new.entries + result
-        ≡ waiting_in by_digest.old.entries }
+    ensures removed { waiting_in by_digest.new.entries + result ≡ waiting_in by_digest.old.entries }
 {
     let Some(waiters) = by_digest.get_mut(digest) else {
         return 0;

@@ -36,8 +36,7 @@ pub use tagged::{OneOf, Tag};
 
 /// Returns `n` if there are as many bytes.
 fn enough(buf: &[u8], n: usize) -> Result<usize, CodecError>
-    ensures { result
-        ≡ (if nat_lt (length buf.now) n then Err CodecError.EndOfBuffer else Ok n) }
+    ensures { result ≡ (if nat_lt (length buf.now) n then Err CodecError.EndOfBuffer else Ok n) }
 {
     if buf.len() < n {
         return Err(CodecError::EndOfBuffer);

@@ -43,8 +43,7 @@ pub fn read_cfg<'a>(buf: &'a [u8], cfg: &RangeCfg) -> Result<(&'a [u8], &'a [u8]
 
 /// Returns the number of bytes that encode `list`, or `None` if it has more than 4,294,967,295.
 pub fn encode_size(list: &[u8]) -> Option<usize>
-    ensures { result
-        ≡ (if has_spelling list.now then Some (length (spelled list.now)) else None) }
+    ensures { result ≡ (if has_spelling list.now then Some (length (spelled list.now)) else None) }
 {
     if list.len() > MAX_LENGTH {
         return None;

@@ -1,9 +1,8 @@
 //! One event of a run.
 ghost use Rattle.std.specs.Prelude.{◌≡◌, ℕ, [], true, false};
 ghost use Rattle.std.specs.Option.{option_to_list};
-ghost use Rattle.broadcast_core.specs.Codec.{whole};
+ghost use Rattle.broadcast_core.specs.Setting.{whole, Setting, setting};
 ghost use Rattle.broadcast_core.specs.Content.{same_by};
-ghost use Rattle.broadcast_core.specs.Setting.{Setting, setting};
 ghost use Rattle.broadcast_core.specs.HasRun.{Follows};
 ghost use Rattle.broadcast_core.specs.Log.{is_refused};
 ghost use Rattle.broadcast_core.specs.declared.event.Event.TheVariants as event;

@@ -75,7 +75,7 @@ where
     }
 }
 
-impl<P, M, B, R, T, A, K, V> Engine<
+impl<P: PublicKey, M: Digestible + Codec, B, R, T: Strategy<M>, A, K, V> Engine<
     P,
     M,
     Answering<Reply<M>>,
@@ -85,9 +85,6 @@ impl<P, M, B, R, T, A, K, V> Engine<
     T,
 >
 where
-    P: PublicKey,
-    M: Digestible + Codec,
-    T: Strategy<M>,
     R: Clone + Drop,
     A: Account,
     K: Account,

@@ -45,10 +45,8 @@ where
 /// The handle and the mailbox of a started engine that has an observer.
 type Started<P, M, R, W> = (Handle<P, M, R, (), W>, Mailbox<P, M, R>);
 
-impl<P, C, B, T, W> Observed<P, C, B, T, W>
+impl<P: PublicKey + Send + 'static, C: Movable, B, T, W> Observed<P, C, B, T, W>
 where
-    P: PublicKey + Send + 'static,
-    C: Movable,
     B: Provider<P> + Movable,
     T: Movable,
     W: Movable,
@@ -84,13 +82,11 @@ where
 }
 
 /// Creates an engine and its mailbox.
-fn new_engine<P, M, B, T, R>(
+fn new_engine<P: PublicKey, M: Digestible + Codec, B, T, R>(
     rt: &R,
     cfg: Config<P, M::Cfg, B, T>,
 ) -> Result<(MailboxEngine<P, M, B, T, R>, Mailbox<P, M, R>), AllocError>
 where
-    P: PublicKey,
-    M: Digestible + Codec,
     M::Cfg: Drop,
     B: Drop,
     T: Strategy<M> + Drop,

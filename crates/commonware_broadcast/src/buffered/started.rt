@@ -76,11 +76,8 @@ impl<P: PublicKey, M: Digestible, R: AllocGlobal + Clone + Drop, A: Bookkeeping>
     }
 }
 
-impl<P, M, R, A, W> Handle<P, M, R, A, W>
+impl<P: PublicKey, M: Digestible, R: Threads + Wait + Drop, A, W> Handle<P, M, R, A, W>
 where
-    P: PublicKey,
-    M: Digestible,
-    R: Threads + Wait + Drop,
     A: Bookkeeping,
 {
     /// Asks the engine to stop. Does not wait for its end.
@@ -122,12 +119,8 @@ where
     }
 }
 
-impl<P, M, R, A, W> Drop for Handle<P, M, R, A, W>
+impl<P: PublicKey, M: Digestible, R: Wait + Drop, A: Bookkeeping, W> Drop for Handle<P, M, R, A, W>
 where
-    P: PublicKey,
-    M: Digestible,
-    R: Wait + Drop,
-    A: Bookkeeping,
     W: Drop,
 {
     fn drop(self) {

@@ -1,7 +1,7 @@
 //! The latest turns.
 ghost use Rattle.std.specs.Prelude.{◌≡◌, ◌+◌, ◌-◌, ◌≤◌, [], ◌∷◌, ◌++◌, drop, length, IfOk, IfErr};
 ghost use Rattle.std.specs.VecDeque.{deque_len, deque_capacity};
-ghost use Rattle.broadcast_mailbox.specs.Account.{capped};
+ghost use Rattle.broadcast_core.specs.Counted.{counted as capped};
 
 use super::Observer;
 use crate::input::Turn;
@@ -81,7 +81,7 @@ impl<P: PublicKey, D: Copy> Recent<P, D> {
 
 impl<P: PublicKey, D: Copy> Observer<P, D> for Recent<P, D> {
     ghost use Rattle.std.specs.Prelude.{◌≡◌, length};
-    ghost use Rattle.broadcast_mailbox.specs.Account.{capped};
+    ghost use Rattle.broadcast_core.specs.Counted.{counted as capped};
 
     ghost seen = { λ it turns. it.seen ≡ capped (length turns) };
 

@@ -101,8 +101,7 @@ fn pass_event(
 fn pass<T: Closable + Drop>(inbox: &mut Inbox<T>, message: T) -> Result<T, Fault>
     ensures message_stays { IfOk result (λ back. back ≡ message) }
     ensures counts_each { OnOk result (inbox.new ≡ passed inbox.old 1) }
-    ensures idle_lacks_memory_alone { IsIdle inbox.old 1
-        → IfErr result (λ fault. fault ≡ Memory) }
+    ensures idle_lacks_memory_alone { IsIdle inbox.old 1 → IfErr result (λ fault. fault ≡ Memory) }
 {
     // A request that waits already would be taken in place of this one.
     if inbox.counts().waiting != 0 {

@@ -52,8 +52,7 @@ fn write_sends<W: Write>(out: &mut W, sends: &[Sent<u64>]) -> io::Result<()>
 
 /// Writes the line of a send.
 fn write_sent<W: Write>(out: &mut W, sent: &Sent<u64>) -> io::Result<()>
-    ensures { OnOk result (Appends (W.contents out.old) (W.contents out.new)
-        (sent_line sent.now)) }
+    ensures { OnOk result (Appends (W.contents out.old) (W.contents out.new) (sent_line sent.now)) }
 {
     out.write_all(b"sent ")?;
     write_recipients(out, &sent.recipients)?;

@@ -1,7 +1,8 @@
 //! The arguments of the program.
 ghost use Rattle.std.specs.Prelude.{◌≡◌, ◌<◌, ◌^◌, ℕ, List, [], ◌∷◌, All, Option, Some, IfSome, map, string_bytes};
 ghost use Rattle.std.specs.Fmt.{decimal};
-ghost use Rattle.programs.specs.ReplayArguments.{AreArguments, AreLimits, budget_of, range_of, settings_of};
+ghost use Rattle.programs.specs.ReplayArguments.{AreArguments, budget_of, range_of, settings_of};
+ghost use Rattle.programs.specs.Parsing.{AreLimits};
 
 use crate::text::words::parse_number;
 use broadcast_core::RangeCfg;

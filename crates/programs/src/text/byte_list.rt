@@ -2,7 +2,8 @@
 ghost use Rattle.std.specs.Prelude.{◌≡◌, ◌↔◌, ◌∷◌, ◌+◌, ◌*◌, ◌%◌, ◌≤◌, ◌<◌, ℕ, List, All, true, length, slice_index, IfOk, IfErr, OnOk};
 ghost use Rattle.std.specs.Io.KnownBytes.{Appends};
 ghost use Rattle.hex.specs.Hex.{IsBytes, encode_lower, lower_digits};
-ghost use Rattle.programs.specs.Words.{IsHexDigit, IsSpelled, ReadsDigit, SpellsBytes, byte_list_word};
+ghost use Rattle.programs.specs.Words.{SpellsBytes, byte_list_word};
+ghost use Rattle.programs.specs.Parsing.{IsHexDigit, IsSpelled, ReadsDigit};
 
 use crate::text::line_error::LineError;
 use std::alloc::Global;

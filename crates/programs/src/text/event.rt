@@ -4,8 +4,7 @@ ghost use Rattle.broadcast_core.specs.declared.ordered.Recipients.{Recipients as
 ghost use Rattle.programs.specs.Message.{Spelled};
 ghost use Rattle.programs.specs.declared.text.event.Kind.{Kind};
 ghost use Rattle.programs.specs.declared.text.line_error.LineError.TheVariants.{Syntax, Memory};
-ghost use Rattle.programs.specs.EventLine.{Line, peers, broadcast, payload, subscribe, get, cleanup};
-ghost use Rattle.programs.specs.EventLine.{kind_word, kind_of, HasRest, IsEventOf, Fits};
+ghost use Rattle.programs.specs.EventLine.{Line, peers, broadcast, payload, subscribe, get, cleanup, kind_word, kind_of, HasRest, IsEventOf, Fits};
 
 use crate::text::byte_list::parse_byte_list;
 use crate::text::line_error::LineError;

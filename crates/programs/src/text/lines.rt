@@ -1,7 +1,8 @@
 //! The lines of a reader, each read as an item.
 ghost use Rattle.std.specs.Prelude.{◌≡◌, ◌++◌, ◌∷◌, ◌+◌, ℕ, List, [], IfSome, IfOk, IfErr, OnOk, OnSome, None, length, Ok, true, false};
 ghost use Rattle.std.specs.Io.KnownBytes.{IsAtEnd, Keeps};
-ghost use Rattle.programs.specs.Lines.{AreRead, IsFirstUnread, IsParsed, Extends, IsLineRead, IsFailure, IsOfReading, LinesLeft, ending_of, line_end, lines_of};
+ghost use Rattle.programs.specs.Lines.{AreRead, IsFirstUnread, IsFailure, IsOfReading, lines_of};
+ghost use Rattle.programs.specs.Parsing.{IsParsed, Extends, IsLineRead, LinesLeft, ending_of, line_end};
 ghost use Rattle.programs.specs.declared.text.lines.Progress.TheVariants.{InputEnd};
 ghost use Rattle.programs.specs.declared.text.line_error.LineError.TheVariants as line_error;
 ghost use Rattle.programs.specs.declared.text.fault.Fault.TheVariants as faults;
@@ -170,8 +171,7 @@ fn parse_buffered<L: LineFormat, R: BufRead>(
     ensures next_line { IfOk result (λ next. IfSome next (λ parsed. (text : List ℕ)
         × LinesLeft (R.remaining reader.old) (R.remaining reader.new) (text ∷ [])
         × IsParsed L.means L.spells text parsed)) }
-    ensures unread { result ≡ Ok None
-        → Keeps (R.remaining reader.old) (R.remaining reader.new) }
+    ensures unread { result ≡ Ok None → Keeps (R.remaining reader.old) (R.remaining reader.new) }
     ensures faults { IfErr result IsFailure }
 {
     let buffered = match reader.fill_buf() {

@@ -94,8 +94,7 @@ pub fn write_lists<W: Write>(out: &mut W, lists: &[PeerList<'_>]) -> io::Result<
 
 /// Writes the line of a list.
 pub fn write_list<W: Write>(out: &mut W, list: &PeerList<'_>) -> io::Result<()>
-    ensures { OnOk result (Appends (W.contents out.old) (W.contents out.new)
-        (list_line list.now)) }
+    ensures { OnOk result (Appends (W.contents out.old) (W.contents out.new) (list_line list.now)) }
 {
     write_entry(out, list.peer, &list.messages)
 }

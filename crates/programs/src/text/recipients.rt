@@ -1,7 +1,8 @@
 //! Recipients as words.
 ghost use Rattle.std.specs.Prelude.{◌≡◌, ℕ, List, IsOk, IfOk, IfErr, OnOk};
 ghost use Rattle.broadcast_core.specs.declared.ordered.Recipients.{Recipients as Named};
-ghost use Rattle.programs.specs.Recipients.{IsKeys, IsRecipients, AreNumbers, keys_of, recipients_of as recipients};
+ghost use Rattle.programs.specs.Recipients.{IsKeys, IsRecipients, AreNumbers, keys_of};
+ghost use Rattle.programs.specs.Parsing.{recipients_of as recipients};
 ghost use Rattle.programs.specs.declared.text.line_error.LineError.TheVariants.{Memory, Syntax};
 
 use crate::text::line_error::LineError;

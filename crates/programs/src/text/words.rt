@@ -2,7 +2,8 @@
 ghost use Rattle.std.specs.Prelude.{◌≡◌, ◌+◌, ◌-◌, ◌*◌, ◌^◌, ◌<◌, ◌≤◌, ℕ, List, [], ◌∷◌, ◌++◌, map, All, Some, IfSome, IfNone, IfOk, IfErr, OnOk, OnErr, true, ◌≢◌};
 ghost use Rattle.std.specs.Fmt.{decimal};
 ghost use Rattle.memchr.specs.Find.{IsFirstByte, is_byte};
-ghost use Rattle.programs.specs.Words.{BeginsNumber, IsDigit, SpellNumbers, words_of};
+ghost use Rattle.programs.specs.Words.{SpellNumbers, words_of};
+ghost use Rattle.programs.specs.Parsing.{BeginsNumber, IsDigit};
 ghost use Rattle.programs.specs.declared.text.line_error.LineError.TheVariants.{Syntax, Memory};
 
 use crate::text::line_error::LineError;
@@ -146,8 +147,7 @@ pub fn parse_number(word: &[u8]) -> Option<u64>
 /// Returns the number whose digits are those of `number`, and this one behind them.
 fn with_digit(number: u64, digit: u8) -> Option<u64>
     ensures behind { IfSome result (λ n. IsDigit digit × (n ≡ number * 10 + (digit - 48))) }
-    ensures fails_for_others { IfNone result
-        (IsDigit digit → 2 ^ 64 ≤ number * 10 + (digit - 48)) }
+    ensures fails_for_others { IfNone result (IsDigit digit → 2 ^ 64 ≤ number * 10 + (digit - 48)) }
 {
     if !digit.is_ascii_digit() {
         return None;

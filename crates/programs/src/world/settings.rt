@@ -81,8 +81,7 @@ impl Settings {
         ensures size { IfOk result (λ it. string_bytes size.now ≡ decimal it.deque_size) }
         ensures nodes { IfOk result (λ it. IsKeys (string_bytes nodes.now) it.nodes) }
         ensures hostile { IfOk result (λ it. IsHostile (string_bytes hostile.now) it.hostile) }
-        ensures budget { IfOk result (λ it. IsBudget (map string_bytes budget.now)
-            it.byte_budget) }
+        ensures budget { IfOk result (λ it. IsBudget (map string_bytes budget.now) it.byte_budget) }
         ensures reads_all_arguments { (it : Arguments) → it.deque_size < 2 ^ 64
             → it.byte_budget < 2 ^ 64 → AreNumbers it.nodes → AreNumbers it.hostile
             → string_bytes size.now ≡ decimal it.deque_size

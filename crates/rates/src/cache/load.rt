@@ -86,11 +86,11 @@ impl<K: Name> Load<K> {
                 let number = self.random.below(of);
                 self.take(alloc, 0, number)
             }
-            Call::Fill => self.take(alloc, rest(number, peers), quotient(number, peers)),
+            Call::Fill => self.take(alloc, number % peers.max(1), number / peers.max(1)),
             Call::Get(of) => Ok(self.get(of)),
-            Call::List => self.list(alloc, rest(number, peers)),
+            Call::List => self.list(alloc, number % peers.max(1)),
             Call::Subscribe => self.subscribe(number),
-            Call::Cleanup(of) => Ok(self.cleanup(rest(number.wrapping_mul(STEP), of))),
+            Call::Cleanup(of) => Ok(self.cleanup(number.wrapping_mul(STEP) % of.max(1))),
         }
     }
 
@@ -131,16 +131,6 @@ impl<K: Name> Load<K> {
         self.core
             .cleanup_of(&K::named(Of::Awaited, ticket), &[ticket])
     }
-}
-
-/// Returns the quotient, or 0 if there is none.
-fn quotient(number: u64, by: u64) -> u64 {
-    number.checked_div(by).unwrap_or(0)
-}
-
-/// Returns the rest of the division, or 0 if there is none.
-fn rest(number: u64, by: u64) -> u64 {
-    number.checked_rem(by).unwrap_or(0)
 }
 
 /// Returns the keys of as many peers.

@@ -123,8 +123,7 @@ impl<A: Codec + Drop, B: Codec + Drop, C: Codec + Drop> Codec for (A, B, C) {
 
 /// Returns the length of both encodings.
 pub(super) fn size_of_both<A: EncodeSize, B: EncodeSize>(first: &A, second: &B) -> Option<usize>
-    ensures { result
-        ≡ option_map length (joined (A.encoding first.now) (B.encoding second.now)) }
+    ensures { result ≡ option_map length (joined (A.encoding first.now) (B.encoding second.now)) }
 {
     let size = first.encode_size()?;
     size.checked_add(second.encode_size()?)
@@ -159,8 +158,7 @@ fn layout_both<A: Read, B: Read>(
     first: &A::Cfg,
     second: &B::Cfg,
 ) -> Result<usize, CodecError>
-    ensures { result
-        ≡ layout_of (read_both (A.reading first.now) (B.reading second.now) buf.now) }
+    ensures { result ≡ layout_of (read_both (A.reading first.now) (B.reading second.now) buf.now) }
 {
     let used = A::layout(buf, first)?;
     let more = B::layout(&buf[used..], second)?;
@@ -190,8 +188,7 @@ fn read_laid_out<A: Read + Drop, B: Read>(
     second: &B::Cfg,
 ) -> Result<((A, B), usize), CodecError>
     requires { IsOk (read_both (A.reading first.now) (B.reading second.now) buf.now) }
-    ensures { GivesOrLacks result
-        (read_both (A.reading first.now) (B.reading second.now) buf.now) }
+    ensures { GivesOrLacks result (read_both (A.reading first.now) (B.reading second.now) buf.now) }
 {
     let (one, used) = A::read_cfg(alloc, buf, first)?;
     let (two, more) = B::read_cfg(alloc, &buf[used..], second)?;

@@ -1,8 +1,7 @@
 //! The counts of the requests that are made through tallies, and of those that are skipped.
-ghost use Rattle.std.specs.Prelude.{◌≡◌, ◌≤◌, ◌<◌, ◌+◌, ◌^◌, ◌&&◌, ◌||◌, ◌/◌};
-ghost use Rattle.std.specs.Prelude.{◌↔◌, ℕ, Bool, false, ⊤, IsTrue, IfOk, IfErr};
-ghost use Rattle.std.specs.Prelude.{IfSome, IfNone, is_err, is_none, true};
-ghost use Rattle.broadcast_mailbox.specs.Account.{one_if, TallyState, capped, tallied};
+ghost use Rattle.std.specs.Prelude.{◌≡◌, ◌≤◌, ◌<◌, ◌+◌, ◌^◌, ◌&&◌, ◌||◌, ◌/◌, ◌↔◌, ℕ, Bool, false, ⊤, IsTrue, IfOk, IfErr, IfSome, IfNone, is_err, is_none, true};
+ghost use Rattle.broadcast_core.specs.Counted.{counted as capped};
+ghost use Rattle.broadcast_mailbox.specs.Account.{one_if, TallyState, tallied};
 ghost use Rattle.broadcast_mailbox.specs.Skips.{no_skips};
 
 use std::marker::{Brand, Model};
@@ -118,7 +117,8 @@ pub struct Tally<A: Account> {
 
 impl<A: Account> Model for Tally<A> {
     ghost use Rattle.std.specs.Prelude.{◌≡◌, ◌<◌};
-    ghost use Rattle.broadcast_mailbox.specs.Account.{TallyState, capped};
+    ghost use Rattle.broadcast_core.specs.Counted.{counted as capped};
+    ghost use Rattle.broadcast_mailbox.specs.Account.{TallyState};
 
     ghost Value = { TallyState };
 

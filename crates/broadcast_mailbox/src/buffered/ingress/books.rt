@@ -1,7 +1,7 @@
 //! The account of a mailbox.
 ghost use Rattle.std.specs.Prelude.{◌≡◌, ◌<◌, ◌≤◌, ◌+◌, ◌^◌, ◌&&◌, not, true, false};
-ghost use Rattle.broadcast_mailbox.specs.Account.{TallyState, one_if, is_accepted, is_queued};
-ghost use Rattle.broadcast_mailbox.specs.Account.{is_skipped, tallied};
+ghost use Rattle.broadcast_mailbox.specs.Account.{TallyState, one_if, is_accepted, tallied};
+ghost use Rattle.broadcast_mailbox.specs.Booked.{is_queued, is_skipped};
 ghost use Rattle.broadcast_mailbox.specs.Mailbox.{count_skipped};
 ghost use Rattle.broadcast_mailbox.specs.Watch.{BroadcastsOnly};
 
@@ -68,10 +68,10 @@ impl<K: Account> Taker<K> {
         ensures same { self.new.share ≡ self.old.share }
     {
         let Taker {
-            share: _,
             applied,
             refused: others,
             is_open,
+            ..
         } = self;
         if *is_open {
             *is_open = false;
@@ -94,12 +94,7 @@ impl<K: Account> Taker<K> {
         ensures open { self.new.is_open ≡ true }
     {
         self.tell_outcome(false);
-        let Taker {
-            share,
-            applied: _,
-            refused: _,
-            is_open,
-        } = self;
+        let Taker { share, is_open, .. } = self;
         book.add(share, 1);
         book.audit(share);
         *is_open = true;
@@ -113,12 +108,7 @@ impl<K: Account> Taker<K> {
             × (book.new.total ≡ book.old.total) }
         ensures same_refused { self.new.refused ≡ self.old.refused }
     {
-        let Taker {
-            share,
-            applied: _,
-            refused: _,
-            is_open: _,
-        } = self;
+        let Taker { share, .. } = self;
         book.audit(share);
     }
 
@@ -196,11 +186,8 @@ impl<A: Account, K: Account, V: Watch<D>, D> Books<A, K, V, D> {
     {
         let Books {
             accepted,
-            taken: _,
-            skipped: _,
             waiting,
-            given_up: _,
-            of: _,
+            ..
         } = self;
         tally.count(accepted);
         *waiting += 1;
@@ -232,12 +219,9 @@ impl<A: Account, K: Account, V: Watch<D>, D> Books<A, K, V, D> {
         ensures given_up { self.new.given_up ≡ self.old.given_up }
     {
         let Books {
-            accepted: _,
-            taken: _,
             skipped,
             waiting,
-            given_up: _,
-            of: _,
+            ..
         } = self;
         *waiting -= number;
         *skipped += number;
@@ -262,9 +246,8 @@ impl<A: Account, K: Account, V: Watch<D>, D> Books<A, K, V, D> {
             accepted,
             taken,
             skipped,
-            waiting: _,
             given_up,
-            of: _,
+            ..
         } = self;
         tally.audit(accepted);
         taker.audit(taken);
@@ -302,14 +285,7 @@ impl<A: Account, K: Account, V: Watch<D>, D> Bookkeeping for Books<A, K, V, D> {
         if !counted {
             return;
         }
-        let Books {
-            accepted: _,
-            taken,
-            skipped: _,
-            waiting,
-            given_up: _,
-            of: _,
-        } = self;
+        let Books { taken, waiting, .. } = self;
         *waiting -= 1;
         taker.take(taken);
     }

@@ -196,8 +196,7 @@ impl<M: Digestible> Future for Get<M> {
         ensures same { OnPending result ((outcome : Option (Carried M M.Digest))
             → IfSome outcome (λ message. GoesBy M.Digest.cmp self.new.digest message)
             → IfSome outcome (λ message. GoesBy M.Digest.cmp self.old.digest message)) }
-        ensures registered { OnPending result
-            (Covers cx.new (λ source. source ≡ self.new.source)) }
+        ensures registered { OnPending result (Covers cx.new (λ source. source ≡ self.new.source)) }
         ensures kept { Keeps cx.old cx.new }
     {
         if self.is_done {

@@ -1,18 +1,14 @@
 //! The queue of a mailbox with its counts, and with the wakers of the task that takes its requests.
-ghost use Rattle.std.specs.Prelude.{◌≡◌, ◌⊎◌, ◌↔◌, ◌≤◌, ◌<◌, ◌^◌, ◌+◌, ◌&&◌, ◌||◌, List, Option};
-ghost use Rattle.std.specs.Prelude.{true, false, Ok, Err, OnErr, [], None, is_some};
+ghost use Rattle.std.specs.Prelude.{◌≡◌, ◌⊎◌, ◌↔◌, ◌≤◌, ◌<◌, ◌^◌, ◌+◌, ◌&&◌, ◌||◌, List, Option, true, false, Ok, Err, OnErr, [], None, is_some};
 ghost use Rattle.std.specs.NonZero.{non_zero_usize_get};
 ghost use Rattle.broadcast_mailbox.specs.declared.buffered.ingress.message.Request.{Request};
-ghost use Rattle.broadcast_mailbox.specs.Queue.{IsSound, HasRoom, last_ticket};
-ghost use Rattle.broadcast_mailbox.specs.Queue.{counted_in, waiting};
-ghost use Rattle.broadcast_mailbox.specs.Mailbox.{Enqueues, Takes, RequestsStop, Closes};
-ghost use Rattle.broadcast_mailbox.specs.Mailbox.{IsCounted, counts_of, taken_of, empty_mailbox};
-ghost use Rattle.broadcast_mailbox.specs.Mailbox.{mailbox_after, TakesBooked, TakesOut};
+ghost use Rattle.broadcast_mailbox.specs.Queue.{IsSound, HasRoom, last_ticket, counted_in, waiting};
+ghost use Rattle.broadcast_mailbox.specs.Mailbox.{Enqueues, Takes, RequestsStop, Closes, IsCounted, counts_of, taken_of, mailbox_after};
 ghost use Rattle.futures.specs.Poll.{IfReady, OnPending};
 ghost use Rattle.futures.specs.Task.{Hears, IsArmed, Keeps};
 ghost use Rattle.broadcast_mailbox.specs.Attended.{ready};
-ghost use Rattle.broadcast_mailbox.specs.Account.{TallyState, are_open, counted_of};
-ghost use Rattle.broadcast_mailbox.specs.Account.{is_accepted, is_skipped, one_if, tallied};
+ghost use Rattle.broadcast_mailbox.specs.Account.{TallyState, counted_of, is_accepted, one_if, tallied};
+ghost use Rattle.broadcast_mailbox.specs.Booked.{are_open, is_skipped, TakesBooked, TakesOut};
 ghost use Rattle.broadcast_mailbox.specs.Watch.{BroadcastsOnly};
 
 use crate::MailboxError;
@@ -62,7 +58,7 @@ impl<T> Model for Inbox<T> {
 impl<T> Inbox<T> {
     /// Creates an open, empty inbox whose ready list has `mailbox_size` places.
     pub fn new(alloc: Global, mailbox_size: NonZeroUsize) -> Self
-        ensures { result ≡ empty_mailbox (non_zero_usize_get mailbox_size) }
+        ensures { result ≡ mailbox_after (non_zero_usize_get mailbox_size) 0 }
     {
         Inbox::resumed_after(alloc, mailbox_size, 0)
     }
@@ -298,8 +294,7 @@ impl<T: Queueable + Drop, A: Bookkeeping> Attended<T, A> {
         ensures refused { A.refusals taker.new ≡ A.refusals taker.old }
         ensures undecided { IfReady result (λ request.
             A.undecided taker.new ≡ (request.counted || A.undecided taker.old)) }
-        ensures decides_none { OnPending result
-            (A.undecided taker.new ≡ A.undecided taker.old) }
+        ensures decides_none { OnPending result (A.undecided taker.new ≡ A.undecided taker.old) }
         ensures heard { OnPending result (Hears cx.new source.now.id) }
         ensures armed { OnPending result (IsArmed cx.new) }
         ensures kept { Keeps cx.old cx.new }
@@ -341,13 +336,7 @@ impl<T: Queueable + Drop, A: Bookkeeping> Attended<T, A> {
     }
 }
 
-impl<T, A, K, V, D> Attended<T, Books<A, K, V, D>>
-where
-    T: Queueable + Drop,
-    A: Account,
-    K: Account,
-    V: Watch<D>,
-{
+impl<T: Queueable + Drop, A: Account, K: Account, V: Watch<D>, D> Attended<T, Books<A, K, V, D>> {
     /// Queues a message for a tally, which counts it if it is accepted and `counted`.
     pub(super) fn enqueue_as(
         &mut self,

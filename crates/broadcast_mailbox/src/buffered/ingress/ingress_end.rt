@@ -186,11 +186,8 @@ impl<T: Awaits, R, A: Bookkeeping> Ingress<T, R, A> {
     }
 }
 
-impl<T, R, A, K, V, D> Ingress<T, R, Books<A, K, V, D>>
+impl<T: Queueable + Drop, R: Wait + Drop, A: Account, K, V, D> Ingress<T, R, Books<A, K, V, D>>
 where
-    T: Queueable + Drop,
-    R: Wait + Drop,
-    A: Account,
     K: Account,
     V: Watch<D>,
 {
@@ -201,8 +198,7 @@ where
         ensures whole { (is_err result ≡ false) ↔ (tally.parts ≡ A.parts) }
         ensures accepted { IfOk result (λ settled. tally.accepted ≡ settled.applied
             + settled.refused + settled.skipped + settled.given_up) }
-        ensures taken { IfOk result (λ settled.
-            settled.applied + settled.refused ≡ self.taken) }
+        ensures taken { IfOk result (λ settled. settled.applied + settled.refused ≡ self.taken) }
         ensures refused { IfOk result (λ settled. settled.refused ≡ self.refused) }
         ensures broadcasts { IfOk result (λ settled.
             BroadcastsOnly V.watched → settled.skipped ≡ 0) }

@@ -3,7 +3,7 @@ ghost use Rattle.std.specs.Prelude.{◌≡◌, IfOk, OnErr, ⊤};
 ghost use Rattle.std.specs.Arc.{arc_value};
 ghost use Rattle.std.specs.NonZero.{non_zero_u32_get, non_zero_usize_get};
 ghost use Rattle.broadcast_mailbox.specs.Account.{TallyState, is_accepted, is_taken_up, tallied};
-ghost use Rattle.broadcast_mailbox.specs.Watch.{is_watched};
+ghost use Rattle.broadcast_mailbox.specs.Booked.{is_watched};
 ghost use Rattle.broadcast_mailbox.specs.Ends.{IngressEnd, MailboxEnd};
 
 use crate::buffered::ingress::account::{Account, Bookkeeping, Tally};
@@ -27,40 +27,29 @@ pub type Incoming<P, M> = Message<P, M, Answering<Reply<M>>, Answering<Option<Re
 
 /// Creates a mailbox whose ready list has `mailbox_size` places, and the ingress that takes what
 /// is queued through it.
-pub fn channel<P, M, R>(
+pub fn channel<P: PublicKey, M: Digestible, R: Clone + Drop>(
     rt: R,
     alloc: Global,
     mailbox_size: NonZeroUsize,
 ) -> Result<(Mailbox<P, M, R>, Ingress<Incoming<P, M>, R>), AllocError>
-where
-    P: PublicKey,
-    M: Digestible,
-    R: Clone + Drop,
     ensures same_inbox { IfOk result (λ ends. ends.0.inbox ≡ ends.1.inbox) }
-    ensures size { IfOk result (λ ends.
-        ends.0.inbox.size ≡ non_zero_usize_get mailbox_size) }
+    ensures size { IfOk result (λ ends. ends.0.inbox.size ≡ non_zero_usize_get mailbox_size) }
     ensures nothing_taken { IfOk result (λ ends. (ends.1.taken ≡ 0) × (ends.1.refused ≡ 0)) }
 {
     open(rt, alloc, mailbox_size, (), ())
 }
 
 /// Creates both ends of a new inbox that has this account.
-fn open<P, M, R, A>(
+fn open<P: PublicKey, M: Digestible, R: Clone + Drop, A: Bookkeeping>(
     rt: R,
     alloc: Global,
     mailbox_size: NonZeroUsize,
     account: A,
     taker: A::Taker,
 ) -> Result<(Mailbox<P, M, R, A>, Ingress<Incoming<P, M>, R, A>), AllocError>
-where
-    P: PublicKey,
-    M: Digestible,
-    R: Clone + Drop,
-    A: Bookkeeping,
     requires { (A.waiting account ≡ 0) × (A.accepted account ≡ 0) }
     ensures same_inbox { IfOk result (λ ends. ends.0.inbox ≡ ends.1.inbox) }
-    ensures size { IfOk result (λ ends.
-        ends.0.inbox.size ≡ non_zero_usize_get mailbox_size) }
+    ensures size { IfOk result (λ ends. ends.0.inbox.size ≡ non_zero_usize_get mailbox_size) }
     ensures taker { IfOk result (λ ends. (ends.1.taken ≡ A.taken taker)
         × (ends.1.refused ≡ A.refusals taker)) }
 {
@@ -93,7 +82,7 @@ pub type WatchedMailbox<P, M, R, A, K, V> = Mailbox<
 
 /// Creates a mailbox as `channel` does, that counts tallied requests, with a tally of `parts`
 /// parts.
-pub fn watched_channel<P, M, R, A, K, V>(
+pub fn watched_channel<P: PublicKey, M: Digestible, R: Clone + Drop, A: Account, K: Account, V>(
     rt: R,
     alloc: Global,
     mailbox_size: NonZeroUsize,
@@ -102,19 +91,13 @@ pub fn watched_channel<P, M, R, A, K, V>(
     taken: Blank,
 ) -> Result<WatchedEnds<P, M, R, A, K, V>, AllocError>
 where
-    P: PublicKey,
-    M: Digestible,
-    R: Clone + Drop,
-    A: Account,
-    K: Account,
     V: Watch<M::Digest>,
     requires accepted { (accepted.name ≡ A.name) × (accepted.parts ≡ A.parts) }
     requires parts { (A.all ≡ A.parts) × (A.parts ≡ non_zero_u32_get parts) }
     requires taken { (taken.name ≡ K.name) × (taken.parts ≡ K.parts) }
     requires one { (K.all ≡ K.parts) × (K.parts ≡ 1) }
     ensures same_inbox { IfOk result (λ ends. ends.0.inbox ≡ ends.1.inbox) }
-    ensures size { IfOk result (λ ends.
-        ends.0.inbox.size ≡ non_zero_usize_get mailbox_size) }
+    ensures size { IfOk result (λ ends. ends.0.inbox.size ≡ non_zero_usize_get mailbox_size) }
     ensures whole { IfOk result (λ ends.
         ends.2 ≡ record { accepted = 0; parts = non_zero_u32_get parts }) }
     ensures nothing_taken { IfOk result (λ ends. (ends.1.taken ≡ 0) × (ends.1.refused ≡ 0)) }
@@ -162,13 +145,7 @@ impl<P: PublicKey, M: Digestible, R, A: Bookkeeping> Model for Mailbox<P, M, R, 
     ghost view = { λ it. record { inbox = arc_value it.inbox } };
 }
 
-impl<P, M, R, A> Mailbox<P, M, R, A>
-where
-    P: PublicKey,
-    M: Digestible,
-    R: Wait,
-    A: Bookkeeping,
-{
+impl<P: PublicKey, M: Digestible, R: Wait, A: Bookkeeping> Mailbox<P, M, R, A> {
     /// Requests the message of `digest`, which is sent at once if it is cached, and else when it
     /// arrives.
     ///
@@ -205,11 +182,8 @@ where
     }
 }
 
-impl<P, M, R, A, K, V> Mailbox<P, M, R, Books<A, K, V, M::Digest>>
+impl<P: PublicKey, M: Digestible, R: Wait, A, K, V> Mailbox<P, M, R, Books<A, K, V, M::Digest>>
 where
-    P: PublicKey,
-    M: Digestible,
-    R: Wait,
     A: Account,
     K: Account,
     V: Watch<M::Digest>,
@@ -284,13 +258,7 @@ where
     }
 }
 
-impl<P, M, R, A> Clone for Mailbox<P, M, R, A>
-where
-    P: PublicKey,
-    M: Digestible,
-    R: Clone,
-    A: Bookkeeping,
-{
+impl<P: PublicKey, M: Digestible, R: Clone, A: Bookkeeping> Clone for Mailbox<P, M, R, A> {
     ghost is_clone = { λ mailbox copy. copy.inbox ≡ mailbox.inbox };
 
     /// Returns a mailbox over the same inbox, or an allocation failure.

@@ -4,7 +4,8 @@ ghost use Rattle.std.specs.Ordering.{eq_by_cmp};
 ghost use Rattle.broadcast_mailbox.specs.Watch.{kind_of, is_broadcast};
 ghost use Rattle.broadcast_mailbox.specs.declared.buffered.ingress.message.Kind.{Kind};
 ghost use Rattle.broadcast_mailbox.specs.Account.{is_accepted};
-ghost use Rattle.broadcast_mailbox.specs.Queued.{feedback_of, answer_of};
+ghost use Rattle.broadcast_mailbox.specs.Queued.{feedback_of};
+ghost use Rattle.broadcast_mailbox.specs.Booked.{answer_of};
 
 use crate::buffered::ingress::dropped::Abandoned;
 use crate::buffered::ingress::queue::{Pending, Policy};
@@ -79,11 +80,8 @@ impl<P, M: Digestible, S, G> Message<P, M, S, G> {
 }
 
 /// A message is closed if its responder is. A broadcast is never closed.
-impl<P, M, S, G> Closable for Message<P, M, S, G>
+impl<P: PublicKey, M: Digestible, S: Responder<Reply<M>>, G> Closable for Message<P, M, S, G>
 where
-    P: PublicKey,
-    M: Digestible,
-    S: Responder<Reply<M>>,
     G: Responder<Option<Reply<M>>>,
 {
     ghost use Rattle.broadcast_mailbox.specs.Message.{message_may_answer};
@@ -124,11 +122,8 @@ pub trait Queueable: Closable + Named {
         → Self.Closable.may_answer request true → ⊥ };
 }
 
-impl<P, M, S, G> Queueable for Message<P, M, S, G>
+impl<P: PublicKey, M: Digestible, S: Responder<Reply<M>>, G> Queueable for Message<P, M, S, G>
 where
-    P: PublicKey,
-    M: Digestible,
-    S: Responder<Reply<M>>,
     G: Responder<Option<Reply<M>>>,
 {
     ghost use Rattle.broadcast_mailbox.specs.MessageLaws.{broadcast_is_open};
@@ -150,11 +145,7 @@ pub trait Awaits: Named {
 }
 
 /// Only a subscribe waits.
-impl<P, M, S, G> Awaits for Message<P, M, S, G>
-where
-    M: Digestible,
-    S: Responder<Reply<M>>,
-{
+impl<P, M: Digestible, S: Responder<Reply<M>>, G> Awaits for Message<P, M, S, G> {
     ghost use Rattle.broadcast_mailbox.specs.Message.{message_may_stay, message_is_among};
 
     ghost may_stay = { message_may_stay (λ responder. S.may_answer responder false) };
@@ -170,11 +161,8 @@ where
     }
 }
 
-impl<P, M, S, G> Policy for Message<P, M, S, G>
+impl<P: PublicKey, M: Digestible, S: Responder<Reply<M>> + Drop, G> Policy for Message<P, M, S, G>
 where
-    P: PublicKey,
-    M: Digestible,
-    S: Responder<Reply<M>> + Drop,
     G: Responder<Option<Reply<M>>> + Drop,
 {
     type Overflow = Pending<Self>;

@@ -2,8 +2,7 @@
 ghost use Rattle.std.specs.Prelude.{◌≡◌, ◌≤◌, ◌↔◌, ◌+◌, ◌^◌, ◌<◌, ◌∷◌, IsTrue, List, length, []};
 ghost use Rattle.std.specs.NonZero.{non_zero_usize_get};
 ghost use Rattle.broadcast_mailbox.specs.declared.buffered.ingress.message.Request.{Request};
-ghost use Rattle.broadcast_mailbox.specs.Queue.{Pushes, Pops, Draws, HasRoom, IsSound};
-ghost use Rattle.broadcast_mailbox.specs.Queue.{last_ticket, queue_after, shut_down, waiting};
+ghost use Rattle.broadcast_mailbox.specs.Queue.{Pushes, Pops, Draws, HasRoom, IsSound, last_ticket, queue_after, shut_down, waiting};
 ghost use Rattle.broadcast_mailbox.specs.Skips.{CountsSkipped};
 ghost use Rattle.broadcast_mailbox.specs.Overflow.{Handles, Drains, PutsWithin};
 ghost use Rattle.std.specs.VecDeque.{deque_capacity, deque_len};

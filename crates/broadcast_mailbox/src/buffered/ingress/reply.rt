@@ -1,6 +1,5 @@
 //! The reply to a request: where it goes, how its caller waits, and what a future makes of it.
-ghost use Rattle.std.specs.Prelude.{◌≡◌, ◌<◌, ◌-◌, ◌↔◌, Result, Bool};
-ghost use Rattle.std.specs.Prelude.{not, ⊤, IfOk, IsSome, IfSome};
+ghost use Rattle.std.specs.Prelude.{◌≡◌, ◌<◌, ◌-◌, ◌↔◌, Result, Bool, not, ⊤, IfOk, IsSome, IfSome};
 ghost use Rattle.futures.specs.Channel.{completed_source, canceled_source};
 ghost use Rattle.futures.specs.Poll.{IfReady, OnPending};
 ghost use Rattle.futures.specs.declared.task.Poll.{Poll};

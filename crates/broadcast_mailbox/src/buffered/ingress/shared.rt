@@ -171,9 +171,7 @@ impl<T: Named + Drop, A: Bookkeeping> Shared<T, A> {
     pub(super) fn ends<R: Clone>(rt: &R, inbox: &Arc<Self>) -> Result<(R, Arc<Self>), AllocError>
         ensures { IfOk result (λ end. arc_value end.1 ≡ arc_value inbox.now) }
     {
-        let Ok(inbox) = Arc::try_clone(inbox) else {
-            return Err(AllocError);
-        };
+        let inbox = Arc::try_clone(inbox)?;
         match rt.clone() {
             Ok(rt) => Ok((rt, inbox)),
             Err(error) => {
@@ -206,8 +204,7 @@ impl<T: Queueable + Drop, A: Bookkeeping> Shared<T, A> {
         ensures refused { A.refusals taker.new ≡ A.refusals taker.old }
         ensures undecided { IfReady result (λ request.
             A.undecided taker.new ≡ (request.counted || A.undecided taker.old)) }
-        ensures decides_none { OnPending result
-            (A.undecided taker.new ≡ A.undecided taker.old) }
+        ensures decides_none { OnPending result (A.undecided taker.new ≡ A.undecided taker.old) }
         ensures heard { OnPending result (Hears cx.new self.now.queued) }
         ensures armed { OnPending result (IsArmed cx.new) }
         ensures kept { Keeps cx.old cx.new }
@@ -229,13 +226,7 @@ impl<T: Queueable + Drop, A: Bookkeeping> Shared<T, A> {
     }
 }
 
-impl<T, A, K, V, D> Shared<T, Books<A, K, V, D>>
-where
-    T: Queueable + Drop,
-    A: Account,
-    K: Account,
-    V: Watch<D>,
-{
+impl<T: Queueable + Drop, A: Account, K: Account, V: Watch<D>, D> Shared<T, Books<A, K, V, D>> {
     /// Queues a message for a tally, which counts it if it is accepted and `counted`.
     pub(super) fn enqueue_as(
         &self,
@@ -276,12 +267,8 @@ where
 
 /// Creates what is told of dropped subscriptions, and of whether the task is awake.
 fn marks<D: Ord + Drop>(alloc: Global) -> Result<(Arc<Dropped<D>>, Arc<Alertness>), AllocError> {
-    let Ok(alertness) = Arc::new(alloc, Alertness::new()) else {
-        return Err(AllocError);
-    };
-    let Ok(dropped) = Arc::new(alloc, Dropped::new(alloc)) else {
-        return Err(AllocError);
-    };
+    let alertness = Arc::new(alloc, Alertness::new())?;
+    let dropped = Arc::new(alloc, Dropped::new(alloc))?;
     Ok((dropped, alertness))
 }
 

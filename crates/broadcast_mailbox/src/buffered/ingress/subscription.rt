@@ -215,8 +215,7 @@ impl<M: Digestible> Future for Subscription<M> {
         ensures same { OnPending result ((outcome : Result (Carried M M.Digest) Canceled)
             → IfOk outcome (λ message. GoesBy M.Digest.cmp self.new.digest message)
             → IfOk outcome (λ message. GoesBy M.Digest.cmp self.old.digest message)) }
-        ensures registered { OnPending result
-            (Covers cx.new (λ source. source ≡ self.new.source)) }
+        ensures registered { OnPending result (Covers cx.new (λ source. source ≡ self.new.source)) }
         ensures kept { Keeps cx.old cx.new }
     {
         if self.is_done {

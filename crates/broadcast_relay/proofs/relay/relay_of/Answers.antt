@@ -2,9 +2,8 @@ use Rattle.std.proofs.Common.{◌≡◌, ◌<◌, length, sym, ap, subst, ◌∙
 use Rattle.std.specs.List.{All}
 use Rattle.std.specs.List.Sorted.{IsStrictlyIncreasing}
 use Rattle.std.specs.Ordering.{eq_by_cmp}
-use Rattle.broadcast_core.specs.Codec.{whole}
+use Rattle.broadcast_core.specs.Setting.{whole, setting}
 use Rattle.broadcast_core.specs.Content.{same_by}
-use Rattle.broadcast_core.specs.Setting.{setting}
 use Rattle.broadcast_core.specs.Log.{is_refused}
 use Rattle.broadcast_relay.specs.Relay.{relay}
 use Rattle.broadcast_relay.specs.Relayed.{AreRefusable, relayed, places_from, history_but}

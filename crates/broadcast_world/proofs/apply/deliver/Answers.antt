@@ -3,7 +3,7 @@ use Rattle.std.specs.Cmp.{eq_by_cmp_equiv}
 use Rattle.std.specs.Ordering.{eq_by_cmp}
 use Rattle.broadcast_core.specs.declared.event.Event.TheVariants as event
 use Rattle.broadcast_world.specs.World.{delivery, event_at}
-use Rattle.broadcast_world.specs.Steps.{AtNode}
+use Rattle.broadcast_world.specs.Nodes.{AtNode}
 use Rattle.broadcast_world.specs.declared.step.WorldAnswer.TheVariants.{NoSuch}
 use Rattle.broadcast_world.proofs.Places.{AllZip-none, AllZip-some, read_at, slice_get-past}
 use Rattle.broadcast_world.proofs.apply.deliver.Goals as goal

@@ -4,7 +4,8 @@ use Rattle.std.specs.Prelude.{is_some}
 use Rattle.broadcast_core.specs.TestMessage.{encoding_of}
 use Rattle.broadcast_core.specs.declared.event.Event.TheVariants.{Broadcast}
 use Rattle.broadcast_world.specs.World.{node, event_at}
-use Rattle.broadcast_world.specs.Steps.{AreCopies, NodeFollows}
+use Rattle.broadcast_world.specs.Steps.{AreCopies}
+use Rattle.broadcast_world.specs.Nodes.{NodeFollows}
 use Rattle.broadcast_world.proofs.OneNode.{AtNode-given, AtNode-refused, NodeFollows-cause, NodeFollows-refused, made_by-broadcast}
 use Rattle.broadcast_world.proofs.Places.{key_read, read_at}
 use Rattle.broadcast_world.proofs.broadcast.broadcast.Goals as goal

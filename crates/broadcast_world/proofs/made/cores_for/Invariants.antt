@@ -1,5 +1,5 @@
 use Rattle.std.proofs.Common.{take}
-use Rattle.broadcast_world.specs.Made.{AreEmpty}
+use Rattle.broadcast_world.specs.Nodes.{AreEmpty}
 use Rattle.broadcast_world.proofs.made.cores_for.Given as goal
 
 abbrev pub invariant-loop-node : goal.invariant-loop-node

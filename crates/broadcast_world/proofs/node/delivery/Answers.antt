@@ -2,7 +2,7 @@ use Rattle.std.proofs.Common.{◌≡◌, [], Ok, Err, is_ok, refl, ap, ◌∙◌
 use Rattle.std.proofs.lemmas.Cmp.{nat_list_cmp_total}
 use Rattle.broadcast_core.proofs.Applying.{Applies-invalid, Applies-refused}
 use Rattle.broadcast_core.proofs.Lawful.{same_by-lawful}
-use Rattle.broadcast_core.specs.Codec.{whole}
+use Rattle.broadcast_core.specs.Setting.{whole}
 use Rattle.broadcast_core.specs.TestMessage.{read_message}
 use Rattle.broadcast_core.specs.declared.event.Event.TheVariants.{Payload}
 use Rattle.broadcast_world.specs.World.{at}

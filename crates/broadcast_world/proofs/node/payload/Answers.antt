@@ -1,5 +1,5 @@
 use Rattle.std.proofs.Common.{[], refl, ap}
-use Rattle.broadcast_core.specs.Codec.{whole}
+use Rattle.broadcast_core.specs.Setting.{whole}
 use Rattle.broadcast_core.specs.TestMessage.{read_message}
 use Rattle.broadcast_world.specs.World.{at}
 use Rattle.broadcast_world.proofs.Copied.{event_payload}

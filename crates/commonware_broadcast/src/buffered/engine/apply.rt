@@ -11,7 +11,7 @@ ghost use Rattle.commonware_broadcast.specs.EngineHistory.{end_told};
 ghost use Rattle.engine_io.specs.Replies.{Asker};
 ghost use Rattle.commonware_broadcast.specs.Order.{of_network};
 ghost use Rattle.engine_io.specs.Inputs.{payloads_in};
-ghost use Rattle.commonware_broadcast.specs.AppliesSteps.{AppliesAndSends, sinks};
+ghost use Rattle.commonware_broadcast.specs.AppliesSteps.{AppliesAndSends};
 ghost use Rattle.commonware_broadcast.specs.Interfaces.{by_responder};
 
 use crate::buffered::engine::broadcast::handle_broadcast;
@@ -25,7 +25,7 @@ use engine_io::{Input, Outlet, Sender, Turn};
 use std::alloc::Global;
 
 /// Applies one input. A refused input changes nothing.
-pub(super) fn apply<P, M, S, G, O, N>(
+pub(super) fn apply<P: PublicKey, M: Digestible + EncodeSize, S, G, O, N>(
     node: &mut Node<P, M, S, O>,
     sender: &mut N,
     alloc: Global,
@@ -33,8 +33,6 @@ pub(super) fn apply<P, M, S, G, O, N>(
     input: Input<P, M, S, G>,
 ) -> Turn<P, M::Digest>
 where
-    P: PublicKey,
-    M: Digestible + EncodeSize,
     S: Responder<Reply<M>> + Drop,
     G: Drop,
     O: Outlet<S, G, Reply<M>, Option<Reply<M>>>,
@@ -42,7 +40,7 @@ where
     ensures applied { (s : Setting P M M.Digest) → s.same ≡ same_by P.cmp M.Digest.cmp
         → s.encoding ≡ M.encoding → s.priority ≡ priority
         → (past : History P M M.Digest (Asker S) (Asker G)) → HasContent s past node.old.core
-        → AppliesAndSends s (sinks (by_responder S.may_answer) O.told N.told) past input
+        → AppliesAndSends s (by_responder S.may_answer) O.told N.told past input
         result (node.old, sender.old) (node.new, sender.new) }
     ensures tells_no_end { end_told result ≡ None }
     ensures of_peers { (ps : List P) → input ≡ Peers ps → result ≡ turn.Peers }
@@ -60,7 +58,7 @@ where
 }
 
 /// Applies one request.
-fn apply_request<P, M, S, G, O, N>(
+fn apply_request<P: PublicKey, M: Digestible + EncodeSize, S: Responder<Reply<M>> + Drop, G, O, N>(
     node: &mut Node<P, M, S, O>,
     sender: &mut N,
     alloc: Global,
@@ -68,16 +66,13 @@ fn apply_request<P, M, S, G, O, N>(
     request: Request<Message<P, M, S, G>>,
 ) -> Turn<P, M::Digest>
 where
-    P: PublicKey,
-    M: Digestible + EncodeSize,
-    S: Responder<Reply<M>> + Drop,
     G: Drop,
     O: Outlet<S, G, Reply<M>, Option<Reply<M>>>,
     N: Sender<P>,
     ensures applied { (s : Setting P M M.Digest) → s.same ≡ same_by P.cmp M.Digest.cmp
         → s.encoding ≡ M.encoding → s.priority ≡ priority
         → (past : History P M M.Digest (Asker S) (Asker G)) → HasContent s past node.old.core
-        → AppliesAndSends s (sinks (by_responder S.may_answer) O.told N.told) past
+        → AppliesAndSends s (by_responder S.may_answer) O.told N.told past
         (input.Request request) result (node.old, sender.old) (node.new, sender.new) }
     ensures tells_no_end { end_told result ≡ None }
     ensures of_request { of_network result ≡ false }

@@ -12,11 +12,10 @@ ghost use Rattle.engine_io.specs.declared.input.Input.TheVariants as input;
 ghost use Rattle.engine_io.specs.declared.input.Turn.TheVariants as turn;
 ghost use Rattle.engine_io.specs.Heard.{HearsJob};
 ghost use Rattle.engine_io.specs.Replies.{Asker};
-ghost use Rattle.commonware_broadcast.specs.AppliesSteps.{AppliesInput, replying};
-ghost use Rattle.commonware_broadcast.specs.Arrives.{AlwaysArrives, CountsOne, payload_of, message_of};
+ghost use Rattle.commonware_broadcast.specs.AppliesSteps.{AppliesInput};
+ghost use Rattle.commonware_broadcast.specs.Arrives.{AlwaysArrives, CountsOne, payload_of, message_of, end_in};
 ghost use Rattle.commonware_broadcast.specs.EngineHistory.{end_told};
-ghost use Rattle.commonware_broadcast.specs.Order.{end_in};
-ghost use Rattle.commonware_broadcast.specs.Interfaces.{by_responder, format_of, parties_of};
+ghost use Rattle.commonware_broadcast.specs.Interfaces.{by_responder, format_of};
 
 use crate::buffered::engine::handler::{handle_arrival, handle_invalid};
 use crate::buffered::engine::node::Node;
@@ -46,7 +45,7 @@ impl<P: PublicKey, M: Digestible + Codec, S, O, B, Q, T: Strategy<M>> Engine<P, 
         requires idle { self.old.job ≡ None }
         ensures arrives { AlwaysArrives
             (format_of P.cmp M.Digest.cmp M.encoding M.digest_of M.reading)
-            (parties_of S.may_answer T.Job.is_of O.Outlet)
+            (by_responder S.may_answer) T.Job.is_of O.told
             (λ s. payload_of peer (s.reading bytes.now)) self.old self.new result }
         ensures idle_if_ready { IfReady result (λ turn. self.new.job ≡ None) }
         ensures held_if_pending { OnPending result (self.new.job ≡ None → ⊥) }
@@ -81,7 +80,7 @@ impl<P: PublicKey, M: Digestible + Codec, S, O, B, Q, T: Strategy<M>> Engine<P, 
         requires idle { self.old.job ≡ None }
         ensures arrives { AlwaysArrives
             (format_of P.cmp M.Digest.cmp M.encoding M.digest_of M.reading)
-            (parties_of S.may_answer T.Job.is_of O.Outlet)
+            (by_responder S.may_answer) T.Job.is_of O.told
             (λ s. payload_of peer (Ok message)) self.old self.new result }
         ensures counted_before_its_job { has_count (eq_by_cmp P.cmp) peer
             self.old.node.metrics.peer ≡ true → CountsOne (eq_by_cmp P.cmp) peer
@@ -124,7 +123,7 @@ impl<P: PublicKey, M: Digestible + Codec, S, O, B, Q, T: Strategy<M>> Engine<P, 
         requires idle { self.old.job ≡ None }
         ensures arrives { (m : M) → T.Job.is_of job m → AlwaysArrives
             (format_of P.cmp M.Digest.cmp M.encoding M.digest_of M.reading)
-            (parties_of S.may_answer T.Job.is_of O.Outlet)
+            (by_responder S.may_answer) T.Job.is_of O.told
             (λ s. message_of peer m) self.old self.new result }
         ensures counts_no_payload { self.new.node.metrics.peer ≡ self.old.node.metrics.peer }
         ensures idle_if_ready { IfReady result (λ turn. self.new.job ≡ None) }
@@ -173,22 +172,19 @@ fn count_and_start<P: PublicKey, M: Digestible, T: Strategy<M>>(
 }
 
 /// Counts a payload of `peer` that is no message, or refuses one for which there is no memory.
-fn refuse<P, M, S, G, O>(
+fn refuse<P: PublicKey, M: Digestible, S: Responder<Reply<M>> + Drop, G, O>(
     node: &mut Node<P, M, S, O>,
     peer: P,
     error: CodecError,
 ) -> Turn<P, M::Digest>
 where
-    P: PublicKey,
-    M: Digestible,
-    S: Responder<Reply<M>> + Drop,
     O: Outlet<S, G, Reply<M>, Option<Reply<M>>>,
     ensures memory { error ≡ CodecError.Memory
         → (result ≡ turn.Refused (Some peer) Cause.Memory) × (node.new ≡ node.old) }
     ensures invalid { (error ≡ CodecError.Memory → ⊥)
         → (s : Setting P M M.Digest) → s.same ≡ same_by P.cmp M.Digest.cmp
         → (past : History P M M.Digest (Asker S) (Asker G)) → HasContent s past node.old.core
-        → AppliesInput s (replying (by_responder S.may_answer) O.told) past
+        → AppliesInput s (by_responder S.may_answer) O.told past
         (input.Invalid peer error) result node.old node.new }
     ensures tells_no_end { end_told result ≡ None }
 {
@@ -201,7 +197,7 @@ where
 /// Takes a message of `peer` that has this digest.
 // Inlined as `poll_job` is.
 #[inline(always)]
-fn arrive<P, M, S, G, O>(
+fn arrive<P: PublicKey, M: Digestible + EncodeSize, S: Responder<Reply<M>> + Drop, G, O>(
     node: &mut Node<P, M, S, O>,
     alloc: Global,
     peer: P,
@@ -209,14 +205,11 @@ fn arrive<P, M, S, G, O>(
     digest: M::Digest,
 ) -> Turn<P, M::Digest>
 where
-    P: PublicKey,
-    M: Digestible + EncodeSize,
-    S: Responder<Reply<M>> + Drop,
     O: Outlet<S, G, Reply<M>, Option<Reply<M>>>,
     ensures handled { (s : Setting P M M.Digest) → s.same ≡ same_by P.cmp M.Digest.cmp
         → s.encoding ≡ M.encoding
         → (past : History P M M.Digest (Asker S) (Asker G)) → HasContent s past node.old.core
-        → AppliesInput s (replying (by_responder S.may_answer) O.told) past
+        → AppliesInput s (by_responder S.may_answer) O.told past
         (input.Arrived peer (record { message = message; digest = digest }))
         result node.old node.new }
     ensures counts_no_payload { node.new.metrics.peer ≡ node.old.metrics.peer }

@@ -8,7 +8,8 @@ ghost use Rattle.broadcast_mailbox.specs.declared.buffered.ingress.message.Messa
 ghost use Rattle.commonware_broadcast.specs.EngineHistory.{end_told};
 ghost use Rattle.engine_io.specs.Replies.{Asker};
 ghost use Rattle.commonware_broadcast.specs.Order.{of_network};
-ghost use Rattle.commonware_broadcast.specs.AppliesSteps.{AppliesAndSends, requested, sinks};
+ghost use Rattle.commonware_broadcast.specs.AppliesSteps.{AppliesAndSends};
+ghost use Rattle.commonware_broadcast.specs.CountingCalls.{requested};
 ghost use Rattle.commonware_broadcast.specs.Interfaces.{by_responder};
 
 use crate::buffered::engine::node::Node;
@@ -20,7 +21,7 @@ use std::alloc::Global;
 
 /// Encodes the message, then takes it under the node's own key, then hands its encoding to the
 /// sender. A refused message changes nothing and is not sent.
-pub(super) fn handle_broadcast<P, M, S, G, O, N>(
+pub(super) fn handle_broadcast<P: PublicKey, M: Digestible + EncodeSize, S, G, O, N>(
     node: &mut Node<P, M, S, O>,
     sender: &mut N,
     alloc: Global,
@@ -29,8 +30,6 @@ pub(super) fn handle_broadcast<P, M, S, G, O, N>(
     message: Digested<M>,
 ) -> Turn<P, M::Digest>
 where
-    P: PublicKey,
-    M: Digestible + EncodeSize,
     S: Responder<Reply<M>> + Drop,
     O: Outlet<S, G, Reply<M>, Option<Reply<M>>>,
     N: Sender<P>,
@@ -38,7 +37,7 @@ where
         → s.encoding ≡ M.encoding → s.priority ≡ priority
         → (past : History P M M.Digest (Asker S) (Asker G)) → HasContent s past node.old.core
         → (ticket : ℕ) (counted : Bool)
-        → AppliesAndSends s (sinks (by_responder S.may_answer) O.told N.told) past
+        → AppliesAndSends s (by_responder S.may_answer) O.told N.told past
         (requested ticket counted (request.Broadcast recipients message))
         result (node.old, sender.old) (node.new, sender.new) }
     ensures tells_no_end { end_told result ≡ None }

@@ -4,8 +4,7 @@ ghost use Rattle.std.specs.List.{All};
 ghost use Rattle.futures.specs.Task.{IsArmed, Keeps};
 ghost use Rattle.engine_io.specs.declared.input.Turn.TheVariants as turn;
 ghost use Rattle.engine_io.specs.declared.input.EndCause.{EndCause};
-ghost use Rattle.commonware_broadcast.specs.Polls.{Drives};
-ghost use Rattle.commonware_broadcast.specs.TakesSteps.{AlwaysTakes, TellsEnd};
+ghost use Rattle.commonware_broadcast.specs.Drives.{Drives, AlwaysTakes, TellsEnd};
 ghost use Rattle.commonware_broadcast.specs.EngineState.{moment};
 ghost use Rattle.commonware_broadcast.specs.Interfaces.{format_of, over};
 
@@ -20,7 +19,7 @@ use std::alloc::{AllocError, Global};
 /// Polls the engine `limit` times, or until it ends. Returns the turns that were ready, in order.
 ///
 /// Fails if the places for the turns can't be allocated, which is tried before the first poll.
-pub fn drive<P, M, S, G, O, B, Q, T, N, V>(
+pub fn drive<P: PublicKey, M: Digestible + Codec, S, G, O, B, Q, T, N, V>(
     alloc: Global,
     engine: &mut Engine<P, M, S, O, B, Q, T>,
     cx: &mut Context<'_>,
@@ -28,8 +27,6 @@ pub fn drive<P, M, S, G, O, B, Q, T, N, V>(
     limit: usize,
 ) -> Result<Vec<Turn<P, M::Digest>>, AllocError>
 where
-    P: PublicKey,
-    M: Digestible + Codec,
     S: Responder<Reply<M>> + Drop,
     G: Drop,
     O: Outlet<S, G, Reply<M>, Option<Reply<M>>>,

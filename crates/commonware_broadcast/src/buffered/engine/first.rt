@@ -65,8 +65,7 @@ pub(super) fn is_to_stop<T: Awaits, Q: Requests<T>>(
 ) -> bool
     ensures stops { is_asked ≡ true → Q.stops requests.old → result ≡ true }
     ensures only_if_asked { result ≡ true → (is_asked ≡ true) × Q.may_stop requests.old }
-    ensures heard { is_asked ≡ true → result ≡ false
-        → HearsAll cx.new (Q.needs_stop requests.new) }
+    ensures heard { is_asked ≡ true → result ≡ false → HearsAll cx.new (Q.needs_stop requests.new) }
     ensures unasked { is_asked ≡ false → requests.new ≡ requests.old }
     ensures tells { (given : List (Request T)) → Q.told requests.old given
         → Q.told requests.new given }

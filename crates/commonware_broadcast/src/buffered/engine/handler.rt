@@ -4,14 +4,15 @@ ghost use Rattle.broadcast_core.specs.Carried.{Carried};
 ghost use Rattle.broadcast_core.specs.Content.{same_by, message_at};
 ghost use Rattle.broadcast_core.specs.Setting.{Setting};
 ghost use Rattle.broadcast_core.specs.Happening.{History};
-ghost use Rattle.broadcast_core.specs.HasContent.{HasContent, HasCleaned};
+ghost use Rattle.broadcast_core.specs.HasContent.{HasContent};
+ghost use Rattle.broadcast_core.specs.Cleaned.{HasCleaned};
 ghost use Rattle.broadcast_mailbox.specs.declared.buffered.ingress.message.Message.TheVariants as request;
 ghost use Rattle.engine_io.specs.declared.input.EndCause.{EndCause};
 ghost use Rattle.engine_io.specs.declared.input.Input.TheVariants as input;
 ghost use Rattle.engine_io.specs.Replies.{Asker, Replied, Replies};
 ghost use Rattle.commonware_broadcast.specs.EngineHistory.{applied, swept, ended, end_told};
-ghost use Rattle.commonware_broadcast.specs.CountingCalls.{AppliesStep, count_outcome};
-ghost use Rattle.commonware_broadcast.specs.AppliesSteps.{AppliesInput, requested, replying};
+ghost use Rattle.commonware_broadcast.specs.CountingCalls.{AppliesStep, count_outcome, requested};
+ghost use Rattle.commonware_broadcast.specs.AppliesSteps.{AppliesInput};
 ghost use Rattle.commonware_broadcast.specs.Interfaces.{by_responder};
 
 use crate::buffered::engine::closed::Closed;
@@ -42,21 +43,19 @@ where
 /// Takes a message of a peer, or refuses it if an allocation fails: then nothing has changed.
 // Inlined as `Engine::poll_job` is.
 #[inline(always)]
-pub(super) fn handle_arrival<P, M, S, G, O>(
+pub(super) fn handle_arrival<P: PublicKey, M: Digestible + EncodeSize, S, G, O>(
     node: &mut Node<P, M, S, O>,
     alloc: Global,
     peer: P,
     message: Digested<M>,
 ) -> Turn<P, M::Digest>
 where
-    P: PublicKey,
-    M: Digestible + EncodeSize,
     S: Responder<Reply<M>> + Drop,
     O: Outlet<S, G, Reply<M>, Option<Reply<M>>>,
     ensures handled { (s : Setting P M M.Digest) → s.same ≡ same_by P.cmp M.Digest.cmp
         → s.encoding ≡ M.encoding
         → (past : History P M M.Digest (Asker S) (Asker G)) → HasContent s past node.old.core
-        → AppliesInput s (replying (by_responder S.may_answer) O.told) past
+        → AppliesInput s (by_responder S.may_answer) O.told past
         (input.Arrived peer message) result node.old node.new }
     ensures counts_no_payload { node.new.metrics.peer ≡ node.old.metrics.peer }
     ensures tells_no_end { end_told result ≡ None }
@@ -71,19 +70,16 @@ where
 }
 
 /// Counts a payload of a peer that is no message.
-pub(super) fn handle_invalid<P, M, S, G, O>(
+pub(super) fn handle_invalid<P: PublicKey, M: Digestible, S: Responder<Reply<M>> + Drop, G, O>(
     node: &mut Node<P, M, S, O>,
     peer: P,
     error: CodecError,
 ) -> Turn<P, M::Digest>
 where
-    P: PublicKey,
-    M: Digestible,
-    S: Responder<Reply<M>> + Drop,
     O: Outlet<S, G, Reply<M>, Option<Reply<M>>>,
     ensures handled { (s : Setting P M M.Digest) → s.same ≡ same_by P.cmp M.Digest.cmp
         → (past : History P M M.Digest (Asker S) (Asker G)) → HasContent s past node.old.core
-        → AppliesInput s (replying (by_responder S.may_answer) O.told) past
+        → AppliesInput s (by_responder S.may_answer) O.told past
         (input.Invalid peer error) result node.old node.new }
     ensures tells_no_end { end_told result ≡ None }
 {
@@ -93,16 +89,13 @@ where
 
 /// Answers a subscribe from the cache, or lets it wait. After an allocation failure nothing has
 /// changed, and the responder is dropped.
-pub(super) fn handle_subscribe<P, M, S, G, O>(
+pub(super) fn handle_subscribe<P: PublicKey, M: Digestible, S: Responder<Reply<M>> + Drop, G, O>(
     node: &mut Node<P, M, S, O>,
     ticket: u64,
     responder: S,
     digest: M::Digest,
 ) -> Result<(), AllocError>
 where
-    P: PublicKey,
-    M: Digestible,
-    S: Responder<Reply<M>> + Drop,
     O: Outlet<S, G, Reply<M>, Option<Reply<M>>>,
     ensures steps { OnOk result ((replies : Replies S G M M.Digest)
         × ((s : Setting P M M.Digest) → s.same ≡ same_by P.cmp M.Digest.cmp
@@ -124,17 +117,13 @@ where
 
 /// Answers a get from the cache. After an allocation failure nothing has changed, and the responder
 /// is dropped.
-pub(super) fn handle_get<P, M, S, G, O>(
+pub(super) fn handle_get<P: PublicKey, M: Digestible, S: Responder<Reply<M>> + Drop, G: Drop, O>(
     node: &mut Node<P, M, S, O>,
     ticket: u64,
     responder: G,
     digest: M::Digest,
 ) -> Result<(), AllocError>
 where
-    P: PublicKey,
-    M: Digestible,
-    S: Responder<Reply<M>> + Drop,
-    G: Drop,
     O: Outlet<S, G, Reply<M>, Option<Reply<M>>>,
     ensures steps { OnOk result ((replies : Replies S G M M.Digest)
         × ((s : Setting P M M.Digest) → s.same ≡ same_by P.cmp M.Digest.cmp
@@ -174,15 +163,12 @@ fn count_received<P: PublicKey>(metrics: &mut Metrics<P>, outcome: Outcome)
 }
 
 /// Drops the waiters that answer closed, counts them, and sets the gauge. Does not allocate.
-pub(super) fn cleanup_waiters<P, M, S, G, O, Q>(
+pub(super) fn cleanup_waiters<P: PublicKey, M: Digestible, S: Responder<Reply<M>> + Drop, G, O, Q>(
     node: &mut Node<P, M, S, O>,
     requests: &mut Q,
     closed: &mut Closed<M>,
 )
 where
-    P: PublicKey,
-    M: Digestible,
-    S: Responder<Reply<M>> + Drop,
     O: Outlet<S, G, Reply<M>, Option<Reply<M>>>,
     Q: Requests<Message<P, M, S, G>>,
     ensures swept { (s : Setting P M M.Digest) → s.same ≡ same_by P.cmp M.Digest.cmp
@@ -200,15 +186,12 @@ where
 
 /// Drops the waiters that answer closed, and returns how many. Asks those of the digests that the
 /// requests name, and of those of which they tell nothing. Asks each one if either can't tell.
-fn drop_closed<P, M, S, G, Q>(
+fn drop_closed<P: PublicKey, M: Digestible, S: Responder<Reply<M>> + Drop, G, Q>(
     core: &mut Core<P, M, Waiter<M, S>>,
     requests: &mut Q,
     closed: &mut Closed<M>,
 ) -> u64
 where
-    P: PublicKey,
-    M: Digestible,
-    S: Responder<Reply<M>> + Drop,
     Q: Requests<Message<P, M, S, G>>,
     ensures cleaned { (s : Setting P M M.Digest) → s.same ≡ same_by P.cmp M.Digest.cmp
         → (past : History P M M.Digest (Asker S) (Asker G)) → HasContent s past core.old
@@ -225,10 +208,8 @@ where
 }
 
 /// Drops all waiters, and counts none. Does not allocate.
-pub(super) fn drop_waiters<P, M, S, G, O>(node: &mut Node<P, M, S, O>)
+pub(super) fn drop_waiters<P: PublicKey, M: Digestible, S, G, O>(node: &mut Node<P, M, S, O>)
 where
-    P: PublicKey,
-    M: Digestible,
     S: Responder<Reply<M>> + Drop,
     O: Outlet<S, G, Reply<M>, Option<Reply<M>>>,
     ensures ended { (s : Setting P M M.Digest) → s.same ≡ same_by P.cmp M.Digest.cmp

@@ -1,6 +1,7 @@
 //! The law of a new engine.
 ghost use Rattle.std.specs.Prelude.{◌≡◌, []};
 ghost use Rattle.broadcast_core.specs.Content.{Content};
+ghost use Rattle.broadcast_core.specs.Empty.{empty};
 ghost use Rattle.broadcast_core.specs.Setting.{Setting};
 ghost use Rattle.broadcast_core.specs.HasContent.{HasContent};
 ghost use Rattle.engine_io.specs.Replies.{Asker};
@@ -11,13 +12,5 @@ use broadcast_core::{Digestible, PublicKey};
 pub fn new_engine_law<P: PublicKey, M: Digestible, S, G>()
     ensures { (s : Setting P M M.Digest)
         → (core : Content P M M.Digest (Asker S))
-        → core ≡ record {
-          own = s.own;
-          deque_size = s.deque_size;
-          byte_budget = s.byte_budget;
-          primary = [];
-          lists = [];
-          cached = [];
-          waiters = [];
-        } → HasContent {V = Asker G} s [] core }
+        → core ≡ empty s.own s.deque_size s.byte_budget → HasContent {V = Asker G} s [] core }
 {}

@@ -21,17 +21,13 @@ use futures::task::{Context, Poll};
 ///
 /// If both are missing, the poll may be pending. So it registers for a stop, unless it did before,
 /// as `hears_stop` tells, and ends the engine if one was asked for meanwhile.
-pub(super) fn next_input<P, M, S, G, B, Q>(
+pub(super) fn next_input<P: PublicKey, M: Digestible, S: Responder<Reply<M>> + Drop, G: Drop, B, Q>(
     provider: &mut B,
     requests: &mut Q,
     hears_stop: bool,
     cx: &mut Context<'_>,
 ) -> Poll<Result<Input<P, M, S, G>, EndCause>>
 where
-    P: PublicKey,
-    M: Digestible,
-    S: Responder<Reply<M>> + Drop,
-    G: Drop,
     B: Provider<P>,
     Q: Requests<Message<P, M, S, G>>,
     requires hears_stop { hears_stop ≡ true → HearsAll cx.old (Q.needs_stop requests.old) }
@@ -69,14 +65,10 @@ where
 }
 
 /// Returns the next peer set. Once there are no more, the engine ends: `EndCause::PeersClosed`.
-fn next_peers<P, M, S, G, B>(
+fn next_peers<P: PublicKey, M: Digestible, S, G, B: Provider<P>>(
     provider: &mut B,
     cx: &mut Context<'_>,
 ) -> Poll<Result<Input<P, M, S, G>, EndCause>>
-where
-    P: PublicKey,
-    M: Digestible,
-    B: Provider<P>,
     ensures sets { (before : List (List P)) → B.told provider.old before
         → B.told provider.new (before ++ sets_in (given_ok result)) }
     ensures no_request { requests_in (given_ok result) ≡ [] }
@@ -98,7 +90,7 @@ where
 
 /// Registers for a stop and for a peer set, unless the poll did so before. Returns what came
 /// meanwhile.
-fn listen<P, M, S, G, B, Q>(
+fn listen<P: PublicKey, M: Digestible, S: Responder<Reply<M>> + Drop, G: Drop, B: Provider<P>, Q>(
     provider: &mut B,
     requests: &mut Q,
     hears_stop: bool,
@@ -106,11 +98,6 @@ fn listen<P, M, S, G, B, Q>(
     cx: &mut Context<'_>,
 ) -> Poll<Result<Input<P, M, S, G>, EndCause>>
 where
-    P: PublicKey,
-    M: Digestible,
-    S: Responder<Reply<M>> + Drop,
-    G: Drop,
-    B: Provider<P>,
     Q: Requests<Message<P, M, S, G>>,
     requires hears_stop { hears_stop ≡ true → HearsAll cx.old (Q.needs_stop requests.old) }
     requires hears_peers { hears_peers ≡ true → HearsAll cx.old (B.needs provider.old) }

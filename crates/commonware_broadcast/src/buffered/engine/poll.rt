@@ -2,8 +2,8 @@
 ghost use Rattle.std.specs.Prelude.{◌++◌, Bool, List};
 ghost use Rattle.futures.specs.Poll.{OnPending};
 ghost use Rattle.futures.specs.Task.{IsArmed, Keeps};
-ghost use Rattle.engine_io.specs.Refused.{outcome_of};
 ghost use Rattle.broadcast_mailbox.specs.declared.buffered.ingress.message.Request.{Request};
+ghost use Rattle.commonware_broadcast.specs.CountingCalls.{outcome_of};
 ghost use Rattle.commonware_broadcast.specs.Polls.{IsPoll};
 ghost use Rattle.commonware_broadcast.specs.Waits.{Waits};
 ghost use Rattle.commonware_broadcast.specs.EngineState.{moment};

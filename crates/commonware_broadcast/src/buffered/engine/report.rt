@@ -67,15 +67,12 @@ impl<P: PublicKey, Q, W> Report<P, Q, W> {
     }
 }
 
-impl<P, M, S, G, R, A, K, V, W> Report<
+impl<P: PublicKey, M: Digestible, S: Responder<Reply<M>> + Drop, G, R, A, K, V, W> Report<
     P,
     Ingress<Message<P, M, S, G>, R, Books<A, K, V, M::Digest>>,
     W,
 >
 where
-    P: PublicKey,
-    M: Digestible,
-    S: Responder<Reply<M>> + Drop,
     G: Responder<Option<Reply<M>>> + Drop,
     R: Wait + Drop,
     A: Account,
@@ -116,8 +113,7 @@ where
         ensures taken { IfOk result (λ left.
             left.0.applied + left.0.refused ≡ self.requests.taken) }
         ensures refused { IfOk result (λ left. left.0.refused ≡ self.requests.refused) }
-        ensures broadcasts { IfOk result (λ left.
-            BroadcastsOnly V.watched → left.0.skipped ≡ 0) }
+        ensures broadcasts { IfOk result (λ left. BroadcastsOnly V.watched → left.0.skipped ≡ 0) }
         ensures metrics { IfOk result (λ left. left.1 ≡ self.metrics) }
         ensures observer { IfOk result (λ left. left.2 ≡ self.observer) }
         ensures unchanged_on_error { IfErr result (λ both. (both.0 ≡ self) × (both.1 ≡ tally)) }

@@ -4,7 +4,7 @@ ghost use Rattle.futures.specs.Poll.{IfReady, OnPending};
 ghost use Rattle.futures.specs.Task.{IsArmed, Keeps};
 ghost use Rattle.commonware_broadcast.specs.EngineHistory.{end_told};
 ghost use Rattle.engine_io.specs.declared.input.Turn.TheVariants as turn;
-ghost use Rattle.commonware_broadcast.specs.Polls.{ShowsPollsTo, ShowsPolls, ShowsRun};
+ghost use Rattle.commonware_broadcast.specs.Shown.{ShowsPollsTo, ShowsPolls, ShowsRun};
 ghost use Rattle.commonware_broadcast.specs.EngineState.{moment};
 ghost use Rattle.commonware_broadcast.specs.Interfaces.{format_of, over};
 

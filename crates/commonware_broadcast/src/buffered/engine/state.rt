@@ -9,7 +9,7 @@ ghost use Rattle.engine_io.specs.declared.input.EndCause.{EndCause};
 ghost use Rattle.engine_io.specs.Replies.{Asker};
 ghost use Rattle.broadcast_mailbox.specs.declared.buffered.ingress.message.Request.{Request};
 ghost use Rattle.commonware_broadcast.specs.EngineHistory.{end_told, ended};
-ghost use Rattle.commonware_broadcast.specs.AppliesSteps.{AppliesAndSends, sinks};
+ghost use Rattle.commonware_broadcast.specs.AppliesSteps.{AppliesAndSends};
 ghost use Rattle.commonware_broadcast.specs.CountingCalls.{AppliesStep};
 ghost use Rattle.commonware_broadcast.specs.Fresh.{fresh};
 ghost use Rattle.commonware_broadcast.specs.Interfaces.{by_responder};
@@ -142,7 +142,7 @@ impl<P: PublicKey, M: Digestible + Codec, S, O, B, Q, T: Strategy<M>> Engine<P, 
             → s.encoding ≡ M.encoding → s.priority ≡ self.old.priority
             → (past : History P M M.Digest (Asker S) (Asker G))
             → HasContent s past self.old.node.core
-            → AppliesAndSends s (sinks (by_responder S.may_answer) O.told N.told) past input result
+            → AppliesAndSends s (by_responder S.may_answer) O.told N.told past input result
             (self.old.node, sender.old) (self.new.node, sender.new) }
         ensures same_after_end { (cause : EndCause) → self.old.end ≡ Some cause
             → (result ≡ turn.Ended cause) × (self.new ≡ self.old) × (sender.new ≡ sender.old) }

@@ -2,7 +2,8 @@
 ghost use Rattle.std.specs.Prelude.{◌≡◌, List, Option, length, IfOk, OnErr};
 ghost use Rattle.std.specs.Option.{option_map};
 ghost use Rattle.broadcast_core.specs.Carried.{Carried};
-ghost use Rattle.broadcast_core.specs.Content.{same_by, outcome_at};
+ghost use Rattle.broadcast_core.specs.Content.{same_by};
+ghost use Rattle.broadcast_core.specs.Fronted.{outcome_at};
 ghost use Rattle.commonware_broadcast.specs.Serving.{Serves};
 
 use crate::buffered::engine::node::Node;
@@ -15,16 +16,13 @@ use std::alloc::{AllocError, Global};
 /// first: after an allocation failure nothing has changed.
 // Inlined as `Engine::poll_job` is.
 #[inline(always)]
-pub(super) fn take<P, M, S, G, O>(
+pub(super) fn take<P: PublicKey, M: Digestible + EncodeSize, S: Drop, G, O>(
     node: &mut Node<P, M, S, O>,
     alloc: Global,
     peer: &P,
     message: &Digested<M>,
 ) -> Result<Outcome, AllocError>
 where
-    P: PublicKey,
-    M: Digestible + EncodeSize,
-    S: Drop,
     O: Outlet<S, G, Reply<M>, Option<Reply<M>>>,
     ensures outcome { IfOk result (λ outcome. outcome
         ≡ outcome_at (same_by P.cmp M.Digest.cmp) node.old.core peer.now message.now.digest
@@ -42,15 +40,12 @@ where
 }
 
 /// Takes a message under the node's own key, as `take` does.
-pub(super) fn take_own<P, M, S, G, O>(
+pub(super) fn take_own<P: PublicKey, M: Digestible + EncodeSize, S: Drop, G, O>(
     node: &mut Node<P, M, S, O>,
     alloc: Global,
     message: &Digested<M>,
 ) -> Result<Outcome, AllocError>
 where
-    P: PublicKey,
-    M: Digestible + EncodeSize,
-    S: Drop,
     O: Outlet<S, G, Reply<M>, Option<Reply<M>>>,
     ensures outcome { IfOk result (λ outcome. outcome
         ≡ outcome_at (same_by P.cmp M.Digest.cmp) node.old.core

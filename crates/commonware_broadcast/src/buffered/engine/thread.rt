@@ -25,17 +25,12 @@ pub enum StartError {
 }
 
 /// Tells the end of an engine to its observer, and to those who ask for its counters.
-pub(super) fn tell_end<P, D, R, W>(
+pub(super) fn tell_end<P: PublicKey, D: Drop, R: Wait + Clock + AllocGlobal, W: Observer<P, D>>(
     rt: &R,
     cause: EndCause,
     observer: &mut W,
     snapshots: &Snapshots<P>,
 )
-where
-    P: PublicKey,
-    D: Drop,
-    R: Wait + Clock + AllocGlobal,
-    W: Observer<P, D>,
     ensures { (turns : List (Turn P D)) → W.seen observer.old turns
         → W.seen observer.new (turns ++ turn.Ended cause ∷ []) }
 {
@@ -44,12 +39,7 @@ where
 }
 
 /// Tells the observer of an engine that could not be made or reached that it ended, and drops it.
-pub(crate) fn give_up<P, D, W>(mut observer: W)
-where
-    P: PublicKey,
-    D: Drop,
-    W: Observer<P, D> + Drop,
-{
+pub(crate) fn give_up<P: PublicKey, D: Drop, W: Observer<P, D> + Drop>(mut observer: W) {
     observer.turn(&Turn::Ended(EndCause::WaitFailed));
 }
 

@@ -1,7 +1,6 @@
 use Rattle.std.proofs.Common.{◌≡◌, [], None, Result, Ok, Err, IfOk, map, refl, sym, ap, ◌∙◌, subst}
-use Rattle.broadcast_core.specs.Codec.{whole}
+use Rattle.broadcast_core.specs.Setting.{whole, setting}
 use Rattle.broadcast_core.specs.Content.{same_by}
-use Rattle.broadcast_core.specs.Setting.{setting}
 use Rattle.std.specs.List.{count_by}
 use Rattle.engine_io.specs.Counters.{raised, number_at, is_counted_as}
 use Rattle.commonware_broadcast.specs.Counting.{counted}

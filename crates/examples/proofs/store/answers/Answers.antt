@@ -1,7 +1,6 @@
 use Rattle.std.proofs.Common.{false}
-use Rattle.broadcast_core.specs.Codec.{whole}
+use Rattle.broadcast_core.specs.Setting.{whole, setting}
 use Rattle.broadcast_core.specs.Content.{same_by}
-use Rattle.broadcast_core.specs.Setting.{setting}
 use Rattle.examples.proofs.Finding.{answers_were_taken}
 use Rattle.examples.proofs.store.answers.Goals as goal
 

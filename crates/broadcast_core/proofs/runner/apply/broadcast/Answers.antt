@@ -1,7 +1,8 @@
 use Rattle.std.proofs.Common.{◌≡◌, Some, refl, ap, ◌∙◌, subst}
 use Rattle.std.specs.Prelude.{length}
 use Rattle.std.specs.Option.{option_map}
-use Rattle.broadcast_core.specs.Content.{same_by, outcome_at}
+use Rattle.broadcast_core.specs.Content.{same_by}
+use Rattle.broadcast_core.specs.Fronted.{outcome_at}
 use Rattle.broadcast_core.specs.Changes.{Takes}
 use Rattle.broadcast_core.specs.Answers.{answer_to_broadcast}
 use Rattle.broadcast_core.specs.HasRun.{Applies}

@@ -6,7 +6,7 @@ use Rattle.std.specs.List.Sorted.{IsPermutation}
 use Rattle.std.proofs.lemmas.List.Sorted.{list_any-IsPermutation}
 use Rattle.broadcast_core.specs.Changes.{Cleans}
 use Rattle.broadcast_core.specs.Content.{same_by}
-use Rattle.broadcast_core.specs.Waiters.{counted}
+use Rattle.broadcast_core.specs.Counted.{counted}
 use Rattle.broadcast_core.proofs.Lawful.{same_by-lawful}
 use Rattle.broadcast_core.proofs.Applying.{Applies-cleanup}
 use Rattle.broadcast_core.proofs.runner.apply.cleanup.Goals as goal

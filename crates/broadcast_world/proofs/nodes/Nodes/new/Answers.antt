@@ -1,5 +1,5 @@
 use Rattle.std.proofs.Common.{length, ap, ◌∙◌, subst}
-use Rattle.broadcast_world.specs.Made.{AreEmpty}
+use Rattle.broadcast_world.specs.Nodes.{AreEmpty}
 use Rattle.broadcast_world.proofs.Places.{AllZip-length}
 use Rattle.broadcast_world.proofs.nodes.Nodes.new.Goals as goal
 

@@ -1,7 +1,7 @@
 use Rattle.std.proofs.Common.{arith, sym, subst}
 use Rattle.std.specs.Prelude.{slice_set}
 use Rattle.broadcast_core.specs.declared.event.Event.TheVariants as event
-use Rattle.broadcast_world.specs.Steps.{AtNode}
+use Rattle.broadcast_world.specs.Nodes.{AtNode}
 use Rattle.broadcast_world.specs.declared.step.WorldAnswer.TheVariants.{Given, NoSuch}
 use Rattle.broadcast_world.proofs.OneNode.{AtNode-given, AtNode-none, event_at-equal}
 use Rattle.broadcast_world.proofs.Places.{read_at}

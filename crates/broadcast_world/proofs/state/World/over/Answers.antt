@@ -1,6 +1,6 @@
 use Rattle.std.proofs.Common.{sym, subst}
 use Rattle.std.specs.Arc.{arc_value}
-use Rattle.broadcast_world.specs.Made.{AreEmpty}
+use Rattle.broadcast_world.specs.Nodes.{AreEmpty}
 use Rattle.broadcast_world.specs.Scene.{Scene}
 use Rattle.broadcast_world.proofs.OneNode.{contents-empty}
 use Rattle.broadcast_world.proofs.state.World.over.Goals as goal

@@ -5,7 +5,8 @@ use Rattle.std.specs.List.{IsDistinct}
 use Rattle.std.specs.Ordering.{eq_by_cmp}
 use Rattle.broadcast_world.specs.Scene.{Scene}
 use Rattle.broadcast_world.specs.World.{event_of, packets}
-use Rattle.broadcast_world.specs.Steps.{HasWorld, TakesStep}
+use Rattle.broadcast_world.specs.Steps.{HasWorld}
+use Rattle.broadcast_world.specs.Nodes.{TakesStep}
 use Rattle.broadcast_world.proofs.Stepped.{TakesStep-at}
 use Rattle.broadcast_world.proofs.state.World.take.Goals as goal
 

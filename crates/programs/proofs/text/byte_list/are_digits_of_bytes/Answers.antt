@@ -1,7 +1,7 @@
 use Rattle.std.proofs.Common.{subst, All, arith}
 use Rattle.std.proofs.lemmas.List.{take_all}
 use Rattle.std.proofs.lemmas.List.Elements.{All-more}
-use Rattle.programs.specs.Words.{IsHexDigit}
+use Rattle.programs.specs.Parsing.{IsHexDigit}
 use Rattle.programs.proofs.text.byte_list.are_digits_of_bytes.Goals as goal
 
 pub loop-digit-preserved : goal.loop-digit-preserved

@@ -1,5 +1,5 @@
 use Rattle.std.proofs.Common.{◌<◌, All, take}
-use Rattle.programs.specs.Words.{IsHexDigit}
+use Rattle.programs.specs.Parsing.{IsHexDigit}
 use Rattle.programs.proofs.text.byte_list.are_digits_of_bytes.Given as goal
 
 abbrev pub invariant-loop-digit : goal.invariant-loop-digit

@@ -1,6 +1,6 @@
 use Rattle.std.proofs.Common.{◌≡◌, ◌*◌, ◌<◌, ℕ, List, length}
 use Rattle.hex.specs.Hex.{IsBytes, encode_lower}
-use Rattle.programs.specs.Words.{IsSpelled}
+use Rattle.programs.specs.Parsing.{IsSpelled}
 use Rattle.programs.proofs.text.byte_list.decode.Given as goal
 
 abbrev pub invariant-loop-piece : goal.invariant-loop-piece

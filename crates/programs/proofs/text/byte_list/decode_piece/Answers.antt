@@ -1,7 +1,7 @@
 use Rattle.std.proofs.Common.{◌≡◌, ◌+◌, ◌*◌, ◌%◌, ◌<◌, ap, ◌∙◌, length, slice_index, arith}
 use Rattle.hex.specs.Hex.{lower_digits}
 use Rattle.hex.proofs.HexLemmas.{length-encode_with}
-use Rattle.programs.specs.Words.{ReadsDigit}
+use Rattle.programs.specs.Parsing.{ReadsDigit}
 use Rattle.programs.proofs.ByteLists.{decode_step, digit_found}
 use Rattle.programs.proofs.text.byte_list.decode_piece.Goals as goal
 

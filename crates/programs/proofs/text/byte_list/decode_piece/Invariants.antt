@@ -1,6 +1,6 @@
 use Rattle.std.proofs.Common.{◌≡◌, ℕ, List, ◌+◌, ◌<◌}
 use Rattle.hex.specs.Hex.{IsBytes, encode_lower}
-use Rattle.programs.specs.Words.{IsSpelled}
+use Rattle.programs.specs.Parsing.{IsSpelled}
 use Rattle.programs.proofs.text.byte_list.decode_piece.Given as goal
 
 abbrev pub invariant-loop-i : goal.invariant-loop-i

@@ -1,5 +1,5 @@
 use Rattle.std.proofs.Common.{◌≡◌, ℕ, ◌+◌, ◌<◌, length, slice_index}
-use Rattle.programs.specs.Words.{ReadsDigit}
+use Rattle.programs.specs.Parsing.{ReadsDigit}
 use Rattle.programs.proofs.text.byte_list.piece_values.Given as goal
 
 abbrev pub invariant-loop-i : goal.invariant-loop-i

@@ -1,5 +1,6 @@
 use Rattle.std.proofs.Common.{List, ℕ}
-use Rattle.programs.specs.Lines.{AreRead, LinesLeft}
+use Rattle.programs.specs.Lines.{AreRead}
+use Rattle.programs.specs.Parsing.{LinesLeft}
 use Rattle.programs.proofs.text.lines.read_items.Given as goal
 
 -- the items are those of the lines that were read

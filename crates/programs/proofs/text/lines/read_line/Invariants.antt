@@ -1,5 +1,5 @@
 use Rattle.std.proofs.Common.{[]}
-use Rattle.programs.specs.Lines.{Extends}
+use Rattle.programs.specs.Parsing.{Extends}
 use Rattle.programs.proofs.text.lines.read_line.Given as goal
 
 -- the line has what was read so far

@@ -1,6 +1,7 @@
 use Rattle.std.proofs.Common.{List, ℕ, rules}
 use Rattle.broadcast_core.specs.declared.ordered.Recipients.{Recipients}
-use Rattle.programs.specs.Recipients.{AreNumbers, IsKeys, IsRecipients, keys_of, recipients_of}
+use Rattle.programs.specs.Recipients.{AreNumbers, IsKeys, IsRecipients, keys_of}
+use Rattle.programs.specs.Parsing.{recipients_of}
 use Rattle.programs.proofs.Naming.{IsRecipients-marked, keys_of-recipients_of, keys-marked}
 use Rattle.programs.proofs.text.recipients.parse_recipients.Goals as goal
 

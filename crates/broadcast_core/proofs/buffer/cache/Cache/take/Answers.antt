@@ -3,7 +3,8 @@ use Rattle.std.specs.Prelude.{is_some, not}
 use Rattle.std.specs.Cmp.{eq_by_cmp_equiv}
 use Rattle.std.specs.Ordering.{eq_by_cmp}
 use Rattle.entries.specs.Overlaid.{same_number}
-use Rattle.broadcast_core.specs.Content.{same_by, at_charge, fronted, items_at, outcome_of}
+use Rattle.broadcast_core.specs.Content.{same_by, at_charge, items_at, outcome_of}
+use Rattle.broadcast_core.specs.Fronted.{fronted}
 use Rattle.broadcast_core.specs.declared.outcome.Outcome.TheVariants.{Inserted}
 use Rattle.broadcast_core.specs.Numbered.{named_of}
 use Rattle.broadcast_core.specs.Stored.{Stores}

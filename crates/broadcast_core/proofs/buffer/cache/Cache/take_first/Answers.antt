@@ -9,9 +9,10 @@ use Rattle.std.specs.declared.cmp.Ordering.{Ordering}
 use Rattle.std.proofs.lemmas.Map.Keys.{IsDistinct-from_sorted}
 use Rattle.entries.specs.declared.entry.Charged.{Charged}
 use Rattle.broadcast_core.specs.Carried.{Carried}
-use Rattle.broadcast_core.specs.Content.{at_charge, fronted, same_by, same_listed}
+use Rattle.broadcast_core.specs.Content.{at_charge, same_by}
+use Rattle.broadcast_core.specs.Fronted.{fronted}
+use Rattle.broadcast_core.specs.Numbered.{same_listed, named_of, IsNumbered, Opens, Closes}
 use Rattle.broadcast_core.specs.Stored.{Stored, Stores}
-use Rattle.broadcast_core.specs.Numbered.{named_of, IsNumbered, Opens, Closes}
 use Rattle.entries.proofs.Tables.{lookup-inserted, remove-inserted}
 use Rattle.broadcast_core.specs.Left.{Adds}
 use Rattle.broadcast_core.proofs.Parting.{Adds-none}

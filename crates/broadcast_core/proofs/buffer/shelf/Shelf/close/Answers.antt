@@ -4,7 +4,7 @@ use Rattle.entries.specs.Overlaid.{same_number}
 use Rattle.entries.specs.Store.{values_of, items_at}
 use Rattle.entries.specs.Table.{items_of}
 use Rattle.entries.proofs.Slots.{number_laws}
-use Rattle.broadcast_core.specs.Content.{same_listed}
+use Rattle.broadcast_core.specs.Numbered.{same_listed}
 use Rattle.broadcast_core.specs.Indexed.{names_of, named_lists}
 use Rattle.broadcast_core.proofs.Distinct.{by_test}
 use Rattle.broadcast_core.proofs.Indexing.{IsIndexed-closed, nodes-equal, cond_true, cond_false}

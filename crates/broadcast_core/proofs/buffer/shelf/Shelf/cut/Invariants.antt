@@ -3,7 +3,7 @@ use Rattle.std.specs.Ordering.{eq_by_cmp}
 use Rattle.entries.specs.Overlaid.{same_number}
 use Rattle.entries.specs.Store.{items_at}
 use Rattle.entries.specs.Table.{items_of, messages_of}
-use Rattle.broadcast_core.specs.Content.{same_listed}
+use Rattle.broadcast_core.specs.Numbered.{same_listed}
 use Rattle.broadcast_core.specs.Left.{Adds, HasRoom}
 use Rattle.broadcast_core.specs.Indexed.{names_of, named_lists, AllNamed}
 use Rattle.broadcast_core.proofs.Shortening.{Shortening}

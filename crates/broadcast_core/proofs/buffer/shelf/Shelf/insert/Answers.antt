@@ -6,7 +6,8 @@ use Rattle.std.proofs.Common.{Result, Ok, Err, OnErr, Some, inl, inr, refl, ◌�
 use Rattle.std.specs.Prelude.{is_some, ◌^◌}
 use Rattle.std.specs.Map.{lookup}
 use Rattle.std.specs.Cmp.{eq_by_cmp_equiv}
-use Rattle.broadcast_core.specs.Content.{same_listed, same_charged, without, at_charge, items_at, bytes_of, outcome_of}
+use Rattle.broadcast_core.specs.Content.{same_charged, without, at_charge, items_at, bytes_of, outcome_of}
+use Rattle.broadcast_core.specs.Numbered.{same_listed}
 use Rattle.broadcast_core.specs.Indexed.{names_of, named_lists, IsShelved, shelved_of, Pushes}
 use Rattle.broadcast_core.proofs.Placing.{is_some-digests, length-digests}
 use Rattle.broadcast_core.proofs.Naming.{is_some-named, bytes-listed}

@@ -1,6 +1,7 @@
 use Rattle.std.proofs.Common.{ℕ, Option, refl, []}
 use Rattle.std.specs.List.{IsDistinct}
-use Rattle.broadcast_core.specs.Content.{Same, same_listed}
+use Rattle.broadcast_core.specs.Content.{Same}
+use Rattle.broadcast_core.specs.Numbered.{same_listed}
 use Rattle.broadcast_core.specs.Indexed.{IsShelved}
 use Rattle.broadcast_core.proofs.buffer.shelf.Shelf.new.Goals as goal
 

@@ -11,9 +11,8 @@ use Rattle.entries.specs.Store.{values_of, items_at, Listed, Puts}
 use Rattle.entries.proofs.Slots.{number_laws}
 use Rattle.entries.specs.Table.{Tabled, items_of}
 use Rattle.broadcast_core.specs.Carried.{Carried}
-use Rattle.broadcast_core.specs.Content.{same_listed}
+use Rattle.broadcast_core.specs.Numbered.{same_listed, Opens}
 use Rattle.broadcast_core.specs.Indexed.{names_of, named_nodes, named_lists, IsShelved, shelved_of}
-use Rattle.broadcast_core.specs.Numbered.{Opens}
 use Rattle.broadcast_core.proofs.Placing.{is_some-digests, distinct-digests}
 use Rattle.broadcast_core.proofs.Naming.{items_at-named, is_some-named, Puts-named, AllNamed-puts}
 use Rattle.broadcast_core.proofs.Indexing.{IsIndexed-closed}

@@ -4,7 +4,7 @@ use Rattle.std.specs.Cmp.{eq_by_cmp_equiv}
 use Rattle.entries.specs.Overlaid.{same_number}
 use Rattle.std.specs.Ordering.{eq_by_cmp}
 use Rattle.entries.specs.Table.{items_of, messages_of}
-use Rattle.broadcast_core.specs.Content.{same_listed}
+use Rattle.broadcast_core.specs.Numbered.{same_listed}
 use Rattle.broadcast_core.specs.Indexed.{names_of, named_nodes, named_lists, stored_of}
 use Rattle.broadcast_core.proofs.Placing.{distinct-digests}
 use Rattle.broadcast_core.proofs.Caching.{stored-cached}

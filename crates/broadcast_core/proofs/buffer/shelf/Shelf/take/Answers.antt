@@ -2,7 +2,8 @@ use Rattle.entries.proofs.Slots.{number_laws}
 use Rattle.std.proofs.Common.{refl, sym, subst, length, ◌≤◌, arith}
 use Rattle.std.specs.Cmp.{eq_by_cmp_equiv}
 use Rattle.entries.specs.Table.{items_of, messages_of}
-use Rattle.broadcast_core.specs.Content.{same_listed, items_at, bytes_of}
+use Rattle.broadcast_core.specs.Content.{items_at, bytes_of}
+use Rattle.broadcast_core.specs.Numbered.{same_listed}
 use Rattle.broadcast_core.specs.Indexed.{names_of, named_lists, shelved_of}
 use Rattle.std.specs.Ordering.{eq_by_cmp}
 use Rattle.broadcast_core.proofs.Parting.{Adds-none, Adds-cut}

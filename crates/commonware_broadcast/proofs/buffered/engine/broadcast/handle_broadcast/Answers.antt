@@ -3,9 +3,10 @@ use Rattle.std.specs.Option.{option_map}
 use Rattle.broadcast_core.proofs.Handing.{outcome-taken, handed-broadcast}
 use Rattle.broadcast_core.proofs.Lawful.{same_by-lawful}
 use Rattle.broadcast_core.proofs.Stepping.{HasContent-broadcast}
-use Rattle.broadcast_core.specs.Answers.{outcome}
+use Rattle.broadcast_core.specs.Lists.{outcome}
 use Rattle.broadcast_core.specs.Changes.{Takes}
-use Rattle.broadcast_core.specs.Content.{same_by, outcome_at}
+use Rattle.broadcast_core.specs.Content.{same_by}
+use Rattle.broadcast_core.specs.Fronted.{outcome_at}
 use Rattle.broadcast_core.specs.Sent.{sending}
 use Rattle.engine_io.specs.declared.input.Turn.TheVariants as turn
 use Rattle.commonware_broadcast.proofs.Applying.{AppliesAndSends-silent, AppliesInput-applied, AppliesInput-refused, may-refuse}

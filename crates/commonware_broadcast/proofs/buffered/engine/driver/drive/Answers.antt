@@ -1,12 +1,9 @@
 use Rattle.std.proofs.Common.{rules, ◌≡◌, ◌++◌, ◌∙◌, true, false, is_some, Some, None, [], ◌∷◌, suc, length, length-append, refl, sym, ap, subst, append-nil, arith}
-use Rattle.broadcast_core.specs.Codec.{whole}
-use Rattle.broadcast_core.specs.Content.{same_by}
 use Rattle.engine_io.specs.Sources.{given}
 use Rattle.commonware_broadcast.specs.EngineHistory.{happenings, end_told}
 use Rattle.commonware_broadcast.specs.EngineState.{moment}
-use Rattle.commonware_broadcast.specs.Interfaces.{format, parties, interfaces}
-use Rattle.commonware_broadcast.specs.TakesSteps.{TellsEnd, AlwaysTakes}
-use Rattle.commonware_broadcast.specs.Polls.{Polls}
+use Rattle.commonware_broadcast.specs.Interfaces.{format_of, over}
+use Rattle.commonware_broadcast.specs.Drives.{TellsEnd, AlwaysTakes, Polls}
 use Rattle.engine_io.specs.declared.input.Turn.TheVariants.{Ended}
 use Rattle.futures.specs.declared.task.Poll.TheVariants.{Ready, Pending}
 use Rattle.std.specs.List.{All}
@@ -18,7 +15,7 @@ use Rattle.commonware_broadcast.proofs.buffered.engine.driver.drive.Goals as goa
 
 pub loop-poll-init : goal.loop-poll-init
 loop-poll-init g c = record {
-  polls = λ count is. subst (λ n. Polls (format (same_by g.P.Ord.cmp g.M.Digest.Ord.cmp) g.M.Write.encoding g.M.Digestible.digest_of (λ cfg. whole (g.M.Read.reading cfg))) (interfaces (parties (λ w b. g.S.Responder.may_answer w.responder b) g.T.Job.Job.is_of g.O.Outlet) g.N.Sender g.V.Receiver g.B.Provider g.Q.Requests)
+  polls = λ count is. subst (λ n. Polls (format_of g.P.Ord.cmp g.M.Digest.Ord.cmp g.M.Write.encoding g.M.Digestible.digest_of g.M.Read.reading) (over g.S.Responder.may_answer g.T.Job.Job.is_of g.O.Outlet g.N.Sender g.V.Receiver g.B.Provider g.Q.Requests)
       n (moment c.args.engine.now c.args.network.now) (moment c.args.engine.now c.args.network.now) c.in_ok-turns.turns.items) (sym is) (refl, c.in_ok-turns.ensures.items);
   priority = refl;
   codec_config = refl;
@@ -41,7 +38,7 @@ pub loop-poll-preserved : goal.loop-poll-preserved
 loop-poll-preserved g c =
     let at = c.loop-poll.invariant in
     let going : c.poll.new.self.end ≡ None = none_is c.poll.new.self.end (ap (λ k. is_some k.end) (sym c.engine.view_is) ∙ sym c.is_some.ensures ∙ c.if-is_some.false) in record {
-      polls = λ count is. subst (λ n. Polls (format (same_by g.P.Ord.cmp g.M.Digest.Ord.cmp) g.M.Write.encoding g.M.Digestible.digest_of (λ cfg. whole (g.M.Read.reading cfg))) (interfaces (parties (λ w b. g.S.Responder.may_answer w.responder b) g.T.Job.Job.is_of g.O.Outlet) g.N.Sender g.V.Receiver g.B.Provider g.Q.Requests)
+      polls = λ count is. subst (λ n. Polls (format_of g.P.Ord.cmp g.M.Digest.Ord.cmp g.M.Write.encoding g.M.Digestible.digest_of g.M.Read.reading) (over g.S.Responder.may_answer g.T.Job.Job.is_of g.O.Outlet g.N.Sender g.V.Receiver g.B.Provider g.Q.Requests)
           n (moment c.args.engine.now c.args.network.now) (moment c.poll.new.self c.poll.new.network) c.push_reserved.new.self.items) (let next : suc c.loop-poll._poll ≡ count = omega (arith, is) in next)
           (Polls-more c.loop-poll._poll (moment c.args.engine.now c.args.network.now) (moment c.loop-poll.engine c.loop-poll.network) (moment c.poll.new.self c.poll.new.network) c.loop-poll.turns.items c.push_reserved.new.self.items
           (at.polls c.loop-poll._poll refl) (record { result = c.poll.result; polled = c.poll.ensures.polled; all = sym (ap (λ r. c.loop-poll.turns.items ++ given r) c.in-Ready.is ∙ sym c.push_reserved.ensures.items) }));
@@ -64,7 +61,7 @@ loop-poll-preserved g c =
 
 pub loop-poll-preserved-in_default : goal.loop-poll-preserved-in_default
 loop-poll-preserved-in_default g c = let at = c.loop-poll.invariant in record {
-  polls = λ count is. subst (λ n. Polls (format (same_by g.P.Ord.cmp g.M.Digest.Ord.cmp) g.M.Write.encoding g.M.Digestible.digest_of (λ cfg. whole (g.M.Read.reading cfg))) (interfaces (parties (λ w b. g.S.Responder.may_answer w.responder b) g.T.Job.Job.is_of g.O.Outlet) g.N.Sender g.V.Receiver g.B.Provider g.Q.Requests)
+  polls = λ count is. subst (λ n. Polls (format_of g.P.Ord.cmp g.M.Digest.Ord.cmp g.M.Write.encoding g.M.Digestible.digest_of g.M.Read.reading) (over g.S.Responder.may_answer g.T.Job.Job.is_of g.O.Outlet g.N.Sender g.V.Receiver g.B.Provider g.Q.Requests)
       n (moment c.args.engine.now c.args.network.now) (moment c.poll.new.self c.poll.new.network) c.loop-poll.turns.items) (let next : suc c.loop-poll._poll ≡ count = omega (arith, is) in next)
       (Polls-more c.loop-poll._poll (moment c.args.engine.now c.args.network.now) (moment c.loop-poll.engine c.loop-poll.network) (moment c.poll.new.self c.poll.new.network) c.loop-poll.turns.items c.loop-poll.turns.items
       (at.polls c.loop-poll._poll refl) (record { result = c.poll.result; polled = c.poll.ensures.polled; all = sym (ap (λ r. c.loop-poll.turns.items ++ given r) c.in_default.is ∙ append-nil c.loop-poll.turns.items) }));
@@ -84,7 +81,7 @@ loop-poll-preserved-in_default g c = let at = c.loop-poll.invariant in record {
 
 pub returns-then-is_some-clause-took : goal.returns-then-is_some-clause-took
 returns-then-is_some-clause-took g c = let at = c.loop-poll.invariant in
-    subst (λ l. AlwaysTakes (format (same_by g.P.Ord.cmp g.M.Digest.Ord.cmp) g.M.Write.encoding g.M.Digestible.digest_of (λ cfg. whole (g.M.Read.reading cfg))) (interfaces (parties (λ w b. g.S.Responder.may_answer w.responder b) g.T.Job.Job.is_of g.O.Outlet) g.N.Sender g.V.Receiver g.B.Provider g.Q.Requests)
+    subst (λ l. AlwaysTakes (format_of g.P.Ord.cmp g.M.Digest.Ord.cmp g.M.Write.encoding g.M.Digestible.digest_of g.M.Read.reading) (over g.S.Responder.may_answer g.T.Job.Job.is_of g.O.Outlet g.N.Sender g.V.Receiver g.B.Provider g.Q.Requests)
     (moment c.args.engine.now c.args.network.now) (moment c.poll.new.self c.poll.new.network) l) (sym c.push_reserved.ensures.items)
     (λ s is past has before held.
     let begun = Polls-take c.loop-poll._poll (moment c.args.engine.now c.args.network.now) (moment c.loop-poll.engine c.loop-poll.network) c.loop-poll.turns.items (at.polls c.loop-poll._poll refl) at.none_ends s is past has before held in

@@ -2,21 +2,19 @@ use Rattle.std.proofs.Common.{◌≡◌, ℕ, length}
 use Rattle.std.specs.Prelude.{◌<◌, ◌≤◌, Some, None, vec_len, vec_capacity}
 use Rattle.std.specs.List.{All}
 use Rattle.futures.specs.Task.{IsArmed, Keeps}
-use Rattle.broadcast_core.specs.Codec.{whole}
-use Rattle.broadcast_core.specs.Content.{same_by}
 use Rattle.engine_io.specs.declared.input.EndCause.{EndCause}
 use Rattle.commonware_broadcast.specs.EngineHistory.{end_told}
 use Rattle.commonware_broadcast.specs.EngineState.{moment}
-use Rattle.commonware_broadcast.specs.Interfaces.{format, parties, interfaces}
-use Rattle.commonware_broadcast.specs.Polls.{Polls}
+use Rattle.commonware_broadcast.specs.Interfaces.{format_of, over}
+use Rattle.commonware_broadcast.specs.Drives.{Polls}
 use Rattle.commonware_broadcast.proofs.buffered.engine.driver.drive.Given as goal
 
 abbrev pub invariant-loop-poll : goal.invariant-loop-poll
 invariant-loop-poll g l =
     record {
       polls : (count : ℕ) → count ≡ l._poll
-          → Polls (format (same_by g.P.Ord.cmp g.M.Digest.Ord.cmp) g.M.Write.encoding g.M.Digestible.digest_of (λ cfg. whole (g.M.Read.reading cfg)))
-          (interfaces (parties (λ w b. g.S.Responder.may_answer w.responder b) g.T.Job.Job.is_of g.O.Outlet) g.N.Sender g.V.Receiver g.B.Provider g.Q.Requests)
+          → Polls (format_of g.P.Ord.cmp g.M.Digest.Ord.cmp g.M.Write.encoding g.M.Digestible.digest_of g.M.Read.reading)
+          (over g.S.Responder.may_answer g.T.Job.Job.is_of g.O.Outlet g.N.Sender g.V.Receiver g.B.Provider g.Q.Requests)
           count (moment l.fn.engine l.fn.network) (moment l.engine l.network) l.turns.items;
       priority : l.engine.priority ≡ l.fn.engine.priority;
       codec_config : l.engine.codec_config ≡ l.fn.engine.codec_config;

@@ -1,5 +1,5 @@
 use Rattle.std.proofs.Common.{ℕ, ap, ◌∙◌}
-use Rattle.broadcast_core.specs.HasContent.{named_by}
+use Rattle.broadcast_core.specs.Cleaned.{named_by}
 use Rattle.broadcast_core.specs.Waiting.{waiting}
 use Rattle.broadcast_core.proofs.AwaitedCount.{awaited-counted}
 use Rattle.broadcast_core.proofs.Lawful.{same_by-lawful}

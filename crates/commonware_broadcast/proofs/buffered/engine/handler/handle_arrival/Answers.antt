@@ -2,7 +2,7 @@ use Rattle.std.proofs.Common.{◌≡◌, [], ◌∷◌, sym, ap, ◌∙◌}
 use Rattle.broadcast_core.proofs.Handing.{outcome-taken, handed-arrival}
 use Rattle.broadcast_core.proofs.Lawful.{same_by-lawful}
 use Rattle.broadcast_core.proofs.Stepping.{HasContent-arrival}
-use Rattle.broadcast_core.specs.Answers.{outcome}
+use Rattle.broadcast_core.specs.Lists.{outcome}
 use Rattle.broadcast_core.specs.declared.outcome.Outcome.{Outcome}
 use Rattle.engine_io.specs.Counters.{Counters}
 use Rattle.engine_io.specs.ReplyCounts.{count_replies}

@@ -1,7 +1,7 @@
 use Rattle.std.proofs.Common.{◌≡◌, ◌∙◌, refl, sym, ap, subst, append-nil, Some, [], ◌∷◌, ◌++◌}
 use Rattle.futures.specs.declared.task.Poll.TheVariants.{Ready, Pending}
 use Rattle.engine_io.specs.Sources.{given}
-use Rattle.commonware_broadcast.specs.Polls.{unended}
+use Rattle.commonware_broadcast.specs.Shown.{unended}
 use Rattle.commonware_broadcast.proofs.Polls.{ShowsPolls-none, ShowsPolls-one, unended-open, unended-end}
 use Rattle.commonware_broadcast.proofs.buffered.engine.running.Running.poll_turns.Goals as goal
 

@@ -2,12 +2,12 @@ use Rattle.std.proofs.Common.{◌≡◌, inl, inr, Option, None, Some, true, fal
 use Rattle.futures.specs.declared.task.Poll.TheVariants.{Ready}
 use Rattle.broadcast_core.specs.Happening.{cleanup}
 use Rattle.engine_io.specs.Causes.{HasCause}
-use Rattle.engine_io.specs.Refused.{refuses, outcome_of}
+use Rattle.engine_io.specs.Refused.{refuses}
+use Rattle.commonware_broadcast.specs.CountingCalls.{outcome_of}
 use Rattle.engine_io.specs.declared.input.EndCause.TheVariants.{Stopped}
 use Rattle.engine_io.specs.declared.input.Turn.TheVariants as turn
 use Rattle.commonware_broadcast.specs.declared.buffered.engine.first.First.TheVariants.{Stop, Job, Sources}
 use Rattle.commonware_broadcast.specs.Arrives.{Arrives, payload_of}
-use Rattle.commonware_broadcast.specs.Interfaces.{parties}
 use Rattle.commonware_broadcast.specs.Taken.{Holds}
 use Rattle.commonware_broadcast.proofs.Composing.{told-same}
 use Rattle.commonware_broadcast.proofs.Ending.{IsPoll-open, IfNetwork-holds, OnPending-map, UnlessPeers-holds, UnlessPeers-input, HasCause-map, no_error, no_ready, no_stop, no_true, not_ended, same_cause, same_error}
@@ -168,7 +168,7 @@ returns-in-Ready-Ok-poll_recv-clause-polled g c = rw (← c.self.view_is) (
       payloads = told-same g.V.Receiver.told c.args.network.now.1;
     })
     (TakesOnly-payload c.in_default.is none.1 holds
-    (subst (λ bs. Arrives s (parties (λ w b. g.S.Responder.may_answer w.responder b) g.T.Job.Job.is_of g.O.Outlet) (cleanup swept.0 ∷ past) (payload_of p (s.reading bs)) c.cleanup_waiters.new.node c.receive.new.self c.receive.result) c.as_slice.ensures
+    (subst (λ bs. Arrives s (λ w b. g.S.Responder.may_answer w.responder b) g.T.Job.Job.is_of g.O.Outlet.told (cleanup swept.0 ∷ past) (payload_of p (s.reading bs)) c.cleanup_waiters.new.node c.receive.new.self c.receive.result) c.as_slice.ensures
     (c.receive.ensures.arrives s is (cleanup swept.0 ∷ past) swept.1.content))
     (ap (λ e. e.end) keeps ∙ c.in_default.is) refl
     (Gave-received (ap (λ e. e.provider) keeps) (λ told h. subst (λ q. g.Q.Requests.told q told) (sym (ap (λ e. e.requests) keeps)) h)

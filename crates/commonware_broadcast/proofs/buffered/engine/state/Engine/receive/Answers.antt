@@ -1,6 +1,6 @@
 use Rattle.std.proofs.Common.{◌≡◌, Ok, Err, inl, inr, refl, sym, ap, ◌∙◌}
 use Rattle.std.specs.Prelude.{length, is_ok, true}
-use Rattle.broadcast_core.specs.Codec.{whole}
+use Rattle.broadcast_core.specs.Setting.{whole}
 use Rattle.broadcast_core.specs.declared.codec.CodecError.TheVariants as CodecError
 use Rattle.broadcast_core.proofs.Applying.{not_memory}
 use Rattle.commonware_broadcast.proofs.Arriving.{some_ok, Arrives-handled, Arrives-uncounted}
