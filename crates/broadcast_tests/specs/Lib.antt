@@ -1,1 +1,2 @@
 pub mod Even
+pub mod Watches

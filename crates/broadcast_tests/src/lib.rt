@@ -1,6 +1,6 @@
 // SPDX-License-Identifier: Apache-2.0
-//! Tests of what no contract says, without threads: of the cache, its codec and runs, of the
-//! mailbox, of relays, and of engines that are polled.
+//! Tests of what no contract says: of the cache, its codec and runs, of the mailbox, of relays, and
+//! of engines that are polled, or started in threads.
 #![tactic(auto)]
 
 #[cfg(test)]
@@ -27,7 +27,7 @@ mod support;
 #[cfg(test)]
 mod texts;
 #[cfg(test)]
-mod unencodable;
+mod threads;
 #[cfg(test)]
 mod vectors;
 #[cfg(test)]

@@ -1,6 +1,6 @@
 //! The network in memory: which nodes receive a payload, also if one is lost, and peer sets.
 use crate::key::Key;
-use crate::support::message::{To, peers, recipients};
+use crate::support::message::{peers, recipients};
 use crate::support::task::Task;
 use broadcast_core::{PublicKey, Recipients};
 use commonware_broadcast::buffered::{Provider, Sender};
@@ -13,14 +13,14 @@ use std::sync::atomic::Ordering;
 use std::sync::{Arc, Wait};
 
 /// Recipients, and whether each of the nodes 1 to 4 is handed a payload of the node 1.
-struct Row(To, [bool; 4]);
+struct Row(&'static [u8], [bool; 4]);
 
 static ROWS: [Row; 5] = [
-    Row(To::All, [false, true, true, true]),
-    Row(To::One(3), [false, false, true, false]),
-    Row(To::One(1), [false, false, false, false]),
-    Row(To::Some(&[4, 9, 2]), [false, true, false, true]),
-    Row(To::Some(&[]), [false, false, false, false]),
+    Row(b"*", [false, true, true, true]),
+    Row(b"3", [false, false, true, false]),
+    Row(b"1", [false, false, false, false]),
+    Row(b"492", [false, true, false, true]),
+    Row(b"", [false, false, false, false]),
 ];
 
 fn rows() -> &'static [Row] {
@@ -53,7 +53,7 @@ fn has_payload<P: PublicKey, R: Wait>(rt: &R, task: &mut Task, mail: &Mail<P>) -
 }
 
 /// Sends a payload of node 1 to the recipients. Returns whether each node was handed it.
-fn sent<R>(rt: &R, to: To) -> [bool; 4]
+fn sent<R>(rt: &R, to: &[u8]) -> [bool; 4]
 where
     R: Wait + Abort + RandomSource + AllocGlobal + Clone + Drop,
 {
@@ -112,7 +112,7 @@ where
     R: Wait + Abort + RandomSource + AllocGlobal + Clone + Drop,
 {
     let mut task = Task::new(rt).expect(rt, "memory");
-    let peers = peers(rt.alloc(), &[1, 2]).expect(rt, "memory");
+    let peers = peers(rt.alloc(), b"12").expect(rt, "memory");
     let network = Network::between(rt, &[1]).expect(rt, "memory");
     let Ends {
         mut provider,

@@ -1,7 +1,8 @@
-//! Takings that find no memory for a copy of their key, alone and in a run.
+//! Takings that find no memory for a copy of their key, alone and in a run, and runs of a broadcast
+//! whose message has no encoding.
 use crate::even::Even;
 use crate::key::Key;
-use broadcast_core::{Answer, Cause, Core, Digested, Event, Items, Set, run};
+use broadcast_core::{Answer, Cause, Core, Digested, Event, Items, Recipients, Set, run};
 use std::alloc::{AllocError, Global};
 
 type Keyed = Core<Key, Even, u64>;
@@ -42,32 +43,20 @@ fn serves(core: &mut Keyed, message: &Digested<Even>) -> Result<bool, AllocError
     Ok(core.take(&Key::new(1), message)?.served.as_slice() == [7].as_slice())
 }
 
-/// What takings under both keys show: whether they are refused, what is left, and whether a taking
-/// serves afterwards.
-type Shown = (bool, [usize; 4], bool);
-
-fn shown(alloc: Global) -> Result<Shown, AllocError> {
+/// Returns whether takings under both keys are refused, what is left, and whether a taking serves
+/// afterwards.
+fn shown(alloc: Global, core: &mut Keyed) -> Result<(bool, [usize; 4], bool), AllocError> {
     let message = Digested::compute(alloc, Even(4))?;
-    let mut core = core(alloc)?;
-    shown_by(alloc, &mut core, &message)
-}
-
-fn shown_by(
-    alloc: Global,
-    core: &mut Keyed,
-    message: &Digested<Even>,
-) -> Result<Shown, AllocError> {
-    let refused = refuses(core, message);
+    let refused = refuses(core, &message);
     let sizes = sizes(alloc, core)?;
-    Ok((refused, sizes, serves(core, message)?))
+    Ok((refused, sizes, serves(core, &message)?))
 }
 
 #[test]
 fn refused_take_changes_nothing(rt: HostRuntime) {
-    assert_eq!(rt;
-        shown(rt.alloc()).expect(&rt, "memory"),
-        (true, [0, 0, 0, 1], true)
-    );
+    let mut core = core(rt.alloc()).expect(&rt, "memory");
+    let shown = shown(rt.alloc(), &mut core).expect(&rt, "memory");
+    assert_eq!(rt; shown, (true, [0, 0, 0, 1], true));
 }
 
 /// Returns a payload of the key with the message whose digest is 4.
@@ -109,4 +98,28 @@ fn goes_on(alloc: Global) -> Result<bool, AllocError> {
 fn a_run_goes_on_after_a_refused_event(rt: HostRuntime) {
     let goes_on = goes_on(rt.alloc()).expect(&rt, "memory");
     assert!(rt; goes_on);
+}
+
+/// Returns whether a run refuses a broadcast of the number for its encoding, and how many digests
+/// are listed, messages cached and messages sent.
+fn broadcast(alloc: Global, number: u8) -> Result<(bool, [usize; 3]), AllocError> {
+    let message = Digested::compute(alloc, Even(number))?;
+    let mut events = Vec::with_capacity(alloc, 2)?;
+    events.push(Event::Peers(primary(alloc)?))?;
+    events.push(Event::Broadcast(Recipients::All, message))?;
+    let run = run(alloc, Key::new(0), 2, u64::MAX, true, &(), events)?;
+    let refused = matches!(
+        run.answers.as_slice(),
+        [Answer::Peers, Answer::Refused(Cause::Unencodable)]
+    );
+    let listed = run.core.list(alloc, &Key::new(0))?.len();
+    Ok((refused, [listed, run.core.cached_len(), run.sent.len()]))
+}
+
+#[test]
+fn a_message_without_encoding_is_refused(rt: HostRuntime) {
+    for (number, expected) in [(4, (false, [1, 1, 1])), (5, (true, [0, 0, 0]))] {
+        let shown = broadcast(rt.alloc(), number).expect(&rt, "memory");
+        assert_eq!(rt; shown, expected, "number {number}");
+    }
 }

@@ -9,34 +9,25 @@ use std::alloc::Global;
 type Parts = (&'static [u8], &'static [u8]);
 
 /// Lines of events, and the messages that are relayed.
-struct Row {
-    events: &'static [u8],
-    messages: &'static [Parts],
-}
+struct Row(&'static [u8], &'static [Parts]);
 
 static ROWS: [Row; 4] = [
     // Messages come in the order of their replies, each digest once.
-    Row {
-        events: b"peers 5\nsubscribe 1 61\nsubscribe 2 62\npayload 5 000000000000000162\n\
+    Row(
+        b"peers 5\nsubscribe 1 61\nsubscribe 2 62\npayload 5 000000000000000162\n\
             payload 5 000000000000000161\nsubscribe 3 62\n",
-        messages: &[(b"", b"b"), (b"", b"a")],
-    },
+        &[(b"", b"b"), (b"", b"a")],
+    ),
     // A digest is relayed with the message of its first reply.
-    Row {
-        events: b"subscribe 1 78\npayload 5 00000001010000000178\npeers 5\n\
+    Row(
+        b"subscribe 1 78\npayload 5 00000001010000000178\npeers 5\n\
             payload 5 00000001020000000178\nsubscribe 2 78\n",
-        messages: &[(b"\x01", b"x")],
-    },
+        &[(b"\x01", b"x")],
+    ),
     // Nobody was answered.
-    Row {
-        events: b"subscribe 1 61\nget 2 61\n",
-        messages: &[],
-    },
+    Row(b"subscribe 1 61\nget 2 61\n", &[]),
     // A get is not relayed, nor is a message that no waiter was served with.
-    Row {
-        events: b"peers 5\npayload 5 000000000000000161\nget 1 61\n",
-        messages: &[],
-    },
+    Row(b"peers 5\npayload 5 000000000000000161\nget 1 61\n", &[]),
 ];
 
 fn rows() -> &'static [Row] {
@@ -54,14 +45,14 @@ fn has_parts(message: &Digested<TestMessage>, parts: &Parts) -> bool {
 }
 
 fn is_relay(relay: &Relay<TestMessage>, row: &Row) -> bool {
-    let same_len = relay.messages.len() == row.messages.len();
-    let mut pairs = relay.messages.iter().zip(row.messages);
+    let same_len = relay.messages.len() == row.1.len();
+    let mut pairs = relay.messages.iter().zip(row.1);
     same_len && relay.refused.is_empty() && pairs.all(|(message, parts)| has_parts(message, parts))
 }
 
 /// Returns whether the events of the row have its relay.
 fn is_relayed(alloc: Global, row: &Row) -> Result<bool, Fault> {
-    Ok(is_relay(&relay(alloc, row.events)?, row))
+    Ok(is_relay(&relay(alloc, row.0)?, row))
 }
 
 #[test]

@@ -1,3 +1,6 @@
-//! What tests share: messages by short names, and a task that counts its wakes.
+//! What tests share: messages by short names, futures, tasks that count their wakes, and bells.
+pub mod asked;
+pub mod bell;
 pub mod message;
 pub mod task;
+pub mod words;

@@ -1,77 +1,56 @@
 //! The texts of errors and keys, as callers print them.
-use self::Printed::{Codec, Key, Mailbox, Network, Start, World};
-use broadcast_core::CodecError;
 use broadcast_core::CodecError::{
-    EndOfBuffer, ExtraData, Invalid, InvalidLength, Memory, Unencodable,
+    self, EndOfBuffer, ExtraData, Invalid, InvalidLength, Memory, Unencodable,
 };
 use broadcast_mailbox::MailboxError;
 use broadcast_world::WorldError;
 use commonware_broadcast::buffered::{NetworkFailed, StartError};
-use std::alloc::{AllocError, Global};
+use std::alloc::AllocGlobal;
 use std::fmt::Display;
+use std::process::Abort;
 
-/// What is printed, by who returns it.
-#[derive(Clone, Copy)]
-enum Printed {
-    Codec(CodecError),
-    Key(u8),
-    Mailbox(MailboxError),
-    Network(NetworkFailed),
-    Start(StartError),
-    World(WorldError),
-}
-
-static TEXTS: [(Printed, &str); 11] = [
-    (Codec(EndOfBuffer), "the bytes end too early"),
-    (Codec(InvalidLength(4)), "a length of 4 is out of the range"),
-    (Codec(Invalid(7)), "the message is invalid: reason 7"),
-    (Codec(ExtraData(2)), "2 bytes are left over"),
-    (Codec(Unencodable), "the message has no encoding"),
-    (Codec(Memory), "out of memory"),
-    (
-        Key(0xa5),
-        "00000000000000000000000000000000000000000000000000000000000000a5",
-    ),
-    (Mailbox(MailboxError::Exhausted), "no ticket is left"),
-    (Network(NetworkFailed), "the network failed"),
-    (Start(StartError::Spawn), "no thread could be started"),
-    (
-        World(WorldError::SharedKey),
-        "two participants have one key",
-    ),
+static TEXTS: [(CodecError, &str); 6] = [
+    (EndOfBuffer, "the bytes end too early"),
+    (InvalidLength(4), "a length of 4 is out of the range"),
+    (Invalid(7), "the message is invalid: reason 7"),
+    (ExtraData(2), "2 bytes are left over"),
+    (Unencodable, "the message has no encoding"),
+    (Memory, "out of memory"),
 ];
 
-fn texts() -> &'static [(Printed, &'static str)] {
+/// The text of the key that ends in `a5`.
+const KEY: &str = "00000000000000000000000000000000000000000000000000000000000000a5";
+
+fn texts() -> &'static [(CodecError, &'static str)] {
     &TEXTS
 }
 
-fn is_text<T: Display + Drop>(alloc: Global, printed: T, text: &str) -> Result<bool, AllocError> {
-    Ok(format!(in alloc; "{printed}")?.as_str() == text)
+fn text_of<T: Display + Drop, R: Abort + AllocGlobal>(rt: &R, printed: T) -> String {
+    format!(in rt.alloc(); "{printed}").expect(rt, "memory")
 }
 
-fn is_printed(alloc: Global, printed: Printed, text: &str) -> Result<bool, AllocError> {
-    match printed {
-        Printed::Codec(error) => is_text(alloc, error, text),
-        Printed::Key(last) => is_key(alloc, last, text),
-        Printed::Mailbox(error) => is_text(alloc, error, text),
-        Printed::Network(error) => is_text(alloc, error, text),
-        Printed::Start(error) => is_text(alloc, error, text),
-        Printed::World(error) => is_text(alloc, error, text),
-    }
-}
-
-/// Returns whether the key that ends in the byte is printed as the text.
-fn is_key(alloc: Global, last: u8, text: &str) -> Result<bool, AllocError> {
+fn key_text<R: Abort + AllocGlobal>(rt: &R) -> String {
     let mut bytes = [0; 32];
-    bytes[31] = last;
+    bytes[31] = 0xa5;
     let key = broadcast_core::Key { bytes };
-    Ok(format!(in alloc; "{key:?}")?.as_str() == text)
+    format!(in rt.alloc(); "{key:?}").expect(rt, "memory")
 }
 
 #[test]
 fn errors_and_keys_are_printed(rt: HostRuntime) {
-    for (printed, text) in texts() {
-        let is_printed = is_printed(rt.alloc(), *printed, text).expect(&rt, "memory");
-        assert!(rt; is_printed, "{text}");
+    for (error, text) in texts() {
+        assert_eq!(rt; text_of(&rt, *error).as_str(), *text);
     }
+    assert_eq!(rt;
+        text_of(&rt, MailboxError::Exhausted).as_str(),
+        "no ticket is left"
+    );
+    assert_eq!(rt; text_of(&rt, NetworkFailed).as_str(), "the network failed");
+    assert_eq!(rt;
+        text_of(&rt, StartError::Spawn).as_str(),
+        "no thread could be started"
+    );
+    let shared = text_of(&rt, WorldError::SharedKey);
+    assert_eq!(rt; shared.as_str(), "two participants have one key");
+    assert_eq!(rt; key_text(&rt).as_str(), KEY);
 }

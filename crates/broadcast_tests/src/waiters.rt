@@ -1,8 +1,8 @@
 //! Waiters that are neither copied nor cloned, and that are seen to be asked and dropped.
 ghost use Rattle.std.specs.Prelude.{◌≡◌};
 
-use self::Call::{Alive, Asked, CleanupBy, CleanupEach, CleanupOf, Clear, Subscribe, Take};
 use crate::even::Even;
+use crate::support::words::number;
 use broadcast_core::{Closable, Core, Digested, Subscribed, Ticketed};
 use std::alloc::{AllocError, Global};
 use std::cell::Cell;
@@ -36,73 +36,26 @@ impl Closable for Waiter {
     }
 }
 
-/// A call on a core, with its answer.
-#[derive(Clone, Copy)]
-enum Call {
-    /// A subscribe to the digest by a waiter of the ticket, which is closed or open.
-    Subscribe(u8, u64, bool),
-    /// A taking of the number. The answer is the tickets served.
-    Take(u8, &'static [u64]),
-    /// A cleanup of all. The answer is how many were removed.
-    CleanupBy(u64),
-    /// A cleanup of the digest's tickets.
-    CleanupOf(u8, &'static [u64], u64),
-    /// A cleanup of those who wait for one of the digests.
-    CleanupEach(&'static [u8], u64),
-    /// All waiters are dropped.
-    Clear,
-    /// The number of waiters that are not dropped, and one.
-    Alive(usize),
-    /// The number of questions so far.
-    Asked(u64),
-}
-
-/// Calls on a core without peers.
-static CALLS: [Call; 35] = [
-    Subscribe(2, 70, false),
-    Subscribe(2, 50, true),
-    Subscribe(4, 60, false),
-    Subscribe(2, 60, false),
-    // Served waiters come in the order of their subscribes, and nobody is asked.
-    Take(2, &[70, 50, 60]),
-    Alive(2),
-    Take(4, &[60]),
-    // An odd number has no encoding.
-    Subscribe(7, 80, false),
-    Take(7, &[80]),
-    Alive(1),
-    Asked(0),
+/// Calls on a core without peers, as words of bytes. A digest is a letter, which has an encoding if
+/// it is even, as `b`, and a ticket and a number are digits:
+/// `sb7o` a waiter of the ticket, which is open, or closed with `c`, waits for the digest;
+/// `tb75` a taking of the message serves these tickets;
+/// `aN` a cleanup of all removes this many, `cbN75` one of these tickets of the digest does, and
+/// `eNbd` one of those who wait for these digests;
+/// `x` all are dropped;
+/// `lN` this many waiters are not dropped, and `?N` this many questions were asked so far.
+static ROWS: [&[u8]; 3] = [
+    // Served waiters come in the order of their subscribes, and nobody is asked. An odd number has
+    // no encoding.
+    b"sb7o sb5c sd6o sb6o tb756 l1 td6 sg8o tg8 l0 ?0",
     // Each is asked once.
-    Subscribe(2, 1, false),
-    Subscribe(2, 2, true),
-    Subscribe(6, 3, true),
-    Subscribe(8, 4, true),
-    CleanupBy(3),
-    Asked(4),
-    Alive(2),
-    CleanupBy(0),
-    Asked(5),
-    Clear,
-    Alive(1),
-    // Those of one digest, by ticket: nobody is asked.
-    Subscribe(2, 1, true),
-    Subscribe(2, 2, false),
-    Subscribe(6, 1, true),
-    CleanupOf(2, &[4, 2], 1),
-    CleanupOf(8, &[2], 0),
-    // Those of some digests are asked, each once.
-    CleanupEach(&[], 0),
-    CleanupEach(&[8], 0),
-    Asked(5),
-    CleanupEach(&[6, 2, 6], 2),
-    Asked(7),
-    Alive(1),
-    Take(2, &[]),
-    Alive(1),
+    b"sb1o sb2c sf3c sh4c a3 ?4 l1 a0 ?5 x l0",
+    // Those of one digest, by ticket: nobody is asked. Those of some digests are asked, each once.
+    b"sb1c sb2o sf1c cb142 ch02 e0 e0h ?0 e2fbf ?2 l0 tb l0",
 ];
 
-fn calls() -> &'static [Call] {
-    &CALLS
+fn rows() -> &'static [&'static [u8]] {
+    &ROWS
 }
 
 /// A core for waiters.
@@ -113,61 +66,63 @@ struct Room {
 }
 
 impl Room {
-    fn is_answered(&mut self, alloc: Global, call: Call) -> Result<bool, AllocError> {
-        match call {
-            Subscribe(digest, ticket, closed) => self.subscribe(digest, ticket, closed),
-            Take(number, tickets) => self.serves(alloc, number, tickets),
-            CleanupBy(removed) => Ok(self.core.cleanup_by() == removed),
-            CleanupOf(digest, gone, removed) => {
-                Ok(self.core.cleanup_of(&digest, gone) == removed)
+    /// Returns whether the call of the word has its answer.
+    fn is_answered(&mut self, alloc: Global, word: &[u8]) -> Result<bool, AllocError> {
+        match word {
+            [b's', digest, ticket, state] => {
+                let waiter = Waiter {
+                    ticket: number(*ticket),
+                    closed: *state == b'c',
+                    asked: self.asked.clone()?,
+                };
+                let subscribed = self.core.subscribe(*digest, waiter);
+                Ok(matches!(&subscribed, Ok(Subscribed::Waiting)))
             }
-            CleanupEach(digests, removed) => Ok(self.core.cleanup_each(digests) == removed),
-            Clear => {
+            [b't', digest, tickets @ ..] => self.serves(alloc, *digest, tickets),
+            [b'a', removed] => Ok(self.core.cleanup_by() == number(*removed)),
+            [b'c', digest, removed, tickets @ ..] => {
+                let mut gone = Vec::new(alloc);
+                for ticket in tickets {
+                    gone.push(number(*ticket))?;
+                }
+                Ok(self.core.cleanup_of(digest, gone.as_slice()) == number(*removed))
+            }
+            [b'e', removed, digests @ ..] => {
+                Ok(self.core.cleanup_each(digests) == number(*removed))
+            }
+            [b'x'] => {
                 self.core.clear_waiters();
                 Ok(true)
             }
-            Alive(alive) => Ok(Rc::strong_count(&self.asked) == alive),
-            Asked(asked) => Ok(self.asked.get() == asked),
+            [b'l', alive] => Ok(
+                Rc::strong_count(&self.asked) as u64 == number(*alive).wrapping_add(1),
+            ),
+            [b'?', asked] => Ok(self.asked.get() == number(*asked)),
+            _ => Ok(false),
         }
     }
 
-    /// Returns whether the waiter waits.
-    fn subscribe(&mut self, digest: u8, ticket: u64, closed: bool) -> Result<bool, AllocError> {
-        let asked = self.asked.clone()?;
-        let waiter = Waiter {
-            ticket,
-            closed,
-            asked,
-        };
-        let subscribed = self.core.subscribe(digest, waiter);
-        Ok(matches!(&subscribed, Ok(Subscribed::Waiting)))
-    }
-
     /// Returns whether a taking serves waiters of these tickets.
-    fn serves(&mut self, alloc: Global, number: u8, tickets: &[u64]) -> Result<bool, AllocError> {
-        let message = Digested::compute(alloc, Even(number))?;
+    fn serves(&mut self, alloc: Global, letter: u8, tickets: &[u8]) -> Result<bool, AllocError> {
+        let message = Digested::compute(alloc, Even(letter))?;
         let served = self.core.take(&5, &message)?.served;
-        Ok(
-            served
-                .iter()
-                .map(|waiter| waiter.ticket)
-                .eq(tickets.iter().copied()),
-        )
+        let wanted = tickets.iter().map(|ticket| number(*ticket));
+        Ok(served.iter().map(|waiter| waiter.ticket).eq(wanted))
     }
 }
 
 /// Makes the calls, and returns the place of the first with another answer.
-fn wrong_place(alloc: Global) -> Result<Option<usize>, AllocError> {
+fn wrong_place(alloc: Global, words: &[u8]) -> Result<Option<usize>, AllocError> {
     let mut room = Room {
         asked: Rc::new(alloc, Cell::new(0))?,
         core: Core::new(alloc, 1, 2, u64::MAX),
     };
-    wrong_in(alloc, &mut room)
+    wrong_in(alloc, &mut room, words)
 }
 
-fn wrong_in(alloc: Global, room: &mut Room) -> Result<Option<usize>, AllocError> {
-    for (place, call) in calls().iter().enumerate() {
-        if !room.is_answered(alloc, *call)? {
+fn wrong_in(alloc: Global, room: &mut Room, words: &[u8]) -> Result<Option<usize>, AllocError> {
+    for (place, word) in words.split(|byte| *byte == b' ').enumerate() {
+        if !room.is_answered(alloc, word)? {
             return Ok(Some(place));
         }
     }
@@ -176,6 +131,8 @@ fn wrong_in(alloc: Global, room: &mut Room) -> Result<Option<usize>, AllocError>
 
 #[test]
 fn waiters_are_served_asked_and_dropped(rt: HostRuntime) {
-    let wrong = wrong_place(rt.alloc()).expect(&rt, "memory");
-    assert_eq!(rt; wrong, None);
+    for (place, words) in rows().iter().enumerate() {
+        let wrong = wrong_place(rt.alloc(), words).expect(&rt, "memory");
+        assert_eq!(rt; wrong, None, "row {place}");
+    }
 }

@@ -1,10 +1,10 @@
 //! What stands around the engine of a node: what feeds it, its network, and its task.
-use super::act::Act;
 use super::job::{Gate, Gated};
 use super::network::Inbound;
 use super::peers::{Feed, Peers};
 use crate::support::message::{payload, peers, sending};
 use crate::support::task::Task;
+use crate::support::words::number;
 use broadcast_core::{RangeCfg, Recipients, Sent};
 use commonware_broadcast::buffered::Config;
 use commonware_broadcast::mocks::RecordingSender;
@@ -31,11 +31,9 @@ impl Around {
     /// Creates what stands around one engine.
     pub fn new<R: RandomSource + AllocGlobal>(rt: &R) -> Result<Self, AllocError> {
         let alloc = rt.alloc();
-        let feed = Feed::new(alloc)?;
-        let gate = Gate::new(alloc)?;
         Ok(Around {
-            feed,
-            gate,
+            feed: Rc::new(alloc, Feed::new())?,
+            gate: Rc::new(alloc, Gate::new())?,
             network: (RecordingSender::new(alloc), Inbound::new(alloc)),
             passed: 0,
             task: Task::new(rt)?,
@@ -65,39 +63,31 @@ impl Around {
         })
     }
 
-    /// Does what the action says of the node. Returns whether it goes as it should.
-    pub fn goes(&mut self, alloc: Global, act: Act) -> Result<bool, AllocError> {
-        match act {
-            Act::Track(_, keys) => self.track(alloc, keys),
-            Act::Payload(_, from, bytes) => self.network.1.give(alloc, from, bytes),
-            Act::Comes(_, from, letter) => {
-                self.network
-                    .1
-                    .give(alloc, from, payload(alloc, letter)?.as_slice())
+    /// Does what the word says of the node of the key. Returns whether it goes as it should.
+    pub fn goes(&mut self, alloc: Global, key: u64, word: &[u8]) -> Result<bool, AllocError> {
+        match word {
+            [b'T', keys @ ..] => return self.track(alloc, keys),
+            [b'p', from, bytes @ ..] => return self.network.1.give(alloc, number(*from), bytes),
+            [b'c', from, letter] => {
+                let bytes = payload(alloc, *letter)?;
+                return self.network.1.give(alloc, number(*from), bytes.as_slice());
             }
-            Act::Sends(key, at, to, letter) => {
-                let wanted = sending(alloc, to, letter, key % 2 == 0)?;
-                Ok(self.network.0.sent.get(at) == Some(&wanted))
+            [b'>', at, to @ .., letter] => {
+                let wanted = sending(alloc, to, *letter, key % 2 == 0)?;
+                let at = number(*at) as usize;
+                return Ok(self.network.0.sent.get(at) == Some(&wanted));
             }
-            Act::Wakes(_, wakes) => Ok(self.task.wakes == wakes),
-            _ => Ok(self.is_set(act)),
+            [b'@', wakes] => return Ok(self.task.wakes == number(*wakes)),
+            [b'E'] => self.feed.end(),
+            [b'j', polls] => self.gate.hold(number(*polls)),
+            [b'X'] => self.network.1.fail(),
+            _ => return Ok(false),
         }
-    }
-
-    /// Ends or holds what feeds the node, as the action says. Returns whether it says so.
-    fn is_set(&mut self, act: Act) -> bool {
-        match act {
-            Act::EndPeers(_) => self.feed.end(),
-            Act::Holds(_, polls) => self.gate.hold(polls),
-            Act::Refuses(_, jobs) => self.gate.refuse(jobs),
-            Act::Fails(_) => self.network.1.fail(),
-            _ => return false,
-        }
-        true
+        Ok(true)
     }
 
     /// Gives the node a peer set.
-    pub fn track(&self, alloc: Global, keys: &[u64]) -> Result<bool, AllocError> {
+    pub fn track(&self, alloc: Global, keys: &[u8]) -> Result<bool, AllocError> {
         self.feed.give(peers(alloc, keys)?);
         Ok(true)
     }

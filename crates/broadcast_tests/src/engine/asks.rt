@@ -1,10 +1,9 @@
 //! Whom a poll of an engine asks whether they still wait.
-use super::node::Caller;
-use broadcast_core::{Codec, Digest, Digestible, Items, RangeCfg, Set, TestMessage};
-use broadcast_mailbox::buffered::{Incoming, Ingress, channel};
+use crate::support::message::numbered;
+use broadcast_core::{Codec, Digestible, Items, RangeCfg, Set, TestMessage};
 use commonware_broadcast::buffered::{
-    Config, Direct, Engine, Fixed, Input, Mailbox, Message, NetworkFailed, Reply, Request,
-    Requests, Responder, Sequential,
+    Config, Direct, Engine, Fixed, Input, Message, NetworkFailed, Reply, Request, Requests,
+    Responder, Sequential,
 };
 use commonware_broadcast::mocks::{RecordingSender, Script};
 use futures::task::{Context, Doorbell, Poll, Solo};
@@ -15,13 +14,12 @@ use std::num::NonZeroUsize;
 use std::process::Abort;
 use std::random::RandomSource;
 use std::rc::Rc;
-use std::sync::Wait;
 
 /// What happens to a node, as words of bytes:
 /// `sL` its source gives a subscribe to the digest of this letter;
 /// `aL` the same is applied by hand;
 /// `lN` the waiter of this place waits no more;
-/// `nL` a subscription to the digest of this letter is dropped, so that the mailbox names it;
+/// `nL` a subscription to the digest of this letter is dropped, so that its source names it;
 /// `pN..` it is polled, and asks the waiters of these places, each once, and no other.
 static ROWS: [&[u8]; 6] = [
     // Nothing closed.
@@ -86,17 +84,18 @@ impl<M: Digestible> Responder<Reply<M>> for Counting {
 /// A request of a node.
 type Wanted<M> = Message<u64, M, Counting, Fixed>;
 
-/// The next request of a node.
-type Next<M> = Rc<Cell<Option<Wanted<M>>>>;
-
-/// Gives one request at a time, and names the digests that a mailbox does.
+/// What a node is told next: a request, and a digest of which a subscription was dropped.
 #[derive(Drop)]
-struct Telling<M: Digestible, R: Wait> {
-    next: Next<M>,
-    ingress: Ingress<Incoming<u64, M>, R>,
+struct Next<M: Digestible> {
+    request: Cell<Option<Wanted<M>>>,
+    closed: Cell<Option<M::Digest>>,
 }
 
-impl<M: Digestible, R: Wait> Requests<Wanted<M>> for Telling<M, R> {
+/// Gives one request at a time, and names the digests of dropped subscriptions.
+#[derive(Drop)]
+struct Telling<M: Digestible>(Rc<Next<M>>);
+
+impl<M: Digestible> Requests<Wanted<M>> for Telling<M> {
     ghost use Rattle.std.specs.Prelude.{⊤};
 
     ghost told = { λ _ _. ⊤ };
@@ -112,18 +111,19 @@ impl<M: Digestible, R: Wait> Requests<Wanted<M>> for Telling<M, R> {
     }
 
     fn poll_next(&mut self, cx: &mut Context<'_>) -> Poll<Request<Wanted<M>>> {
-        match self.next.replace(None) {
-            Some(message) => Poll::Ready(Request {
-                ticket: 0,
-                message,
-                counted: false,
-            }),
+        match self.0.request.replace(None) {
+            Some(message) => Poll::Ready(asked(message)),
             None => cx.yield_now(),
         }
     }
 
+    // All are told to look if there is no place for a digest.
     fn take_closed(&mut self, digests: &mut Vec<M::Digest>) -> bool {
-        Requests::take_closed(&mut self.ingress, digests)
+        digests.clear();
+        match self.0.closed.replace(None) {
+            Some(digest) => digests.push(digest).is_err(),
+            None => false,
+        }
     }
 
     fn tell_outcome(&mut self, _refused: bool) {}
@@ -131,16 +131,17 @@ impl<M: Digestible, R: Wait> Requests<Wanted<M>> for Telling<M, R> {
     fn close(&mut self) {}
 }
 
+/// Returns the request of the message.
+fn asked<M: Digestible>(message: Wanted<M>) -> Request<Wanted<M>> {
+    Request {
+        ticket: 0,
+        message,
+        counted: false,
+    }
+}
+
 /// An engine over such a source.
-type Over<M, R> = Engine<
-    u64,
-    M,
-    Counting,
-    Direct,
-    Script<Option<Set<u64>>>,
-    Telling<M, R>,
-    Sequential,
->;
+type Over<M> = Engine<u64, M, Counting, Direct, Script<Option<Set<u64>>>, Telling<M>, Sequential>;
 
 /// The network of an engine.
 type Network = (
@@ -148,34 +149,26 @@ type Network = (
     Script<Result<(u64, Items<u8>), NetworkFailed>>,
 );
 
-/// An engine. A test knows no more of it, which keeps its proofs small.
-trait Asking: Drop {
-    /// Polls it once.
-    fn poll(&mut self, alloc: Global, task: &Solo, network: &mut Network);
-
-    /// Applies the request by hand.
-    fn apply(&mut self, alloc: Global, message: Wanted<TestMessage>, network: &mut Network);
-}
-
-/// An engine of which nothing is known.
+/// An engine of which nothing is known, which keeps the proofs of a test small.
 #[derive(Drop)]
-struct Node<R: Wait> {
-    engine: Over<TestMessage, R>,
+struct Node {
+    engine: Over<TestMessage>,
 }
 
-impl<R: Wait> Model for Node<R> {
+impl Model for Node {
     ghost Value = { Unit {0} };
 
     ghost view = { λ _. tt };
 }
 
-impl<R: Wait> From<Over<TestMessage, R>> for Node<R> {
-    fn from(engine: Over<TestMessage, R>) -> Self {
+impl From<Over<TestMessage>> for Node {
+    fn from(engine: Over<TestMessage>) -> Self {
         Node { engine }
     }
 }
 
-impl<R: Wait + Drop> Asking for Node<R> {
+impl Node {
+    /// Polls it once.
     fn poll(&mut self, alloc: Global, task: &Solo, network: &mut Network) {
         let mut cx = task.begin();
         let _polled = self.engine.poll(alloc, &mut cx, network);
@@ -184,29 +177,21 @@ impl<R: Wait + Drop> Asking for Node<R> {
         cx.park();
     }
 
+    /// Applies the request by hand.
     fn apply(&mut self, alloc: Global, message: Wanted<TestMessage>, network: &mut Network) {
-        let request = Request {
-            ticket: 0,
-            message,
-            counted: false,
-        };
-        let input = Input::Request(request);
+        let input = Input::Request(asked(message));
         let _turn = self.engine.apply(alloc, input, &mut network.0);
     }
 }
 
-/// Creates an engine and a mailbox that names digests, and returns what is made of the engine. It
-/// is generic in the message, since the check refuses a function that has both for `TestMessage`.
-fn made<M, R, N>(rt: &R, codec_config: M::Cfg, next: Next<M>) -> (N, Mailbox<u64, M, R>)
+/// Creates an engine. It is generic in the message, since the check refuses a function that makes
+/// one for `TestMessage`.
+fn made<M, N>(alloc: Global, codec_config: M::Cfg, next: Rc<Next<M>>) -> N
 where
-    M: Digestible<Digest = Digest> + Codec,
+    M: Digestible + Codec,
     M::Cfg: Drop,
-    R: Wait + Abort + AllocGlobal + Clone + Drop,
-    N: From<Over<M, R>>,
+    N: From<Over<M>>,
 {
-    let alloc = rt.alloc();
-    let own = rt.clone().expect(rt, "memory");
-    let (mailbox, ingress) = channel(own, alloc, NonZeroUsize::MIN).expect(rt, "memory");
     let cfg = Config {
         public_key: 1,
         mailbox_size: NonZeroUsize::MIN,
@@ -217,52 +202,42 @@ where
         peer_provider: Script::new(Vec::new(alloc)),
         strategy: Sequential,
     };
-    let engine = Engine::over(alloc, cfg, Telling { next, ingress }, Direct);
-    (N::from(engine), mailbox)
+    N::from(Engine::over(alloc, cfg, Telling(next), Direct))
 }
 
-/// What stands around an engine: its task, its network, who waits, and its next request.
+/// What stands around an engine: its task, its network, who waits, and what it is told next.
 #[derive(Drop)]
 struct Around {
     task: Solo,
     network: Network,
     waiters: Vec<Rc<Waiter>>,
-    next: Next<TestMessage>,
+    next: Rc<Next<TestMessage>>,
 }
 
 impl Around {
     fn new<R: Abort + RandomSource + AllocGlobal>(rt: &R) -> Self {
         let alloc = rt.alloc();
+        let next = Next {
+            request: Cell::new(None),
+            closed: Cell::new(None),
+        };
         Around {
             task: Solo::new(rt, Doorbell::spinning()).expect(rt, "a task"),
             network: (RecordingSender::new(alloc), Script::new(Vec::new(alloc))),
             waiters: Vec::new(alloc),
-            next: Rc::new(alloc, Cell::new(None)).expect(rt, "memory"),
+            next: Rc::new(alloc, next).expect(rt, "memory"),
         }
     }
 
     /// Creates the subscribe of a new waiter.
     fn subscribe(&mut self, alloc: Global, letter: u8) -> Result<Wanted<TestMessage>, AllocError> {
-        let waiter = Rc::new(
-            alloc,
-            Waiter {
-                gone: Cell::new(false),
-                asked: Cell::new(0),
-            },
-        )?;
+        let waiter = Waiter {
+            gone: Cell::new(false),
+            asked: Cell::new(0),
+        };
+        let waiter = Rc::new(alloc, waiter)?;
         self.waiters.push(waiter.clone()?)?;
-        Ok(Message::subscribe(digest(letter), Counting { waiter }))
-    }
-
-    /// Lets the waiter of the place wait no more. Returns whether there is one.
-    fn leave(&self, place: usize) -> bool {
-        match self.waiters.get(place) {
-            Some(waiter) => {
-                waiter.gone.set(true);
-                true
-            }
-            None => false,
-        }
+        Ok(Message::subscribe(numbered(u64::from(letter)), Counting { waiter }))
     }
 
     /// Returns whether the waiters of these places were asked once since the last call, and no
@@ -277,30 +252,21 @@ impl Around {
 
 /// Creates an engine, and does what the words say. Returns the place of the first word after which
 /// others are asked.
-fn wrong<R>(rt: &R, words: &[u8]) -> Option<usize>
-where
-    R: Wait + Abort + RandomSource + AllocGlobal + Clone + Send + Drop + 'static,
-{
+fn wrong<R: Abort + RandomSource + AllocGlobal>(rt: &R, words: &[u8]) -> Option<usize> {
     let mut around = Around::new(rt);
     let next = around.next.clone().expect(rt, "memory");
-    let (mut node, mailbox) = made::<TestMessage, R, Node<R>>(rt, RangeCfg::any(), next);
-    wrong_place(rt, &mut node, &mailbox, &mut around, words)
+    let mut node: Node = made(rt.alloc(), RangeCfg::any(), next);
+    wrong_place(rt, &mut node, &mut around, words)
 }
 
-fn wrong_place<N, C, R>(
+fn wrong_place<R: Abort + AllocGlobal>(
     rt: &R,
-    node: &mut N,
-    mailbox: &C,
+    node: &mut Node,
     around: &mut Around,
     words: &[u8],
-) -> Option<usize>
-where
-    N: Asking,
-    C: Caller,
-    R: Abort + AllocGlobal,
-{
+) -> Option<usize> {
     for (place, word) in words.split(|byte| *byte == b' ').enumerate() {
-        let goes = goes(rt.alloc(), node, mailbox, around, word).expect(rt, "memory");
+        let goes = goes(rt.alloc(), node, around, word).expect(rt, "memory");
         if !goes {
             return Some(place);
         }
@@ -309,42 +275,36 @@ where
 }
 
 /// Does what the word says. Returns whether the waiters are asked that are to be.
-fn goes<N: Asking, C: Caller>(
+fn goes(
     alloc: Global,
-    node: &mut N,
-    mailbox: &C,
+    node: &mut Node,
     around: &mut Around,
     word: &[u8],
 ) -> Result<bool, AllocError> {
     match word {
         [b'p', places @ ..] => {
             node.poll(alloc, &around.task, &mut around.network);
-            Ok(around.has_asked(places))
+            return Ok(around.has_asked(places));
         }
-        [b'l', place] => Ok(around.leave(place_of(*place))),
-        [b'n', letter] => Ok(mailbox.ask(false, digest(*letter)).is_some()),
+        [b'l', place] => match around.waiters.get(place_of(*place)) {
+            Some(waiter) => waiter.gone.set(true),
+            None => return Ok(false),
+        },
+        [b'n', letter] => around.next.closed.set(Some(numbered(u64::from(*letter)))),
         [b's', letter] => {
             let message = around.subscribe(alloc, *letter)?;
-            around.next.set(Some(message));
-            Ok(true)
+            around.next.request.set(Some(message));
         }
         [b'a', letter] => {
             let message = around.subscribe(alloc, *letter)?;
             node.apply(alloc, message, &mut around.network);
-            Ok(true)
         }
-        _ => Ok(false),
+        _ => return Ok(false),
     }
+    Ok(true)
 }
 
 /// Returns the place that the digit names.
 fn place_of(digit: u8) -> usize {
     usize::from(digit.wrapping_sub(b'0'))
-}
-
-/// Returns a digest of the letter.
-fn digest(letter: u8) -> Digest {
-    Digest {
-        bytes: [letter; 32],
-    }
 }

@@ -1,54 +1,43 @@
 //! The counters of a node.
-use super::act::Act;
+use crate::support::words::{are, decimal};
 use commonware_broadcast::buffered::{Metrics, Status};
 
-/// A counter of a node.
-#[derive(Clone, Copy)]
-pub enum Metric {
-    Peer(u64),
-    Receive(Status),
-    Subscribe(Status),
-    Get(Status),
-    Waiters,
-}
-
-/// Returns the counter.
-pub fn number(metrics: &Metrics<u64>, metric: Metric) -> u64 {
-    match metric {
-        Metric::Peer(key) => metrics.peer(&key),
-        Metric::Receive(status) => metrics.receive(status),
-        Metric::Subscribe(status) => metrics.subscribe(status),
-        Metric::Get(status) => metrics.get(status),
-        Metric::Waiters => metrics.waiters(),
+/// Returns whether the counters are as the word says.
+pub fn has(metrics: &Metrics<u64>, word: &[u8]) -> bool {
+    match word {
+        [b'w', waiters @ ..] => metrics.waiters() == decimal(waiters),
+        [b'v', dropped @ ..] => metrics.subscribe(Status::Dropped) == decimal(dropped),
+        [b'#', totals @ ..] => has_totals(metrics, totals),
+        _ => false,
     }
 }
 
-/// Returns whether the counters have the values of `Act::All`, and all others are 0.
-pub fn has_totals(metrics: &Metrics<u64>, act: Act) -> bool {
-    let Act::All(_, peers, received, subscribed, got, waiters) = act else {
-        return false;
-    };
+/// Returns whether the counters have these values, and all others are 0.
+fn has_totals(metrics: &Metrics<u64>, totals: &[u8]) -> bool {
     let count = |status| [
         metrics.receive(status),
         metrics.subscribe(status),
         metrics.get(status),
     ];
-    let [success, failure, invalid, dropped] = [
-        count(Status::Success),
-        count(Status::Failure),
-        count(Status::Invalid),
-        count(Status::Dropped),
-    ];
-    let by_peer = [
+    let [received, served, found] = count(Status::Success);
+    let [no_receive, no_subscribe, failed] = count(Status::Failure);
+    let [invalid, invalid_subscribe, invalid_get] = count(Status::Invalid);
+    let [dropped, dropped_subscribe, dropped_get] = count(Status::Dropped);
+    let counted = [
         metrics.peer(&1),
         metrics.peer(&2),
         metrics.peer(&3),
         metrics.peer(&4),
+        received,
+        dropped,
+        invalid,
+        served,
+        dropped_subscribe,
+        found,
+        failed,
+        dropped_get,
+        metrics.waiters(),
     ];
-    by_peer == peers
-        && metrics.waiters() == waiters
-        && success == [received[0], subscribed[0], got[0]]
-        && failure == [0, 0, got[1]]
-        && invalid == [received[2], 0, 0]
-        && dropped == [received[1], subscribed[1], got[2]]
+    let others = [no_receive, no_subscribe, invalid_subscribe, invalid_get];
+    others == [0; 4] && are(&counted, totals)
 }

@@ -1,9 +1,10 @@
 //! The receiving end of a network in memory.
 ghost use Rattle.std.specs.Prelude.{◌≡◌};
 
+use crate::support::bell::Bell;
 use broadcast_core::Items;
 use commonware_broadcast::buffered::{NetworkFailed, Receiver};
-use futures::task::{Context, Poll, Source, Waker};
+use futures::task::{Context, Poll};
 use std::alloc::{AllocError, Global};
 use std::collections::VecDeque;
 
@@ -12,8 +13,7 @@ use std::collections::VecDeque;
 pub struct Inbound {
     payloads: VecDeque<(u64, Items<u8>)>,
     fails: bool,
-    waker: Option<Waker>,
-    source: Source,
+    bell: Bell,
 }
 
 impl Inbound {
@@ -21,8 +21,7 @@ impl Inbound {
         Inbound {
             payloads: VecDeque::new(alloc),
             fails: false,
-            waker: None,
-            source: Source::new(),
+            bell: Bell::new(),
         }
     }
 
@@ -30,27 +29,25 @@ impl Inbound {
     pub fn give(&mut self, alloc: Global, peer: u64, bytes: &[u8]) -> Result<bool, AllocError> {
         let payload = Items::from_vec(Vec::from_slice(alloc, bytes)?);
         self.payloads.push_back((peer, payload))?;
-        self.waker = None;
+        self.bell.ring();
         Ok(true)
     }
 
     /// Fails once the payloads are taken.
     pub fn fail(&mut self) {
         self.fails = true;
-        self.waker = None;
+        self.bell.ring();
     }
 }
 
 impl Receiver<u64> for Inbound {
-    ghost needs = { λ it source. source ≡ it.source.id };
+    ghost needs = { λ it source. source ≡ it.bell };
 
     fn poll_recv(&mut self, cx: &mut Context<'_>) -> Poll<Result<(u64, Items<u8>), NetworkFailed>> {
-        if let Some(payload) = self.payloads.pop_front() {
-            return Poll::Ready(Ok(payload));
+        match self.payloads.pop_front() {
+            Some(payload) => Poll::Ready(Ok(payload)),
+            None if self.fails => Poll::Ready(Err(NetworkFailed)),
+            None => self.bell.wait(cx),
         }
-        if self.fails {
-            return Poll::Ready(Err(NetworkFailed));
-        }
-        cx.register(&self.source, &mut self.waker)
     }
 }

@@ -1,12 +1,12 @@
 //! An engine and its mailbox, as a scenario sees them.
 use super::around::{Around, Settings};
-use super::asked::Asked;
 use super::job::Gated;
 use super::peers::Peers;
-use broadcast_core::{Codec, Digest, Digested, Digestible, Recipients, TestMessage};
-use broadcast_mailbox::{Broadcaster, Feedback};
+use crate::support::words::number;
+use broadcast_core::{Codec, Digest, Digestible, Outcome, TestMessage};
 use commonware_broadcast::buffered::{
-    Config, Engine, Incoming, Input, Mailbox, MailboxEngine, Metrics, Request, Strategy, Turn,
+    Config, EndCause, Engine, Incoming, Input, Mailbox, MailboxEngine, Metrics, Request, Strategy,
+    Turn,
 };
 use futures::task::Poll;
 use std::alloc::{AllocError, AllocGlobal, Global};
@@ -17,7 +17,7 @@ use std::sync::Wait;
 /// An engine. A scenario knows no more of it, which keeps its proofs small.
 pub trait Polled: Drop {
     /// Polls it once. Returns the turn, if it is ready.
-    fn poll(&mut self, alloc: Global, around: &mut Around) -> Option<Turn<u64, ()>>;
+    fn poll(&mut self, alloc: Global, around: &mut Around) -> Option<Turn<u64, Digest>>;
 
     /// Applies the request by hand.
     fn apply(
@@ -41,36 +41,10 @@ pub trait Polled: Drop {
     fn close(self);
 }
 
-/// A mailbox of an engine.
-pub trait Caller: Drop {
-    /// Broadcasts the message. Returns what its caller is told, or nothing if it is refused.
-    fn tell(&self, to: Recipients<u64>, message: Digested<TestMessage>) -> Option<Feedback>;
-
-    /// Makes a get or a subscribe. Returns its future, unless it is refused.
-    fn ask(&self, is_get: bool, digest: Digest) -> Option<Asked>;
-}
-
 /// An engine that is made by a runtime, with a mailbox.
 pub trait Made<R, C>: Polled {
     /// Creates the engine.
     fn made(rt: &R, cfg: Settings) -> (Self, C);
-}
-
-impl<R> Caller for Mailbox<u64, TestMessage, R>
-where
-    R: Wait + Clone + Send + Drop + 'static,
-{
-    fn tell(&self, to: Recipients<u64>, message: Digested<TestMessage>) -> Option<Feedback> {
-        self.broadcast(to, message).ok()
-    }
-
-    fn ask(&self, is_get: bool, digest: Digest) -> Option<Asked> {
-        if is_get {
-            Some(Asked::Get(self.get(digest).ok()?))
-        } else {
-            Some(Asked::Subscription(self.subscribe(digest).ok()?))
-        }
-    }
 }
 
 /// The engine of a node. Nothing is known of its state.
@@ -120,13 +94,13 @@ where
 }
 
 impl<R: Wait + Clone + Drop> Polled for Node<R> {
-    fn poll(&mut self, alloc: Global, around: &mut Around) -> Option<Turn<u64, ()>> {
+    fn poll(&mut self, alloc: Global, around: &mut Around) -> Option<Turn<u64, Digest>> {
         around.task.wakes = 0;
         let mut cx = around.task.solo.begin();
         let polled = self.engine.poll(alloc, &mut cx, &mut around.network);
         around.task.rest.end(cx);
         match polled {
-            Poll::Ready(turn) => Some(without_digest(turn)),
+            Poll::Ready(turn) => Some(turn),
             Poll::Pending => None,
         }
     }
@@ -172,16 +146,21 @@ impl<R: Wait + Clone + Drop> Polled for Node<R> {
     }
 }
 
-/// Returns the turn without the digest of its message, which a constant cannot name.
-fn without_digest(turn: Turn<u64, Digest>) -> Turn<u64, ()> {
-    match turn {
-        Turn::Peers => Turn::Peers,
-        Turn::Broadcast(_, outcome) => Turn::Broadcast((), outcome),
-        Turn::Subscribe => Turn::Subscribe,
-        Turn::Get => Turn::Get,
-        Turn::Payload(peer, _, outcome) => Turn::Payload(peer, (), outcome),
-        Turn::Invalid(peer, error) => Turn::Invalid(peer, error),
-        Turn::Refused(peer, cause) => Turn::Refused(peer, cause),
-        Turn::Ended(cause) => Turn::Ended(cause),
+/// Returns whether this is the turn of the word, or whether there is none.
+pub fn is_turn(turn: Option<Turn<u64, Digest>>, word: &[u8]) -> bool {
+    match (turn, word) {
+        (None, [])
+        | (Some(Turn::Peers), [b'P'])
+        | (Some(Turn::Subscribe), [b'S'])
+        | (Some(Turn::Get), [b'G'])
+        | (Some(Turn::Broadcast(_, Outcome::Inserted)), [b'B', b'i'])
+        | (Some(Turn::Ended(EndCause::Stopped)), [b'!', b's'])
+        | (Some(Turn::Ended(EndCause::PeersClosed)), [b'!', b'p'])
+        | (Some(Turn::Ended(EndCause::NetworkFailed)), [b'!', b'n']) => true,
+        (Some(Turn::Payload(peer, _, Outcome::Inserted)), [digit, b'i'])
+        | (Some(Turn::Payload(peer, _, Outcome::Ineligible)), [digit, b'n']) => {
+            peer == number(*digit)
+        }
+        _ => false,
     }
 }

@@ -1,10 +1,10 @@
 //! Nodes with the keys from 1, and their callers.
-use super::act::Act;
 use super::around::{Around, deliver, look};
-use super::asked::{Asked, Given};
-use super::metric::{has_totals, number};
-use super::node::{Caller, Made, Polled};
-use crate::support::message::{To, digest, digested, recipients};
+use super::metric;
+use super::node::{Made, Polled, is_turn};
+use crate::support::asked::{Asked, Caller, Given};
+use crate::support::message::{digest, digested, numbered, recipients};
+use crate::support::words::{decimal, feedback_of, number, range};
 use broadcast_core::{Digest, TestMessage};
 use broadcast_mailbox::Feedback;
 use broadcast_mailbox::buffered::{Answering, Incoming, Message, Reply};
@@ -26,11 +26,6 @@ pub struct World<N, C> {
     lose: u64,
 }
 
-/// Returns the place of the node with the key.
-fn place(key: u64) -> usize {
-    key.wrapping_sub(1) as usize
-}
-
 impl<N: Polled, C: Caller> World<N, C> {
     /// Creates a world without nodes.
     pub fn new(alloc: Global) -> Self {
@@ -43,27 +38,31 @@ impl<N: Polled, C: Caller> World<N, C> {
         }
     }
 
-    /// Does what the action says, and counts what it woke. Returns whether it goes as it should.
-    pub fn goes<R>(&mut self, rt: &R, act: Act) -> bool
+    /// Does what the word says, and counts what it woke. Returns whether it goes as it should.
+    pub fn goes<R>(&mut self, rt: &R, word: &[u8]) -> bool
     where
         N: Made<R, C>,
         R: Abort + RandomSource + AllocGlobal,
     {
-        let goes = match act {
-            Act::Nodes(nodes, mailbox, deque) => self.add_all(rt, nodes, mailbox, deque),
-            _ => self.does(rt.alloc(), act).expect(rt, "memory"),
+        let goes = match word {
+            [b'n', sizes @ ..] => self.add_all(rt, sizes),
+            _ => self.does(rt.alloc(), word).expect(rt, "memory"),
         };
         look(&mut self.around);
         goes
     }
 
-    /// Adds nodes with mailboxes and lists of these sizes.
-    fn add_all<R>(&mut self, rt: &R, nodes: u64, mailbox: usize, deque: usize) -> bool
+    /// Adds a number of nodes with mailboxes and lists of these sizes.
+    fn add_all<R>(&mut self, rt: &R, sizes: &[u8]) -> bool
     where
         N: Made<R, C>,
         R: Abort + RandomSource + AllocGlobal,
     {
+        let mut sizes = sizes.split(|byte| *byte == b',');
+        let nodes = decimal(sizes.next().unwrap_or(&[]));
+        let mailbox = decimal(sizes.next().unwrap_or(&[])) as usize;
         let mailbox = NonZeroUsize::new(mailbox).unwrap_or(NonZeroUsize::MIN);
+        let deque = decimal(sizes.next().unwrap_or(&[])) as usize;
         for key in 1..=nodes {
             // With room for all, nothing can fail while an engine is at hand.
             self.nodes.reserve(1).expect(rt, "memory");
@@ -79,65 +78,66 @@ impl<N: Polled, C: Caller> World<N, C> {
         true
     }
 
-    /// Does what the action says of all nodes or of the futures.
-    fn does(&mut self, alloc: Global, act: Act) -> Result<bool, AllocError> {
-        match act {
-            Act::AllTrack(keys) => self.track_all(alloc, keys),
-            Act::Run => self.run(alloc),
-            Act::Lose(number) => {
-                self.lose = number;
+    /// Does what the word says of all nodes or of the futures.
+    fn does(&mut self, alloc: Global, word: &[u8]) -> Result<bool, AllocError> {
+        match word {
+            [b'A', keys @ ..] => self.track_all(alloc, keys),
+            [b'r'] => self.run(alloc),
+            [b'L', sends] => {
+                self.lose = number(*sends);
                 Ok(true)
             }
-            Act::Finds(key, letter, wanted) => self.hears(alloc, key, true, letter, wanted),
-            Act::Hears(key, letter, wanted) => self.hears(alloc, key, false, letter, wanted),
-            Act::Gives(number, given) => Ok(gives(&mut self.asked, number, given)),
-            Act::Hang(number) => Ok(hang(&mut self.asked, number, 1)),
-            Act::HangMany(from, to) => { Ok(hang(&mut self.asked, from, to.saturating_sub(from))) }
-            Act::CloseLast => Ok(self.close_last()),
-            Act::DropLast => Ok(self.nodes.pop().is_some()),
-            _ => self.calls(alloc, act),
+            [b'?', at, given] => Ok(gives(&mut self.asked, number(*at), *given)),
+            [b'-', from_to @ ..] => Ok(hang(&mut self.asked, from_to)),
+            [b'x'] => Ok(self.close_last()),
+            [b'd'] => Ok(self.nodes.pop().is_some()),
+            [key, word @ ..] => self.calls(alloc, place(*key), word),
+            [] => Ok(false),
         }
     }
 
-    /// Makes the call that the action says.
-    fn calls(&mut self, alloc: Global, act: Act) -> Result<bool, AllocError> {
-        match act {
-            Act::Subscribe(key, letter) => self.ask(alloc, key, false, letter),
-            Act::Get(key, letter) => self.ask(alloc, key, true, letter),
-            Act::SubscribeMany(key, from, to) => Ok(self.ask_often(key, from, to)),
-            Act::Broadcast(key, to, letter) => self.tells(alloc, key, to, (letter, letter), None),
-            Act::BroadcastAs(key, to, letter, goes_by) => {
-                self.tells(alloc, key, to, (letter, goes_by), None)
+    /// Makes the call that the word says.
+    fn calls(&mut self, alloc: Global, at: usize, word: &[u8]) -> Result<bool, AllocError> {
+        match word {
+            [b's', letter] => self.ask(alloc, at, false, *letter),
+            [b'g', letter] => self.ask(alloc, at, true, *letter),
+            [b'm', from_to @ ..] => Ok(self.ask_often(at, from_to)),
+            [b'f', letter] => self.hears(alloc, at, true, *letter, true),
+            [b'F', letter] => self.hears(alloc, at, true, *letter, false),
+            [b'l', letter] => self.hears(alloc, at, false, *letter, true),
+            [b'L', letter] => self.hears(alloc, at, false, *letter, false),
+            [b'b', to @ .., letter, b'=', goes_by] => {
+                self.tells(alloc, at, to, (*letter, *goes_by), None)
             }
-            Act::Told(key, told) => self.tells(alloc, key, To::All, (b'z', b'z'), Some(told)),
-            _ => self.at_node(alloc, act),
+            [b'b', to @ .., letter] => self.tells(alloc, at, to, (*letter, *letter), None),
+            [b't', told] => self.tells(alloc, at, b"*", (b'z', b'z'), feedback_of(*told)),
+            _ => self.at_node(alloc, at, word),
         }
     }
 
-    /// Does what the action says of an engine, or of what stands around it.
-    fn at_node(&mut self, alloc: Global, act: Act) -> Result<bool, AllocError> {
-        match act {
-            Act::Poll(key, turn) => Ok(self.poll(alloc, place(key)).as_ref() == turn),
-            Act::Counts(key, metric, wanted) => match self.nodes.get(place(key)) {
-                Some(node) => Ok(number(node.metrics(), metric) == wanted),
+    /// Does what the word says of an engine, or of what stands around it.
+    fn at_node(&mut self, alloc: Global, at: usize, word: &[u8]) -> Result<bool, AllocError> {
+        match word {
+            [b'.', turn @ ..] => Ok(is_turn(self.poll(alloc, at), turn)),
+            [b'a', letter] => self.subscribe(alloc, at, *letter),
+            [b'h'] => Ok(self.take_by_hand(alloc, at)),
+            [b'w' | b'v' | b'#', ..] => match self.nodes.get(at) {
+                Some(node) => Ok(metric::has(node.metrics(), word)),
                 None => Ok(false),
             },
-            Act::All(key, ..) => match self.nodes.get(place(key)) {
-                Some(node) => Ok(has_totals(node.metrics(), act)),
-                None => Ok(false),
-            },
-            Act::Stop(key) => match self.nodes.get(place(key)) {
+            [b'S'] => match self.nodes.get(at) {
                 Some(node) => Ok(node.stop()),
                 None => Ok(false),
             },
-            Act::Apply(key, letter) => self.subscribe(alloc, place(key), letter),
-            Act::TakeByHand(key) => Ok(self.take_by_hand(alloc, place(key))),
-            _ => around(&mut self.around, alloc, act),
+            _ => match self.around.get_mut(at) {
+                Some(around) => around.goes(alloc, at as u64 + 1, word),
+                None => Ok(false),
+            },
         }
     }
 
     /// Gives all nodes the peer set, and lets them run.
-    fn track_all(&mut self, alloc: Global, keys: &[u64]) -> Result<bool, AllocError> {
+    fn track_all(&mut self, alloc: Global, keys: &[u8]) -> Result<bool, AllocError> {
         for around in &self.around {
             around.track(alloc, keys)?;
         }
@@ -166,7 +166,7 @@ impl<N: Polled, C: Caller> World<N, C> {
     }
 
     /// Polls the engine at the place once. Returns the turn, if it is ready.
-    fn poll(&mut self, alloc: Global, at: usize) -> Option<Turn<u64, ()>> {
+    fn poll(&mut self, alloc: Global, at: usize) -> Option<Turn<u64, Digest>> {
         match (self.nodes.get_mut(at), self.around.get_mut(at)) {
             (Some(node), Some(around)) => node.poll(alloc, around),
             _ => None,
@@ -223,14 +223,14 @@ impl<N: Polled, C: Caller> World<N, C> {
     fn tells(
         &self,
         alloc: Global,
-        key: u64,
-        to: To,
+        at: usize,
+        to: &[u8],
         letters: (u8, u8),
         wanted: Option<Feedback>,
     ) -> Result<bool, AllocError> {
         let recipients = recipients(alloc, to)?;
         let message = digested(alloc, letters.0, letters.1)?;
-        match self.callers.get(place(key)) {
+        match self.callers.get(at) {
             Some(caller) => Ok(is_told(caller.tell(recipients, message), wanted)),
             None => Ok(false),
         }
@@ -240,16 +240,16 @@ impl<N: Polled, C: Caller> World<N, C> {
     fn ask(
         &mut self,
         alloc: Global,
-        key: u64,
+        at: usize,
         is_get: bool,
         letter: u8,
     ) -> Result<bool, AllocError> {
         let digest = digest(alloc, letter)?;
-        Ok(self.ask_for(key, is_get, digest))
+        Ok(self.ask_for(at, is_get, digest))
     }
 
-    fn ask_for(&mut self, key: u64, is_get: bool, digest: Digest) -> bool {
-        let Some(caller) = self.callers.get(place(key)) else {
+    fn ask_for(&mut self, at: usize, is_get: bool, digest: Digest) -> bool {
+        let Some(caller) = self.callers.get(at) else {
             return false;
         };
         match caller.ask(is_get, digest) {
@@ -259,10 +259,11 @@ impl<N: Polled, C: Caller> World<N, C> {
     }
 
     /// Subscribes to digests of no message. Returns whether all are queued.
-    fn ask_often(&mut self, key: u64, from: u64, to: u64) -> bool {
+    fn ask_often(&mut self, at: usize, from_to: &[u8]) -> bool {
+        let (from, to) = range(from_to);
         let mut queued = true;
         for number in from..to {
-            queued &= self.ask_for(key, false, numbered(number));
+            queued &= self.ask_for(at, false, numbered(number));
         }
         queued
     }
@@ -272,12 +273,12 @@ impl<N: Polled, C: Caller> World<N, C> {
     fn hears(
         &mut self,
         alloc: Global,
-        key: u64,
+        at: usize,
         is_get: bool,
         letter: u8,
         wanted: bool,
     ) -> Result<bool, AllocError> {
-        let asked = self.ask(alloc, key, is_get, letter)?;
+        let asked = self.ask(alloc, at, is_get, letter)?;
         let ran = self.run(alloc)?;
         Ok(asked && ran && has_letter(self.asked.pop()) == wanted)
     }
@@ -301,26 +302,34 @@ fn by_hand(
     ))
 }
 
+/// Returns the place of the node with the key of the digit.
+fn place(digit: u8) -> usize {
+    usize::from(digit.wrapping_sub(b'1'))
+}
+
 /// Returns whether the future of the number gives this.
-fn gives(all: &mut [Asked], number: usize, given: Given) -> bool {
-    match all.get_mut(number) {
-        Some(asked) => asked.given() == given,
+fn gives(all: &mut [Asked], at: u64, given: u8) -> bool {
+    match all.get_mut(at as usize) {
+        Some(asked) => asked.look() == Given::of(given),
         None => false,
     }
 }
 
-/// Drops `count` futures from the number on. Returns whether there is one.
-fn hang(all: &mut [Asked], number: usize, count: usize) -> bool {
-    for asked in all.iter_mut().skip(number).take(count) {
+/// Drops the future of the number, or those from the one up to the other. Returns whether there is
+/// one.
+fn hang(all: &mut [Asked], from_to: &[u8]) -> bool {
+    let (from, to) = range(from_to);
+    let from = from as usize;
+    for asked in all.iter_mut().take(to as usize).skip(from) {
         *asked = Asked::Dropped;
     }
-    number < all.len()
+    from < all.len()
 }
 
 /// Returns whether the future gives a message.
 fn has_letter(asked: Option<Asked>) -> bool {
     match asked {
-        Some(mut asked) => matches!(asked.given(), Given::Letter(_)),
+        Some(mut asked) => matches!(asked.look(), Given::Letter(_)),
         None => false,
     }
 }
@@ -331,32 +340,5 @@ fn is_told(told: Option<Feedback>, wanted: Option<Feedback>) -> bool {
         (Some(told), Some(wanted)) => told == wanted,
         (Some(told), None) => told.accepted(),
         _ => false,
-    }
-}
-
-/// Returns a digest of the number, which no message has.
-fn numbered(number: u64) -> Digest {
-    let mut bytes = [0; 32];
-    bytes[24..].copy_from_slice(&number.to_be_bytes());
-    Digest { bytes }
-}
-
-/// Does what the action says of what stands around an engine.
-fn around(all: &mut [Around], alloc: Global, act: Act) -> Result<bool, AllocError> {
-    let (Act::Track(key, _)
-    | Act::EndPeers(key)
-    | Act::Payload(key, ..)
-    | Act::Comes(key, ..)
-    | Act::Fails(key)
-    | Act::Holds(key, _)
-    | Act::Refuses(key, _)
-    | Act::Sends(key, ..)
-    | Act::Wakes(key, _)) = act
-    else {
-        return Ok(false);
-    };
-    match all.get_mut(place(key)) {
-        Some(around) => around.goes(alloc, act),
-        None => Ok(false),
     }
 }

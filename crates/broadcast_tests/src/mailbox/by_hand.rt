@@ -1,9 +1,8 @@
 //! Requests that are taken by hand.
-use super::note::Note;
-use super::talk::DIGEST;
-use broadcast_core::{Digested, Recipients};
-use broadcast_mailbox::Broadcaster;
-use broadcast_mailbox::buffered::{Incoming, Ingress, Mailbox, channel};
+use super::talk::named;
+use crate::support::asked::tell;
+use broadcast_core::{Digest, TestMessage};
+use broadcast_mailbox::buffered::{Incoming, Ingress, channel};
 use std::alloc::AllocGlobal;
 use std::num::NonZeroUsize;
 use std::process::Abort;
@@ -12,21 +11,9 @@ use std::sync::Wait;
 /// How many requests wait behind the first one.
 const MANY: u64 = 1001;
 
-/// Queues many broadcasts.
-fn fill<R>(rt: &R, mailbox: &Mailbox<u64, Note, R>)
-where
-    R: Wait + Abort + AllocGlobal + Clone + Send + Drop + 'static,
-{
-    for _ in 0..MANY {
-        let message = Digested::precomputed(rt.alloc(), Note(1), DIGEST).expect(rt, "memory");
-        let feedback = mailbox.broadcast(Recipients::All, message);
-        assert!(rt; feedback.is_ok(), "a broadcast");
-    }
-}
-
 /// Takes requests until none is left, or one has another ticket than the next. Returns how many
 /// were taken.
-fn taken<R: Wait>(ingress: &Ingress<Incoming<u64, Note>, R>) -> u64 {
+fn taken<R: Wait>(ingress: &Ingress<Incoming<u64, TestMessage>, R>) -> u64 {
     for next in 0..=MANY {
         if !ingress.take().is_some_and(|(ticket, _)| ticket == next) {
             return next;
@@ -43,20 +30,18 @@ where
     R: Wait + Abort + AllocGlobal + Clone + Send + Drop + 'static,
 {
     let own = rt.clone().expect(rt, "memory");
-    let ends = channel::<u64, Note, R>(own, rt.alloc(), NonZeroUsize::MIN);
+    let ends = channel::<u64, TestMessage, R>(own, rt.alloc(), NonZeroUsize::MIN);
     let (mailbox, mut ingress) = ends.expect(rt, "memory");
-    drop::<_>(mailbox.subscribe(DIGEST).expect(rt, "a subscription"));
-    fill(rt, &mailbox);
-    let mut told = Vec::new(rt.alloc());
-    let before = dropped(&mut ingress, &mut told);
+    drop::<_>(mailbox.subscribe(named()).expect(rt, "a subscription"));
+    for _ in 0..MANY {
+        let _told = tell(rt, &mailbox);
+    }
+    let mut told: Vec<Digest> = Vec::new(rt.alloc());
+    let _may_be_any = ingress.take_dropped(&mut told);
+    let before = told.len();
     let taken = taken(&ingress);
-    (before, taken, dropped(&mut ingress, &mut told))
-}
-
-/// Returns how many drops the mailbox tells of.
-fn dropped<R>(ingress: &mut Ingress<Incoming<u64, Note>, R>, told: &mut Vec<u64>) -> usize {
-    let _may_be_any = ingress.take_dropped(told);
-    told.len()
+    let _may_be_any = ingress.take_dropped(&mut told);
+    (before, taken, told.len())
 }
 
 #[test]

@@ -1,13 +1,14 @@
 //! Both ends of a mailbox, by what a talk does with them. So a talk knows none of their types,
 //! which keeps its proofs small.
-use super::asked::Asked;
-use super::note::Note;
-use super::talk::{Act, By, DIGEST};
-use broadcast_core::{Digested, Recipients};
+use super::talk::{By, named};
+use crate::support::asked::Asked;
+use crate::support::words::{are, decimal};
+use broadcast_core::{Digest, Digested, Recipients, TestMessage};
 use broadcast_mailbox::buffered::{
     Account, Bookkeeping, Incoming, Ingress, Tally, Watch, WatchedMailbox,
 };
 use broadcast_mailbox::{Broadcaster, Feedback};
+use commonware_broadcast::buffered::Requests;
 use futures::task::{Poll, Solo};
 use std::alloc::AllocError;
 use std::sync::Wait;
@@ -20,14 +21,11 @@ pub trait Calls: Drop {
         &mut self,
         by: By,
         to: Recipients<u64>,
-        message: Digested<Note>,
+        message: Digested<TestMessage>,
     ) -> Option<Feedback>;
 
-    /// Subscribes to the digest.
-    fn subscribes(&mut self, by: By) -> Option<Asked>;
-
-    /// Gets the message of the digest.
-    fn gets(&mut self, by: By) -> Option<Asked>;
+    /// Makes a get or a subscribe.
+    fn asks(&mut self, by: By, is_get: bool) -> Option<Asked>;
 
     /// Returns what the tally counts.
     fn counted(&self) -> u64;
@@ -36,10 +34,10 @@ pub trait Calls: Drop {
 /// Whoever takes the requests of a mailbox.
 pub trait Takes: Drop {
     /// Takes the next request, if there is one.
-    fn next(&mut self, task: &Solo) -> Option<Incoming<u64, Note>>;
+    fn next(&mut self, task: &Solo) -> Option<Incoming<u64, TestMessage>>;
 
     /// Takes the digests whose subscriptions were dropped. Returns whether there may be any other.
-    fn take_told(&mut self, told: &mut Vec<u64>) -> bool;
+    fn take_told(&mut self, told: &mut Vec<Digest>) -> bool;
 
     /// Returns whether a look sees that something came.
     fn looks<C: Clock>(&self, clock: &C) -> bool;
@@ -47,14 +45,14 @@ pub trait Takes: Drop {
     /// Lets the taker look before it sleeps, or not.
     fn let_look(&self, may_look: bool) -> Result<(), AllocError>;
 
-    /// Returns whether the mailbox is as the act says, or becomes so by it.
-    fn shows(&self, act: Act) -> bool;
+    /// Returns whether the mailbox is as the word says, or becomes so by it.
+    fn shows(&self, word: &[u8]) -> bool;
 }
 
 /// A mailbox and a tally.
 #[derive(Drop)]
-pub struct Both<R, A: Account, K: Account, V: Watch<u64>> {
-    pub mailbox: WatchedMailbox<u64, Note, R, A, K, V>,
+pub struct Both<R, A: Account, K: Account, V: Watch<Digest>> {
+    pub mailbox: WatchedMailbox<u64, TestMessage, R, A, K, V>,
     pub tally: Tally<A>,
 }
 
@@ -63,13 +61,13 @@ where
     R: Wait + Clone + Send + Drop + 'static,
     A: Account + Send + 'static,
     K: Account + Send + 'static,
-    V: Watch<u64> + Send + 'static,
+    V: Watch<Digest> + Send + 'static,
 {
     fn broadcasts(
         &mut self,
         by: By,
         to: Recipients<u64>,
-        message: Digested<Note>,
+        message: Digested<TestMessage>,
     ) -> Option<Feedback> {
         match by {
             By::Caller => self.mailbox.broadcast(to, message).ok(),
@@ -77,20 +75,19 @@ where
         }
     }
 
-    fn subscribes(&mut self, by: By) -> Option<Asked> {
+    fn asks(&mut self, by: By, is_get: bool) -> Option<Asked> {
+        if is_get {
+            let asked = match by {
+                By::Caller => self.mailbox.get(named()),
+                By::Tally => self.mailbox.get_as(&mut self.tally, named()),
+            };
+            return Some(Asked::Get(asked.ok()?));
+        }
         let asked = match by {
-            By::Caller => self.mailbox.subscribe(DIGEST),
-            By::Tally => self.mailbox.subscribe_as(&mut self.tally, DIGEST),
+            By::Caller => self.mailbox.subscribe(named()),
+            By::Tally => self.mailbox.subscribe_as(&mut self.tally, named()),
         };
         Some(Asked::Subscription(asked.ok()?))
-    }
-
-    fn gets(&mut self, by: By) -> Option<Asked> {
-        let asked = match by {
-            By::Caller => self.mailbox.get(DIGEST),
-            By::Tally => self.mailbox.get_as(&mut self.tally, DIGEST),
-        };
-        Some(Asked::Get(asked.ok()?))
     }
 
     fn counted(&self) -> u64 {
@@ -98,12 +95,12 @@ where
     }
 }
 
-impl<R, B> Takes for Ingress<Incoming<u64, Note>, R, B>
+impl<R, B> Takes for Ingress<Incoming<u64, TestMessage>, R, B>
 where
     R: Wait + Clone + Drop,
     B: Bookkeeping,
 {
-    fn next(&mut self, task: &Solo) -> Option<Incoming<u64, Note>> {
+    fn next(&mut self, task: &Solo) -> Option<Incoming<u64, TestMessage>> {
         let mut cx = task.begin();
         let polled = self.poll_request(&mut cx);
         // A task that is parked must have asked for another poll.
@@ -115,8 +112,8 @@ where
         }
     }
 
-    fn take_told(&mut self, told: &mut Vec<u64>) -> bool {
-        self.take_dropped(told)
+    fn take_told(&mut self, told: &mut Vec<Digest>) -> bool {
+        Requests::take_closed(self, told)
     }
 
     fn looks<C: Clock>(&self, clock: &C) -> bool {
@@ -128,17 +125,20 @@ where
         Ok(())
     }
 
-    fn shows(&self, act: Act) -> bool {
-        match act {
-            Act::Stop => {
+    fn shows(&self, word: &[u8]) -> bool {
+        match word {
+            [b'q'] => {
                 self.request_stop();
                 true
             }
-            Act::Stopped(wanted) => self.stop_requested() == wanted,
-            Act::Close(wanted) => self.close() == wanted,
-            Act::Counts(wanted) => {
+            [b'q', sign] => self.stop_requested() == (*sign == b'+'),
+            [b'x', number @ ..] => self.close() == decimal(number),
+            [b'#', numbers @ ..] => {
                 let it = self.counts();
-                [it.accepted, it.taken, it.skipped, it.waiting, it.given_up] == wanted
+                are(
+                    &[it.accepted, it.taken, it.skipped, it.waiting, it.given_up],
+                    numbers,
+                )
             }
             _ => false,
         }

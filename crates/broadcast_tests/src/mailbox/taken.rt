@@ -1,64 +1,56 @@
 //! A request that was taken from a mailbox.
-use super::note::Note;
-use super::talk::{Act, DIGEST};
-use crate::support::message::To;
-use broadcast_core::{Closable, Digested, Recipients};
+use super::talk::named;
+use crate::support::message::{letter_of, message_of, numbered};
+use crate::support::words::number;
+use broadcast_core::{Closable, Digested, Recipients, TestMessage};
 use broadcast_mailbox::buffered::{Incoming, Message, Reply, Responder};
 use std::alloc::AllocGlobal;
 use std::process::Abort;
 
 /// A request that was taken.
-#[derive(Clone, Copy)]
-pub enum Request {
-    None,
-    To(To),
-    Subscribe,
-    Get,
+type Taken = Incoming<u64, TestMessage>;
+
+/// Replies to the request by the message `x`, under its digest or under another with `y`, by none,
+/// or drops it. Returns whether it is a subscribe or a get.
+pub fn end<R: Abort + AllocGlobal>(rt: &R, taken: Option<Taken>, word: u8) -> bool {
+    let digest = match word {
+        b'x' => named(),
+        b'y' => numbered(6),
+        b'-' => return reply(taken, None),
+        _ => return taken.is_some(),
+    };
+    let message = message_of(rt.alloc(), b'x').expect(rt, "memory");
+    let message = Digested::precomputed(rt.alloc(), message, digest).expect(rt, "memory");
+    reply(taken, Some(Reply::new(message)))
 }
 
-/// Replies to the request as the act says, or drops it. Returns whether there is one.
-pub fn end<R: Abort + AllocGlobal>(rt: &R, taken: Option<Incoming<u64, Note>>, act: Act) -> bool {
-    let Some(request) = taken else {
-        return false;
-    };
-    match act {
-        Act::Reply(digest) => {
-            let message = Digested::precomputed(rt.alloc(), Note(1), digest).expect(rt, "memory");
-            reply(request, Some(Reply::new(message)))
+/// Replies to the request. Returns whether it was a subscribe or a get.
+fn reply(taken: Option<Taken>, reply: Option<Reply<TestMessage>>) -> bool {
+    match (taken, reply) {
+        (Some(Message::Subscribe { responder, .. }), Some(reply)) => {
+            let _is_sent = Responder::send(responder, reply);
         }
-        Act::ReplyNone => reply(request, None),
-        _ => true,
+        (Some(Message::Get { responder, .. }), reply) => {
+            let _is_sent = Responder::send(responder, reply);
+        }
+        _ => return false,
     }
+    true
 }
 
 /// Returns whether the caller of the request waits no more, or still does.
-pub fn is_closed(taken: Option<&Incoming<u64, Note>>, wanted: bool) -> bool {
+pub fn is_closed(taken: Option<&Taken>, wanted: bool) -> bool {
     match taken {
         Some(request) => request.is_closed() == wanted,
         None => false,
     }
 }
 
-/// Replies to the request. Returns whether it was a subscribe or a get.
-fn reply(request: Incoming<u64, Note>, reply: Option<Reply<Note>>) -> bool {
-    match request {
-        Message::Broadcast { .. } => return false,
-        Message::Subscribe { responder, .. } => {
-            if let Some(reply) = reply {
-                let _is_sent = Responder::send(responder, reply);
-            }
-        }
-        Message::Get { responder, .. } => {
-            let _is_sent = Responder::send(responder, reply);
-        }
-    }
-    true
-}
-
-/// Returns whether this is the request.
-pub fn is_request(request: Option<&Incoming<u64, Note>>, wanted: Request) -> bool {
+/// Returns whether this is the request: none, a subscribe, a get, or a broadcast to the recipients
+/// that the digits name.
+pub fn is_request(request: Option<&Taken>, wanted: &[u8]) -> bool {
     match (request, wanted) {
-        (None, Request::None) => true,
+        (None, [b'-']) => true,
         (
             Some(
                 Message::Broadcast {
@@ -66,20 +58,26 @@ pub fn is_request(request: Option<&Incoming<u64, Note>>, wanted: Request) -> boo
                     message,
                 },
             ),
-            Request::To(to),
-        ) => message.digest() == DIGEST && message.inner().0 == 3 && are(recipients, to),
-        (Some(Message::Subscribe { digest, .. }), Request::Subscribe)
-        | (Some(Message::Get { digest, .. }), Request::Get) => *digest == DIGEST,
+            [b'b', to @ ..],
+        ) => message.digest() == named()
+            && letter_of(message.inner()) == b'm'
+            && are(recipients, to),
+        (Some(Message::Subscribe { digest, .. }), [b's'])
+        | (Some(Message::Get { digest, .. }), [b'g']) => *digest == named(),
         _ => false,
     }
 }
 
 /// Returns whether these are the recipients.
-fn are(recipients: &Recipients<u64>, to: To) -> bool {
-    match (recipients, to) {
-        (Recipients::All, To::All) => true,
-        (Recipients::Some(keys), To::Some(wanted)) => keys.as_slice() == wanted,
-        (Recipients::One(key), To::One(wanted)) => *key == wanted,
+fn are(recipients: &Recipients<u64>, digits: &[u8]) -> bool {
+    match (recipients, digits) {
+        (Recipients::All, [b'*']) => true,
+        (Recipients::One(key), [digit]) => *key == number(*digit),
+        (Recipients::Some(keys), [_, _, ..]) => keys
+            .as_slice()
+            .iter()
+            .copied()
+            .eq(digits.iter().map(|digit| number(*digit))),
         _ => false,
     }
 }

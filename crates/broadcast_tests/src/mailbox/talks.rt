@@ -1,231 +1,113 @@
-//! What each call of a mailbox queues, what its caller is told and given, and what is told of the
-//! subscriptions that are dropped.
-use super::asked::Given::{Message, Nothing, Waits};
-use super::asked::How::{Look, Poll, Wait};
-use super::taken::Request;
-use super::talk::Act::{
-    Abandon, Broadcast, Close, Counted, Counts, Fill, Get, Gives, IsClosed, Leave, Reply,
-    ReplyNone, Skip, Stop, Stopped, Subscribe, Take, Told,
-};
-use super::talk::By::{Caller, Tally};
-use super::talk::{Line, Row, wrong};
-use crate::support::message::To;
-use broadcast_mailbox::Feedback::{Backoff, Closed, Ok};
+//! What each call of a mailbox queues, what its caller is told and given, what is told of dropped
+//! subscriptions, and what whoever takes the requests sees of the callers before it sleeps.
+use super::talk::wrong;
 use broadcast_mailbox::buffered::{All, Broadcasts};
 
+/// What is done to a mailbox of one place, and must be seen of it, as words of bytes. Calls with a
+/// capital letter are made with a tally:
+/// `b*=o` a broadcast to all, to the peer of a digit, or to those of several, is told `o` for ok,
+/// `w` to back off, or `c` for closed;
+/// `s+`, `g+` a subscribe and a get are accepted, or not with `-`; the future replaces that before;
+/// `fN` this many broadcasts, and `tN` the tally counts this many calls;
+/// `l?` a look, `p?` a poll and `w?` a wait find the future pending, `-` ended, `x` with a message;
+/// `.` the future is dropped, and `!+` a drop is told, or none with `-`;
+/// `>s` the next request is a subscribe, and is kept: `g` a get, `b*` a broadcast, `-` none;
+/// `o+` the caller of the kept request waits, or no more with `-`;
+/// `rx` it is replied to by the message `x`, `ry` by one under another digest, `r-` by none, and
+/// `r.` it is dropped;
+/// `kN` this many requests are taken;
+/// `q` a stop is requested, and `q+` it was, or not with `-`;
+/// `xN` the mailbox is closed, and gives up this many requests;
+/// `#` the requests accepted, taken, skipped, waiting and given up;
+/// `e+` a look before sleep sees that something came, or not with `-`, and `E` one of a hundred
+/// looks after a get each does.
+///
 /// What each call queues, alone and behind others, after a stop, and to whom it goes.
-static CALLS: [Row; 10] = [
-    Row(&[
-        Line(&[Broadcast(Caller, To::All, Ok), Stopped(false)]),
-        Line(&[Counts([1, 0, 0, 1, 0]), Take(Request::To(To::All))]),
-        Line(&[Take(Request::None)]),
-    ]),
-    Row(&[
-        Line(&[Stop, Broadcast(Caller, To::Some(&[6, 4]), Ok)]),
-        Line(&[Stopped(true), Take(Request::To(To::Some(&[6, 4])))]),
-    ]),
-    Row(&[
-        Line(&[Fill(5001), Broadcast(Caller, To::One(5), Backoff)]),
-        Line(&[Counts([5002, 0, 0, 5002, 0]), Skip(5001)]),
-        Line(&[Take(Request::To(To::One(5))), Take(Request::None)]),
-    ]),
-    Row(&[
-        Line(&[Fill(1), Subscribe(Caller, true), Counts([2, 0, 0, 2, 0])]),
-        Line(&[Skip(1), Take(Request::Subscribe)]),
-    ]),
-    Row(&[
-        Line(&[Stop, Get(Caller, true), Take(Request::Get)]),
-        Line(&[Stopped(true)]),
-    ]),
-    Row(&[
-        Line(&[Broadcast(Tally, To::One(5), Ok)]),
-        Line(&[Broadcast(Tally, To::Some(&[6, 4]), Backoff), Counted(2)]),
-        Line(&[Take(Request::To(To::One(5)))]),
-        Line(&[Take(Request::To(To::Some(&[6, 4]))), Take(Request::None)]),
-    ]),
+static CALLS: [&[u8]; 10] = [
+    b"b*=o q- #1,0,0,1,0 >b* >-",
+    b"q b64=o q+ >b64",
+    b"f5001 b5=w #5002,0,0,5002,0 k5001 >b5 >-",
+    b"f1 s+ #2,0,0,2,0 k1 >s",
+    b"q g+ >g q+",
+    b"B5=o B64=w t2 >b5 >b64 >-",
     // Calls whose callers are gone are skipped, but for the one in the ready list.
-    Row(&[
-        Line(&[Get(Caller, true), Subscribe(Caller, true)]),
-        Line(&[Get(Caller, true), Leave, Take(Request::Get)]),
-        Line(&[Take(Request::None), Counts([3, 1, 2, 0, 0])]),
-    ]),
+    b"g+ s+ g+ . >g >- #3,1,2,0,0",
     // A closed mailbox.
-    Row(&[
-        Line(&[Fill(2), Get(Caller, true), Close(3)]),
-        Line(&[Gives(Look, Nothing), Close(0)]),
-        Line(&[Broadcast(Caller, To::All, Closed)]),
-        Line(&[Broadcast(Tally, To::All, Closed)]),
-        Line(&[Subscribe(Caller, false), Gives(Poll, Nothing)]),
-        Line(&[Get(Caller, false), Gives(Poll, Nothing)]),
-        Line(&[Counts([3, 0, 0, 0, 3])]),
-    ]),
-    Row(&[Line(&[Subscribe(Caller, true), Close(1), Gives(Poll, Nothing)])]),
-    Row(&[
-        Line(&[Subscribe(Caller, true), Take(Request::Subscribe)]),
-        Line(&[IsClosed(false), Leave, IsClosed(true)]),
-    ]),
+    b"f2 g+ x3 l- x0 b*=c B*=c s- p- g- p- #3,0,0,0,3",
+    b"s+ x1 p-",
+    b"s+ >s o+ . o-",
 ];
 
 /// What futures give once their requests end.
-static FUTURES: [Row; 13] = [
-    Row(&[
-        Line(&[Subscribe(Caller, true), Gives(Look, Waits)]),
-        Line(&[Gives(Poll, Waits), Gives(Wait, Waits)]),
-        Line(&[Take(Request::Subscribe), Reply(7)]),
-        Line(&[Gives(Look, Message(7))]),
-    ]),
-    Row(&[
-        Line(&[Subscribe(Caller, true), Take(Request::Subscribe)]),
-        Line(&[Reply(7), Gives(Poll, Message(7))]),
-    ]),
-    Row(&[
-        Line(&[Subscribe(Caller, true), Take(Request::Subscribe)]),
-        Line(&[Reply(7), Gives(Wait, Message(7))]),
-    ]),
-    Row(&[
-        Line(&[Subscribe(Tally, true), Take(Request::Subscribe)]),
-        Line(&[Reply(7), Gives(Look, Message(7))]),
-    ]),
+static FUTURES: [&[u8]; 13] = [
+    b"s+ l? p? w? >s rx lx",
+    b"s+ >s rx px",
+    b"s+ >s rx wx",
+    b"S+ >s rx lx",
     // A message under another digest is none.
-    Row(&[
-        Line(&[Subscribe(Caller, true), Take(Request::Subscribe)]),
-        Line(&[Reply(6), Gives(Look, Nothing)]),
-    ]),
-    Row(&[
-        Line(&[Subscribe(Caller, true), Take(Request::Subscribe)]),
-        Line(&[Abandon, Gives(Look, Nothing)]),
-    ]),
-    Row(&[
-        Line(&[Get(Caller, true), Gives(Look, Waits), Gives(Poll, Waits)]),
-        Line(&[Gives(Wait, Waits), Take(Request::Get), Reply(7)]),
-        Line(&[Gives(Look, Message(7))]),
-    ]),
-    Row(&[
-        Line(&[Get(Caller, true), Take(Request::Get), Reply(7)]),
-        Line(&[Gives(Poll, Message(7))]),
-    ]),
-    Row(&[
-        Line(&[Get(Caller, true), Take(Request::Get), Reply(7)]),
-        Line(&[Gives(Wait, Message(7))]),
-    ]),
-    Row(&[
-        Line(&[Get(Tally, true), Take(Request::Get), Reply(7)]),
-        Line(&[Gives(Look, Message(7))]),
-    ]),
-    Row(&[
-        Line(&[Get(Caller, true), Take(Request::Get), Reply(6)]),
-        Line(&[Gives(Look, Nothing)]),
-    ]),
-    Row(&[
-        Line(&[Get(Caller, true), Take(Request::Get), ReplyNone]),
-        Line(&[Gives(Look, Nothing)]),
-    ]),
-    Row(&[
-        Line(&[Get(Caller, true), Take(Request::Get), Abandon]),
-        Line(&[Gives(Look, Nothing)]),
-    ]),
+    b"s+ >s ry l-",
+    b"s+ >s r. l-",
+    b"g+ l? p? w? >g rx lx",
+    b"g+ >g rx px",
+    b"g+ >g rx wx",
+    b"G+ >g rx lx",
+    b"g+ >g ry l-",
+    b"g+ >g r- l-",
+    b"g+ >g r. l-",
 ];
 
 /// What callers are told was accepted, and what their tally counts: into a place, behind others,
 /// and once the mailbox is closed.
-static ACCEPTED: [Line; 6] = [
-    Line(&[Subscribe(Caller, true), Get(Caller, true), Counted(0)]),
-    Line(&[Subscribe(Tally, true), Get(Tally, true), Counted(2)]),
-    Line(&[Close(4), Subscribe(Caller, false), Get(Caller, false)]),
-    Line(&[Subscribe(Tally, false), Get(Tally, false), Counted(2)]),
-    Line(&[Broadcast(Tally, To::All, Closed), Counted(2)]),
-    Line(&[Stopped(false)]),
-];
+const ACCEPTED: &[u8] = b"s+ g+ t0 S+ G+ t2 x4 s- g- S- G- t2 B*=c t2 q-";
 
 /// The same where broadcasts alone are counted.
-static BROADCASTS_ALONE: [Line; 2] = [
-    Line(&[Subscribe(Tally, true), Get(Tally, true), Counted(0)]),
-    Line(&[Broadcast(Tally, To::All, Backoff), Counted(1), Close(3)]),
-];
+const BROADCASTS_ALONE: &[u8] = b"S+ G+ t0 B*=w t1 x3";
 
 /// Each drop of a subscription that may wait is told once.
-static DROPS: [Row; 8] = [
+static DROPS: [&[u8]; 8] = [
     // It waits from the taking on, so its drop is told once more.
-    Row(&[
-        Line(&[Subscribe(Caller, true), Told(false), Leave, Told(true)]),
-        Line(&[Take(Request::Subscribe), Told(true)]),
-    ]),
-    Row(&[
-        Line(&[Subscribe(Caller, true), Take(Request::Subscribe)]),
-        Line(&[Told(false), Leave, Told(true)]),
-    ]),
-    Row(&[
-        Line(&[Subscribe(Tally, true), Take(Request::Subscribe)]),
-        Line(&[Told(false), Leave, Told(true)]),
-    ]),
-    Row(&[
-        Line(&[Subscribe(Tally, true), Leave, Told(true)]),
-        Line(&[Take(Request::Subscribe), Told(true)]),
-    ]),
+    b"s+ !- . !+ >s !+",
+    b"s+ >s !- . !+",
+    b"S+ >s !- . !+",
+    b"S+ . !+ >s !+",
     // It was looked at, polled and waited for.
-    Row(&[
-        Line(&[Subscribe(Caller, true), Take(Request::Subscribe)]),
-        Line(&[Gives(Look, Waits), Gives(Poll, Waits)]),
-        Line(&[Gives(Wait, Waits), Told(false), Leave, Told(true)]),
-    ]),
+    b"s+ >s l? p? w? !- . !+",
     // It was served.
-    Row(&[
-        Line(&[Subscribe(Caller, true), Take(Request::Subscribe)]),
-        Line(&[Reply(7), Gives(Poll, Message(7)), Leave, Told(false)]),
-    ]),
+    b"s+ >s rx px . !-",
     // A get is not told.
-    Row(&[Line(&[Get(Caller, true), Take(Request::Get), Leave, Told(false)])]),
+    b"g+ >g . !-",
     // A subscribe in its place.
-    Row(&[
-        Line(&[Subscribe(Caller, true), Take(Request::Subscribe)]),
-        Line(&[Subscribe(Caller, true), Told(true), Leave, Told(true)]),
-        Line(&[Take(Request::Subscribe), Told(true)]),
-    ]),
+    b"s+ >s s+ !+ . !+ >s !+",
 ];
 
-fn calls() -> &'static [Row] {
-    &CALLS
-}
+/// A look finds what came since the last poll, and no request that was taken. After a look in vain
+/// the next ones rest, but not for ever.
+static LOOKS: [&[u8]; 3] = [b">- e- >- g+ e- E", b">- g+ e+ >g q e+ e-", b"g+ >g e-"];
 
-fn futures() -> &'static [Row] {
-    &FUTURES
-}
-
-fn drops() -> &'static [Row] {
-    &DROPS
-}
-
-fn accepted() -> &'static [Line] {
-    &ACCEPTED
-}
-
-fn broadcasts_alone() -> &'static [Line] {
-    &BROADCASTS_ALONE
+fn rows() -> [&'static [&'static [u8]]; 4] {
+    [&CALLS, &FUTURES, &DROPS, &LOOKS]
 }
 
 #[test]
-fn each_call_queues_one_request(rt: HostRuntime) {
-    for (place, row) in calls().iter().enumerate() {
-        assert_eq!(rt; wrong::<All, _>(&rt, true, row.0), None, "row {place}");
-    }
-}
-
-#[test]
-fn futures_give_their_reply_once_it_is_there(rt: HostRuntime) {
-    for (place, row) in futures().iter().enumerate() {
-        assert_eq!(rt; wrong::<All, _>(&rt, true, row.0), None, "row {place}");
+fn a_mailbox_tells_and_gives_what_it_must(rt: HostRuntime) {
+    for (table, rows) in rows().iter().enumerate() {
+        for (place, words) in rows.iter().enumerate() {
+            assert_eq!(rt;
+                wrong::<All, _>(&rt, true, words),
+                None,
+                "table {table}, row {place}"
+            );
+        }
     }
 }
 
 #[test]
 fn callers_are_told_what_was_accepted(rt: HostRuntime) {
-    assert_eq!(rt; wrong::<All, _>(&rt, true, accepted()), None);
-    assert_eq!(rt; wrong::<Broadcasts, _>(&rt, true, broadcasts_alone()), None);
+    assert_eq!(rt; wrong::<All, _>(&rt, true, ACCEPTED), None);
+    assert_eq!(rt; wrong::<Broadcasts, _>(&rt, true, BROADCASTS_ALONE), None);
 }
 
 #[test]
-fn each_drop_of_what_may_wait_is_told_once(rt: HostRuntime) {
-    for (place, row) in drops().iter().enumerate() {
-        assert_eq!(rt; wrong::<All, _>(&rt, true, row.0), None, "row {place}");
-    }
+fn nobody_looks_who_may_not(rt: HostRuntime) {
+    assert_eq!(rt; wrong::<All, _>(&rt, false, b">- g+ e-"), None);
 }

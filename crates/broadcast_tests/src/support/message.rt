@@ -1,23 +1,25 @@
 //! Messages and recipients by short names.
+use super::words::number;
 use broadcast_core::{
     Digest, Digested, Digestible, Items, Recipients, Sent, Set, TestMessage, Write,
 };
 use std::alloc::{AllocError, Global};
 
-/// Recipients.
-#[derive(Clone, Copy)]
-pub enum To {
-    All,
-    Some(&'static [u64]),
-    One(u64),
+/// Returns the numbers of the digits.
+fn numbers(alloc: Global, digits: &[u8]) -> Result<Vec<u64>, AllocError> {
+    let mut numbers = Vec::new(alloc);
+    for digit in digits {
+        numbers.push(number(*digit))?;
+    }
+    Ok(numbers)
 }
 
-/// Returns the recipients.
-pub fn recipients(alloc: Global, to: To) -> Result<Recipients<u64>, AllocError> {
+/// Returns the recipients: all for `*`, and else the keys of the digits.
+pub fn recipients(alloc: Global, to: &[u8]) -> Result<Recipients<u64>, AllocError> {
     Ok(match to {
-        To::All => Recipients::All,
-        To::Some(keys) => Recipients::Some(Items::from_vec(Vec::from_slice(alloc, keys)?)),
-        To::One(key) => Recipients::One(key),
+        [b'*'] => Recipients::All,
+        [digit] => Recipients::One(number(*digit)),
+        _ => Recipients::Some(Items::from_vec(numbers(alloc, to)?)),
     })
 }
 
@@ -60,7 +62,12 @@ pub fn payload(alloc: Global, letter: u8) -> Result<Vec<u8>, AllocError> {
 }
 
 /// Returns the send of the message of the letter.
-pub fn sending(alloc: Global, to: To, letter: u8, priority: bool) -> Result<Sent<u64>, AllocError> {
+pub fn sending(
+    alloc: Global,
+    to: &[u8],
+    letter: u8,
+    priority: bool,
+) -> Result<Sent<u64>, AllocError> {
     let bytes = Items::from_vec(payload(alloc, letter)?);
     Ok(Sent {
         recipients: recipients(alloc, to)?,
@@ -69,7 +76,14 @@ pub fn sending(alloc: Global, to: To, letter: u8, priority: bool) -> Result<Sent
     })
 }
 
-/// Returns the set of the keys.
-pub fn peers(alloc: Global, keys: &[u64]) -> Result<Set<u64>, AllocError> {
-    Set::from_iter_dedup(Vec::from_slice(alloc, keys)?)
+/// Returns the set of the keys of the digits.
+pub fn peers(alloc: Global, keys: &[u8]) -> Result<Set<u64>, AllocError> {
+    Set::from_iter_dedup(numbers(alloc, keys)?)
+}
+
+/// Returns a digest of the number, which no message has.
+pub fn numbered(number: u64) -> Digest {
+    let mut bytes = [0; 32];
+    bytes[24..].copy_from_slice(&number.to_be_bytes());
+    Digest { bytes }
 }

@@ -1,5 +1,6 @@
 //! A task that counts how often it is woken.
-use futures::task::{Context, Doorbell, Poll, Solo, Source, Waker};
+use super::bell::Bell;
+use futures::task::{Doorbell, Solo};
 use std::alloc::{AllocError, AllocGlobal};
 use std::random::RandomSource;
 
@@ -9,7 +10,8 @@ pub struct Task {
     pub solo: Solo,
     /// How often it was woken since its last poll.
     pub wakes: u64,
-    pub rest: Rest,
+    /// For what it waits between two polls, beside the sources of its polls: nothing comes of it.
+    pub rest: Bell,
 }
 
 impl Task {
@@ -19,7 +21,7 @@ impl Task {
             Ok(solo) => Ok(Task {
                 solo,
                 wakes: 0,
-                rest: Rest::new(),
+                rest: Bell::new(),
             }),
             Err(_) => Err(AllocError),
         }
@@ -43,27 +45,5 @@ fn is_woken(task: &Solo) -> bool {
             false
         }
         None => true,
-    }
-}
-
-/// What a task waits for between two polls, beside the sources of its polls: nothing comes of it.
-#[derive(Drop)]
-pub struct Rest {
-    source: Source,
-    waker: Option<Waker>,
-}
-
-impl Rest {
-    fn new() -> Self {
-        Rest {
-            source: Source::new(),
-            waker: None,
-        }
-    }
-
-    /// Ends a poll, also one that was ready.
-    pub fn end(&mut self, mut cx: Context<'_>) {
-        let _: Poll<()> = cx.register(&self.source, &mut self.waker);
-        cx.park();
     }
 }

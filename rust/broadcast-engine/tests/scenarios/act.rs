@@ -1,12 +1,13 @@
-//! What is done to the nodes of a scenario, and what must come of it, as `crates/broadcast_tests/src/engine/act.rt` tells.
+//! What is done to the nodes of a scenario, and what must come of it, as `crates/broadcast_tests/src/engine/act.rt` tells
+//! of the words of a row.
 
 use broadcast_engine::Feedback;
 
-/// Recipients.
+/// Recipients, as the digits of their keys.
 #[derive(Clone, Copy, Debug, PartialEq, Eq)]
 pub enum To {
     All,
-    Some(&'static [u64]),
+    Some(&'static [u8]),
     One(u64),
 }
 
@@ -25,8 +26,8 @@ pub enum Given {
 #[derive(Clone, Copy, Debug, PartialEq, Eq)]
 pub enum Act {
     Nodes(u64, usize, usize),
-    AllTrack(&'static [u64]),
-    Track(u64, &'static [u64]),
+    AllTrack(&'static [u8]),
+    Track(u64, &'static [u8]),
     Broadcast(u64, To, u8),
     BroadcastAs(u64, To, u8, u8),
     Told(u64, Feedback),
@@ -43,11 +44,75 @@ pub enum Act {
     All(u64, [u64; 4], [u64; 3], [u64; 2], [u64; 3], u64),
 }
 
-/// Actions.
-pub struct Line(pub &'static [Act]);
+fn digit(byte: u8) -> u64 {
+    u64::from(byte - b'0')
+}
 
-/// A scenario.
-pub struct Row {
-    pub name: &'static str,
-    pub acts: &'static [Line],
+fn numbers<const N: usize>(digits: &[u8]) -> [u64; N] {
+    let text = std::str::from_utf8(digits).unwrap();
+    let numbers: Vec<u64> = text.split(',').map(|it| it.parse().unwrap()).collect();
+    numbers.try_into().unwrap()
+}
+
+fn to(digits: &'static [u8]) -> To {
+    match digits {
+        [b'*'] => To::All,
+        [key] => To::One(digit(*key)),
+        _ => To::Some(digits),
+    }
+}
+
+fn given(byte: u8) -> Given {
+    match byte {
+        b'?' => Given::Waits,
+        b'-' => Given::Nothing,
+        letter => Given::Letter(letter),
+    }
+}
+
+fn feedback(byte: u8) -> Feedback {
+    match byte {
+        b'o' => Feedback::Ok,
+        b'w' => Feedback::Backoff,
+        _ => Feedback::Closed,
+    }
+}
+
+/// The action of a word.
+pub fn act_of(word: &'static [u8]) -> Act {
+    match word {
+        [b'n', sizes @ ..] => {
+            let [nodes, mailbox, list] = numbers(sizes);
+            Act::Nodes(nodes, mailbox as usize, list as usize)
+        }
+        [b'A', keys @ ..] => Act::AllTrack(keys),
+        [b'r'] => Act::Run,
+        [b'L', sends] => Act::Lose(digit(*sends)),
+        [b'?', place, it] => Act::Gives(digit(*place) as usize, given(*it)),
+        [b'-', place] => Act::Hang(digit(*place) as usize),
+        [node, word @ ..] => act_on(digit(*node), word),
+        [] => panic!("a word without letters"),
+    }
+}
+
+/// The action of a word on a node.
+fn act_on(node: u64, word: &'static [u8]) -> Act {
+    match word {
+        [b'T', keys @ ..] => Act::Track(node, keys),
+        [b'b', keys @ .., letter, b'=', goes_by] => Act::BroadcastAs(node, to(keys), *letter, *goes_by),
+        [b'b', keys @ .., letter] => Act::Broadcast(node, to(keys), *letter),
+        [b't', told] => Act::Told(node, feedback(*told)),
+        [b's', letter] => Act::Subscribe(node, *letter),
+        [b'g', letter] => Act::Get(node, *letter),
+        [sign @ (b'f' | b'F'), letter] => Act::Finds(node, *letter, *sign == b'f'),
+        [sign @ (b'l' | b'L'), letter] => Act::Hears(node, *letter, *sign == b'l'),
+        [b'p', from, bytes @ ..] => Act::Payload(node, digit(*from), bytes),
+        [b'c', from, letter] => Act::Comes(node, digit(*from), *letter),
+        [b'#', totals @ ..] => {
+            let [a, b, c, d, success, dropped, invalid, served, gone, found, failed, left, waiters] = numbers(totals);
+            let received = [success, dropped, invalid];
+            Act::All(node, [a, b, c, d], received, [served, gone], [found, failed, left], waiters)
+        }
+        _ => panic!("no engine in Rust does {:?}", String::from_utf8_lossy(word)),
+    }
 }

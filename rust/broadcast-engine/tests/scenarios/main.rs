@@ -1,9 +1,6 @@
 //! The engine in Rattle and this one do the same and count the same: both run the tables of `crates/broadcast_tests`,
 //! which this test includes as they are.
 
-// The name by which the tables find a feedback.
-extern crate self as broadcast_mailbox;
-
 mod act;
 #[path = "../support/mod.rs"]
 mod engines;
@@ -17,27 +14,16 @@ mod counter_rows;
 #[path = "../../../../crates/broadcast_tests/src/engine/scenario_rows.rt"]
 mod scenario_rows;
 
-use broadcast_engine::Feedback;
-
-mod asked {
-    pub use crate::act::Given;
-}
-
-mod support {
-    pub mod message {
-        pub use crate::act::To;
-    }
-}
-
-use act::Row;
+use act::act_of;
 use world::World;
 
-async fn all_go(rows: &[Row]) {
-    for row in rows {
+async fn all_go(rows: &[&'static [u8]]) {
+    for (row, words) in rows.iter().enumerate() {
         let mut world = World::new();
-        for (place, act) in row.acts.iter().flat_map(|line| line.0).enumerate() {
-            if let Err(why) = world.goes(*act).await {
-                panic!("{}, action {place}: {act:?}, but {why}", row.name);
+        for (place, word) in words.split(|byte| *byte == b' ').enumerate() {
+            let act = act_of(word);
+            if let Err(why) = world.goes(act).await {
+                panic!("row {row}, action {place}: {act:?}, but {why}");
             }
         }
     }
@@ -45,9 +31,7 @@ async fn all_go(rows: &[Row]) {
 
 #[tokio::test(start_paused = true)]
 async fn nodes_do_what_the_rust_crate_does() {
-    all_go(scenario_rows::messages()).await;
-    all_go(scenario_rows::lists()).await;
-    all_go(scenario_rows::peer_sets()).await;
+    all_go(scenario_rows::rows()).await;
 }
 
 #[tokio::test(start_paused = true)]

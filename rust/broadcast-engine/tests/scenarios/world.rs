@@ -34,14 +34,14 @@ fn key(number: u64) -> Key {
     [number as u8; 32]
 }
 
-fn keys(numbers: &[u64]) -> Vec<Key> {
-    numbers.iter().copied().map(key).collect()
+fn keys(digits: &[u8]) -> Vec<Key> {
+    digits.iter().map(|it| key(u64::from(it - b'0'))).collect()
 }
 
 fn recipients(to: To) -> Recipients<Key> {
     match to {
         To::All => Recipients::All,
-        To::Some(numbers) => Recipients::Some(keys(numbers)),
+        To::Some(digits) => Recipients::Some(keys(digits)),
         To::One(number) => Recipients::One(key(number)),
     }
 }

@@ -1,10 +1,10 @@
-//! Jobs that are pending until a caller on another thread was answered.
+//! Jobs that are pending while a caller on another thread holds them.
 use broadcast_core::Digestible;
 use commonware_broadcast::buffered::{Job, Runtime, Strategy};
 use futures::task::{Context, Poll};
 use std::alloc::{AllocError, AllocGlobal};
 use std::sync::Arc;
-use std::sync::atomic::{AtomicU64, Ordering};
+use std::sync::atomic::{AtomicBool, AtomicU64, Ordering};
 use std::thread;
 use std::time::{Clock, Duration};
 
@@ -14,30 +14,30 @@ pub const LIMIT: u64 = 10_000;
 /// What a job and a caller on another thread tell each other.
 #[derive(Drop)]
 pub struct Talk {
+    is_held: AtomicBool,
     polls: AtomicU64,
-    answered: AtomicU64,
-    gave_up: AtomicU64,
 }
 
 impl Talk {
-    /// Creates the talk of jobs that were not polled yet.
+    /// Creates the talk of jobs that are not held.
     pub fn new(rt: &impl AllocGlobal) -> Result<Arc<Talk>, AllocError> {
         let talk = Talk {
+            is_held: AtomicBool::new(false),
             polls: AtomicU64::new(0),
-            answered: AtomicU64::new(0),
-            gave_up: AtomicU64::new(0),
         };
         Ok(Arc::new(rt.alloc(), talk)?)
     }
 
-    /// Tells the jobs that the caller was answered.
-    pub fn answer(&self) {
-        self.answered.store(1, Ordering::SeqCst);
+    /// Lets jobs be pending. Returns true.
+    pub fn hold(&self) -> bool {
+        self.is_held.store(true, Ordering::SeqCst);
+        true
     }
 
-    /// Returns whether a job was polled to its limit.
-    pub fn gave_up(&self) -> bool {
-        self.gave_up.load(Ordering::SeqCst) > 0
+    /// Lets jobs end. Returns whether none was polled to its limit before.
+    pub fn release(&self) -> bool {
+        self.is_held.store(false, Ordering::SeqCst);
+        self.polls.load(Ordering::SeqCst) < LIMIT
     }
 
     /// Waits until a job is pending. Returns whether one is.
@@ -51,18 +51,14 @@ impl Talk {
         false
     }
 
-    // Counts a poll of a job. Returns whether the job is still to be pending, after it gave up
-    // its thread.
+    // Counts a poll of a job that is held. Returns whether the job is still to be pending, after it
+    // gave up its thread.
     fn is_pending(&self, clock: &impl Clock) -> bool {
-        if self.answered.load(Ordering::SeqCst) > 0 {
-            return false;
-        }
-        if self.polls.fetch_add(1, Ordering::SeqCst) >= LIMIT {
-            self.gave_up.store(1, Ordering::SeqCst);
+        if !self.is_held.load(Ordering::SeqCst) {
             return false;
         }
         pause(clock);
-        true
+        self.polls.fetch_add(1, Ordering::SeqCst) < LIMIT
     }
 }
 
@@ -71,7 +67,7 @@ pub fn pause(clock: &impl Clock) {
     thread::sleep(clock, Duration::from_millis(1));
 }
 
-/// Starts jobs that are pending until the caller was answered, or until their limit.
+/// Starts jobs that are pending while the caller holds them, and until their limit.
 #[derive(Drop)]
 pub struct Patient<R> {
     talk: Arc<Talk>,

@@ -1,4 +1,4 @@
-use Rattle.thread_tests.proofs.account.clients.run.Given as goal
+use Rattle.broadcast_tests.proofs.threads.account.run.Given as goal
 
 -- the ledgers are those of the blanks
 abbrev pub ghosts-run_with-A-Ledger : goal.ghosts-run_with-A-Ledger

@@ -2,7 +2,8 @@
 ghost use Rattle.std.specs.Prelude.{◌≡◌, IfOk};
 
 use super::patient::LIMIT;
-use super::task::Task;
+use crate::support::message::message_of;
+use crate::support::task::Task;
 use broadcast_core::{Digest, Digestible, TestMessage};
 use commonware_broadcast::buffered::{
     Gate, Job, Runtime, Strategy, Threaded, Work, Worker, Working,
@@ -95,12 +96,12 @@ impl<R: Threads + Wait> Work<Meeting, R> for TestMessage {
     }
 }
 
+/// A job whose worker passes the gate.
+type Held<R> = Working<TestMessage, Meeting, R>;
+
 /// Lets two jobs meet. Returns how many workers saw the other, whether the first was pending until
 /// the second was started, and whether each job gave the digest of its message.
-fn meet<R>(rt: &R) -> (u64, bool, bool)
-where
-    R: Runtime + Abort,
-{
+fn meet<R: Runtime + Abort>(rt: &R) -> (u64, bool, bool) {
     let gate = Meeting::new(rt.alloc()).expect(rt, "memory");
     let (pending, equal) = digests(rt, &gate, &threaded(rt, &gate));
     (gate.met(), pending, equal)
@@ -108,10 +109,11 @@ where
 
 /// Starts two jobs before it waits for one, the second once a worker waits at the gate. Returns
 /// whether the first was pending until then, and whether each gave the digest of its message.
-fn digests<R>(rt: &R, gate: &Meeting, strategy: &Threaded<Meeting, R>) -> (bool, bool)
-where
-    R: Runtime + Abort,
-{
+fn digests<R: Runtime + Abort>(
+    rt: &R,
+    gate: &Meeting,
+    strategy: &Threaded<Meeting, R>,
+) -> (bool, bool) {
     let mut task = Task::new(rt).expect(rt, "memory");
     let wanted = (message(rt, 1).digest(), message(rt, 2).digest());
     let mut one = start(rt, strategy, 1);
@@ -121,23 +123,18 @@ where
     (pending, digests == wanted)
 }
 
-/// Starts the job of a message with this content.
-fn start<R>(
-    rt: &R,
-    strategy: &Threaded<Meeting, R>,
-    content: u8,
-) -> Working<TestMessage, Meeting, R>
-where
-    R: Runtime + Abort,
-{
-    strategy.start(message(rt, content)).expect(rt, "a job")
+/// Creates the message of the letter.
+fn message<R: Abort + AllocGlobal>(rt: &R, letter: u8) -> TestMessage {
+    message_of(rt.alloc(), letter).expect(rt, "memory")
+}
+
+/// Starts the job of the message of the letter.
+fn start<R: Runtime + Abort>(rt: &R, strategy: &Threaded<Meeting, R>, letter: u8) -> Held<R> {
+    strategy.start(message(rt, letter)).expect(rt, "a job")
 }
 
 /// Polls a job some times. Returns whether it stays pending, and nothing wakes its task.
-fn is_pending<R>(task: &mut Task, job: &mut Working<TestMessage, Meeting, R>) -> bool
-where
-    R: Runtime,
-{
+fn is_pending<R: Runtime>(task: &mut Task, job: &mut Held<R>) -> bool {
     for _ in 0..POLLS {
         let mut cx = task.solo.begin();
         let polled = job.poll(&mut cx);
@@ -151,18 +148,9 @@ where
 }
 
 /// Waits for the digest of a job.
-fn digest<R>(rt: &R, job: &mut Working<TestMessage, Meeting, R>) -> Digest
-where
-    R: Runtime + Abort,
-{
+fn digest<R: Runtime + Abort>(rt: &R, job: &mut Held<R>) -> Digest {
     let (_, digest) = block_on(rt, poll_fn(|cx| job.poll(cx))).expect(rt, "a task");
     digest
-}
-
-/// Returns a message with this content.
-fn message<R: Abort + AllocGlobal>(rt: &R, content: u8) -> TestMessage {
-    let bytes = vec![in rt.alloc(); content].expect(rt, "memory");
-    TestMessage::shared(rt.alloc(), bytes).expect(rt, "memory")
 }
 
 #[test]
@@ -171,29 +159,13 @@ fn threaded_uses_another_thread(rt: HostRuntime) {
 }
 
 /// Creates the strategy whose threads pass the gate.
-fn threaded<R>(rt: &R, gate: &Arc<Meeting>) -> Threaded<Meeting, R>
-where
-    R: Runtime + Abort,
-{
+fn threaded<R: Runtime + Abort>(rt: &R, gate: &Arc<Meeting>) -> Threaded<Meeting, R> {
     let gate = Arc::try_clone(gate).expect(rt, "memory");
     Threaded::new(rt.clone().expect(rt, "memory"), rt.alloc(), gate)
 }
 
-/// Starts a job whose thread waits at the gate.
-fn hold<R>(rt: &R, gate: &Arc<Meeting>) -> Working<TestMessage, Meeting, R>
-where
-    R: Runtime + Abort,
-{
-    let job = start(rt, &threaded(rt, gate), 7);
-    assert!(rt; gate.waits_for(1), "no thread is at the gate");
-    job
-}
-
 /// Starts a thread that passes the gate later.
-fn pass_later<R>(rt: &R, gate: &Arc<Meeting>) -> JoinHandle<()>
-where
-    R: Runtime + Abort,
-{
+fn pass_later<R: Runtime + Abort>(rt: &R, gate: &Arc<Meeting>) -> JoinHandle<()> {
     let gate = Arc::try_clone(gate).expect(rt, "memory");
     let own = rt.clone().expect(rt, "memory");
     let passing = thread::spawn(rt, move || {
@@ -205,12 +177,10 @@ where
 
 /// Drops a job while its thread waits at a gate. Returns whether somebody has met by then, and how
 /// many have at last.
-fn drop_held<R>(rt: &R) -> (bool, u64)
-where
-    R: Runtime + Abort,
-{
+fn drop_held<R: Runtime + Abort>(rt: &R) -> (bool, u64) {
     let gate = Meeting::new(rt.alloc()).expect(rt, "memory");
-    let job = hold(rt, &gate);
+    let job = start(rt, &threaded(rt, &gate), 7);
+    assert!(rt; gate.waits_for(1), "no thread is at the gate");
     let passing = pass_later(rt, &gate);
     drop(job);
     let met = gate.met() > 0;

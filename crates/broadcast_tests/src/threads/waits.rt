@@ -1,10 +1,10 @@
 //! Callers that wait for their reply while it comes, or their mailbox closes.
-use super::nodes::{digest, message};
 use super::patient::{LIMIT, pause};
+use crate::mailbox::taken::end;
+use crate::mailbox::talk::named;
+use crate::support::asked::{Caller, Given, How};
 use broadcast_core::{Closable, Digest, TestMessage};
-use broadcast_mailbox::buffered::{
-    Get, Incoming, Ingress, Mailbox, Message, Reply, Responder, Subscription, channel,
-};
+use broadcast_mailbox::buffered::{Incoming, Ingress, Mailbox, Subscription, channel};
 use commonware_broadcast::buffered::Runtime;
 use std::alloc::AllocGlobal;
 use std::num::NonZeroUsize;
@@ -26,66 +26,7 @@ fn ends<R: Runtime + Abort>(rt: &R) -> Ends<R> {
     channel(own, rt.alloc(), NonZeroUsize::MIN).expect(rt, "memory")
 }
 
-/// A future, and how its caller waits for it.
-#[derive(Drop)]
-enum Asked {
-    Get(Get<TestMessage>),
-    GetWithLimit(Get<TestMessage>),
-    Subscription(Subscription<TestMessage>),
-    SubscriptionWithLimit(Subscription<TestMessage>),
-}
-
-/// A limit that does not pass.
-fn long() -> Duration {
-    Duration::from_secs(100_000)
-}
-
-impl Asked {
-    /// Waits for the future. Returns whether it gives a message.
-    fn wait<R: Runtime>(self, rt: &R) -> bool {
-        match self {
-            Asked::Get(it) => it.wait(rt).is_some(),
-            Asked::GetWithLimit(it) => matches!(it.wait_timeout(rt, long()), Ok(Some(_))),
-            Asked::Subscription(it) => it.wait(rt).is_ok(),
-            Asked::SubscriptionWithLimit(it) => matches!(it.wait_timeout(rt, long()), Ok(Ok(_))),
-        }
-    }
-}
-
-/// Makes the call of this number, of four.
-fn ask<R: Runtime + Abort>(rt: &R, mailbox: &Mailbox<u64, TestMessage, R>, number: u64) -> Asked {
-    let digest = digest(rt, 1);
-    if number < 2 {
-        let get = mailbox.get(digest).expect(rt, "a get");
-        return if number == 0 {
-            Asked::Get(get)
-        } else {
-            Asked::GetWithLimit(get)
-        };
-    }
-    let subscription = mailbox.subscribe(digest).expect(rt, "a subscription");
-    if number == 2 {
-        Asked::Subscription(subscription)
-    } else {
-        Asked::SubscriptionWithLimit(subscription)
-    }
-}
-
-/// What a caller that waits was given: nothing yet, 1 without a message, or 2 with one.
-type Found = Arc<AtomicU64>;
-
-/// Starts a thread that waits for the future.
-fn start<R: Runtime + Abort>(rt: &R, asked: Asked, found: &Found) -> JoinHandle<()> {
-    let own = rt.clone().expect(rt, "memory");
-    let found = Arc::try_clone(found).expect(rt, "memory");
-    let waiting = thread::spawn(rt, move || {
-        let has_message = asked.wait(&own);
-        found.store(1 + u64::from(has_message), Ordering::SeqCst);
-    });
-    waiting.expect(rt, "a thread")
-}
-
-/// Waits until the caller was given something. Returns what.
+/// Waits until the caller was given something. Returns what, and 0 if it is given nothing.
 fn found_at_last(clock: &impl Clock, found: &AtomicU64) -> u64 {
     for _ in 0..LIMIT {
         let found = found.load(Ordering::SeqCst);
@@ -97,16 +38,27 @@ fn found_at_last(clock: &impl Clock, found: &AtomicU64) -> u64 {
     0
 }
 
-/// Lets a thread wait for the call of this number, and replies to it later, or closes the mailbox.
-/// Returns what the thread was given.
-fn given<R: Runtime + Abort>(rt: &R, number: u64, replies: bool) -> u64 {
+/// Lets a thread wait for a get or a subscribe, and replies to it later, or closes the mailbox.
+/// Returns what the thread was given: 1 without a message, or 2 with one.
+fn given<R: Runtime + Abort>(rt: &R, is_get: bool, how: How, replies: bool) -> u64 {
     let found = Arc::new(rt.alloc(), AtomicU64::new(0)).expect(rt, "memory");
     let (mailbox, ingress) = ends(rt);
-    let waiting = start(rt, ask(rt, &mailbox, number), &found);
+    let asked = mailbox.ask(is_get, named()).expect(rt, "a future");
+    let own = rt.clone().expect(rt, "memory");
+    let finds = Arc::try_clone(&found).expect(rt, "memory");
+    let waiting = thread::spawn(rt, move || {
+        let (_, given) = asked.given(&own, how);
+        finds.store(
+            1 + u64::from(given == Given::Letter(b'x')),
+            Ordering::SeqCst,
+        );
+    });
+    let waiting = waiting.expect(rt, "a thread");
     // So that it sleeps.
     thread::sleep(rt, Duration::from_millis(50));
     if replies {
-        reply(rt, &ingress);
+        let (_, request) = ingress.take().expect(rt, "a request");
+        assert!(rt; end(rt, Some(request), b'x'), "no request waits");
     } else {
         let _given_up = ingress.close();
     }
@@ -118,27 +70,14 @@ fn given<R: Runtime + Abort>(rt: &R, number: u64, replies: bool) -> u64 {
     given
 }
 
-/// Replies to the request that waits.
-fn reply<R: Runtime + Abort>(rt: &R, ingress: &Ingress<Incoming<u64, TestMessage>, R>) {
-    let reply = Reply::new(message(rt, 1));
-    match ingress.take() {
-        Some((_, Message::Get { responder, .. })) => {
-            let _is_sent = Responder::send(responder, Some(reply));
-        }
-        Some((_, Message::Subscribe { responder, .. })) => {
-            let _is_sent = Responder::send(responder, reply);
-        }
-        _ => panic!(rt; "no request waits"),
-    }
-}
-
 #[test]
 fn a_reply_and_a_close_wake_who_waits(rt: HostRuntime) {
-    for number in 0..4 {
-        assert_eq!(rt;
-            (given(&rt, number, true), given(&rt, number, false)),
-            (2, 1)
-        );
+    for is_get in [false, true] {
+        // The limit does not pass.
+        for how in [How::Wait, How::Limit(100_000_000)] {
+            let replied = given(&rt, is_get, how, true);
+            assert_eq!(rt; (replied, given(&rt, is_get, how, false)), (2, 1));
+        }
     }
 }
 
@@ -210,7 +149,7 @@ fn is_open<R: Runtime + Abort>(
     told: &mut Vec<Digest>,
 ) -> bool {
     let (mailbox, ingress) = ends;
-    let subscription = mailbox.subscribe(digest(rt, 1)).expect(rt, "a request");
+    let subscription = mailbox.subscribe(named()).expect(rt, "a request");
     let (_, request) = ingress.take().expect(rt, "a request that waits");
     *hand.lock(rt) = Some(subscription);
     !is_told(ingress, told) || !request.is_closed()

@@ -1,6 +1,7 @@
 //! Engines that can't be started, or can't wait once they are.
-use super::nodes::{Calls, Holds, config, ends, wait_for_close};
+use super::node::{closes, config, ends};
 use super::poor::Poor;
+use crate::support::asked::tell;
 use broadcast_core::{Codec, Digest, Digestible, RangeCfg, TestMessage};
 use commonware_broadcast::Feedback;
 use commonware_broadcast::buffered::{
@@ -71,26 +72,20 @@ where
 }
 
 /// Stops what was started. Returns how that ends, and whether its mailbox is closed.
-fn stop<R, C, H>(
+fn stop<R: Runtime + Abort>(
     rt: &R,
-    started: Result<H, StartError>,
-    mailbox: &C,
+    started: Started<TestMessage, R>,
     mail: &Mail<u64>,
-) -> (Ending, bool)
-where
-    R: Runtime + Abort,
-    C: Calls<R>,
-    H: Holds<R>,
-{
+) -> (Ending, bool) {
     match started {
-        Ok(handle) => {
-            handle.stops();
-            let is_closed = wait_for_close(rt, mailbox);
+        (Ok(handle), mailbox) => {
+            handle.stop();
+            let is_closed = closes(rt, &mailbox);
             // It ends also if it does not stop.
             mail.fail(rt).expect(rt, "memory");
-            (Ok(handle.joins(rt)), is_closed)
+            (Ok(handle.join(rt).cause()), is_closed)
         }
-        Err(error) => (Err(error), mailbox.broadcasts(rt, 1) == Feedback::Closed),
+        (Err(error), mailbox) => (Err(error), tell(rt, &mailbox) == Some(Feedback::Closed)),
     }
 }
 
@@ -98,8 +93,8 @@ where
 /// its mailbox is closed.
 fn ended<R: Runtime + Abort>(rt: &R, row: &Row) -> (Ending, bool) {
     let poor = Poor::new(rt).expect(rt, "memory");
-    let ((started, mailbox), mail) = start(&poor, RangeCfg::any(), row);
-    stop(&poor, started, &mailbox, &mail)
+    let (started, mail) = start(&poor, RangeCfg::any(), row);
+    stop(&poor, started, &mail)
 }
 
 #[test]

@@ -1,0 +1,11 @@
+//! What threads do with each other: started engines, digests on other threads, callers that wait.
+mod account;
+mod clients;
+mod gates;
+mod node;
+mod patient;
+mod poor;
+mod snapshots;
+mod started;
+mod starts;
+mod waits;

@@ -1,4 +1,0 @@
-//! Accounts of tallied requests.
-mod clients;
-mod endings;
-mod quiet;
