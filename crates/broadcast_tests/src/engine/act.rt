@@ -35,7 +35,7 @@ use std::sync::Wait;
 /// `!n` after a failure of the network;
 /// `r` all nodes run until they are pending, and `L2` the next 2 sends are lost;
 /// `1>0*a` the first send was this;
-/// `1w2` so many digests are awaited, `1v2` so many subscribes were dropped;
+/// `1w2` this many digests are awaited, `1v2` this many subscribes were dropped;
 /// `1#` all that is counted: the payloads of the peers 1 to 4; what was received with success,
 /// dropped and invalid; subscribes that were served and dropped; gets that found, did not, and were
 /// dropped; how many digests are awaited;

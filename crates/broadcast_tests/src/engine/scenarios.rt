@@ -63,10 +63,10 @@ static WAKES: [&[u8]; 6] = [
 ];
 
 /// What a mailbox was given reaches the network and its own callers.
-static PASSED: [&[u8]; 1] = [Row(
-    "broadcasts to others by another digest, and requests by it",
+static PASSED: [&[u8]; 1] = [
+    // Broadcasts to others by another digest, and requests by it.
     b"n2,1024,10 A12 1b624m=d 2b1n=n 1gd 1gm 1sd 1sn r 1>0624m 2>01n ?0m ?1- ?2m ?3n 2fm 2Fd",
-)];
+];
 
 fn order() -> &'static [&'static [u8]] {
     &ORDER

@@ -121,29 +121,17 @@ fn observe<R: Runtime + Abort>(rt: &R, copies: u64) -> (Option<StartError>, bool
     let poor = Poor::new(rt).expect(rt, "memory");
     let told = Arc::new(rt.alloc(), AtomicU64::new(0)).expect(rt, "memory");
     let observer = SeesEnd(Arc::try_clone(&told).expect(rt, "memory"));
-    let error = error_of(&poor, observer, copies);
-    (error, told.load(Ordering::SeqCst) == 1)
-}
-
-/// Starts an engine with an observer and this many copies of the runtime. Returns why it is not
-/// started.
-fn error_of<R: Runtime + Abort>(
-    rt: &Poor<R>,
-    observer: SeesEnd,
-    copies: u64,
-) -> Option<StartError> {
     let Ends {
         provider,
         sender,
         receiver,
         ..
-    } = ends(rt);
-    let config = config(provider, RangeCfg::any(), Sequential);
-    rt.supply.leave(copies, 9);
-    let started = config
-        .observed_by(observer)
-        .start::<TestMessage, _, _, _>(rt, (sender, receiver));
-    started.err()
+    } = ends(&poor);
+    let config = config(provider, RangeCfg::any(), Sequential).observed_by(observer);
+    poor.supply.leave(copies, 9);
+    let started = config.start::<TestMessage, _, _, _>(&poor, (sender, receiver));
+    let error = started.err();
+    (error, told.load(Ordering::SeqCst) == 1)
 }
 
 #[test]

@@ -99,7 +99,9 @@ pub fn act_of(word: &'static [u8]) -> Act {
 fn act_on(node: u64, word: &'static [u8]) -> Act {
     match word {
         [b'T', keys @ ..] => Act::Track(node, keys),
-        [b'b', keys @ .., letter, b'=', goes_by] => Act::BroadcastAs(node, to(keys), *letter, *goes_by),
+        [b'b', keys @ .., letter, b'=', goes_by] => {
+            Act::BroadcastAs(node, to(keys), *letter, *goes_by)
+        }
         [b'b', keys @ .., letter] => Act::Broadcast(node, to(keys), *letter),
         [b't', told] => Act::Told(node, feedback(*told)),
         [b's', letter] => Act::Subscribe(node, *letter),
@@ -109,7 +111,8 @@ fn act_on(node: u64, word: &'static [u8]) -> Act {
         [b'p', from, bytes @ ..] => Act::Payload(node, digit(*from), bytes),
         [b'c', from, letter] => Act::Comes(node, digit(*from), *letter),
         [b'#', totals @ ..] => {
-            let [a, b, c, d, success, dropped, invalid, served, gone, found, failed, left, waiters] = numbers(totals);
+            let [a, b, c, d, success, dropped, invalid, served, gone, found, failed, left, waiters] =
+                numbers(totals);
             let received = [success, dropped, invalid];
             Act::All(node, [a, b, c, d], received, [served, gone], [found, failed, left], waiters)
         }
