@@ -14,7 +14,7 @@ import sys
 import time
 from concurrent.futures import ThreadPoolExecutor
 
-from harness.common import TOP, call
+from harness.common import TOP, call, lanes
 from harness.faults import call_fault
 from harness.mutants import misplaced
 from harness.programs import fault_of
@@ -137,8 +137,8 @@ def tried(known, wanted, room):
     copy(room, mutants)
     runs = [(labels.get(it.over), by, False) for it in wanted for by in it.by]
     runs = [*dict.fromkeys(runs), *((it, by, True) for it in wanted for by in it.by)]
-    crates, processors = sorted({crate_of(by) for _, by, _ in runs}), len(os.sched_getaffinity(0))
-    with ThreadPoolExecutor(processors) as pool:
+    crates = sorted({crate_of(by) for _, by, _ in runs})
+    with ThreadPoolExecutor(lanes()) as pool:
         kept = dict(zip(crates, pool.map(lambda it: build(room, *it), crates)))
     print(f"{len(mutants)} mutants are built after {time.monotonic() - began:.0f} s", flush=True)
 
@@ -149,5 +149,5 @@ def tried(known, wanted, room):
         return label, is_wrong, is_refused(executable, by)
 
     # A mutant that hangs keeps no processor busy.
-    with ThreadPoolExecutor(2 * processors) as pool:
+    with ThreadPoolExecutor(2 * lanes()) as pool:
         yield from pool.map(judged, runs)

@@ -1,5 +1,6 @@
 """What the commands share: the top of the repository, what passed and failed, and calls of other commands."""
 
+import os
 import subprocess
 from pathlib import Path
 
@@ -38,6 +39,11 @@ def call(words, limit=None, **how):
     except subprocess.TimeoutExpired as late:
         return False, f"{(late.output or b'').decode(errors='replace')}\nit took more than {limit} s"
     return ran.returncode == 0, ran.stdout.decode(errors="replace")
+
+
+def lanes():
+    """How much may run at once: what RT_JOBS says, or as much as there are processors."""
+    return int(os.environ.get("RT_JOBS") or len(os.sched_getaffinity(0)))
 
 
 def tracked():

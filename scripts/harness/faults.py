@@ -7,16 +7,16 @@ from dataclasses import replace
 
 from harness.programs import first_difference
 from harness.refusing import FAILURES, NEVER, NOTHING, Refusal
-from harness.stored import Row
+from harness.stored import Row, ending
 
-MEMORY, REFUSED = b"memory\n", "refused memory"
+REFUSED = "refused memory"
 # Events that come first, one that grows nothing, and a line that ends a run before its first event.
 FIRST, GROWS_NOTHING, NO_EVENT = ("subscribe 7 61", f"payload 5 {'0' * 16}"), "get 7 61", "nonsense"
-# What a read or a write that fails is told as, but for `rates`, which reads nothing.
-READ_FAILED, WRITE_FAILED, RATES_FAILED = b"read failed\n", b"write failed\n", b"rates: standard output failed\n"
+# How a run ends that lacks memory, whose read or write fails, and one of `rates`, which reads nothing.
+MEMORY, READ_FAILED, WRITE_FAILED, RATES_FAILED = map(ending, ("memory", "read", "write", "rates-write"))
+RATES_ENDS = (b"", 0), ending("rates-memory"), ending("rates-thread")
 # The parts in which the longest stream of a row is moved.
 PARTS = 8
-RATES_FAULT = re.compile(rb"rates: (out of memory|no thread could be started)\n")
 RELAYED = re.compile(rb"relayed: (?:None|Some\(\[(.*)\]\)), (\d+) wait\n")
 # The most seconds of a run of `rates`, and how often it is tried until it takes no more: others may keep the machine busy.
 SECONDS, TRIES = 2, 4
@@ -76,7 +76,7 @@ def growth_fault(row, events, ran):
         return f"{ran.left} blocks are not freed"
     if ran.outcome == row.outcome:
         return None
-    if ran.status == 3 and ran.stderr == MEMORY and ran.refused:
+    if (ran.stderr, ran.status) == MEMORY and ran.refused:
         whole = not ran.stdout or ran.stdout.endswith(b"\n")
         return None if whole and row.stdout.startswith(ran.stdout) else "it prints no beginning of its output"
     if ran.status or ran.stderr or row.status:
@@ -124,11 +124,11 @@ def call_fault(row, refusal, ran, reads):
     """What is wrong with a run of which a read or a write went wrong, or `None`."""
     stdout, stderr, status = row.outcome
     if refusal.failure == "fails" and refusal.read != NEVER:
-        stdout, stderr, status = b"", READ_FAILED, 3
+        stdout, (stderr, status) = b"", READ_FAILED
     elif refusal.failure == "fails" and refusal.write != NEVER and status == 0:
         # What a failed write leaves in the buffer is written once more as the program ends.
         stdout = ran.stdout if stdout.startswith(ran.stdout) else b""
-        stderr, status = WRITE_FAILED if reads else RATES_FAILED, 3
+        stderr, status = WRITE_FAILED if reads else RATES_FAILED
     elif refusal.failure == "fails" and refusal.write != NEVER:
         stderr = ran.stderr if stderr.startswith(ran.stderr) else stderr
     if ran.status != status:
@@ -154,7 +154,7 @@ def try_calls(row, run, reads):
 
 def closed_pipe_fault(row, run, reads):
     ran = run(row, NOTHING, stdout=CLOSED_PIPE)
-    failed = (WRITE_FAILED if reads else RATES_FAILED, 3) if row.status == 0 else (row.stderr, row.status)
+    failed = (WRITE_FAILED if reads else RATES_FAILED) if row.status == 0 else (row.stderr, row.status)
     return None if (ran.stderr, ran.status) == failed else f"the status is {ran.status}, and {ran.stderr!r} is told"
 
 
@@ -182,6 +182,6 @@ def try_rates(args, run):
             ran = run(row, refusal)
             if ran.seconds <= SECONDS:
                 break
-        is_told = RATES_FAULT.fullmatch(ran.stderr) if ran.status == 3 else not (ran.status or ran.stderr)
+        is_told = (ran.stderr, ran.status) in RATES_ENDS
         fault = None if is_told and bool(ran.stdout) == (ran.status != 3) else f"{ran.status}: {ran.stderr!r}"
         yield refusal, fault if ran.seconds <= SECONDS else f"it took {ran.seconds:.1f} s"

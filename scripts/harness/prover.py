@@ -18,6 +18,9 @@ FN = re.compile(r"( *)(?:pub(?:\(\w+\))? )?(?:(?:unsafe|const|final|extern \"C\"
 IMPL = re.compile(r"impl\b")
 # What the prover says of a proof whose names are gone, or which it does not read, which shows nothing of a contract.
 LOST = re.compile(r"has no field|is not in scope|has no `|was not admitted|rattle does not read")
+# The goal of an error in a proof, and of a note on one that nothing proves.
+GOAL = re.compile(r"error:? *`?([\w+-]*)")
+OPEN = re.compile(r"^note: .*it is not proved that .*\(`([\w+-]+)`\)$", re.M)
 # What stands for no function's body.
 OUTSIDE = re.compile(r"\s*(///|//!|use |ghost use |#\[|(pub )?fn )")
 
@@ -104,22 +107,23 @@ def check(crate, changed):
 
 
 def refusal(crate, name, said):
-    """Whether the prover refuses the function by a goal of its own, and what it shows."""
+    """Whether the prover refuses the function by goals of its own, and its name with those goals, or why not."""
     line = re.search(rf"^fn {re.escape(crate)}::{re.escape(name)}: (.*)$", said, re.M)
     if not line:
         return False, f"{name} was not checked"
     if line[1].startswith("proved"):
         return False, f"{name} is proved"
-    if "did not prove" in line[1].partition("; it calls")[0]:
-        return True, name
     proof = re.escape(f"./proofs/{name.replace('::', '/')}/")
     # The reason often stands on the lines below the first.
     errors = re.findall(rf"^{proof}[^\n]*: error.*(?:\n[ \t].*)*", said, re.M)
-    if not errors:
-        return False, f"{name} only calls what is not proved"
-    if all(LOST.search(it) for it in errors):
-        return False, f"{name} is refused only since its proof cites a name that is gone"
-    return True, name
+    goals = re.findall(r"`([\w+-]+)`", line[1].partition("; it calls")[0].partition("did not prove")[2])
+    goals += [GOAL.search(it)[1] for it in errors if not LOST.search(it)]
+    # Where a proof has lost a name, a goal may stand open for that alone.
+    if not any(LOST.search(it) for it in errors):
+        goals += OPEN.findall(said[:line.start()].rpartition("\nfn ")[2])
+    if goals:
+        return True, ", ".join(dict.fromkeys([name, *goals]))
+    return False, f"{name} is refused only {'for a name that its proof cites' if errors else 'for what it calls'}"
 
 
 def tried(crate, mutants):

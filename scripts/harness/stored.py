@@ -14,8 +14,10 @@ COMMAND = re.compile(
 )
 WORD = re.compile(r"'([^']*)'|(\S+)")
 ESCAPE = re.compile(rb"\\x([0-9a-f]{2})|\\\(((?:[^\\)]|\\[nx])*)\)\*(\d+)|\\n")
-MARKS = ("$", "<", ">", "2>", "~", "?")
+MARKS = ("$", "<", ">", "~", "!")
 STREAMS = ("stdin", "stdout", "stderr")
+# The faults: name, status, text.
+FAULTS = re.findall(r"^([a-z-]+) (\d) (.*)$", (RUNS / "faults.txt").read_text(), re.M)
 
 
 @dataclass(frozen=True)
@@ -78,8 +80,15 @@ def parsed(name, lines):
     if command["same"]:
         stdout = (TOP / command["same"]).read_bytes()
     stack = int(command["stack"]) * 1024 if command["stack"] else None
-    status = int((said["?"] or [0])[0])
-    return Row(name, args, stdin, stdout, joined(said["2>"]), status, devices, stack, bool(said["~"]))
+    stderr, status = ending(*said["!"][0].split()) if said["!"] else (b"", 0)
+    stderr = b"" if command["stderr"] else stderr
+    return Row(name, args, stdin, stdout, stderr, status, devices, stack, bool(said["~"]))
+
+
+def ending(name, number=""):
+    """Standard error and the status of a run that ends with the fault of this name, at the line of this number."""
+    ((status, text),) = (rest for it, *rest in FAULTS if it == name)
+    return re.sub(r"\bN\b", str(number), text).encode() + b"\n", int(status)
 
 
 def programs_with_rows():

@@ -10,7 +10,6 @@ import hashlib
 from dataclasses import dataclass
 
 GREATEST = 2**64 - 1
-USAGE = "usage: replay OWN SIZE [MAX [BUDGET]]"
 
 
 class Syntax(Exception):
@@ -18,7 +17,7 @@ class Syntax(Exception):
 
 
 class Fault(Exception):
-    """The line on standard error if nothing runs. The status is 2."""
+    """The fault of `runs/faults.txt` with which nothing runs, and the number of its line."""
 
 
 @dataclass(frozen=True)
@@ -94,7 +93,7 @@ def read(line_of, data):
         try:
             said.append(line_of(line))
         except Syntax:
-            raise Fault(f"line {len(said) + 1}: syntax") from None
+            raise Fault("syntax", len(said) + 1) from None
     return said
 
 
@@ -103,9 +102,9 @@ def parse(words, data):
     try:
         numbers = [number(word) for word in words]
     except Syntax:
-        raise Fault(USAGE) from None
+        raise Fault("replay-usage") from None
     if len(numbers) not in (2, 3, 4):
-        raise Fault(USAGE)
+        raise Fault("replay-usage")
     return [*numbers, GREATEST, GREATEST][:4], read(event, data)
 
 

@@ -1,6 +1,6 @@
 """Runs that must end as those of a model."""
 
-from harness.stored import Row
+from harness.stored import Row, ending
 from models.replay import Fault
 
 
@@ -9,7 +9,7 @@ def row_of(model, name, args, stdin):
     try:
         settings, given = model.parse(args, stdin)
     except Fault as fault:
-        return Row(name, args, stdin, b"", f"{fault}\n".encode(), 2)
+        return Row(name, args, stdin, b"", *ending(*fault.args))
     lines = []
     for heading, part in model.parts(given):
         run = model.Run(*settings)

@@ -7,7 +7,6 @@ As the model of `replay`, on which it stands, this is written apart from the pro
 from models import replay
 from models.replay import Fault, Syntax, number
 
-USAGE = "usage: world SIZE NODES HOSTILE [BUDGET]"
 # The steps of a node that are an event of it, with the same words.
 EVENTS = (b"peers", b"broadcast", b"subscribe", b"get", b"cleanup")
 
@@ -19,15 +18,15 @@ def keys(word):
 def parse(words, data):
     """The size, the nodes, the hostile keys and the budget, and the steps. Raises `Fault`."""
     if len(words) not in (3, 4):
-        raise Fault(USAGE)
+        raise Fault("world-usage")
     size, nodes, hostile, *budget = words
     try:
         nodes, hostile = keys(nodes), [] if hostile == b"-" else keys(hostile)
         settings = number(size), nodes, hostile, *map(number, budget)
     except Syntax:
-        raise Fault(USAGE) from None
+        raise Fault("world-usage") from None
     if len(set(nodes)) < len(nodes) or set(nodes) & set(hostile):
-        raise Fault("shared key")
+        raise Fault("shared-key")
     return settings, replay.read(step, data)
 
 
