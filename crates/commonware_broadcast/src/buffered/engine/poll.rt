@@ -41,8 +41,7 @@ impl<P: PublicKey, M: Digestible + Codec, S, O, B, Q, T: Strategy<M>> Engine<P, 
         V: Receiver<P>,
         B: Provider<P>,
         Q: Requests<Message<P, M, S, G>>,
-        ensures polled { IsPoll
-            (format_of P.cmp M.Digest.cmp M.encoding M.digest_of M.reading)
+        ensures polled { IsPoll (format_of P.cmp M.Digest.cmp M.encoding M.digest_of M.reading)
             (over S.may_answer T.Job.is_of O.Outlet N.Sender V.Receiver B.Provider Q.Requests)
             (moment self.old network.old) (moment self.new network.new) result }
         ensures waits { OnPending result (Waits T.Job.needs V.Receiver B.Provider Q.Requests

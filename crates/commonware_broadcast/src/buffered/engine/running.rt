@@ -67,8 +67,7 @@ where
         G: Drop,
         O: Outlet<S, G, Reply<M>, Option<Reply<M>>>,
         Q: Requests<Message<P, M, S, G>>,
-        ensures took { ShowsPolls
-            (format_of P.cmp M.Digest.cmp M.encoding M.digest_of M.reading)
+        ensures took { ShowsPolls (format_of P.cmp M.Digest.cmp M.encoding M.digest_of M.reading)
             (over S.may_answer T.Job.is_of O.Outlet N.Sender V.Receiver B.Provider Q.Requests)
             W.seen (moment self.old.engine self.old.network)
             (moment self.new.engine self.new.network)
@@ -101,8 +100,7 @@ where
         O: Outlet<S, G, Reply<M>, Option<Reply<M>>>,
         Q: Requests<Message<P, M, S, G>>,
         R: Wait + Clock + AllocGlobal,
-        ensures took { ShowsPolls
-            (format_of P.cmp M.Digest.cmp M.encoding M.digest_of M.reading)
+        ensures took { ShowsPolls (format_of P.cmp M.Digest.cmp M.encoding M.digest_of M.reading)
             (over S.may_answer T.Job.is_of O.Outlet N.Sender V.Receiver B.Provider Q.Requests)
             W.seen (moment self.old.engine self.old.network)
             (moment self.new.engine self.new.network)
@@ -173,8 +171,7 @@ where
         O: Outlet<S, G, Reply<M>, Option<Reply<M>>> + Drop,
         Q: Requests<Message<P, M, S, G>> + Drop,
         R: Wait + Clock + RandomSource + AllocGlobal,
-        ensures runs { ShowsRun
-            (format_of P.cmp M.Digest.cmp M.encoding M.digest_of M.reading)
+        ensures runs { ShowsRun (format_of P.cmp M.Digest.cmp M.encoding M.digest_of M.reading)
             (over S.may_answer T.Job.is_of O.Outlet N.Sender V.Receiver B.Provider Q.Requests)
             W.seen (moment self.engine self.network) self.observer result }
     {
@@ -241,8 +238,7 @@ where
         O: Outlet<S, G, Reply<M>, Option<Reply<M>>> + Drop,
         Q: Requests<Message<P, M, S, G>> + Drop,
         R: Wait + Clock + AllocGlobal,
-        ensures ran { ShowsPollsTo
-            (format_of P.cmp M.Digest.cmp M.encoding M.digest_of M.reading)
+        ensures ran { ShowsPollsTo (format_of P.cmp M.Digest.cmp M.encoding M.digest_of M.reading)
             (over S.may_answer T.Job.is_of O.Outlet N.Sender V.Receiver B.Provider Q.Requests)
             W.seen (moment running.value.engine running.value.network)
             running.value.observer
