@@ -14,9 +14,9 @@ use Rattle.gossip.specs.declared.mesh.Log.{Log}
 use Rattle.gossip.specs.declared.mesh.Delivery.{Delivery}
 use Rattle.gossip.specs.declared.mesh.Event.{Event}
 use Rattle.gossip.specs.declared.mesh.Event.TheVariants.{Arrives, Exchange}
-use Rattle.gossip.specs.Spans.{is_in, is_had}
+use Rattle.gossip.specs.Spans.{is_in, is_had, with_had}
 use Rattle.gossip.specs.Outbox.{NoneOfFirst, IsNext, AreLater, lacking}
-use Rattle.gossip.specs.Mesh.{had_at, list_at, accounts, same, delivered_at, is_exchange, exchanges, HasSource, IsOf, AreOf, AreLists}
+use Rattle.gossip.specs.Mesh.{had_at, list_at, accounts, same, delivered_at, with_all, is_exchange, exchanges, HasSource, IsOf, AreOf, AreLists}
 use Rattle.gossip.specs.Steps.{first_lacking, sent_to, brought, span_of, Passes, Delivers, Applies}
 use Rattle.gossip.proofs.CatchingUp.{blank, is_lacking, is_not_lacking, head_falls}
 
@@ -170,6 +170,14 @@ module _ (e : Event) (old new : List Log) (d : Delivery) (t : Delivers e old new
         | false ↦ λ h. rw (t.set, others (λ (l : Log). l.had) [] old d.to n t.after (eqb-false d.to n h)) (sym (ends_false (is_had s (had_at old n))))
       ]) refl
 
+  pub covered_step : (n : ℕ) → had_at new n ≡ with_all (had_at old n) (delivered_at n (d ∷ []))
+  covered_step n =
+      (elim (nat_eq d.to n) as (λ b. nat_eq d.to n ≡ b → had_at new n ≡ with_all (had_at old n) (map (λ (x : Delivery). x.message) (if b then d ∷ [] else []))) [
+        | true ↦ λ h. subst (λ (k : ℕ). had_at new k ≡ with_all (had_at old k) (d.message ∷ [])) (eqb-true d.to n h)
+            (rw (t.set, written (λ (l : Log). l.had) [] old d.to t.before t.after t.there, read (λ (l : Log). l.had) [] old d.to t.before t.there) t.gains.had)
+        | false ↦ λ h. rw (t.set, others (λ (l : Log). l.had) [] old d.to n t.after (eqb-false d.to n h)) refl
+      ]) refl
+
   pub list_step : (n : ℕ) → list_at new n ≡ list_at old n ++ delivered_at n (d ∷ [])
   list_step n =
       (elim (nat_eq d.to n) as (λ b. nat_eq d.to n ≡ b → list_at new n ≡ list_at old n ++ map (λ (x : Delivery). x.message) (if b then d ∷ [] else [])) [
@@ -268,6 +276,7 @@ source_stays e old new d t events x h = elim h [
 
 pub record Holds (start : List Log) (events : List Event) (now : List Log) (all : List Delivery) (i : ℕ) : Type 0 where
   pub had : (n s : ℕ) → is_had s (had_at now n) ≡ (is_had s (had_at start n) || list_any (accounts n s) all)
+  pub covered : (n : ℕ) → had_at now n ≡ with_all (had_at start n) (delivered_at n all)
   pub listed : (n : ℕ) → list_at now n ≡ list_at start n ++ delivered_at n all
   pub once : IsDistinct same all
   pub source : All (HasSource now events) all
@@ -282,6 +291,7 @@ pub begins : (start : List Log) (events : List Event) → AreOf (length start) e
 unfolding IsDistinct
 begins start events of lists = record {
   had = λ n s. sym (ends_false (is_had s (had_at start n)));
+  covered = λ n. refl;
   listed = λ n. sym (append-nil (list_at start n));
   once = tt;
   source = All-nil (HasSource start events);
@@ -332,6 +342,10 @@ differs to s d (x ∷ xs) et es later h =
     let n = neither (accounts to s x) (list_any (accounts to s) xs) h in
     (rw (et, es) (apart x.to to x.message.prev x.message.stamp s (is_in s x.gap) later.0 n.0), differs to s d xs et es later.1 n.1)
 
+with_all-append : (had : List Span) (ms ns : List Listed) → with_all had (ms ++ ns) ≡ with_all (with_all had ms) ns
+with_all-append had [] ns = refl
+with_all-append had (m ∷ ms) ns = with_all-append (with_had (span_of m) had) ms ns
+
 later_end : (xs : List Listed) (m : Listed) → AreLater xs → m.prev < m.stamp → AreLater (xs ++ m ∷ [])
 later_end [] m later h zero n e = (let s : m ≡ n = cc in subst (λ (x : Listed). x.prev < x.stamp) s h)
 later_end [] m later h (suc k) n e = (let no : ⊥ = cc in absurd no)
@@ -349,6 +363,7 @@ module _ (start : List Log) (events : List Event) (now new : List Log) (all : Li
   passes : Passes e now new → Holds start events new all (i + 1)
   passes p = subst (λ (x : List Log). Holds start events x all (i + 1)) (sym p.same) (record {
     had = h.had;
+    covered = h.covered;
     listed = h.listed;
     once = h.once;
     source = h.source;
@@ -365,6 +380,7 @@ module _ (start : List Log) (events : List Event) (now new : List Log) (all : Li
   delivers : (d : Delivery) → Delivers e now new d → Holds start events new (all ++ d ∷ []) (i + 1)
   delivers d t = record {
     had = λ n s. rw (had_step e now new d t n s, h.had n s, list_any-append) (ends (is_had s (had_at start n)) (list_any (accounts n s) all) (accounts n s d));
+    covered = λ n. rw (covered_step e now new d t n, h.covered n, delivered_more n) (sym (with_all-append (had_at start n) (delivered_at n all) (delivered_at n (d ∷ []))));
     listed = λ n. rw (list_step e now new d t n, h.listed n, delivered_more n) (append_assoc (list_at start n) (delivered_at n all) (delivered_at n (d ∷ [])));
     once = distinct_push all d h.once (differs d.to d.message.stamp d all refl refl h.later
         (neither _ _ (sym (h.had d.to d.message.stamp) ∙ lacks)).1);

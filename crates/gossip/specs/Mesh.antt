@@ -2,7 +2,7 @@
 -- Logs of several relays, and what happens to them.
 use Rattle.std.specs.Prelude.{◌≡◌, ◌<◌, ◌⊎◌, ◌+◌, ℕ, Bool, true, false, nat_eq, ◌&&◌, ◌||◌, if◌then◌else◌, List, [], ◌∷◌, map, slice_get, slice_index_or, Contains, Some}
 use Rattle.std.specs.List.{filter}
-use Rattle.gossip.specs.Spans.{is_in, is_had}
+use Rattle.gossip.specs.Spans.{is_in, is_had, with_had}
 use Rattle.gossip.specs.Outbox.{AreLater}
 use Rattle.gossip.specs.declared.span.Span.{Span}
 use Rattle.gossip.specs.declared.outbox.Listed.{Listed}
@@ -30,6 +30,11 @@ same d e = nat_eq d.to e.to && nat_eq d.message.stamp e.message.stamp
 -- the messages that were delivered of the log
 abbrev pub delivered_at : ℕ → List Delivery → List Listed
 delivered_at n all = map (λ d. d.message) (filter (λ d. nat_eq d.to n) all)
+
+-- what is had with these messages, one after another
+abbrev pub with_all : List Span → List Listed → List Span
+with_all had [] = had
+with_all had (m ∷ ms) = with_all (with_had (record { from = m.prev; to = m.stamp }) had) ms
 
 -- whether the event is an exchange of these two
 abbrev pub is_exchange : ℕ → ℕ → Event → Bool

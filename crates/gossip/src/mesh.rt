@@ -3,7 +3,7 @@ ghost use Rattle.std.specs.Prelude.{◌≡◌, ◌≤◌, ◌<◌, ◌-◌, ◌|
 ghost use Rattle.std.specs.List.{IsDistinct, list_any};
 ghost use Rattle.gossip.specs.Spans.{is_had};
 ghost use Rattle.gossip.specs.Outbox.{lacking};
-ghost use Rattle.gossip.specs.Mesh.{had_at, list_at, accounts, same, delivered_at, exchanges, AreHad, HasSource, IsOf, AreOf, AreLists};
+ghost use Rattle.gossip.specs.Mesh.{had_at, list_at, accounts, same, delivered_at, with_all, exchanges, AreHad, HasSource, IsOf, AreOf, AreLists};
 ghost use Rattle.gossip.specs.Steps.{brought, Gains, Applies};
 
 use crate::coverage::Coverage;
@@ -96,6 +96,8 @@ pub fn run_mesh(
     requires lists { AreLists logs.old }
     ensures had { IfOk result (λ v. (n s : ℕ) → is_had s (had_at logs.new n)
         ≡ (is_had s (had_at logs.old n) || list_any (accounts n s) v.items)) }
+    ensures covered { IfOk result (λ v. (n : ℕ) → had_at logs.new n
+        ≡ with_all (had_at logs.old n) (delivered_at n v.items)) }
     ensures listed { IfOk result (λ v. (n : ℕ) → list_at logs.new n
         ≡ list_at logs.old n ++ delivered_at n v.items) }
     ensures once { IfOk result (λ v. IsDistinct same v.items) }
