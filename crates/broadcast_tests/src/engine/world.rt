@@ -130,7 +130,7 @@ impl<N: Polled, C: Caller> World<N, C> {
                 None => Ok(false),
             },
             _ => match self.around.get_mut(at) {
-                Some(around) => around.goes(alloc, at as u64 + 1, word),
+                Some(around) => around.goes(alloc, (at as u64).wrapping_add(1), word),
                 None => Ok(false),
             },
         }

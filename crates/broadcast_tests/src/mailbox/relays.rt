@@ -100,7 +100,7 @@ where
 
 /// Returns whether the first messages were handed over, and no other.
 fn were_handed(rt: &impl Wait, handed: &Mutex<Vec<u8>>, number: usize) -> bool {
-    handed.lock(rt).as_slice() == &[0, 1, 2][..number.min(3)]
+    handed.lock(rt).iter().eq([0, 1, 2].iter().take(number))
 }
 
 fn is_told(relayed: &Relayed, answers: &[u8], told: &[u8]) -> bool {
