@@ -84,6 +84,7 @@ pub async fn has_hello(stream: &TcpStream) -> std::io::Result<bool> {
 mod tests {
     use super::*;
     use std::sync::Arc;
+    use tokio::time::timeout;
 
     #[tokio::test]
     async fn a_handshake_begins_with_a_whole_short_record() {
@@ -106,7 +107,9 @@ mod tests {
             if is_one {
                 peer.write_all(&vec![1; record - 4]).await.unwrap();
             }
-            assert_eq!(has_hello(&stream).await.unwrap(), is_one, "{kind} {record} {message}");
+            // Who waits for more has not refused it.
+            let begins = timeout(Duration::from_secs(60), has_hello(&stream)).await;
+            assert_eq!(begins.unwrap().unwrap(), is_one, "{kind} {record} {message}");
         }
     }
 
