@@ -1,7 +1,7 @@
 //! The scenarios of the Rust crate that need no running thread, under their names there.
 //!
 //! The Rust crate `broadcast-engine` reads this file too: both engines do and count the same.
-static ROWS: [&[u8]; 17] = [
+static MESSAGES: [&[u8]; 5] = [
     // `test_broadcast`.
     b"n4,1024,10 A1234 1b*a r 1la 2la 3la 4la 1b*b r 1fb 2fb 3fb 4fb r 1#0,0,0,0,0,0,0,1,0,1,0,0,0 \
         2#2,0,0,0,2,0,0,1,0,1,0,0,0 3#2,0,0,0,2,0,0,1,0,1,0,0,0 4#2,0,0,0,2,0,0,1,0,1,0,0,0",
@@ -16,6 +16,9 @@ static ROWS: [&[u8]; 17] = [
     // `test_get_nonexistent`.
     b"n2,1024,10 A12 1sa 1sa 2sa -1 -2 1b*a r ?0a r 1#0,0,0,0,0,0,0,1,1,0,0,0,0 \
         2#1,0,0,0,1,0,0,0,1,0,0,0,0",
+];
+
+static LISTS: [&[u8]; 6] = [
     // `test_cache_eviction_single_peer`.
     b"n2,1024,3 A12 1b*a 1b*b 1b*c 1b*d r 2lb 2lc 2ld 2La r 1#0,0,0,0,0,0,0,0,0,0,0,0,0 \
         2#4,0,0,0,4,0,0,3,1,0,0,0,0",
@@ -34,6 +37,9 @@ static ROWS: [&[u8]; 17] = [
     // `test_dropped_waiters_for_missing_digest_are_cleaned_up`.
     b"n1,1024,10 A1 1sn 1sn 1Fb 1#0,0,0,0,0,0,0,0,0,0,1,0,1 -0 -1 1Fc r \
         1#0,0,0,0,0,0,0,0,2,0,2,0,0",
+];
+
+static PEERS: [&[u8]; 6] = [
     // `test_peer_set_update_evicts_disconnected_peer_buffers`.
     b"n3,1024,10 A123 1b*a r 2fa A23 2Fa r 1#0,0,0,0,0,0,0,0,0,0,0,0,0 2#1,0,0,0,1,0,0,0,0,1,1,0,0 \
         3#1,0,0,0,1,0,0,0,0,0,0,0,0",
@@ -53,6 +59,17 @@ static ROWS: [&[u8]; 17] = [
         2#1,0,1,0,2,0,0,0,0,2,0,0,0 3#1,0,0,0,1,0,0,0,0,0,0,0,0",
 ];
 
-pub fn rows() -> &'static [&'static [u8]] {
-    &ROWS
+/// Returns those of messages that are broadcast and asked for.
+pub fn messages() -> &'static [&'static [u8]] {
+    &MESSAGES
+}
+
+/// Returns those of lists, of recipients, and of waiters that hang up.
+pub fn lists() -> &'static [&'static [u8]] {
+    &LISTS
+}
+
+/// Returns those of peer sets that change, or come late.
+pub fn peer_sets() -> &'static [&'static [u8]] {
+    &PEERS
 }

@@ -86,7 +86,9 @@ fn passed() -> &'static [&'static [u8]] {
 
 #[test]
 fn nodes_do_what_the_rust_crate_does(rt: HostRuntime) {
-    all_go(&rt, scenario_rows::rows());
+    all_go(&rt, scenario_rows::messages());
+    all_go(&rt, scenario_rows::lists());
+    all_go(&rt, scenario_rows::peer_sets());
 }
 
 #[test]

@@ -11,8 +11,9 @@ use broadcast_core::{
 };
 use broadcast_mailbox::Feedback;
 use commonware_broadcast::buffered::{
-    Account, All, Books, Broadcasts, Config, EndCause, Engine, Get, MailboxReport, NetworkFailed,
-    Runtime, Status, Tally, Watch, WatchedEngine, WatchedMailbox, WatchedNode, drive,
+    Account, All, Books, Broadcasts, Config, EndCause, Engine, Get, MailboxReport, Movable,
+    NetworkFailed, Runtime, Status, Strategy, Tally, Watch, WatchedEngine, WatchedMailbox,
+    WatchedNode, drive,
 };
 use commonware_broadcast::mocks::{RecordingSender, Script, Slow};
 use futures::task::{Doorbell, Poll, Solo};
@@ -81,31 +82,39 @@ struct Left {
     settled: [u64; 4],
 }
 
-/// Lets an engine end, and picks the ledgers of its account. It is generic in the message, since
-/// the check refuses a function that makes an engine of a named one.
-fn run<M, V, R>(rt: &R, codec_config: M::Cfg, gives: u8, plan: Plan<M>, parts: NonZeroU32) -> Left
+/// Lets an engine end, and picks the ledgers of its account. It is generic in message and strategy,
+/// since the check refuses a function that makes an engine of named ones.
+fn run<M, T, V, R>(
+    rt: &R,
+    codec_config: M::Cfg,
+    strategy: T,
+    gives: u8,
+    plan: Plan<M>,
+    parts: NonZeroU32,
+) -> Left
 where
     M: Digestible + Codec + Send + Sync + 'static,
     M::Digest: Send + Sync + 'static,
     M::Cfg: Send + Drop + 'static,
+    T: Strategy<M> + Movable,
+    T::Job: Send + 'static,
     V: Watch<M::Digest> + Send + Sync + 'static,
     R: Runtime + Abort,
 {
     let (peer_provider, network) = sources(rt.alloc(), gives).expect(rt, "memory");
-    // The job of a payload is still pending after the polls before a start.
     let cfg = Config {
         mailbox_size: NonZeroUsize::MIN,
-        ..config(peer_provider, codec_config, Slow { polls: 9 })
+        ..config(peer_provider, codec_config, strategy)
     };
     let accepted = Blank::new(parts.get() as u64);
     let taken = Blank::new(1);
-    run_with::<M, V, R, Brand, Brand>(rt, cfg, network, plan, parts, accepted, taken)
+    run_with::<M, T, V, R, Brand, Brand>(rt, cfg, network, plan, parts, accepted, taken)
 }
 
 /// Lets an engine end, whose account has these ledgers.
-fn run_with<M, V, R, A, K>(
+fn run_with<M, T, V, R, A, K>(
     rt: &R,
-    cfg: Config<u64, M::Cfg, Sets, Slow>,
+    cfg: Config<u64, M::Cfg, Sets, T>,
     network: Network,
     plan: Plan<M>,
     parts: NonZeroU32,
@@ -116,6 +125,8 @@ where
     M: Digestible + Codec + Send + Sync + 'static,
     M::Digest: Send + Sync + 'static,
     M::Cfg: Send + Drop + 'static,
+    T: Strategy<M> + Movable,
+    T::Job: Send + 'static,
     V: Watch<M::Digest> + Send + Sync + 'static,
     R: Runtime + Abort,
     A: Account + Send + Sync + 'static,
@@ -126,7 +137,7 @@ where
     requires one { (K.all ≡ K.parts) × (K.parts ≡ 1) }
 {
     let copy = rt.clone().expect(rt, "memory");
-    let node: Result<WatchedNode<u64, M, Sets, Slow, R, A, K, V>, AllocError> = Engine::new_watched(
+    let node: Result<WatchedNode<u64, M, Sets, T, R, A, K, V>, AllocError> = Engine::new_watched(
         copy,
         rt.alloc(),
         cfg,
@@ -198,14 +209,15 @@ where
 type Report<M, R, A, K, V> = MailboxReport<u64, M, R, Books<A, K, V, <M as Digestible>::Digest>>;
 
 /// Polls the engine this many times.
-fn poll_often<M, V, R, A, K>(
+fn poll_often<M, T, V, R, A, K>(
     rt: &R,
     polls: usize,
-    engine: &mut WatchedEngine<u64, M, Sets, Slow, R, A, K, V>,
+    engine: &mut WatchedEngine<u64, M, Sets, T, R, A, K, V>,
     network: &mut Network,
 )
 where
     M: Digestible + Codec,
+    T: Strategy<M>,
     V: Watch<M::Digest>,
     R: Runtime + Abort,
     A: Account,
@@ -303,6 +315,11 @@ fn rows() -> &'static [Row] {
     &ROWS
 }
 
+/// The job of a payload is still pending after the polls before a start.
+fn slow() -> Slow {
+    Slow { polls: 9 }
+}
+
 /// Lets an engine of the row end.
 fn end_of<R: Runtime + Abort>(rt: &R, row: &Row) -> (EndCause, u64, [u64; 4]) {
     let [gives, polls, stops, lacks] = *row.0;
@@ -315,7 +332,7 @@ fn end_of<R: Runtime + Abort>(rt: &R, row: &Row) -> (EndCause, u64, [u64; 4]) {
         lacks_part: lacks == b'l',
     };
     let parts = NonZeroU32::new(2).unwrap();
-    let left = run::<TestMessage, All, R>(rt, RangeCfg::any(), gives, plan, parts);
+    let left = run::<TestMessage, _, All, R>(rt, RangeCfg::any(), slow(), gives, plan, parts);
     (left.cause, left.taken, left.settled)
 }
 
@@ -343,7 +360,7 @@ where
         lacks_part: false,
     };
     let parts = NonZeroU32::new(4).unwrap();
-    let left = run::<TestMessage, V, R>(rt, RangeCfg::any(), b'-', plan, parts);
+    let left = run::<TestMessage, _, V, R>(rt, RangeCfg::any(), slow(), b'-', plan, parts);
     assert!(rt;
         left.cause == EndCause::Stopped && sum(&left.settled) == left.counted,
         "{left:?}"

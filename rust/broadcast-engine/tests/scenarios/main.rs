@@ -31,7 +31,9 @@ async fn all_go(rows: &[&'static [u8]]) {
 
 #[tokio::test(start_paused = true)]
 async fn nodes_do_what_the_rust_crate_does() {
-    all_go(scenario_rows::rows()).await;
+    all_go(scenario_rows::messages()).await;
+    all_go(scenario_rows::lists()).await;
+    all_go(scenario_rows::peer_sets()).await;
 }
 
 #[tokio::test(start_paused = true)]
