@@ -333,7 +333,8 @@ fn end_of<R: Runtime + Abort>(rt: &R, row: &Row) -> (EndCause, u64, [u64; 4]) {
     };
     let parts = NonZeroU32::new(2).unwrap();
     let left = run::<TestMessage, _, All, R>(rt, RangeCfg::any(), slow(), gives, plan, parts);
-    (left.cause, left.taken, left.settled)
+    let settled = left.settled;
+    (left.cause, left.taken, settled)
 }
 
 #[test]
@@ -365,7 +366,8 @@ where
         left.cause == EndCause::Stopped && sum(&left.settled) == left.counted,
         "{left:?}"
     );
-    (left.told, left.counted, left.settled[2])
+    let told = left.told;
+    (told, left.counted, left.settled[2])
 }
 
 #[test]
