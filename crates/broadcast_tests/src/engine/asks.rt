@@ -112,7 +112,11 @@ impl<M: Digestible> Requests<Wanted<M>> for Telling<M> {
 
     fn poll_next(&mut self, cx: &mut Context<'_>) -> Poll<Request<Wanted<M>>> {
         match self.0.request.replace(None) {
-            Some(message) => Poll::Ready(asked(message)),
+            Some(message) => Poll::Ready(Request {
+                ticket: 0,
+                message,
+                counted: false,
+            }),
             None => cx.yield_now(),
         }
     }

@@ -77,15 +77,16 @@ fn stop<R: Runtime + Abort>(
     started: Started<TestMessage, R>,
     mail: &Mail<u64>,
 ) -> (Ending, bool) {
-    match started {
-        (Ok(handle), mailbox) => {
+    let (outcome, mailbox) = started;
+    match outcome {
+        Ok(handle) => {
             handle.stop();
             let is_closed = closes(rt, &mailbox);
             // It ends also if it does not stop.
             mail.fail(rt).expect(rt, "memory");
             (Ok(handle.join(rt).cause()), is_closed)
         }
-        (Err(error), mailbox) => (Err(error), tell(rt, &mailbox) == Some(Feedback::Closed)),
+        Err(error) => (Err(error), tell(rt, &mailbox) == Some(Feedback::Closed)),
     }
 }
 
