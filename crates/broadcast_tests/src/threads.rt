@@ -5,6 +5,7 @@ mod gates;
 mod node;
 mod patient;
 mod poor;
+mod quiet;
 mod snapshots;
 mod started;
 mod starts;

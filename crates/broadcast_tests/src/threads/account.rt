@@ -4,18 +4,16 @@ ghost use Rattle.std.specs.NonZero.{non_zero_u32_get};
 
 use super::clients::{NOBODYS, Nobodys, Told, join_all, messages, start_all, sum, wait_for};
 use super::node::config;
-use crate::support::message::{digested, payload, peers};
+use super::quiet::{Sets, Void, Wire};
+use crate::support::message::digested;
 use crate::support::words::number;
-use broadcast_core::{
-    Codec, Digest, Digested, Digestible, Items, RangeCfg, Recipients, Set, TestMessage,
-};
+use broadcast_core::{Codec, Digest, Digested, Digestible, RangeCfg, Recipients, TestMessage};
 use broadcast_mailbox::Feedback;
 use commonware_broadcast::buffered::{
     Account, All, Books, Broadcasts, Config, EndCause, Engine, Get, MailboxReport, Movable,
-    NetworkFailed, Runtime, Status, Strategy, Tally, Watch, WatchedEngine, WatchedMailbox,
-    WatchedNode, drive,
+    Runtime, Status, Strategy, Tally, Watch, WatchedEngine, WatchedMailbox, WatchedNode, drive,
 };
-use commonware_broadcast::mocks::{RecordingSender, Script, Slow};
+use commonware_broadcast::mocks::Slow;
 use futures::task::{Doorbell, Poll, Solo};
 use std::alloc::{AllocError, AllocGlobal, Global};
 use std::marker::Brand;
@@ -25,33 +23,13 @@ use std::sync::atomic::AtomicU64;
 use std::sync::ledger::Blank;
 use std::sync::{Arc, Wait};
 
-type Sets = Script<Option<Set<u64>>>;
-
 /// The network of a node.
-type Network = (
-    RecordingSender<u64>,
-    Script<Result<(u64, Items<u8>), NetworkFailed>>,
-);
+type Network = (Void, Wire);
 
-/// Creates the sources of a node, which give nothing, at the second poll the end of the peer sets
-/// with `e`, or a peer, a payload of it, and that the network failed with `p`.
+/// Creates the sources of a node, which give what the letter says.
 fn sources(alloc: Global, gives: u8) -> Result<(Sets, Network), AllocError> {
-    let (mut sets, mut payloads) = (Vec::new(alloc), Vec::new(alloc));
-    match gives {
-        b'e' => {
-            sets.push(Poll::Pending)?;
-            sets.push(Poll::Ready(None))?;
-        }
-        b'p' => {
-            sets.push(Poll::Ready(Some(peers(alloc, b"5")?)))?;
-            let bytes = Items::from_vec(payload(alloc, b'a')?);
-            payloads.push(Poll::Ready(Ok((5, bytes))))?;
-            payloads.push(Poll::Ready(Err(NetworkFailed)))?;
-        }
-        _ => {}
-    }
-    let network = (RecordingSender::new(alloc), Script::new(payloads));
-    Ok((Script::new(sets), network))
+    let wire = Wire::new(alloc, gives)?;
+    Ok((Sets::new(alloc, gives)?, (Void, wire)))
 }
 
 /// What an engine does before its account is settled.
