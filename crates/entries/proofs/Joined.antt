@@ -1,5 +1,5 @@
 -- What a look-up in one part, and a change of one, are of all parts.
-use Rattle.std.proofs.Common.{Bool, true, false, cond, ◌≡◌, ℕ, zero, suc, ◌+◌, ◌<◌, List, [], ◌∷◌, ◌++◌, length, Some, None, refl, sym, ap, ◌∙◌, subst, arith, add-zero}
+use Rattle.std.proofs.Common.{Bool, true, false, cond, ◌≡◌, ℕ, zero, suc, ◌+◌, ◌<◌, List, [], ◌∷◌, ◌++◌, length, Some, None, refl, sym, ap, ◌∙◌, subst, arith, add-zero, length-set}
 use Rattle.std.specs.Prelude.{slice_index_or, slice_set}
 use Rattle.std.specs.Cmp.{IsTotalOrder}
 use Rattle.std.specs.List.{AllByRecursion, slice_get}
@@ -10,14 +10,14 @@ use Rattle.std.specs.Ordering.{eq_by_cmp, is_eq, match_ordering, ordering_revers
 use Rattle.std.specs.declared.cmp.Ordering.{Ordering}
 use Rattle.std.specs.declared.cmp.Ordering.TheVariants.{Less, Equal, Greater}
 use Rattle.std.proofs.lemmas.Map.{NonePasses, lookup-none}
-use Rattle.entries.specs.Parts.{joined, IsPart, ArePartsFrom}
+use Rattle.entries.specs.Parts.{joined, number, IsPart, ArePartsFrom, AreParts}
 
 -- what holds of two lists holds of one after the other
 all_both : {X : Type 0} (P : X → Type 0) (xs ys : List X) → AllByRecursion P xs → AllByRecursion P ys → AllByRecursion P (xs ++ ys)
 all_both P [] ys all more = more
 all_both P (x ∷ xs) ys all more = (all.0, all_both P xs ys all.1 more)
 
-all_mapped : {X : Type 0} (P Q : X → Type 0) → ((x : X) → P x → Q x) → (xs : List X) → AllByRecursion P xs → AllByRecursion Q xs
+pub all_mapped : {X : Type 0} (P Q : X → Type 0) → ((x : X) → P x → Q x) → (xs : List X) → AllByRecursion P xs → AllByRecursion Q xs
 all_mapped P Q f [] all = tt
 all_mapped P Q f (x ∷ xs) all = (f x all.0, all_mapped P Q f xs all.1)
 
@@ -187,30 +187,40 @@ module _ {K V : Type 0} {R : K → K → Ordering} {leading : K → ℕ} (o : Is
       at rest [] ordered led = rest
       at rest (e ∷ es) ordered led = (more_below es e.0 led.0 ordered.0, at rest es ordered.1 led.1)
 
+module _ {K V : Type 0} {R : K → K → Ordering} {leading : K → ℕ} where
   -- a part that changes stays one
-  pub parts-set : (byte i : ℕ) (parts : List (BTreeMap K V)) (now : BTreeMap K V) → IsPart R leading (byte + i) now.entries → ArePartsFrom R leading byte parts → ArePartsFrom R leading byte (slice_set parts i now)
+  parts-set : (byte i : ℕ) (parts : List (BTreeMap K V)) (now : BTreeMap K V) → IsPart R leading (byte + i) now.entries → ArePartsFrom R leading byte parts → ArePartsFrom R leading byte (slice_set parts i now)
   parts-set byte i [] now is are = tt
   parts-set byte zero (p ∷ parts) now is are = (rw add-zero at is, are.1)
   parts-set byte (suc i) (p ∷ parts) now is are = (are.0, parts-set (suc byte) i parts now (subst (λ n. IsPart R leading n now.entries) (omega arith) is) are.1)
 
   -- the part at an index
-  pub part-at : (byte i : ℕ) (parts : List (BTreeMap K V)) (part : BTreeMap K V) → slice_get parts i ≡ Some part → ArePartsFrom R leading byte parts → IsPart R leading (byte + i) part.entries
+  part-at : (byte i : ℕ) (parts : List (BTreeMap K V)) (part : BTreeMap K V) → slice_get parts i ≡ Some part → ArePartsFrom R leading byte parts → IsPart R leading (byte + i) part.entries
   part-at byte i [] part there are = cc
   part-at byte zero (p ∷ parts) part there are = let same : p ≡ part = cc in rw add-zero (subst (λ (m : BTreeMap K V). IsPart R leading byte m.entries) same are.0)
   part-at byte (suc i) (p ∷ parts) part there are = subst (λ n. IsPart R leading n part.entries) (omega arith) (part-at (suc byte) i parts part there are.1)
 
-  -- a part that has the same entries changes nothing
-  pub same-joined : (i : ℕ) (parts : List (BTreeMap K V)) (part now : BTreeMap K V) → slice_get parts i ≡ Some part → now.entries ≡ part.entries → joined (slice_set parts i now) ≡ joined parts
-  same-joined i [] part now there same = refl
-  same-joined zero (p ∷ parts) part now there same = let one : p ≡ part = cc in ap (λ es. es ++ joined parts) (same ∙ ap (λ m. m.entries) (sym one))
-  same-joined (suc i) (p ∷ parts) part now there same = ap (λ es. p.entries ++ es) (same-joined i parts part now there same)
+-- a part that has the same entries changes nothing
+pub same-joined : {K V : Type 0} (i : ℕ) (parts : List (BTreeMap K V)) (part now : BTreeMap K V) → slice_get parts i ≡ Some part → now.entries ≡ part.entries → joined (slice_set parts i now) ≡ joined parts
+same-joined i [] part now there same = refl
+same-joined zero (p ∷ parts) part now there same = let one : p ≡ part = cc in ap (λ es. es ++ joined parts) (same ∙ ap (λ m. m.entries) (sym one))
+same-joined (suc i) (p ∷ parts) part now there same = ap (λ es. p.entries ++ es) (same-joined i parts part now there same)
 
-  -- parts that are empty
-  pub empty-parts : (byte : ℕ) (parts : List (BTreeMap K V)) → AllByRecursion (λ part. part.entries ≡ []) parts → ArePartsFrom R leading byte parts
-  unfolding IsStrictlySortedBy
-  empty-parts byte [] empty = tt
-  empty-parts byte (part ∷ parts) empty = (rw empty.0 (record { ordered = tt; led = tt }), empty-parts (suc byte) parts empty.1)
+module _ {K V : Type 0} {R : K → K → Ordering} {leading : K → ℕ} (table : List ℕ) (parts : List (BTreeMap K V)) (i : ℕ) (are : AreParts R leading table parts) where
+  -- the keys of a part have its bytes
+  pub is-part : (part : BTreeMap K V) → slice_get parts i ≡ Some part → IsPart R (λ k. number table (leading k)) i part.entries
+  is-part part lies =
+      let is : 0 + i ≡ i = omega arith in
+      subst (λ n. IsPart R (λ k. number table (leading k)) n part.entries) is (part-at {R = R} {leading = λ k. number table (leading k)} 0 i parts part lies are.placed)
 
-pub empty-joined : {K V : Type 0} (parts : List (BTreeMap K V)) → AllByRecursion (λ part. part.entries ≡ []) parts → joined parts ≡ []
-empty-joined [] empty = refl
-empty-joined (part ∷ parts) empty = ap (λ es. es ++ joined parts) empty.0 ∙ empty-joined parts empty.1
+  -- and so may any others with these bytes
+  pub are-set : (now : BTreeMap K V) → IsPart R (λ k. number table (leading k)) i now.entries → AreParts R leading table (slice_set parts i now)
+  are-set now is =
+      let from : i ≡ 0 + i = omega arith in
+      let size = length-set parts i now in
+      record {
+        whole = are.whole;
+        ascends = are.ascends;
+        there = λ byte. let least = are.there byte in omega arith;
+        placed = parts-set {R = R} {leading = λ k. number table (leading k)} 0 i parts now (subst (λ n. IsPart R (λ k. number table (leading k)) n now.entries) from is) are.placed;
+      }

@@ -17,3 +17,4 @@ pub mod Opening
 pub mod Overlaying
 pub mod Joined
 pub mod Parted
+pub mod Splitting
