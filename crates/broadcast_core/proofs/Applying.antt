@@ -21,11 +21,10 @@ use Rattle.broadcast_core.specs.Sent.{sent, sent_at}
 use Rattle.broadcast_core.specs.declared.codec.CodecError.{CodecError}
 use Rattle.broadcast_core.specs.Codec.{IsRefusal}
 use Rattle.broadcast_core.specs.Setting.{all_taken}
-use Rattle.broadcast_core.specs.declared.ordered.Recipients.{Recipients}
 use Rattle.broadcast_core.specs.declared.outcome.Outcome.{Outcome}
 use Rattle.broadcast_core.specs.declared.event.Event.{Event}
-use Rattle.broadcast_core.specs.declared.event.Event.TheVariants.{Peers, Broadcast, Payload, Subscribe, Get, Cleanup}
-use Rattle.broadcast_core.specs.declared.event.Cause.TheVariants.{Memory, Unencodable}
+use Rattle.broadcast_core.specs.declared.event.Event.TheVariants.{Peers, Payload, Subscribe, Get, Cleanup}
+use Rattle.broadcast_core.specs.declared.event.Cause.TheVariants.{Memory}
 use Rattle.broadcast_core.specs.declared.event.Answer.TheVariants as answer
 use Rattle.broadcast_core.proofs.Distinct.{by_test}
 use Rattle.broadcast_core.proofs.Lawful.{IsLawful}
@@ -58,13 +57,6 @@ module _ {P M D : Type 0} {s : Setting P M D} {same : Same P D} (is : s.same ≡
   pub Applies-refused : (e : Event P M D) {new : Content P M D ℕ} → new ≡ old → may_allocate s e past ≡ true → Applies s past e new (answer.Refused Memory) []
   Applies-refused e stays memory = record {
     answered = inr (refl, memory);
-    content = subst (HasContent s past) (sym stays) has;
-    sent = sym (append-nil (sent s past));
-  }
-
-  pub Applies-unencodable : (r : Recipients P) (c : Carried M D) {new : Content P M D ℕ} → new ≡ old → s.encoding c.message ≡ None → Applies s past (Broadcast r c) new (answer.Refused Unencodable) []
-  Applies-unencodable r c stays none = record {
-    answered = inl (rw none refl);
     content = subst (HasContent s past) (sym stays) has;
     sent = sym (append-nil (sent s past));
   }

@@ -1,9 +1,8 @@
 -- Lists of which no two elements are equal, and lists without an element.
-use Rattle.std.proofs.Common.{◌≡◌, ℕ, suc, ◌<◌, ◌≤◌, Bool, true, false, not, ◌||◌, cond, List, [], ◌∷◌, ◌++◌, length, Some, None, refl, sym, ap, ◌∙◌, arith, one-add}
-use Rattle.std.specs.Prelude.{nat_lt}
-use Rattle.std.specs.List.{list_any, filter, IsDistinct, AllByRecursion, remove, position, position_or_len}
+use Rattle.std.proofs.Common.{◌≡◌, suc, ◌<◌, ◌≤◌, Bool, true, false, not, ◌||◌, cond, List, [], ◌∷◌, ◌++◌, length, Some, None, refl, sym, ap, ◌∙◌, arith}
+use Rattle.std.specs.List.{list_any, filter, IsDistinct, AllByRecursion, position, position_or_len}
 use Rattle.std.specs.Cmp.{IsEquivalence}
-use Rattle.std.proofs.lemmas.Bool.{lt-ltb, le-ltb}
+use Rattle.std.proofs.lemmas.Bool.{lt-ltb}
 use Rattle.broadcast_core.specs.Content.{among, without}
 
 pub or_false : (a b : Bool) → (a || b) ≡ false → (a ≡ false) × (b ≡ false)
@@ -13,13 +12,6 @@ or_false false b h = (refl, h)
 pub length-filter_le : {X : Type 0} (p : X → Bool) (xs : List X) → length (filter p xs) ≤ length xs
 length-filter_le p [] = omega arith
 length-filter_le p (x ∷ xs) = elim (p x) as (λ b. length (cond b (x ∷ filter p xs) (filter p xs)) ≤ suc (length xs)) [ true ↦ omega (arith, length-filter_le p xs) | false ↦ omega (arith, length-filter_le p xs) ]
-
--- by what a test answers
-pub flip-not : (a b : Bool) → a ≡ not b → b ≡ not a
-flip-not true true h = cc
-flip-not true false h = refl
-flip-not false true h = refl
-flip-not false false h = cc
 
 pub by_test : {P : Type 0} (b : Bool) → (b ≡ true → P) → (b ≡ false → P) → P
 by_test true at_true at_false = at_true refl
@@ -68,10 +60,6 @@ all_not : {X : Type 0} (p : X → Bool) (xs : List X) → AllByRecursion (λ y. 
 all_not p [] h = tt
 all_not p (x ∷ xs) h = (ap not h.0, all_not p xs h.1)
 
-place_none : {X : Type 0} (p : X → Bool) (xs : List X) → list_any p xs ≡ false → position_or_len p xs ≡ length xs
-place_none p [] h = refl
-place_none p (x ∷ xs) h = let both = or_false (p x) (list_any p xs) h in rw both.0 (omega (arith, place_none p xs both.1))
-
 place_some : {X : Type 0} (p : X → Bool) (xs : List X) → list_any p xs ≡ true → position_or_len p xs < length xs
 place_some p [] h = absurd cc
 place_some p (x ∷ xs) h = by_test (p x)
@@ -84,23 +72,10 @@ none-found p xs h = by_test (list_any p xs)
     (λ e. let found : position p xs ≡ Some (position_or_len p xs) = rw (lt-ltb _ _ (place_some p xs e)) refl in absurd cc)
     (λ e. e)
 
-pub any-found : {X : Type 0} (p : X → Bool) (xs : List X) (i : ℕ) → position p xs ≡ Some i → list_any p xs ≡ true
-any-found p xs i h = by_test (list_any p xs)
-    (λ e. e)
-    (λ e. let lost : nat_lt (position_or_len p xs) (length xs) ≡ false = le-ltb _ _ (omega (arith, place_none p xs e)) in
-    let none : position p xs ≡ None = rw lost refl in absurd cc)
-
-pub place-found : {X : Type 0} (p : X → Bool) (xs : List X) (i : ℕ) → position p xs ≡ Some i → i ≡ position_or_len p xs
-place-found p xs i h =
-    let found : position p xs ≡ Some (position_or_len p xs) = rw (lt-ltb _ _ (place_some p xs (any-found p xs i h))) refl in cc
-
 module _ {D : Type 0} {same : D → D → Bool} (laws : IsEquivalence same) where
   -- equal elements have equal tests
   pub among-equal : (d e : D) (xs : List D) → same d e ≡ true → among same d xs ≡ among same e xs
   among-equal d e xs h = list_any-same (same d) (same e) xs (λ x. laws.congr d e x h)
-
-  pub same_turned : (d e : D) → same d e ≡ true → same e d ≡ true
-  same_turned d e h = laws.symm e d ∙ h
 
   pub IsDistinct-front : (d : D) (xs : List D) → among same d xs ≡ false → IsDistinct same xs → IsDistinct same (d ∷ xs)
   unfolding IsDistinct
@@ -143,12 +118,6 @@ module _ {D : Type 0} {same : D → D → Bool} (laws : IsEquivalence same) wher
   pub IsDistinct-moved : (d : D) (xs : List D) → IsDistinct same xs → IsDistinct same (d ∷ without same d xs)
   IsDistinct-moved d xs h = IsDistinct-front d (without same d xs) (among-without d xs) (IsDistinct-filter (λ x. not (same d x)) xs h)
 
-  -- moving an element to the front keeps what is there
-  pub among-moved : (d e : D) (xs : List D) → among same d xs ≡ true → among same e (d ∷ without same d xs) ≡ among same e xs
-  among-moved d e xs h = by_test (same d e)
-      (λ eq. rw (same_turned d e eq) (sym (sym (among-equal d e xs eq) ∙ h)))
-      (λ eq. rw (laws.symm e d ∙ eq) (among-without_other d e xs eq))
-
   -- the last of a distinct list is not among the others
   last_apart : (x d : D) (xs : List D) → IsDistinct same (x ∷ (xs ++ d ∷ [])) → (among same x xs ≡ false) × (same x d ≡ false)
   last_apart x d xs h =
@@ -166,29 +135,9 @@ module _ {D : Type 0} {same : D → D → Bool} (laws : IsEquivalence same) wher
   IsDistinct-init [] d h = tt
   IsDistinct-init (x ∷ xs) d h = IsDistinct-front x xs (last_apart x d xs h).0 (IsDistinct-init xs d h.1)
 
-  -- taking out the place at which it stands first
-  first_removed : (d : D) (xs : List D) → IsDistinct same xs → among same d xs ≡ true → remove xs (position_or_len (same d) xs) ≡ without same d xs
-  first_removed d [] k h = absurd cc
-  first_removed d (x ∷ xs) k h = by_test (same d x)
-      (λ eq. rw eq (sym (without-absent d xs (among-equal d x xs eq ∙ among-head x xs k))))
-      (λ eq. let rest : among same d xs ≡ true = sym (ap (λ b. b || among same d xs) eq) ∙ h in
-      rw (eq, one-add) (ap (λ ys. x ∷ ys) (first_removed d xs (IsDistinct-rest x xs k) rest)))
-
-  -- where a search found it
-  pub remove-found : (d : D) (xs : List D) (i : ℕ) → IsDistinct same xs → position (same d) xs ≡ Some i → remove xs i ≡ without same d xs
-  remove-found d xs i k h = rw (place-found (same d) xs i h) (first_removed d xs k (any-found (same d) xs i h))
-
   -- a digest that moves makes the list no longer
   pub length-moved : (d : D) (xs : List D) → among same d xs ≡ true → length (d ∷ without same d xs) ≤ length xs
   length-moved d [] h = absurd cc
   length-moved d (x ∷ xs) h = by_test (same d x)
       (λ e. rw e (omega (arith, length-filter_le (λ y. not (same d y)) xs)))
       (λ e. let rest : among same d xs ≡ true = sym (ap (λ b. b || among same d xs) e) ∙ h in rw e (omega (arith, length-moved d xs rest)))
-
-  -- an element is not among those before it
-  pub among-before : (xs : List D) (d : D) (ys : List D) → IsDistinct same (xs ++ d ∷ ys) → among same d xs ≡ false
-  among-before [] d ys h = refl
-  among-before (x ∷ xs) d ys h =
-      let both = or_false (among same x xs) (same x d || among same x ys) (sym (list_any-append (same x) xs (d ∷ ys)) ∙ among-head x (xs ++ d ∷ ys) h) in
-      let apart : same d x ≡ false = laws.symm d x ∙ (or_false (same x d) (among same x ys) both.1).0 in
-      rw apart (among-before xs d ys (IsDistinct-rest x (xs ++ d ∷ ys) h))

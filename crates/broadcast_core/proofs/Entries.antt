@@ -1,10 +1,9 @@
 -- Entries of maps, after changes at one key.
 use Rattle.std.proofs.Common.{◌≡◌, Bool, true, cond, List, [], ◌∷◌, Option, Some, None, refl, sym, ap}
-use Rattle.std.specs.Map.{lookup, set_value, remove_entry}
+use Rattle.std.specs.Map.{lookup}
 use Rattle.std.specs.Cmp.{IsEquivalence}
 use Rattle.std.specs.declared.cmp.Ordering.{Ordering}
 use Rattle.std.specs.declared.cmp.Ordering.TheVariants.{Less, Equal, Greater}
-use Rattle.broadcast_core.proofs.Distinct.{by_test}
 
 pub by_order : {G : Type 0} (r s : Ordering) → s ≡ r → (s ≡ Less → G) → (s ≡ Equal → G) → (s ≡ Greater → G) → G
 by_order Less s e l m n = l e
@@ -12,13 +11,6 @@ by_order Equal s e l m n = m e
 by_order Greater s e l m n = n e
 
 module _ {K X : Type 0} where
-  -- what is written at a key before it is taken out is no matter
-  pub remove_entry-set_value : (test : K → Bool) (es : List (K × X)) (w : X) → remove_entry test (set_value test es w) ≡ remove_entry test es
-  remove_entry-set_value test [] w = refl
-  remove_entry-set_value test (e ∷ es) w = by_test (test e.0)
-      (λ h. rw (h, h) refl)
-      (λ h. rw (h, h) (ap (λ fs. e ∷ fs) (remove_entry-set_value test es w)))
-
   -- tests that agree find the same
   pub lookup-same : (s t : K → Bool) (es : List (K × X)) → ((k : K) → s k ≡ t k) → lookup s es ≡ lookup t es
   lookup-same s t [] h = refl

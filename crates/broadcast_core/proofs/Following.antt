@@ -10,7 +10,7 @@ use Rattle.broadcast_core.specs.Setting.{Setting}
 use Rattle.broadcast_core.specs.Happening.{Taking, carried_by, Happening, peers, taken}
 use Rattle.broadcast_core.specs.HasContent.{HasContent}
 use Rattle.broadcast_core.specs.Lists.{outcome, charge, charged, charged_list, list}
-use Rattle.broadcast_core.proofs.Distinct.{by_test, list_any-same, among-equal}
+use Rattle.broadcast_core.proofs.Distinct.{by_test, list_any-same}
 use Rattle.broadcast_core.specs.Peers.{primary, is_primary}
 use Rattle.broadcast_core.specs.Cache.{is_listed, message}
 use Rattle.broadcast_core.specs.Waiting.{waiting_for}
@@ -51,16 +51,6 @@ module _ {P M D W V : Type 0} (s : Setting P M D) where
     message-some d (e ∷ past) h = by_test (is_listed s d past)
         (λ old. rw (h, old) (message-some d past old))
         (λ new. rw (h, new) (carries d e past (taken s e) refl h new))
-
-  module _ (laws : IsEquivalence s.same.digest) where
-    -- equal digests are listed alike, and have one message
-    pub is_listed-equal : (d e : D) (past : List (Happening P M D W V)) → s.same.digest d e ≡ true → is_listed s d past ≡ is_listed s e past
-    is_listed-equal d e past h = list_any-same (λ p. among s.same.digest d (list s p past)) (λ p. among s.same.digest e (list s p past)) (primary s past)
-        (λ p. among-equal laws d e (list s p past) h)
-
-    pub message-equal : (d e : D) (past : List (Happening P M D W V)) → s.same.digest d e ≡ true → message s d past ≡ message s e past
-    message-equal d e [] h = refl
-    message-equal d e (x ∷ past) h = rw (is_listed-equal d e (x ∷ past) h, is_listed-equal d e past h, message-equal d e past h) refl
 
   -- an event that takes nothing and names no peers changes nothing of the store
   pub is_listed-other : (d : D) (e : Happening P M D W V) (past : List (Happening P M D W V)) → taken s e ≡ None → primary s (e ∷ past) ≡ primary s past

@@ -1,16 +1,15 @@
 -- What each call of a core hands out, by the history that gives its content.
 use Rattle.std.specs.Option.{option_map}
-use Rattle.std.proofs.Common.{◌≡◌, ℕ, Option, length, List, [], ◌∷◌, ◌++◌, map, append_assoc, append-nil, Some, refl, sym, ap, ◌∙◌, subst}
+use Rattle.std.proofs.Common.{◌≡◌, ℕ, Option, length, List, [], ◌∷◌, map, Some, refl, sym, ap, ◌∙◌, subst}
 use Rattle.broadcast_core.specs.Carried.{Carried}
 use Rattle.broadcast_core.specs.Content.{Content, Same, message_at, waiting_at}
 use Rattle.broadcast_core.specs.Fronted.{outcome_at}
 use Rattle.broadcast_core.specs.Changes.{IsSubscribed}
 use Rattle.broadcast_core.specs.Setting.{Setting}
-use Rattle.broadcast_core.specs.Happening.{History, Taking, Happening, broadcast, arrival, subscribe, get, taken}
+use Rattle.broadcast_core.specs.Happening.{Taking, Happening, broadcast, arrival, subscribe, get, taken}
 use Rattle.broadcast_core.specs.Cache.{message}
 use Rattle.broadcast_core.specs.Waiting.{Awaiting, waiters_of, replied_at}
-use Rattle.broadcast_core.specs.Handed.{Handed, to_subscribe, to_get, to_each, from_cache, handed_at, handed}
-use Rattle.broadcast_core.specs.Sent.{sent, sent_at}
+use Rattle.broadcast_core.specs.Handed.{Handed, to_subscribe, to_get, to_each, from_cache, handed_at}
 use Rattle.broadcast_core.specs.HasContent.{HasContent}
 use Rattle.broadcast_core.specs.Lists.{outcome}
 use Rattle.broadcast_core.specs.declared.ordered.Recipients.{Recipients}
@@ -72,16 +71,3 @@ module _ {P M D W V : Type 0} {s : Setting P M D} {same : Same P D} (is : s.same
   pub handed-subscribe : (w : W) (d : D) (new : Content P M D W) (r : Subscribed W M D) → IsSubscribed same d w old new r → handed_by r ≡ handed_at s (subscribe w d) past
   handed-subscribe w d new (subscribed.Answered v x) h = ap (λ u. to_subscribe u x ∷ []) h.0 ∙ ap (from_cache w) (sym h.1 ∙ found-subscribe w d)
   handed-subscribe w d new subscribed.Waiting h = ap (from_cache w) (sym h.0 ∙ found-subscribe w d)
-
--- what newer happenings send and hand out comes after the rest
-module _ {P M D W V : Type 0} (s : Setting P M D) where
-  pub sent-newer : (newer past : History P M D W V) → sent s (newer ++ past) ≡ sent s past ++ sent s newer
-  sent-newer [] past = sym (append-nil (sent s past))
-  sent-newer (e ∷ newer) past = ap (λ xs. xs ++ sent_at s e) (sent-newer newer past) ∙ append_assoc (sent s past) (sent s newer) (sent_at s e)
-
-  pub handed-newer : (newest newer past : History P M D W V) → handed s (newest ++ newer) past ≡ handed s newer past ++ handed s newest (newer ++ past)
-  handed-newer [] newer past = sym (append-nil (handed s newer past))
-  handed-newer (e ∷ newest) newer past =
-      ap (λ hs. hs ++ handed_at s e ((newest ++ newer) ++ past)) (handed-newer newest newer past)
-      ∙ ap (λ es. (handed s newer past ++ handed s newest (newer ++ past)) ++ handed_at s e es) (append_assoc newest newer past)
-      ∙ append_assoc (handed s newer past) (handed s newest (newer ++ past)) (handed_at s e (newest ++ (newer ++ past)))

@@ -84,10 +84,6 @@ module _ {P M D W V : Type 0} (s : Setting P M D) where
       → list s q (e ∷ past) ≡ (if is_primary s q (e ∷ past) then list s q past else [])
   list-none q e past none = ap digests_of (charged-none q e past none) ∙ by_test (is_primary s q (e ∷ past)) (λ h. rw h refl) (λ h. rw h refl)
 
-  pub list-peers : (q : P) (ps : List P) (past : List (Happening P M D W V))
-      → list s q (peers ps ∷ past) ≡ (if list_any (s.same.key q) ps then list s q past else [])
-  list-peers q ps past = list-none q (peers ps) past refl
-
   pub list-other : (q : P) (e : Happening P M D W V) (past : List (Happening P M D W V)) → taken s e ≡ None → primary s (e ∷ past) ≡ primary s past
       → list s q (e ∷ past) ≡ list s q past
   list-other q e past none stays = ap digests_of (charged-other q e past none stays)

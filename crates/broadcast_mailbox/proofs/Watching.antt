@@ -1,14 +1,11 @@
 -- What a watch and a tally are told of a request.
-use Rattle.std.proofs.Common.{◌≡◌, Bool, true, Result, Ok, Err, refl}
+use Rattle.std.proofs.Common.{◌≡◌, Bool, true, refl}
 use Rattle.broadcast_mailbox.specs.declared.buffered.ingress.message.Message.{Message}
 use Rattle.broadcast_mailbox.specs.declared.buffered.ingress.message.Message.TheVariants as variant
 use Rattle.broadcast_mailbox.specs.declared.buffered.ingress.message.Kind.{Kind}
 use Rattle.broadcast_mailbox.specs.declared.buffered.ingress.message.Kind.TheVariants as kind
-use Rattle.broadcast_mailbox.specs.declared.buffered.ingress.message.Queued.{Queued}
 use Rattle.broadcast_mailbox.specs.declared.buffered.ingress.message.Queued.TheVariants as queued
-use Rattle.broadcast_mailbox.specs.declared.broadcaster.MailboxError.{MailboxError}
-use Rattle.broadcast_mailbox.specs.Account.{is_accepted, is_taken_up}
-use Rattle.broadcast_mailbox.specs.Booked.{answer_of, is_watched}
+use Rattle.broadcast_mailbox.specs.Booked.{is_watched}
 use Rattle.broadcast_mailbox.specs.Watch.{BroadcastsOnly, is_broadcast, kind_of}
 
 -- a request that a watch of broadcasts matches is a broadcast
@@ -16,11 +13,3 @@ pub watched_open : {P M S G D : Type 0} (watched : Kind → D → Bool) (message
 watched_open watched (variant.Broadcast recipients message) only is = refl
 watched_open watched (variant.Subscribe digest responder) only is = only kind.Subscribe digest is
 watched_open watched (variant.Get digest responder) only is = only kind.Get digest is
-
--- a broadcast that was accepted is one that drew a ticket
-pub accepted-answer : (result : Result Queued MailboxError) → is_taken_up (answer_of result) ≡ is_accepted result
-accepted-answer (Ok (queued.Ready ticket)) = refl
-accepted-answer (Ok (queued.Overflow ticket)) = refl
-accepted-answer (Ok (queued.Skipped ticket)) = refl
-accepted-answer (Ok queued.Closed) = refl
-accepted-answer (Err error) = refl

@@ -1,5 +1,5 @@
 -- What an event makes of one node.
-use Rattle.std.proofs.Common.{◌≡◌, ℕ, ◌<◌, true, List, [], ◌∷◌, length, ◌++◌, get_or, Option, Some, None, ◌⊎◌, inl, inr, refl, sym, ap, ◌∙◌, subst, append-nil}
+use Rattle.std.proofs.Common.{◌≡◌, ℕ, ◌<◌, true, List, [], ◌∷◌, length, get_or, Option, Some, None, inl, inr, refl, sym, ap, subst}
 use Rattle.std.proofs.lemmas.Option.{slice_get-get_or}
 use Rattle.std.specs.Prelude.{slice_set, is_some}
 use Rattle.std.specs.List.{AllZip, slice_get}
@@ -8,23 +8,20 @@ use Rattle.std.specs.Cmp.{IsTotalOrder, eq_by_cmp_equiv}
 use Rattle.std.specs.Ordering.{eq_by_cmp}
 use Rattle.broadcast_world.proofs.Places.{find-equal, set_same}
 use Rattle.std.specs.declared.cmp.Ordering.{Ordering}
-use Rattle.broadcast_core.specs.Log.{is_refused}
 use Rattle.broadcast_core.specs.Carried.{Carried}
 use Rattle.broadcast_core.specs.TestMessage.{Parts, encoding_of}
 use Rattle.broadcast_core.specs.declared.ordered.Recipients.{Recipients}
 use Rattle.broadcast_core.specs.declared.event.Cause.{Cause}
 use Rattle.broadcast_core.specs.declared.event.Cause.TheVariants.{Memory, Unencodable}
 use Rattle.broadcast_core.specs.declared.event.Answer.TheVariants.{Refused}
-use Rattle.broadcast_core.proofs.Distinct.{by_test}
 use Rattle.broadcast_core.specs.declared.event.Event.TheVariants.{Broadcast}
 use Rattle.broadcast_core.specs.declared.event.Answer.{Answer}
 use Rattle.broadcast_world.specs.Scene.{Scene}
-use Rattle.broadcast_world.specs.World.{NodeEvent, addressed, event_at, made_by, packets_by, packets_to, unless_refused}
+use Rattle.broadcast_world.specs.World.{NodeEvent, addressed, event_at, made_by, packets_to}
 use Rattle.broadcast_world.specs.Packet.{Packet}
 use Rattle.broadcast_world.specs.Nodes.{AreEmpty, AtNode, NodeFollows}
 use Rattle.broadcast_core.specs.Empty.{empty}
 use Rattle.broadcast_world.specs.Steps.{AreCopies, HasNode, NodeContent}
-use Rattle.broadcast_world.specs.declared.step.WorldAnswer.{WorldAnswer}
 use Rattle.broadcast_world.specs.declared.step.WorldAnswer.TheVariants.{Given, NoSuch}
 
 module _ {P : Type 0} (cmp : P → P → Ordering) (w : Scene P) where
@@ -93,19 +90,6 @@ module _ {P : Type 0} (cmp : P → P → Ordering) (w : Scene P) where
       → named ≡ Some n → sender ≡ n → encoding_of c.message ≡ Some bytes → AreCopies cmp made (packets_to cmp w sender (addressed cmp w sender r) (Some bytes))
       → AreCopies cmp made (made_by cmp w (option_map (λ m. (m, Broadcast r c)) named))
   made_by-broadcast named n r c {bytes} made is from encoded h = rw is (rw encoded (subst (λ m. AreCopies cmp made (packets_to cmp w m (addressed cmp w m r) (Some bytes))) from h))
-
-  unless-cases : (a : WorldAnswer) (e : Option (P × NodeEvent P)) → (unless_refused cmp w a e ≡ e) ⊎ (unless_refused cmp w a e ≡ None)
-  unless-cases NoSuch e = inl refl
-  unless-cases (Given a) e = by_test (is_refused a) (λ t. inr (rw t refl)) (λ t. inl (rw t refl))
-
-  made_by-none : (a : WorldAnswer) (named : Option P) (e : NodeEvent P) → ((n : P) → packets_by cmp w n e ≡ []) → made_by cmp w (unless_refused cmp w a (option_map (λ m. (m, e)) named)) ≡ []
-  made_by-none a None e quiet = elim (unless-cases a None) [ inl is ↦ rw is refl | inr none ↦ rw none refl ]
-  made_by-none a (Some n) e quiet = elim (unless-cases a (Some (n, e))) [ inl is ↦ rw is (quiet n) | inr none ↦ rw none refl ]
-
-  -- a step that is no broadcast makes no packet
-  pub made_by-quiet : (a : WorldAnswer) (named : Option P) (e : NodeEvent P) (old sent : List (Packet P)) → ((n : P) → packets_by cmp w n e ≡ []) → AreCopies cmp old sent
-      → AreCopies cmp old (sent ++ made_by cmp w (unless_refused cmp w a (option_map (λ m. (m, e)) named)))
-  made_by-quiet a named e old sent quiet h = subst (λ ps. AreCopies cmp old ps) (sym (ap (λ ps. sent ++ ps) (made_by-none a named e quiet) ∙ append-nil sent)) h
 
   -- nothing has happened at any node
   pub contents-empty : (keys : List P) (cores : List (NodeContent P)) → AreEmpty cmp w.deque_size w.byte_budget keys cores → AllZip (λ n core. HasNode cmp w n [] core) keys cores

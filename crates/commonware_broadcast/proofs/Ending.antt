@@ -15,7 +15,7 @@ use Rattle.commonware_broadcast.specs.declared.buffered.engine.first.First.TheVa
 use Rattle.commonware_broadcast.specs.EngineHistory.{end_told}
 use Rattle.commonware_broadcast.specs.EngineState.{EngineState, Moment}
 use Rattle.commonware_broadcast.specs.Interfaces.{Format, Interfaces}
-use Rattle.commonware_broadcast.specs.FirstSource.{UnlessPeerSet, EndsBy}
+use Rattle.commonware_broadcast.specs.FirstSource.{UnlessPeerSet}
 use Rattle.commonware_broadcast.specs.Order.{UnlessPeers, IfNetwork}
 use Rattle.commonware_broadcast.specs.Arrives.{end_in}
 use Rattle.commonware_broadcast.specs.Polls.{KeepsOrder, IsPoll}
@@ -28,21 +28,6 @@ module _ {asked before ended closed : Type 0} (stop : before → asked) (peers :
   HasCause-map failed PeersClosed h = peers h
   HasCause-map failed NetworkFailed h = absurd h
   HasCause-map failed WaitFailed h = h
-
-  -- what ends a poll has its cause earlier, too
-  pub EndsBy-map : {A : Type 0} (result : Poll (Result A EndCause)) → EndsBy result before closed ⊥ → EndsBy result asked ended ⊥
-  EndsBy-map (Ready (Ok value)) h = tt
-  EndsBy-map (Ready (Err cause)) h = HasCause-map ⊥ cause h
-  EndsBy-map Pending h = tt
-
--- what holds of any input holds of this one
-pub UnlessPeerSet-holds : {P M S G D holds : Type 0} (result : Poll (Result (Input P M S G D) EndCause)) → holds → UnlessPeerSet result holds
-UnlessPeerSet-holds (Ready (Ok (input.Peers ps))) h = tt
-UnlessPeerSet-holds (Ready (Ok (input.Request r))) h = h
-UnlessPeerSet-holds (Ready (Ok (input.Arrived p m))) h = h
-UnlessPeerSet-holds (Ready (Ok (input.Invalid p e))) h = h
-UnlessPeerSet-holds (Ready (Err cause)) h = tt
-UnlessPeerSet-holds Pending h = h
 
 -- what can't be
 pub no_true : {A : Type 0} → false ≡ true → A

@@ -157,27 +157,6 @@ impl<P: PublicKey> Metrics<P> {
         &self.peer
     }
 
-    /// Returns how many messages were received, by status.
-    pub fn receive_counter(&self) -> Counter
-        ensures { result ≡ self.now.totals.receive }
-    {
-        self.receive
-    }
-
-    /// Returns how many subscribes ended, by status.
-    pub fn subscribe_counter(&self) -> Counter
-        ensures { result ≡ self.now.totals.subscribe }
-    {
-        self.subscribe
-    }
-
-    /// Returns how many gets ended, by status.
-    pub fn get_counter(&self) -> Counter
-        ensures { result ≡ self.now.totals.get }
-    {
-        self.get
-    }
-
     /// Returns how many messages were received with `status`.
     pub fn receive(&self, status: Status) -> u64
         ensures { result ≡ number_of status self.now.totals.receive }

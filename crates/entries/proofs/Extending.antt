@@ -27,10 +27,6 @@ module _ {K D : Type 0} (h k : ℕ → Option (Entry K (Charged D))) (chain next
       let r = pops has.mine has.nodes has.whole in
       omega (arith, sum, ap bytes_of (nodes-is has.mine h chain has.nodes has.whole.linked ∙ r.2), bytes_of-append r.1 ((r.0, stale) ∷ []), bytes_of-cons (r.0, stale) [])
 
-  -- only a chain without digests has no oldest
-  pub none-oldest : Pops h k chain next None → chain.len ≡ 0
-  none-oldest pops = has.whole.linked.len ∙ ap length (pops has.mine has.nodes has.whole).0
-
 module _ {K D : Type 0} {same : K → K → Bool} (laws : IsEquivalence same) where
   module _ {h k : ℕ → Option (Entry K (Charged D))} {es fs : List (K × Chain)} {old : Chain} (p : K) (next : Chain) (store : IsStore same h es) (summed : IsSummed same h es)
       (was : lookup (same p) es ≡ Some old) (is : fs ≡ set_value (same p) es next) where

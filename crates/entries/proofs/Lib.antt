@@ -8,7 +8,6 @@ pub mod Runs
 pub mod Slots
 pub mod Stores
 pub mod Sums
-pub mod Walking
 pub mod Words
 pub mod Tables
 pub mod Tabled

@@ -31,11 +31,6 @@ part-leads : {K : Type 0} {R : K → K → Ordering} {leading : K → ℕ} → (
     → (x y : K) → number table (leading y) < number table (leading x) → R x y ≡ Greater
 part-leads {leading = leading} leads table ascends x y more = let up = ascends (leading x) (leading y) in leads x y (grind arith)
 
--- with no part there is no entry
-pub none-joined : {K V : Type 0} (parts : List (BTreeMap K V)) → length parts ≡ 0 → joined parts ≡ []
-none-joined [] none = refl
-none-joined (part ∷ parts) none = absurd (omega arith)
-
 module _ {K V : Type 0} {R : K → K → Ordering} {leading : K → ℕ} (o : IsTotalOrder R) (leads : (x y : K) → leading y < leading x → R x y ≡ Greater)
     (table : List ℕ) (parts : List (BTreeMap K V)) (are : AreParts R leading table parts) where
   led_by : (x y : K) → number table (leading y) < number table (leading x) → R x y ≡ Greater

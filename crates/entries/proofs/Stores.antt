@@ -1,5 +1,5 @@
 -- What a change of one chain makes of all of them.
-use Rattle.std.proofs.Common.{suc, Result, Ok, Err, Bool, true, false, cond, ◌≡◌, ℕ, inl, inr, List, [], ◌∷◌, ◌++◌, map, length, Option, Some, None, refl, sym, ap, subst, ◌∙◌}
+use Rattle.std.proofs.Common.{Result, Ok, Err, Bool, true, false, cond, ◌≡◌, ℕ, inl, inr, List, [], ◌∷◌, ◌++◌, length, Option, Some, None, refl, sym, ap, subst, ◌∙◌}
 use Rattle.std.specs.Prelude.{is_some, unwrap_or, not, ◌==◌, ◌||◌, OnErr}
 use Rattle.std.specs.Option.{option_map}
 use Rattle.std.specs.Cmp.{IsEquivalence}
@@ -23,15 +23,6 @@ by_test false at_true at_false = at_false refl
 pub both_on_err : {A E : Type 0} {P Q : Type 0} (r : Result A E) → P → Q → OnErr r (P × Q)
 both_on_err (Ok a) p q = tt
 both_on_err (Err e) p q = (p, q)
-
--- what is not some value is none
-pub none_from_test : {X : Type 0} (o : Option X) → is_some o ≡ false → o ≡ None
-none_from_test None e = refl
-none_from_test (Some x) e = cc
-
-map_length : {A B : Type 0} (f : A → B) (xs : List A) → length (map f xs) ≡ length xs
-map_length f [] = refl
-map_length f (x ∷ xs) = ap suc (map_length f xs)
 
 -- a place of some nodes, with those before it and those after it
 pub record Parts {D : Type 0} (ns : List (Node D)) (place : ℕ) : Type 0 where
@@ -125,20 +116,6 @@ module _ {K : Type 0} {same : K → K → Bool} (laws : IsEquivalence same) wher
   none_left : {X : Type 0} (b : Bool) (x : X) (o : Option X) → cond b (Some x) o ≡ None → (b ≡ false) × (o ≡ None)
   none_left true x o none = absurd (cc)
   none_left false x o none = (refl, none)
-
-  none_in_both : {X : Type 0} (test : K → Bool) (fs gs : List (K × X)) → lookup test fs ≡ None → lookup test gs ≡ None → lookup test (fs ++ gs) ≡ None
-  none_in_both test [] gs p q = q
-  none_in_both test (f ∷ fs) gs p q = let both = none_left (test f.0) f.1 (lookup test fs) p in
-      ap (λ b. cond b (Some f.1) (lookup test (fs ++ gs))) both.0 ∙ none_in_both test fs gs both.1 q
-
-  pub found_after : {X : Type 0} (p : K) (fs : List (K × X)) (c : X) (gs : List (K × X)) → lookup (same p) fs ≡ None → lookup (same p) (fs ++ (p, c) ∷ gs) ≡ Some c
-  found_after p [] c gs none = ap (λ b. cond b (Some c) (lookup (same p) gs)) (laws.refl p)
-  found_after p (f ∷ fs) c gs none = let both = none_left (same p f.0) f.1 (lookup (same p) fs) none in
-      ap (λ b. cond b (Some f.1) (lookup (same p) (fs ++ (p, c) ∷ gs))) both.0 ∙ found_after p fs c gs both.1
-
-  other_after : {X : Type 0} (p q : K) (fs : List (K × X)) (c : X) (gs : List (K × X)) → same q p ≡ false → lookup (same q) (fs ++ gs) ≡ lookup (same q) (fs ++ (p, c) ∷ gs)
-  other_after p q [] c gs apart = sym (ap (λ b. cond b (Some c) (lookup (same q) gs)) apart)
-  other_after p q (f ∷ fs) c gs apart = ap (λ o. cond (same q f.0) (Some f.1) o) (other_after p q fs c gs apart)
 
 same_place : (i : ℕ) → (i == i) ≡ true
 same_place i = eq-eqb i i refl

@@ -6,7 +6,7 @@ use Rattle.std.proofs.lemmas.Option.{slice_get_within, get_or_from_slice_get}
 use Rattle.gossip.specs.declared.span.Span.{Span}
 use Rattle.gossip.specs.declared.outbox.Listed.{Listed}
 use Rattle.gossip.specs.Spans.{is_had, top_of, with_had}
-use Rattle.gossip.specs.Outbox.{NoneOfFirst, IsNext, AreHad, AreLater, AreUpTo, WantsNothingBelow, lacking, lag}
+use Rattle.gossip.specs.Outbox.{IsNext, AreLater, AreUpTo, WantsNothingBelow, lacking, lag}
 use Rattle.gossip.proofs.Delivering.{had_stays, had_now}
 
 pub is_lacking : (a b c : Bool) → (not a && b && c) ≡ true → a ≡ false
@@ -51,10 +51,6 @@ sends had list i next later =
     one_less (record { from = m.prev; to = m.stamp }) had list i m next.there
     (is_lacking (is_had m.stamp had) true true next.wanted)
     (had_now (record { from = m.prev; to = m.stamp }) had later)
-
-pub all_sent : (had : List Span) (list : List Listed) → NoneOfFirst had None [] (length list) list → AreHad had list
-all_sent had list none k m e =
-    is_not_lacking (is_had m.stamp had) (none k m (slice_get_within list k m e) e)
 
 pub lacking_length : (had : List Span) (list : List Listed) → lacking had list ≤ length list
 lacking_length had [] = omega arith

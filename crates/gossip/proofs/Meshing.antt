@@ -426,7 +426,3 @@ module _ (start : List Log) (events : List Event) (now new : List Log) (all : Li
     | inl p ↦ rw p.1 (passes p.0)
     | inr q ↦ rw q.2 (delivers q.0 q.1)
   ]
-
--- an event that is still to come is one of these logs
-pub of_next : (n : ℕ) (events : List Event) (i : ℕ) (e : Event) → slice_get events i ≡ Some e → AreOf n (drop i events) → IsOf n e
-of_next n events i e here of = (rw (drop_at events i e here) at of).0

@@ -16,13 +16,6 @@ before full level rate at cost wait t h lt =
     let m : rate * (t - at) ≤ rate * (wait - 1) = mul-le-mul_left rate (let le : t - at ≤ wait - 1 = omega arith in le) in
     omega (arith, m)
 
--- so a time at which it has not got them is no later
-pub no_later : (full level rate at cost wait now : ℕ) → cost ≤ full → cost ≤ level + rate * wait
-    → min full (level + rate * (now - at)) < cost → now ≤ at + wait
-no_later full level rate at cost wait now f h lt =
-    let m : at + wait ≤ now → rate * wait ≤ rate * (now - at) = λ le. mul-le-mul_left rate (let le' : wait ≤ now - at = omega arith in le') in
-    grind (arith, m)
-
 -- one nanosecond less is too short
 pub short : (level rate cost wait : ℕ) → level < cost → wait * rate < (cost - level) + rate → level + rate * (wait - 1) < cost
 short level rate cost zero l h = let e : 0 - 1 ≡ 0 = omega arith in rw e (omega arith)

@@ -1,5 +1,5 @@
 -- Numbers and their digits.
-use Rattle.std.proofs.Common.{◌≡◌, ℕ, zero, suc, ◌+◌, ◌-◌, ◌*◌, ◌^◌, ◌<◌, ◌≤◌, List, [], ◌∷◌, length, drop, get_or, refl, sym, ap, ◌∙◌, arith, drop-cons}
+use Rattle.std.proofs.Common.{◌≡◌, ℕ, zero, suc, ◌+◌, ◌-◌, ◌*◌, ◌^◌, ◌<◌, ◌≤◌, List, [], ◌∷◌, length, drop, get_or, sym, ap, ◌∙◌, arith, drop-cons}
 use Rattle.std.specs.Fmt.{decimal}
 use Rattle.std.specs.Char.{digit_value}
 use Rattle.programs.specs.Parsing.{BeginsNumber, IsDigit}
@@ -39,18 +39,6 @@ digits_left (suc i) (c ∷ cs) d = digits_left i cs d.1
 pub record Reads (word : List ℕ) (i number : ℕ) : Type 0 where
   pub digits : AllDigits 10 (drop i word) → AllDigits 10 word
   pub value : digits_value_after 10 number (drop i word) ≡ digits_value 10 word
-
-pub Reads-start : (word : List ℕ) → Reads word 0 0
-Reads-start word = record { digits = λ d. d; value = refl }
-
-pub Reads-step : (word : List ℕ) (i number next : ℕ) → i < length word → Reads word i number → IsDigit (get_or word i 0) → next ≡ number * 10 + (get_or word i 0 - 48) → Reads word (i + 1) next
-Reads-step word i number next lt reads digit is =
-    let split : drop i word ≡ get_or word i 0 ∷ drop (i + 1) word = drop-cons word i 0 lt ∙ ap (λ (j : ℕ). get_or word i 0 ∷ drop j word) (next_is i) in
-    let worth : digit_value (get_or word i 0) ≡ get_or word i 0 - 48 = omega (arith, digit_value_digit (get_or word i 0) digit) in
-    record {
-      digits = λ d. reads.digits (rw split (omega (arith, worth, digit), d));
-      value = ap (λ n. digits_value_after 10 n (drop (i + 1) word)) (is ∙ ap (λ v. number * 10 + v) (sym worth)) ∙ sym (ap (digits_value_after 10 number) split) ∙ reads.value;
-    }
 
 -- all bytes are read
 pub Reads-end : (word : List ℕ) (i number : ℕ) → length word ≤ i → number < 2 ^ 64 → Reads word i number → BeginsNumber word → word ≡ decimal number

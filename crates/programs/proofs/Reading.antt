@@ -1,14 +1,13 @@
 -- What reads leave of known bytes, and the lines that they make.
 use Rattle.std.proofs.Common.{◌≡◌, ◌≢◌, ℕ, ◌+◌, ◌<◌, ◌≤◌, true, cond, List, [], ◌∷◌, ◌++◌, length, take, get_or, Option, Some, None, IfSome, OnSome, refl, sym, ap, subst, ◌∙◌, arith, append_assoc, append-nil, eq-eqb, ne_eqb, eqb-true, get_or-take, length-take-le, take_all, zero-le, le_refl}
 use Rattle.std.proofs.lemmas.List.{take_more}
-use Rattle.std.proofs.lemmas.List.Elements.{All-head, All-tail, All-append, All-nil}
+use Rattle.std.proofs.lemmas.List.Elements.{All-head, All-tail}
 use Rattle.std.specs.List.{onto_first}
-use Rattle.std.specs.Io.KnownBytes.{Consumes, IsAtEnd, Keeps}
-use Rattle.std.proofs.KnownBytes.{Consumes-nil, Consumes-trans}
+use Rattle.std.specs.Io.KnownBytes.{IsAtEnd, Keeps}
 use Rattle.memchr.specs.Find.{IsFirstByte, is_byte}
 use Rattle.programs.proofs.Splits.{same_at}
 use Rattle.programs.specs.Lines.{AreRead, IsFirstUnread, lines_of}
-use Rattle.programs.specs.Parsing.{Extends, IsInLine, IsLineRead, LinesLeft, line_end}
+use Rattle.programs.specs.Parsing.{IsInLine, IsLineRead, LinesLeft, line_end}
 
 -- a reader that shows nothing is at its end
 pub end_kept : (a b : Option (List ℕ)) (n : ℕ) → IfSome a (λ xs. n ≡ 0 → xs ≡ []) → Keeps a b → n ≡ 0 → OnSome a (IsAtEnd b)
@@ -31,23 +30,6 @@ in_line_first text end (first, passes) = in_line_before text end (omega (arith, 
 -- and with the line feed they are what a reader consumes
 pub first_and_end : (text : List ℕ) (end : ℕ) → IsFirstByte (is_byte 10) text (Some end) → take (end + 1) text ≡ take end text ++ line_end
 first_and_end text end (first, passes) = take_more text end 0 first.high ∙ ap (λ b. take end text ++ b ∷ []) (eqb-true _ 10 passes)
-
--- one more look at the buffer
-pub Extends-trans : (a b c : Option (List ℕ)) (line mid grown ending : List ℕ) → Extends a b line mid [] → Extends b c mid grown ending → Extends a c line grown ending
-Extends-trans a b c line mid grown ending (part, is, within, bytes) (more, is', within', bytes') = (
-  part ++ more,
-  is' ∙ ap (λ (xs : List ℕ). xs ++ more) is ∙ append_assoc line part more,
-  All-append (λ b. b ≢ 10) part more within within',
-  subst (Consumes a c) (sym (append_assoc part more ending)) (Consumes-trans a b c part (more ++ ending) (subst (Consumes a b) (append-nil part) bytes) bytes'),
-)
-
--- no look at the buffer
-pub Extends-refl : (a : Option (List ℕ)) (line : List ℕ) → Extends a a line line []
-Extends-refl a line = ([], sym (append-nil line), All-nil (λ b. b ≢ 10), Consumes-nil a)
-
--- what was read from an empty line on is the line
-pub IsLineRead-of : (a b : Option (List ℕ)) (grown ending : List ℕ) → Extends a b [] grown ending → IsLineRead a b grown ending
-IsLineRead-of a b grown ending (part, is, within, bytes) = rw is (record { within = within; bytes = bytes })
 
 -- the first line of a text
 lines_of-line : (line rest : List ℕ) → IsInLine line → lines_of (line ++ 10 ∷ rest) ≡ line ∷ lines_of rest
@@ -79,30 +61,12 @@ next-last (Some text) (Some rest) (b ∷ line) read end some =
     let whole : text ≡ b ∷ line = read.bytes ∙ ap (λ (xs : List ℕ). ((b ∷ line) ++ []) ++ xs) end ∙ append-nil ((b ∷ line) ++ []) ∙ append-nil (b ∷ line) in
     ap lines_of whole ∙ lines_of-last b line read.within ∙ ap (λ (xs : List ℕ). (b ∷ line) ∷ lines_of xs) (sym end)
 
--- an empty one at the end is none
-pub next-none : (a b : Option (List ℕ)) (line : List ℕ) → IsLineRead a b line [] → length line ≡ 0 → LinesLeft a b []
-next-none None b line read none = tt
-next-none (Some text) None line read none = absurd read.bytes
-next-none (Some text) (Some rest) [] read none = ap lines_of read.bytes
-next-none (Some text) (Some rest) (b ∷ line) read none = absurd (omega (arith, none))
-
--- a next line is the first of those that are left
-pub first-left : (a b : Option (List ℕ)) (line : List ℕ) → LinesLeft a b (line ∷ []) → IfSome a (λ text. (back : List (List ℕ)) × (lines_of text ≡ line ∷ back))
-first-left None b line left = tt
-first-left (Some text) None line left = absurd left
-first-left (Some text) (Some rest) line left = (lines_of rest, left)
-
 -- lines, and then more
 pub LinesLeft-trans : (a b c : Option (List ℕ)) (xs ys : List (List ℕ)) → LinesLeft a b xs → LinesLeft b c ys → LinesLeft a c (xs ++ ys)
 LinesLeft-trans None b c xs ys left more = tt
 LinesLeft-trans (Some text) None c xs ys left more = absurd left
 LinesLeft-trans (Some text) (Some mid) None xs ys left more = absurd more
 LinesLeft-trans (Some text) (Some mid) (Some rest) xs ys left more = left ∙ ap (λ (ls : List (List ℕ)). xs ++ ls) more ∙ sym (append_assoc xs ys (lines_of rest))
-
--- no line was read
-pub LinesLeft-refl : (a : Option (List ℕ)) → LinesLeft a a []
-LinesLeft-refl None = tt
-LinesLeft-refl (Some text) = refl
 
 module _ {Item : Type 0} (means : List ℕ → Item → Type 0) where
   pub AreRead-append : (xs ys : List (List ℕ)) (is js : List Item) → AreRead means xs is → AreRead means ys js → AreRead means (xs ++ ys) (is ++ js)

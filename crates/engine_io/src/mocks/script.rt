@@ -1,5 +1,5 @@
 //! A list of the results of polls.
-ghost use Rattle.std.specs.Prelude.{◌≡◌, ◌==◌, length};
+ghost use Rattle.std.specs.Prelude.{◌≡◌};
 ghost use Rattle.futures.specs.Poll.{OnPending};
 ghost use Rattle.futures.specs.Task.{IsArmed, Keeps};
 ghost use Rattle.engine_io.specs.Scripts.{next_of, after_next};
@@ -56,12 +56,5 @@ impl<A> Script<A> {
             Some(Poll::Pending) => cx.yield_now(),
             None => cx.register(&self.never, &mut self.waker),
         }
-    }
-
-    /// Returns whether all results were given.
-    pub fn is_over(&self) -> bool
-        ensures { result ≡ (length self.now.rest == 0) }
-    {
-        self.rest.is_empty()
     }
 }
