@@ -1,6 +1,7 @@
 """What the commands share: the top of the repository, what passed and failed, and calls of other commands."""
 
 import os
+import signal
 import subprocess
 from pathlib import Path
 
@@ -30,15 +31,21 @@ class Tally:
 
 
 def call(words, limit=None, **how):
-    """Calls a command. Returns whether it ended well, and all that it printed."""
+    """Calls a command. Returns whether it ended well, and all that it printed. At the limit, or where this command is
+    interrupted, it is killed with all that it started."""
     how = {"stdin": subprocess.DEVNULL, "stdout": subprocess.PIPE, "stderr": subprocess.STDOUT, **how}
     try:
-        ran = subprocess.run(words, timeout=limit, **how)
+        ran = subprocess.Popen(words, process_group=0, **how)
     except OSError as fault:
         return False, str(fault)
-    except subprocess.TimeoutExpired as late:
-        return False, f"{(late.output or b'').decode(errors='replace')}\nit took more than {limit} s"
-    return ran.returncode == 0, ran.stdout.decode(errors="replace")
+    try:
+        said, late = ran.communicate(timeout=limit)[0], ""
+    except BaseException as cut:
+        os.killpg(ran.pid, signal.SIGKILL)
+        said, late = ran.communicate()[0], f"\nit took more than {limit} s"
+        if not isinstance(cut, subprocess.TimeoutExpired):
+            raise
+    return ran.returncode == 0, said.decode(errors="replace") + late
 
 
 def lanes():
