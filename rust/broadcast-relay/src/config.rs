@@ -1,9 +1,9 @@
 //! The configuration, a TOML file.
 
-use crate::identity::{PeerId, from_hex, to_hex};
-use crate::invalid;
+use crate::identity::{Identity, PeerId};
 use crate::message::MAX_MESSAGE;
 use crate::output::MAX_WAITING;
+use crate::{invalid, of};
 use broadcast_relay::gossip::{Bounds, OVERHEAD};
 use serde::{Deserialize, Deserializer, de::Error};
 use std::fs;
@@ -52,12 +52,12 @@ pub struct Limits {
     /// The most bytes of messages that are kept of each author, each with 128 bytes of overhead.
     pub bytes_per_peer: u64,
     /// How fast the messages of an author are taken.
-    pub author_messages_per_second: u32,
+    pub author_messages_per_second: u64,
     pub author_bytes_per_second: u64,
-    pub author_signatures_per_second: u32,
+    pub author_signatures_per_second: u64,
     /// The most connections that have proved no key, in all and of one address.
-    pub handshakes: usize,
-    pub handshakes_per_address: usize,
+    pub handshakes: u64,
+    pub handshakes_per_address: u64,
 }
 
 impl Default for Limits {
@@ -85,14 +85,14 @@ impl Limits {
             largest: MAX_MESSAGE as u64 + OVERHEAD,
             rate,
             burst,
-            least: rate / u64::from(self.author_messages_per_second),
+            least: rate / self.author_messages_per_second,
             ..Bounds::default()
         }
     }
 
     /// What a signature that is checked counts, in bytes.
     pub fn signature_cost(&self) -> u64 {
-        self.author_bytes_per_second / u64::from(self.author_signatures_per_second)
+        self.author_bytes_per_second / self.author_signatures_per_second
     }
 }
 
@@ -101,21 +101,24 @@ fn yes() -> bool {
 }
 
 fn key<'de, D: Deserializer<'de>>(from: D) -> Result<PeerId, D::Error> {
-    let text = String::deserialize(from)?;
-    from_hex(&text).ok_or_else(|| D::Error::custom("a key has 64 hexadecimal digits"))
+    let mut key = [0; 32];
+    hex::decode_to_slice(String::deserialize(from)?, &mut key)
+        .map_err(|_| D::Error::custom("a key has 64 hexadecimal digits"))?;
+    Ok(key)
 }
 
 impl Config {
     /// Reads the file and checks it. Paths in it are relative to its folder.
     pub fn load(file: &Path) -> io::Result<Config> {
-        let named = |why: String| invalid(format!("{}: {why}", file.display()));
-        let text = fs::read_to_string(file).map_err(|it| named(it.to_string()))?;
-        let mut config: Config = toml::from_str(&text).map_err(|it| named(it.to_string()))?;
-        let folder = file.parent().unwrap_or(Path::new(""));
-        config.key = folder.join(&config.key);
-        config.journal = config.journal.map(|it| folder.join(it));
-        config.check().map_err(named)?;
-        Ok(config)
+        let read = || {
+            let text = fs::read_to_string(file)?;
+            let mut config: Config = toml::from_str(&text).map_err(invalid)?;
+            let folder = file.parent().unwrap_or(Path::new(""));
+            config.key = folder.join(&config.key);
+            config.journal = config.journal.map(|it| folder.join(it));
+            config.check().map(|()| config).map_err(invalid)
+        };
+        read().map_err(of(file))
     }
 
     fn check(&self) -> Result<(), String> {
@@ -132,11 +135,11 @@ impl Config {
         let limits = &self.limits;
         let needed = [
             ("bytes_per_peer", limits.bytes_per_peer, 1 << 20),
-            ("author_messages_per_second", limits.author_messages_per_second.into(), 1),
+            ("author_messages_per_second", limits.author_messages_per_second, 1),
             ("author_bytes_per_second", limits.author_bytes_per_second, MAX_MESSAGE as u64),
-            ("author_signatures_per_second", limits.author_signatures_per_second.into(), 1),
-            ("handshakes_per_address", limits.handshakes_per_address as u64, 1),
-            ("handshakes", limits.handshakes as u64, limits.handshakes_per_address as u64),
+            ("author_signatures_per_second", limits.author_signatures_per_second, 1),
+            ("handshakes_per_address", limits.handshakes_per_address, 1),
+            ("handshakes", limits.handshakes, limits.handshakes_per_address),
         ];
         match needed.iter().find(|(_, value, least)| value < least) {
             Some((name, value, least)) => Err(format!("{name} is {value}, and at least {least}")),
@@ -154,21 +157,22 @@ impl Config {
         // Two coverages, and a place in a tree for each message in flight.
         let view = 4_096 + 48 * limits.bounds().room / OVERHEAD;
         let peer = (1 << 20) + (peers + 1) * view;
-        let handshakes = limits.handshakes as u64 * (96 << 10);
+        let handshakes = limits.handshakes * (96 << 10);
         (48 << 20) + (peers + 1) * author + 3 * limits.bytes_per_peer + peers * peer + handshakes
     }
 
     /// How many descriptors are open at most.
-    pub fn descriptors(&self) -> usize {
+    pub fn descriptors(&self) -> u64 {
         // Handshakes, and connections that wait for one; of each peer a connection, one that replaces it, one that is dialed,
         // and a file.
-        64 + 2 * self.limits.handshakes + 4 * self.peers.len()
+        64 + 2 * self.limits.handshakes + 4 * self.peers.len() as u64
     }
 
     /// What other relays write into their configurations to name this one.
-    pub fn entry(&self, id: &PeerId, name: &str) -> String {
+    pub fn entry(&self, name: &str) -> io::Result<String> {
+        let key = hex::encode(Identity::load(&self.key)?.id);
         let address = self.advertise.clone().unwrap_or_else(|| self.listen.to_string());
-        format!("[[peer]]\nname = \"{name}\"\nkey = \"{}\"\naddress = \"{address}\"\n", to_hex(id))
+        Ok(format!("[[peer]]\nname = \"{name}\"\nkey = \"{key}\"\naddress = \"{address}\"\n"))
     }
 }
 

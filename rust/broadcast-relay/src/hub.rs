@@ -1,21 +1,24 @@
 //! What all connections of a relay share: the peers, the authors, and the protocol.
 
-use crate::config::{Config, Limits};
+use crate::config::{Config, Limits, PeerConfig};
 use crate::identity::{Identity, PeerId};
 use crate::journal::{self, Journal};
 use crate::message::Signed;
 use crate::metrics::Metrics;
 use crate::output::{self, MAX_WAITING, Output};
-use crate::peer::{Peer, Peers, Session};
-use crate::{invalid, lock, now, wire};
+use crate::peer::{Author, Peer, Seat, Session};
+use crate::{invalid, now, wire};
 use broadcast_relay::gossip::{Frame, Machine, Message, NEVER, Past, Report, Taken, Time};
-use prometheus::TextEncoder;
+use parking_lot::Mutex;
+use prometheus::{IntCounterVec, TextEncoder};
 use std::collections::HashMap;
 use std::io::{self, ErrorKind};
-use std::sync::{Arc, Mutex};
+use std::slice;
+use std::sync::Arc;
+use std::sync::atomic::{AtomicBool, Ordering::Relaxed};
 use std::time::{Duration, SystemTime, UNIX_EPOCH};
 use tokio::sync::Notify;
-use tokio::time::{sleep, timeout};
+use tokio::time::timeout;
 use tracing::{debug, info, warn};
 
 /// How often it is looked at least whether more may be published, or something is due.
@@ -24,12 +27,12 @@ const LOOK: Duration = Duration::from_secs(1);
 pub struct Hub {
     pub identity: Identity,
     pub metrics: Metrics,
-    pub peers: Peers,
     own: Arc<Peer>,
     gossip: Mutex<Gossip>,
     /// Notified when more may be published, and when the protocol is to be told the time earlier.
     opened: Notify,
     timer: Notify,
+    is_ending: AtomicBool,
     limits: Limits,
     output: Option<Output>,
 }
@@ -38,9 +41,9 @@ pub struct Hub {
 struct Gossip {
     machine: Machine,
     nodes: HashMap<PeerId, usize>,
-    ids: Vec<PeerId>,
-    /// To be notified when there is something for a peer.
-    due: Vec<Arc<Notify>>,
+    /// This relay, and all peers that were ever listed.
+    peers: Vec<Arc<Peer>>,
+    seats: Vec<Seat>,
     /// When the timer goes off.
     timer: Time,
 }
@@ -52,20 +55,39 @@ fn item(author: usize, message: &Signed) -> Message {
 }
 
 impl Gossip {
-    /// Lists an author, with what its journal had.
-    fn list(&mut self, now: Time, id: PeerId, past: journal::Past) -> usize {
-        let node = self.nodes.get(&id).copied().unwrap_or(self.ids.len());
-        let messages = past.messages.iter().map(|it| item(node, it)).collect();
-        let past = Past { covered: past.covered, messages };
-        if node < self.ids.len() {
-            self.machine.restore(now, node, past);
+    /// This relay and its peers.
+    fn listed(&self) -> impl Iterator<Item = &Arc<Peer>> {
+        self.peers.iter().filter(|it| self.machine.log(it.node).is_listed)
+    }
+
+    fn find(&self, id: &PeerId) -> Option<&Arc<Peer>> {
+        let peer = &self.peers[*self.nodes.get(id)?];
+        self.machine.log(peer.node).is_listed.then_some(peer)
+    }
+
+    /// Lists a peer, with what its journal had, or as another one that has the same number and author.
+    fn list(
+        &mut self,
+        now: Time,
+        config: &PeerConfig,
+        author: Arc<Mutex<Author>>,
+        past: Option<journal::Past>,
+    ) -> Arc<Peer> {
+        let node = *self.nodes.entry(config.key).or_insert(self.peers.len());
+        let peer = Arc::new(Peer { config: config.clone(), node, author });
+        let past = past.map(|it| {
+            let messages = it.messages.iter().map(|it| item(node, it)).collect();
+            Past { covered: it.covered, messages }
+        });
+        if node == self.peers.len() {
+            self.machine.add(now, past.unwrap_or_default());
+            self.peers.push(peer.clone());
+            self.seats.push(Seat::new());
         } else {
-            self.machine.add(now, past);
-            self.nodes.insert(id, node);
-            self.ids.push(id);
-            self.due.push(Arc::default());
+            past.into_iter().for_each(|it| self.machine.restore(now, node, it));
+            self.peers[node] = peer.clone();
         }
-        node
+        peer
     }
 }
 
@@ -74,87 +96,97 @@ impl Hub {
     pub fn new(identity: Identity, config: &Config, metrics: Metrics) -> io::Result<Hub> {
         let limits = config.limits.clone();
         let machine = Machine::new(limits.bounds(), 0, rand::random());
-        let (nodes, ids, due) = (HashMap::new(), Vec::new(), Vec::new());
-        let mut gossip = Gossip { machine, nodes, ids, due, timer: NEVER };
-        let (journal, past) = open(config, &identity.id)?;
-        let node = gossip.list(0, identity.id, past);
+        let (nodes, peers, seats) = (HashMap::new(), Vec::new(), Vec::new());
+        let mut gossip = Gossip { machine, nodes, peers, seats, timer: NEVER };
+        let own = PeerConfig { name: "own".into(), key: identity.id, address: None };
+        let (author, past) = open(config, &own.key)?;
+        let start = || Output::start("output", io::stdout(), MAX_WAITING, &metrics.output_dropped);
         Ok(Hub {
-            own: Arc::new(Peer::new(identity.id, "own".into(), None, node, journal)),
+            own: gossip.list(0, &own, author, Some(past)),
+            output: config.output.then(start).transpose()?,
             identity,
             metrics,
-            peers: Peers::default(),
             gossip: Mutex::new(gossip),
             opened: Notify::new(),
             timer: Notify::new(),
+            is_ending: AtomicBool::new(false),
             limits,
-            output: match config.output {
-                true => Some(Output::start("output", io::stdout(), MAX_WAITING)?),
-                false => None,
-            },
         })
     }
 
-    /// Makes the peers those of a configuration. Returns those that are new or have moved. After an error nothing has changed.
+    /// Makes the peers those of a configuration. Returns those that are new or have changed. After an error nothing has changed.
     pub fn set_peers(&self, config: &Config) -> io::Result<Vec<Arc<Peer>>> {
         if config.peers.iter().any(|it| it.key == self.identity.id) {
             return Err(io::Error::other("the own key is among the peers"));
         }
-        let known = lock(&self.peers).clone();
-        let mut opened = HashMap::new();
-        for it in config.peers.iter().filter(|it| !known.contains_key(&it.key)) {
-            opened.insert(it.key, open(config, &it.key)?);
-        }
-        let (mut next, mut fresh) = (HashMap::new(), Vec::new());
+        let mut changed = Vec::new();
         for it in &config.peers {
-            let (name, address) = (it.name.clone(), it.address.clone());
-            let peer = match (known.get(&it.key), opened.remove(&it.key)) {
-                (Some(old), _) if (&old.name, &old.address) == (&name, &address) => {
-                    next.insert(it.key, old.clone());
-                    continue;
+            match self.find(&it.key) {
+                Some(old) if old.config == *it => {}
+                Some(old) => changed.push((it, old.author.clone(), None)),
+                None => {
+                    let (author, past) = open(config, &it.key)?;
+                    changed.push((it, author, Some(past)));
                 }
-                (Some(old), _) => Arc::new(old.moved(name, address)),
-                (None, Some((journal, past))) => {
-                    let node = self.act(|gossip, now| gossip.list(now, it.key, past));
-                    Arc::new(Peer::new(it.key, name, address, node, journal))
-                }
-                (None, None) => continue,
-            };
-            self.metrics.add_peer(&peer.name);
-            fresh.push(peer.clone());
-            next.insert(it.key, peer);
+            }
         }
-        *lock(&self.peers) = next.clone();
-        for gone in known.values().filter(|it| !next.contains_key(&it.id)) {
-            info!(peer = gone.name, "removed");
-            gone.session().iter().for_each(|it| it.end());
-            self.act(|gossip, now| gossip.machine.remove(now, gone.node));
-        }
-        Ok(fresh)
+        let stays = |old: &Peer| config.peers.iter().any(|it| it.key == old.config.key);
+        let (gone, changed) = self.act(|gossip, now| {
+            let others = gossip.listed().skip(1);
+            let gone: Vec<_> = others.filter(|it| !stays(it)).cloned().collect();
+            for it in &gone {
+                info!(peer = it.config.name, "removed");
+                self.metrics.connected.with_label_values(&[&it.config.name]).set(0);
+                let session = gossip.seats[it.node].session.take();
+                session.iter().for_each(|it| it.ended.notify_one());
+                gossip.machine.remove(now, it.node);
+            }
+            let list = |(config, author, past)| gossip.list(now, config, author, past);
+            (gone, changed.into_iter().map(list).collect::<Vec<_>>())
+        });
+        gone.iter().for_each(|it| it.author.lock().journal = None);
+        changed.iter().for_each(|it| self.metrics.add_peer(&it.config.name));
+        Ok(changed)
     }
 
-    pub fn peer(&self, id: &PeerId) -> Option<Arc<Peer>> {
-        lock(&self.peers).get(id).cloned()
+    /// Finds an author, which is a peer or this relay.
+    fn find(&self, id: &PeerId) -> Option<Arc<Peer>> {
+        self.gossip.lock().find(id).cloned()
     }
 
-    fn author(&self, id: &PeerId) -> Option<Arc<Peer>> {
-        if *id == self.identity.id { Some(self.own.clone()) } else { self.peer(id) }
+    /// Whether a key is that of a peer, and no ban lasts.
+    pub fn admits(&self, id: &PeerId) -> bool {
+        let (gossip, own) = (self.gossip.lock(), self.own.node);
+        gossip.find(id).is_some_and(|it| it.node != own && !gossip.seats[it.node].is_banned())
     }
 
-    pub fn sessions(&self) -> Vec<Arc<Session>> {
-        lock(&self.peers).values().filter_map(|it| it.session()).collect()
+    /// Whether a peer is not connected, and no ban lasts. None if it is not listed any more, or has changed.
+    pub fn is_free(&self, peer: &Arc<Peer>) -> Option<bool> {
+        let gossip = self.gossip.lock();
+        let seat = &gossip.seats[peer.node];
+        let is_listed = gossip.find(&peer.config.key).is_some_and(|it| Arc::ptr_eq(it, peer));
+        is_listed.then(|| seat.session.is_none() && !seat.is_banned())
     }
 
-    /// Whether all that was delivered has been printed.
-    pub fn is_printed(&self) -> bool {
-        self.output.as_ref().is_none_or(Output::is_done)
+    /// Lets each connection end once its peer has all own messages.
+    pub fn end(&self) {
+        self.is_ending.store(true, Relaxed);
+        let gossip = self.gossip.lock();
+        gossip.seats.iter().flat_map(|it| &it.session).for_each(|it| it.due.notify_one());
+    }
+
+    /// Whether no peer is connected, and all that was delivered has been printed.
+    pub fn is_done(&self) -> bool {
+        self.gossip.lock().seats.iter().all(|it| it.session.is_none())
+            && self.output.as_ref().is_none_or(Output::is_done)
     }
 
     /// Does something with the protocol, and wakes whoever has something to do then.
     fn act<T>(&self, act: impl FnOnce(&mut Gossip, Time) -> T) -> T {
-        let mut gossip = lock(&self.gossip);
+        let mut gossip = self.gossip.lock();
         let done = act(&mut gossip, now());
         for peer in gossip.machine.take_woken() {
-            gossip.due[peer].notify_one();
+            gossip.seats[peer].session.iter().for_each(|it| it.due.notify_one());
         }
         if gossip.machine.may_publish() {
             self.opened.notify_one();
@@ -169,93 +201,97 @@ impl Hub {
     pub async fn keep_time(&self) {
         loop {
             let next = {
-                let mut gossip = lock(&self.gossip);
+                let mut gossip = self.gossip.lock();
                 gossip.timer = gossip.machine.next_time();
                 gossip.timer
             };
             let rest = Duration::from_micros(next.saturating_sub(now())).min(LOOK);
-            tokio::select! {
-                () = sleep(rest) => {
-                    self.act(|gossip, now| gossip.machine.timeout(now));
-                }
-                () = self.timer.notified() => {}
+            if timeout(rest, self.timer.notified()).await.is_err() {
+                self.act(|gossip, now| gossip.machine.timeout(now));
             }
         }
     }
 
+    /// Gives the place of a peer to a new connection, if it may have it.
     pub fn attach(
         &self,
         id: &PeerId,
         is_dialed: bool,
         round_trip: Duration,
     ) -> Option<Arc<Session>> {
-        let peer = self.peer(id)?;
-        let round_trip = round_trip.as_micros() as Time;
-        let attached = peer.attach(&self.identity.id, is_dialed, |session| {
-            self.act(|gossip, now| {
-                gossip.due[session.node] = session.due.clone();
-                gossip.machine.disconnect(now, session.node);
-                gossip.machine.connect(now, session.node, round_trip);
-            });
-        });
-        let session = attached.inspect_err(|why| debug!(peer = peer.name, why, "refused")).ok()?;
-        self.metrics.connected.with_label_values(&[&session.name]).set(1);
-        if peer.is_logged() {
-            info!(peer = session.name, is_dialed, "connected");
-        }
-        Some(session)
+        let session = Arc::new(Session::new(self.find(id)?, is_dialed));
+        let (name, node) = (&session.peer.config.name, session.peer.node);
+        self.act(|gossip, now| {
+            let seat = &mut gossip.seats[node];
+            seat.attach(session.clone(), self.identity.id < *id)
+                .inspect_err(|why| debug!(peer = name, why, "refused"))
+                .ok()?;
+            self.metrics.connected.with_label_values(&[name]).set(1);
+            if seat.is_logged() {
+                info!(peer = name, is_dialed, "connected");
+            }
+            gossip.machine.disconnect(now, node);
+            gossip.machine.connect(now, node, round_trip.as_micros() as Time);
+            Some(session.clone())
+        })
     }
 
     /// Gives up the place of a connection. A peer that broke the rules is refused for a while.
-    pub fn detach(&self, session: &Arc<Session>, why: &io::Error) {
-        let Some(peer) = self.peer(&session.peer) else {
-            self.metrics.connected.with_label_values(&[&session.name]).set(0);
-            return;
-        };
-        if why.kind() == ErrorKind::InvalidData {
-            self.metrics.invalid.with_label_values(&[&session.name]).inc();
-            let ban = peer.ban();
-            warn!(peer = session.name, %why, ?ban, "broke the rules");
-        }
-        let had_place = peer.detach(session, || {
-            self.act(|gossip, now| gossip.machine.disconnect(now, session.node));
-        });
-        if had_place {
-            self.metrics.connected.with_label_values(&[&session.name]).set(0);
-            if peer.is_logged() {
-                info!(peer = session.name, %why, "away");
+    pub fn detach(&self, session: &Session, why: &io::Error) {
+        let (name, node) = (&session.peer.config.name, session.peer.node);
+        self.act(|gossip, now| {
+            let seat = &mut gossip.seats[node];
+            if why.kind() == ErrorKind::InvalidData {
+                self.metrics.invalid.with_label_values(&[name]).inc();
+                let ban = Duration::from_micros(seat.ban());
+                warn!(peer = name, %why, ?ban, "broke the rules");
             }
-        }
+            if seat.is_of(session) {
+                seat.session = None;
+                self.metrics.connected.with_label_values(&[name]).set(0);
+                if seat.is_logged() {
+                    info!(peer = name, %why, "away");
+                }
+                gossip.machine.disconnect(now, node);
+            }
+        });
     }
 
     /// Adds to what is written to a peer, up to some bytes.
     pub fn fill(&self, session: &Session, most: usize, out: &mut Vec<u8>) {
-        let mut gossip = lock(&self.gossip);
-        let now = now();
+        let (mut gossip, now, node) = (self.gossip.lock(), now(), session.peer.node);
         while out.len() < most
-            && !session.is_over()
-            && let Some(frame) = gossip.machine.frame(now, session.node)
+            && gossip.seats[node].is_of(session)
+            && let Some(frame) = gossip.machine.frame(now, node)
         {
             let frame = match frame {
                 Frame::Message(message) => wire::Frame::Message(message.bytes),
-                Frame::Report(author, report) => wire::Frame::Report(gossip.ids[author], report),
+                Frame::Report(author, report) => {
+                    wire::Frame::Report(gossip.peers[author].config.key, report)
+                }
             };
             frame.encode(out);
         }
     }
 
-    /// Whether a peer lacks own messages, as far as it has said.
-    pub fn owes(&self, session: &Session) -> bool {
-        lock(&self.gossip).machine.lacks_own(session.node)
+    /// Whether this relay ends, and a peer has all own messages, as far as it has said.
+    pub fn is_over(&self, session: &Session) -> bool {
+        let is_ending = self.is_ending.load(Relaxed);
+        is_ending && !self.gossip.lock().machine.lacks_own(session.peer.node)
     }
 
     /// Takes a peer's report of an author.
     pub fn hear(&self, session: &Session, author: &PeerId, report: Report) {
+        let peer = session.peer.node;
         self.act(|gossip, now| {
             if let Some(&author) = gossip.nodes.get(author)
-                && !session.is_over()
+                && gossip.seats[peer].is_of(session)
             {
-                gossip.machine.report(now, session.node, author, report);
+                gossip.machine.report(now, peer, author, report);
+            }
+            // What it lacks may be no more.
+            if self.is_ending.load(Relaxed) {
+                session.due.notify_one();
             }
         });
     }
@@ -263,66 +299,63 @@ impl Hub {
     /// Takes a message: checks the signature, journals it and prints it, if it is new. Returns how long the connection rests then, which
     /// is long only for a peer that sends more than it has room for.
     pub fn take(&self, session: &Session, message: Signed) -> io::Result<Duration> {
-        let unlisted = || self.metrics.unlisted.with_label_values(&[&session.name]).inc();
-        let Some(author) = self.author(&message.author) else {
-            unlisted();
+        let peer = &session.peer;
+        let count = |it: &IntCounterVec| it.with_label_values(&[&peer.config.name]).inc();
+        let Some(author) = self.find(&message.author) else {
+            count(&self.metrics.unlisted);
             return Ok(Duration::ZERO);
         };
-        let node = author.node;
-        let wants = || lock(&self.gossip).machine.wants(node, message.stamp);
-        let checks = if wants() { author.check(&message).map_err(invalid)? } else { 0 };
-        let cost = checks * self.limits.signature_cost();
-        let mut journal = lock(&author.journal);
-        // An own message that comes back is not journaled: the journal has those after which the next one comes.
-        if let Some(journal) = &mut *journal
-            && wants()
-            && node != self.own.node
-        {
-            journal.append(std::slice::from_ref(&message))?;
+        let (node, is_own, mut cost) = (author.node, author.node == self.own.node, 0);
+        let mut known = author.author.lock();
+        let is_wanted = self.gossip.lock().machine.wants(node, message.stamp);
+        if is_wanted {
+            cost = known.check(&message).map_err(invalid)? * self.limits.signature_cost();
+            // An own message that comes back is not journaled: the journal has those after which the next one comes.
+            if let Some(journal) = &mut known.journal
+                && !is_own
+            {
+                journal.append(slice::from_ref(&message))?;
+            }
         }
-        let taken = self.act(|gossip, now| {
+        let (taken, rest) = self.act(|gossip, now| {
             // What came over a connection that is replaced counts against none.
-            if session.is_over() && !gossip.machine.wants(node, message.stamp) {
+            if !is_wanted && !gossip.seats[peer.node].is_of(session) {
                 return Ok((Taken::Again, 0));
             }
             gossip.machine.charge(now, node, cost);
-            let taken = gossip.machine.message(now, session.node, item(node, &message));
-            taken.map(|it| (it, gossip.machine.ready(now, node) - now))
-        });
-        drop(journal);
-        let (taken, rest) = taken.map_err(invalid)?;
+            let taken = gossip.machine.message(now, peer.node, item(node, &message));
+            taken.map(|it| (it, gossip.machine.ready(now, node) - now)).map_err(invalid)
+        })?;
         match taken {
-            Taken::New if node != self.own.node => self.deliver(&author, &message),
-            Taken::New => {}
-            Taken::Again => self.metrics.again.with_label_values(&[&session.name]).inc(),
-            Taken::Unlisted => unlisted(),
+            Taken::New if is_own => {}
+            Taken::New => self.deliver(&author, &message),
+            Taken::Again => count(&self.metrics.again),
+            Taken::Unlisted => count(&self.metrics.unlisted),
         }
         Ok(Duration::from_micros(rest))
     }
 
     fn deliver(&self, author: &Peer, message: &Signed) {
-        self.metrics.delivered.with_label_values(&[&author.name]).inc();
-        if let Some(output) = &self.output
-            && !output.write(author.id, output::line(&author.name, message).into_bytes())
-        {
-            self.metrics.output_dropped.inc();
-        }
+        let PeerConfig { name, key, .. } = &author.config;
+        self.metrics.delivered.with_label_values(&[name]).inc();
+        let output = self.output.iter();
+        output.for_each(|it| it.print(*key, output::line(name, message).into_bytes()));
     }
 
     /// Waits until more may be published: until no peer that is waited for is too far behind.
     pub async fn may_publish(&self) {
-        while !lock(&self.gossip).machine.may_publish() {
+        while !self.gossip.lock().machine.may_publish() {
             let _ = timeout(LOOK, self.opened.notified()).await;
         }
     }
 
     /// Signs texts as one batch, journals and publishes them. After an error nothing is published.
     pub fn publish(&self, texts: &[Vec<u8>]) -> io::Result<()> {
-        let mut journal = lock(&self.own.journal);
+        let mut own = self.own.author.lock();
         let clock = SystemTime::now().duration_since(UNIX_EPOCH).unwrap_or_default();
-        let next = lock(&self.gossip).machine.next_own(clock.as_nanos() as u64);
+        let next = self.gossip.lock().machine.next_own(clock.as_nanos() as u64);
         let messages = Signed::batch(&self.identity, next, texts)?;
-        if let Some(journal) = &mut *journal {
+        if let Some(journal) = &mut own.journal {
             journal.append(&messages)?;
         }
         self.metrics.published.inc_by(messages.len() as u64);
@@ -336,12 +369,11 @@ impl Hub {
 
     /// The page of all metrics.
     pub fn metrics_page(&self) -> String {
-        let peers: Vec<Arc<Peer>> = lock(&self.peers).values().cloned().collect();
-        let gossip = lock(&self.gossip);
-        for peer in peers.iter().chain([&self.own]) {
-            let log = gossip.machine.log(peer.node);
-            self.metrics.held.with_label_values(&[&peer.name]).set(log.is_held.into());
-            self.metrics.given_up.with_label_values(&[&peer.name]).set(log.given_up as i64);
+        let gossip = self.gossip.lock();
+        for peer in gossip.listed() {
+            let (log, name) = (gossip.machine.log(peer.node), &peer.config.name);
+            self.metrics.held.with_label_values(&[name]).set(log.is_held.into());
+            self.metrics.given_up.with_label_values(&[name]).set(log.given_up as i64);
         }
         drop(gossip);
         TextEncoder::new().encode_to_string(&self.metrics.registry.gather()).unwrap_or_default()
@@ -349,8 +381,11 @@ impl Hub {
 }
 
 /// Opens the journal of an author, if there is to be one. Returns besides what it had.
-fn open(config: &Config, id: &PeerId) -> io::Result<(Option<Journal>, journal::Past)> {
-    let Some(folder) = &config.journal else { return Ok(Default::default()) };
-    let (journal, past) = Journal::open(folder, id, config.limits.bytes_per_peer)?;
-    Ok((Some(journal), past))
+fn open(config: &Config, id: &PeerId) -> io::Result<(Arc<Mutex<Author>>, journal::Past)> {
+    let (mut author, mut past) = (Author::default(), journal::Past::default());
+    if let Some(folder) = &config.journal {
+        let (journal, had) = Journal::open(folder, id, config.limits.bytes_per_peer)?;
+        (author.journal, past) = (Some(journal), had);
+    }
+    Ok((Arc::new(Mutex::new(author)), past))
 }

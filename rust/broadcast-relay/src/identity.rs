@@ -1,15 +1,14 @@
 //! The key of a relay. A peer is known by the SHA-256 of its Ed25519 public key. A certificate is made from the key at
 //! each start, signed by it, and says nothing else.
 
-use crate::of;
+use crate::{invalid, of};
 use openssl::asn1::Asn1Time;
-use openssl::bn::BigNum;
 use openssl::error::ErrorStack;
 use openssl::hash::MessageDigest;
-use openssl::pkey::{Id, PKey, Private};
+use openssl::pkey::{HasPublic, Id, PKey, PKeyRef, Private};
 use openssl::sha::sha256;
 use openssl::sign::{Signer, Verifier};
-use openssl::x509::{X509, X509Builder, X509NameBuilder, X509Ref};
+use openssl::x509::{X509, X509Builder, X509Ref};
 use std::fs::{OpenOptions, metadata, read};
 use std::io::{self, Write};
 use std::os::unix::fs::{OpenOptionsExt, PermissionsExt};
@@ -53,29 +52,16 @@ impl Identity {
     }
 
     fn of(key: PKey<Private>) -> io::Result<Identity> {
-        let no_key = || io::Error::new(io::ErrorKind::InvalidData, "not an Ed25519 key");
-        if key.id() != Id::ED25519 {
-            return Err(no_key());
-        }
-        let public = key.raw_public_key()?.try_into().map_err(|_| no_key())?;
+        let public = public(&key).ok_or_else(|| invalid("not an Ed25519 key"))?;
         Ok(Identity { key, public, id: sha256(&public) })
     }
 
     /// A certificate of the key, signed by itself, for all times.
     pub fn certificate(&self) -> Result<X509, ErrorStack> {
-        let mut name = X509NameBuilder::new()?;
-        name.append_entry_by_text("CN", "broadcast-relay")?;
-        let name = name.build();
         let mut builder = X509Builder::new()?;
-        builder.set_version(2)?;
-        let serial = BigNum::from_u32(1)?.to_asn1_integer()?;
-        builder.set_serial_number(&serial)?;
-        builder.set_subject_name(&name)?;
-        builder.set_issuer_name(&name)?;
-        let (from, to) =
-            (Asn1Time::from_str("20200101000000Z")?, Asn1Time::from_str("99991231235959Z")?);
-        builder.set_not_before(&from)?;
-        builder.set_not_after(&to)?;
+        let [from, to] = ["20200101000000Z", "99991231235959Z"].map(Asn1Time::from_str);
+        builder.set_not_before(from?.as_ref())?;
+        builder.set_not_after(to?.as_ref())?;
         builder.set_pubkey(&self.key)?;
         builder.sign(&self.key, MessageDigest::null())?;
         Ok(builder.build())
@@ -86,33 +72,22 @@ impl Identity {
     }
 }
 
+fn public(key: &PKeyRef<impl HasPublic>) -> Option<[u8; 32]> {
+    if key.id() == Id::ED25519 { key.raw_public_key().ok()?.try_into().ok() } else { None }
+}
+
 /// The id of who proves to have the key of the certificate.
 pub fn id_of(certificate: &X509Ref) -> Option<PeerId> {
-    let key = certificate.public_key().ok().filter(|it| it.id() == Id::ED25519)?;
-    Some(sha256(&key.raw_public_key().ok()?))
+    let key = certificate.public_key().ok()?;
+    public(&key).map(|it| sha256(&it))
 }
 
 pub fn is_signed(public: &[u8], signature: &[u8], bytes: &[u8]) -> bool {
-    let verify = || -> Result<bool, ErrorStack> {
+    let verify = || {
         let key = PKey::public_key_from_raw_bytes(public, Id::ED25519)?;
         Verifier::new_without_digest(&key)?.verify_oneshot(signature, bytes)
     };
     verify().unwrap_or(false)
-}
-
-pub fn to_hex(id: &[u8]) -> String {
-    id.iter().map(|it| format!("{it:02x}")).collect()
-}
-
-pub fn from_hex(text: &str) -> Option<PeerId> {
-    let mut id = [0; 32];
-    if text.len() != 64 || !text.is_ascii() {
-        return None;
-    }
-    for (place, byte) in id.iter_mut().enumerate() {
-        *byte = u8::from_str_radix(text.get(2 * place..2 * place + 2)?, 16).ok()?;
-    }
-    Some(id)
 }
 
 #[cfg(test)]
@@ -125,8 +100,6 @@ mod tests {
         let certificate = identity.certificate().unwrap();
         assert_eq!(id_of(&certificate), Some(identity.id));
         assert!(certificate.verify(&identity.key).unwrap());
-        assert_eq!(from_hex(&to_hex(&identity.id)), Some(identity.id));
-        assert_eq!(from_hex("+1"), None);
     }
 
     #[test]

@@ -7,7 +7,7 @@ use std::thread;
 use std::time::Duration;
 use tokio::sync::mpsc::{self, Receiver};
 use tokio::time::{Instant, sleep, sleep_until};
-use tracing::{error, info};
+use tracing::error;
 
 /// How many lines wait. Whoever writes more has to wait too.
 const WAITING: usize = 64;
@@ -49,12 +49,13 @@ pub fn start() -> io::Result<Receiver<Vec<u8>>> {
     Ok(lines)
 }
 
-/// Publishes all lines, those that have come meanwhile together. Returns at the end of the input. Dropping the future loses no
-/// line: none is taken before it may be published.
-pub async fn publish(hub: &Hub, lines: &mut Receiver<Vec<u8>>) {
+/// Publishes all lines, those that have come meanwhile together. Returns at the end of the input, or once no line waits if the relay
+/// ends. Dropping the future loses no line: none is taken before it may be published.
+pub async fn publish(hub: &Hub, lines: &mut Receiver<Vec<u8>>, is_ending: bool) {
     loop {
         hub.may_publish().await;
-        let Some(line) = lines.recv().await else { break };
+        let line = if is_ending { lines.try_recv().ok() } else { lines.recv().await };
+        let Some(line) = line else { return };
         let next = Instant::now() + PACE;
         let (mut bytes, mut batch) = (line.len(), vec![line]);
         while batch.len() < MAX_BATCH
@@ -64,20 +65,15 @@ pub async fn publish(hub: &Hub, lines: &mut Receiver<Vec<u8>>) {
             bytes += line.len();
             batch.push(line);
         }
-        publish_all(hub, &batch).await;
-        sleep_until(next).await;
-    }
-    info!("the input has ended");
-}
-
-/// Publishes lines as one batch, again and again until it succeeds, as on a full disk.
-pub async fn publish_all(hub: &Hub, batch: &[Vec<u8>]) {
-    let mut has_failed = false;
-    while let Err(why) = hub.publish(batch) {
-        if !has_failed {
-            error!(%why, "lines are not broadcast, and tried again");
-            has_failed = true;
+        // Again and again until it succeeds, as on a full disk.
+        let mut has_failed = false;
+        while let Err(why) = hub.publish(&batch) {
+            if !has_failed {
+                error!(%why, "lines are not broadcast, and tried again");
+                has_failed = true;
+            }
+            sleep(RETRY).await;
         }
-        sleep(RETRY).await;
+        sleep_until(next).await;
     }
 }

@@ -7,11 +7,12 @@
 //! A message is written by one call before it is printed or passed on; the system is not told to sync. A kill of the process loses
 //! nothing of it, a loss of power may lose the newest messages.
 
-use crate::identity::{PeerId, from_hex, to_hex};
+use crate::identity::PeerId;
 use crate::message::{MAX_MESSAGE, Signed};
 use crate::of;
 use broadcast_relay::gossip::Coverage;
 use bytes::Bytes;
+use hex::FromHex;
 use openssl::sha::Sha256;
 use std::collections::{BTreeSet, VecDeque};
 use std::fs::{self, File, OpenOptions, TryLockError};
@@ -41,7 +42,7 @@ pub fn lock_folder(folder: &Path) -> io::Result<File> {
 
 /// The older and the newer file of an author.
 fn files(folder: &Path, author: &PeerId) -> [PathBuf; 2] {
-    let newer = folder.join(to_hex(author));
+    let newer = folder.join(hex::encode(author));
     [newer.with_extension("old"), newer]
 }
 
@@ -170,7 +171,7 @@ fn head(covered: &Coverage) -> Vec<u8> {
 pub fn read(folder: &Path, mut each: impl FnMut(Signed)) -> io::Result<()> {
     let mut authors = BTreeSet::new();
     for it in fs::read_dir(folder).map_err(of(folder))? {
-        authors.extend(it?.path().file_stem().and_then(|it| from_hex(it.to_str()?)));
+        authors.extend(it?.path().file_stem().and_then(|it| <PeerId>::from_hex(it.to_str()?).ok()));
     }
     for file in authors.iter().flat_map(|it| files(folder, it)).filter(|it| it.exists()) {
         let mut past = Past::default();
@@ -291,7 +292,7 @@ mod tests {
         let (folder, author) = (folder("journal-killed"), Identity::generate().unwrap());
         let (mut journal, _) = Journal::open(&folder, &author.id, MOST).unwrap();
         (1..=100).for_each(|it| journal.append(&message(&author, it)).unwrap());
-        let file = folder.join(to_hex(&author.id));
+        let file = folder.join(hex::encode(author.id));
         // Between the two steps, and with a new file that has no head yet.
         fs::rename(&file, file.with_extension("old")).unwrap();
         let (_, past) = Journal::open(&folder, &author.id, MOST).unwrap();
@@ -316,9 +317,9 @@ mod tests {
         };
         (0..15).for_each(|_| append().unwrap());
         // As where no descriptor is left, or the disk is full.
-        let fresh = folder.join(to_hex(&author.id)).with_extension("new");
+        let fresh = folder.join(hex::encode(author.id)).with_extension("new");
         fs::create_dir(&fresh).unwrap();
-        assert!(append().unwrap_err().to_string().contains(&to_hex(&author.id)));
+        assert!(append().unwrap_err().to_string().contains(&hex::encode(author.id)));
         fs::remove_dir(&fresh).unwrap();
         (0..9).for_each(|_| append().unwrap());
         let (_, past) = Journal::open(&folder, &author.id, MOST).unwrap();
@@ -333,7 +334,7 @@ mod tests {
         let (folder, author) = (folder("journal-damaged"), Identity::generate().unwrap());
         let (mut journal, _) = Journal::open(&folder, &author.id, 1 << 20).unwrap();
         (1..=5).for_each(|it| journal.append(&message(&author, it)).unwrap());
-        let file = folder.join(to_hex(&author.id));
+        let file = folder.join(hex::encode(author.id));
         let good = fs::read(&file).unwrap();
         let record = (good.len() - HEAD) / 5;
         let second = HEAD + record;

@@ -1,11 +1,10 @@
 //! Accepts and dials connections.
 
-use crate::handshakes::{Handshakes, has_hello};
 use crate::hub::Hub;
 use crate::identity::PeerId;
 use crate::peer::Peer;
-use crate::places::Places;
 use crate::session;
+use crate::strangers::{Strangers, has_hello, network};
 use crate::tls::{Stream, Tls};
 use rand::Rng;
 use std::io;
@@ -29,8 +28,7 @@ const REFUSED: Duration = Duration::from_millis(20);
 pub struct Network {
     pub hub: Arc<Hub>,
     pub tls: Tls,
-    pub places: Places,
-    pub handshakes: Handshakes,
+    pub strangers: Strangers,
     /// How many connections are accepted that have proved no key.
     pub accepted: Arc<Semaphore>,
 }
@@ -54,19 +52,18 @@ pub async fn accept(network: Arc<Network>, listener: TcpListener) {
 }
 
 async fn greet(at: Arc<Network>, stream: TcpStream, from: SocketAddr, one: OwnedSemaphorePermit) {
-    let metrics = &at.hub.metrics;
-    let Some(mut place) = at.places.enter(from.ip()).await else {
+    let (metrics, address) = (&at.hub.metrics, network(from.ip()));
+    let Some(mut place) = at.strangers.enter(address).await else {
         return metrics.turned_away.inc();
     };
     metrics.pushed_out.inc_by(place.has_pushed.into());
     metrics.handshakes.inc();
     let proved = tokio::select! {
-        _ = &mut place.pushed => Err(io::Error::other("another has taken its place")),
-        proved = in_time(prove(&at, stream, place.address)) => proved,
+        _ = &mut place.taken => Err(io::Error::other("another has taken its place")),
+        proved = in_time(prove(&at, stream, address)) => proved,
     };
-    at.places.leave(&place);
     metrics.handshakes.dec();
-    drop(one);
+    drop((place, one));
     match proved {
         Ok(proved) => attend(&at.hub, proved, false).await,
         Err(why) => {
@@ -85,7 +82,7 @@ async fn prove(at: &Network, stream: TcpStream, address: IpAddr) -> io::Result<P
     if !has_hello(&stream).await? {
         return Err(io::Error::other("no handshake"));
     }
-    at.handshakes.turn(address).await;
+    at.strangers.turn(address).await;
     let start = Instant::now();
     let (mut stream, id) = at.tls.accept(stream).await?;
     session::greet(&mut stream).await?;
@@ -117,12 +114,12 @@ where
 
 /// Dials a peer whenever it is not connected, until it is removed or moves.
 async fn dial(network: Arc<Network>, peer: Arc<Peer>) {
-    let (hub, Some(address)) = (&network.hub, &peer.address) else { return };
-    let (mut rest, mut logged, mut looked_up) = (REST, None, None);
-    while hub.peer(&peer.id).is_some_and(|it| Arc::ptr_eq(&it, &peer)) {
+    let (hub, Some(address)) = (&network.hub, &peer.config.address) else { return };
+    let (mut rest, mut logged) = (REST, None);
+    while let Some(is_free) = hub.is_free(&peer) {
         let start = Instant::now();
-        if peer.session().is_none() && !peer.is_banned() {
-            match in_time(connect(&network, &peer, address, &mut looked_up)).await {
+        if is_free {
+            match connect(&network, &peer, address).await {
                 Ok(proved) => {
                     logged = None;
                     attend(hub, proved, true).await;
@@ -130,89 +127,75 @@ async fn dial(network: Arc<Network>, peer: Arc<Peer>) {
                 Err(why) => {
                     let why = Some(why.to_string());
                     if why != logged {
-                        info!(peer = peer.name, address, why, "not reached");
+                        info!(peer = peer.config.name, address, why, "not reached");
                         logged = why;
                     }
                 }
             }
         }
         // Not both sides at the same time, and the longer the more often it failed.
-        let is_fresh = start.elapsed() > MAX_REST || peer.session().is_some();
+        let is_fresh = !is_free || start.elapsed() > MAX_REST;
         rest = if is_fresh { REST } else { MAX_REST.min(rest * 2) };
         let part = rand::thread_rng().gen_range(0.5..1.5);
         sleep(rest.mul_f64(part)).await;
     }
 }
 
-/// The addresses of a name, once a thread has looked them up.
-type LookUp = Option<oneshot::Receiver<io::Result<Vec<SocketAddr>>>>;
-
-/// Looks up the addresses of `HOST:PORT` in a thread of its own: a name server that does not answer keeps no other peer away. Who asks
-/// again meanwhile waits for the same answer.
-async fn resolve(name: &str, looked_up: &mut LookUp) -> io::Result<Vec<SocketAddr>> {
+/// Looks up the addresses of `HOST:PORT`. It may take long: no deadline ends it, so each peer has one thread at most.
+async fn resolve(name: &str) -> io::Result<Vec<SocketAddr>> {
     if let Ok(address) = name.parse() {
         return Ok(vec![address]);
     }
-    let found = match looked_up {
-        Some(it) => it,
-        None => looked_up.insert(apart({
-            let name = name.to_owned();
-            move || name.to_socket_addrs().map(Iterator::collect)
-        })?),
-    };
-    let found = found.await;
-    *looked_up = None;
-    found.map_err(io::Error::other)?
+    let name = name.to_owned();
+    apart(move || name.to_socket_addrs().map(Iterator::collect)).await?
 }
 
 /// Does what may take long in a thread of its own.
-pub fn apart<T: Send + 'static>(
-    work: impl FnOnce() -> T + Send + 'static,
-) -> io::Result<oneshot::Receiver<T>> {
+pub async fn apart<T: Send + 'static>(work: impl FnOnce() -> T + Send + 'static) -> io::Result<T> {
     let (sender, done) = oneshot::channel();
     thread::Builder::new().spawn(move || sender.send(work()))?;
-    Ok(done)
+    done.await.map_err(io::Error::other)
 }
 
-async fn connect(
-    network: &Network,
-    peer: &Peer,
-    address: &str,
-    looked_up: &mut LookUp,
-) -> io::Result<Proved> {
-    let (addresses, start) = (resolve(address, looked_up).await?, Instant::now());
-    let stream = TcpStream::connect(&addresses[..]).await?;
-    let round_trip = start.elapsed();
-    stream.set_nodelay(true)?;
-    let mut stream = network.tls.connect(stream, peer.id).await?;
-    let refused = |why: io::Error| match why.kind() {
-        io::ErrorKind::Unsupported => why,
-        // The other side ends the handshake once it has seen the own certificate, which is after this side's part of it.
-        _ => io::Error::other(format!("refused: {} does not list this relay's key", peer.name)),
-    };
-    session::greet(&mut stream).await.map_err(refused)?;
-    Ok((stream, peer.id, round_trip))
+async fn connect(network: &Network, peer: &Peer, address: &str) -> io::Result<Proved> {
+    let (addresses, id) = (resolve(address).await?, peer.config.key);
+    in_time(async {
+        let start = Instant::now();
+        let stream = TcpStream::connect(&addresses[..]).await?;
+        let round_trip = start.elapsed();
+        stream.set_nodelay(true)?;
+        let mut stream = network.tls.connect(stream, id).await?;
+        session::greet(&mut stream).await.map_err(|why| match why.kind() {
+            io::ErrorKind::Unsupported => why,
+            // The other side ends the handshake once it has seen the own certificate, which is after this side's part of it.
+            _ => {
+                let name = &peer.config.name;
+                io::Error::other(format!("refused: {name} does not list this relay's key"))
+            }
+        })?;
+        Ok((stream, id, round_trip))
+    })
+    .await
 }
 
 #[cfg(test)]
 mod tests {
     use super::*;
     use std::sync::atomic::{AtomicU32, Ordering};
+    use std::sync::mpsc;
 
     #[tokio::test]
     async fn a_name_server_that_does_not_answer_keeps_no_other_peer_away() {
         // It answers once the sender is dropped.
-        let (silent, answer) = oneshot::channel();
-        let mut looked_up: LookUp = Some(answer);
-        let asked = timeout(REST, resolve("silent.example:7", &mut looked_up)).await;
-        // No second thread is started for it.
-        assert!(asked.is_err() && looked_up.is_some());
-        let found = resolve("localhost:7", &mut None).await.unwrap();
+        let (silent, answer) = mpsc::channel::<()>();
+        let asked = tokio::spawn(apart(move || answer.recv()));
+        let found = resolve("localhost:7").await.unwrap();
         assert!(found.iter().all(|it| it.port() == 7));
-        let known = resolve("10.0.0.1:7", &mut None).await.unwrap();
+        let known = resolve("10.0.0.1:7").await.unwrap();
         assert_eq!(known, ["10.0.0.1:7".parse().unwrap()]);
+        assert!(!asked.is_finished());
         drop(silent);
-        assert!(resolve("silent.example:7", &mut looked_up).await.is_err() && looked_up.is_none());
+        assert!(asked.await.unwrap().unwrap().is_err());
     }
 
     #[tokio::test(start_paused = true)]

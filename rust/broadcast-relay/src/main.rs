@@ -4,45 +4,36 @@
 //! them what it lacks: the protocol is in `broadcast_relay::gossip`.
 
 mod config;
-mod handshakes;
-mod http;
 mod hub;
 mod identity;
 mod input;
 mod journal;
 mod listen;
-mod logging;
 mod message;
 mod metrics;
 mod output;
 mod peer;
-mod places;
 mod relay;
 mod session;
 mod setup;
+mod strangers;
 mod tls;
 mod turns;
 mod wire;
 
 use broadcast_relay::gossip::Time;
-use clap::{Parser, Subcommand};
+use clap::Parser;
 use config::Config;
-use identity::{Identity, keygen, to_hex};
+use identity::{Identity, keygen};
 use std::io;
 use std::path::{Path, PathBuf};
 use std::process::ExitCode;
-use std::sync::{LazyLock, Mutex, MutexGuard, PoisonError};
+use std::sync::LazyLock;
 use std::time::Instant;
 
 /// A gossip relay over mutual TLS.
 #[derive(Parser)]
 #[command(version)]
-struct Arguments {
-    #[command(subcommand)]
-    command: Command,
-}
-
-#[derive(Subcommand)]
 enum Command {
     /// Run a relay until SIGTERM or SIGINT. SIGHUP reads the peers of the configuration again.
     ///
@@ -74,7 +65,7 @@ enum Command {
 }
 
 fn main() -> ExitCode {
-    match run(Arguments::parse().command) {
+    match run(Command::parse()) {
         Ok(()) => ExitCode::SUCCESS,
         Err(why) => {
             eprintln!("broadcast-relay: {why}");
@@ -88,16 +79,13 @@ fn run(command: Command) -> io::Result<()> {
         Command::Run { config, check_config: false } => relay::run(&config),
         Command::Run { config, check_config: true } => setup::check(&config),
         Command::Init { folder, listen, with } => setup::init(&folder, listen, &with),
-        Command::Keygen { file } => keygen(&file).map(|it| println!("{}", to_hex(&it.id))),
-        Command::Key { file } => Identity::load(&file).map(|it| println!("{}", to_hex(&it.id))),
+        Command::Keygen { file } => keygen(&file).map(|it| println!("{}", hex::encode(it.id))),
+        Command::Key { file } => Identity::load(&file).map(|it| println!("{}", hex::encode(it.id))),
         Command::Entry { config, name } => {
-            let config = Config::load(&config)?;
-            let id = Identity::load(&config.key)?.id;
-            print!("{}", config.entry(&id, &name));
-            Ok(())
+            Config::load(&config)?.entry(&name).map(|it| print!("{it}"))
         }
         Command::Log { journal } => journal::read(&journal, |it| {
-            print!("{}", output::line(&to_hex(&it.author), &it));
+            print!("{}", output::line(&hex::encode(it.author), &it));
         }),
     }
 }
@@ -116,9 +104,4 @@ fn now() -> Time {
 /// What came, or was read, is wrong.
 fn invalid(why: impl ToString) -> io::Error {
     io::Error::new(io::ErrorKind::InvalidData, why.to_string())
-}
-
-/// Locks a mutex, also if a task that held it has panicked.
-fn lock<T>(mutex: &Mutex<T>) -> MutexGuard<'_, T> {
-    mutex.lock().unwrap_or_else(PoisonError::into_inner)
 }

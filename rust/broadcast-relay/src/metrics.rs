@@ -1,11 +1,25 @@
-//! What a relay counts. README.md says what each counter means.
+//! What a relay counts, and `GET /metrics` and `GET /healthz` for a scraper. README.md says what each counter means.
 
+use crate::hub::Hub;
+use hyper::server::conn::Http;
+use hyper::service::service_fn;
+use hyper::{Body, Method, Request, Response, StatusCode, http};
 use prometheus::{
     IntCounter, IntCounterVec, IntGauge, IntGaugeVec, Registry,
     register_int_counter_vec_with_registry as counters,
     register_int_counter_with_registry as counter, register_int_gauge_vec_with_registry as gauges,
     register_int_gauge_with_registry as gauge,
 };
+use std::collections::VecDeque;
+use std::sync::Arc;
+use std::time::Duration;
+use tokio::net::TcpListener;
+use tokio::task::JoinHandle;
+use tokio::time::{sleep, timeout};
+
+/// How many are served at once, and for how long at most.
+const PLACES: usize = 16;
+const PATIENCE: Duration = Duration::from_secs(5);
 
 pub struct Metrics {
     pub registry: Registry,
@@ -54,4 +68,35 @@ impl Metrics {
             counter.with_label_values(&[name]);
         }
     }
+}
+
+/// Serves the newest connections for a scraper: each that comes ends the oldest.
+pub async fn serve_metrics(hub: Arc<Hub>, listener: TcpListener) {
+    let mut served: VecDeque<JoinHandle<()>> = VecDeque::new();
+    loop {
+        let Ok((stream, _)) = listener.accept().await else {
+            sleep(Duration::from_millis(100)).await;
+            continue;
+        };
+        let hub = hub.clone();
+        served.push_back(tokio::spawn(async move {
+            let answers = service_fn(|request| {
+                let response = answer(&hub, &request);
+                async { response }
+            });
+            let _ = timeout(PATIENCE, Http::new().serve_connection(stream, answers)).await;
+        }));
+        if served.len() > PLACES {
+            served.pop_front().iter().for_each(JoinHandle::abort);
+        }
+    }
+}
+
+fn answer(hub: &Hub, request: &Request<Body>) -> http::Result<Response<Body>> {
+    let (status, body) = match (request.method(), request.uri().path()) {
+        (&Method::GET, "/metrics") => (StatusCode::OK, hub.metrics_page()),
+        (&Method::GET, "/healthz") => (StatusCode::OK, "ok\n".to_owned()),
+        _ => (StatusCode::NOT_FOUND, String::new()),
+    };
+    Response::builder().status(status).body(body.into())
 }

@@ -1,19 +1,23 @@
 //! Writes lines in a thread of its own: a reader of the output or of the log that does not read stops nothing else.
 
 use crate::identity::PeerId;
-use crate::lock;
 use crate::message::Signed;
 use crate::turns::Turns;
+use parking_lot::{Condvar, Mutex};
+use prometheus::IntCounter;
 use std::collections::HashMap;
 use std::fs::File;
 use std::io::{self, ErrorKind, Write};
 use std::os::fd::AsFd;
-use std::sync::{Arc, Condvar, Mutex, PoisonError};
+use std::sync::Arc;
 use std::thread;
 use std::time::Duration;
+use tracing_subscriber::EnvFilter;
 
-/// The most bytes of an author that wait for the reader. What has no room is not printed, and counted; the journal has it.
+/// The most bytes of an author that wait for the reader, and of the log. What has no room is not printed, and counted; the journal
+/// has it.
 pub const MAX_WAITING: usize = 2 << 20;
+const MAX_LOG: usize = 128 << 10;
 /// How long an output that failed rests.
 const REST: Duration = Duration::from_millis(100);
 
@@ -31,50 +35,77 @@ struct Lines {
 pub struct Output {
     shared: Arc<(Mutex<Lines>, Condvar)>,
     most: usize,
+    dropped: IntCounter,
 }
 
 impl Output {
     /// Starts to write to a file, of which at most so many bytes wait of each author.
-    pub fn start(name: &str, file: impl AsFd, most: usize) -> io::Result<Output> {
-        let output = Output { shared: Arc::default(), most };
+    pub fn start(
+        name: &str,
+        file: impl AsFd,
+        most: usize,
+        dropped: &IntCounter,
+    ) -> io::Result<Output> {
+        let output = Output { shared: Arc::default(), most, dropped: dropped.clone() };
         let shared = output.shared.clone();
         // Not by `Stdout`, which keeps what it could not write.
         let mut out = File::from(file.as_fd().try_clone_to_owned()?);
         thread::Builder::new().name(name.into()).spawn(move || {
-            while print(&mut out, &next(&shared)) {}
+            while write_all(&mut out, &next(&shared)) {}
             tracing::warn!("nobody reads the output any more");
-            lock(&shared.0).is_closed = true;
+            shared.0.lock().is_closed = true;
         })?;
         Ok(output)
     }
 
-    /// Writes a line of an author. Returns whether there was room for it.
-    pub fn write(&self, author: PeerId, line: Vec<u8>) -> bool {
-        let mut lines = lock(&self.shared.0);
+    /// Starts the log, which goes to standard error.
+    pub fn start_log(dropped: &IntCounter) -> io::Result<Output> {
+        let output = Output::start("log", io::stderr(), MAX_LOG, dropped)?;
+        let filter = EnvFilter::try_from_default_env()
+            .unwrap_or_else(|_| "warn,broadcast_relay=info".into());
+        let log = tracing_subscriber::fmt().with_env_filter(filter).log_internal_errors(false);
+        let writer = output.clone();
+        log.with_writer(move || writer.clone()).init();
+        Ok(output)
+    }
+
+    /// Prints a line of an author, or drops and counts it where there is no room.
+    pub fn print(&self, author: PeerId, line: Vec<u8>) {
+        let mut lines = self.shared.0.lock();
         let Lines { waiting, bytes, is_closed, .. } = &mut *lines;
         let bytes = bytes.entry(author).or_default();
         if *is_closed || *bytes + line.len() > self.most {
-            return false;
+            return self.dropped.inc();
         }
         *bytes += line.len();
         waiting.push(author, line);
         self.shared.1.notify_one();
-        true
     }
 
     /// Whether all is written, or will never be.
     pub fn is_done(&self) -> bool {
-        let lines = lock(&self.shared.0);
+        let lines = self.shared.0.lock();
         lines.is_closed || (lines.waiting.is_empty() && !lines.is_writing)
+    }
+}
+
+/// Each line of the log is one write.
+impl Write for Output {
+    fn write(&mut self, line: &[u8]) -> io::Result<usize> {
+        self.print([0; 32], line.to_vec());
+        Ok(line.len())
+    }
+
+    fn flush(&mut self) -> io::Result<()> {
+        Ok(())
     }
 }
 
 /// Waits for lines, and takes up to 16 KiB of them, and at least one. What was taken before is written then.
 fn next((lines, filled): &(Mutex<Lines>, Condvar)) -> Vec<u8> {
-    let mut lines = lock(lines);
+    let mut lines = lines.lock();
     lines.is_writing = false;
-    let waited = filled.wait_while(lines, |it| it.waiting.is_empty());
-    let mut lines = waited.unwrap_or_else(PoisonError::into_inner);
+    filled.wait_while(&mut lines, |it| it.waiting.is_empty());
     lines.is_writing = true;
     let mut batch = Vec::new();
     while batch.len() < 1 << 14
@@ -87,7 +118,7 @@ fn next((lines, filled): &(Mutex<Lines>, Condvar)) -> Vec<u8> {
 }
 
 /// Writes all, and tries again what fails, as on a full disk. Returns whether somebody may still read it.
-fn print(out: &mut File, mut batch: &[u8]) -> bool {
+fn write_all(out: &mut File, mut batch: &[u8]) -> bool {
     let mut has_failed = false;
     while !batch.is_empty() {
         match out.write(batch) {
@@ -138,24 +169,26 @@ mod tests {
         let mut out = File::from(OwnedFd::from(out));
         let lines = vec![b'x'; 4 << 20];
         thread::scope(|threads| {
-            let printed = threads.spawn(|| print(&mut out, &lines));
+            let printed = threads.spawn(|| write_all(&mut out, &lines));
             let mut read = vec![0; lines.len()];
             reader.read_exact(&mut read).unwrap();
             assert!(printed.join().unwrap() && read == lines);
         });
         drop(reader);
-        assert!(!print(&mut out, &lines));
+        assert!(!write_all(&mut out, &lines));
     }
 
     #[test]
     fn what_is_being_written_is_not_done() {
         let (out, mut reader) = UnixStream::pair().unwrap();
-        let output = Output::start("test", &out, MAX_WAITING).unwrap();
+        let dropped = IntCounter::new("dropped", "Lines").unwrap();
+        let output = Output::start("test", &out, MAX_WAITING, &dropped).unwrap();
         drop(out);
         // More than the system keeps.
         let line = vec![b'x'; MAX_WAITING];
-        assert!(output.write([1; 32], line.clone()) && !output.is_done());
-        while !lock(&output.shared.0).waiting.is_empty() {
+        output.print([1; 32], line.clone());
+        assert!(dropped.get() == 0 && !output.is_done());
+        while !output.shared.0.lock().waiting.is_empty() {
             thread::sleep(REST);
         }
         assert!(!output.is_done());
@@ -165,7 +198,8 @@ mod tests {
             thread::sleep(REST);
         }
         drop(reader);
-        while output.write([1; 32], line.clone()) || !output.is_done() {
+        while dropped.get() == 0 || !output.is_done() {
+            output.print([1; 32], line.clone());
             thread::sleep(REST);
         }
     }

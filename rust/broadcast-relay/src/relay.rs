@@ -1,17 +1,15 @@
 //! Runs a relay, from its start to its end.
 
 use crate::config::Config;
-use crate::handshakes::Handshakes;
-use crate::http;
 use crate::hub::Hub;
-use crate::identity::{Identity, to_hex};
+use crate::identity::Identity;
 use crate::input;
 use crate::journal;
 use crate::listen::{Network, accept, apart, start_dialing};
-use crate::logging::Lines;
-use crate::metrics::Metrics;
-use crate::places::Places;
+use crate::metrics::{Metrics, serve_metrics};
+use crate::output::Output;
 use crate::setup;
+use crate::strangers::Strangers;
 use crate::tls::Tls;
 use broadcast_relay::gossip::Coverage;
 use std::fs::File;
@@ -20,6 +18,7 @@ use std::io::{self, IsTerminal, stdin};
 use std::net::SocketAddr;
 use std::path::Path;
 use std::sync::Arc;
+use std::thread;
 use std::time::Duration;
 use tokio::net::TcpListener;
 use tokio::runtime::Builder;
@@ -30,17 +29,20 @@ use tracing::{info, warn};
 
 /// How long an end may wait until all is printed, and each peer has read all own messages.
 const DRAIN: Duration = Duration::from_secs(10);
+/// How often it is looked whether all is written.
+const POLL: Duration = Duration::from_millis(1);
 
 /// Runs the relay of a configuration until SIGTERM or SIGINT.
 pub fn run(file: &Path) -> io::Result<()> {
     Coverage::check().map_err(io::Error::other)?;
     let mut config = Config::load(file)?;
     let metrics = Metrics::new().map_err(io::Error::other)?;
-    let log = Lines::start(&metrics)?;
+    let log = Output::start_log(&metrics.log_dropped)?;
     setup::fit(&mut config)?;
     let runtime = Builder::new_multi_thread().enable_all().build()?;
     let result = runtime.block_on(serve(file, config, metrics));
-    log.finish();
+    // A reader of the log that does not read is waited for only for a while.
+    (0..1_000).take_while(|_| !log.is_done()).for_each(|_| thread::sleep(POLL));
     result?;
     // The thread that reads the input may wait for it for ever.
     std::process::exit(0)
@@ -50,12 +52,13 @@ async fn serve(file: &Path, config: Config, metrics: Metrics) -> io::Result<()> 
     let mut terminate = signal(SignalKind::terminate())?;
     let mut interrupt = signal(SignalKind::interrupt())?;
     let mut hangup = signal(SignalKind::hangup())?;
-    let (network, _lock) = start(&config, metrics).await?;
+    let (network, _folder) = start(&config, metrics).await?;
     let hub = &network.hub;
     let mut lines = if config.input { Some(input::start()?) } else { None };
     let publishes = async {
         if let Some(lines) = &mut lines {
-            input::publish(hub, lines).await;
+            input::publish(hub, lines, false).await;
+            info!("the input has ended");
         }
         pending().await
     };
@@ -88,15 +91,11 @@ async fn serve(file: &Path, config: Config, metrics: Metrics) -> io::Result<()> 
 async fn drain(hub: &Hub, lines: Option<mpsc::Receiver<Vec<u8>>>) {
     let all = async {
         if let Some(mut lines) = lines {
-            hub.may_publish().await;
-            while let Ok(line) = lines.try_recv() {
-                input::publish_all(hub, &[line]).await;
-                hub.may_publish().await;
-            }
+            input::publish(hub, &mut lines, true).await;
         }
-        hub.sessions().iter().for_each(|it| it.finish());
-        while !hub.sessions().is_empty() || !hub.is_printed() {
-            sleep(Duration::from_millis(5)).await;
+        hub.end();
+        while !hub.is_done() {
+            sleep(POLL).await;
         }
     };
     if timeout(DRAIN, all).await.is_err() {
@@ -113,27 +112,28 @@ async fn start(config: &Config, metrics: Metrics) -> io::Result<(Arc<Network>, O
         Some(address) => Some((bind(address).await?, address)),
         None => None,
     };
-    let lock = config.journal.as_deref().map(journal::lock_folder).transpose()?;
+    let folder = config.journal.as_deref().map(journal::lock_folder).transpose()?;
     let hub = Arc::new(Hub::new(identity, config, metrics)?);
     if let Some((listener, address)) = served {
         info!(%address, "metrics");
-        tokio::spawn(http::serve(hub.clone(), listener));
+        tokio::spawn(serve_metrics(hub.clone(), listener));
     }
-    let limits = &config.limits;
+    let [places, of_address] =
+        [config.limits.handshakes, config.limits.handshakes_per_address].map(|it| it as usize);
     let network = Arc::new(Network {
-        tls: Tls::new(&hub.identity, hub.peers.clone())?,
+        tls: Tls::new(hub.clone())?,
         hub,
-        places: Places::new(limits.handshakes, limits.handshakes_per_address),
-        handshakes: Handshakes::default(),
-        accepted: Arc::new(Semaphore::new(2 * limits.handshakes)),
+        strangers: Strangers::new(places, of_address),
+        accepted: Arc::new(Semaphore::new(2 * places)),
     });
     set_peers(&network, config.clone()).await?;
-    info!(address = %config.listen, key = to_hex(&network.hub.identity.id), "listening");
+    let key = hex::encode(network.hub.identity.id);
+    info!(address = %config.listen, key, "listening");
     let (times, turns) = (network.clone(), network.clone());
     tokio::spawn(async move { times.hub.keep_time().await });
-    tokio::spawn(async move { turns.handshakes.give_turns().await });
+    tokio::spawn(async move { turns.strangers.give_turns().await });
     tokio::spawn(accept(network.clone(), listener));
-    Ok((network, lock))
+    Ok((network, folder))
 }
 
 async fn bind(address: SocketAddr) -> io::Result<TcpListener> {
@@ -160,7 +160,7 @@ async fn reload(network: &Arc<Network>, file: &Path, old: &Config) {
 /// Sets the peers, in a thread of its own, since that reads journals, and dials those that are new or have moved. Returns how many.
 async fn set_peers(network: &Arc<Network>, config: Config) -> io::Result<usize> {
     let hub = network.hub.clone();
-    let peers = apart(move || hub.set_peers(&config))?.await.map_err(io::Error::other)??;
+    let peers = apart(move || hub.set_peers(&config)).await??;
     peers.iter().for_each(|it| start_dialing(network, it.clone()));
     Ok(peers.len())
 }

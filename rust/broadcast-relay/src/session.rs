@@ -28,7 +28,6 @@ pub async fn greet(stream: &mut Stream) -> io::Result<()> {
     let mut hello = Vec::new();
     Frame::Hello(VERSION).encode(&mut hello);
     stream.write_all(&hello).await?;
-    stream.flush().await?;
     match read_frame(stream).await? {
         Frame::Hello(VERSION) => Ok(()),
         Frame::Hello(version) => {
@@ -58,7 +57,7 @@ async fn write(hub: &Hub, session: &Session, mut to: impl AsyncWrite + Unpin) ->
     loop {
         bytes.clear();
         hub.fill(session, BATCH, &mut bytes);
-        if bytes.is_empty() && session.is_finishing() && !hub.owes(session) {
+        if bytes.is_empty() && hub.is_over(session) {
             timeout(SILENCE, to.shutdown()).await??;
             return pending().await;
         }
@@ -68,11 +67,7 @@ async fn write(hub: &Hub, session: &Session, mut to: impl AsyncWrite + Unpin) ->
             }
             Frame::Beat.encode(&mut bytes);
         }
-        timeout(SILENCE, async {
-            to.write_all(&bytes).await?;
-            to.flush().await
-        })
-        .await??;
+        timeout(SILENCE, to.write_all(&bytes)).await??;
         beat = Instant::now() + BEAT;
     }
 }
@@ -88,13 +83,7 @@ async fn read(hub: &Hub, session: &Session, from: impl AsyncRead + Unpin) -> io:
         let mut rest = Duration::from_micros(frames.when(now, 1) - now);
         match frame {
             Frame::Beat => {}
-            Frame::Report(author, report) => {
-                hub.hear(session, &author, report);
-                // What is owed may be no more.
-                if session.is_finishing() {
-                    session.due.notify_one();
-                }
-            }
+            Frame::Report(author, report) => hub.hear(session, &author, report),
             Frame::Message(bytes) => {
                 rest = rest.max(hub.take(session, Signed::decode(bytes).map_err(invalid)?)?);
             }

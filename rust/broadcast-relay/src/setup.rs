@@ -2,6 +2,7 @@
 
 use crate::config::{Config, check_name};
 use crate::identity::{Identity, keygen};
+use crate::invalid;
 use std::fs::{self, OpenOptions};
 use std::io::{self, Write};
 use std::net::SocketAddr;
@@ -14,20 +15,19 @@ const CONFIG: &str = "relay.toml";
 /// Makes a key and a configuration in a folder, and names it and others to each other.
 pub fn init(folder: &Path, listen: SocketAddr, with: &[PathBuf]) -> io::Result<()> {
     let others =
-        with.iter().map(|it| Config::load(&it.join(CONFIG))).collect::<Result<Vec<_>, _>>()?;
+        with.iter().map(|it| Config::load(&it.join(CONFIG))).collect::<io::Result<Vec<_>>>()?;
     fs::create_dir_all(folder)?;
     let own = name(folder)?;
-    let identity = keygen(&folder.join(KEY))?;
+    keygen(&folder.join(KEY))?;
     let mut text = format!(
         "key = \"{KEY}\"\nlisten = \"{listen}\"\n# metrics = \"127.0.0.1:9101\"\njournal = \"journal\"\ninput = true\n"
     );
     for (other, config) in with.iter().zip(&others) {
-        text += "\n";
-        text += &config.entry(&Identity::load(&config.key)?.id, &name(other)?);
+        text += &format!("\n{}", config.entry(&name(other)?)?);
     }
     let path = folder.join(CONFIG);
     OpenOptions::new().write(true).create_new(true).open(&path)?.write_all(text.as_bytes())?;
-    let entry = Config::load(&path)?.entry(&identity.id, &own);
+    let entry = Config::load(&path)?.entry(&own)?;
     for other in with {
         let file = other.join(CONFIG);
         let mut config = OpenOptions::new().append(true).open(&file)?;
@@ -39,11 +39,9 @@ pub fn init(folder: &Path, listen: SocketAddr, with: &[PathBuf]) -> io::Result<(
 }
 
 fn name(folder: &Path) -> io::Result<String> {
-    let name = fs::canonicalize(folder)?;
-    let name = name.file_name().and_then(|it| it.to_str());
-    let name = name.ok_or_else(|| io::Error::other("the folder has no name"))?;
-    check_name(name).map_err(io::Error::other)?;
-    Ok(name.to_owned())
+    let path = fs::canonicalize(folder)?;
+    let name = path.file_name().unwrap_or_default().to_string_lossy();
+    check_name(&name).map(|()| name.into_owned()).map_err(invalid)
 }
 
 /// Checks a configuration, and says what it takes.
@@ -63,18 +61,18 @@ pub fn check(file: &Path) -> io::Result<()> {
 pub fn fit(config: &mut Config) -> io::Result<()> {
     let limits = fs::read_to_string("/proc/self/limits").unwrap_or_default();
     let line = limits.lines().find_map(|it| it.strip_prefix("Max open files"));
-    let soft = line.and_then(|it| it.split_whitespace().next()).and_then(|it| it.parse().ok());
-    let Some(soft): Option<usize> = soft else { return Ok(()) };
+    let soft = line.and_then(|it| it.split_whitespace().next()?.parse().ok()).unwrap_or(u64::MAX);
     let spared = config.descriptors().saturating_sub(soft).div_ceil(2);
     if spared == 0 {
         return Ok(());
     }
-    let left = config.limits.handshakes.saturating_sub(spared);
+    let limits = &mut config.limits;
+    let left = limits.handshakes.saturating_sub(spared);
     if left < 4 {
         return Err(io::Error::other(format!("{soft} descriptors are too few for these peers")));
     }
     tracing::warn!(soft, left, "few descriptors, so few places for handshakes");
-    config.limits.handshakes = left;
-    config.limits.handshakes_per_address = config.limits.handshakes_per_address.min(left / 2);
+    limits.handshakes = left;
+    limits.handshakes_per_address = limits.handshakes_per_address.min(left / 2);
     Ok(())
 }

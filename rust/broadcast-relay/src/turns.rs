@@ -1,41 +1,35 @@
 //! What waits of many, each of whom has its turn: so who has much holds up no other.
 
-use std::collections::{HashMap, VecDeque};
-use std::hash::Hash;
+use std::collections::VecDeque;
 
-pub struct Turns<K, T> {
-    waiting: HashMap<K, VecDeque<T>>,
-    turns: VecDeque<K>,
-}
+/// Who waits, in turn, each with what waits of it.
+pub struct Turns<K, T>(VecDeque<(K, VecDeque<T>)>);
 
 impl<K, T> Default for Turns<K, T> {
     fn default() -> Turns<K, T> {
-        Turns { waiting: HashMap::new(), turns: VecDeque::new() }
+        Turns(VecDeque::new())
     }
 }
 
-impl<K: Copy + Eq + Hash, T> Turns<K, T> {
+impl<K: Copy + Eq, T> Turns<K, T> {
     pub fn push(&mut self, of: K, item: T) {
-        let waiting = self.waiting.entry(of).or_default();
-        waiting.push_back(item);
-        if waiting.len() == 1 {
-            self.turns.push_back(of);
+        match self.0.iter_mut().find(|it| it.0 == of) {
+            Some((_, waiting)) => waiting.push_back(item),
+            None => self.0.push_back((of, VecDeque::from([item]))),
         }
     }
 
     /// Takes the next of whoever's turn it is.
     pub fn pop(&mut self) -> Option<(K, T)> {
-        let of = self.turns.pop_front()?;
-        let waiting = self.waiting.get_mut(&of)?;
+        let (of, mut waiting) = self.0.pop_front()?;
         let item = waiting.pop_front()?;
-        match waiting.is_empty() {
-            true => drop(self.waiting.remove(&of)),
-            false => self.turns.push_back(of),
+        if !waiting.is_empty() {
+            self.0.push_back((of, waiting));
         }
         Some((of, item))
     }
 
     pub fn is_empty(&self) -> bool {
-        self.turns.is_empty()
+        self.0.is_empty()
     }
 }
