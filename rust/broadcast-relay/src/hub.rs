@@ -21,7 +21,7 @@ use tokio::sync::Notify;
 use tokio::time::timeout;
 use tracing::{debug, info, warn};
 
-/// How often it is looked at least whether more may be published, or something is due.
+/// How often it is looked at least whether something is due.
 const LOOK: Duration = Duration::from_secs(1);
 
 pub struct Hub {
@@ -345,7 +345,7 @@ impl Hub {
     /// Waits until more may be published: until no peer that is waited for is too far behind.
     pub async fn may_publish(&self) {
         while !self.gossip.lock().machine.may_publish() {
-            let _ = timeout(LOOK, self.opened.notified()).await;
+            self.opened.notified().await;
         }
     }
 

@@ -8,16 +8,15 @@
 //! nothing of it, a loss of power may lose the newest messages.
 
 use crate::identity::PeerId;
-use crate::message::{MAX_MESSAGE, Signed};
+use crate::message::{MAX_MESSAGE, Signed, hash};
 use crate::of;
 use broadcast_relay::gossip::Coverage;
 use bytes::Bytes;
 use hex::FromHex;
-use openssl::sha::Sha256;
 use std::collections::{BTreeSet, VecDeque};
 use std::fs::{self, File, OpenOptions, TryLockError};
 use std::io::{self, ErrorKind, Write};
-use std::os::unix::fs::{DirBuilderExt, OpenOptionsExt};
+use std::os::unix::fs::{DirBuilderExt, FileExt, OpenOptionsExt};
 use std::path::{Path, PathBuf};
 
 /// Begins each file: what it is, and its version.
@@ -54,9 +53,7 @@ fn private() -> OpenOptions {
 }
 
 fn check(parts: &[&[u8]]) -> [u8; CHECK] {
-    let mut hasher = Sha256::new();
-    parts.iter().for_each(|it| hasher.update(it));
-    hasher.finish().first_chunk().copied().unwrap_or_default()
+    hash(parts).first_chunk().copied().unwrap_or_default()
 }
 
 /// What a journal had: what was had of an author, and the newest messages, in the order in which they came.
@@ -95,7 +92,6 @@ pub struct Journal {
 impl Journal {
     /// Opens the files of an author, which may have some more than `most` bytes each.
     pub fn open(folder: &Path, author: &PeerId, most: u64) -> io::Result<(Journal, Past)> {
-        fs::create_dir_all(folder).map_err(of(folder))?;
         let [older, newer] = files(folder, author);
         let mut past = Past::default();
         for path in [&older, &newer] {
@@ -103,7 +99,8 @@ impl Journal {
                 recover(path, &mut past, most).map_err(of(path))?;
             }
         }
-        let file = private().append(true).create(true).open(&newer).map_err(of(&newer))?;
+        let open = private().write(true).create(true).truncate(false).open(&newer);
+        let file = open.map_err(of(&newer))?;
         let len = file.metadata()?.len();
         let mut journal = Journal { older, newer, file, len, most, covered: past.covered.clone() };
         if len == 0 {
@@ -136,19 +133,16 @@ impl Journal {
         if self.file.metadata()?.len() != self.len {
             self.file.set_len(self.len)?;
         }
-        let written = self.file.write_all(bytes);
-        if written.is_ok() {
-            self.len += bytes.len() as u64;
-        }
-        written.map_err(of(&self.newer))
+        self.file.write_all_at(bytes, self.len).map_err(of(&self.newer))?;
+        self.len += bytes.len() as u64;
+        Ok(())
     }
 
     /// Begins a new file. Whenever it is cut short, the files that are there say what was had.
     fn rotate(&mut self) -> io::Result<()> {
         let fresh = self.newer.with_extension("new");
-        private().write(true).create(true).truncate(true).open(&fresh)?;
-        let mut file = private().append(true).open(&fresh)?;
-        file.write_all(&head(&self.covered))?;
+        let file = private().write(true).create(true).truncate(true).open(&fresh)?;
+        file.write_all_at(&head(&self.covered), 0)?;
         match fs::rename(&self.newer, &self.older) {
             Err(why) if why.kind() != ErrorKind::NotFound => return Err(why),
             _ => fs::rename(&fresh, &self.newer)?,
@@ -252,6 +246,7 @@ mod tests {
     fn folder(name: &str) -> PathBuf {
         let folder = std::env::temp_dir().join(format!("{name}-{}", std::process::id()));
         let _ = fs::remove_dir_all(&folder);
+        fs::create_dir_all(&folder).unwrap();
         folder
     }
 

@@ -18,7 +18,6 @@ mod session;
 mod setup;
 mod strangers;
 mod tls;
-mod turns;
 mod wire;
 
 use broadcast_relay::gossip::Time;

@@ -10,17 +10,17 @@
 //! beside its way to the root, so it can be checked by itself, and who has checked one message of a batch need not check another.
 
 use crate::identity::{Identity, PeerId, is_signed};
-use bytes::Bytes;
+use bytes::{Buf, Bytes};
 use openssl::error::ErrorStack;
 use openssl::sha::Sha256;
+use std::iter::successors;
 use std::ops::Range;
 
-const SIGNATURE: Range<usize> = 0..64;
+/// What is hashed beside the text.
+const HEAD: Range<usize> = 64..112;
 const PUBLIC: Range<usize> = 64..96;
 const STAMP: Range<usize> = 96..104;
 const PREV: Range<usize> = 104..112;
-/// Both, as they are hashed.
-const STAMPS: Range<usize> = 96..112;
 const PLACE: usize = 112;
 const DEPTH: usize = 113;
 const HASHES: usize = 114;
@@ -40,37 +40,35 @@ pub struct Signed {
     pub bytes: Bytes,
 }
 
-fn stamps(stamp: u64, prev: u64) -> [u8; 16] {
-    (u128::from(stamp) << 64 | u128::from(prev)).to_be_bytes()
-}
-
-fn hash(parts: &[&[u8]]) -> Hash {
+pub fn hash(parts: &[&[u8]]) -> Hash {
     let mut hasher = Sha256::new();
     parts.iter().for_each(|it| hasher.update(it));
     hasher.finish()
 }
 
-fn digest(public: &[u8], stamps: &[u8], text: &[u8]) -> Hash {
-    hash(&[PURPOSE, public, stamps, text])
+fn digest(head: &[u8], text: &[u8]) -> Hash {
+    hash(&[PURPOSE, head, text])
 }
 
 impl Signed {
     /// Signs texts as one batch of at most 256. The first covers `(prev, stamp]`, and each other the stamp after the one before.
     pub fn batch(
         author: &Identity,
-        (prev, stamp): (u64, u64),
+        first: (u64, u64),
         texts: &[Vec<u8>],
     ) -> Result<Vec<Signed>, ErrorStack> {
         let texts = &texts[..texts.len().min(MAX_BATCH)];
-        let prev_of = |it: u64| if it == stamp { prev } else { it - 1 };
-        let each = || (stamp..).map(|it| (it, stamps(it, prev_of(it)))).zip(texts);
-        let digests = each().map(|((_, at), text)| digest(&author.public, &at, text));
+        let each = || successors(Some(first), |(_, stamp)| Some((*stamp, stamp + 1))).zip(texts);
+        let head = |prev: u64, stamp: u64| {
+            [&author.public[..], &stamp.to_be_bytes(), &prev.to_be_bytes()].concat()
+        };
+        let digests = each().map(|((prev, stamp), text)| digest(&head(prev, stamp), text));
         let (root, ways) = tree(&digests.collect::<Vec<_>>());
         let signature = author.sign(&root)?;
-        let messages = each().zip(ways).enumerate().map(|(place, (((stamp, at), text), way))| {
+        let messages = each().zip(ways).enumerate().map(|(place, (((prev, stamp), text), way))| {
             let (place, hashes) = ([place as u8, way.len() as u8], way.concat());
-            let bytes = [&signature[..], &author.public, &at, &place, &hashes, text].concat();
-            Signed { author: author.id, stamp, prev: prev_of(stamp), bytes: bytes.into() }
+            let bytes = [&signature[..], &head(prev, stamp), &place, &hashes, text].concat();
+            Signed { author: author.id, stamp, prev, bytes: bytes.into() }
         });
         Ok(messages.collect())
     }
@@ -86,11 +84,9 @@ impl Signed {
     /// The batch's root and the signature of it. Whoever has checked both once has checked all messages of the batch.
     pub fn seal(&self) -> Seal {
         let (hashes, _) = self.bytes[HASHES..self.text_at()].as_chunks::<32>();
-        let digest = digest(&self.bytes[PUBLIC], &self.bytes[STAMPS], self.text());
+        let digest = digest(&self.bytes[HEAD], self.text());
         let root = root(digest, usize::from(self.bytes[PLACE]), hashes.iter());
-        let mut signature = [0; 64];
-        signature.copy_from_slice(&self.bytes[SIGNATURE]);
-        Seal { root, signature }
+        Seal { root, signature: self.bytes.first_chunk().copied().unwrap_or([0; 64]) }
     }
 
     /// Whether the author has signed the seal.
@@ -105,9 +101,7 @@ impl Signed {
         if depth > MAX_DEPTH || bytes.len() < text || bytes.len() > text + MAX_TEXT {
             return Err("a message of a wrong length");
         }
-        let number =
-            |at: Range<usize>| bytes[at].iter().fold(0, |sum, it| sum << 8 | u64::from(*it));
-        let (stamp, prev) = (number(STAMP), number(PREV));
+        let (stamp, prev) = ((&bytes[STAMP]).get_u64(), (&bytes[PREV]).get_u64());
         if prev >= stamp {
             return Err("a message that comes before the one before it");
         }

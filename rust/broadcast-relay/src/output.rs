@@ -2,10 +2,9 @@
 
 use crate::identity::PeerId;
 use crate::message::Signed;
-use crate::turns::Turns;
 use parking_lot::{Condvar, Mutex};
 use prometheus::IntCounter;
-use std::collections::HashMap;
+use std::collections::VecDeque;
 use std::fs::File;
 use std::io::{self, ErrorKind, Write};
 use std::os::fd::AsFd;
@@ -21,11 +20,10 @@ const MAX_LOG: usize = 128 << 10;
 /// How long an output that failed rests.
 const REST: Duration = Duration::from_millis(100);
 
-/// The lines of each author, which are printed in turn, and how many bytes they are.
 #[derive(Default)]
 struct Lines {
-    waiting: Turns<PeerId, Vec<u8>>,
-    bytes: HashMap<PeerId, usize>,
+    /// Authors in turn, so that who writes much holds up no other: how many bytes wait of each, and its lines.
+    waiting: VecDeque<(PeerId, usize, VecDeque<Vec<u8>>)>,
     is_writing: bool,
     /// Whoever read them is gone.
     is_closed: bool,
@@ -72,13 +70,17 @@ impl Output {
     /// Prints a line of an author, or drops and counts it where there is no room.
     pub fn print(&self, author: PeerId, line: Vec<u8>) {
         let mut lines = self.shared.0.lock();
-        let Lines { waiting, bytes, is_closed, .. } = &mut *lines;
-        let bytes = bytes.entry(author).or_default();
-        if *is_closed || *bytes + line.len() > self.most {
+        let waiting = lines.waiting.iter().find(|it| it.0 == author).map_or(0, |it| it.1);
+        if lines.is_closed || waiting + line.len() > self.most {
             return self.dropped.inc();
         }
-        *bytes += line.len();
-        waiting.push(author, line);
+        match lines.waiting.iter_mut().find(|it| it.0 == author) {
+            Some((_, bytes, of_author)) => {
+                *bytes += line.len();
+                of_author.push_back(line);
+            }
+            None => lines.waiting.push_back((author, line.len(), VecDeque::from([line]))),
+        }
         self.shared.1.notify_one();
     }
 
@@ -109,10 +111,13 @@ fn next((lines, filled): &(Mutex<Lines>, Condvar)) -> Vec<u8> {
     lines.is_writing = true;
     let mut batch = Vec::new();
     while batch.len() < 1 << 14
-        && let Some((author, line)) = lines.waiting.pop()
+        && let Some((author, bytes, mut of_author)) = lines.waiting.pop_front()
+        && let Some(line) = of_author.pop_front()
     {
-        *lines.bytes.entry(author).or_default() -= line.len();
-        batch.extend(line);
+        batch.extend_from_slice(&line);
+        if !of_author.is_empty() {
+            lines.waiting.push_back((author, bytes - line.len(), of_author));
+        }
     }
     batch
 }

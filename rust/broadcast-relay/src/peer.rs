@@ -131,6 +131,8 @@ impl Seat {
 #[cfg(test)]
 mod tests {
     use super::*;
+    use std::time::Duration;
+    use tokio::time::timeout;
 
     fn session(is_dialed: bool) -> Arc<Session> {
         let config = PeerConfig { name: "five".into(), key: [5; 32], address: None };
@@ -138,14 +140,14 @@ mod tests {
         Arc::new(Session::new(Arc::new(peer), is_dialed))
     }
 
-    #[tokio::test]
+    #[tokio::test(start_paused = true)]
     async fn a_newer_connection_replaces_the_older() {
         let (mut seat, first, second) = (Seat::new(), session(false), session(false));
         seat.attach(first.clone(), true).unwrap();
         assert!(seat.is_of(&first) && !seat.is_of(&second));
         seat.attach(second.clone(), true).unwrap();
         assert!(seat.is_of(&second) && !seat.is_of(&first));
-        first.ended.notified().await;
+        assert!(timeout(Duration::from_secs(9), first.ended.notified()).await.is_ok());
     }
 
     #[test]

@@ -129,9 +129,8 @@ async fn start(config: &Config, metrics: Metrics) -> io::Result<(Arc<Network>, O
     set_peers(&network, config.clone()).await?;
     let key = hex::encode(network.hub.identity.id);
     info!(address = %config.listen, key, "listening");
-    let (times, turns) = (network.clone(), network.clone());
-    tokio::spawn(async move { times.hub.keep_time().await });
-    tokio::spawn(async move { turns.strangers.give_turns().await });
+    let times = network.hub.clone();
+    tokio::spawn(async move { times.keep_time().await });
     tokio::spawn(accept(network.clone(), listener));
     Ok((network, folder))
 }

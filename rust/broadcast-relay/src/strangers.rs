@@ -7,14 +7,14 @@
 //! Their handshakes are computed at a pace for all addresses together, so that they take a bounded part of a processor, and of each
 //! address in turn, so that no address takes the pace of another.
 
-use crate::turns::Turns;
 use parking_lot::Mutex;
 use std::cmp::Reverse;
 use std::collections::{HashMap, VecDeque};
 use std::net::{IpAddr, Ipv6Addr};
+use std::sync::Arc;
 use std::time::Duration;
 use tokio::net::TcpStream;
-use tokio::sync::{Notify, oneshot};
+use tokio::sync::{self, oneshot};
 use tokio::time::{Instant, sleep};
 
 /// How often an address gets a place beyond its share, and how many of its connections wait for one.
@@ -35,8 +35,8 @@ pub struct Strangers {
     most: usize,
     most_of_address: usize,
     state: Mutex<State>,
-    /// Notified when a handshake waits for its turn.
-    come: Notify,
+    /// When all handshakes that had their turn will have had their time. Whoever locks it has its turn next.
+    computed: sync::Mutex<Instant>,
 }
 
 #[derive(Default)]
@@ -45,9 +45,9 @@ struct State {
     places: HashMap<IpAddr, VecDeque<(Instant, oneshot::Sender<()>)>>,
     /// When each address will have waited for all that it got.
     due: HashMap<IpAddr, Instant>,
-    /// How many wait for a place, and whose handshake waits for its turn.
     waiting: usize,
-    turns: Turns<IpAddr, oneshot::Sender<()>>,
+    /// Whoever locks it waits for the address's turn.
+    turns: HashMap<IpAddr, Arc<sync::Mutex<()>>>,
 }
 
 /// A place that was given, until it is dropped.
@@ -67,7 +67,8 @@ pub fn network(address: IpAddr) -> IpAddr {
 
 impl Strangers {
     pub fn new(most: usize, most_of_address: usize) -> Strangers {
-        Strangers { most, most_of_address, state: Mutex::default(), come: Notify::new() }
+        let computed = sync::Mutex::new(Instant::now());
+        Strangers { most, most_of_address, state: Mutex::default(), computed }
     }
 
     /// Returns how long a connection waits for its place, or none if it is turned away.
@@ -114,28 +115,17 @@ impl Strangers {
         Place { taken, has_pushed: place.is_some() }
     }
 
-    /// Waits for the turn of a handshake.
+    /// Waits for the turn of a handshake. Of each address one is in the line of all.
     pub async fn turn(&self, address: IpAddr) {
-        let (sender, turn) = oneshot::channel();
-        self.state.lock().turns.push(address, sender);
-        self.come.notify_one();
-        let _ = turn.await;
-    }
-
-    /// Gives turns, for ever.
-    pub async fn give_turns(&self) {
-        // When all turns that were given will have had their time.
-        let mut due = Instant::now();
-        loop {
-            sleep(due.saturating_duration_since(Instant::now() + PACE * BURST)).await;
-            let next = self.state.lock().turns.pop();
-            match next.map(|(_, turn)| turn.send(())) {
-                Some(Ok(())) => due = due.max(Instant::now()) + PACE,
-                // Who does not wait any more takes no turn.
-                Some(Err(())) => {}
-                None => self.come.notified().await,
-            }
-        }
+        let own = {
+            let turns = &mut self.state.lock().turns;
+            turns.retain(|_, it| Arc::strong_count(it) > 1);
+            turns.entry(address).or_default().clone()
+        };
+        let _first = own.lock().await;
+        let mut computed = self.computed.lock().await;
+        sleep(computed.saturating_duration_since(Instant::now() + PACE * BURST)).await;
+        *computed = Instant::now().max(*computed) + PACE;
     }
 }
 
@@ -166,7 +156,6 @@ pub async fn has_hello(stream: &TcpStream) -> std::io::Result<bool> {
 #[cfg(test)]
 mod tests {
     use super::*;
-    use std::sync::Arc;
     use tokio::time::timeout;
 
     fn address(number: u8) -> IpAddr {
@@ -262,9 +251,6 @@ mod tests {
             });
         };
         (0..200).for_each(|_| come(1));
-        sleep(Duration::from_millis(1)).await;
-        let pacer = handshakes.clone();
-        tokio::spawn(async move { pacer.give_turns().await });
         sleep(PACE * 10).await;
         let before = granted.lock().len();
         assert!((40..=44).contains(&before), "{before}");
