@@ -1,6 +1,6 @@
 //! What all connections of a relay share: the peers, the authors, and the protocol.
 
-use crate::config::{Config, Limits, PeerConfig};
+use crate::config::{Config, PeerConfig};
 use crate::identity::{Identity, PeerId};
 use crate::journal::{self, Journal};
 use crate::message::Signed;
@@ -33,7 +33,7 @@ pub struct Hub {
     opened: Notify,
     timer: Notify,
     is_ending: AtomicBool,
-    limits: Limits,
+    signature_cost: u64,
     output: Option<Output>,
 }
 
@@ -94,8 +94,7 @@ impl Gossip {
 impl Hub {
     /// Creates a hub without peers.
     pub fn new(identity: Identity, config: &Config, metrics: Metrics) -> io::Result<Hub> {
-        let limits = config.limits.clone();
-        let machine = Machine::new(limits.bounds(), 0, rand::random());
+        let machine = Machine::new(config.limits.bounds(), 0, rand::random());
         let (nodes, peers, seats) = (HashMap::new(), Vec::new(), Vec::new());
         let mut gossip = Gossip { machine, nodes, peers, seats, timer: NEVER };
         let own = PeerConfig { name: "own".into(), key: identity.id, address: None };
@@ -110,7 +109,7 @@ impl Hub {
             opened: Notify::new(),
             timer: Notify::new(),
             is_ending: AtomicBool::new(false),
-            limits,
+            signature_cost: config.limits.signature_cost(),
         })
     }
 
@@ -131,22 +130,23 @@ impl Hub {
             }
         }
         let stays = |old: &Peer| config.peers.iter().any(|it| it.key == old.config.key);
-        let (gone, changed) = self.act(|gossip, now| {
-            let others = gossip.listed().skip(1);
-            let gone: Vec<_> = others.filter(|it| !stays(it)).cloned().collect();
-            for it in &gone {
-                info!(peer = it.config.name, "removed");
+        let mut gone: Vec<_> = self.gossip.lock().listed().skip(1).cloned().collect();
+        gone.retain(|it| !stays(it));
+        for it in gone {
+            info!(peer = it.config.name, "removed");
+            self.act(|gossip, now| {
                 self.metrics.connected.with_label_values(&[&it.config.name]).set(0);
                 let session = gossip.seats[it.node].session.take();
                 session.iter().for_each(|it| it.ended.notify_one());
                 gossip.machine.remove(now, it.node);
-            }
-            let list = |(config, author, past)| gossip.list(now, config, author, past);
-            (gone, changed.into_iter().map(list).collect::<Vec<_>>())
-        });
-        gone.iter().for_each(|it| it.author.lock().journal = None);
-        changed.iter().for_each(|it| self.metrics.add_peer(&it.config.name));
-        Ok(changed)
+            });
+            it.author.lock().journal = None;
+        }
+        let list = |(config, author, past): (&PeerConfig, _, _)| {
+            self.metrics.add_peer(&config.name);
+            self.act(|gossip, now| gossip.list(now, config, author, past))
+        };
+        Ok(changed.into_iter().map(list).collect())
     }
 
     /// Finds an author, which is a peer or this relay.
@@ -309,7 +309,7 @@ impl Hub {
         let mut known = author.author.lock();
         let is_wanted = self.gossip.lock().machine.wants(node, message.stamp);
         if is_wanted {
-            cost = known.check(&message).map_err(invalid)? * self.limits.signature_cost();
+            cost = known.check(&message).map_err(invalid)? * self.signature_cost;
             // An own message that comes back is not journaled: the journal has those after which the next one comes.
             if let Some(journal) = &mut known.journal
                 && !is_own

@@ -7,7 +7,7 @@ use std::thread;
 use std::time::Duration;
 use tokio::sync::mpsc::{self, Receiver};
 use tokio::time::{Instant, sleep, sleep_until};
-use tracing::error;
+use tracing::{error, info};
 
 /// How many lines wait. Whoever writes more has to wait too.
 const WAITING: usize = 64;
@@ -28,14 +28,13 @@ pub fn start() -> io::Result<Receiver<Vec<u8>>> {
             // A longer line is cut into several.
             let room = MAX_TEXT - line.len();
             match input.by_ref().take(room as u64).read_until(b'\n', &mut line) {
-                Ok(0) => return,
-                Ok(_) => {}
+                Ok(len) if len > 0 => {}
                 // Whoever started the relay may have set it not to block.
                 Err(why) if why.kind() == ErrorKind::WouldBlock => {
                     thread::sleep(REST);
                     continue;
                 }
-                Err(_) => return,
+                _ => return info!("the input has ended"),
             }
             let mut line = std::mem::take(&mut line);
             while line.last().is_some_and(|it| matches!(it, b'\n' | b'\r')) {

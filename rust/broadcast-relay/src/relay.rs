@@ -54,12 +54,9 @@ async fn serve(file: &Path, config: Config, metrics: Metrics) -> io::Result<()> 
     let mut hangup = signal(SignalKind::hangup())?;
     let (network, _folder) = start(&config, metrics).await?;
     let hub = &network.hub;
-    let mut lines = if config.input { Some(input::start()?) } else { None };
+    let mut lines = if config.input { input::start()? } else { mpsc::channel(1).1 };
     let publishes = async {
-        if let Some(lines) = &mut lines {
-            input::publish(hub, lines, false).await;
-            info!("the input has ended");
-        }
+        input::publish(hub, &mut lines, false).await;
         pending().await
     };
     let hangs_up = async {
@@ -88,11 +85,9 @@ async fn serve(file: &Path, config: Config, metrics: Metrics) -> io::Result<()> 
 }
 
 /// Publishes what was read, and waits until each peer has all own messages and has closed, and all is printed, for a while.
-async fn drain(hub: &Hub, lines: Option<mpsc::Receiver<Vec<u8>>>) {
+async fn drain(hub: &Hub, mut lines: mpsc::Receiver<Vec<u8>>) {
     let all = async {
-        if let Some(mut lines) = lines {
-            input::publish(hub, &mut lines, true).await;
-        }
+        input::publish(hub, &mut lines, true).await;
         hub.end();
         while !hub.is_done() {
             sleep(POLL).await;
