@@ -89,11 +89,6 @@ impl Limits {
             ..Bounds::default()
         }
     }
-
-    /// What a signature that is checked counts, in bytes.
-    pub fn signature_cost(&self) -> u64 {
-        self.author_bytes_per_second / self.author_signatures_per_second
-    }
 }
 
 fn yes() -> bool {

@@ -33,6 +33,7 @@ pub struct Hub {
     opened: Notify,
     timer: Notify,
     is_ending: AtomicBool,
+    /// What a signature that is checked counts, in bytes.
     signature_cost: u64,
     output: Option<Output>,
 }
@@ -94,7 +95,8 @@ impl Gossip {
 impl Hub {
     /// Creates a hub without peers.
     pub fn new(identity: Identity, config: &Config, metrics: Metrics) -> io::Result<Hub> {
-        let machine = Machine::new(config.limits.bounds(), 0, rand::random());
+        let limits = &config.limits;
+        let machine = Machine::new(limits.bounds(), 0, rand::random());
         let (nodes, peers, seats) = (HashMap::new(), Vec::new(), Vec::new());
         let mut gossip = Gossip { machine, nodes, peers, seats, timer: NEVER };
         let own = PeerConfig { name: "own".into(), key: identity.id, address: None };
@@ -109,7 +111,7 @@ impl Hub {
             opened: Notify::new(),
             timer: Notify::new(),
             is_ending: AtomicBool::new(false),
-            signature_cost: config.limits.signature_cost(),
+            signature_cost: limits.author_bytes_per_second / limits.author_signatures_per_second,
         })
     }
 

@@ -40,15 +40,13 @@ impl Identity {
     }
 
     pub fn load(file: &Path) -> io::Result<Identity> {
-        let mode = metadata(file).map_err(of(file))?.permissions().mode();
-        if mode & 0o077 != 0 {
-            tracing::warn!(file = %file.display(), "others may read this key");
-        }
-        let pem = read(file).map_err(of(file))?;
-        PKey::private_key_from_pem(&pem)
-            .map_err(Into::into)
-            .and_then(Identity::of)
-            .map_err(of(file))
+        let load = || {
+            if metadata(file)?.permissions().mode() & 0o077 != 0 {
+                tracing::warn!(file = %file.display(), "others may read this key");
+            }
+            Identity::of(PKey::private_key_from_pem(&read(file)?)?)
+        };
+        load().map_err(of(file))
     }
 
     fn of(key: PKey<Private>) -> io::Result<Identity> {

@@ -57,11 +57,11 @@ async fn write(hub: &Hub, session: &Session, mut to: impl AsyncWrite + Unpin) ->
     loop {
         bytes.clear();
         hub.fill(session, BATCH, &mut bytes);
-        if bytes.is_empty() && hub.is_over(session) {
-            timeout(SILENCE, to.shutdown()).await??;
-            return pending().await;
-        }
         if bytes.is_empty() {
+            if hub.is_over(session) {
+                timeout(SILENCE, to.shutdown()).await??;
+                return pending().await;
+            }
             if timeout_at(beat, session.due.notified()).await.is_ok() {
                 continue;
             }
