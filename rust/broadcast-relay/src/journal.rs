@@ -31,7 +31,7 @@ const RECORD: usize = 4 + CHECK;
 pub fn lock_folder(folder: &Path) -> io::Result<File> {
     fs::DirBuilder::new().recursive(true).mode(0o700).create(folder).map_err(of(folder))?;
     let path = folder.join("lock");
-    let file = private().write(true).create(true).open(&path).map_err(of(&path))?;
+    let file = private().open(&path).map_err(of(&path))?;
     file.try_lock().map_err(|why| match why {
         TryLockError::WouldBlock => of(folder)(io::Error::other("another relay uses this journal")),
         TryLockError::Error(why) => of(&path)(why),
@@ -45,11 +45,9 @@ fn files(folder: &Path, author: &PeerId) -> [PathBuf; 2] {
     [newer.with_extension("old"), newer]
 }
 
-/// Files that only their owner may read.
+/// To write files that only their owner may read.
 fn private() -> OpenOptions {
-    let mut options = OpenOptions::new();
-    options.mode(0o600);
-    options
+    OpenOptions::new().write(true).create(true).mode(0o600).clone()
 }
 
 fn check(parts: &[&[u8]]) -> [u8; CHECK] {
@@ -99,8 +97,7 @@ impl Journal {
                 recover(path, &mut past, most).map_err(of(path))?;
             }
         }
-        let open = private().write(true).create(true).truncate(false).open(&newer);
-        let file = open.map_err(of(&newer))?;
+        let file = private().open(&newer).map_err(of(&newer))?;
         let len = file.metadata()?.len();
         let mut journal = Journal { older, newer, file, len, most, covered: past.covered.clone() };
         if len == 0 {
@@ -141,7 +138,7 @@ impl Journal {
     /// Begins a new file. Whenever it is cut short, the files that are there say what was had.
     fn rotate(&mut self) -> io::Result<()> {
         let fresh = self.newer.with_extension("new");
-        let file = private().write(true).create(true).truncate(true).open(&fresh)?;
+        let file = private().truncate(true).open(&fresh)?;
         file.write_all_at(&head(&self.covered), 0)?;
         match fs::rename(&self.newer, &self.older) {
             Err(why) if why.kind() != ErrorKind::NotFound => return Err(why),
@@ -185,7 +182,7 @@ fn recover(path: &Path, past: &mut Past, most: u64) -> io::Result<()> {
     }
     let (file, aside) = (path.display(), format!("{}.damaged", path.display()));
     tracing::warn!(%file, wrong, cut, kept = aside, "damaged records or bytes at the end");
-    private().write(true).create(true).truncate(true).open(&aside)?.write_all(&bytes)?;
+    private().truncate(true).open(&aside)?.write_all(&bytes)?;
     if cut > 0 {
         OpenOptions::new().write(true).open(path)?.set_len(whole as u64)?;
     }

@@ -102,10 +102,7 @@ pub fn start_dialing(network: &Arc<Network>, peer: Arc<Peer>) {
 }
 
 /// Starts a task, and again whenever it panics.
-async fn go_on<F>(mut task: impl FnMut() -> F)
-where
-    F: Future<Output = ()> + Send + 'static,
-{
+async fn go_on<F: Future<Output = ()> + Send + 'static>(mut task: impl FnMut() -> F) {
     while tokio::spawn(task()).await.is_err() {
         error!("a task failed, and goes on");
         sleep(MAX_REST).await;

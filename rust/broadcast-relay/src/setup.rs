@@ -3,7 +3,7 @@
 use crate::config::{Config, check_name};
 use crate::identity::{Identity, keygen};
 use crate::invalid;
-use std::fs::{self, OpenOptions};
+use std::fs::{self, File};
 use std::io::{self, Write};
 use std::net::SocketAddr;
 use std::path::{Path, PathBuf};
@@ -14,23 +14,22 @@ const CONFIG: &str = "relay.toml";
 
 /// Makes a key and a configuration in a folder, and names it and others to each other.
 pub fn init(folder: &Path, listen: SocketAddr, with: &[PathBuf]) -> io::Result<()> {
-    let others =
-        with.iter().map(|it| Config::load(&it.join(CONFIG))).collect::<io::Result<Vec<_>>>()?;
+    let mut others = String::new();
+    for other in with {
+        others += &format!("\n{}", Config::load(&other.join(CONFIG))?.entry(&name(other)?)?);
+    }
     fs::create_dir_all(folder)?;
     let own = name(folder)?;
     keygen(&folder.join(KEY))?;
-    let mut text = format!(
-        "key = \"{KEY}\"\nlisten = \"{listen}\"\n# metrics = \"127.0.0.1:9101\"\njournal = \"journal\"\ninput = true\n"
+    let text = format!(
+        "key = \"{KEY}\"\nlisten = \"{listen}\"\n# metrics = \"127.0.0.1:9101\"\njournal = \"journal\"\ninput = true\n{others}"
     );
-    for (other, config) in with.iter().zip(&others) {
-        text += &format!("\n{}", config.entry(&name(other)?)?);
-    }
     let path = folder.join(CONFIG);
-    OpenOptions::new().write(true).create_new(true).open(&path)?.write_all(text.as_bytes())?;
+    File::create_new(&path)?.write_all(text.as_bytes())?;
     let entry = Config::load(&path)?.entry(&own)?;
     for other in with {
         let file = other.join(CONFIG);
-        let mut config = OpenOptions::new().append(true).open(&file)?;
+        let mut config = File::options().append(true).open(&file)?;
         config.write_all(format!("\n{entry}").as_bytes())?;
         eprintln!("{own} is a peer in {} now", file.display());
     }
