@@ -221,9 +221,9 @@ impl Hub {
         is_dialed: bool,
         round_trip: Duration,
     ) -> Option<Arc<Session>> {
-        let session = Arc::new(Session::new(self.find(id)?, is_dialed));
-        let (name, node) = (&session.peer.config.name, session.peer.node);
         self.act(|gossip, now| {
+            let session = Arc::new(Session::new(gossip.find(id)?.clone(), is_dialed));
+            let (name, node) = (&session.peer.config.name, session.peer.node);
             let seat = &mut gossip.seats[node];
             seat.attach(session.clone(), self.identity.id < *id)
                 .inspect_err(|why| debug!(peer = name, why, "refused"))
@@ -234,7 +234,7 @@ impl Hub {
             }
             gossip.machine.disconnect(now, node);
             gossip.machine.connect(now, node, round_trip.as_micros() as Time);
-            Some(session.clone())
+            Some(session)
         })
     }
 
