@@ -210,6 +210,19 @@ mod tests {
     }
 
     #[test]
+    fn an_author_that_writes_much_takes_no_room_and_no_turn_of_another() {
+        let dropped = IntCounter::new("dropped", "Lines").unwrap();
+        let output = Output { shared: Arc::default(), most: 6, dropped: dropped.clone() };
+        for line in ["a1", "a2", "a3", "a4", "b1", "b2"] {
+            output.print([line.as_bytes()[0]; 32], line.into());
+        }
+        assert_eq!((next(&output.shared), dropped.get()), (b"a1b1a2b2a3".to_vec(), 1));
+        // What was taken has room again.
+        output.print([b'a'; 32], b"a5 a6.".to_vec());
+        assert_eq!((next(&output.shared), dropped.get()), (b"a5 a6.".to_vec(), 1));
+    }
+
+    #[test]
     fn what_a_terminal_obeys_is_not_shown() {
         assert_eq!(shown("ä \u{1b}[2J\u{202e}x\u{2066}\u{61c}\n".as_bytes()), "ä �[2J�x���");
         assert_eq!(shown(&[0xff, b'a']), "�a");
