@@ -6,11 +6,13 @@ use std::collections::VecDeque;
 #[derive(Debug, Default)]
 pub struct Link {
     pub is_connected: bool,
+    /// It has reported all authors that it lists.
+    pub has_reported: bool,
     pub round_trip: Time,
     /// The authors of whom a report is due.
-    reports: VecDeque<usize>,
+    pub reports: VecDeque<usize>,
     /// The authors of whom messages may be sent, in turn.
-    turns: VecDeque<usize>,
+    pub turns: VecDeque<usize>,
 }
 
 #[derive(Debug, Default)]
@@ -38,14 +40,6 @@ impl Links {
     pub fn push_turn(&mut self, peer: usize, author: usize) {
         self.wake(peer);
         self.each[peer].turns.push_back(author);
-    }
-
-    pub fn pop_report(&mut self, peer: usize) -> Option<usize> {
-        self.each[peer].reports.pop_front()
-    }
-
-    pub fn pop_turn(&mut self, peer: usize) -> Option<usize> {
-        self.each[peer].turns.pop_front()
     }
 
     fn wake(&mut self, peer: usize) {

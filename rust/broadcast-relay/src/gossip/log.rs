@@ -9,7 +9,6 @@ use super::{Bounds, Bucket, Coverage, List, Message, NEVER, Report, SECOND, Time
 #[derive(Debug)]
 pub struct Log {
     author: usize,
-    is_own: bool,
     pub is_listed: bool,
     pub covered: Coverage,
     /// How many gaps of it were closed, and given up.
@@ -38,10 +37,9 @@ pub struct Log {
 }
 
 impl Log {
-    pub fn new(author: usize, is_own: bool, bounds: &Bounds, spread: u64) -> Log {
+    pub fn new(author: usize, bounds: &Bounds, spread: u64) -> Log {
         Log {
             author,
-            is_own,
             is_listed: true,
             covered: Coverage::default(),
             given_up: 0,
@@ -195,7 +193,7 @@ impl Log {
         let behind = self.bounds.behind;
         self.left = behind;
         for (peer, Link { is_connected, .. }) in links.each.iter().enumerate() {
-            let lacks = if *is_connected { self.lacks(peer) } else { 0 };
+            let lacks = self.lacks(peer, links);
             let view = &mut self.views[peer];
             view.is_stalled &= lacks > behind / 2 || !is_connected;
             let end = view.judge(now, lacks, &self.bounds);
@@ -221,14 +219,14 @@ impl Log {
         self.is_held = is_held;
     }
 
-    /// The bytes of the list that a connected peer lacks. Before its first report nothing is known but that a peer lists whom it is
-    /// connected to: so of the own log it lacks what is newer than the connection.
-    pub fn lacks(&self, peer: usize) -> u64 {
-        let session = &self.views[peer].session;
+    /// The bytes of the list that a connected peer lacks. Until it has reported all that it lists, it may list this author too: then
+    /// it lacks what is newer than the connection.
+    pub fn lacks(&self, peer: usize, links: &Links) -> u64 {
+        let (session, link) = (&self.views[peer].session, &links.each[peer]);
         match &session.theirs {
             Some(theirs) => self.list.lacking(&theirs.coverage),
-            None if self.is_own => self.list.lacking(&Coverage::up_to(session.began_at)),
-            None => 0,
+            None if !link.is_connected || link.has_reported || peer == self.author => 0,
+            None => self.list.lacking(&Coverage::up_to(session.began_at)),
         }
     }
 

@@ -43,7 +43,7 @@ impl Machine {
     /// Adds a node. Returns its number.
     pub fn add(&mut self, now: Time, past: Past) -> usize {
         let node = self.logs.len();
-        let mut log = Log::new(node, node == self.own, &self.bounds, self.spread.wrapping_mul(31));
+        let mut log = Log::new(node, &self.bounds, self.spread.wrapping_mul(31));
         (0..node).for_each(|_| log.add_view());
         self.logs.push(log);
         self.links.each.push(Link::default());
@@ -84,17 +84,18 @@ impl Machine {
         (0..count).for_each(|peer| log.disconnect(peer));
     }
 
-    fn listed(&self) -> impl Iterator<Item = usize> + use<> {
-        let listed: Vec<usize> =
-            (0..self.logs.len()).filter(|&it| self.logs[it].is_listed).collect();
-        listed.into_iter()
+    fn listed(&self) -> Vec<usize> {
+        (0..self.logs.len()).filter(|&it| self.logs[it].is_listed).collect()
     }
 
     // What comes in.
 
+    /// A connection begins. The own log is reported last, so the peer knows then which authors are listed here.
     pub fn connect(&mut self, now: Time, peer: usize, round_trip: Time) {
         self.links.connect(peer, round_trip);
-        for author in self.listed() {
+        let mut authors = self.listed();
+        authors.sort_by_key(|it| *it == self.own);
+        for author in authors {
             self.logs[author].connect(peer, &mut self.links);
             self.step(now, author);
         }
@@ -157,9 +158,16 @@ impl Machine {
     pub fn report(&mut self, now: Time, peer: usize, author: usize, report: Report) {
         let log = &mut self.logs[author];
         if log.is_listed {
+            if self.links.each[peer].has_reported && log.views[peer].session.theirs.is_none() {
+                // It has listed the author only now, and did not hear what was reported before.
+                log.queue_report(peer, &mut self.links);
+            }
             log.hear(now, peer, report);
             log.queue_turn(peer, &mut self.links);
             self.step(now, author);
+        }
+        if author == peer && !std::mem::replace(&mut self.links.each[peer].has_reported, true) {
+            self.listed().into_iter().for_each(|it| self.step(now, it));
         }
     }
 
@@ -197,10 +205,10 @@ impl Machine {
 
     /// The next frame for a peer, to be called whenever its connection can carry one.
     pub fn frame(&mut self, now: Time, peer: usize) -> Option<Frame> {
-        if let Some(author) = self.links.pop_report(peer) {
+        if let Some(author) = self.links.each[peer].reports.pop_front() {
             return Some(Frame::Report(author, self.logs[author].report_to(now, peer)));
         }
-        while let Some(author) = self.links.pop_turn(peer) {
+        while let Some(author) = self.links.each[peer].turns.pop_front() {
             let log = &mut self.logs[author];
             let session = &mut log.views[peer].session;
             if let Some(message) = session.next(&log.list, &self.bounds) {
@@ -218,7 +226,7 @@ impl Machine {
 
     /// Whether a peer lacks own messages, as far as is known.
     pub fn lacks_own(&self, peer: usize) -> bool {
-        self.logs[self.own].lacks(peer) > 0
+        self.logs[self.own].lacks(peer, &self.links) > 0
     }
 
     fn accept(&mut self, now: Time, from: Option<usize>, message: Message) {

@@ -10,6 +10,7 @@ impl World {
         let kind = self.nodes[from].kind;
         match frame {
             _ if kind == Kind::Honest => Some(frame),
+            _ if kind == Kind::Silent => None,
             Frame::Report(author, report) if author != from => {
                 Some(Frame::Report(author, self.bend_report(kind, (from, to), author, report)))
             }
@@ -68,6 +69,17 @@ impl World {
             _ => {}
         }
         report
+    }
+
+    /// Ends all its connections, and begins them anew at once.
+    pub fn leave(&mut self, number: usize) {
+        for peer in self.near[number].clone() {
+            self.cut(number, peer);
+            self.connect(number.min(peer), number.max(peer));
+        }
+        if self.now < self.scene.stop {
+            self.at(self.now + SECOND, Event::Leave(number));
+        }
     }
 
     /// Sends a hostile author's messages, as no relay would.

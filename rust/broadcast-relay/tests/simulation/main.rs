@@ -5,7 +5,7 @@ mod scenes;
 mod verdict;
 mod world;
 
-use broadcast_relay::gossip::{Bounds, Frame, Machine, Message, Past, SECOND, Taken};
+use broadcast_relay::gossip::{Bounds, Frame, Machine, Message, Past, Report, SECOND, Taken};
 use scenes::CLASSES;
 use verdict::Outcome;
 use world::{Random, World, machine};
@@ -44,6 +44,14 @@ fn in_each_class_of_runs_all_arrives_once() {
 fn a_gap_is_filled() {
     for world in small_runs("gaps", 2 * SECOND, false).take(24) {
         check("gaps", world);
+    }
+}
+
+/// A relay was once waited for only after its first report.
+#[test]
+fn who_stands_still_before_it_reports_misses_nothing() {
+    for seed in [1, 11] {
+        check("late", World::new("late", seed, 4 * SECOND, false));
     }
 }
 
@@ -154,6 +162,75 @@ fn a_gap_that_is_given_up_is_counted() {
     }
     // A floor, and 63 intervals behind it.
     assert_eq!(relay.log(1).given_up, 70 - 63);
+}
+
+/// A log of which nothing new comes any more.
+#[test]
+fn who_lists_an_author_late_gets_what_its_peers_have() {
+    let bytes = vec![0; 900];
+    let message =
+        |stamp| Message { author: 2, stamp, prev: stamp - 1, bytes: bytes.clone().into() };
+    let log = Past { messages: (1..20).map(message).collect(), ..Past::default() };
+    let mut one = machine(&Bounds::default(), 0, 2, None);
+    let mut other =
+        machine(&Bounds::default(), 1, 3, Some(vec![Past::default(), Past::default(), log]));
+    one.connect(0, 1, 100);
+    other.connect(0, 0, 100);
+    // The first does not know the author that the other reports.
+    while let Some(Frame::Report(author, report)) = other.frame(0, 0) {
+        if author < 2 {
+            one.report(0, 1, author, report);
+        }
+    }
+    meet(0, &mut [&mut one, &mut other]);
+    one.add(SECOND, Past::default());
+    meet(SECOND, &mut [&mut one, &mut other]);
+    assert!(one.log(2).covered.runs().eq([(0, 19)]));
+}
+
+/// Gives a relay 1 MB of author 2.
+fn fill(now: u64, relay: &mut Machine) {
+    for _ in 0..10 {
+        let prev = relay.log(2).covered.top();
+        let message = Message { author: 2, stamp: prev + 1, prev, bytes: vec![0; 100_000].into() };
+        assert_eq!(relay.message(now, 2, message), Ok(Taken::New));
+    }
+    relay.timeout(now + 1);
+}
+
+#[test]
+fn who_does_not_list_an_author_is_not_waited_for() {
+    let mut relay = machine(&Bounds::default(), 0, 3, None);
+    relay.connect(0, 1, 100);
+    let reports = std::iter::from_fn(|| relay.frame(0, 1));
+    let authors =
+        reports.filter_map(|it| if let Frame::Report(it, _) = it { Some(it) } else { None });
+    assert!(authors.eq([1, 2, 0]), "the own log is not reported last");
+    (0..3).for_each(|it| fill(it, &mut relay));
+    assert!(relay.log(2).is_held);
+    relay.report(3, 1, 1, Report::default());
+    assert!(!relay.log(2).is_held);
+}
+
+/// A peer that reports nothing, and connects again and again, holds an author back once, and then a sixteenth of the time.
+#[test]
+fn who_reports_nothing_is_not_waited_for_again_and_again() {
+    const STEP: u64 = SECOND / 100;
+    let mut relay = machine(&Bounds::default(), 0, 3, None);
+    let mut held = 0;
+    for now in (0..12_000).map(|it| it * STEP) {
+        if now % SECOND == 0 {
+            relay.disconnect(now, 1);
+            relay.connect(now, 1, 100);
+        }
+        relay.timeout(now);
+        match relay.log(2).is_held {
+            true => held += STEP,
+            false => fill(now, &mut relay),
+        }
+    }
+    assert!(held > 6 * SECOND, "it is not waited for");
+    assert!(held <= 6 * SECOND + 12_000 * STEP / 16, "{held}");
 }
 
 /// Each lacks more of the other's list than it waits for, and both are held: a gap is filled all the same, at once.

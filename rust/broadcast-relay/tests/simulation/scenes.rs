@@ -5,10 +5,12 @@ use broadcast_relay::gossip::{Bounds, Coverage, Message, Past, SECOND};
 use bytes::Bytes;
 
 /// Those without hostile relays first.
-pub const CLASSES: [&str; 21] = [
+pub const CLASSES: [&str; 24] = [
     "calm",
     "slow",
     "pause",
+    "late",
+    "busy",
     "rows",
     "breaks",
     "crash",
@@ -16,6 +18,7 @@ pub const CLASSES: [&str; 21] = [
     "gaps",
     "big",
     "flood",
+    "silent",
     "mute",
     "sly",
     "drip",
@@ -28,9 +31,10 @@ pub const CLASSES: [&str; 21] = [
     "mixed",
     "swarm",
 ];
-const HONEST: usize = 9;
+const HONEST: usize = 11;
 
-const HOSTILE: [Kind; 10] = [
+const HOSTILE: [Kind; 11] = [
+    Kind::Silent,
     Kind::Mute,
     Kind::Sly,
     Kind::Drip,
@@ -69,6 +73,8 @@ pub struct Scene {
     pub end: u64,
     /// Nothing breaks or crashes, so nothing of an honest author may be lost.
     pub is_strict: bool,
+    /// A relay that stands still is connected to, since the other side does not know it.
+    pub is_late: bool,
     pub sizes: Sizes,
 }
 
@@ -94,6 +100,7 @@ fn tree_and_more(random: &mut Random) -> (String, usize, Edges) {
 fn topology(random: &mut Random, class: &str) -> (String, usize, Edges) {
     let pick = match class {
         "rows" => 5 + random.below(2),
+        "late" => 3 + random.below(6),
         _ if !CLASSES[..HONEST].contains(&class) => [0, 1, 2, 4, 7, 8][random.below(6) as usize],
         _ => random.below(9),
     };
@@ -149,7 +156,7 @@ impl World {
         let scene = Scene { stop, quiet: stop, end, is_strict: true, ..Scene::default() };
         let mut world = World::empty(scene, bounds, random, count);
         world.outcome.what = format!("seed {seed}, {name}");
-        world.join(&edges);
+        world.join(class, &edges);
         world.draw_authors(class);
         let mut events = world.draw_hostile(class);
         events.extend(world.draw_faults(class, &edges));
@@ -172,9 +179,10 @@ impl World {
         world
     }
 
-    fn join(&mut self, edges: &Edges) {
+    fn join(&mut self, class: &str, edges: &Edges) {
         for &(a, b) in edges {
-            let delay = self.random.between(1, 100) * 1_000;
+            // Busy ones are relays of one machine.
+            let delay = self.random.between(1, 100) * if class == "busy" { 10 } else { 1_000 };
             for (from, to) in [(a, b), (b, a)] {
                 self.near[from].push(to);
                 let link = Link::new(delay, self.random.between(400_000, 4_000_000));
@@ -199,7 +207,7 @@ impl World {
             self.nodes[author].rate = FULL;
         }
         match class {
-            "rows" => self.nodes[0].rate = FULL,
+            "rows" | "late" => self.nodes[0].rate = FULL,
             "heavy" => self.nodes.iter_mut().for_each(|it| it.rate = FULL),
             "gaps" => self.nodes[0].rate = 0,
             _ => {}
@@ -222,7 +230,8 @@ impl World {
             if !self.nodes[number].is_honest() {
                 continue;
             }
-            let kind = kind.unwrap_or_else(|| HOSTILE[self.random.below(10) as usize]);
+            let kind =
+                kind.unwrap_or_else(|| HOSTILE[self.random.below(HOSTILE.len() as u64) as usize]);
             self.nodes[number].kind = kind;
             if !are_joined(&self.nodes, &self.near) {
                 self.nodes[number].kind = Kind::Honest;
@@ -231,6 +240,7 @@ impl World {
             self.outcome.what += &format!(", {number} {kind:?}");
             match kind {
                 Kind::Flood => self.nodes[number].rate = FULL,
+                Kind::Silent => events.push((SECOND, Event::Leave(number))),
                 Kind::Gappy | Kind::Contradict => {
                     self.nodes[number].rate = 0;
                     events.push((0, Event::Raw(number)));
@@ -252,9 +262,14 @@ impl World {
 
     fn draw_faults(&mut self, class: &str, edges: &Edges) -> Vec<(u64, Event)> {
         let mut events = Vec::new();
-        let count = self.nodes.len();
-        if class == "rows" {
-            events.push((2 * SECOND, Event::Pause(count - 1, 4 * SECOND)));
+        match class {
+            "rows" => events.push((2 * SECOND, Event::Pause(self.nodes.len() - 1, 4 * SECOND))),
+            "late" => {
+                self.scene.is_late = true;
+                events.push((0, Event::Pause(self.draw_honest(), 4 * SECOND)));
+            }
+            "busy" => events.extend(self.draw_turns()),
+            _ => {}
         }
         if class == "pause" || (class == "mixed" && self.random.chance(50)) {
             for _ in 0..self.random.between(1, 2) {
@@ -281,6 +296,21 @@ impl World {
                 let span = self.random.between(200, 3_000) * 1_000;
                 self.outcome.what += &format!(", {node} crashes at {time} ms, {has_journal}");
                 events.push((time * 1_000, Event::Crash { node, has_journal, span }));
+            }
+        }
+        events
+    }
+
+    /// Each relay stands still for a moment again and again, as where processors have other work.
+    fn draw_turns(&mut self) -> Vec<(u64, Event)> {
+        let mut events = Vec::new();
+        for node in 0..self.nodes.len() {
+            // Once all are connected: nobody waits for who is not.
+            let mut time = self.random.between(SECOND / 4, SECOND);
+            while time < self.scene.stop {
+                let span = self.random.between(1, 60) * 1_000;
+                events.push((time, Event::Pause(node, span)));
+                time += span + self.random.between(1, 60) * 1_000;
             }
         }
         events

@@ -46,6 +46,8 @@ impl Random {
 #[derive(Clone, Copy, Debug, PartialEq, Eq)]
 pub enum Kind {
     Honest,
+    /// Sends nothing, and connects again each second.
+    Silent,
     /// Reports everything, and brings nothing of others.
     Mute,
     /// Reports the truth, and brings nothing of others.
@@ -157,6 +159,7 @@ pub enum Event {
     Crash { node: usize, has_journal: bool, span: u64 },
     Start(usize),
     Raw(usize),
+    Leave(usize),
 }
 
 pub struct ArrivalAt(Arrival);
@@ -278,6 +281,7 @@ impl World {
             Event::Crash { node, has_journal, span } => self.crash(node, has_journal, span),
             Event::Start(node) => self.start(node),
             Event::Raw(node) => self.raw(node),
+            Event::Leave(node) => self.leave(node),
         }
     }
 
@@ -303,12 +307,13 @@ impl World {
         self.after(number);
     }
 
-    fn connect(&mut self, one: usize, other: usize) {
+    pub fn connect(&mut self, one: usize, other: usize) {
         let is_down = |it: usize| self.nodes[it].machine.is_none();
         if is_down(one) || is_down(other) || self.links[&(one, other)].is_up {
             return;
         }
-        if self.nodes[one].is_paused || self.nodes[other].is_paused {
+        let is_paused = |it: usize| self.nodes[it].is_paused && !self.scene.is_late;
+        if is_paused(one) || is_paused(other) {
             return self.at(self.now + 100_000, Event::Connect(one, other));
         }
         for (from, to) in [(one, other), (other, one)] {
@@ -321,7 +326,7 @@ impl World {
         self.after(other);
     }
 
-    fn cut(&mut self, one: usize, other: usize) {
+    pub fn cut(&mut self, one: usize, other: usize) {
         if !self.links[&(one, other)].is_up {
             return;
         }
