@@ -3,13 +3,13 @@
 use crate::config::{Config, PeerConfig};
 use crate::identity::{Identity, PeerId};
 use crate::journal::{self, Journal};
+use crate::lock::Mutex;
 use crate::message::Signed;
 use crate::metrics::Metrics;
 use crate::output::{self, MAX_WAITING, Output};
 use crate::peer::{Author, Peer, Seat, Session};
 use crate::{invalid, now, wire};
 use broadcast_relay::gossip::{Frame, Machine, Message, NEVER, Past, Report, Taken, Time};
-use parking_lot::Mutex;
 use prometheus::{IntCounterVec, TextEncoder};
 use std::collections::HashMap;
 use std::io::{self, ErrorKind};
@@ -59,6 +59,10 @@ impl Gossip {
     /// This relay and its peers.
     fn listed(&self) -> impl Iterator<Item = &Arc<Peer>> {
         self.peers.iter().filter(|it| self.machine.log(it.node).is_listed)
+    }
+
+    fn sessions(&self) -> impl Iterator<Item = &Arc<Session>> {
+        self.seats.iter().flat_map(|it| &it.session)
     }
 
     fn find(&self, id: &PeerId) -> Option<&Arc<Peer>> {
@@ -144,9 +148,15 @@ impl Hub {
             });
             it.author.lock().journal = None;
         }
-        let list = |(config, author, past): (&PeerConfig, _, _)| {
+        let list = |(config, author, past): (&PeerConfig, _, Option<_>)| {
             self.metrics.add_peer(&config.name);
-            self.act(|gossip, now| gossip.list(now, config, author, past))
+            self.act(|gossip, now| {
+                if past.is_some() && gossip.nodes.contains_key(&config.key) {
+                    // Who is listed again has lost what came meanwhile, and peers send that only over new connections.
+                    gossip.sessions().for_each(|it| it.ended.notify_one());
+                }
+                gossip.list(now, config, author, past)
+            })
         };
         Ok(changed.into_iter().map(list).collect())
     }
@@ -173,13 +183,12 @@ impl Hub {
     /// Lets each connection end once its peer has all own messages.
     pub fn end(&self) {
         self.is_ending.store(true, Relaxed);
-        let gossip = self.gossip.lock();
-        gossip.seats.iter().flat_map(|it| &it.session).for_each(|it| it.due.notify_one());
+        self.gossip.lock().sessions().for_each(|it| it.due.notify_one());
     }
 
     /// Whether no peer is connected, and all that was delivered has been printed.
     pub fn is_done(&self) -> bool {
-        self.gossip.lock().seats.iter().all(|it| it.session.is_none())
+        self.gossip.lock().sessions().next().is_none()
             && self.output.as_ref().is_none_or(Output::is_done)
     }
 

@@ -9,6 +9,7 @@ mod identity;
 mod input;
 mod journal;
 mod listen;
+mod lock;
 mod message;
 mod metrics;
 mod output;

@@ -1,14 +1,14 @@
 //! Writes lines in a thread of its own: a reader of the output or of the log that does not read stops nothing else.
 
 use crate::identity::PeerId;
+use crate::lock::Mutex;
 use crate::message::Signed;
-use parking_lot::{Condvar, Mutex};
 use prometheus::IntCounter;
 use std::collections::VecDeque;
 use std::fs::File;
 use std::io::{self, ErrorKind, Write};
 use std::os::fd::AsFd;
-use std::sync::Arc;
+use std::sync::{Arc, Condvar, PoisonError};
 use std::thread;
 use std::time::Duration;
 use tracing_subscriber::EnvFilter;
@@ -107,7 +107,8 @@ impl Write for Output {
 fn next((lines, filled): &(Mutex<Lines>, Condvar)) -> Vec<u8> {
     let mut lines = lines.lock();
     lines.is_writing = false;
-    filled.wait_while(&mut lines, |it| it.waiting.is_empty());
+    let lines = filled.wait_while(lines, |it| it.waiting.is_empty());
+    let mut lines = lines.unwrap_or_else(PoisonError::into_inner);
     lines.is_writing = true;
     let mut batch = Vec::new();
     while batch.len() < 1 << 14

@@ -2,10 +2,10 @@
 
 use crate::config::PeerConfig;
 use crate::journal::Journal;
+use crate::lock::Mutex;
 use crate::message::{Seal, Signed};
 use crate::now;
 use broadcast_relay::gossip::{Bar, Bucket, SECOND, Time};
-use parking_lot::Mutex;
 use std::collections::VecDeque;
 use std::sync::Arc;
 use std::sync::atomic::{AtomicU64, Ordering::Relaxed};

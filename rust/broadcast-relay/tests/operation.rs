@@ -418,6 +418,30 @@ fn who_is_listed_again_is_not_printed_again() {
 }
 
 #[test]
+fn what_came_while_its_author_was_not_listed_comes() {
+    let folder = folder("not-listed");
+    let is_beside = |one: usize, other: usize| one.abs_diff(other) == 1;
+    let mut relays = Relay::wired(&Lab::loopback(), &folder, 3, &[], "", is_beside);
+    relays.iter_mut().for_each(Relay::start);
+    relays[2].write("before");
+    wait_for("before", || relays[0].has_printed("r2", "before"));
+    let config = fs::read_to_string(relays[0].config()).unwrap();
+    let parts: Vec<&str> = config.split("[[peer]]").filter(|it| !it.contains("\"r2\"")).collect();
+    let reload = |relay: &Relay, config: &str, done| {
+        fs::write(relay.config(), config).unwrap();
+        relay.signal("-HUP");
+        wait_for("reloaded", || relay.log().matches("reloaded changed").count() == done);
+    };
+    reload(&relays[0], &parts.join("[[peer]]"), 1);
+    relays[2].write("meanwhile");
+    let unlisted = "relay_unlisted_total{peer=\"r1\"}";
+    wait_for("it came", || relays[0].metric(unlisted) > 0.0);
+    reload(&relays[0], &config, 2);
+    wait_for("meanwhile", || relays[0].has_printed("r2", "meanwhile"));
+    assert!(relays.iter_mut().all(Relay::terminate));
+}
+
+#[test]
 fn a_key_that_others_may_read_is_named() {
     let mut relays = pair("open-key");
     let file = relays[0].key.file.clone();
