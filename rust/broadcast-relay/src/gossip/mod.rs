@@ -11,7 +11,7 @@
 //!   relay reads no input, and others report that they want nothing above the top of their coverage. A gap can always be filled,
 //!   so relays never wait for each other in a circle.
 //! - **Patience.** A peer is waited for as long as its patience lasts, which waiting uses up and what it takes renews.
-//! - **First reports.** A connection begins with a report of each listed author. The own log is last, so its report tells that the
+//! - **First reports.** A connection begins with a report of each listed author. The own log is last, so its report shows that the
 //!   peer lists nobody else. Until then the peer is waited for as if it listed each author, and had it up to that time.
 //!
 //! Nothing here has a clock: times are arguments. Nothing is shared between authors but a peer's turns.
