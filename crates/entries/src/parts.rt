@@ -18,9 +18,9 @@ use std::marker::Model;
 /// How many leading bytes there are, and the most parts.
 const BYTES: usize = 256;
 
-/// How many keys fill a part: half of what a leaf of an ordered map holds, which is made with the
-/// first key. Fewer would waste leaves, and more would make searches longer.
-const FULL: usize = 8;
+/// How many keys fill a part: as many as a leaf of an ordered map holds. Fewer would leave more of
+/// the leaves empty, and more would make searches longer.
+const FULL: usize = 15;
 
 /// An ordered map, in smaller ones by the leading bytes of the keys. A full part is split in the
 /// middle of its leading bytes. A new map has no part yet.
@@ -90,10 +90,7 @@ impl<K: Leading + Drop, V: Copy> Parts<K, V> {
     {
         // One key more could not be counted.
         if self.len == usize::MAX {
-            return match self.get(&key) {
-                Some(found) => Ok(Some(*found)),
-                None => Err(AllocError),
-            };
+            return self.get_only(&key);
         }
         make_first(self.alloc, &mut self.parts)?;
         let byte = key.leading();
@@ -105,6 +102,19 @@ impl<K: Leading + Drop, V: Copy> Parts<K, V> {
                 split(&mut self.table, &mut self.parts, part, byte);
                 Ok(None)
             }
+        }
+    }
+
+    /// Returns the value of `key`. A map that has no room for one more key fails without it.
+    fn get_only(&self, key: &K) -> Result<Option<V>, AllocError>
+        ensures found { IfOk result (λ found. IsSome found
+            × (found ≡ lookup (eq_by_cmp K.cmp key.now) self.now)) }
+        ensures fails_for_new_keys { OnErr result
+            (lookup (eq_by_cmp K.cmp key.now) self.now ≡ None) }
+    {
+        match self.get(key) {
+            Some(found) => Ok(Some(*found)),
+            None => Err(AllocError),
         }
     }
 
@@ -168,16 +178,26 @@ fn split<K: Leading + Drop, V: Copy>(
     ensures joined { joined parts.new.items ≡ joined parts.old.items }
     ensures are { AreParts K.cmp K.leading_of table.new.items parts.new.items }
 {
-    // A part that lacks the other byte of a pair has one byte.
-    if parts[part].len() < FULL || part_of(table, byte ^ 1) != part || parts.len() >= BYTES {
-        return;
-    }
-    if !make_room(table, parts) {
+    if !is_to_split(table, parts, part, byte) || !make_room(table, parts) {
         return;
     }
     if let Some(at) = middle(table, part, byte) {
         split_at(table, parts, part, at);
     }
+}
+
+/// Returns whether a part is full, and may be split.
+fn is_to_split<K: Leading + Drop, V: Copy>(
+    table: &[u8],
+    parts: &[BTreeMap<K, V>],
+    part: usize,
+    byte: u8,
+) -> bool
+    requires { part < length parts.now }
+    ensures { IsTrue result → length parts.now < 256 }
+{
+    // A part that lacks the other byte of a pair has one byte.
+    parts[part].len() >= FULL && part_of(table, byte ^ 1) == part && parts.len() < BYTES
 }
 
 /// Makes room for one more part, and the table if there is none. Returns whether there is room.

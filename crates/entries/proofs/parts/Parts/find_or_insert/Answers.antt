@@ -34,56 +34,56 @@ returns-in_err-found-clause-err g c =
     let there : c.part_of-part.result < length c.make_first.new.parts.items = let most = are.there (g.K.Leading.leading_of c.args.key) in omega (arith, c.in_ok-make_first.ensures.made) in
     on_err _ (joined-same g.met.K.Ord.total g.met.K.Leading.leads c.self.inside.table.items c.make_first.new.parts.items are c.args.key c.part_of-part.result c.index_mut.result.now is c.index_mut.ensures.value there c.find_or_insert.new.part c.in_err-found.ensures.err ∙ c.make_first.ensures.joined ∙ c.self.view_is)
 
-pub invariant_of-self-in-Some-2 : goal.invariant_of-self-in-Some-2
-invariant_of-self-in-Some-2 g c =
+pub invariant_of-self-in-Some : goal.invariant_of-self-in-Some
+invariant_of-self-in-Some g c =
     let are : AreParts g.K.Ord.cmp g.K.Leading.leading_of c.self.inside.table.items c.make_first.new.parts.items = c.make_first.ensures.are c.self.inside.table.items c.self.invariant.are in
     let is : c.part_of-part.result ≡ number c.self.inside.table.items (g.K.Leading.leading_of c.args.key) = c.part_of-part.ensures ∙ ap (λ table. number table c.leading-byte.result) c.deref.ensures.value ∙ ap (number c.self.inside.table.items) c.leading-byte.ensures in
     let there : c.part_of-part.result < length c.make_first.new.parts.items = let most = are.there (g.K.Leading.leading_of c.args.key) in omega (arith, c.in_ok-make_first.ensures.made) in
     parted-same g.met.K.Ord.total g.met.K.Leading.leads c.self.inside.table.items c.make_first.new.parts.items are c.args.key c.part_of-part.result c.index_mut.result.now is c.index_mut.ensures.value there
-    c.find_or_insert.new.part c.find_or_insert.ensures.ordered c.self.inside.len (c.self.invariant.counted ∙ sym (ap length c.make_first.ensures.joined)) (c.in_ok-found.ensures.stays (ap is_some c.in-Some-2.is))
+    c.find_or_insert.new.part c.find_or_insert.ensures.ordered c.self.inside.len (c.self.invariant.counted ∙ sym (ap length c.make_first.ensures.joined)) (c.in_ok-found.ensures.stays (ap is_some c.in-Some.is))
 
-pub returns-in-Some-2-clause-found : goal.returns-in-Some-2-clause-found
-returns-in-Some-2-clause-found g c =
+pub returns-in-Some-clause-found : goal.returns-in-Some-clause-found
+returns-in-Some-clause-found g c =
     let are : AreParts g.K.Ord.cmp g.K.Leading.leading_of c.self.inside.table.items c.make_first.new.parts.items = c.make_first.ensures.are c.self.inside.table.items c.self.invariant.are in
     let is : c.part_of-part.result ≡ number c.self.inside.table.items (g.K.Leading.leading_of c.args.key) = c.part_of-part.ensures ∙ ap (λ table. number table c.leading-byte.result) c.deref.ensures.value ∙ ap (number c.self.inside.table.items) c.leading-byte.ensures in
     let there : c.part_of-part.result < length c.make_first.new.parts.items = let most = are.there (g.K.Leading.leading_of c.args.key) in omega (arith, c.in_ok-make_first.ensures.made) in
-    sym c.in-Some-2.is ∙ c.in_ok-found.ensures.found ∙ sym (lookup-parted g.met.K.Ord.total g.met.K.Leading.leads c.self.inside.table.items c.make_first.new.parts.items are c.args.key c.part_of-part.result c.index_mut.result.now is c.index_mut.ensures.value there) ∙ ap (lookup (eq_by_cmp g.K.Ord.cmp c.args.key)) (c.make_first.ensures.joined ∙ c.self.view_is)
+    sym c.in-Some.is ∙ c.in_ok-found.ensures.found ∙ sym (lookup-parted g.met.K.Ord.total g.met.K.Leading.leads c.self.inside.table.items c.make_first.new.parts.items are c.args.key c.part_of-part.result c.index_mut.result.now is c.index_mut.ensures.value there) ∙ ap (lookup (eq_by_cmp g.K.Ord.cmp c.args.key)) (c.make_first.ensures.joined ∙ c.self.view_is)
 
-pub returns-in-Some-2-clause-stays : goal.returns-in-Some-2-clause-stays
-returns-in-Some-2-clause-stays g c =
+pub returns-in-Some-clause-stays : goal.returns-in-Some-clause-stays
+returns-in-Some-clause-stays g c =
     let are : AreParts g.K.Ord.cmp g.K.Leading.leading_of c.self.inside.table.items c.make_first.new.parts.items = c.make_first.ensures.are c.self.inside.table.items c.self.invariant.are in
     let is : c.part_of-part.result ≡ number c.self.inside.table.items (g.K.Leading.leading_of c.args.key) = c.part_of-part.ensures ∙ ap (λ table. number table c.leading-byte.result) c.deref.ensures.value ∙ ap (number c.self.inside.table.items) c.leading-byte.ensures in
     let there : c.part_of-part.result < length c.make_first.new.parts.items = let most = are.there (g.K.Leading.leading_of c.args.key) in omega (arith, c.in_ok-make_first.ensures.made) in
-    λ _. joined-same g.met.K.Ord.total g.met.K.Leading.leads c.self.inside.table.items c.make_first.new.parts.items are c.args.key c.part_of-part.result c.index_mut.result.now is c.index_mut.ensures.value there c.find_or_insert.new.part (c.in_ok-found.ensures.stays (ap is_some c.in-Some-2.is)) ∙ c.make_first.ensures.joined ∙ c.self.view_is
+    λ _. joined-same g.met.K.Ord.total g.met.K.Leading.leads c.self.inside.table.items c.make_first.new.parts.items are c.args.key c.part_of-part.result c.index_mut.result.now is c.index_mut.ensures.value there c.find_or_insert.new.part (c.in_ok-found.ensures.stays (ap is_some c.in-Some.is)) ∙ c.make_first.ensures.joined ∙ c.self.view_is
 
 pub split-requires-clause-are : goal.split-requires-clause-are
 split-requires-clause-are g c =
     let are : AreParts g.K.Ord.cmp g.K.Leading.leading_of c.self.inside.table.items c.make_first.new.parts.items = c.make_first.ensures.are c.self.inside.table.items c.self.invariant.are in
     let is : c.part_of-part.result ≡ number c.self.inside.table.items (g.K.Leading.leading_of c.args.key) = c.part_of-part.ensures ∙ ap (λ table. number table c.leading-byte.result) c.deref.ensures.value ∙ ap (number c.self.inside.table.items) c.leading-byte.ensures in
     let there : c.part_of-part.result < length c.make_first.new.parts.items = let most = are.there (g.K.Leading.leading_of c.args.key) in omega (arith, c.in_ok-make_first.ensures.made) in
-    inserted-are g.met.K.Ord.total g.met.K.Leading.leads c.self.inside.table.items c.make_first.new.parts.items are c.args.key c.part_of-part.result c.index_mut.result.now is c.index_mut.ensures.value there c.find_or_insert.new.part c.find_or_insert.ensures.ordered c.args.value (c.in_ok-found.ensures.inserted c.in-None-2.is)
+    inserted-are g.met.K.Ord.total g.met.K.Leading.leads c.self.inside.table.items c.make_first.new.parts.items are c.args.key c.part_of-part.result c.index_mut.result.now is c.index_mut.ensures.value there c.find_or_insert.new.part c.find_or_insert.ensures.ordered c.args.value (c.in_ok-found.ensures.inserted c.in-None.is)
 
-pub invariant_of-self-in-None-2 : goal.invariant_of-self-in-None-2
-invariant_of-self-in-None-2 g c =
+pub invariant_of-self-in-None : goal.invariant_of-self-in-None
+invariant_of-self-in-None g c =
     let are : AreParts g.K.Ord.cmp g.K.Leading.leading_of c.self.inside.table.items c.make_first.new.parts.items = c.make_first.ensures.are c.self.inside.table.items c.self.invariant.are in
     let is : c.part_of-part.result ≡ number c.self.inside.table.items (g.K.Leading.leading_of c.args.key) = c.part_of-part.ensures ∙ ap (λ table. number table c.leading-byte.result) c.deref.ensures.value ∙ ap (number c.self.inside.table.items) c.leading-byte.ensures in
     let there : c.part_of-part.result < length c.make_first.new.parts.items = let most = are.there (g.K.Leading.leading_of c.args.key) in omega (arith, c.in_ok-make_first.ensures.made) in
     record {
       are = c.split.ensures.are;
       counted = count-inserted g.met.K.Ord.total g.met.K.Leading.leads c.self.inside.table.items c.make_first.new.parts.items are c.args.key c.part_of-part.result c.index_mut.result.now is c.index_mut.ensures.value there
-          c.find_or_insert.new.part c.find_or_insert.ensures.ordered c.self.inside.len (c.self.invariant.counted ∙ sym (ap length c.make_first.ensures.joined)) c.args.value (c.in_ok-found.ensures.inserted c.in-None-2.is) (sym c.in_ok-found.ensures.found ∙ c.in-None-2.is) ∙ sym (ap length c.split.ensures.joined);
+          c.find_or_insert.new.part c.find_or_insert.ensures.ordered c.self.inside.len (c.self.invariant.counted ∙ sym (ap length c.make_first.ensures.joined)) c.args.value (c.in_ok-found.ensures.inserted c.in-None.is) (sym c.in_ok-found.ensures.found ∙ c.in-None.is) ∙ sym (ap length c.split.ensures.joined);
     }
 
-pub returns-in-None-2-clause-found : goal.returns-in-None-2-clause-found
-returns-in-None-2-clause-found g c =
+pub returns-in-None-clause-found : goal.returns-in-None-clause-found
+returns-in-None-clause-found g c =
     let are : AreParts g.K.Ord.cmp g.K.Leading.leading_of c.self.inside.table.items c.make_first.new.parts.items = c.make_first.ensures.are c.self.inside.table.items c.self.invariant.are in
     let is : c.part_of-part.result ≡ number c.self.inside.table.items (g.K.Leading.leading_of c.args.key) = c.part_of-part.ensures ∙ ap (λ table. number table c.leading-byte.result) c.deref.ensures.value ∙ ap (number c.self.inside.table.items) c.leading-byte.ensures in
     let there : c.part_of-part.result < length c.make_first.new.parts.items = let most = are.there (g.K.Leading.leading_of c.args.key) in omega (arith, c.in_ok-make_first.ensures.made) in
-    sym c.in-None-2.is ∙ c.in_ok-found.ensures.found ∙ sym (lookup-parted g.met.K.Ord.total g.met.K.Leading.leads c.self.inside.table.items c.make_first.new.parts.items are c.args.key c.part_of-part.result c.index_mut.result.now is c.index_mut.ensures.value there) ∙ ap (lookup (eq_by_cmp g.K.Ord.cmp c.args.key)) (c.make_first.ensures.joined ∙ c.self.view_is)
+    sym c.in-None.is ∙ c.in_ok-found.ensures.found ∙ sym (lookup-parted g.met.K.Ord.total g.met.K.Leading.leads c.self.inside.table.items c.make_first.new.parts.items are c.args.key c.part_of-part.result c.index_mut.result.now is c.index_mut.ensures.value there) ∙ ap (lookup (eq_by_cmp g.K.Ord.cmp c.args.key)) (c.make_first.ensures.joined ∙ c.self.view_is)
 
-pub returns-in-None-2-clause-inserted : goal.returns-in-None-2-clause-inserted
-returns-in-None-2-clause-inserted g c =
+pub returns-in-None-clause-inserted : goal.returns-in-None-clause-inserted
+returns-in-None-clause-inserted g c =
     let are : AreParts g.K.Ord.cmp g.K.Leading.leading_of c.self.inside.table.items c.make_first.new.parts.items = c.make_first.ensures.are c.self.inside.table.items c.self.invariant.are in
     let is : c.part_of-part.result ≡ number c.self.inside.table.items (g.K.Leading.leading_of c.args.key) = c.part_of-part.ensures ∙ ap (λ table. number table c.leading-byte.result) c.deref.ensures.value ∙ ap (number c.self.inside.table.items) c.leading-byte.ensures in
     let there : c.part_of-part.result < length c.make_first.new.parts.items = let most = are.there (g.K.Leading.leading_of c.args.key) in omega (arith, c.in_ok-make_first.ensures.made) in
-    λ _. c.split.ensures.joined ∙ joined-inserted g.met.K.Ord.total g.met.K.Leading.leads c.self.inside.table.items c.make_first.new.parts.items are c.args.key c.part_of-part.result c.index_mut.result.now is c.index_mut.ensures.value there c.find_or_insert.new.part c.args.value (c.in_ok-found.ensures.inserted c.in-None-2.is) ∙ ap (λ es. insert_entry g.K.Ord.cmp es c.args.key c.args.value) (c.make_first.ensures.joined ∙ c.self.view_is)
+    λ _. c.split.ensures.joined ∙ joined-inserted g.met.K.Ord.total g.met.K.Leading.leads c.self.inside.table.items c.make_first.new.parts.items are c.args.key c.part_of-part.result c.index_mut.result.now is c.index_mut.ensures.value there c.find_or_insert.new.part c.args.value (c.in_ok-found.ensures.inserted c.in-None.is) ∙ ap (λ es. insert_entry g.K.Ord.cmp es c.args.key c.args.value) (c.make_first.ensures.joined ∙ c.self.view_is)
