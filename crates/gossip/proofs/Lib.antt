@@ -1,5 +1,6 @@
 pub mod Granting
 pub mod Joining
+pub mod Lacking
 pub mod CatchingUp
 pub mod Readying
 pub mod Delivering

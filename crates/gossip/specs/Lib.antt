@@ -1,5 +1,6 @@
 pub mod Deliveries
 pub mod Mesh
+pub mod Missing
 pub mod Outbox
 pub mod Spans
 pub mod Steps

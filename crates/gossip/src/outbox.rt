@@ -8,6 +8,7 @@ use crate::coverage::Coverage;
 
 /// A message on a relay's list of an author: the stamp of the author's message before it, its own
 /// stamp, and its size.
+#[repr(C)]
 #[derive(Clone, Copy, Debug, PartialEq, Eq)]
 pub struct Listed {
     pub prev: u64,

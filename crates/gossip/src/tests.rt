@@ -50,6 +50,19 @@ fn closes_the_oldest_gap(rt: HostRuntime) {
 }
 
 #[test]
+fn finds_what_is_missing(rt: HostRuntime) {
+    let mut had = Coverage::new(5);
+    let mut theirs = Coverage::new(9);
+    had.cover(7, 9);
+    theirs.cover(10, u64::MAX);
+    assert!(rt; had.run_end(7) == 9 && had.run_end(6) == 6 && theirs.run_end(11) == u64::MAX);
+    assert_eq!(rt; had.first_missing(&theirs, 0, u64::MAX), Some(6));
+    assert_eq!(rt; had.first_missing(&theirs, 7, u64::MAX), Some(11));
+    assert_eq!(rt; had.first_missing(&theirs, 7, 10), None);
+    assert_eq!(rt; theirs.first_missing(&had, 0, u64::MAX), None);
+}
+
+#[test]
 fn delivers_once(rt: HostRuntime) {
     let arrival = |author, prev, stamp| Arrival {
         author,
