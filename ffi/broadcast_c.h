@@ -225,10 +225,12 @@ uint32_t broadcast_outbox_next(const broadcast_listed *list, size_t list_len, ui
                                const broadcast_span *spans, size_t spans_len, bool is_held,
                                const broadcast_listed *in_flight, size_t in_flight_len,
                                uint64_t room, size_t *index);
-/* Sets `bytes` to those of the messages on the list that the peer lacks, at most UINT64_MAX: OK or
- * NO_COVERAGE. */
-uint32_t broadcast_outbox_lag(const broadcast_listed *list, size_t list_len, uint64_t floor,
-                              const broadcast_span *spans, size_t spans_len, uint64_t *bytes);
+/* Sets `bytes` to those of the messages on the list that the peer lacks: OK or NO_COVERAGE. The list
+ * is in order of stamps. `sums` has a number in front of each message and one behind the last: each
+ * is the one before it and the bytes of the message between them. Otherwise `bytes` is any number. */
+uint32_t broadcast_outbox_lag(const broadcast_listed *list, size_t list_len, const uint64_t *sums,
+                              size_t sums_len, uint64_t floor, const broadcast_span *spans,
+                              size_t spans_len, uint64_t *bytes);
 
 /* ---- Counters, which are all zeros at first. ---- */
 

@@ -5,6 +5,8 @@
 /* What a peer has: the stamps up to 1, and 5. */
 static const broadcast_span has[] = {{4, 5}};
 static const broadcast_listed list[] = {{0, 1, 10}, {1, 3, 10}, {4, 5, 10}, {5, 8, 10}};
+/* The sums of bytes in front of each message and behind the last. */
+static const uint64_t sums[] = {7, 17, 27, 37, 47};
 
 enum { LISTED = sizeof list / sizeof *list };
 
@@ -28,11 +30,12 @@ static void sends_in_order(void)
 
 static void counts_what_is_lacking(void)
 {
-    static const broadcast_listed vast[] = {{5, 6, UINT64_MAX}, {6, 7, 1}};
-    uint64_t bytes = 0;
-    must(broadcast_outbox_lag(list, LISTED, 1, has, 1, &bytes) == BROADCAST_OK && bytes == 20);
-    must(broadcast_outbox_lag(vast, 2, 1, has, 1, &bytes) == BROADCAST_OK && bytes == UINT64_MAX);
-    must(broadcast_outbox_lag(NULL, 0, 0, NULL, 0, &bytes) == BROADCAST_OK && bytes == 0);
+    uint64_t bytes = 9;
+    must(broadcast_outbox_lag(list, LISTED, sums, LISTED + 1, 1, has, 1, &bytes) == BROADCAST_OK);
+    must(bytes == 20);
+    must(broadcast_outbox_lag(list, LISTED, sums, LISTED + 1, 8, NULL, 0, &bytes) == BROADCAST_OK);
+    must(bytes == 0);
+    must(broadcast_outbox_lag(NULL, 0, NULL, 0, 0, NULL, 0, &bytes) == BROADCAST_OK && bytes == 0);
 }
 
 /* What is refused changes nothing. */
@@ -42,7 +45,8 @@ static void refuses(void)
     uint64_t bytes = 9;
     must(broadcast_outbox_next(list, LISTED, 6, has, 1, false, NULL, 0, 1, &index) ==
          BROADCAST_NO_COVERAGE);
-    must(broadcast_outbox_lag(list, LISTED, 6, has, 1, &bytes) == BROADCAST_NO_COVERAGE);
+    must(broadcast_outbox_lag(list, LISTED, sums, LISTED + 1, 6, has, 1, &bytes) ==
+         BROADCAST_NO_COVERAGE);
     must(index == 9 && bytes == 9);
 }
 

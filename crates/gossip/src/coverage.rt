@@ -232,6 +232,14 @@ impl Coverage {
         }
     }
 
+    /// Returns the spans.
+    pub fn spans(&self) -> &[Span]
+        ensures value { result.now ≡ self.now }
+        ensures apart { IsApart result.now }
+    {
+        self.spans.as_slice()
+    }
+
     /// Returns the spans above the floor. A relay reports them to its peers, with the floor.
     pub fn above_floor(&self) -> &[Span]
         ensures { result.now ≡ drop 1 self.now }

@@ -3,7 +3,7 @@ use crate::bucket::{Bucket, Call, take_all};
 use crate::coverage::Coverage;
 use crate::deliveries::{Arrival, Deliveries, deliver_all};
 use crate::mesh::{Event, Log, run_mesh};
-use crate::outbox::{Listed, bytes_of, catch_up, lag, next, waits_for};
+use crate::outbox::{Listed, bytes_of, catch_up, lag, lag_by_sums, next, waits_for};
 use crate::span::Span;
 
 const SECOND: u64 = 1_000_000_000;
@@ -99,6 +99,7 @@ fn sends_in_order_within_the_room(rt: HostRuntime) {
     assert_eq!(rt; next(&list, &peer, Some(2), &[], 9), Some(0));
     assert_eq!(rt; next(&list, &peer, Some(2), &list[..1], 10), None);
     assert!(rt; lag(&list, &peer) == 12 && waits_for(&list, &peer, 11));
+    assert_eq!(rt; lag_by_sums(&list, &[5, 14, 17, 20], &peer), 12);
     assert!(rt; !waits_for(&list, &peer, 12));
     assert_eq!(rt; catch_up(&list, &mut peer), 2);
 }

@@ -262,9 +262,9 @@ pub fn next(
 }
 
 /// Returns the bytes on the list that a peer lacks.
-pub fn lag(list: &[Listed], reported: &Coverage) -> Result<u64, Error> {
+pub fn lag(list: &[Listed], sums: &[u64], reported: &Coverage) -> Result<u64, Error> {
     #[cfg(broadcast_c)]
-    return library::lag(list, reported);
+    return library::lag(list, sums, reported);
     #[cfg(not(broadcast_c))]
     return Err(Error::NoLibrary);
 }

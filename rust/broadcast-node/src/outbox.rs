@@ -29,7 +29,7 @@ pub struct Listed {
 /// assert_eq!(next(&list, &reported, false, &list[1..2], 15), Some(2));
 /// assert_eq!(next(&list, &reported, false, &list[1..3], 15), None);
 /// assert_eq!(next(&list, &reported, true, &[], 15), None);
-/// assert_eq!(lag(&list, &reported), 20);
+/// assert_eq!(lag(&list, &[0, 10, 20, 30], &reported), 20);
 /// # Ok(())
 /// # }
 /// ```
@@ -44,7 +44,9 @@ pub fn next(
     backend::next(list, reported, is_held, in_flight, room).ok().flatten()
 }
 
-/// Returns the bytes of the messages on the list that a peer with this coverage lacks, at most `u64::MAX`.
-pub fn lag(list: &[Listed], reported: &Coverage) -> u64 {
-    backend::lag(list, reported).unwrap_or(u64::MAX)
+/// Returns the bytes of the messages on the list that a peer with this coverage lacks. The list is in order of stamps. `sums`
+/// has a number in front of each message and one behind the last: each is the one before it and the bytes of the message
+/// between them. Otherwise the result is any number.
+pub fn lag(list: &[Listed], sums: &[u64], reported: &Coverage) -> u64 {
+    backend::lag(list, sums, reported).unwrap_or(u64::MAX)
 }

@@ -120,6 +120,8 @@ unsafe extern "C" {
     fn broadcast_outbox_lag(
         list: *const Listed,
         len: usize,
+        sums: *const u64,
+        sums_len: usize,
         floor: u64,
         spans: *const Span,
         spans_len: usize,

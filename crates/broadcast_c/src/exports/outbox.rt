@@ -1,11 +1,11 @@
 //! The functions of an outbox: which message of a list a peer is sent next, and what it lacks.
-ghost use Rattle.std.specs.Prelude.{◌≡◌, ◌<◌, ◌-◌, ◌^◌, length, min};
-ghost use Rattle.gossip.specs.Outbox.{IsNext, NoneOfFirst, bytes_of, lag};
+ghost use Rattle.std.specs.Prelude.{◌≡◌, ◌<◌, length};
+ghost use Rattle.gossip.specs.Outbox.{AreSums, IsInOrder, IsNext, NoneOfFirst, bytes_of, lag};
 ghost use Rattle.gossip.specs.Spans.{IsCoverage};
 ghost use Rattle.broadcast_c.specs.Coverages.{coverage_of, top_if};
 
 use crate::codes::{NO_COVERAGE, NONE, OK};
-use gossip::{Coverage, Listed, Span, lag, next};
+use gossip::{Coverage, Listed, Span, lag_by_sums, next};
 
 /// Sets `index` to that of the message on the list which a peer with this coverage is sent next.
 /// While the bytes in flight reach the room there is none. A peer that is held back is sent nothing
@@ -49,17 +49,18 @@ fn top_if(is_held: bool, reported: &Coverage) -> Option<u64>
     if is_held { Some(reported.top()) } else { None }
 }
 
-/// Sets `bytes` to those of the messages on the list that a peer with this coverage lacks, or to
-/// the greatest number of 64 bits if they are more.
+/// Sets `bytes` to those of the messages on the list that a peer with this coverage lacks, for a
+/// list in order. `sums` has the sum of bytes in front of each message, and behind the last.
 #[unsafe(no_mangle)]
 pub extern "C" fn broadcast_outbox_lag(
     list: &[Listed],
+    sums: &[u64],
     floor: u64,
     spans: &[Span],
     bytes: &mut u64,
 ) -> u32
-    ensures lag { result ≡ OK
-        → bytes.new ≡ min (lag (coverage_of floor spans.now) list.now) (2 ^ 64 - 1) }
+    ensures lag { result ≡ OK → IsInOrder list.now → AreSums list.now sums.now
+        → bytes.new ≡ lag (coverage_of floor spans.now) list.now }
     ensures invalid { ¬ (result ≡ OK)
         → (result ≡ NO_COVERAGE) × ¬ (IsCoverage 64 (coverage_of floor spans.now)) }
     ensures reports_nothing { ¬ (result ≡ OK) → bytes.new ≡ bytes.old }
@@ -67,6 +68,6 @@ pub extern "C" fn broadcast_outbox_lag(
     let Some(reported) = Coverage::reported(floor, spans) else {
         return NO_COVERAGE;
     };
-    *bytes = u64::try_from(lag(list, &reported)).unwrap_or(u64::MAX);
+    *bytes = lag_by_sums(list, sums, &reported);
     OK
 }

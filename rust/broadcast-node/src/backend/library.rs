@@ -228,8 +228,8 @@ pub fn next(
     found(status, index)
 }
 
-pub fn lag(list: &[Listed], reported: &Coverage) -> Result<u64, Error> {
+pub fn lag(list: &[Listed], sums: &[u64], reported: &Coverage) -> Result<u64, Error> {
     let mut bytes = 0;
-    done(raw::outbox_lag(list, reported, &mut bytes))?;
+    done(raw::outbox_lag(list, sums, reported, &mut bytes))?;
     Ok(bytes)
 }

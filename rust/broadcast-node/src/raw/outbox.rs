@@ -31,10 +31,12 @@ pub fn outbox_next(
     }
 }
 
-/// Sets `bytes` to those of the messages on the list that a peer with this coverage lacks.
-pub fn outbox_lag(list: &[Listed], reported: &Coverage, bytes: &mut u64) -> u32 {
+/// Sets `bytes` to those of the messages on the list, with sums beside it, that a peer with this coverage lacks.
+pub fn outbox_lag(list: &[Listed], sums: &[u64], reported: &Coverage, bytes: &mut u64) -> u32 {
     let (at, len) = (list.as_ptr(), list.len());
+    let (sums, count) = (sums.as_ptr(), sums.len());
     let (floor, spans) = (reported.floor(), reported.spans());
-    // SAFETY: the pointers and the lengths are those of two slices that are borrowed for the call.
-    unsafe { super::broadcast_outbox_lag(at, len, floor, spans.as_ptr(), spans.len(), bytes) }
+    let (first, spans) = (spans.as_ptr(), spans.len());
+    // SAFETY: the pointers and the lengths are those of three slices that are borrowed for the call.
+    unsafe { super::broadcast_outbox_lag(at, len, sums, count, floor, first, spans, bytes) }
 }

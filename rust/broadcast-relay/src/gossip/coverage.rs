@@ -95,14 +95,9 @@ impl Coverage {
         broadcast_node::next(list, &self.0, is_held, in_flight, room)
     }
 
-    /// The bytes of the messages on a list that this lacks.
-    pub fn lag(&self, list: &[Listed]) -> u64 {
-        broadcast_node::lag(list, &self.0)
-    }
-
-    /// All stamps up to it are covered.
-    pub fn floor(&self) -> u64 {
-        self.0.floor()
+    /// The bytes of the messages on a list, with sums beside it, that this lacks.
+    pub fn lag(&self, list: &[Listed], sums: &[u64]) -> u64 {
+        broadcast_node::lag(list, sums, &self.0)
     }
 }
 

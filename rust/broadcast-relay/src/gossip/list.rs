@@ -13,14 +13,19 @@ pub struct List {
     messages: VecDeque<Message>,
     /// What the verified library sees of the messages, behind some that have left the list.
     listed: Vec<Listed>,
+    /// The sum of sizes in front of each of `listed`, and behind the last.
+    sums: Vec<u64>,
     left: usize,
-    bytes: u64,
     most: u64,
 }
 
 impl List {
     pub fn new(most: u64) -> List {
-        List { messages: VecDeque::new(), listed: Vec::new(), left: 0, bytes: 0, most }
+        List { messages: VecDeque::new(), listed: Vec::new(), sums: vec![0], left: 0, most }
+    }
+
+    pub fn bytes(&self) -> u64 {
+        self.sums[self.listed.len()] - self.sums[self.left]
     }
 
     pub fn iter(&self) -> impl Iterator<Item = &Message> {
@@ -34,15 +39,18 @@ impl List {
 
     pub fn insert(&mut self, message: Message) {
         let place = self.count_up_to(message.stamp);
-        self.bytes += message.size();
-        self.listed.insert(self.left + place, message.listed());
+        let (at, size) = (self.left + place, message.size());
+        self.sums.insert(at, self.sums[at]);
+        self.sums[at + 1..].iter_mut().for_each(|sum| *sum += size);
+        self.listed.insert(at, message.listed());
         self.messages.insert(place, message);
-        while self.bytes > self.most && self.messages.len() > 1 {
-            self.bytes -= self.messages.pop_front().map_or(0, |it| it.size());
+        while self.bytes() > self.most && self.messages.len() > 1 {
+            self.messages.pop_front();
             self.left += 1;
         }
         if self.left > self.messages.len() {
             self.listed.drain(..self.left);
+            self.sums.drain(..self.left);
             self.left = 0;
         }
     }
@@ -64,9 +72,9 @@ impl List {
         }
     }
 
-    /// The bytes on the list that `coverage` lacks. It lacks nothing up to its floor.
+    /// The bytes on the list that `coverage` lacks.
     pub fn lacking(&self, coverage: &Coverage) -> u64 {
-        coverage.lag(self.listed(self.count_up_to(coverage.floor())))
+        coverage.lag(self.listed(0), &self.sums[self.left..])
     }
 }
 

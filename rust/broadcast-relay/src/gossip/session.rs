@@ -112,12 +112,12 @@ impl Session {
         Some(message.clone())
     }
 
-    /// Asks the verified library for the next message, among a few of the list at a time. The cursor moves behind those of which
-    /// it takes none.
+    /// Asks the verified library for the next message, among a few of the list at a time. While there is room, the cursor moves
+    /// behind those of which the library takes none.
     fn find_next(&mut self, list: &List, bounds: &Bounds) -> Option<usize> {
         let theirs = self.theirs.as_ref()?;
         let room = theirs.room.min(bounds.room);
-        while self.in_flight < room {
+        loop {
             self.cursor = theirs.coverage.run_end(self.cursor);
             let from = list.count_up_to(self.cursor);
             let few = list.listed(from);
@@ -125,13 +125,14 @@ impl Session {
             let (first, last) = (few.first()?.stamp, few.last()?.stamp);
             let flying: Vec<Listed> = self.flying.range(first..=last).map(|(_, it)| *it).collect();
             let others = self.in_flight - flying.iter().map(|it| it.bytes).sum::<u64>();
-            match theirs.coverage.next(few, theirs.is_held, &flying, room - others) {
+            let left = room.saturating_sub(others);
+            match theirs.coverage.next(few, theirs.is_held, &flying, left) {
                 Some(index) => return Some(from + index),
+                None if self.in_flight >= room => return None,
                 None if theirs.is_held && theirs.coverage.top() < last => return None,
                 None => self.cursor = last,
             }
         }
-        None
     }
 
     /// Notes that this report is sent.
