@@ -1,5 +1,6 @@
 /* The functions of libbroadcast_c.a: a store, which caches messages that the caller keeps; the wire
- * format of a message; coverages, which say what a relay has had; counters; and SHA-256.
+ * format of a message; coverages, which say what a relay has had; what a relay sends; counters; and
+ * SHA-256.
  *
  * Link with -lbroadcast_c and libc. The library of `make dist` needs nothing else, and its
  * lib/pkgconfig/broadcast_c.pc says so (`pkg-config --cflags --libs broadcast_c`). That of `make lib`
@@ -33,7 +34,7 @@ extern "C" {
 
 /* The version of these functions. It changes whenever one of them does, so a caller compares it with
  * `broadcast_c_version()` once. */
-#define BROADCAST_VERSION 7
+#define BROADCAST_VERSION 8
 
 /* The status that a call returns. After any other than OK and WAITS the store is as it was. After
  * EMPTY, MEMORY, NONE, TOO_LONG and NO_COVERAGE so is each variable that the call could have set. */
@@ -41,7 +42,8 @@ enum {
     BROADCAST_OK = 0,
     BROADCAST_MEMORY = 1,         /* an allocation failed */
     BROADCAST_EMPTY = 2,          /* there is no store: it was not made, or was freed */
-    BROADCAST_NONE = 3,           /* no message of the digest is cached, or the stamp was not had */
+    BROADCAST_NONE = 3,           /* no message of the digest is cached, the stamp was not had, or there is
+                                   * no stamp or message of the kind */
     BROADCAST_SHORT = 4,          /* the buffer is too short */
     BROADCAST_WAITS = 5,          /* the ticket waits */
     BROADCAST_TOO_LONG = 6,       /* the message has more than 4,294,967,295 bytes */
@@ -107,6 +109,13 @@ typedef struct {
     uint64_t from;
     uint64_t to;
 } broadcast_span;
+
+/* A message on a relay's list of an author. */
+typedef struct {
+    uint64_t prev;  /* the stamp of the author's message before it */
+    uint64_t stamp; /* its own stamp */
+    uint64_t bytes; /* its size */
+} broadcast_listed;
 
 /* Returns the version of these functions. */
 uint32_t broadcast_c_version(void);
@@ -183,17 +192,45 @@ uint32_t broadcast_store_count(broadcast_store *store, broadcast_counts *out);
 
 /* ---- Coverages: which stamps of an author a relay has had. A coverage has all stamps up to `floor`,
  * and those of at most 63 spans: the first begins after `floor`, each other one after the end of the
- * one before it, and none ends before it begins. Neither call allocates. ---- */
+ * one before it, and none ends before it begins. No call allocates. ---- */
 
 /* Reports whether the stamp was had: OK, NONE or NO_COVERAGE. */
 uint32_t broadcast_coverage_has(uint64_t floor, const broadcast_span *spans, size_t spans_len,
                                 uint64_t stamp);
+/* Sets `end` to that of the stamps which the coverage has one after another from `at` on, to `at` if
+ * it lacks the next one: OK or NO_COVERAGE. */
+uint32_t broadcast_coverage_end(uint64_t floor, const broadcast_span *spans, size_t spans_len,
+                                uint64_t at, uint64_t *end);
+/* Sets `stamp` to the least one after `above` and up to `upto` that the other coverage has and the
+ * first lacks: OK, NONE or NO_COVERAGE. */
+uint32_t broadcast_coverage_missing(uint64_t floor, const broadcast_span *spans, size_t spans_len,
+                                    uint64_t other_floor, const broadcast_span *others,
+                                    size_t others_len, uint64_t above, uint64_t upto,
+                                    uint64_t *stamp);
 /* Covers the stamps after `prev` and up to `stamp` too. Sets `floor`, and fills `out` with the spans
  * after it: OK, SHORT or NO_COVERAGE. If there are more than 63 spans then, the gap after `floor` is
  * closed: its stamps count as had. Sets `gap` to that gap, or to a span of no stamps. */
 uint32_t broadcast_coverage_cover(uint64_t *floor, const broadcast_span *spans, size_t spans_len,
                                   uint64_t prev, uint64_t stamp, broadcast_span *out,
                                   size_t out_len, size_t *needed, broadcast_span *gap);
+
+/* ---- What a relay sends: a list of an author's messages, and a peer that has reported a coverage of
+ * that author. Neither call allocates. ---- */
+
+/* Sets `index` to that of the message on the list which the peer is sent next: OK, NONE or
+ * NO_COVERAGE. It is the first that the peer lacks and that is not in flight. There is none while the
+ * bytes in flight reach `room`. A peer that is held back is sent nothing above the top of its
+ * coverage, which is the greatest stamp that the coverage has. */
+uint32_t broadcast_outbox_next(const broadcast_listed *list, size_t list_len, uint64_t floor,
+                               const broadcast_span *spans, size_t spans_len, bool is_held,
+                               const broadcast_listed *in_flight, size_t in_flight_len,
+                               uint64_t room, size_t *index);
+/* Sets `bytes` to those of the messages on the list that the peer lacks: OK or NO_COVERAGE. The list
+ * is in order of stamps. `sums` has a number in front of each message and one behind the last: each
+ * is the one before it and the bytes of the message between them. Otherwise `bytes` is any number. */
+uint32_t broadcast_outbox_lag(const broadcast_listed *list, size_t list_len, const uint64_t *sums,
+                              size_t sums_len, uint64_t floor, const broadcast_span *spans,
+                              size_t spans_len, uint64_t *bytes);
 
 /* ---- Counters, which are all zeros at first. ---- */
 

@@ -1,4 +1,5 @@
-/* Coverages, from C: what is had with one more message, which gap is closed, and what is refused. */
+/* Coverages, from C: what is had with one more message, which gap is closed, what is missing, and what
+ * is refused. */
 #include "broadcast_c.h"
 #include "must.h"
 
@@ -50,6 +51,32 @@ static void closes_the_oldest_gap(void)
     must(gap.from == 5 && gap.to == 10 && floor_of == 15 && len == MOST && has(7) && !has(16));
 }
 
+/* The end of the stamps that were had one after another. */
+static uint64_t end_from(uint64_t at)
+{
+    uint64_t end = 0;
+    must(broadcast_coverage_end(floor_of, spans, len, at, &end) == BROADCAST_OK);
+    return end;
+}
+
+static void finds_what_is_missing(void)
+{
+    static const broadcast_span others[] = {{10, UINT64_MAX}};
+    uint64_t stamp = 99;
+    floor_of = 5, len = 0;
+    cover(7, 9);
+    must(end_from(0) == 5 && end_from(5) == 5 && end_from(7) == 9 && end_from(UINT64_MAX) == UINT64_MAX);
+    must(broadcast_coverage_missing(floor_of, spans, len, 9, others, 1, 7, 10, &stamp) ==
+         BROADCAST_NONE);
+    must(stamp == 99);
+    must(broadcast_coverage_missing(floor_of, spans, len, 9, others, 1, 7, 11, &stamp) ==
+         BROADCAST_OK);
+    must(stamp == 11);
+    must(broadcast_coverage_missing(floor_of, spans, len, 9, others, 1, 0, 11, &stamp) ==
+         BROADCAST_OK);
+    must(stamp == 6);
+}
+
 /* What is refused changes nothing. */
 static void refuses(void)
 {
@@ -59,6 +86,11 @@ static void refuses(void)
     broadcast_span gap = {9, 9}, room = {9, 9};
     for (size_t i = 0; i < sizeof wrong / sizeof *wrong; i++) {
         must(broadcast_coverage_has(5, wrong[i], 2, 6) == BROADCAST_NO_COVERAGE);
+        must(broadcast_coverage_end(5, wrong[i], 2, 6, &floor) == BROADCAST_NO_COVERAGE);
+        must(broadcast_coverage_missing(5, wrong[i], 2, 9, NULL, 0, 0, 9, &floor) ==
+             BROADCAST_NO_COVERAGE);
+        must(broadcast_coverage_missing(9, NULL, 0, 5, wrong[i], 2, 0, 9, &floor) ==
+             BROADCAST_NO_COVERAGE);
         must(broadcast_coverage_cover(&floor, wrong[i], 2, 20, 21, &room, 1, &needed, &gap) ==
              BROADCAST_NO_COVERAGE);
     }
@@ -71,6 +103,7 @@ int main(void)
 {
     joins();
     closes_the_oldest_gap();
+    finds_what_is_missing();
     refuses();
     puts("coverage: ok");
     return 0;

@@ -1,13 +1,18 @@
 -- Believed.
--- What covering a message reports.
-use Rattle.std.specs.Prelude.{◌≡◌, ℕ, List, ◌∷◌, drop}
-use Rattle.gossip.specs.Spans.{floor_of, gap_for, with_had}
+-- How a coverage is passed, and what covering a message reports.
+use Rattle.std.specs.Prelude.{◌≡◌, ℕ, Bool, true, false, Option, Some, None, List, ◌∷◌, drop}
+use Rattle.gossip.specs.Spans.{floor_of, gap_for, top_of, with_had}
 use Rattle.gossip.specs.declared.span.Span.{Span}
 use Rattle.broadcast_c.specs.Calls.{IsFilled}
 
 -- all stamps up to the floor, and those of the spans
 abbrev pub coverage_of : ℕ → List Span → List Span
 coverage_of floor spans = record { from = 0; to = floor } ∷ spans
+
+-- the top of the coverage, for a peer that is held back
+abbrev pub top_if : Bool → List Span → Option ℕ
+top_if true had = Some (top_of had)
+top_if false had = None
 
 -- what is had with one more span is reported: its floor, the spans after it, and the gap that was
 -- closed

@@ -4,5 +4,6 @@ mod buffer;
 mod counters;
 mod coverage;
 mod digest;
+mod outbox;
 mod packet;
 mod store;

@@ -200,10 +200,10 @@ gap_extends x last front order apart after within few =
 
 -- ---- what is given up was not had
 
-outside : (s a b : ℕ) → s ≤ a → (nat_lt a s && nat_le s b) ≡ false
+pub outside : (s a b : ℕ) → s ≤ a → (nat_lt a s && nat_le s b) ≡ false
 outside s a b h = grind (arith, nat_tests)
 
-none_before : (s end : ℕ) (ys : List Span) → s ≤ end → IsBefore end ys → IsApart ys → is_had s ys ≡ false
+pub none_before : (s end : ℕ) (ys : List Span) → s ≤ end + 1 → IsBefore end ys → IsApart ys → is_had s ys ≡ false
 none_before s end [] h b ap = refl
 none_before s end (y ∷ ys) h b ap =
     let later = none_before s y.to ys (omega (arith, h, b, ap.0)) ap.1 ap.2 in
@@ -250,7 +250,7 @@ ends_up_to : (y : Span) (ys : List Span) → IsApart (y ∷ ys) → y.to ≤ top
 ends_up_to y [] ap = omega arith
 ends_up_to y (z ∷ zs) ap = let later = ends_up_to z zs ap.2 in omega (arith, later, ap.1, ap.2.0)
 
-either : (a b : Bool) → (a || b) ≡ true → (a ≡ true) ⊎ (b ≡ true)
+pub either : (a b : Bool) → (a || b) ≡ true → (a ≡ true) ⊎ (b ≡ true)
 either true b h = inl refl
 either false b h = inr h
 

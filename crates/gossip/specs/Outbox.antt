@@ -1,7 +1,8 @@
 -- Believed.
 -- What is sent to a peer next, and for which peers a relay waits.
-use Rattle.std.specs.Prelude.{◌≡◌, ◌<◌, ◌≤◌, ◌+◌, ℕ, Bool, true, false, not, nat_le, nat_eq, ◌&&◌, if◌then◌else◌, List, [], ◌∷◌, length, slice_get, Option, Some, None}
+use Rattle.std.specs.Prelude.{◌≡◌, ◌<◌, ◌≤◌, ◌+◌, ℕ, Bool, true, false, not, nat_le, nat_eq, ◌&&◌, if◌then◌else◌, List, [], ◌∷◌, length, slice_get, slice_index, Option, Some, None}
 use Rattle.std.specs.List.{list_any, sum_by}
+use Rattle.std.specs.List.Sorted.{IsNonDecreasingBy}
 use Rattle.gossip.specs.Spans.{is_had, top_of}
 use Rattle.gossip.specs.declared.span.Span.{Span}
 use Rattle.gossip.specs.declared.outbox.Listed.{Listed}
@@ -59,3 +60,12 @@ lag reported (m ∷ ms) = (if is_had m.stamp reported then 0 else m.bytes) + lag
 abbrev pub WantsNothingBelow : List Span → List Listed → Type 0
 WantsNothingBelow reported list =
     NoneOfFirst reported (Some (top_of reported)) [] (length list) list
+
+-- no message is earlier than one before it
+abbrev pub IsInOrder : List Listed → Type 0
+IsInOrder list = IsNonDecreasingBy (λ m. m.stamp) list
+
+-- the sum behind each message is the one before it and the message's bytes
+abbrev pub AreSums : List Listed → List ℕ → Type 0
+AreSums list sums = (k : ℕ) (m : Listed) → slice_get list k ≡ Some m
+    → slice_index sums (k + 1) ≡ slice_index sums k + m.bytes

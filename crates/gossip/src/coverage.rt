@@ -3,6 +3,7 @@ ghost use Rattle.std.specs.Prelude.{◌≡◌, ◌≤◌, ◌<◌, ◌+◌, ◌|
 ghost use Rattle.std.specs.Bool.{OnTrue, OnFalse};
 ghost use Rattle.arrayvec.specs.ArrayVec.{array_vec_len};
 ghost use Rattle.gossip.specs.Spans.{floor_of, top_of, is_had, is_in, joined, joined_with, still, closed, with_had, given_up, shortened, gap_for, nothing, oldest_gap, Follow, IsApart, IsCoverage};
+ghost use Rattle.gossip.specs.Missing.{HasAll, IsFirstMissing, IsRunEnd};
 ghost use Rattle.gossip.specs.declared.span.Span.{Span};
 
 use crate::span::Span;
@@ -149,6 +150,38 @@ fn add(spans: &mut ArrayVec<Span, 65>, span: Span) -> Span
     shorten(spans)
 }
 
+/// Returns the end of the stamps that were had one after another from `at` on.
+fn run_end(spans: &[Span], at: u64) -> u64
+    requires { IsApart spans.now }
+    ensures { IsRunEnd spans.now at result }
+{
+    for span in spans {
+        if at < span.from {
+            return at;
+        }
+        if at < span.to {
+            return span.to;
+        }
+    }
+    at
+}
+
+/// Returns the least stamp after `above` and up to `upto` that they have and that was not had.
+fn first_missing(had: &[Span], theirs: &[Span], above: u64, upto: u64) -> Option<u64>
+    requires had_apart { IsApart had.now }
+    requires theirs_apart { IsApart theirs.now }
+    ensures first { IfSome result (IsFirstMissing had.now theirs.now above upto) }
+    ensures none { IfNone result (HasAll had.now theirs.now above upto) }
+{
+    for span in theirs {
+        let end = run_end(had, span.from.max(above));
+        if end < span.to && end < upto {
+            return Some(end + 1);
+        }
+    }
+    None
+}
+
 impl Coverage {
     /// Creates a coverage of all stamps up to the floor.
     pub fn new(floor: u64) -> Self
@@ -199,6 +232,14 @@ impl Coverage {
         }
     }
 
+    /// Returns the spans.
+    pub fn spans(&self) -> &[Span]
+        ensures value { result.now ≡ self.now }
+        ensures apart { IsApart result.now }
+    {
+        self.spans.as_slice()
+    }
+
     /// Returns the spans above the floor. A relay reports them to its peers, with the floor.
     pub fn above_floor(&self) -> &[Span]
         ensures { result.now ≡ drop 1 self.now }
@@ -214,6 +255,23 @@ impl Coverage {
         ensures { result ≡ is_had stamp self.now }
     {
         self.spans.as_slice().iter().any(|span| span.has(stamp))
+    }
+
+    /// Returns the end of the stamps that were had one after another from `at` on: `at` itself if
+    /// the stamp after it was not had.
+    pub fn run_end(&self, at: u64) -> u64
+        ensures { IsRunEnd self.now at result }
+    {
+        run_end(self.spans.as_slice(), at)
+    }
+
+    /// Returns the least stamp after `above` and up to `upto` that the other coverage has and this
+    /// one lacks.
+    pub fn first_missing(&self, other: &Coverage, above: u64, upto: u64) -> Option<u64>
+        ensures first { IfSome result (IsFirstMissing self.now other.now above upto) }
+        ensures none { IfNone result (HasAll self.now other.now above upto) }
+    {
+        first_missing(self.spans.as_slice(), other.spans.as_slice(), above, upto)
     }
 
     /// Covers the stamps after `prev` and up to `stamp` too. If there are too many spans then,

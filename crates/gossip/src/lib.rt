@@ -17,5 +17,5 @@ pub use bucket::{Bucket, Call, take_all};
 pub use coverage::Coverage;
 pub use deliveries::{Arrival, Deliveries, deliver_all};
 pub use mesh::{Delivery, Event, Log, run_mesh};
-pub use outbox::{Listed, bytes_of, catch_up, lag, next, waits_for};
+pub use outbox::{Listed, bytes_of, catch_up, lag, lag_by_sums, next, waits_for};
 pub use span::Span;

@@ -3,7 +3,7 @@ use crate::bucket::{Bucket, Call, take_all};
 use crate::coverage::Coverage;
 use crate::deliveries::{Arrival, Deliveries, deliver_all};
 use crate::mesh::{Event, Log, run_mesh};
-use crate::outbox::{Listed, bytes_of, catch_up, lag, next, waits_for};
+use crate::outbox::{Listed, bytes_of, catch_up, lag, lag_by_sums, next, waits_for};
 use crate::span::Span;
 
 const SECOND: u64 = 1_000_000_000;
@@ -50,6 +50,19 @@ fn closes_the_oldest_gap(rt: HostRuntime) {
 }
 
 #[test]
+fn finds_what_is_missing(rt: HostRuntime) {
+    let mut had = Coverage::new(5);
+    let mut theirs = Coverage::new(9);
+    had.cover(7, 9);
+    theirs.cover(10, u64::MAX);
+    assert!(rt; had.run_end(7) == 9 && had.run_end(6) == 6 && theirs.run_end(11) == u64::MAX);
+    assert_eq!(rt; had.first_missing(&theirs, 0, u64::MAX), Some(6));
+    assert_eq!(rt; had.first_missing(&theirs, 7, u64::MAX), Some(11));
+    assert_eq!(rt; had.first_missing(&theirs, 7, 10), None);
+    assert_eq!(rt; theirs.first_missing(&had, 0, u64::MAX), None);
+}
+
+#[test]
 fn delivers_once(rt: HostRuntime) {
     let arrival = |author, prev, stamp| Arrival {
         author,
@@ -86,6 +99,7 @@ fn sends_in_order_within_the_room(rt: HostRuntime) {
     assert_eq!(rt; next(&list, &peer, Some(2), &[], 9), Some(0));
     assert_eq!(rt; next(&list, &peer, Some(2), &list[..1], 10), None);
     assert!(rt; lag(&list, &peer) == 12 && waits_for(&list, &peer, 11));
+    assert_eq!(rt; lag_by_sums(&list, &[5, 14, 17, 20], &peer), 12);
     assert!(rt; !waits_for(&list, &peer, 12));
     assert_eq!(rt; catch_up(&list, &mut peer), 2);
 }

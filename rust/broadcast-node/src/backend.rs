@@ -7,7 +7,7 @@ mod library;
 #[cfg(feature = "plain")]
 mod plain;
 
-use crate::{Counters, Digest, Error, Key, Outcome, Span, Ticket};
+use crate::{Counters, Coverage, Digest, Error, Key, Listed, Outcome, Span, Ticket};
 
 /// What became of a message.
 pub struct Stored {
@@ -222,6 +222,49 @@ pub fn has(floor: u64, spans: &[Span], stamp: u64) -> Result<Option<bool>, Error
 pub fn cover(floor: &mut u64, spans: &mut Vec<Span>, span: Span) -> Result<Option<Span>, Error> {
     #[cfg(broadcast_c)]
     return library::cover(floor, spans, span);
+    #[cfg(not(broadcast_c))]
+    return Err(Error::NoLibrary);
+}
+
+/// Returns the end of the stamps that were had one after another from `at` on.
+pub fn run_end(coverage: &Coverage, at: u64) -> Result<u64, Error> {
+    #[cfg(broadcast_c)]
+    return library::run_end(coverage, at);
+    #[cfg(not(broadcast_c))]
+    return Err(Error::NoLibrary);
+}
+
+/// Returns the least stamp in between that the other coverage has and `had` lacks.
+pub fn first_missing(
+    had: &Coverage,
+    other: &Coverage,
+    above: u64,
+    upto: u64,
+) -> Result<Option<u64>, Error> {
+    #[cfg(broadcast_c)]
+    return library::first_missing(had, other, above, upto);
+    #[cfg(not(broadcast_c))]
+    return Err(Error::NoLibrary);
+}
+
+/// Returns the index of the message that a peer is sent next.
+pub fn next(
+    list: &[Listed],
+    reported: &Coverage,
+    is_held: bool,
+    in_flight: &[Listed],
+    room: u64,
+) -> Result<Option<usize>, Error> {
+    #[cfg(broadcast_c)]
+    return library::next(list, reported, is_held, in_flight, room);
+    #[cfg(not(broadcast_c))]
+    return Err(Error::NoLibrary);
+}
+
+/// Returns the bytes on the list that a peer lacks.
+pub fn lag(list: &[Listed], sums: &[u64], reported: &Coverage) -> Result<u64, Error> {
+    #[cfg(broadcast_c)]
+    return library::lag(list, sums, reported);
     #[cfg(not(broadcast_c))]
     return Err(Error::NoLibrary);
 }

@@ -24,6 +24,8 @@ pub struct Span {
 /// had.cover(7, 9)?; // a message of the stamp 9, whose author sent 7 before it
 /// assert!(had.has(9) && had.has(8) && !had.has(7));
 /// assert_eq!(had.spans(), [Span { from: 7, to: 9 }]);
+/// assert_eq!((had.run_end(7), had.run_end(5)), (9, 5));
+/// assert_eq!(had.first_missing(&Coverage::new(9)?, 0, u64::MAX), Some(6));
 /// had.cover(5, 7)?;
 /// assert_eq!((had.floor(), had.spans()), (9, &[][..]));
 /// # Ok(())
@@ -74,6 +76,16 @@ impl Coverage {
     /// Returns whether the stamp was had.
     pub fn has(&self, stamp: u64) -> bool {
         backend::has(self.floor, &self.spans, stamp) == Ok(Some(true))
+    }
+
+    /// Returns the end of the stamps that were had one after another from `at` on: `at` if the next one was not had.
+    pub fn run_end(&self, at: u64) -> u64 {
+        backend::run_end(self, at).unwrap_or(at)
+    }
+
+    /// Returns the least stamp after `above` and up to `upto` that the other coverage has and this one lacks.
+    pub fn first_missing(&self, other: &Coverage, above: u64, upto: u64) -> Option<u64> {
+        backend::first_missing(self, other, above, upto).ok().flatten()
     }
 
     /// Covers the stamps after `prev` and up to `stamp` too; none if `stamp` is less than `prev`. If there are more than

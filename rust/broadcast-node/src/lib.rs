@@ -61,6 +61,7 @@ mod de;
 mod error;
 mod key;
 mod node;
+mod outbox;
 #[cfg(broadcast_c)]
 #[allow(unsafe_code)]
 mod raw;
@@ -74,6 +75,7 @@ pub use coverage::{Coverage, Span};
 pub use error::{Error, Refused};
 pub use key::{Digest, Key, ParseError};
 pub use node::{Broadcast, Counters, Invalid, Limits, Message, Node, Received, Recipients};
+pub use outbox::{Listed, lag, next};
 pub use snapshot::Snapshot;
 pub use taken::{Evicted, Held, Subscribed, Taken};
 pub use tickets::Ticket;

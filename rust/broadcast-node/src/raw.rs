@@ -1,17 +1,21 @@
 //! The functions of the static library as `ffi/broadcast_c.h` declares them, the owner of a store, and
 //! the functions by which the library asks for memory. All unsafe code of this crate is here.
 
+mod coverage;
 mod heap;
+mod outbox;
 mod store;
 
+pub use coverage::{coverage_end, coverage_missing};
+pub use outbox::{outbox_lag, outbox_next};
 pub use store::OwnedStore;
 
-use crate::{Counters, Digest, Key, Span, Ticket};
+use crate::{Counters, Digest, Key, Listed, Span, Ticket};
 use std::ffi::c_void;
 use std::ptr::null_mut;
 
 /// The version of the library's functions that this crate was written for.
-pub const VERSION: u32 = 7;
+pub const VERSION: u32 = 8;
 
 pub const OK: u32 = 0;
 pub const MEMORY: u32 = 1;
@@ -82,6 +86,46 @@ unsafe extern "C" {
         out_len: usize,
         needed: &mut usize,
         gap: &mut Span,
+    ) -> u32;
+    fn broadcast_coverage_end(
+        floor: u64,
+        spans: *const Span,
+        len: usize,
+        at: u64,
+        end: &mut u64,
+    ) -> u32;
+    fn broadcast_coverage_missing(
+        floor: u64,
+        spans: *const Span,
+        len: usize,
+        other_floor: u64,
+        others: *const Span,
+        others_len: usize,
+        above: u64,
+        upto: u64,
+        stamp: &mut u64,
+    ) -> u32;
+    fn broadcast_outbox_next(
+        list: *const Listed,
+        len: usize,
+        floor: u64,
+        spans: *const Span,
+        spans_len: usize,
+        is_held: bool,
+        in_flight: *const Listed,
+        in_flight_len: usize,
+        room: u64,
+        index: &mut usize,
+    ) -> u32;
+    fn broadcast_outbox_lag(
+        list: *const Listed,
+        len: usize,
+        sums: *const u64,
+        sums_len: usize,
+        floor: u64,
+        spans: *const Span,
+        spans_len: usize,
+        bytes: &mut u64,
     ) -> u32;
     fn broadcast_store_new(
         store: &mut StoreHandle,

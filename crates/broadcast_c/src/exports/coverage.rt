@@ -1,5 +1,6 @@
 //! The functions of coverages: which stamps of an author a relay has had.
 ghost use Rattle.std.specs.Prelude.{◌≡◌, ◌<◌, true, false};
+ghost use Rattle.gossip.specs.Missing.{HasAll, IsFirstMissing, IsRunEnd};
 ghost use Rattle.gossip.specs.Spans.{IsCoverage, is_had};
 ghost use Rattle.broadcast_c.specs.Coverages.{ReportsCovering, coverage_of};
 
@@ -18,6 +19,58 @@ pub extern "C" fn broadcast_coverage_has(floor: u64, spans: &[Span], stamp: u64)
     match Coverage::reported(floor, spans) {
         Some(coverage) => { if coverage.covers(stamp) { OK } else { NONE } }
         None => NO_COVERAGE,
+    }
+}
+
+/// Sets `end` to that of the stamps which a coverage has one after another from `at` on: to `at` if
+/// it lacks the next one.
+#[unsafe(no_mangle)]
+pub extern "C" fn broadcast_coverage_end(floor: u64, spans: &[Span], at: u64, end: &mut u64) -> u32
+    ensures end { result ≡ OK → IsRunEnd (coverage_of floor spans.now) at end.new }
+    ensures invalid { ¬ (result ≡ OK)
+        → (result ≡ NO_COVERAGE) × ¬ (IsCoverage 64 (coverage_of floor spans.now)) }
+    ensures reports_nothing { ¬ (result ≡ OK) → end.new ≡ end.old }
+{
+    let Some(coverage) = Coverage::reported(floor, spans) else {
+        return NO_COVERAGE;
+    };
+    *end = coverage.run_end(at);
+    OK
+}
+
+/// Sets `stamp` to the least one after `above` and up to `upto` that the other coverage has and the
+/// first lacks.
+#[unsafe(no_mangle)]
+pub extern "C" fn broadcast_coverage_missing(
+    floor: u64,
+    spans: &[Span],
+    other_floor: u64,
+    others: &[Span],
+    above: u64,
+    upto: u64,
+    stamp: &mut u64,
+) -> u32
+    ensures first { result ≡ OK → IsFirstMissing (coverage_of floor spans.now)
+        (coverage_of other_floor others.now) above upto stamp.new }
+    ensures none { result ≡ NONE → HasAll (coverage_of floor spans.now)
+        (coverage_of other_floor others.now) above upto }
+    ensures invalid { ¬ (result ≡ OK) → ¬ (result ≡ NONE) → (result ≡ NO_COVERAGE)
+        × ¬ (IsCoverage 64 (coverage_of floor spans.now)
+        × IsCoverage 64 (coverage_of other_floor others.now)) }
+    ensures reports_nothing { ¬ (result ≡ OK) → stamp.new ≡ stamp.old }
+{
+    let Some(had) = Coverage::reported(floor, spans) else {
+        return NO_COVERAGE;
+    };
+    let Some(other) = Coverage::reported(other_floor, others) else {
+        return NO_COVERAGE;
+    };
+    match had.first_missing(&other, above, upto) {
+        Some(first) => {
+            *stamp = first;
+            OK
+        }
+        None => NONE,
     }
 }
 

@@ -2,7 +2,7 @@
 
 use super::{Counted, Stored};
 use crate::raw::{self, OwnedStore};
-use crate::{Counters, Coverage, Digest, Error, Key, Outcome, Span, Ticket};
+use crate::{Counters, Coverage, Digest, Error, Key, Listed, Outcome, Span, Ticket};
 
 /// A cache of the library.
 pub struct Library(OwnedStore);
@@ -187,4 +187,49 @@ pub fn cover(floor: &mut u64, spans: &mut Vec<Span>, span: Span) -> Result<Optio
     spans.clear();
     spans.extend_from_slice(&out[..covered.len]);
     Ok(Some(covered.gap))
+}
+
+/// Returns what a call set if it found it.
+fn found<T>(status: u32, set: T) -> Result<Option<T>, Error> {
+    match status {
+        raw::OK => Ok(Some(set)),
+        raw::NONE => Ok(None),
+        other => Err(error(other)),
+    }
+}
+
+pub fn run_end(coverage: &Coverage, at: u64) -> Result<u64, Error> {
+    let mut end = at;
+    done(raw::coverage_end(coverage, at, &mut end))?;
+    Ok(end)
+}
+
+pub fn first_missing(
+    had: &Coverage,
+    other: &Coverage,
+    above: u64,
+    upto: u64,
+) -> Result<Option<u64>, Error> {
+    let mut stamp = 0;
+    let status = raw::coverage_missing(had, other, above, upto, &mut stamp);
+    found(status, stamp)
+}
+
+#[inline]
+pub fn next(
+    list: &[Listed],
+    reported: &Coverage,
+    is_held: bool,
+    in_flight: &[Listed],
+    room: u64,
+) -> Result<Option<usize>, Error> {
+    let mut index = 0;
+    let status = raw::outbox_next(list, reported, is_held, in_flight, room, &mut index);
+    found(status, index)
+}
+
+pub fn lag(list: &[Listed], sums: &[u64], reported: &Coverage) -> Result<u64, Error> {
+    let mut bytes = 0;
+    done(raw::outbox_lag(list, sums, reported, &mut bytes))?;
+    Ok(bytes)
 }

@@ -1,7 +1,7 @@
 //! What a relay has had of one author's log: intervals `(after, upto]` of stamps. The verified library decides what is had, what
 //! it is with a message more, and whether a report is one.
 
-use broadcast_node::{Coverage as Verified, Error, Span};
+use broadcast_node::{Coverage as Verified, Error, Listed, Span};
 
 /// All stamps up to a floor, and those of at most 63 intervals behind it: in order, with gaps before and between them. Nothing that
 /// is had is ever lacking again.
@@ -69,10 +69,9 @@ impl Coverage {
         self.0.has(stamp)
     }
 
-    /// The end of the interval that has a stamp.
-    pub fn end_of(&self, stamp: u64) -> Option<u64> {
-        let ends = || self.runs().map(|it| it.1).find(|it| stamp <= *it);
-        if self.covers(stamp) { ends() } else { None }
+    /// The end of the stamps that are covered one after another from `at` on: `at` if the next one is not.
+    pub fn run_end(&self, at: u64) -> u64 {
+        self.0.run_end(at)
     }
 
     /// Adds `(after, upto]`. Beyond `MOST` intervals the oldest gap is closed: all in it counts as had. Returns whether one was.
@@ -81,19 +80,24 @@ impl Coverage {
     }
 
     /// The least stamp above `above` and at most `upto` that `other` covers and this does not.
-    pub fn lowest_missing(&self, other: &Coverage, above: u64, upto: u64) -> Option<u64> {
-        let mut mine = self.runs().peekable();
-        for (after, end) in other.runs() {
-            let (mut at, end) = (after.max(above), end.min(upto));
-            while at < end {
-                while mine.next_if(|run| run.1 <= at).is_some() {}
-                match mine.peek() {
-                    Some(&(from, to)) if from <= at => at = to,
-                    _ => return Some(at + 1),
-                }
-            }
-        }
-        None
+    pub fn first_missing(&self, other: &Coverage, above: u64, upto: u64) -> Option<u64> {
+        self.0.first_missing(&other.0, above, upto)
+    }
+
+    /// The index of the message on a list which a peer that has reported this coverage is sent next.
+    pub fn next(
+        &self,
+        list: &[Listed],
+        is_held: bool,
+        in_flight: &[Listed],
+        room: u64,
+    ) -> Option<usize> {
+        broadcast_node::next(list, &self.0, is_held, in_flight, room)
+    }
+
+    /// The bytes of the messages on a list, with sums beside it, that this lacks.
+    pub fn lag(&self, list: &[Listed], sums: &[u64]) -> u64 {
+        broadcast_node::lag(list, sums, &self.0)
     }
 }
 
@@ -120,14 +124,14 @@ mod tests {
                 (after + 1..=upto).for_each(|it| set[it as usize] = true);
                 assert!((1..64).all(|it| coverage.covers(it) == set[it as usize]));
             }
-            let end = |of: u64| (of..64).take_while(|it| set[*it as usize]).last();
-            assert!((1..64).all(|it| ours.end_of(it) == end(it)));
+            let end = |at: u64| (at..63).find(|it| !set[*it as usize + 1]).unwrap_or(63);
+            assert!((0..64).all(|it| ours.run_end(it) == end(it)));
             let had: u64 = ours.runs().map(|(after, upto)| upto - after).sum();
             assert_eq!(had, set.iter().map(|it| u64::from(*it)).sum());
             assert_eq!(ours.top(), (1..64).rfind(|it| set[*it as usize]).unwrap_or(0));
             let (above, upto) = (random.gen_range(0..20), random.gen_range(0..64));
             let missing = (above + 1..=upto).find(|&it| other[it as usize] && !set[it as usize]);
-            assert_eq!(ours.lowest_missing(&theirs, above, upto), missing);
+            assert_eq!(ours.first_missing(&theirs, above, upto), missing);
             let mut bytes = Vec::new();
             ours.encode(&mut bytes);
             assert_eq!(Coverage::decode(&bytes), Some(ours));

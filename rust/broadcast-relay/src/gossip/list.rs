@@ -1,71 +1,80 @@
 //! The messages of one author that a relay can still pass on.
 
 use super::{Coverage, Message};
+use broadcast_node::Listed;
 use std::collections::VecDeque;
 
 /// What a message counts beside its bytes, so that a bound on bytes bounds the number of messages too.
 pub const OVERHEAD: u64 = 128;
 
-/// In order of stamps, at most `most` bytes, or one message. The newest are kept. The sum of sizes up to each message is kept beside
-/// it, so that what a coverage lacks is found by halving.
+/// In order of stamps, at most `most` bytes, or one message. The newest are kept.
 #[derive(Clone, Debug)]
 pub struct List {
-    entries: VecDeque<(u64, Message)>,
-    dropped: u64,
+    messages: VecDeque<Message>,
+    /// What the verified library sees of the messages, behind some that have left the list.
+    listed: Vec<Listed>,
+    /// The sum of sizes in front of each of `listed`, and behind the last.
+    sums: Vec<u64>,
+    left: usize,
     most: u64,
 }
 
 impl List {
     pub fn new(most: u64) -> List {
-        List { entries: VecDeque::new(), dropped: 0, most }
+        List { messages: VecDeque::new(), listed: Vec::new(), sums: vec![0], left: 0, most }
     }
 
     pub fn bytes(&self) -> u64 {
-        self.sum(self.entries.len()) - self.dropped
+        self.sums[self.listed.len()] - self.sums[self.left]
     }
 
     pub fn iter(&self) -> impl Iterator<Item = &Message> {
-        self.entries.iter().map(|entry| &entry.1)
+        self.messages.iter()
     }
 
     /// Nothing at or below it is on the list.
     pub fn since(&self) -> u64 {
-        self.entries.front().map_or(u64::MAX, |entry| entry.1.prev)
+        self.messages.front().map_or(u64::MAX, |it| it.prev)
     }
 
     pub fn insert(&mut self, message: Message) {
-        let (place, size) = (self.count_up_to(message.stamp), message.size());
-        let sum = self.sum(place) + size;
-        self.entries.insert(place, (sum, message));
-        self.entries.range_mut(place + 1..).for_each(|entry| entry.0 += size);
-        while self.bytes() > self.most && self.entries.len() > 1 {
-            self.dropped = self.sum(1);
-            self.entries.pop_front();
+        let place = self.count_up_to(message.stamp);
+        let (at, size) = (self.left + place, message.size());
+        self.sums.insert(at, self.sums[at]);
+        self.sums[at + 1..].iter_mut().for_each(|sum| *sum += size);
+        self.listed.insert(at, message.listed());
+        self.messages.insert(place, message);
+        while self.bytes() > self.most && self.messages.len() > 1 {
+            self.messages.pop_front();
+            self.left += 1;
+        }
+        if self.left > self.messages.len() {
+            self.listed.drain(..self.left);
+            self.sums.drain(..self.left);
+            self.left = 0;
         }
     }
 
-    /// The first message above `stamp`.
-    pub fn after(&self, stamp: u64) -> Option<&Message> {
-        self.entries.get(self.count_up_to(stamp)).map(|entry| &entry.1)
+    pub fn get(&self, index: usize) -> &Message {
+        &self.messages[index]
+    }
+
+    /// The messages from an index on.
+    pub fn listed(&self, from: usize) -> &[Listed] {
+        &self.listed[self.left + from..]
+    }
+
+    /// How many are at or below `stamp`.
+    pub fn count_up_to(&self, stamp: u64) -> usize {
+        match self.listed.last() {
+            Some(last) if last.stamp <= stamp => self.messages.len(),
+            _ => self.listed(0).partition_point(|it| it.stamp <= stamp),
+        }
     }
 
     /// The bytes on the list that `coverage` lacks.
     pub fn lacking(&self, coverage: &Coverage) -> u64 {
-        let had =
-            |(after, upto)| self.sum(self.count_up_to(upto)) - self.sum(self.count_up_to(after));
-        self.bytes() - coverage.runs().map(had).sum::<u64>()
-    }
-
-    /// How many are at or below `stamp`.
-    fn count_up_to(&self, stamp: u64) -> usize {
-        match self.entries.back() {
-            Some(last) if last.1.stamp <= stamp => self.entries.len(),
-            _ => self.entries.partition_point(|entry| entry.1.stamp <= stamp),
-        }
-    }
-
-    fn sum(&self, count: usize) -> u64 {
-        if count == 0 { self.dropped } else { self.entries[count - 1].0 }
+        coverage.lag(self.listed(0), &self.sums[self.left..])
     }
 }
 

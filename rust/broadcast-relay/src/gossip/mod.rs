@@ -31,6 +31,7 @@ pub use log::Log;
 pub use machine::{Machine, Past, Taken};
 pub use pace::{Bar, Bucket};
 
+use broadcast_node::Listed;
 use bytes::Bytes;
 use std::fmt;
 
@@ -112,6 +113,10 @@ impl Message {
     /// What it counts wherever bytes are counted.
     pub fn size(&self) -> u64 {
         self.bytes.len() as u64 + OVERHEAD
+    }
+
+    fn listed(&self) -> Listed {
+        Listed { prev: self.prev, stamp: self.stamp, bytes: self.size() }
     }
 }
 

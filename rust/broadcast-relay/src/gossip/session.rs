@@ -1,7 +1,12 @@
 //! A connection of a peer, as far as one author's log goes.
 
 use super::{Bounds, Coverage, List, Message, NEVER, Report, Time};
+use broadcast_node::Listed;
 use std::collections::BTreeMap;
+
+/// How many messages of a list are looked at together, so that the time that a late message takes grows with the number in flight,
+/// and not with its square.
+const FEW: usize = 32;
 
 #[derive(Debug)]
 pub struct Session {
@@ -11,8 +16,8 @@ pub struct Session {
     pub ours: Report,
     /// The top of this relay's coverage when the connection began.
     pub began_at: u64,
-    /// Sent, and not in the peer's coverage: stamps and sizes, and the sum of these.
-    flying: BTreeMap<u64, u64>,
+    /// Sent, and not in the peer's coverage: by stamp, and the sum of sizes.
+    flying: BTreeMap<u64, Listed>,
     in_flight: u64,
     /// Everything on the list at or below is in the peer's coverage or flying.
     cursor: u64,
@@ -53,7 +58,7 @@ impl Session {
     /// The least stamp that the peer can send, that `covered` lacks, and that is not above `limit`.
     pub fn shows(&self, covered: &Coverage, limit: u64) -> Option<u64> {
         let theirs = self.theirs.as_ref()?;
-        covered.lowest_missing(&theirs.coverage, theirs.since, limit)
+        covered.first_missing(&theirs.coverage, theirs.since, limit)
     }
 
     /// Notes that the peer has a message, since it sent it.
@@ -71,11 +76,11 @@ impl Session {
     /// Replaces the peer's report. What has landed is not in flight any more.
     pub fn replace(&mut self, report: Report) {
         for (after, upto) in report.coverage.runs() {
-            while let Some((&stamp, &size)) = self.flying.range(..=upto).next_back()
+            while let Some((&stamp, it)) = self.flying.range(..=upto).next_back()
                 && stamp > after
             {
+                self.in_flight -= it.bytes;
                 self.flying.remove(&stamp);
-                self.in_flight -= size;
             }
         }
         self.theirs = Some(report);
@@ -98,22 +103,34 @@ impl Session {
 
     /// Takes the next message for the peer, which is in flight then.
     pub fn next(&mut self, list: &List, bounds: &Bounds) -> Option<Message> {
+        let index = self.find_next(list, bounds)?;
+        let message = list.get(index);
+        self.cursor = message.stamp;
+        self.flying.insert(message.stamp, message.listed());
+        self.in_flight += message.size();
+        self.ours.coverage.cover(message.prev, message.stamp);
+        Some(message.clone())
+    }
+
+    /// Asks the verified library for the next message, among a few of the list at a time. While there is room, the cursor moves
+    /// behind those of which the library takes none.
+    fn find_next(&mut self, list: &List, bounds: &Bounds) -> Option<usize> {
         let theirs = self.theirs.as_ref()?;
-        if self.in_flight >= theirs.room.min(bounds.room) {
-            return None;
-        }
+        let room = theirs.room.min(bounds.room);
         loop {
-            let message = list.after(self.cursor)?;
-            if theirs.is_held && message.stamp > theirs.coverage.top() {
-                return None;
-            }
-            self.cursor = message.stamp;
-            if let Some(end) = theirs.coverage.end_of(message.stamp) {
-                self.cursor = end;
-            } else if self.flying.insert(message.stamp, message.size()).is_none() {
-                self.in_flight += message.size();
-                self.ours.coverage.cover(message.prev, message.stamp);
-                return Some(message.clone());
+            self.cursor = theirs.coverage.run_end(self.cursor);
+            let from = list.count_up_to(self.cursor);
+            let few = list.listed(from);
+            let few = &few[..few.len().min(FEW)];
+            let (first, last) = (few.first()?.stamp, few.last()?.stamp);
+            let flying: Vec<Listed> = self.flying.range(first..=last).map(|(_, it)| *it).collect();
+            let others = self.in_flight - flying.iter().map(|it| it.bytes).sum::<u64>();
+            let left = room.saturating_sub(others);
+            match theirs.coverage.next(few, theirs.is_held, &flying, left) {
+                Some(index) => return Some(from + index),
+                None if self.in_flight >= room => return None,
+                None if theirs.is_held && theirs.coverage.top() < last => return None,
+                None => self.cursor = last,
             }
         }
     }
@@ -135,8 +152,8 @@ impl Session {
         if self.news_due <= now {
             self.news_due = NEVER;
             is_due = self.theirs.as_ref().is_some_and(|it| {
-                let lowest = it.coverage.lowest_missing(&current.coverage, current.since, u64::MAX);
-                lowest.is_some()
+                let first = it.coverage.first_missing(&current.coverage, current.since, u64::MAX);
+                first.is_some()
             });
         }
         if self.lazy_due <= now {

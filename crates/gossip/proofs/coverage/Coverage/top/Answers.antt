@@ -1,4 +1,4 @@
-use Rattle.std.proofs.Common.{◌≡◌, ◌≤◌, sym, arith}
+use Rattle.std.proofs.Common.{◌≡◌, sym, arith}
 use Rattle.gossip.specs.Spans.{top_of}
 use Rattle.gossip.proofs.Joining.{last_is_top, had_up_to_top}
 use Rattle.gossip.proofs.coverage.Coverage.top.Goals as goal
