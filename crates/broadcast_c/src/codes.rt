@@ -5,7 +5,7 @@ ghost use Rattle.broadcast_c.specs.Calls.{outcome_code};
 use broadcast_core::Outcome;
 
 /// The version of these functions. It changes whenever one of them does.
-pub const VERSION: u32 = 7;
+pub const VERSION: u32 = 8;
 
 /// Returns the version of these functions.
 #[unsafe(no_mangle)]
@@ -24,7 +24,7 @@ pub const MEMORY: u32 = 1;
 /// The handle is empty.
 pub const EMPTY: u32 = 2;
 
-/// No message of the digest is cached, or the stamp was not had.
+/// No message of the digest is cached, the stamp was not had, or tokens are never there.
 pub const NONE: u32 = 3;
 
 /// The buffer is too short.

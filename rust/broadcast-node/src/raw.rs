@@ -6,12 +6,12 @@ mod store;
 
 pub use store::OwnedStore;
 
-use crate::{Counters, Digest, Key, Span, Ticket};
+use crate::{Bucket, Counters, Digest, Key, Span, Ticket};
 use std::ffi::c_void;
 use std::ptr::null_mut;
 
 /// The version of the library's functions that this crate was written for.
-pub const VERSION: u32 = 7;
+pub const VERSION: u32 = 8;
 
 pub const OK: u32 = 0;
 pub const MEMORY: u32 = 1;
@@ -83,6 +83,9 @@ unsafe extern "C" {
         needed: &mut usize,
         gap: &mut Span,
     ) -> u32;
+    pub safe fn broadcast_bucket_level(bucket: &Bucket, now: u64) -> u64;
+    pub safe fn broadcast_bucket_charge(bucket: &mut Bucket, now: u64, cost: u64);
+    pub safe fn broadcast_bucket_ready(bucket: &Bucket, now: u64, cost: u64, at: &mut u64) -> u32;
     fn broadcast_store_new(
         store: &mut StoreHandle,
         own: &Key,

@@ -2,7 +2,7 @@
 
 use super::{Counted, Stored};
 use crate::raw::{self, OwnedStore};
-use crate::{Counters, Coverage, Digest, Error, Key, Outcome, Span, Ticket};
+use crate::{Bucket, Counters, Coverage, Digest, Error, Key, Outcome, Span, Ticket};
 
 /// A cache of the library.
 pub struct Library(OwnedStore);
@@ -187,4 +187,20 @@ pub fn cover(floor: &mut u64, spans: &mut Vec<Span>, span: Span) -> Result<Optio
     spans.clear();
     spans.extend_from_slice(&out[..covered.len]);
     Ok(Some(covered.gap))
+}
+
+#[inline]
+pub fn level(bucket: &Bucket, now: u64) -> u64 {
+    raw::broadcast_bucket_level(bucket, now)
+}
+
+#[inline]
+pub fn charge(bucket: &mut Bucket, now: u64, cost: u64) {
+    raw::broadcast_bucket_charge(bucket, now, cost);
+}
+
+pub fn ready(bucket: &Bucket, now: u64, cost: u64) -> Option<u64> {
+    let mut at = 0;
+    let status = raw::broadcast_bucket_ready(bucket, now, cost, &mut at);
+    (status == raw::OK).then_some(at)
 }
