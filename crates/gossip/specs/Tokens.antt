@@ -11,7 +11,7 @@ pub record Tokens : Type 0 where
   pub at : ℕ
   pub lacking : ℕ
 
--- what it lacks at this time: each nanosecond since has brought `rate` of it
+-- what it lacks at this time: what it lacked, less `rate` for each nanosecond since
 abbrev pub lacking_at : Tokens → ℕ → ℕ
 lacking_at b now = b.lacking - b.rate * (now - b.at)
 
@@ -23,14 +23,14 @@ level_at b now = b.burst * 1000000000 - lacking_at b now
 abbrev pub owed_at : Tokens → ℕ → ℕ
 owed_at b now = lacking_at b now - b.burst * 1000000000
 
--- what is left when a call was charged its cost, also if that was not there
+-- what a charge leaves, also if its cost was not there
 abbrev pub after_charging : Tokens → ℕ → ℕ → Tokens
 after_charging b now cost = record b {
   lacking = lacking_at b now + cost * 1000000000;
   at = max b.at now;
 }
 
--- what a number of 128 bits can lack
+-- no more is lacking than a number of 128 bits can say
 abbrev pub capped : Tokens → Tokens
 capped b = record b { lacking = min (2 ^ 128 - 1) b.lacking }
 
