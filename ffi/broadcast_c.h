@@ -1,6 +1,6 @@
 /* The functions of libbroadcast_c.a: a store, which caches messages that the caller keeps; the wire
- * format of a message; coverages, which say what a relay has had; what a relay sends; counters; and
- * SHA-256.
+ * format of a message; coverages, which say what a relay has had; what a relay sends; buckets, which
+ * say what a rate allows; counters; and SHA-256.
  *
  * Link with -lbroadcast_c and libc. The library of `make dist` needs nothing else, and its
  * lib/pkgconfig/broadcast_c.pc says so (`pkg-config --cflags --libs broadcast_c`). That of `make lib`
@@ -42,8 +42,8 @@ enum {
     BROADCAST_OK = 0,
     BROADCAST_MEMORY = 1,         /* an allocation failed */
     BROADCAST_EMPTY = 2,          /* there is no store: it was not made, or was freed */
-    BROADCAST_NONE = 3,           /* no message of the digest is cached, the stamp was not had, or there is
-                                   * no stamp or message of the kind */
+    BROADCAST_NONE = 3,           /* no message of the digest is cached, the stamp was not had, there is no
+                                   * stamp or message of the kind, or tokens are never there */
     BROADCAST_SHORT = 4,          /* the buffer is too short */
     BROADCAST_WAITS = 5,          /* the ticket waits */
     BROADCAST_TOO_LONG = 6,       /* the message has more than 4,294,967,295 bytes */
@@ -116,6 +116,16 @@ typedef struct {
     uint64_t stamp; /* its own stamp */
     uint64_t bytes; /* its size */
 } broadcast_listed;
+
+/* What a bucket lacks to be full, counted in billionths of a token, is `high` times 2 to the 64th, and
+ * `low`. All values of the fields are buckets: {rate, burst, now, 0, 0} is a full one. */
+typedef struct {
+    uint64_t rate;  /* the tokens that it gains in a second */
+    uint64_t burst; /* the most tokens that it has */
+    uint64_t at;    /* the time at which it lacked that */
+    uint64_t low;
+    uint64_t high;
+} broadcast_bucket;
 
 /* Returns the version of these functions. */
 uint32_t broadcast_c_version(void);
@@ -231,6 +241,20 @@ uint32_t broadcast_outbox_next(const broadcast_listed *list, size_t list_len, ui
 uint32_t broadcast_outbox_lag(const broadcast_listed *list, size_t list_len, const uint64_t *sums,
                               size_t sums_len, uint64_t floor, const broadcast_span *spans,
                               size_t spans_len, uint64_t *bytes);
+
+/* ---- Buckets: what a rate allows. Times are nanoseconds of one clock; one that is before `at` counts
+ * as `at`. A bucket may be overdrawn: what it gains pays the debt first. Whoever charges only while the
+ * level is above 0 is charged, in any span of time, at most `burst`, `rate` for the span, and the
+ * greatest cost. No call allocates. ---- */
+
+/* Returns the whole tokens that the bucket has at this time: 0 while it is overdrawn. */
+uint64_t broadcast_bucket_level(const broadcast_bucket *bucket, uint64_t now);
+/* Charges `cost` tokens at this time, also if the bucket does not have them. */
+void broadcast_bucket_charge(broadcast_bucket *bucket, uint64_t now, uint64_t cost);
+/* Sets `at` to the first time from `now` on at which the bucket has `cost` tokens, if none are charged
+ * meanwhile: OK, or NONE if there is no such time before 2 to the 64th. */
+uint32_t broadcast_bucket_ready(const broadcast_bucket *bucket, uint64_t now, uint64_t cost,
+                                uint64_t *at);
 
 /* ---- Counters, which are all zeros at first. ---- */
 

@@ -7,7 +7,7 @@ from harness.common import TOP
 
 EXPORTS = TOP / "crates" / "broadcast_c" / "src"
 CORE = TOP / "crates" / "broadcast_core" / "src"
-GOSSIP = TOP / "crates" / "gossip" / "src"
+GOSSIP = [TOP / "crates" / "gossip" / "src" / it for it in ("span.rt", "outbox.rt", "bucket.rt")]
 HEADER = TOP / "ffi" / "broadcast_c.h"
 RUST = TOP / "rust" / "broadcast-node" / "src"
 
@@ -15,7 +15,7 @@ RUST = TOP / "rust" / "broadcast-node" / "src"
 STRUCTS = {
     "StoreHandle": "broadcast_store", "Name": "broadcast_name", "Stored": "broadcast_stored",
     "Counts": "broadcast_counts", "Counters": "broadcast_counters", "Place": "broadcast_place",
-    "Span": "broadcast_span", "Listed": "broadcast_listed",
+    "Span": "broadcast_span", "Listed": "broadcast_listed", "Bucket": "broadcast_bucket",
 }
 # What Rust calls the types that cross as their one field, and what each is.
 TRANSPARENT = {
@@ -50,13 +50,12 @@ class Texts:
 
     @staticmethod
     def read():
-        of_gossip = (GOSSIP / "span.rt", GOSSIP / "outbox.rt")
-        exports = "\n".join(file.read_text() for file in (*sorted(EXPORTS.rglob("*.rt")), *of_gossip))
+        exports = "\n".join(file.read_text() for file in (*sorted(EXPORTS.rglob("*.rt")), *GOSSIP))
         for name, file in BYTES.items():
             it = re.search(BYTES_STRUCT % name, (CORE / file).read_text())[1]
             exports = re.sub(rf"&(mut )?{name}\b", rf"&\1{it}", exports)
             exports = re.sub(rf"&(mut )?\[{name}\]", rf"&\1[{it}]", exports)
-        names = ("raw.rs", "key.rs", "tickets.rs", "coverage.rs", "outbox.rs", "node/books.rs")
+        names = ("raw.rs", "key.rs", "tickets.rs", "coverage.rs", "outbox.rs", "bucket.rs", "node/books.rs")
         rust = "\n".join((RUST / it).read_text() for it in names)
         return Texts(exports, HEADER.read_text(), rust)
 
@@ -121,7 +120,7 @@ def wanted_in_c(exports):
 
 def declared_in_c(header):
     header = without_comments(header)
-    yield from re.findall(r"^(?:uint32_t|void) [^;{]*;", header, re.M)
+    yield from re.findall(r"^(?:uint32_t|uint64_t|void) [^;{]*;", header, re.M)
     yield from re.findall(r"typedef struct \{[^}]*\} \w+;", header)
     yield from re.findall(r"^\s*(BROADCAST_\w+ = \d+|#define BROADCAST_\w+ \d+)\b", header, re.M)
 

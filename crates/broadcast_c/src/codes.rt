@@ -24,7 +24,8 @@ pub const MEMORY: u32 = 1;
 /// The handle is empty.
 pub const EMPTY: u32 = 2;
 
-/// No message of the digest is cached, the stamp was not had, or there is none that was asked for.
+/// No message of the digest is cached, the stamp was not had, there is none that was asked for, or
+/// the tokens are never there.
 pub const NONE: u32 = 3;
 
 /// The buffer is too short.

@@ -1,5 +1,6 @@
 //! The exported functions.
 
+mod bucket;
 mod buffer;
 mod counters;
 mod coverage;

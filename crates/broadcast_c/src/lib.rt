@@ -1,6 +1,6 @@
 // SPDX-License-Identifier: Apache-2.0
 //! The static library: a cache of messages that the caller keeps, the wire format, a relay's
-//! coverages and what it sends, counters and SHA-256, for callers in Rust and C.
+//! coverages, buckets and what it sends, counters and SHA-256, for callers in Rust and C.
 //!
 //! `ffi/broadcast_c.h` declares the functions of `exports`. A caller owns a store by a handle,
 //! which is all zeros before its first call.

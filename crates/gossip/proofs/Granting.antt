@@ -1,20 +1,20 @@
--- What calls are granted over a span.
-use Rattle.std.proofs.Common.{◌≡◌, ◌≤◌, ℕ, ◌+◌, ◌*◌, ◌-◌, min, max, true, false, List, [], ◌∷◌, arith, refl, ap}
-use Rattle.std.specs.Prelude.{nat_le, if◌then◌else◌}
+-- What calls are charged over a span.
+use Rattle.std.proofs.Common.{◌≡◌, ◌≤◌, ◌⊎◌, ℕ, ◌+◌, ◌*◌, ◌-◌, min, max, true, false, List, [], ◌∷◌, arith, refl, ap, inl, inr}
+use Rattle.std.specs.Prelude.{if◌then◌else◌}
 use Rattle.std.proofs.lemmas.Bool.{leb-true}
 use Rattle.std.proofs.Math.Nat.{mul-le-mul_left}
 use Rattle.gossip.specs.declared.bucket.Call.{Call}
-use Rattle.gossip.specs.Tokens.{Tokens, level_at, after_taking, after_call, granted_to, after_calls, granted, GoesOn, end_of, IsBounded}
+use Rattle.gossip.specs.Tokens.{Tokens, lacking_at, level_at, owed_at, after_charging, is_charged, after_call, after_calls, charged, GoesOn, end_of, excess, IsBounded}
 
--- a later level is at most what came in between above an earlier one
-pub more : (full level rate x y z : ℕ) → x ≤ y + z
-    → min full (level + rate * x) ≤ min full (level + rate * y) + rate * z
-more full level rate x y z h =
+-- an earlier lack is at most what came in between above a later one
+pub more : (lacking rate x y z : ℕ) → x ≤ y + z
+    → lacking - rate * y ≤ (lacking - rate * x) + rate * z
+more lacking rate x y z h =
     let m : rate * x ≤ rate * (y + z) = mul-le-mul_left rate h in
     omega (arith, m)
 
-pub level_grows : (b : Tokens) (s t : ℕ) → s ≤ t → level_at b t ≤ level_at b s + b.rate * (t - s)
-level_grows b s t h = more (b.burst * 1000000000) b.level b.rate (t - b.at) (s - b.at) (t - s) (omega arith)
+pub lacks_less : (b : Tokens) (s t : ℕ) → s ≤ t → lacking_at b s ≤ lacking_at b t + b.rate * (t - s)
+lacks_less b s t h = more b.lacking b.rate (t - b.at) (s - b.at) (t - s) (omega arith)
 
 -- the last call is no earlier
 pub ends_after : (from : ℕ) (cs : List Call) → GoesOn from cs → from ≤ end_of from cs
@@ -27,37 +27,51 @@ adds_up rate from mid end h g =
     let e : end - from ≡ (mid - from) + (end - mid) = omega arith in
     rw e (omega arith)
 
--- what is taken was there
-takes : (full level rate at now cost : ℕ) → cost ≤ min full (level + rate * (now - at))
-    → cost + min full ((min full (level + rate * (now - at)) - cost) + rate * (now - max at now)) ≤ min full (level + rate * (now - at))
-takes full level rate at now cost h =
+-- what comes in pays the debt first
+pub paid : (b : Tokens) (now t : ℕ) → b.at ≤ now → now ≤ t
+    → level_at b t ≡ min (b.burst * 1000000000) (level_at b now + (b.rate * (t - now) - owed_at b now))
+paid b now t h g = let sum = adds_up b.rate b.at now t h g in omega (arith, sum)
+
+-- nothing has come in when a call was charged
+at_once : (lacking rate at now : ℕ) → lacking - rate * (now - max at now) ≡ lacking
+at_once lacking rate at now =
     let e : now - max at now ≡ 0 = omega arith in
     rw e (omega arith)
 
-call_takes : (b : Tokens) (c : Call) → granted_to b c * 1000000000 + level_at (after_call b c) c.now ≤ level_at b c.now
-call_takes b c =
-    let fits = nat_le (c.cost * 1000000000) (level_at b c.now) in
-    (elim fits as (λ t. fits ≡ t → (if t then c.cost else 0) * 1000000000 + level_at (if t then after_taking b c.now c.cost else b) c.now ≤ level_at b c.now) [
-      | true ↦ λ e. takes (b.burst * 1000000000) b.level b.rate b.at c.now (c.cost * 1000000000) (leb-true _ _ e)
-      | false ↦ λ e. omega arith
+-- nothing was charged, or what was charged and had been lacking came in, but for the excess
+abbrev Within : Tokens → ℕ → List Call → Type 0
+Within b from cs = (charged b cs ≡ 0)
+    ⊎ (charged b cs * 1000000000 + lacking_at b from ≤ (b.burst + excess cs) * 1000000000 + b.rate * (end_of from cs - from))
+
+within : (b : Tokens) (from : ℕ) (cs : List Call) → GoesOn from cs → Within b from cs
+within b from [] g = inl refl
+within b from (c ∷ cs) g =
+    let end = end_of c.now cs in
+    let grown = lacks_less b from c.now g.0 in
+    let sum = adds_up b.rate from c.now end g.0 (ends_after c.now cs g.1) in
+    let is = is_charged b c in
+    (elim is as (λ t. is ≡ t → ((if t then c.cost else 0) + charged (if t then after_charging b c.now c.cost else b) cs ≡ 0)
+    ⊎ (((if t then c.cost else 0) + charged (if t then after_charging b c.now c.cost else b) cs) * 1000000000 + lacking_at b from
+    ≤ (b.burst + excess (c ∷ cs)) * 1000000000 + b.rate * (end - from))) [
+      | true ↦ λ e.
+          let had : max 1 c.needed * 1000000000 ≤ level_at b c.now = leb-true _ _ e in
+          let after = after_charging b c.now c.cost in
+          let start = at_once (lacking_at b c.now + c.cost * 1000000000) b.rate b.at c.now in
+          (elim (within after c.now cs g.1) [
+            | inl none ↦ inr (omega (arith, none, had, grown, sum))
+            | inr most ↦ inr (omega (arith, most, start, had, grown, sum))
+          ])
+      | false ↦ λ e. (elim (within b c.now cs g.1) [
+        | inl none ↦ inl (omega (arith, none))
+        | inr most ↦ inr (omega (arith, most, grown, sum))
+      ])
     ]) refl
 
 call_keeps_rate : (b : Tokens) (c : Call) → (after_call b c).rate ≡ b.rate
-call_keeps_rate b c = elim (nat_le (c.cost * 1000000000) (level_at b c.now)) as (λ t. (if t then after_taking b c.now c.cost else b).rate ≡ b.rate) [ true ↦ refl | false ↦ refl ]
+call_keeps_rate b c = elim (is_charged b c) as (λ t. (if t then after_charging b c.now c.cost else b).rate ≡ b.rate) [ true ↦ refl | false ↦ refl ]
 
 call_keeps_burst : (b : Tokens) (c : Call) → (after_call b c).burst ≡ b.burst
-call_keeps_burst b c = elim (nat_le (c.cost * 1000000000) (level_at b c.now)) as (λ t. (if t then after_taking b c.now c.cost else b).burst ≡ b.burst) [ true ↦ refl | false ↦ refl ]
-
-pub bounded_from : (b : Tokens) (from : ℕ) (cs : List Call) → GoesOn from cs
-    → granted b cs * 1000000000 ≤ level_at b from + b.rate * (end_of from cs - from)
-bounded_from b from [] g = omega arith
-bounded_from b from (c ∷ cs) g =
-    let ih : granted (after_call b c) cs * 1000000000 ≤ level_at (after_call b c) c.now + (after_call b c).rate * (end_of c.now cs - c.now) = bounded_from (after_call b c) c.now cs g.1 in
-    let same = ap (λ (r : ℕ). r * (end_of c.now cs - c.now)) (call_keeps_rate b c) in
-    let grown = level_grows b from c.now g.0 in
-    let step = call_takes b c in
-    let sum = adds_up b.rate from c.now (end_of c.now cs) g.0 (ends_after c.now cs g.1) in
-    omega (arith, ih, same, grown, step, sum)
+call_keeps_burst b c = elim (is_charged b c) as (λ t. (if t then after_charging b c.now c.cost else b).burst ≡ b.burst) [ true ↦ refl | false ↦ refl ]
 
 pub keeps_rate : (b : Tokens) (cs : List Call) → (after_calls b cs).rate ≡ b.rate
 keeps_rate b [] = refl
@@ -67,15 +81,12 @@ pub keeps_burst : (b : Tokens) (cs : List Call) → (after_calls b cs).burst ≡
 keeps_burst b [] = refl
 keeps_burst b (c ∷ cs) = rw (keeps_burst (after_call b c) cs) (call_keeps_burst b c)
 
--- it has no more than it holds
-cap : (b : Tokens) (t : ℕ) → level_at b t ≤ b.burst * 1000000000
-cap b t = omega arith
-
 pub bounded : (b : Tokens) (calls : List Call) → IsBounded b calls
 bounded b calls before span after from e g =
     let b' = after_calls b before in
-    let h = bounded_from b' from span g in
     let rate = ap (λ (r : ℕ). r * (end_of from span - from)) (keeps_rate b before) in
     let burst = keeps_burst b before in
-    let most = cap b' from in
-    omega (arith, h, rate, burst, most)
+    (elim (within b' from span g) [
+      | inl none ↦ omega (arith, none)
+      | inr most ↦ omega (arith, most, rate, burst)
+    ])

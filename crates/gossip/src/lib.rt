@@ -13,7 +13,7 @@ pub mod span;
 #[cfg(test)]
 mod tests;
 
-pub use bucket::{Bucket, Call, take_all};
+pub use bucket::{Bucket, Call, charge_all};
 pub use coverage::Coverage;
 pub use deliveries::{Arrival, Deliveries, deliver_all};
 pub use mesh::{Delivery, Event, Log, run_mesh};

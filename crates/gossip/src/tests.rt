@@ -1,5 +1,5 @@
 //! Each public call once, at values that were worked out by hand.
-use crate::bucket::{Bucket, Call, take_all};
+use crate::bucket::{Bucket, Call, charge_all};
 use crate::coverage::Coverage;
 use crate::deliveries::{Arrival, Deliveries, deliver_all};
 use crate::mesh::{Event, Log, run_mesh};
@@ -9,26 +9,22 @@ use crate::span::Span;
 const SECOND: u64 = 1_000_000_000;
 
 #[test]
-fn grants_the_burst_and_then_the_rate(rt: HostRuntime) {
+fn charges_the_burst_and_then_the_rate(rt: HostRuntime) {
     // 10 tokens at once, and 4 a second.
     let mut bucket = Bucket::new(4, 10, SECOND);
+    let call = |now, needed, cost| Call { now, needed, cost };
     let calls = [
-        Call {
-            now: SECOND,
-            cost: 10,
-        },
-        Call {
-            now: SECOND + SECOND / 4 - 1,
-            cost: 1,
-        },
-        Call {
-            now: SECOND + SECOND / 4,
-            cost: 1,
-        },
+        call(SECOND, 10, 10),
+        call(SECOND + SECOND / 4 - 1, 1, 1),
+        call(SECOND + SECOND / 4, 0, 3),
+        call(SECOND + SECOND / 2, 0, 1),
     ];
-    assert_eq!(rt; take_all(&mut bucket, &calls), 11);
-    assert_eq!(rt; bucket.ready(2 * SECOND, 4), Some(2 * SECOND + SECOND / 4));
-    assert_eq!(rt; bucket.ready(2 * SECOND, 11), None);
+    assert_eq!(rt; charge_all(&mut bucket, &calls), 13);
+    assert_eq!(rt; bucket.ready(SECOND, 4), Some(2 * SECOND + 3 * SECOND / 4));
+    assert_eq!(rt; bucket.ready(SECOND, 11), None);
+    bucket.charge(2 * SECOND, 5);
+    assert_eq!(rt; bucket.level(3 * SECOND), 0);
+    assert_eq!(rt; bucket.level(3 * SECOND + SECOND / 4), 1);
 }
 
 #[test]

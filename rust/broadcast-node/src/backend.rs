@@ -7,7 +7,7 @@ mod library;
 #[cfg(feature = "plain")]
 mod plain;
 
-use crate::{Counters, Coverage, Digest, Error, Key, Listed, Outcome, Span, Ticket};
+use crate::{Bucket, Counters, Coverage, Digest, Error, Key, Listed, Outcome, Span, Ticket};
 
 /// What became of a message.
 pub struct Stored {
@@ -267,4 +267,30 @@ pub fn lag(list: &[Listed], sums: &[u64], reported: &Coverage) -> Result<u64, Er
     return library::lag(list, sums, reported);
     #[cfg(not(broadcast_c))]
     return Err(Error::NoLibrary);
+}
+
+// Without the library there is no bucket.
+
+/// Returns the whole tokens that a bucket has.
+#[inline]
+pub fn level(bucket: &Bucket, now: u64) -> u64 {
+    #[cfg(broadcast_c)]
+    return library::level(bucket, now);
+    #[cfg(not(broadcast_c))]
+    return 0;
+}
+
+/// Charges tokens, also if they are not there.
+#[inline]
+pub fn charge(bucket: &mut Bucket, now: u64, cost: u64) {
+    #[cfg(broadcast_c)]
+    library::charge(bucket, now, cost);
+}
+
+/// Returns the first time at which a bucket has the tokens.
+pub fn ready(bucket: &Bucket, now: u64, cost: u64) -> Option<u64> {
+    #[cfg(broadcast_c)]
+    return library::ready(bucket, now, cost);
+    #[cfg(not(broadcast_c))]
+    return None;
 }

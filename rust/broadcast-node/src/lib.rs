@@ -9,6 +9,7 @@
 //! - A [`Cache`] has messages of any type.
 //! - A [`Node`] has messages of bytes. It encodes, decodes and digests them, and counts what its peers send.
 //! - A [`Coverage`] says which stamps of an author a relay has had.
+//! - A [`Bucket`] says what a rate allows.
 //!
 //! ```
 //! use broadcast_node::{Key, Limits, Node, Received, Recipients};
@@ -54,6 +55,7 @@
 #![deny(unsafe_code)]
 
 mod backend;
+mod bucket;
 mod cache;
 mod coverage;
 #[cfg(feature = "serde")]
@@ -70,6 +72,7 @@ mod snapshot;
 mod taken;
 mod tickets;
 
+pub use bucket::Bucket;
 pub use cache::Cache;
 pub use coverage::{Coverage, Span};
 pub use error::{Error, Refused};

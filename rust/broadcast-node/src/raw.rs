@@ -10,7 +10,7 @@ pub use coverage::{coverage_end, coverage_missing};
 pub use outbox::{outbox_lag, outbox_next};
 pub use store::OwnedStore;
 
-use crate::{Counters, Digest, Key, Listed, Span, Ticket};
+use crate::{Bucket, Counters, Digest, Key, Listed, Span, Ticket};
 use std::ffi::c_void;
 use std::ptr::null_mut;
 
@@ -127,6 +127,9 @@ unsafe extern "C" {
         spans_len: usize,
         bytes: &mut u64,
     ) -> u32;
+    pub safe fn broadcast_bucket_level(bucket: &Bucket, now: u64) -> u64;
+    pub safe fn broadcast_bucket_charge(bucket: &mut Bucket, now: u64, cost: u64);
+    pub safe fn broadcast_bucket_ready(bucket: &Bucket, now: u64, cost: u64, at: &mut u64) -> u32;
     fn broadcast_store_new(
         store: &mut StoreHandle,
         own: &Key,

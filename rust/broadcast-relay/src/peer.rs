@@ -122,7 +122,7 @@ impl Seat {
     pub fn is_logged(&mut self) -> bool {
         let is_due = self.logged.level(now()) > 0;
         if is_due {
-            self.logged.take(now(), 1);
+            self.logged.charge(now(), 1);
         }
         is_due
     }

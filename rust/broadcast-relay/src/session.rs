@@ -79,7 +79,7 @@ async fn read(hub: &Hub, session: &Session, from: impl AsyncRead + Unpin) -> io:
         let frame = timeout(SILENCE, read_frame(&mut from)).await??;
         session.hear();
         let now = now();
-        frames.take(now, if let Frame::Report(..) = frame { REPORT } else { 1 });
+        frames.charge(now, if let Frame::Report(..) = frame { REPORT } else { 1 });
         let mut rest = Duration::from_micros(frames.when(now, 1) - now);
         match frame {
             Frame::Beat => {}

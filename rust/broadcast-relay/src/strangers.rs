@@ -8,6 +8,8 @@
 //! address in turn, so that no address takes the pace of another.
 
 use crate::lock::Mutex;
+use crate::now;
+use broadcast_relay::gossip::{Bucket, SECOND, Time};
 use std::cmp::Reverse;
 use std::collections::{HashMap, VecDeque};
 use std::net::{IpAddr, Ipv6Addr};
@@ -18,9 +20,9 @@ use tokio::sync::{self, oneshot};
 use tokio::time::{Instant, sleep};
 
 /// How often an address gets a place beyond its share, and how many of its connections wait for one.
-const PLACE: Duration = Duration::from_millis(8);
-const LINE: u32 = 64;
-/// How many addresses are remembered before those are forgotten that owe nothing.
+const PLACE: Time = 8_000;
+const LINE: u64 = 64;
+/// How many addresses are remembered before those are forgotten that have their whole share.
 const ADDRESSES: usize = 4_096;
 /// One handshake takes up to 1.7 ms of a processor: at this pace all together take an eighth of one.
 const PACE: Duration = Duration::from_millis(12);
@@ -43,8 +45,8 @@ pub struct Strangers {
 struct State {
     /// The places of each address, oldest first: since when, and what is dropped when another takes the place.
     places: HashMap<IpAddr, VecDeque<(Instant, oneshot::Sender<()>)>>,
-    /// When each address will have waited for all that it got.
-    due: HashMap<IpAddr, Instant>,
+    /// How many places each address has left.
+    shares: HashMap<IpAddr, Bucket>,
     waiting: usize,
     /// Whoever locks it waits for the address's turn.
     turns: HashMap<IpAddr, Arc<sync::Mutex<()>>>,
@@ -72,25 +74,25 @@ impl Strangers {
     }
 
     /// Returns how long a connection waits for its place, or none if it is turned away.
-    fn line_up(&self, address: IpAddr, now: Instant) -> Option<Duration> {
-        let mut state = self.state.lock();
-        if state.due.len() > ADDRESSES {
-            state.due.retain(|_, due| *due > now);
+    fn line_up(&self, address: IpAddr, now: Time) -> Option<Duration> {
+        let (state, share) = (&mut *self.state.lock(), self.most_of_address as u64);
+        if state.shares.len() > ADDRESSES {
+            state.shares.retain(|_, it| it.level(now) < share);
         }
-        let share = PLACE * self.most_of_address as u32;
-        let due = state.due.get(&address).map_or(now, |it| *it.max(&now)) + PLACE;
-        let wait = due.saturating_duration_since(now + share);
-        if wait > PLACE * LINE || (!wait.is_zero() && state.waiting >= self.most) {
+        let left =
+            state.shares.entry(address).or_insert_with(|| Bucket::new(SECOND / PLACE, share));
+        let wait = left.when(now, 1) - now;
+        if wait > PLACE * LINE || (wait > 0 && state.waiting >= self.most) {
             return None;
         }
-        state.due.insert(address, due);
-        state.waiting += usize::from(!wait.is_zero());
-        Some(wait)
+        left.charge(now, 1);
+        state.waiting += usize::from(wait > 0);
+        Some(Duration::from_micros(wait))
     }
 
     /// Gives a place to a connection, which may have to wait for it. Returns none if it is turned away.
     pub async fn enter(&self, address: IpAddr) -> Option<Place> {
-        let wait = self.line_up(address, Instant::now())?;
+        let wait = self.line_up(address, now())?;
         if !wait.is_zero() {
             sleep(wait).await;
             self.state.lock().waiting -= 1;
@@ -192,16 +194,16 @@ mod tests {
 
     #[test]
     fn an_address_that_comes_back_at_once_waits_and_no_other_does() {
-        let (places, now) = (Strangers::new(1_000, 10), Instant::now());
-        let waits: Vec<_> = (0..10).map(|_| places.line_up(address(1), now)).collect();
-        assert!(waits.iter().all(|it| *it == Some(Duration::ZERO)));
-        assert_eq!(places.line_up(address(1), now), Some(PLACE));
-        assert_eq!(places.line_up(address(1), now), Some(2 * PLACE));
-        assert_eq!(places.line_up(address(2), now), Some(Duration::ZERO));
+        let (places, now) = (Strangers::new(1_000, 10), 5 * SECOND);
+        let waits = |times| Some(Duration::from_micros(PLACE * times));
+        let first: Vec<_> = (0..10).map(|_| places.line_up(address(1), now)).collect();
+        assert!(first.iter().all(|it| *it == waits(0)));
+        assert_eq!(places.line_up(address(1), now), waits(1));
+        assert_eq!(places.line_up(address(1), now), waits(2));
+        assert_eq!(places.line_up(address(2), now), waits(0));
         let all = (0..1_000).filter(|_| places.line_up(address(1), now).is_some()).count();
         assert_eq!(all, LINE as usize - 2);
-        let later = now + PLACE * 200;
-        assert_eq!(places.line_up(address(1), later), Some(Duration::ZERO));
+        assert_eq!(places.line_up(address(1), now + PLACE * 200), waits(0));
     }
 
     #[test]

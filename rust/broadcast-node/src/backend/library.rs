@@ -2,7 +2,7 @@
 
 use super::{Counted, Stored};
 use crate::raw::{self, OwnedStore};
-use crate::{Counters, Coverage, Digest, Error, Key, Listed, Outcome, Span, Ticket};
+use crate::{Bucket, Counters, Coverage, Digest, Error, Key, Listed, Outcome, Span, Ticket};
 
 /// A cache of the library.
 pub struct Library(OwnedStore);
@@ -232,4 +232,20 @@ pub fn lag(list: &[Listed], sums: &[u64], reported: &Coverage) -> Result<u64, Er
     let mut bytes = 0;
     done(raw::outbox_lag(list, sums, reported, &mut bytes))?;
     Ok(bytes)
+}
+
+#[inline]
+pub fn level(bucket: &Bucket, now: u64) -> u64 {
+    raw::broadcast_bucket_level(bucket, now)
+}
+
+#[inline]
+pub fn charge(bucket: &mut Bucket, now: u64, cost: u64) {
+    raw::broadcast_bucket_charge(bucket, now, cost);
+}
+
+pub fn ready(bucket: &Bucket, now: u64, cost: u64) -> Option<u64> {
+    let mut at = 0;
+    let status = raw::broadcast_bucket_ready(bucket, now, cost, &mut at);
+    (status == raw::OK).then_some(at)
 }

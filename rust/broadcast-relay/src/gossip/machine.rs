@@ -149,7 +149,7 @@ impl Machine {
             session.repeats = left.ok_or(Breach::Repeats)?;
             return Ok(Taken::Again);
         }
-        log.bucket.take(now, message.size().max(self.bounds.least));
+        log.bucket.charge(now, message.size().max(self.bounds.least));
         self.accept(now, Some(peer), message);
         Ok(Taken::New)
     }
@@ -173,13 +173,12 @@ impl Machine {
 
     /// Charges an author for something beside the bytes of its messages.
     pub fn charge(&mut self, now: Time, author: usize, amount: u64) {
-        self.logs[author].bucket.take(now, amount);
+        self.logs[author].bucket.charge(now, amount);
     }
 
     /// When a connection may be read again that brought a message of an author. Only who ignores its room has to wait.
-    pub fn ready(&mut self, now: Time, author: usize) -> Time {
-        let bucket = &mut self.logs[author].bucket;
-        if bucket.level(now) > 0 { now } else { bucket.when(now, 1) }
+    pub fn ready(&self, now: Time, author: usize) -> Time {
+        self.logs[author].bucket.when(now, 1)
     }
 
     /// Does what is due by now.
