@@ -118,7 +118,6 @@ impl Session {
         let theirs = self.theirs.as_ref()?;
         let room = theirs.room.min(bounds.room);
         loop {
-            self.cursor = theirs.coverage.run_end(self.cursor);
             let from = list.count_up_to(self.cursor);
             let few = list.listed(from);
             let few = &few[..few.len().min(FEW)];
@@ -130,7 +129,7 @@ impl Session {
                 Some(index) => return Some(from + index),
                 None if self.in_flight >= room => return None,
                 None if theirs.is_held && theirs.coverage.top() < last => return None,
-                None => self.cursor = last,
+                None => self.cursor = theirs.coverage.run_end(last),
             }
         }
     }
