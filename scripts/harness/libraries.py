@@ -40,10 +40,11 @@ def built(crate):
 
 
 def words(crate):
-    """The words that tell the compiler of a library, and of the libraries that are built below it."""
+    """The words that tell the compiler of a crate, and of the libraries that are built below it."""
     kind, named = rows()[crate]
     rlibs = kit() / "rlibs"
-    found = ["--crate-name", crate, "src/lib.rt"]
+    root = next(it for it in ("src/lib.rt", "src/main.rt") if (CRATES / crate / it).exists())
+    found = ["--crate-name", crate, root]
     if "staticlib" in kind:
         found += ["--crate-type", "staticlib"]
     for it in ["std", *named]:
