@@ -54,6 +54,11 @@ module _ {D : Type 0} (names : ℕ → Option D) where
       let s = some_of (names n.1.digest) all.0 in
       ap length (named-node n ns s.0 s.1) ∙ ap suc (length-named ns all.1)
 
+  -- a list that has no named node is empty
+  pub none-named : (ns : List (Node (Charged ℕ))) → AreNamed names ns → named_nodes names ns ≡ [] → ns ≡ []
+  none-named [] all none = refl
+  none-named (n ∷ ns) all none = let no : length (n ∷ ns) ≡ 0 = sym (length-named (n ∷ ns) all) ∙ ap length none in absurd (cc)
+
   pub bytes-named : (ns : List (Node (Charged ℕ))) → AreNamed names ns → bytes_of (values_of (named_nodes names ns)) ≡ bytes_of (values_of ns)
   bytes-named [] all = refl
   bytes-named (n ∷ ns) all =

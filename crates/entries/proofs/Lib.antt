@@ -1,6 +1,5 @@
 pub mod Chains
 pub mod Extending
-pub mod Freeing
 pub mod Items
 pub mod Linking
 pub mod Relinking

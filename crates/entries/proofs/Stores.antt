@@ -10,7 +10,7 @@ use Rattle.std.proofs.lemmas.Map.Made.{lookup-map_values, keys_of-map_values}
 use Rattle.std.proofs.lemmas.Map.Steps.{set_value_same}
 use Rattle.entries.specs.declared.entry.Entry.{Entry}
 use Rattle.entries.specs.declared.entry.Chain.{Chain}
-use Rattle.entries.specs.Linked.{Node, Misses, IsApart, IsIn, IsAt, IsRun, IsLinked, IsChain, Frame, IsOn, HasNodes, IsOwned, SameValues, Promotes, Pushes, Pops, Frees}
+use Rattle.entries.specs.Linked.{Node, Misses, IsApart, IsIn, IsAt, IsRun, IsLinked, IsChain, Frame, IsOn, HasNodes, IsOwned, SameValues, Promotes, Pushes, Pops}
 use Rattle.entries.specs.Store.{items_at, nodes, lists_of, has_place, elsewhere, moved, Puts, Evicts, Removes, IsStore, IsPlaceOf, IsNoPlaceOf}
 use Rattle.entries.proofs.Runs.{Misses-right, walk-run}
 use Rattle.std.proofs.lemmas.Bool.{eq-eqb, ne_eqb}
@@ -330,52 +330,43 @@ module _ {K D : Type 0} {same : K → K → Bool} (laws : IsEquivalence same) wh
   pub owned_by : (h : ℕ → Option (Entry K D)) (es : List (K × Chain)) (p owner : K) (c : Chain) → IsStore same h es → lookup (same p) es ≡ Some c → same p owner ≡ true → IsOwned h c owner
   owned_by h es p owner c store found owned = record { mine = same p; nodes = nodes h c; linked = (store.chains p c found).linked; owned = owned }
 
-  -- a chain is gone with its places
-  module _ {h k : ℕ → Option (Entry K D)} {es fs : List (K × Chain)} {old : Chain} (p : K) (store : IsStore same h es) (was : lookup (same p) es ≡ Some old) (frees : Frees h k old)
+  -- an empty list is gone
+  module _ {h : ℕ → Option (Entry K D)} {es : List (K × Chain)} (fs : List (K × Chain)) (p : K) (store : IsStore same h es) (empty : items_at same p (lists_of h es) ≡ [])
       (at : (q : K) → lookup (same q) fs ≡ cond (same p q) None (lookup (same q) es)) (distinct : IsDistinct same (keys_of fs)) where
-    closes : IsStore same k fs × ((q : K) → items_at same q (lists_of k fs) ≡ cond (same p q) [] (items_at same q (lists_of h es)))
-    closes =
-        let frame = frees.frame (same p) (nodes h old) (store.chains p old was) in
-        let gone = frees.gone (same p) (nodes h old) (store.chains p old was) in (
-          record {
-            chains = λ q d found. by_test (same p q)
-                (λ here. let no : None ≡ Some d = sym (is_at (same p q) None (lookup (same q) es) here) ∙ sym (at q) ∙ found in absurd (cc))
-                (λ apart.
-                let before : lookup (same q) es ≡ Some d = sym (is_not_at (same p q) None (lookup (same q) es) apart) ∙ sym (at q) ∙ found in
-                let kept = other_chain store frame apart before in
-                let seen = nodes-is (same q) k d (nodes h d) kept.linked in
-                rw seen kept);
-            rooted = λ j e there.
-                let apart = gone j e there in
-                ap is_some (at e.peer ∙ is_not_at (same p e.peer) None (lookup (same e.peer) es) apart) ∙ store.rooted j e (frame.back j e there apart);
-            distinct = distinct;
-          },
-          λ q. by_test (same p q)
-              (λ here. items_at-none k fs q (at q ∙ is_at (same p q) None (lookup (same q) es) here) ∙ sym (is_at (same p q) [] (items_at same q (lists_of h es)) here))
-              (λ apart.
-              items_at-lists k fs q
-              ∙ ap (λ (o : Option Chain). unwrap_or (option_map (nodes k) o) []) (at q ∙ is_not_at (same p q) None (lookup (same q) es) apart)
-              ∙ kept frame q apart (lookup (same q) es) refl
-              ∙ sym (items_at-lists h es q)
-              ∙ sym (is_not_at (same p q) [] (items_at same q (lists_of h es)) apart)),
-        )
-      where
-        kept : Frame (same p) h k → (q : K) → same p q ≡ false → (o : Option Chain) → lookup (same q) es ≡ o → unwrap_or (option_map (nodes k) o) [] ≡ unwrap_or (option_map (nodes h) o) []
-        kept frame q apart None found = refl
-        kept frame q apart (Some d) found = nodes-is (same q) k d (nodes h d) (other_chain store frame apart found).linked
+    has-none : (j : ℕ) (e : Entry K D) → h j ≡ Some e → same p e.peer ≡ true → (o : Option Chain) → lookup (same p) es ≡ o → ⊥
+    has-none j e there owned None found =
+        let no : false ≡ true = ap is_some (sym found ∙ found_same laws es p e.peer owned) ∙ store.rooted j e there in cc
+    has-none j e there owned (Some c) found =
+        let none : nodes h c ≡ [] = sym (items_at-chain h es p c found) ∙ empty in
+        subst (IsIn j) none ((store.chains p c found).all j e there owned)
 
-    pub removes : IsStore same k fs × Removes same p (lists_of h es) (lists_of k fs)
-    removes = (closes.0, record { lists = closes.1; keys = λ q there. left_keys laws h k es fs p at q there; stays = λ q apart there. kept_keys same h k es fs p at q apart there; distinct = listed_distinct same k fs distinct })
+    pub before : (q : K) (d : Chain) → lookup (same q) fs ≡ Some d → lookup (same q) es ≡ Some d
+    before q d found = by_test (same p q)
+        (λ here. let no : None ≡ Some d = sym (is_at (same p q) None (lookup (same q) es) here) ∙ sym (at q) ∙ found in absurd (cc))
+        (λ apart. sym (is_not_at (same p q) None (lookup (same q) es) apart) ∙ sym (at q) ∙ found)
 
-  -- a key that has no chain
-  pub closes_none : (h : ℕ → Option (Entry K D)) (es fs : List (K × Chain)) (p : K) → lookup (same p) es ≡ None → fs ≡ es → (q : K) → items_at same q (lists_of h fs) ≡ cond (same p q) [] (items_at same q (lists_of h es))
-  closes_none h es fs p none is q = by_test (same p q)
-      (λ here. ap (λ (gs : List (K × Chain)). items_at same q (lists_of h gs)) is ∙ items_at-none h es q (sym (found_same laws es p q here) ∙ none) ∙ sym (is_at (same p q) [] (items_at same q (lists_of h es)) here))
-      (λ apart. ap (λ (gs : List (K × Chain)). items_at same q (lists_of h gs)) is ∙ sym (is_not_at (same p q) [] (items_at same q (lists_of h es)) apart))
+    pub closes : IsStore same h fs
+    closes = record {
+      chains = λ q d found. store.chains q d (before q d found);
+      rooted = λ j e there. by_test (same p e.peer)
+          (λ here. absurd (has-none j e there here (lookup (same p) es) refl))
+          (λ apart. ap is_some (at e.peer ∙ is_not_at (same p e.peer) None (lookup (same e.peer) es) apart) ∙ store.rooted j e there);
+      distinct = distinct;
+    }
 
-  pub removes_none : (h : ℕ → Option (Entry K D)) (es fs : List (K × Chain)) (p : K) → lookup (same p) es ≡ None → fs ≡ es
-      → ((q : K) → lookup (same q) fs ≡ cond (same p q) None (lookup (same q) es)) → IsDistinct same (keys_of fs) → Removes same p (lists_of h es) (lists_of h fs)
-  removes_none h es fs p none is at distinct = record { lists = closes_none h es fs p none is; keys = λ q there. left_keys laws h h es fs p at q there; stays = λ q apart there. kept_keys same h h es fs p at q apart there; distinct = listed_distinct same h fs distinct }
+    pub removes : Removes same p (lists_of h es) (lists_of h fs)
+    removes = record {
+      lists = λ q. by_test (same p q)
+          (λ here. items_at-none h fs q (at q ∙ is_at (same p q) None (lookup (same q) es) here) ∙ sym (is_at (same p q) [] (items_at same q (lists_of h es)) here))
+          (λ apart.
+          items_at-lists h fs q
+          ∙ ap (λ (o : Option Chain). unwrap_or (option_map (nodes h) o) []) (at q ∙ is_not_at (same p q) None (lookup (same q) es) apart)
+          ∙ sym (items_at-lists h es q)
+          ∙ sym (is_not_at (same p q) [] (items_at same q (lists_of h es)) apart));
+      keys = λ q there. left_keys laws h h es fs p at q there;
+      stays = λ q apart there. kept_keys same h h es fs p at q apart there;
+      distinct = listed_distinct same h fs distinct;
+    }
 
   -- no node of the key stands at a place of others
   pub not_mine : (h : ℕ → Option (Entry K D)) (es : List (K × Chain)) (p : K) (place : ℕ) (digest : D) → IsStore same h es → IsNoPlaceOf same h p place

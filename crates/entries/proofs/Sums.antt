@@ -1,5 +1,5 @@
 -- The sums of the charges of all chains.
-use Rattle.std.proofs.Common.{Bool, cond, ◌≡◌, ◌+◌, ◌-◌, ◌≤◌, ℕ, List, [], ◌∷◌, ◌++◌, Option, Some, None, sym, ap, ◌∙◌, arith}
+use Rattle.std.proofs.Common.{Bool, ◌≡◌, ◌+◌, ◌-◌, ◌≤◌, ℕ, List, [], ◌∷◌, ◌++◌, Option, Some, sym, ap, ◌∙◌, arith}
 use Rattle.std.specs.List.{sum_by}
 use Rattle.std.proofs.lemmas.List.{map-append}
 use Rattle.std.proofs.lemmas.List.Sums.{sum_by-cons, sum_by-append}
@@ -8,7 +8,7 @@ use Rattle.std.specs.Map.{lookup, set_value}
 use Rattle.entries.specs.declared.entry.Charged.{Charged}
 use Rattle.entries.specs.declared.entry.Entry.{Entry}
 use Rattle.entries.specs.declared.entry.Chain.{Chain}
-use Rattle.entries.specs.Linked.{Node, IsLinked, IsChain, SameValues, Promotes, Pushes, Pops, Frees}
+use Rattle.entries.specs.Linked.{Node, IsLinked, IsChain, SameValues, Promotes, Pushes, Pops}
 use Rattle.std.proofs.lemmas.Map.Steps.{set_value_same}
 use Rattle.entries.specs.Store.{items_at, nodes, lists_of, bytes_of, values_of, IsStore, IsSummed, IsPlaceOf}
 use Rattle.entries.proofs.Runs.{IsRun-split}
@@ -116,16 +116,6 @@ module _ {K D : Type 0} {same : K → K → Bool} (laws : IsEquivalence same) wh
   pub sum_at : (h : ℕ → Option (Entry K (Charged D))) (es : List (K × Chain)) (p : K) (c : Chain) → IsSummed same h es → lookup (same p) es ≡ Some c → c.bytes ≡ bytes_of (items_at same p (lists_of h es))
   sum_at h es p c summed found = summed.sums p c found ∙ ap bytes_of (sym (items_at-chain laws h es p c found))
 
-  -- a chain is gone
-  pub closes-summed : {h k : ℕ → Option (Entry K (Charged D))} {es fs : List (K × Chain)} {old : Chain} (p : K) → IsStore same h es → IsSummed same h es → lookup (same p) es ≡ Some old → Frees h k old
-      → ((q : K) → lookup (same q) fs ≡ cond (same p q) None (lookup (same q) es)) → IsSummed same k fs
-  closes-summed {h = h} {k = k} {es = es} {old = old} p store summed was frees at = record {
-    sums = λ q d found. by_test (same p q)
-        (λ here. let no : None ≡ Some d = sym (is_at (same p q) None (lookup (same q) es) here) ∙ sym (at q) ∙ found in absurd (cc))
-        (λ apart.
-        let before : lookup (same q) es ≡ Some d = sym (is_not_at (same p q) None (lookup (same q) es) apart) ∙ sym (at q) ∙ found in
-        let frame = frees.frame (same p) (nodes h old) (store.chains p old was) in
-        let kept = other_chain laws store frame apart before in
-        let seen = nodes-is (same q) k d (nodes h d) kept.linked in
-        summed.sums q d before ∙ ap bytes_of (sym seen));
-  }
+  -- an empty list is gone
+  pub closes-summed : {h : ℕ → Option (Entry K (Charged D))} {es fs : List (K × Chain)} → ((q : K) (d : Chain) → lookup (same q) fs ≡ Some d → lookup (same q) es ≡ Some d) → IsSummed same h es → IsSummed same h fs
+  closes-summed before summed = record { sums = λ q d found. summed.sums q d (before q d found) }

@@ -167,8 +167,3 @@ module _ {K D : Type 0} where
   Pops old new chain next None = (mine : K → Bool) (ns : List (Node D)) → IsChain mine old chain ns → (ns ≡ []) × (next ≡ chain) × SameValues old new
   Pops old new chain next (Some digest) = (mine : K → Bool) (ns : List (Node D)) → IsChain mine old chain ns
       → (place : ℕ) × (xs : List (Node D)) × (ns ≡ xs ++ (place, digest) ∷ []) × (new place ≡ None) × IsChain mine new next xs × Frame mine old new
-
-  -- the chain's places are free
-  pub record Frees (old new : ℕ → Option (Entry K D)) (chain : Chain) : Type 0 where
-    pub frame : (mine : K → Bool) (ns : List (Node D)) → IsChain mine old chain ns → Frame mine old new
-    pub gone : (mine : K → Bool) (ns : List (Node D)) → IsChain mine old chain ns → (j : ℕ) (e : Entry K D) → new j ≡ Some e → mine e.peer ≡ false

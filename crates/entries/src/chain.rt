@@ -3,25 +3,19 @@ ghost use Rattle.std.specs.Prelude.{◌≡◌, ℕ, Bool, true, Some, None, List
 ghost use Rattle.std.specs.Prelude.{MatchOption, ◌<◌, OnErr, OnOk, IfOk, IsOk, IfSome, IfNone, length};
 ghost use Rattle.std.specs.Option.{option_copied};
 ghost use Rattle.slab.specs.Slab.{get, HasRoomFor};
-ghost use Rattle.entries.specs.Linked.{IsOn, Admits, Promotes, Pushes, Pops, Frees, IsOwned};
+ghost use Rattle.entries.specs.Linked.{IsOn, Admits, Promotes, Pushes, Pops, IsOwned};
 ghost use Rattle.entries.specs.Linked.{HasNodes, SameValues, entry_at};
 ghost use Rattle.entries.specs.Overlaid.{overlaid};
 ghost use Rattle.entries.specs.Store.{nodes, bytes_of, digests_of, Trims};
 
-use crate::entry::{Chain, Charged, Entry};
+use crate::entry::{Chain, Charged, Entry, Places};
 use crate::link::Link;
 use crate::links::{link_front, unlink};
-use slab::Slab;
 use std::alloc::{AllocError, Global};
 use std::marker::Model;
 
 /// Moves a place to the front of its chain, with another digest. Does not allocate.
-pub fn promote<K, D: Drop>(
-    places: &mut Slab<Entry<K, D>>,
-    chain: &mut Chain,
-    place: usize,
-    digest: D,
-)
+pub fn promote(places: &mut Places, chain: &mut Chain, place: usize, digest: Charged<usize>)
     requires { IsOn (get places.old) chain.old place }
     ensures promoted { Promotes (get places.old) (get places.new) chain.old chain.new place digest }
     ensures bytes { chain.new.bytes ≡ chain.old.bytes }
@@ -33,11 +27,11 @@ pub fn promote<K, D: Drop>(
 }
 
 /// Puts a digest in front of a peer's chain. Without memory all stays.
-pub fn push_front<K: Drop, D: Copy>(
-    places: &mut Slab<Entry<K, D>>,
+pub fn push_front(
+    places: &mut Places,
     chain: &mut Chain,
-    peer: K,
-    digest: D,
+    peer: usize,
+    digest: Charged<usize>,
 ) -> Result<usize, AllocError>
     requires { IsOwned (get places.old) chain.old peer }
     ensures place { IfOk result (λ place. place ≡ places.old.vacant_key) }
@@ -69,7 +63,7 @@ pub fn push_front<K: Drop, D: Copy>(
 
 /// Takes the oldest place out of a chain, and frees it. Does not allocate.
 #[inline(always)]
-pub fn pop_oldest<K: Drop, D>(places: &mut Slab<Entry<K, D>>, chain: &mut Chain) -> Option<D>
+pub fn pop_oldest(places: &mut Places, chain: &mut Chain) -> Option<Charged<usize>>
     requires { HasNodes (get places.old) chain.old }
     ensures popped { Pops (get places.old) (get places.new) chain.old chain.new result }
     ensures bytes { chain.new.bytes ≡ chain.old.bytes }
@@ -87,11 +81,7 @@ pub fn pop_oldest<K: Drop, D>(places: &mut Slab<Entry<K, D>>, chain: &mut Chain)
 /// Takes the oldest digest out of a chain that has more than `size`, with its charge. Does not
 /// allocate.
 #[inline(always)]
-pub fn trim<K: Drop, D: Copy>(
-    places: &mut Slab<Entry<K, Charged<D>>>,
-    chain: &mut Chain,
-    size: usize,
-) -> Option<Charged<D>>
+pub fn trim(places: &mut Places, chain: &mut Chain, size: usize) -> Option<Charged<usize>>
     requires nodes { HasNodes (get places.old) chain.old }
     requires sum { chain.old.bytes ≡ bytes_of (nodes (get places.old) chain.old) }
     ensures { Trims size (get places.old) (get places.new) chain.old chain.new result }
@@ -104,16 +94,8 @@ pub fn trim<K: Drop, D: Copy>(
     Some(stale)
 }
 
-/// Frees all places of a chain. Does not allocate.
-pub fn free<K: Drop, D: Drop>(places: &mut Slab<Entry<K, D>>, mut chain: Chain)
-    requires { HasNodes (get places.old) chain }
-    ensures { Frees (get places.old) (get places.new) chain }
-{
-    while let Some(_) = pop_oldest(places, &mut chain) {}
-}
-
 /// Returns the entry that a link leads to.
-fn stands_at<K, D>(places: &Slab<Entry<K, D>>, at: Link) -> Option<&Entry<K, D>>
+fn stands_at(places: &Places, at: Link) -> Option<&Entry<usize, Charged<usize>>>
     ensures { option_copied result ≡ entry_at (get places.now) at }
 {
     match at.get() {
@@ -124,25 +106,25 @@ fn stands_at<K, D>(places: &Slab<Entry<K, D>>, at: Link) -> Option<&Entry<K, D>>
 
 /// What is left of a walk over a chain, the newest first.
 #[derive(Drop)]
-pub struct Walk<'a, K, D> {
-    places: &'a Slab<Entry<K, Charged<D>>>,
+pub struct Walk<'a> {
+    places: &'a Places,
     at: Link,
     left: usize,
 }
 
-impl<'a, K, D> Model for Walk<'a, K, D> {
-    ghost use Rattle.std.specs.Prelude.{List};
+impl<'a> Model for Walk<'a> {
+    ghost use Rattle.std.specs.Prelude.{ℕ, List};
     ghost use Rattle.slab.specs.Slab.{get};
     ghost use Rattle.entries.specs.Linked.{walk};
     ghost use Rattle.entries.specs.Store.{digests_of};
 
-    ghost Value = { List D };
+    ghost Value = { List ℕ };
 
     ghost view = { λ it. digests_of (walk (get it.places.now) it.left it.at) };
 }
 
 /// Starts a walk over a chain.
-pub fn start<'a, K, D>(places: &'a Slab<Entry<K, Charged<D>>>, chain: &Chain) -> Walk<'a, K, D>
+pub fn start<'a>(places: &'a Places, chain: &Chain) -> Walk<'a>
     ensures { result ≡ digests_of (nodes (get places.now) chain.now) }
 {
     Walk {
@@ -153,7 +135,7 @@ pub fn start<'a, K, D>(places: &'a Slab<Entry<K, Charged<D>>>, chain: &Chain) ->
 }
 
 /// Returns a walk with nothing left.
-pub fn at_end<'a, K, D>(places: &'a Slab<Entry<K, Charged<D>>>) -> Walk<'a, K, D>
+pub fn at_end<'a>(places: &'a Places) -> Walk<'a>
     ensures { result ≡ [] }
 {
     Walk {
@@ -163,9 +145,9 @@ pub fn at_end<'a, K, D>(places: &'a Slab<Entry<K, Charged<D>>>) -> Walk<'a, K, D
     }
 }
 
-impl<'a, K, D: Copy> Walk<'a, K, D> {
+impl<'a> Walk<'a> {
     /// Returns the next older digest.
-    pub fn next(&mut self) -> Option<D>
+    pub fn next(&mut self) -> Option<usize>
         ensures { MatchOption result ((self.old ≡ []) × (self.new ≡ []))
             (λ digest. self.old ≡ digest ∷ self.new) }
     {

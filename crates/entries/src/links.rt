@@ -3,12 +3,11 @@ ghost use Rattle.std.specs.Prelude.{◌≡◌, ℕ, Some, ◌+◌, ◌^◌, ◌<
 ghost use Rattle.slab.specs.Slab.{get, ContainsKey};
 ghost use Rattle.entries.specs.Linked.{Relinks, with_newer, with_older, as_newest, pick as picked, IsOn, Unlinks, Admits, Links};
 
-use crate::entry::{Chain, Entry};
+use crate::entry::{Chain, Charged, Places};
 use crate::link::Link;
-use slab::Slab;
 
 /// Sets the newer link of the entry that a link leads to.
-pub fn set_newer<K, D>(places: &mut Slab<Entry<K, D>>, at: Link, newer: Link)
+pub fn set_newer(places: &mut Places, at: Link, newer: Link)
     requires { (j : ℕ) → at ≡ Some j → ContainsKey places.old j }
     ensures { Relinks (get places.old) (get places.new) at (with_newer newer) }
 {
@@ -18,7 +17,7 @@ pub fn set_newer<K, D>(places: &mut Slab<Entry<K, D>>, at: Link, newer: Link)
 }
 
 /// Sets the older link of the entry that a link leads to.
-pub fn set_older<K, D>(places: &mut Slab<Entry<K, D>>, at: Link, older: Link)
+pub fn set_older(places: &mut Places, at: Link, older: Link)
     requires { (j : ℕ) → at ≡ Some j → ContainsKey places.old j }
     ensures { Relinks (get places.old) (get places.new) at (with_older older) }
 {
@@ -38,7 +37,7 @@ fn pick(neighbour: Link, there: Link, otherwise: Link) -> Link
 }
 
 /// Makes an entry the newest, with another digest.
-fn set_newest<K, D: Drop>(places: &mut Slab<Entry<K, D>>, place: usize, digest: D, older: Link)
+fn set_newest(places: &mut Places, place: usize, digest: Charged<usize>, older: Link)
     requires { ContainsKey places.old place }
     ensures { Relinks (get places.old) (get places.new) (Some place) (as_newest digest older) }
 {
@@ -49,7 +48,7 @@ fn set_newest<K, D: Drop>(places: &mut Slab<Entry<K, D>>, place: usize, digest: 
 }
 
 /// Takes a place out of its chain. It keeps its entry.
-pub fn unlink<K, D>(places: &mut Slab<Entry<K, D>>, chain: &mut Chain, place: usize)
+pub fn unlink(places: &mut Places, chain: &mut Chain, place: usize)
     requires { IsOn (get places.old) chain.old place }
     ensures unlinked { Unlinks (get places.old) (get places.new) chain.old chain.new place }
     ensures fits { chain.new.len + 1 < 2 ^ 64 }
@@ -66,12 +65,7 @@ pub fn unlink<K, D>(places: &mut Slab<Entry<K, D>>, chain: &mut Chain, place: us
 }
 
 /// Puts a place in front of a chain.
-pub fn link_front<K, D: Drop>(
-    places: &mut Slab<Entry<K, D>>,
-    chain: &mut Chain,
-    place: usize,
-    digest: D,
-)
+pub fn link_front(places: &mut Places, chain: &mut Chain, place: usize, digest: Charged<usize>)
     requires free { Admits (get places.old) chain.old place }
     requires fits { chain.old.len + 1 < 2 ^ 64 }
     requires word { place + 1 < 2 ^ 64 }

@@ -178,11 +178,10 @@ fn split<K: Leading + Drop, V: Copy>(
     ensures joined { joined parts.new.items ≡ joined parts.old.items }
     ensures are { AreParts K.cmp K.leading_of table.new.items parts.new.items }
 {
-    if !is_to_split(table, parts, part, byte) || !make_room(table, parts) {
-        return;
-    }
-    if let Some(at) = middle(table, part, byte) {
-        split_at(table, parts, part, at);
+    if is_to_split(table, parts, part, byte) && make_room(table, parts) {
+        if let Some(at) = middle(table, part, byte) {
+            split_at(table, parts, part, at);
+        }
     }
 }
 

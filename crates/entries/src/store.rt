@@ -12,7 +12,7 @@ ghost use Rattle.entries.specs.Overlaid.{same_number};
 ghost use Rattle.entries.specs.Store.{IsSummed};
 
 use crate::chain::{self, Walk};
-use crate::entry::{Chain, Charged, Entry};
+use crate::entry::{Chain, Charged, Places};
 use crate::link::Link;
 use slab::Slab;
 use std::alloc::{AllocError, Global};
@@ -20,18 +20,18 @@ use std::marker::Model;
 
 /// The digests of each list, the newest first. A list goes by a number.
 #[derive(Drop)]
-pub struct Entries<D: Copy> {
-    places: Slab<Entry<usize, Charged<D>>>,
+pub struct Entries {
+    places: Places,
     chains: Slab<Chain>,
 }
 
-impl<D: Copy> Model for Entries<D> {
+impl Model for Entries {
     ghost use Rattle.std.specs.Prelude.{ℕ};
     ghost use Rattle.slab.specs.Slab.{get, entries};
     ghost use Rattle.entries.specs.Overlaid.{same_number};
     ghost use Rattle.entries.specs.Store.{Listed, lists_of, IsStore, IsSummed};
 
-    ghost Value = { Listed ℕ D };
+    ghost Value = { Listed ℕ ℕ };
 
     ghost view = { λ it. record {
       lists = lists_of (get it.places) (entries it.chains);
@@ -42,7 +42,7 @@ impl<D: Copy> Model for Entries<D> {
         × IsSummed same_number (get it.places) (entries it.chains) };
 }
 
-impl<D: Copy> Entries<D> {
+impl Entries {
     /// Creates empty lists. Does not allocate.
     pub fn new(alloc: Global) -> Self
         ensures { result ≡ record { lists = []; vacant = 0 } }
@@ -85,7 +85,7 @@ impl<D: Copy> Entries<D> {
     /// Moves the entry at `place` to the front of the list, with another digest and
     /// charge. Does nothing if the list has no such entry. Returns the sum of the charges on the
     /// list. Does not allocate.
-    pub fn promote(&mut self, list: usize, place: usize, digest: Charged<D>) -> u128
+    pub fn promote(&mut self, list: usize, place: usize, digest: Charged<usize>) -> u128
         requires room { bytes_of (items_at same_number list self.old.lists)
             + digest.charge < 2 ^ 128 }
         ensures bytes { result ≡ bytes_of (items_at same_number list self.new.lists) }
@@ -109,9 +109,9 @@ impl<D: Copy> Entries<D> {
     pub fn push(
         &mut self,
         list: usize,
-        digest: Charged<D>,
+        digest: Charged<usize>,
         size: usize,
-    ) -> Result<(u128, Option<Charged<D>>), AllocError>
+    ) -> Result<(u128, Option<Charged<usize>>), AllocError>
         requires there { is_some (lookup (same_number list) self.old.lists) ≡ true }
         requires room { bytes_of (items_at same_number list self.old.lists)
             + digest.charge < 2 ^ 128 }
@@ -126,7 +126,7 @@ impl<D: Copy> Entries<D> {
     }
 
     /// Removes the oldest digest of the list, and returns it. Does not allocate.
-    pub fn evict(&mut self, list: usize) -> Option<Charged<D>>
+    pub fn evict(&mut self, list: usize) -> Option<Charged<usize>>
         ensures { let same = same_number in
             MatchOption result
             ((items_at same list self.old.lists ≡ []) × (self.new.lists ≡ self.old.lists))
@@ -137,7 +137,7 @@ impl<D: Copy> Entries<D> {
 
     /// Removes the oldest digest of the list if the charges on it sum to more than `limit`, and
     /// returns it. Does not allocate.
-    pub fn evict_over(&mut self, list: usize, limit: u64) -> Option<Charged<D>>
+    pub fn evict_over(&mut self, list: usize, limit: u64) -> Option<Charged<usize>>
         ensures { let same = same_number in
             MatchOption result
             ((bytes_of (items_at same list self.old.lists) ≤ limit)
@@ -151,11 +151,12 @@ impl<D: Copy> Entries<D> {
         evict(&mut self.places, &mut self.chains, list)
     }
 
-    /// Removes the list. Does not allocate.
+    /// Removes an empty list. Does not allocate.
     pub fn remove(&mut self, list: usize)
+        requires { items_at same_number list self.old.lists ≡ [] }
         ensures { Removes same_number list self.old.lists self.new.lists }
     {
-        close(&mut self.places, &mut self.chains, list);
+        close(&self.places, &mut self.chains, list);
     }
 
     /// Returns how many digests the list has.
@@ -169,7 +170,7 @@ impl<D: Copy> Entries<D> {
     }
 
     /// Starts a walk over the digests of the list, the newest first. Does not allocate.
-    pub fn walk(&self, list: usize) -> Walk<'_, usize, D>
+    pub fn walk(&self, list: usize) -> Walk<'_>
         ensures { result ≡ digests_of (items_at same_number list self.now.lists) }
     {
         match self.chains.get(list) {
@@ -180,7 +181,7 @@ impl<D: Copy> Entries<D> {
 }
 
 /// Returns whether an entry of the list stands at `place`.
-fn is_place_of<D>(places: &Slab<Entry<usize, D>>, list: usize, place: usize) -> bool
+fn is_place_of(places: &Places, list: usize, place: usize) -> bool
     ensures { MatchBool result (IsPlaceOf same_number (get places.now) list place)
         (IsNoPlaceOf same_number (get places.now) list place) }
 {
@@ -192,12 +193,12 @@ fn is_place_of<D>(places: &Slab<Entry<usize, D>>, list: usize, place: usize) -> 
 
 /// Moves a place to the front of its list, with another digest and charge. Returns the sum of the
 /// charges on the list.
-fn renew<D: Copy>(
-    places: &mut Slab<Entry<usize, Charged<D>>>,
+fn renew(
+    places: &mut Places,
     chains: &mut Slab<Chain>,
     list: usize,
     place: usize,
-    digest: Charged<D>,
+    digest: Charged<usize>,
 ) -> u128
     requires store { IsStore same_number (get places.old) (entries chains.old) }
     requires summed { IsSummed same_number (get places.old) (entries chains.old) }
@@ -226,11 +227,7 @@ fn renew<D: Copy>(
 }
 
 /// Takes the oldest digest of a list, if there is one.
-fn evict<D: Copy>(
-    places: &mut Slab<Entry<usize, Charged<D>>>,
-    chains: &mut Slab<Chain>,
-    list: usize,
-) -> Option<Charged<D>>
+fn evict(places: &mut Places, chains: &mut Slab<Chain>, list: usize) -> Option<Charged<usize>>
     requires store { IsStore same_number (get places.old) (entries chains.old) }
     requires summed { IsSummed same_number (get places.old) (entries chains.old) }
     ensures summed { IsSummed same_number (get places.new) (entries chains.new) }
@@ -249,13 +246,13 @@ fn evict<D: Copy>(
 
 /// Puts a digest in front of a list, and takes out the oldest if there are then more than
 /// `size`. Returns the sum of the charges on the list, and what was taken out.
-fn add<D: Copy>(
-    places: &mut Slab<Entry<usize, Charged<D>>>,
+fn add(
+    places: &mut Places,
     chains: &mut Slab<Chain>,
     list: usize,
-    digest: Charged<D>,
+    digest: Charged<usize>,
     size: usize,
-) -> Result<(u128, Option<Charged<D>>), AllocError>
+) -> Result<(u128, Option<Charged<usize>>), AllocError>
     requires store { IsStore same_number (get places.old) (entries chains.old) }
     requires summed { IsSummed same_number (get places.old) (entries chains.old) }
     requires room { bytes_of (items_at same_number list (lists_of (get places.old)
@@ -286,10 +283,7 @@ fn add<D: Copy>(
 }
 
 /// Opens an empty list.
-fn open<D: Copy>(
-    places: &Slab<Entry<usize, Charged<D>>>,
-    chains: &mut Slab<Chain>,
-) -> Result<usize, AllocError>
+fn open(places: &Places, chains: &mut Slab<Chain>) -> Result<usize, AllocError>
     requires store { IsStore same_number (get places.now) (entries chains.old) }
     requires summed { IsSummed same_number (get places.now) (entries chains.old) }
     ensures store { IsStore same_number (get places.now) (entries chains.new) }
@@ -315,22 +309,17 @@ fn open<D: Copy>(
     }
 }
 
-/// Frees all places of a list.
-fn close<D: Copy>(
-    places: &mut Slab<Entry<usize, Charged<D>>>,
-    chains: &mut Slab<Chain>,
-    list: usize,
-)
-    requires store { IsStore same_number (get places.old) (entries chains.old) }
-    requires summed { IsSummed same_number (get places.old) (entries chains.old) }
-    ensures store { IsStore same_number (get places.new) (entries chains.new) }
-    ensures summed { IsSummed same_number (get places.new) (entries chains.new) }
+/// Removes an empty list.
+fn close(places: &Places, chains: &mut Slab<Chain>, list: usize)
+    requires store { IsStore same_number (get places.now) (entries chains.old) }
+    requires summed { IsSummed same_number (get places.now) (entries chains.old) }
+    requires empty { items_at same_number list (lists_of (get places.now) (entries chains.old))
+        ≡ [] }
+    ensures store { IsStore same_number (get places.now) (entries chains.new) }
+    ensures summed { IsSummed same_number (get places.now) (entries chains.new) }
     ensures lists { Removes same_number list
-        (lists_of (get places.old) (entries chains.old)) (lists_of
-        (get places.new) (entries chains.new)) }
+        (lists_of (get places.now) (entries chains.old)) (lists_of
+        (get places.now) (entries chains.new)) }
 {
-    match chains.try_remove(list) {
-        Some(chain) => chain::free(places, chain),
-        None => {}
-    }
+    chains.try_remove(list);
 }

@@ -47,7 +47,7 @@ pub struct Found {
 #[derive(Drop)]
 pub struct Table<T: Named> {
     alloc: Global,
-    items: Slab<Item<usize, T>>,
+    items: Slab<Item<T>>,
     index: Parts<T::Name, usize>,
 }
 
@@ -152,7 +152,7 @@ impl<T: Named + Clone> Table<T> {
 /// Returns the place of the list for the message, or gives it one.
 fn insert<T: Named + Clone>(
     alloc: Global,
-    items: &mut Slab<Item<usize, T>>,
+    items: &mut Slab<Item<T>>,
     index: &mut Parts<T::Name, usize>,
     message: &T,
     list: usize,
@@ -187,7 +187,7 @@ fn insert<T: Named + Clone>(
 
 /// Returns the place of the list in an item, or gives it one.
 fn join<T: Drop>(
-    items: &mut Slab<Item<usize, T>>,
+    items: &mut Slab<Item<T>>,
     item: usize,
     list: usize,
     place: usize,
@@ -196,7 +196,7 @@ fn join<T: Drop>(
     ensures { JoinsItem item list place result items.old.slots items.new.slots }
 {
     match items.get_mut(item) {
-        Some(found) => match found.join(&list, place) {
+        Some(found) => match found.join(list, place) {
             Ok(place) => Ok(Found {
                 item,
                 place,
@@ -211,7 +211,7 @@ fn join<T: Drop>(
 /// Puts in an item with one place.
 fn add<T: Clone + Drop>(
     alloc: Global,
-    items: &mut Slab<Item<usize, T>>,
+    items: &mut Slab<Item<T>>,
     message: &T,
     list: usize,
     place: usize,
@@ -222,14 +222,14 @@ fn add<T: Clone + Drop>(
     ensures err { OnErr result (items.new.slots ≡ items.old.slots) }
 {
     items.reserve(1)?;
-    let item = Item::new(alloc, message, &list, place)?;
+    let item = Item::new(alloc, message, list, place)?;
     Ok(items.insert_reserved(item))
 }
 
 /// Removes the place of the list from an item, and the message with its last place. Returns the
 /// message if it leaves.
 fn remove<T: Named>(
-    items: &mut Slab<Item<usize, T>>,
+    items: &mut Slab<Item<T>>,
     index: &mut Parts<T::Name, usize>,
     item: usize,
     list: usize,
@@ -259,13 +259,13 @@ fn remove<T: Named>(
 }
 
 /// Removes the place of the list from an item. Returns whether there is one, with no place left.
-fn leave<T: Drop>(items: &mut Slab<Item<usize, T>>, item: usize, list: usize) -> bool
+fn leave<T: Drop>(items: &mut Slab<Item<T>>, item: usize, list: usize) -> bool
     ensures { MatchOption (get items.old item)
         ((result ≡ false) × (items.new.slots ≡ items.old.slots))
         (λ was. LeavesItem item list was result items.old.slots items.new.slots) }
 {
     match items.get_mut(item) {
-        Some(found) => found.remove(&list),
+        Some(found) => found.remove(list),
         None => false,
     }
 }

@@ -25,7 +25,7 @@ use std::marker::Model;
 /// of its message's item in place of the digest.
 #[derive(Drop)]
 pub struct Shelf<M: Digestible> {
-    lists: Entries<usize>,
+    lists: Entries,
     table: Table<Digested<M>>,
 }
 
@@ -319,7 +319,7 @@ fn leave<M: Digestible>(
 ///
 /// On an allocation failure the list leaves the item, and the lists stay.
 fn push<M: Digestible>(
-    lists: &mut Entries<usize>,
+    lists: &mut Entries,
     table: &mut Table<Digested<M>>,
     list: usize,
     charged: Charged<usize>,
@@ -359,7 +359,7 @@ fn push<M: Digestible>(
 
 /// Puts an item in front of the list, as [`Entries::push`] does, and makes room for what may leave.
 fn push_with_room<M: Digestible>(
-    lists: &mut Entries<usize>,
+    lists: &mut Entries,
     messages: usize,
     list: usize,
     charged: Charged<usize>,

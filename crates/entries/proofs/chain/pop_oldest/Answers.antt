@@ -5,16 +5,16 @@ use Rattle.entries.proofs.Chains.{on_oldest, on_there, pops, pops_none}
 use Rattle.entries.proofs.chain.pop_oldest.Goals as goal
 
 pub unlink-requires : goal.unlink-requires
-unlink-requires g c = on_oldest (get c.args.places.now) c.args.chain.now c.in-Some.place (sym c.get.ensures ∙ c.in-Some.is) c.requires
+unlink-requires c = on_oldest (get c.args.places.now) c.args.chain.now c.in-Some.place (sym c.get.ensures ∙ c.in-Some.is) c.requires
 
-pub remove-digest-requires : goal.remove-digest-requires
-remove-digest-requires g c =
+pub remove-requires : goal.remove-requires
+remove-requires c =
     let there = on_there (get c.args.places.now) c.args.chain.now _ (on_oldest (get c.args.places.now) c.args.chain.now c.in-Some.place (sym c.get.ensures ∙ c.in-Some.is) c.requires) in
     is_there (get c.unlink.new.places) c.in-Some.place there.entry (c.unlink.ensures.unlinked.kept ∙ there.there)
 
 pub returns-in-None-clause-popped : goal.returns-in-None-clause-popped
-returns-in-None-clause-popped g c = pops_none (get c.args.places.now) c.args.chain.now (sym c.get.ensures ∙ c.in-None.is)
+returns-in-None-clause-popped c = pops_none (get c.args.places.now) c.args.chain.now (sym c.get.ensures ∙ c.in-None.is)
 
 pub returns-in-Some-clause-popped : goal.returns-in-Some-clause-popped
-returns-in-Some-clause-popped g c =
-    pops (sym c.get.ensures ∙ c.in-Some.is) c.unlink.ensures.unlinked c.remove-digest.ensures.value c.remove-digest.ensures.updates.changed c.remove-digest.ensures.updates.others
+returns-in-Some-clause-popped c =
+    pops (sym c.get.ensures ∙ c.in-Some.is) c.unlink.ensures.unlinked c.remove.ensures.value c.remove.ensures.updates.changed c.remove.ensures.updates.others

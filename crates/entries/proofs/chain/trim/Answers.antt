@@ -4,5 +4,5 @@ use Rattle.entries.proofs.Extending.{oldest-charge}
 use Rattle.entries.proofs.chain.trim.Goals as goal
 
 pub overflow_sub-chain : goal.overflow_sub-chain
-overflow_sub-chain g c =
+overflow_sub-chain c =
     omega (arith, oldest-charge (get c.args.places.now) (get c.pop_oldest.new.places) c.args.chain.now c.pop_oldest.new.chain c.requires.nodes c.in_ok-stale.stale c.requires.sum c.in_ok-stale.ensures.popped, c.from.ensures, c.pop_oldest.ensures.bytes)

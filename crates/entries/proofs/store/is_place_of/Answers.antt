@@ -13,5 +13,5 @@ found same h p place e true there owned = record { entry = e; there = there; own
 found same h p place e false there owned = λ f now. let one : e ≡ f = let both : Some e ≡ Some f = sym there ∙ now in cc in ap (λ (x : Entry _ _). same p x.peer) (sym one) ∙ owned
 
 pub returns-in-Some : goal.returns-in-Some
-returns-in-Some g c = found same_number (get c.args.places.now) c.args.list c.args.place c.in-Some.entry.now _ (sym c.in-Some.ensures)
+returns-in-Some c = found same_number (get c.args.places.now) c.args.list c.args.place c.in-Some.entry.now _ (sym c.in-Some.ensures)
     (ap is_eq (sym c.cmp.ensures) ∙ sym c.is_eq.ensures)

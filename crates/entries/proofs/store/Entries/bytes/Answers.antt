@@ -7,9 +7,9 @@ use Rattle.entries.proofs.Sums.{sum_at}
 use Rattle.entries.proofs.store.Entries.bytes.Goals as goal
 
 pub returns-in-Some : goal.returns-in-Some
-returns-in-Some g c =
+returns-in-Some c =
     rw (← c.self.view_is) (sum_at number_laws (get c.self.inside.places) (entries c.self.inside.chains) c.args.list c.in-Some.chain.now c.self.invariant.1 (found_slot c.self.inside.chains c.args.list ∙ sym c.in-Some.ensures))
 
 pub returns-in-None : goal.returns-in-None
-returns-in-None g c =
+returns-in-None c =
     rw (← c.self.view_is) (sym (ap bytes_of (items_at-none number_laws (get c.self.inside.places) (entries c.self.inside.chains) c.args.list (found_slot c.self.inside.chains c.args.list ∙ sym c.in-None.ensures))))

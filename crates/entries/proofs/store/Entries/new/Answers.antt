@@ -24,4 +24,4 @@ none_yet {D = D} h s no_entries no_chains = (
 )
 
 pub invariant_of-result : goal.invariant_of-result
-invariant_of-result g c = none_yet c.new.result c.new-2.result c.new.ensures.empty c.new-2.ensures.empty
+invariant_of-result c = none_yet c.new.result c.new-2.result c.new.ensures.empty c.new-2.ensures.empty

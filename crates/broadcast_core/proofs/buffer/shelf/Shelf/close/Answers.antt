@@ -9,8 +9,15 @@ use Rattle.broadcast_core.specs.Indexed.{names_of, named_lists}
 use Rattle.broadcast_core.proofs.Distinct.{by_test}
 use Rattle.broadcast_core.proofs.Indexing.{IsIndexed-closed, nodes-equal, cond_true, cond_false}
 use Rattle.broadcast_core.proofs.Placing.{items_at-digests, is_some-digests, distinct-digests, no-digests}
-use Rattle.broadcast_core.proofs.Naming.{Removes-named, AllNamed-removes}
+use Rattle.broadcast_core.proofs.Naming.{none-named, items_at-named, Removes-named, AllNamed-removes}
 use Rattle.broadcast_core.proofs.buffer.shelf.Shelf.close.Goals as goal
+
+pub remove-requires : goal.remove-requires
+remove-requires g c =
+    let names = names_of c.self.inside.table in
+    let lists = named_lists names c.self.inside.lists.lists in
+    let none = no-digests _ (sym (items_at-digests same_number c.args.list lists) ∙ (rw (← c.self.view_is) at c.requires.empty)) in
+    none-named names (items_at same_number c.args.list c.self.inside.lists.lists) (c.self.invariant.named c.args.list) (sym (items_at-named names same_number c.args.list c.self.inside.lists.lists) ∙ none)
 
 pub invariant_of-self : goal.invariant_of-self
 invariant_of-self g c =
