@@ -157,7 +157,7 @@ impl<M> Cache<M> {
     ) -> Result<Taken<'_, M>, Refused<M>> {
         let number = self.slots.vacant();
         let stored = number.and_then(|it| self.backend.take(peer, digest, charge, it));
-        self.keep(Slot { digest: *digest, charge, message }, stored)
+        self.keep(digest, charge, message, stored)
     }
 
     /// Takes a message as `take` does, and counts its outcome.
@@ -171,32 +171,44 @@ impl<M> Cache<M> {
     ) -> Result<Taken<'_, M>, Refused<M>> {
         let number = self.slots.vacant();
         let stored = number.and_then(|it| self.backend.receive(peer, digest, charge, it, counters));
-        self.keep(Slot { digest: *digest, charge, message }, stored)
+        self.keep(digest, charge, message, stored)
     }
 
     /// Keeps the message if the backend does. Drops no message: a drop that panics would lose the replies.
     #[inline(always)] // Else a take costs two percent more.
     fn keep(
         &mut self,
-        slot: Slot<M>,
+        digest: &Digest,
+        charge: usize,
+        message: M,
         stored: Result<Stored, Error>,
     ) -> Result<Taken<'_, M>, Refused<M>> {
-        let reported = stored.and_then(|it| {
-            self.tickets.serve(it.served, |room| self.backend.served(room))?;
-            let left = self.slots.release(it.left, |room| self.backend.left(room))?;
-            Ok((it, left))
-        });
-        let (Stored { outcome, is_kept, .. }, left) = match reported {
+        let reported = match stored {
+            Ok(it) => self.report(&it).map(|left| (it.outcome, it.is_kept, left)),
+            Err(error) => Err(error),
+        };
+        let (outcome, is_kept, left) = match reported {
             Ok(it) => it,
-            Err(error) => return Err(Refused { error, message: slot.message }),
+            Err(error) => return Err(Refused { error, message }),
         };
         let (message, evicted) = if is_kept {
-            let (message, evicted) = self.slots.put(slot, left);
+            let (message, evicted) =
+                self.slots.put(Slot { digest: *digest, charge, message }, left);
             (Held::Cached(message), evicted)
         } else {
-            (Held::Returned(slot.message), self.slots.evicted(left))
+            (Held::Returned(message), self.slots.evicted(left))
         };
         Ok(Taken { outcome, served: self.tickets.served(), message, evicted })
+    }
+
+    /// Moves the served tickets and the numbers of the messages that left out of the backend. Returns how many left.
+    #[inline(always)]
+    fn report(&mut self, stored: &Stored) -> Result<usize, Error> {
+        self.tickets.serve(stored.served, |room| self.backend.served(room))?;
+        match stored.left {
+            0 => Ok(0),
+            most => self.slots.release(most, |room| self.backend.left(room)),
+        }
     }
 
     /// Takes a message under the own key, as [`Cache::take`] does.

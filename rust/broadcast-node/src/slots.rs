@@ -29,15 +29,21 @@ impl<M> Slots<M> {
     }
 
     /// Makes room for one more message. Returns its number.
-    #[inline]
+    #[inline(always)]
     pub fn vacant(&mut self) -> Result<u64, Error> {
         if self.places.len() > SPARE && self.free.len() == self.places.len() {
-            *self = Slots::new();
+            self.clear();
         }
         match self.free.last() {
             Some(number) => Ok(*number),
             None => self.grow(),
         }
+    }
+
+    /// Gives the room of all places back. None is taken.
+    #[cold]
+    fn clear(&mut self) {
+        *self = Slots::new();
     }
 
     /// Adds a free place to those that are all taken. Returns its number.
@@ -53,15 +59,11 @@ impl<M> Slots<M> {
 
     /// Frees the places of messages that left, at most `most`. `fill` writes their numbers, the newest first, and returns how
     /// many they are; this returns that number. `put` or `evicted` returns the messages.
-    #[inline]
     pub fn release(
         &mut self,
         most: usize,
         fill: impl FnOnce(&mut [u64]) -> usize,
     ) -> Result<usize, Error> {
-        if most == 0 {
-            return Ok(0);
-        }
         let start = self.free.len();
         self.free.try_reserve(most)?; // there is room already
         self.free.resize(start + most, 0);

@@ -83,8 +83,17 @@ impl<M> Iterator for Evicted<'_, M> {
 impl<M> ExactSizeIterator for Evicted<'_, M> {}
 
 impl<M> Drop for Evicted<'_, M> {
-    /// Drops all messages, also if the drop of one panics.
+    #[inline]
     fn drop(&mut self) {
+        if self.len() > 0 {
+            self.drop_all();
+        }
+    }
+}
+
+impl<M> Evicted<'_, M> {
+    /// Drops all messages, also if the drop of one panics.
+    fn drop_all(&mut self) {
         struct Rest<'a, 'b, M>(&'a mut Evicted<'b, M>);
         impl<M> Drop for Rest<'_, '_, M> {
             fn drop(&mut self) {
