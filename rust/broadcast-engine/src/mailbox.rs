@@ -76,11 +76,15 @@ impl<P: Id, M: Message> Mailbox<P, M> {
         Subscription { inbox: self.inbox.clone(), digest, number, receiver, is_done: false }
     }
 
-    /// Returns the cached message of a digest, or `None` if there is none or the engine has ended.
-    pub async fn get(&self, digest: M::Digest) -> Option<Digested<M>> {
+    /// Returns the cached message of a digest, or `None` if there is none or the engine has ended. The call queues the
+    /// request, as all calls of a mailbox do; the future waits for the reply.
+    pub fn get(
+        &self,
+        digest: M::Digest,
+    ) -> impl Future<Output = Option<Digested<M>>> + Send + use<P, M> {
         let (responder, receiver) = oneshot::channel();
         let _ = self.inbox.enqueue(Request::Get(digest, responder));
-        receiver.await.unwrap_or_default()
+        async move { receiver.await.unwrap_or_default() }
     }
 
     /// Returns the messages on the list of a peer, newest first. (`commonware_broadcast` has no such call; it serves
@@ -89,10 +93,13 @@ impl<P: Id, M: Message> Mailbox<P, M> {
     /// # Errors
     ///
     /// [`Canceled`], if the engine has ended or the cache fails.
-    pub async fn list(&self, peer: P) -> Result<Vec<Digested<M>>, Canceled> {
+    pub fn list(
+        &self,
+        peer: P,
+    ) -> impl Future<Output = Result<Vec<Digested<M>>, Canceled>> + Send + use<P, M> {
         let (responder, receiver) = oneshot::channel();
         let _ = self.inbox.enqueue(Request::List(peer, responder));
-        receiver.await.map_err(|_| Canceled::Ended)?.map_err(Canceled::Failed)
+        async move { receiver.await.map_err(|_| Canceled::Ended)?.map_err(Canceled::Failed) }
     }
 
     /// Returns a stream of the messages that are cached from now on. Messages that come while `capacity` of them wait to
