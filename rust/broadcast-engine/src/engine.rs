@@ -1,7 +1,8 @@
 //! The engine: a future that owns the cache and handles one event a turn.
 //!
 //! In each turn it looks, in this order, for dropped subscriptions, a stop, a new peer set, a request, and a payload of
-//! the network. In one turn of 64 it first lets other tasks run, and looks for a payload before a request.
+//! the network: so a payload never overtakes a request, and waits while there are requests. Before one turn of 64 the
+//! engine lets other tasks run, which changes no order.
 
 use crate::deliveries::Feed;
 use crate::id::{self, Hex};
@@ -18,7 +19,6 @@ use std::fmt;
 use std::future::{Future, poll_fn};
 use std::pin::{Pin, pin};
 use std::sync::Arc;
-use std::sync::atomic::Ordering::Relaxed;
 use std::task::Poll;
 use tracing::{debug, error, trace, warn};
 
@@ -132,13 +132,11 @@ impl<P: Id, M: Message, D: Provider<PublicKey = P>, T: Strategy> Engine<P, M, D,
     ) -> End {
         let mut turn = 0_u32;
         loop {
-            self.drop_subscriptions();
-            self.show_sizes();
             turn = (turn + 1) % BURST;
             if turn == 0 {
                 yield_now().await;
             }
-            let result = match self.next(&mut receiver, stop.as_mut(), turn == 0).await {
+            let result = match self.next(&mut receiver, stop.as_mut()).await {
                 Event::Stopped => return End::Stopped,
                 Event::Peers(None) => return End::PeersClosed,
                 Event::Peers(Some(peers)) => self.set_peers(&peers),
@@ -162,27 +160,28 @@ impl<P: Id, M: Message, D: Provider<PublicKey = P>, T: Strategy> Engine<P, M, D,
         }
     }
 
-    /// Waits for the next event.
+    /// Drops what nobody waits for any more, and waits for the next event. Each poll has the order of a turn.
     async fn next<R: Receiver<PublicKey = P>>(
         &mut self,
         receiver: &mut R,
         mut stop: Pin<&mut (impl Future<Output = ()> + Send)>,
-        is_network_first: bool,
     ) -> Event<P, M, R::Error> {
-        let inbox = &self.inbox.0;
+        let (inbox, counters) = (&self.inbox.0, self.metrics.counters());
+        let (waiting, cache) = (&mut self.waiting, &mut self.cache);
         let mut peers = pin!(self.peer_provider.next());
         let (mut incoming, mut received) = (pin!(inbox.next()), pin!(receiver.recv()));
         poll_fn(|cx| {
+            for number in inbox.take_dropped() {
+                if waiting.remove(cache, number) {
+                    counters.subscribe.dropped.inc();
+                }
+            }
+            counters.show_sizes(cache.counts());
             if stop.as_mut().poll(cx).is_ready() {
                 return Poll::Ready(Event::Stopped);
             }
             if let Poll::Ready(peers) = peers.as_mut().poll(cx) {
                 return Poll::Ready(Event::Peers(peers));
-            }
-            if is_network_first {
-                if let Poll::Ready(received) = received.as_mut().poll(cx) {
-                    return Poll::Ready(Event::Received(received));
-                }
             }
             if let Poll::Ready(incoming) = incoming.as_mut().poll(cx) {
                 return Poll::Ready(Event::Incoming(incoming));
@@ -194,20 +193,6 @@ impl<P: Id, M: Message, D: Provider<PublicKey = P>, T: Strategy> Engine<P, M, D,
 
     fn counters(&self) -> &Counters {
         self.metrics.counters()
-    }
-
-    fn drop_subscriptions(&mut self) {
-        for number in self.inbox.0.take_dropped() {
-            if self.waiting.remove(&mut self.cache, number) {
-                self.counters().subscribe.dropped.inc();
-            }
-        }
-    }
-
-    fn show_sizes(&self) {
-        let counts = self.cache.counts();
-        self.counters().waiters.store(counts.awaited as u64, Relaxed);
-        self.counters().cached.store(counts.cached as u64, Relaxed);
     }
 
     fn set_peers(&mut self, peers: &[P]) -> Result<(), Error> {

@@ -2,7 +2,7 @@
 
 use crate::Id;
 use crate::id::{self, Hex};
-use broadcast_node::Key;
+use broadcast_node::{Counts, Key};
 use std::collections::{BTreeMap, HashMap};
 use std::fmt;
 use std::sync::atomic::{AtomicU64, Ordering::Relaxed};
@@ -106,6 +106,12 @@ impl Counters {
             Some((_, count)) => *count += 1,
             None => peers.others += 1,
         }
+    }
+
+    /// Sets the gauges.
+    pub fn show_sizes(&self, counts: Counts) {
+        self.waiters.store(counts.awaited as u64, Relaxed);
+        self.cached.store(counts.cached as u64, Relaxed);
     }
 
     /// Keeps a counter for each of these keys. The counts of all other keys are added up.

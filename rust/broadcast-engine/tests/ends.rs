@@ -21,19 +21,22 @@ fn poll<F: Future>(future: F) -> Poll<F::Output> {
     pin!(future).poll(&mut Context::from_waker(Waker::noop()))
 }
 
-/// A sender that makes a new request for each message sent, so the engine never runs out of requests.
+/// A sender that makes a new request for each message sent, so the engine does not run out of requests until so many
+/// are sent.
 struct Flood {
     mailbox: Arc<std::sync::OnceLock<TestMailbox>>,
     sent: Arc<AtomicUsize>,
+    ends_at: Arc<AtomicUsize>,
 }
 
 impl Sender for Flood {
     type PublicKey = Key;
 
     fn send(&mut self, _: Recipients<Key>, _: Bytes, _: bool) {
-        self.sent.fetch_add(1, Relaxed);
-        let more = TestMessage::digested("more");
-        let _ = self.mailbox.get().unwrap().broadcast(Recipients::All, more);
+        if self.sent.fetch_add(1, Relaxed) + 1 < self.ends_at.load(Relaxed) {
+            let more = TestMessage::digested("more");
+            let _ = self.mailbox.get().unwrap().broadcast(Recipients::All, more);
+        }
     }
 }
 
@@ -48,24 +51,12 @@ struct Flooded {
 
 fn flooded() -> Flooded {
     let (engine, mailbox) = Engine::new(fixed()).unwrap();
-    let flood = Flood { mailbox: Arc::default(), sent: Arc::default() };
+    let ends_at = Arc::new(AtomicUsize::new(usize::MAX));
+    let flood = Flood { mailbox: Arc::default(), sent: Arc::default(), ends_at };
     let _ = flood.mailbox.set(mailbox.clone());
     assert_eq!(mailbox.broadcast(Recipients::All, TestMessage::digested("first")), Feedback::Ok);
     let (payloads, network) = mpsc::channel(1_000);
     Flooded { engine, mailbox, flood, payloads, network }
-}
-
-fn fixed() -> Config<Key, usize, Fixed<Key>, Sequential> {
-    Config {
-        public_key: [1; 32],
-        mailbox_size: NonZeroUsize::new(1024).unwrap(),
-        deque_size: 1_000,
-        byte_budget: 1 << 20,
-        priority: false,
-        codec_config: 1 << 16,
-        peer_provider: Fixed::new([[1; 32], [2; 32]]),
-        strategy: Sequential,
-    }
 }
 
 /// A poll handles few events, also if there are always more: so a runtime can end or delay the task.
@@ -81,20 +72,26 @@ fn a_flooded_engine_yields() {
     assert!(sent.load(Relaxed) >= 100 * 32);
 }
 
-/// Payloads are taken although there is always a request.
+/// Payloads wait as long as there are requests, and none is lost.
 #[test]
-fn a_flooded_engine_takes_payloads() {
+fn payloads_wait_for_a_flood_to_end() {
     let Flooded { engine, mailbox, flood, payloads, network } = flooded();
-    let (metrics, sent) = (engine.metrics(), flood.sent.clone());
+    let (metrics, sent, ends_at) = (engine.metrics(), flood.sent.clone(), flood.ends_at.clone());
     for number in 0..10_u8 {
         let payload = TestMessage::digested([number]).encode();
         payloads.try_send(([2; 32], payload)).unwrap();
     }
     let mut run = pin!(engine.run((flood, network), pending()));
-    while count(&metrics, "receive.success") < 10 {
-        assert!(run.as_mut().poll(&mut Context::from_waker(Waker::noop())).is_pending());
-        assert!(sent.load(Relaxed) < 2_000);
+    let mut step = || run.as_mut().poll(&mut Context::from_waker(Waker::noop()));
+    while sent.load(Relaxed) < 1_000 {
+        assert!(step().is_pending());
+        assert_eq!(count(&metrics, "receive.success"), 0);
     }
+    ends_at.store(1_100, Relaxed);
+    for _ in 0..4 {
+        assert!(step().is_pending());
+    }
+    assert_eq!((sent.load(Relaxed), count(&metrics, "receive.success")), (1_100, 10));
     drop(mailbox);
 }
 
@@ -208,14 +205,6 @@ fn an_engine_needs_no_runtime() {
     assert_eq!(step(), Poll::Ready(End::Stopped));
 }
 
-struct Nowhere;
-
-impl Sender for Nowhere {
-    type PublicKey = Key;
-
-    fn send(&mut self, _: Recipients<Key>, _: Bytes, _: bool) {}
-}
-
 #[tokio::test(start_paused = true)]
 async fn deliveries_are_the_messages_that_are_cached_anew() {
     let nodes = Nodes::start(2, 0.0).await;
@@ -283,10 +272,9 @@ fn keys_and_digests_have_any_length() {
         let _ = mailbox.broadcast(Recipients::All, text.clone());
     }
     assert!(run.as_mut().poll(&mut Context::from_waker(Waker::noop())).is_pending());
-    let mut listed = pin!(mailbox.list(own));
-    let mut cx = Context::from_waker(Waker::noop());
-    assert!(listed.as_mut().poll(&mut cx).is_pending() && run.poll(&mut cx).is_pending());
-    let Poll::Ready(Ok(listed)) = listed.poll(&mut cx) else { panic!("no list") };
+    let listed = mailbox.list(own);
+    assert!(run.poll(&mut Context::from_waker(Waker::noop())).is_pending());
+    let Poll::Ready(Ok(listed)) = poll(listed) else { panic!("no list") };
     let digests: Vec<_> = listed.iter().rev().map(Digested::digest).collect();
     assert_eq!(digests, texts.iter().map(Message::digest).collect::<Vec<_>>());
 }

@@ -3,8 +3,8 @@
 #![allow(dead_code, reason = "each test file uses some of it")]
 
 use broadcast_engine::{
-    ByStatus, Config, Digested, Engine, Handle, Mailbox, Message, Metrics, Provider, Receiver,
-    Recipients, Sender, Sequential,
+    ByStatus, Config, Digested, Engine, Fixed, Handle, Mailbox, Message, Metrics, Provider,
+    Receiver, Recipients, Sender, Sequential,
 };
 use bytes::{Buf, Bytes};
 use rand::{Rng, SeedableRng, rngs::StdRng};
@@ -229,6 +229,29 @@ pub fn config_with<T>(public_key: Key, tracker: &Tracker, strategy: T) -> TestCo
         peer_provider: tracker.sets(),
         strategy,
     }
+}
+
+/// The configuration of an engine whose peers are itself, `[1; 32]`, and `[2; 32]`.
+pub fn fixed() -> Config<Key, usize, Fixed<Key>, Sequential> {
+    Config {
+        public_key: [1; 32],
+        mailbox_size: NonZeroUsize::new(1024).unwrap(),
+        deque_size: 1_000,
+        byte_budget: 1 << 20,
+        priority: false,
+        codec_config: 1 << 16,
+        peer_provider: Fixed::new([[1; 32], [2; 32]]),
+        strategy: Sequential,
+    }
+}
+
+/// A sender that sends nothing.
+pub struct Nowhere;
+
+impl Sender for Nowhere {
+    type PublicKey = Key;
+
+    fn send(&mut self, _: Recipients<Key>, _: Bytes, _: bool) {}
 }
 
 /// Nodes, each with an engine over one network and one tracker.
