@@ -214,10 +214,8 @@ impl<P: Id, M: Message, D: Provider<PublicKey = P>, T: Strategy> Engine<P, M, D,
                 trace!("mailbox: broadcast");
                 let bytes = message.encode();
                 let own = self.own;
-                let taken = self.take(&own, message, bytes.len());
-                // Peers get it even if there is no memory here.
+                self.take(&own, message, bytes.len())?;
                 sender.send(recipients, bytes, self.priority);
-                taken?;
             }
             Request::Subscribe(number, digest, responder) => {
                 trace!("mailbox: subscribe");

@@ -1,4 +1,4 @@
-//! The cache of an engine is refused an allocation: whoever waits is told, and the engine goes on.
+//! The cache of an engine is refused an allocation: what was refused changes nothing, and the engine goes on.
 
 #![allow(unsafe_code, reason = "an allocator")]
 
@@ -159,11 +159,16 @@ fn a_subscription_without_memory_does_not_wait() {
 }
 
 #[test]
-fn a_broadcast_without_memory_is_sent() {
+fn a_broadcast_without_memory_is_neither_kept_nor_sent() {
     let mut run = Run::new();
+    let mut waits = run.mailbox.subscribe([5; 32]);
+    run.step(None);
     run.broadcast(Some(0));
-    assert_eq!(run.sent.load(Relaxed), 1);
+    assert_eq!((run.sent.load(Relaxed), waits.try_recv()), (0, Ok(None)));
     let get = run.mailbox.get([5; 32]);
     run.step(None);
     assert_eq!(poll(get), Poll::Ready(None));
+    run.broadcast(None);
+    assert_eq!(run.sent.load(Relaxed), 1);
+    assert_eq!(waits.try_recv(), Ok(Some(Digested::new(Text("hello")))));
 }
