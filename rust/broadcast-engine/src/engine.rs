@@ -219,11 +219,11 @@ impl<P: Id, M: Message, D: Provider<PublicKey = P>, T: Strategy> Engine<P, M, D,
             }
             Request::Subscribe(number, digest, responder) => {
                 trace!("mailbox: subscribe");
-                self.subscribe(number, id::digest(&digest), responder);
+                self.subscribe(number, M::name_of(&digest), responder);
             }
             Request::Get(digest, responder) => {
                 trace!("mailbox: get");
-                self.get(&id::digest(&digest), responder);
+                self.get(&M::name_of(&digest), responder);
             }
             Request::List(peer, responder) => {
                 let _ = responder.send(self.list(&peer));

@@ -2,6 +2,7 @@
 
 use crate::Id;
 use crate::id::Hex;
+use broadcast_node::Digest;
 use bytes::Bytes;
 use std::fmt::{self, Debug};
 use std::ops::Deref;
@@ -30,6 +31,46 @@ pub trait Message: Send + Sync + Sized + 'static {
 
     /// Returns the digest.
     fn digest(&self) -> Self::Digest;
+
+    /// Returns the 32 bytes by which the cache knows a digest. No two digests may have the same: whoever awaits one
+    /// would get the message of the other.
+    ///
+    /// By default a `[u8; 32]` or a [`Digest`] stands for itself, and each value of any other type for its SHA-256. A
+    /// type of one's own whose values all have 32 bytes spares the hash:
+    ///
+    /// ```
+    /// # use broadcast_engine::{Digest, Message};
+    /// # #[derive(Clone, PartialEq, Eq, PartialOrd, Ord, Hash)]
+    /// struct BlockId([u8; 32]);
+    /// # impl AsRef<[u8]> for BlockId {
+    /// #     fn as_ref(&self) -> &[u8] {
+    /// #         &self.0
+    /// #     }
+    /// # }
+    /// # struct Block;
+    /// # impl Message for Block {
+    /// #     type Digest = BlockId;
+    /// #     type Config = ();
+    /// #     type Error = ();
+    /// #     fn encode(&self) -> bytes::Bytes {
+    /// #         bytes::Bytes::new()
+    /// #     }
+    /// #     fn decode(_: bytes::Bytes, (): &()) -> Result<Block, ()> {
+    /// #         Ok(Block)
+    /// #     }
+    /// #     fn digest(&self) -> BlockId {
+    /// #         BlockId([7; 32])
+    /// #     }
+    ///
+    /// // in `impl Message for Block`, where `type Digest = BlockId`
+    /// fn name_of(digest: &BlockId) -> Digest {
+    ///     Digest::new(digest.0)
+    /// }
+    /// # }
+    /// ```
+    fn name_of(digest: &Self::Digest) -> Digest {
+        crate::id::digest(digest)
+    }
 }
 
 /// A message and its digest, which was computed once. Clones share the message.
@@ -60,8 +101,8 @@ impl<M: Message> Digested<M> {
     }
 
     /// Returns the digest by which the cache knows the message.
-    pub(crate) fn name(&self) -> broadcast_node::Digest {
-        crate::id::digest(&self.digest)
+    pub(crate) fn name(&self) -> Digest {
+        M::name_of(&self.digest)
     }
 
     /// Returns the message.

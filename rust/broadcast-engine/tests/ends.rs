@@ -3,12 +3,11 @@
 mod support;
 
 use broadcast_engine::{
-    Canceled, Config, Digested, End, Engine, Feedback, Fixed, Mailbox, Message, Provider, Receiver,
-    Recipients, Sender, Sequential,
+    Canceled, Config, End, Engine, Feedback, Fixed, Message, Provider, Recipients, Sender,
+    Sequential,
 };
 use bytes::Bytes;
 use std::future::{Future, pending};
-use std::num::NonZeroUsize;
 use std::panic::{AssertUnwindSafe, catch_unwind};
 use std::pin::pin;
 use std::sync::Arc;
@@ -221,62 +220,6 @@ async fn deliveries_are_the_messages_that_are_cached_anew() {
     }
     assert_eq!((delivered, all.missed()), (messages.clone(), 0));
     assert_eq!((few.next().await, few.missed()), (Some(messages[0].clone()), 2));
-}
-
-/// Keys and digests are whatever has bytes: those of another length than 32 go by their SHA-256.
-#[test]
-fn keys_and_digests_have_any_length() {
-    #[derive(Clone)]
-    struct Text(Bytes);
-    impl Message for Text {
-        type Digest = Bytes;
-        type Config = ();
-        type Error = ();
-        fn encode(&self) -> Bytes {
-            self.0.clone()
-        }
-        fn decode(bytes: Bytes, (): &()) -> Result<Text, ()> {
-            Ok(Text(bytes))
-        }
-        fn digest(&self) -> Bytes {
-            self.0.slice(..self.0.len().min(70))
-        }
-    }
-    struct Silence;
-    impl Sender for Silence {
-        type PublicKey = String;
-        fn send(&mut self, _: Recipients<String>, _: Bytes, _: bool) {}
-    }
-    impl Receiver for Silence {
-        type PublicKey = String;
-        type Error = ();
-        async fn recv(&mut self) -> Result<(String, Bytes), ()> {
-            pending().await
-        }
-    }
-    let own = String::from("a name that is longer than thirty-two bytes");
-    let (engine, mailbox): (_, Mailbox<String, Text>) = Engine::new(Config {
-        public_key: own.clone(),
-        mailbox_size: NonZeroUsize::MIN,
-        deque_size: 10,
-        byte_budget: 1_000,
-        priority: false,
-        codec_config: (),
-        peer_provider: Fixed::new([own.clone()]),
-        strategy: Sequential,
-    })
-    .unwrap();
-    let mut run = pin!(engine.run((Silence, Silence), pending()));
-    let texts: Vec<_> = [0, 1, 31, 32, 33, 64, 70].map(|len| Text(vec![7; len].into())).into();
-    for text in &texts {
-        let _ = mailbox.broadcast(Recipients::All, text.clone());
-    }
-    assert!(run.as_mut().poll(&mut Context::from_waker(Waker::noop())).is_pending());
-    let listed = mailbox.list(own);
-    assert!(run.poll(&mut Context::from_waker(Waker::noop())).is_pending());
-    let Poll::Ready(Ok(listed)) = poll(listed) else { panic!("no list") };
-    let digests: Vec<_> = listed.iter().rev().map(Digested::digest).collect();
-    assert_eq!(digests, texts.iter().map(Message::digest).collect::<Vec<_>>());
 }
 
 /// Neither the mailbox's own code nor a drop of the engine panics after a panic of the message's code.
