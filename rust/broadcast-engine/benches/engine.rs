@@ -1,8 +1,8 @@
-//! Messages a second and latencies through an engine, over the proved cache and over the plain one, in turns:
-//! `cargo bench --bench engine`, or `cargo bench --bench engine -- 100` for messages of so many bytes.
+//! Messages a second and latencies through an engine, the best of some turns: `cargo bench --bench engine`, or
+//! `cargo bench --bench engine -- 100` for messages of so many bytes.
 
 use broadcast_engine::{
-    Cache, Config, Digested, Engine, Fixed, Mailbox, Message, Recipients, Sender, Sequential,
+    Config, Digested, Engine, Fixed, Mailbox, Message, Recipients, Sender, Sequential,
 };
 use bytes::Bytes;
 use sha2::{Digest, Sha256};
@@ -66,8 +66,8 @@ fn config() -> Config<Key, usize, Fixed<Key>, Sequential> {
     }
 }
 
-fn start(cache: Cache<Digested<Blob>>) -> Run {
-    let (engine, mailbox) = Engine::with_cache(config(), cache);
+fn start() -> Run {
+    let (engine, mailbox) = Engine::new(config()).unwrap();
     let (network, receiver) = mpsc::channel(1_024);
     drop(engine.start((Nowhere, receiver)));
     Run { mailbox, network }
@@ -132,8 +132,7 @@ impl Sender for Flood {
 /// abort, in milliseconds.
 async fn flooded() -> (f64, f64) {
     let mailbox = Arc::new(OnceLock::new());
-    let cache = Cache::new([0; 32].into(), DEQUE, BUDGET).unwrap();
-    let (engine, first) = Engine::with_cache(config(), cache);
+    let (engine, first) = Engine::new(config()).unwrap();
     let (network, receiver) = mpsc::channel(1_024);
     let handle = engine.start((Flood(mailbox.clone()), receiver));
     for number in 0..1_000 {
@@ -167,34 +166,26 @@ async fn broadcast(run: &Run, blobs: &[Bytes]) -> f64 {
 async fn main() {
     let (taken, aborted) = flooded().await;
     println!("flooded by requests: a payload after {taken:.1} ms, an abort after {aborted:.1} ms");
-    println!("bytes | cache | received/s | broadcast/s | arrival p50 p99 us | get p50 p99 us");
+    println!("bytes | received/s | broadcast/s | arrival p50 p99 us | get p50 p99 us");
     let wanted: Vec<usize> = std::env::args().filter_map(|it| it.parse().ok()).collect();
     for (len, count) in [(100, 100_000), (1_000, 50_000), (10_000, 10_000)] {
         if !wanted.is_empty() && !wanted.contains(&len) {
             continue;
         }
         let blobs: Vec<Bytes> = (0..count).map(|it| blob(it, len)).collect();
-        let mut best = [[(0.0, 0.0, [(f64::MAX, f64::MAX); 2]); 1]; 2];
+        let (mut most_received, mut most_broadcast) = (0.0_f64, 0.0_f64);
+        let mut least = [(f64::MAX, f64::MAX); 2];
         for _ in 0..ROUNDS {
-            for (which, best) in best.iter_mut().enumerate() {
-                let make = || match which {
-                    0 => start(Cache::new([0; 32].into(), DEQUE, BUDGET).unwrap()),
-                    _ => start(Cache::plain([0; 32].into(), DEQUE, BUDGET)),
-                };
-                let best = &mut best[0];
-                best.0 = received(&make(), &blobs).await.max(best.0);
-                best.1 = broadcast(&make(), &blobs).await.max(best.1);
-                for (best, new) in best.2.iter_mut().zip(latencies(&make(), &blobs).await) {
-                    *best = (best.0.min(new.0), best.1.min(new.1));
-                }
+            most_received = received(&start(), &blobs).await.max(most_received);
+            most_broadcast = broadcast(&start(), &blobs).await.max(most_broadcast);
+            for (least, new) in least.iter_mut().zip(latencies(&start(), &blobs).await) {
+                *least = (least.0.min(new.0), least.1.min(new.1));
             }
         }
-        for (name, [(received, broadcast, [arrival, get])]) in ["proved", "plain"].iter().zip(best)
-        {
-            println!(
-                "{len} | {name} | {received:.0} | {broadcast:.0} | {:.1} {:.1} | {:.2} {:.2}",
-                arrival.0, arrival.1, get.0, get.1
-            );
-        }
+        let [arrival, get] = least;
+        println!(
+            "{len} | {most_received:.0} | {most_broadcast:.0} | {:.1} {:.1} | {:.2} {:.2}",
+            arrival.0, arrival.1, get.0, get.1
+        );
     }
 }

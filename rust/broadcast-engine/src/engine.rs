@@ -20,7 +20,7 @@ use std::future::{Future, poll_fn};
 use std::pin::{Pin, pin};
 use std::sync::Arc;
 use std::task::Poll;
-use tracing::{debug, error, trace, warn};
+use tracing::{debug, error, trace};
 
 /// Why an engine ended.
 #[derive(Clone, Copy, Debug, PartialEq, Eq)]
@@ -67,7 +67,7 @@ impl<P: Id, M: Message, D: Provider<PublicKey = P>, T: Strategy> Engine<P, M, D,
     ///
     /// # Errors
     ///
-    /// Those of [`Cache::new`]: there is no memory, or no library that can be used.
+    /// Those of [`Cache::new`]: there is no memory, or the library cannot be used.
     pub fn new(config: Config<P, M::Config, D, T>) -> Result<(Self, Mailbox<P, M>), Error> {
         let own = id::key(&config.public_key);
         let cache = Cache::new(own, config.deque_size, config.byte_budget)?;
@@ -115,9 +115,6 @@ impl<P: Id, M: Message, D: Provider<PublicKey = P>, T: Strategy> Engine<P, M, D,
     ) -> impl Future<Output = End> + Send {
         async move {
             debug!(cache = ?self.cache, key = %Hex(self.public_key.as_ref()), "starts");
-            if !self.cache.is_verified() {
-                warn!("the cache is the plain one, which is NOT VERIFIED");
-            }
             let end = self.serve(network, pin!(stop)).await;
             let given_up = self.inbox.0.close();
             debug!(?end, given_up, waiting = self.waiting.len(), "ended");

@@ -1,9 +1,9 @@
 //! What a rate allows.
 
-use crate::{Error, backend};
+use crate::{Error, raw};
 
 /// A bucket of tokens, which holds at most `burst` of them and gains `rate` a second. It may be overdrawn: what it gains
-/// then pays the debt first. Nothing is lost by rounding. The verified library decides; there is no plain bucket.
+/// then pays the debt first. Nothing is lost by rounding. The verified library decides.
 ///
 /// Whoever charges only while the level is above 0 is charged, in any span of time, at most `burst`, `rate` for the span,
 /// and the greatest cost. Times are nanoseconds of a clock that does not run backwards.
@@ -36,27 +36,27 @@ impl Bucket {
     ///
     /// # Errors
     ///
-    /// [`Error::NoLibrary`], [`Error::Processor`] and [`Error::Version`].
+    /// [`Error::Processor`] and [`Error::Version`].
     pub fn new(rate: u64, burst: u64, now: u64) -> Result<Bucket, Error> {
-        backend::is_usable()?;
+        raw::is_usable()?;
         Ok(Bucket { rate, burst, at: now, low: 0, high: 0 })
     }
 
     /// Returns the whole tokens that the bucket has: 0 while it is overdrawn.
     #[inline]
     pub fn level(&self, now: u64) -> u64 {
-        backend::level(self, now)
+        raw::broadcast_bucket_level(self, now)
     }
 
     /// Charges `cost` tokens, also if the bucket does not have them. Beyond 2^128 billionths a debt grows no more.
     #[inline]
     pub fn charge(&mut self, now: u64, cost: u64) {
-        backend::charge(self, now, cost);
+        raw::broadcast_bucket_charge(self, now, cost);
     }
 
     /// Returns the first time from `now` on at which the bucket has `cost` tokens, if none are charged meanwhile. Returns
     /// `None` if there is no such time, or it has no number.
     pub fn ready(&self, now: u64, cost: u64) -> Option<u64> {
-        backend::ready(self, now, cost)
+        raw::bucket_ready(self, now, cost)
     }
 }

@@ -1,13 +1,11 @@
 //! The cache.
 
-use crate::backend::{Backend, Stored};
+use crate::raw::{self, Store, Stored};
 use crate::slots::{Slot, Slots};
 use crate::taken::{Evicted, Held, Subscribed, Taken};
 use crate::tickets::Tickets;
 use crate::{Counters, Counts, Digest, Error, Key, Refused, Ticket};
-use std::cell::Cell;
 use std::fmt;
-use std::marker::PhantomData;
 
 /// A node's cache of messages, and the tickets that wait for one.
 ///
@@ -37,13 +35,11 @@ use std::marker::PhantomData;
 /// # }
 /// ```
 pub struct Cache<M> {
-    backend: Backend,
+    store: Store,
     own: Key,
     primary: Vec<Key>,
     slots: Slots<M>,
     tickets: Tickets,
-    /// A cache is not `Sync`, whatever the backend is.
-    unshared: PhantomData<Cell<()>>,
 }
 
 impl<M> Cache<M> {
@@ -52,34 +48,15 @@ impl<M> Cache<M> {
     ///
     /// # Errors
     ///
-    /// [`Error::Memory`]. [`Error::NoLibrary`], [`Error::Processor`] and [`Error::Version`] if there is no library that
-    /// this crate can use.
+    /// [`Error::Memory`]. [`Error::Processor`] and [`Error::Version`] if the library cannot be used.
     pub fn new(own: Key, deque_size: usize, byte_budget: u64) -> Result<Cache<M>, Error> {
-        Backend::new(&own, deque_size, byte_budget).map(|it| Cache::over(it, own))
-    }
-
-    /// Creates an empty cache as `new` does, over the plain Rust cache: nothing of it is verified. Tests and benchmarks
-    /// compare both.
-    #[cfg(feature = "plain")]
-    pub const fn plain(own: Key, deque_size: usize, byte_budget: u64) -> Cache<M> {
-        Cache::over(Backend::plain(deque_size, byte_budget), own)
-    }
-
-    const fn over(backend: Backend, own: Key) -> Cache<M> {
-        Cache {
-            backend,
+        Ok(Cache {
+            store: Store::new(&own, deque_size, byte_budget)?,
             own,
             primary: Vec::new(),
             slots: Slots::new(),
             tickets: Tickets::new(),
-            unshared: PhantomData,
-        }
-    }
-
-    /// Returns whether the verified library decides what is listed, cached and served, and not the plain cache of the feature
-    /// `plain`.
-    pub const fn is_verified(&self) -> bool {
-        self.backend.is_verified()
+        })
     }
 
     /// Returns the own key.
@@ -112,9 +89,9 @@ impl<M> Cache<M> {
         primary.extend_from_slice(keys);
         primary.sort_unstable();
         primary.dedup();
-        self.backend.peers(&primary)?;
+        self.store.peers(&primary)?;
         self.primary = primary;
-        let left = self.slots.release_all(|room| self.backend.left(room))?;
+        let left = self.slots.release_all(|room| self.store.left(room))?;
         Ok(self.slots.evicted(left))
     }
 
@@ -125,7 +102,7 @@ impl<M> Cache<M> {
 
     /// Returns whether the key is primary.
     pub fn is_primary(&self, key: &Key) -> bool {
-        self.backend.is_primary(key)
+        self.store.is_primary(key)
     }
 
     /// Takes a message under the key `peer` and the digest, at this charge. The cache compares neither with the message.
@@ -156,7 +133,7 @@ impl<M> Cache<M> {
         message: M,
     ) -> Result<Taken<'_, M>, Refused<M>> {
         let number = self.slots.vacant();
-        let stored = number.and_then(|it| self.backend.take(peer, digest, charge, it));
+        let stored = number.and_then(|it| self.store.take(peer, digest, charge, it));
         self.keep(digest, charge, message, stored)
     }
 
@@ -170,11 +147,11 @@ impl<M> Cache<M> {
         counters: &mut Counters,
     ) -> Result<Taken<'_, M>, Refused<M>> {
         let number = self.slots.vacant();
-        let stored = number.and_then(|it| self.backend.receive(peer, digest, charge, it, counters));
+        let stored = number.and_then(|it| self.store.receive(peer, digest, charge, it, counters));
         self.keep(digest, charge, message, stored)
     }
 
-    /// Keeps the message if the backend does. Drops no message: a drop that panics would lose the replies.
+    /// Keeps the message if the store does. Drops no message: a drop that panics would lose the replies.
     #[inline(always)] // Else a take costs two percent more.
     fn keep(
         &mut self,
@@ -183,10 +160,7 @@ impl<M> Cache<M> {
         message: M,
         stored: Result<Stored, Error>,
     ) -> Result<Taken<'_, M>, Refused<M>> {
-        let reported = match stored {
-            Ok(it) => self.report(&it).map(|left| (it.outcome, it.is_kept, left)),
-            Err(error) => Err(error),
-        };
+        let reported = stored.and_then(|it| Ok((it.outcome()?, it.kept, self.report(&it)?)));
         let (outcome, is_kept, left) = match reported {
             Ok(it) => it,
             Err(error) => return Err(Refused { error, message }),
@@ -201,13 +175,13 @@ impl<M> Cache<M> {
         Ok(Taken { outcome, served: self.tickets.served(), message, evicted })
     }
 
-    /// Moves the served tickets and the numbers of the messages that left out of the backend. Returns how many left.
+    /// Moves the served tickets and the numbers of the messages that left out of the store. Returns how many left.
     #[inline(always)]
     fn report(&mut self, stored: &Stored) -> Result<usize, Error> {
-        self.tickets.serve(stored.served, |room| self.backend.served(room))?;
+        self.tickets.serve(stored.served, |room| self.store.served(room))?;
         match stored.left {
             0 => Ok(0),
-            most => self.slots.release(most, |room| self.backend.left(room)),
+            most => self.slots.release(most, |room| self.store.left(room)),
         }
     }
 
@@ -233,7 +207,7 @@ impl<M> Cache<M> {
     /// [`Error::Memory`].
     pub fn subscribe(&mut self, digest: &Digest) -> Result<Subscribed<'_, M>, Error> {
         let ticket = self.tickets.draw()?;
-        if self.backend.subscribe(ticket.0, digest)? {
+        if self.store.subscribe(ticket.0, digest)? {
             self.tickets.wait();
             return Ok(Subscribed::Waiting(ticket));
         }
@@ -253,12 +227,12 @@ impl<M> Cache<M> {
 
     /// Returns the cached message of the digest.
     pub fn get(&self, digest: &Digest) -> Option<&M> {
-        Some(&self.slots.get(self.backend.get(digest)?)?.message)
+        Some(&self.slots.get(self.store.get(digest)?)?.message)
     }
 
     /// Returns whether a message of the digest is cached.
     pub fn contains(&self, digest: &Digest) -> bool {
-        self.backend.get(digest).is_some()
+        self.store.get(digest).is_some()
     }
 
     /// Returns the digests on the list of `peer`, newest first.
@@ -279,12 +253,12 @@ impl<M> Cache<M> {
     /// [`Error::Memory`].
     pub fn list_into(&self, peer: &Key, list: &mut Vec<Digest>) -> Result<(), Error> {
         list.resize(list.capacity(), Digest::default());
-        let (mut len, had_room) = self.backend.list(peer, list)?;
+        let (mut len, had_room) = self.store.list(peer, list)?;
         if !had_room {
             list.clear();
             list.try_reserve_exact(len)?;
             list.resize(len, Digest::default());
-            (len, _) = self.backend.list(peer, list)?;
+            (len, _) = self.store.list(peer, list)?;
         }
         list.truncate(len);
         Ok(())
@@ -305,7 +279,7 @@ impl<M> Cache<M> {
     /// # }
     /// ```
     pub fn cleanup(&mut self, tickets: &[Ticket]) -> u64 {
-        let removed = self.backend.cleanup(tickets);
+        let removed = self.store.cleanup(tickets);
         self.tickets.gone(removed);
         removed
     }
@@ -329,7 +303,7 @@ impl<M> Cache<M> {
     /// # }
     /// ```
     pub fn cancel(&mut self, digest: &Digest, ticket: Ticket) -> bool {
-        let removed = self.backend.cleanup_of(digest, &[ticket]);
+        let removed = self.store.cleanup_of(digest, &[ticket]);
         self.tickets.gone(removed);
         removed > 0
     }
@@ -351,7 +325,7 @@ impl<M> Cache<M> {
     /// # }
     /// ```
     pub fn len(&self) -> usize {
-        self.backend.count().0
+        self.store.count().cached
     }
 
     /// Returns whether no message is cached. Tickets may wait.
@@ -361,12 +335,12 @@ impl<M> Cache<M> {
 
     /// Returns how many digests are awaited. Each has at least one ticket that waits for it.
     pub fn awaited(&self) -> usize {
-        self.backend.count().1
+        self.store.count().awaited
     }
 
     /// Returns how many messages are cached, how many digests are awaited, and how many tickets wait.
     pub fn counts(&self) -> Counts {
-        let (cached, awaited) = self.backend.count();
+        let raw::Counts { cached, awaited } = self.store.count();
         Counts { cached, awaited, waiting: self.tickets.waiting() }
     }
 
@@ -382,7 +356,7 @@ impl<M> Cache<M> {
 
     /// Returns the sum of what the list of `peer` is charged.
     pub fn bytes_of(&self, peer: &Key) -> u64 {
-        self.backend.bytes(peer)
+        self.store.bytes(peer)
     }
 }
 
@@ -390,7 +364,6 @@ impl<M> fmt::Debug for Cache<M> {
     fn fmt(&self, f: &mut fmt::Formatter<'_>) -> fmt::Result {
         f.debug_struct("Cache")
             .field("own", &self.own)
-            .field("is_verified", &self.is_verified())
             .field("counts", &self.counts())
             .finish_non_exhaustive()
     }

@@ -1,6 +1,6 @@
 //! Which stamps of an author a relay has had.
 
-use crate::{Error, backend};
+use crate::{Error, raw};
 
 /// The stamps after `from`, up to `to`.
 #[repr(C)]
@@ -14,7 +14,7 @@ pub struct Span {
 }
 
 /// Which stamps of an author a relay has had: all up to a floor, and those of some spans behind it, which have gaps before
-/// and between them. The verified library decides; there is no plain coverage.
+/// and between them. The verified library decides.
 ///
 /// ```
 /// # fn main() -> Result<(), broadcast_node::Error> {
@@ -45,9 +45,9 @@ impl Coverage {
     ///
     /// # Errors
     ///
-    /// [`Error::NoLibrary`], [`Error::Processor`] and [`Error::Version`].
+    /// [`Error::Processor`] and [`Error::Version`].
     pub fn new(floor: u64) -> Result<Coverage, Error> {
-        backend::is_usable()?;
+        raw::is_usable()?;
         Ok(Coverage { floor, spans: Vec::new() })
     }
 
@@ -58,8 +58,8 @@ impl Coverage {
     ///
     /// As [`Coverage::new`].
     pub fn reported(floor: u64, spans: Vec<Span>) -> Result<Option<Coverage>, Error> {
-        backend::is_usable()?;
-        let is_one = backend::has(floor, &spans, 0)?.is_some();
+        raw::is_usable()?;
+        let is_one = raw::coverage_has(floor, &spans, 0)?.is_some();
         Ok(is_one.then_some(Coverage { floor, spans }))
     }
 
@@ -75,17 +75,17 @@ impl Coverage {
 
     /// Returns whether the stamp was had.
     pub fn has(&self, stamp: u64) -> bool {
-        backend::has(self.floor, &self.spans, stamp) == Ok(Some(true))
+        raw::coverage_has(self.floor, &self.spans, stamp) == Ok(Some(true))
     }
 
     /// Returns the end of the stamps that were had one after another from `at` on: `at` if the next one was not had.
     pub fn run_end(&self, at: u64) -> u64 {
-        backend::run_end(self, at).unwrap_or(at)
+        raw::coverage_end(self, at).unwrap_or(at)
     }
 
     /// Returns the least stamp after `above` and up to `upto` that the other coverage has and this one lacks.
     pub fn first_missing(&self, other: &Coverage, above: u64, upto: u64) -> Option<u64> {
-        backend::first_missing(self, other, above, upto).ok().flatten()
+        raw::coverage_missing(self, other, above, upto).ok().flatten()
     }
 
     /// Covers the stamps after `prev` and up to `stamp` too; none if `stamp` is less than `prev`. If there are more than
@@ -97,7 +97,7 @@ impl Coverage {
     /// [`Error::Memory`].
     pub fn cover(&mut self, prev: u64, stamp: u64) -> Result<Span, Error> {
         let span = Span { from: prev, to: stamp };
-        let gap = backend::cover(&mut self.floor, &mut self.spans, span)?;
+        let gap = raw::coverage_cover(&mut self.floor, &mut self.spans, span)?;
         Ok(gap.unwrap_or_default())
     }
 }

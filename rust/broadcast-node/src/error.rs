@@ -10,8 +10,6 @@ pub enum Error {
     Memory,
     /// A message of this length is longer than the node allows.
     TooLong(usize),
-    /// The program was built without the verified library, and without the feature `plain`.
-    NoLibrary,
     /// The processor lacks instructions of x86-64-v2 that the verified library uses.
     Processor,
     /// The linked library has this version, and not the one that this crate was written for.
@@ -25,10 +23,6 @@ impl fmt::Display for Error {
         match self {
             Error::Memory => f.write_str("out of memory"),
             Error::TooLong(len) => write!(f, "a message of {len} bytes is too long"),
-            Error::NoLibrary => f.write_str(
-                "this program has no libbroadcast_c: build it for x86_64-unknown-linux-gnu, set \
-                 BROADCAST_C_LIB to the library's folder, or enable the feature `plain`",
-            ),
             Error::Processor => f.write_str("libbroadcast_c needs a processor of x86-64-v2"),
             Error::Version(found) => {
                 write!(f, "libbroadcast_c has version {found}, which is not this crate's")

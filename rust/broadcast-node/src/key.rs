@@ -83,10 +83,9 @@ impl Digest {
     ///
     /// # Errors
     ///
-    /// [`Error::NoLibrary`](crate::Error), [`Error::Processor`](crate::Error) and [`Error::Version`](crate::Error), as
-    /// [`Cache::new`](crate::Cache::new).
+    /// [`Error::Processor`](crate::Error) and [`Error::Version`](crate::Error), as [`Cache::new`](crate::Cache::new).
     pub fn verified_sha256(bytes: &[u8]) -> Result<Digest, crate::Error> {
-        crate::backend::sha256(bytes)
+        crate::raw::sha256(bytes)
     }
 
     /// Returns the bytes.

@@ -46,15 +46,13 @@
 //!
 //! # The library
 //!
-//! `libbroadcast_c.a` is for `x86_64-unknown-linux-gnu`. The crate has it, and `BROADCAST_C_LIB` names the folder of another
-//! one. Where there is none, [`Cache::new`] returns [`Error::NoLibrary`]; with the feature `plain` it creates a plain Rust
-//! cache, which is not verified.
+//! A program links `libbroadcast_c.a`, which this crate has for some targets. `BROADCAST_C_LIB` names the folder of another
+//! one. Where there is none, the build fails; a documentation is built without it where `DOCS_RS` is set.
 
 #![deny(missing_docs)]
 #![deny(missing_debug_implementations)]
 #![deny(unsafe_code)]
 
-mod backend;
 mod bucket;
 mod cache;
 mod coverage;
@@ -64,7 +62,6 @@ mod error;
 mod key;
 mod node;
 mod outbox;
-#[cfg(broadcast_c)]
 #[allow(unsafe_code)]
 mod raw;
 mod slots;

@@ -10,12 +10,11 @@ pub use limits::Limits;
 pub use results::{Broadcast, Message, Received, Recipients};
 pub use wire::Invalid;
 
-use crate::backend::Counted;
 use crate::{
     Cache, Counts, Digest, Error, Evicted, Key, Outcome, Refused, Snapshot, Subscribed, Taken,
     Ticket,
 };
-use books::Books;
+use books::{Books, Counted};
 use std::fmt;
 
 /// A node without input and output: a cache that encodes, decodes and digests messages.

@@ -1,6 +1,6 @@
 //! Which message of an author's list a peer is sent next, and what the peer lacks. The verified library decides.
 
-use crate::{Coverage, backend};
+use crate::{Coverage, raw};
 
 /// A message on a relay's list of an author.
 #[repr(C)]
@@ -41,12 +41,12 @@ pub fn next(
     room: u64,
 ) -> Option<usize> {
     // There is a coverage only where the library can be used, so no call fails.
-    backend::next(list, reported, is_held, in_flight, room).ok().flatten()
+    raw::outbox_next(list, reported, is_held, in_flight, room).ok().flatten()
 }
 
 /// Returns the bytes of the messages on the list that a peer with this coverage lacks. The list is in order of stamps. `sums`
 /// has a number in front of each message and one behind the last: each is the one before it and the bytes of the message
 /// between them. Otherwise the result is any number.
 pub fn lag(list: &[Listed], sums: &[u64], reported: &Coverage) -> u64 {
-    backend::lag(list, sums, reported).unwrap_or(u64::MAX)
+    raw::outbox_lag(list, sums, reported).unwrap_or(u64::MAX)
 }

@@ -1,17 +1,18 @@
-//! The functions of the static library as `ffi/broadcast_c.h` declares them, the owner of a store, and
-//! the functions by which the library asks for memory. All unsafe code of this crate is here.
+//! The functions of the static library as `ffi/broadcast_c.h` declares them, each as a safe call, and the functions
+//! by which the library asks for memory. All unsafe code of this crate is here.
 
 mod coverage;
 mod heap;
 mod outbox;
 mod store;
 
-pub use coverage::{coverage_end, coverage_missing};
+pub use coverage::{coverage_cover, coverage_end, coverage_has, coverage_missing};
 pub use outbox::{outbox_lag, outbox_next};
-pub use store::OwnedStore;
+pub use store::Store;
 
-use crate::{Bucket, Counters, Digest, Key, Listed, Span, Ticket};
+use crate::{Bucket, Counters, Digest, Error, Invalid, Key, Listed, Outcome, Span, Ticket};
 use std::ffi::c_void;
+use std::ops::Range;
 use std::ptr::null_mut;
 
 /// The version of the library's functions that this crate was written for.
@@ -43,6 +44,7 @@ impl StoreHandle {
     const EMPTY: StoreHandle = StoreHandle { at: null_mut(), full: false };
 }
 
+/// What became of a message.
 #[repr(C)]
 #[derive(Default)]
 pub struct Stored {
@@ -194,49 +196,96 @@ unsafe extern "C" {
     fn broadcast_store_count(store: &mut StoreHandle, out: &mut Counts) -> u32;
 }
 
+/// Checks the processor, then the version: the library's functions are for x86-64-v2.
+pub fn is_usable() -> Result<(), Error> {
+    #[cfg(target_arch = "x86_64")]
+    if !(is_x86_feature_detected!("sse4.2") && is_x86_feature_detected!("popcnt")) {
+        return Err(Error::Processor);
+    }
+    match broadcast_c_version() {
+        VERSION => Ok(()),
+        other => Err(Error::Version(other)),
+    }
+}
+
+/// Returns the error of a status that is not one of those that the call expects.
+const fn error(status: u32) -> Error {
+    match status {
+        MEMORY => Error::Memory,
+        other => Error::Status(other),
+    }
+}
+
+const fn done(status: u32) -> Result<(), Error> {
+    match status {
+        OK => Ok(()),
+        other => Err(error(other)),
+    }
+}
+
+/// Returns what a call set if it found it.
+const fn found<T: Copy>(status: u32, set: T) -> Result<Option<T>, Error> {
+    match status {
+        OK => Ok(Some(set)),
+        NONE => Ok(None),
+        other => Err(error(other)),
+    }
+}
+
+impl Stored {
+    /// Returns the outcome. An error says that the library is not the verified one.
+    #[inline]
+    pub const fn outcome(&self) -> Result<Outcome, Error> {
+        match self.outcome {
+            INSERTED => Ok(Outcome::Inserted),
+            DUPLICATE => Ok(Outcome::Duplicate),
+            INELIGIBLE => Ok(Outcome::Ineligible),
+            OVERSIZE => Ok(Outcome::Oversize),
+            other => Err(Error::Status(other)),
+        }
+    }
+}
+
+/// Returns the code of an outcome.
+pub const fn code(outcome: Outcome) -> u32 {
+    match outcome {
+        Outcome::Inserted => INSERTED,
+        Outcome::Duplicate => DUPLICATE,
+        Outcome::Ineligible => INELIGIBLE,
+        Outcome::Oversize => OVERSIZE,
+    }
+}
+
 /// Computes the SHA-256 of the bytes.
-pub fn sha256(bytes: &[u8]) -> Digest {
+pub fn sha256(bytes: &[u8]) -> Result<Digest, Error> {
+    is_usable()?;
     let mut out = Digest::default();
     // SAFETY: the pointer and the length are those of a slice that is borrowed for the call.
     unsafe { broadcast_sha256(bytes.as_ptr(), bytes.len(), &mut out) };
-    out
+    Ok(out)
 }
 
-/// Reads a packet whose message has at most `max_len` bytes. Returns the status, and where the message is.
-pub fn packet_read(bytes: &[u8], max_len: usize) -> (u32, Place) {
+/// Returns where the message of a packet is, if it has at most `max_len` bytes.
+pub fn packet_read(bytes: &[u8], max_len: usize) -> Result<Range<usize>, Invalid> {
     let mut out = Place::default();
     // SAFETY: the pointer and the length are those of a slice that is borrowed for the call.
     let status = unsafe { broadcast_packet_read(bytes.as_ptr(), bytes.len(), max_len, &mut out) };
-    (status, out)
+    match status {
+        OK => Ok(out.offset..out.offset + out.length),
+        INVALID_LENGTH => Err(Invalid::InvalidLength(out.length)),
+        EXTRA_DATA => Err(Invalid::ExtraData(out.length)),
+        _ => Err(Invalid::EndOfBuffer),
+    }
 }
 
-/// Reports whether a coverage has the stamp.
-pub fn coverage_has(floor: u64, spans: &[Span], stamp: u64) -> u32 {
-    // SAFETY: the pointer and the length are those of a slice that is borrowed for the call.
-    unsafe { broadcast_coverage_has(floor, spans.as_ptr(), spans.len(), stamp) }
+/// Returns what stands in front of a message of `len` bytes.
+pub fn packet_head(len: usize) -> Option<[u8; 4]> {
+    let mut out = [0; 4];
+    (broadcast_packet_head(len, &mut out) == OK).then_some(out)
 }
 
-/// What `coverage_cover` sets beside the floor: how many spans there are, and the gap that was closed.
-#[derive(Default)]
-pub struct Covered {
-    pub len: usize,
-    pub gap: Span,
-}
-
-/// Covers the stamps after `span.from` and up to `span.to` too. Fills `out` with the spans that there are then.
-pub fn coverage_cover(
-    floor: &mut u64,
-    spans: &[Span],
-    span: Span,
-    out: &mut [Span],
-) -> (u32, Covered) {
-    let (at, out, room) = (spans.as_ptr(), out.as_mut_ptr(), out.len());
-    let (len, Span { from, to }) = (spans.len(), span);
-    let mut set = Covered::default();
-    let (needed, gap) = (&mut set.len, &mut set.gap);
-    // SAFETY: the pointers and the lengths are those of two slices that are borrowed for the call. The other pointers lead
-    // to a number of the caller, and into `set`: nothing overlaps.
-    let status =
-        unsafe { broadcast_coverage_cover(floor, at, len, from, to, out, room, needed, gap) };
-    (status, set)
+/// Returns the first time from `now` on at which the bucket has `cost` tokens.
+pub fn bucket_ready(bucket: &Bucket, now: u64, cost: u64) -> Option<u64> {
+    let mut at = 0;
+    (broadcast_bucket_ready(bucket, now, cost, &mut at) == OK).then_some(at)
 }

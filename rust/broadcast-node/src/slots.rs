@@ -1,4 +1,4 @@
-//! The messages of a cache, each at the place that is its number. The backend knows a message by this number, and reports
+//! The messages of a cache, each at the place that is its number. The store knows a message by this number, and reports
 //! which ones left.
 
 use crate::taken::Evicted;

@@ -1,5 +1,4 @@
 //! Buckets beside a sum in whole numbers.
-#![cfg(broadcast_c)]
 
 mod common;
 

@@ -1,7 +1,5 @@
 //! A cache beside the model: lists of generated calls, and what generated calls do not reach.
 
-#![cfg(any(broadcast_c, feature = "plain"))]
-
 mod common;
 
 use broadcast_node::{Cache, Digest, Error, Evicted, Held, Key, Outcome, Subscribed, Ticket};

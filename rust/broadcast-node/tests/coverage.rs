@@ -1,5 +1,4 @@
 //! Coverages beside a set of stamps.
-#![cfg(broadcast_c)]
 
 mod common;
 

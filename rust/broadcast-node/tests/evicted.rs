@@ -1,7 +1,5 @@
 //! Messages that leave the cache: callers get them, and none stays in memory.
 
-#![cfg(any(broadcast_c, feature = "plain"))]
-
 use broadcast_node::{Cache, Digest, Error, Held, Key};
 use std::cell::Cell;
 use std::panic::{AssertUnwindSafe, catch_unwind};

@@ -1,6 +1,6 @@
 //! Keys and digests as texts and as bytes.
 
-use broadcast_node::{Digest, Error, Key, ParseError};
+use broadcast_node::{Digest, Key, ParseError};
 
 fn keys() -> impl Iterator<Item = (Vec<u8>, Key)> {
     (0..=Key::MAX_LEN).map(|len| {
@@ -77,12 +77,7 @@ fn both_functions_compute_the_same_sha256() {
     let bytes: Vec<u8> = (0..1_000_003_u32).map(|n| (n ^ n >> 8) as u8).collect();
     for len in (0..=300).chain([4_095, 65_536, 1_000_003]) {
         let verified = Digest::verified_sha256(&bytes[..len]);
-        let expected = if cfg!(broadcast_c) {
-            Ok(Digest::sha256(&bytes[..len]))
-        } else {
-            Err(Error::NoLibrary)
-        };
-        assert_eq!(verified, expected, "{len} bytes");
+        assert_eq!(verified, Ok(Digest::sha256(&bytes[..len])), "{len} bytes");
     }
 }
 

@@ -1,8 +1,6 @@
 //! Each allocation is refused in turn, those of the library too: nothing aborts, and a call that fails has
 //! changed nothing.
 
-#![cfg(broadcast_c)]
-
 use broadcast_node::{Cache, Digest, Error, Key, Limits, Node, Received, Recipients, Subscribed};
 use std::alloc::{GlobalAlloc, Layout, System};
 use std::cell::Cell;

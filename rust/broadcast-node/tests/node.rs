@@ -1,7 +1,5 @@
 //! A node beside the model: lists of generated events, and two nodes that exchange packets.
 
-#![cfg(any(broadcast_c, feature = "plain"))]
-
 mod common;
 
 use broadcast_node::{

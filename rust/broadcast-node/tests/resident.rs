@@ -17,9 +17,6 @@ fn digest(n: usize) -> Digest {
 }
 
 fn main() -> Result<(), Error> {
-    if cfg!(not(any(broadcast_c, feature = "plain"))) {
-        return Ok(());
-    }
     let before = resident();
     a_refused_message_costs_nothing(before)?;
     strangers_cost_nothing(before)?;

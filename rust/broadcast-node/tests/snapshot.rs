@@ -1,7 +1,5 @@
 //! Lists that are stored and restored.
 
-#![cfg(any(broadcast_c, feature = "plain"))]
-
 mod common;
 
 use broadcast_node::{Cache, Digest, Error, Limits, Node, Received, Snapshot};

@@ -1,6 +1,6 @@
 //! What each peer's payloads were.
 
-use crate::{Error, Key};
+use crate::{Error, Key, Outcome, raw};
 use std::collections::HashMap;
 
 /// How many payloads were what. Each number stops at `u64::MAX`. The library counts.
@@ -19,6 +19,26 @@ pub struct Counters {
     pub oversize: u64,
     /// Not decoded.
     pub invalid: u64,
+}
+
+/// What a payload is counted as.
+pub enum Counted {
+    Outcome(Outcome),
+    Invalid,
+}
+
+impl Counters {
+    pub(super) fn count(&mut self, what: Counted) {
+        let code = match what {
+            Counted::Outcome(outcome) => raw::code(outcome),
+            Counted::Invalid => raw::INVALID,
+        };
+        raw::broadcast_counters_count(self, code);
+    }
+
+    fn add(&mut self, more: &Counters) {
+        raw::broadcast_counters_add(self, more);
+    }
 }
 
 /// The counters of the primary keys, and those of all others together. So they take no more room than the
@@ -62,8 +82,6 @@ impl Books {
 #[cfg(test)]
 mod tests {
     use super::*;
-    use crate::Outcome;
-    use crate::backend::Counted;
 
     #[test]
     fn numbers_stop_at_the_greatest() -> Result<(), Error> {

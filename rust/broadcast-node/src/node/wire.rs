@@ -1,18 +1,7 @@
 //! The encoding of a message: its length in four bytes, highest first, and then its bytes.
 
-#[cfg(any(not(broadcast_c), test))]
-mod plain;
-#[cfg(broadcast_c)]
-mod verified;
-
-use crate::Error;
-#[cfg(not(broadcast_c))]
-use plain::{head, place};
+use crate::{Error, raw};
 use std::fmt;
-#[cfg(broadcast_c)]
-use verified::{head, place};
-
-const HEAD: usize = 4;
 
 /// Why a payload does not decode.
 #[derive(Clone, Copy, Debug, PartialEq, Eq, Hash)]
@@ -41,20 +30,20 @@ impl std::error::Error for Invalid {}
 
 /// Returns the message of a payload, if it has at most `max_len` bytes.
 pub fn decode(payload: &[u8], max_len: usize) -> Result<&[u8], Invalid> {
-    Ok(&payload[place(payload, max_len)?])
+    Ok(&payload[raw::packet_read(payload, max_len)?])
 }
 
 /// Returns the message of a payload that was decoded or encoded before.
 pub fn message_of(payload: &[u8]) -> &[u8] {
-    payload.get(HEAD..).unwrap_or_default()
+    payload.get(4..).unwrap_or_default()
 }
 
 /// Returns the payload of a message of at most `max_len` bytes.
 pub fn encode(message: &[u8], max_len: usize) -> Result<Vec<u8>, Error> {
-    let head = head(message.len()).filter(|_| message.len() <= max_len);
+    let head = raw::packet_head(message.len()).filter(|_| message.len() <= max_len);
     let head = head.ok_or(Error::TooLong(message.len()))?;
     let mut payload = Vec::new();
-    payload.try_reserve_exact(HEAD + message.len())?;
+    payload.try_reserve_exact(head.len() + message.len())?;
     payload.extend_from_slice(&head);
     payload.extend_from_slice(message);
     Ok(payload)
@@ -63,6 +52,17 @@ pub fn encode(message: &[u8], max_len: usize) -> Result<Vec<u8>, Error> {
 #[cfg(test)]
 mod tests {
     use super::*;
+
+    /// The same in plain Rust.
+    fn plain(payload: &[u8], max_len: usize) -> Result<&[u8], Invalid> {
+        let (head, rest) = payload.split_first_chunk().ok_or(Invalid::EndOfBuffer)?;
+        match u32::from_be_bytes(*head) as usize {
+            len if len > max_len => Err(Invalid::InvalidLength(len)),
+            len if len > rest.len() => Err(Invalid::EndOfBuffer),
+            len if len < rest.len() => Err(Invalid::ExtraData(rest.len() - len)),
+            _ => Ok(rest),
+        }
+    }
 
     /// All payloads of up to 8 of these bytes, and some that are long.
     #[test]
@@ -73,20 +73,22 @@ mod tests {
                 let at = |place| BYTES[number / BYTES.len().pow(place) % BYTES.len()];
                 let payload: Vec<u8> = (0..len).map(at).collect();
                 for max_len in [0, 2, 3, usize::MAX] {
-                    assert_eq!(place(&payload, max_len), plain::place(&payload, max_len));
+                    assert_eq!(decode(&payload, max_len), plain(&payload, max_len));
                 }
             }
         }
-        for len in [255, 256, 65_535, 65_536, 1 << 20] {
+        for len in [0, 1, 255, 256, 65_535, 65_536, 1 << 20] {
             let mut payload = encode(&vec![7; len], len).unwrap();
             assert_eq!(decode(&payload, len), Ok(&vec![7; len][..]));
-            assert_eq!(decode(&payload, len - 1), Err(Invalid::InvalidLength(len)));
             assert_eq!(decode(&payload[..len], len), Err(Invalid::EndOfBuffer));
+            if len > 0 {
+                assert_eq!(decode(&payload, len - 1), Err(Invalid::InvalidLength(len)));
+            }
             payload.push(7);
             assert_eq!(decode(&payload, len), Err(Invalid::ExtraData(1)));
         }
-        for len in [0, 258, u32::MAX as usize, u32::MAX as usize + 1, usize::MAX] {
-            assert_eq!(head(len), plain::head(len));
-        }
+        let longest = u32::MAX as usize;
+        assert_eq!(raw::packet_head(longest), Some([255; 4]));
+        assert!([longest + 1, usize::MAX].into_iter().all(|it| raw::packet_head(it).is_none()));
     }
 }

@@ -1,77 +1,104 @@
-//! The owner of a store's handle, with the library's functions as safe calls that return its status.
+//! The owner of a store's handle, with the library's functions as safe calls.
 
-use super::{Counts, OK, StoreHandle, Stored, heap};
-use crate::{Counters, Digest, Key, Ticket};
+use super::{Counts, OK, SHORT, StoreHandle, Stored, WAITS, done, error, heap, is_usable};
+use crate::{Counters, Digest, Error, Key, Ticket};
 use std::cell::UnsafeCell;
 use std::hint::black_box;
 
-/// A full handle, from `new` to the drop.
-pub struct OwnedStore {
-    // Each call, also one that only reads, wants a `&mut` handle, since the library shares none. It is
-    // in a cell so that reads take `&self`: no call calls back, and an owner is not `Sync`, so no two
-    // such `&mut` are alive at once.
+/// A store of the library, which knows each message by its digest, its charge and a number.
+pub struct Store {
+    // A full handle, from `new` to the drop. Each call, also one that only reads, wants a `&mut` handle, since the
+    // library shares none. It is in a cell so that reads take `&self`: no call calls back, and an owner is not `Sync`,
+    // so no two such `&mut` are alive at once.
     handle: UnsafeCell<StoreHandle>,
 }
 
 // SAFETY: the library proves that a handle may move to another thread (`Send` of its handle), and an
 // owner has nothing else.
-unsafe impl Send for OwnedStore {}
+unsafe impl Send for Store {}
 
 // SAFETY of all calls below: the handle is full, nothing else uses it during the call, and each
 // pointer with its length is that of a slice that is borrowed for the call, as the header asks.
-impl OwnedStore {
-    pub fn new(own: &Key, deque_size: usize, byte_budget: u64) -> Result<Self, u32> {
+impl Store {
+    /// Creates a store whose lists have at most `deque_size` digests, charged at most `byte_budget` together.
+    pub fn new(own: &Key, deque_size: usize, byte_budget: u64) -> Result<Store, Error> {
+        is_usable()?;
         black_box(heap::addresses());
         let mut handle = StoreHandle::EMPTY;
         // SAFETY: the handle is empty, as it is before its first call.
-        match unsafe { super::broadcast_store_new(&mut handle, own, deque_size, byte_budget) } {
-            OK => Ok(OwnedStore { handle: UnsafeCell::new(handle) }),
-            status => Err(status),
-        }
+        done(unsafe { super::broadcast_store_new(&mut handle, own, deque_size, byte_budget) })?;
+        Ok(Store { handle: UnsafeCell::new(handle) })
     }
 
-    pub fn peers(&mut self, keys: &[Key]) -> u32 {
+    pub fn peers(&mut self, keys: &[Key]) -> Result<(), Error> {
         let handle = self.handle.get_mut();
         // SAFETY: see above.
-        unsafe { super::broadcast_store_peers(handle, keys.as_ptr(), keys.len()) }
+        done(unsafe { super::broadcast_store_peers(handle, keys.as_ptr(), keys.len()) })
     }
 
+    #[inline]
     pub fn take(
         &mut self,
         peer: &Key,
         digest: &Digest,
         charge: usize,
-        handle: u64,
-        out: &mut Stored,
-    ) -> u32 {
-        let store = self.handle.get_mut();
+        number: u64,
+    ) -> Result<Stored, Error> {
+        let (handle, mut out) = (self.handle.get_mut(), Stored::default());
         // SAFETY: see above.
-        unsafe { super::broadcast_store_take(store, peer, digest, charge, handle, out) }
+        done(unsafe {
+            super::broadcast_store_take(handle, peer, digest, charge, number, &mut out)
+        })?;
+        Ok(out)
     }
 
+    /// Takes a message, and counts its outcome.
+    #[inline]
     pub fn receive(
         &mut self,
         peer: &Key,
         digest: &Digest,
         charge: usize,
-        handle: u64,
+        number: u64,
         counters: &mut Counters,
-        out: &mut Stored,
-    ) -> u32 {
-        let store = self.handle.get_mut();
+    ) -> Result<Stored, Error> {
+        let (handle, mut out) = (self.handle.get_mut(), Stored::default());
         // SAFETY: see above.
-        unsafe {
-            super::broadcast_store_receive(store, peer, digest, charge, handle, counters, out)
+        done(unsafe {
+            super::broadcast_store_receive(handle, peer, digest, charge, number, counters, &mut out)
+        })?;
+        Ok(out)
+    }
+
+    /// Writes the tickets that the last message served. There must be room for all.
+    pub fn served(&self, room: &mut [Ticket]) -> Result<(), Error> {
+        let (at, len) = (room.as_mut_ptr(), room.len());
+        // SAFETY: see above, and the field.
+        done(unsafe { super::broadcast_store_served(&mut *self.handle.get(), at, len, &mut 0) })
+    }
+
+    /// Moves the numbers of messages that left to the front of the room, the newest first. Returns how many. This never
+    /// fails on a full handle, nor do the calls below that return no error.
+    #[inline]
+    pub fn left(&mut self, room: &mut [u64]) -> usize {
+        let (at, len) = (room.as_mut_ptr(), room.len());
+        let mut moved = 0;
+        // SAFETY: see above.
+        unsafe { super::broadcast_store_left(self.handle.get_mut(), at, len, &mut moved) };
+        moved
+    }
+
+    /// Lets a ticket wait. Returns false if the message is cached.
+    pub fn subscribe(&mut self, ticket: u64, digest: &Digest) -> Result<bool, Error> {
+        // SAFETY: see above.
+        match unsafe { super::broadcast_store_subscribe(self.handle.get_mut(), ticket, digest) } {
+            WAITS => Ok(true),
+            OK => Ok(false),
+            status => Err(error(status)),
         }
     }
 
-    pub fn subscribe(&mut self, ticket: u64, digest: &Digest) -> u32 {
-        // SAFETY: see above.
-        unsafe { super::broadcast_store_subscribe(self.handle.get_mut(), ticket, digest) }
-    }
-
-    /// Returns how many were removed. This never fails on a full handle, nor do the calls below that return no
-    /// status.
+    /// Returns how many waiters were removed.
     pub fn cleanup(&mut self, tickets: &[Ticket]) -> u64 {
         let (handle, at, len) = (self.handle.get_mut(), tickets.as_ptr(), tickets.len());
         let mut removed = 0;
@@ -80,7 +107,7 @@ impl OwnedStore {
         removed
     }
 
-    /// Returns how many were removed.
+    /// Returns how many waiters of the digest were removed.
     pub fn cleanup_of(&mut self, digest: &Digest, tickets: &[Ticket]) -> u64 {
         let (handle, at, len) = (self.handle.get_mut(), tickets.as_ptr(), tickets.len());
         let mut removed = 0;
@@ -89,30 +116,14 @@ impl OwnedStore {
         removed
     }
 
-    pub fn served(&self, out: &mut [Ticket], needed: &mut usize) -> u32 {
-        let (at, len) = (out.as_mut_ptr(), out.len());
-        // SAFETY: see above, and the field.
-        unsafe { super::broadcast_store_served(&mut *self.handle.get(), at, len, needed) }
-    }
-
-    /// Moves handles of messages that left to the front of `out`, the newest first. Returns how many.
-    #[inline]
-    pub fn left(&mut self, out: &mut [u64]) -> usize {
-        let (at, len) = (out.as_mut_ptr(), out.len());
-        let mut moved = 0;
-        // SAFETY: see above.
-        unsafe { super::broadcast_store_left(self.handle.get_mut(), at, len, &mut moved) };
-        moved
-    }
-
-    /// Returns the handle of the cached message.
+    /// Returns the number of the cached message.
     #[inline]
     pub fn get(&self, digest: &Digest) -> Option<u64> {
-        let mut handle = 0;
+        let mut number = 0;
         // SAFETY: see above, and the field.
         let status =
-            unsafe { super::broadcast_store_get(&mut *self.handle.get(), digest, &mut handle) };
-        (status == OK).then_some(handle)
+            unsafe { super::broadcast_store_get(&mut *self.handle.get(), digest, &mut number) };
+        (status == OK).then_some(number)
     }
 
     pub fn is_primary(&self, peer: &Key) -> bool {
@@ -122,6 +133,7 @@ impl OwnedStore {
         out
     }
 
+    /// Returns what the list of a peer is charged.
     pub fn bytes(&self, peer: &Key) -> u64 {
         let mut out = 0;
         // SAFETY: see above, and the field.
@@ -129,12 +141,22 @@ impl OwnedStore {
         out
     }
 
-    pub fn list(&self, peer: &Key, out: &mut [Digest], needed: &mut usize) -> u32 {
+    /// Writes the list of a peer. Returns its length, and whether there was room.
+    pub fn list(&self, peer: &Key, out: &mut [Digest]) -> Result<(usize, bool), Error> {
         let (at, len) = (out.as_mut_ptr(), out.len());
+        let mut needed = 0;
         // SAFETY: see above, and the field.
-        unsafe { super::broadcast_store_list(&mut *self.handle.get(), peer, at, len, needed) }
+        let status = unsafe {
+            super::broadcast_store_list(&mut *self.handle.get(), peer, at, len, &mut needed)
+        };
+        match status {
+            OK => Ok((needed, true)),
+            SHORT => Ok((needed, false)),
+            other => Err(error(other)),
+        }
     }
 
+    /// Returns how many messages are cached, and how many digests are awaited.
     pub fn count(&self) -> Counts {
         let mut out = Counts::default();
         // SAFETY: see above, and the field.
@@ -143,7 +165,7 @@ impl OwnedStore {
     }
 }
 
-impl Drop for OwnedStore {
+impl Drop for Store {
     fn drop(&mut self) {
         // SAFETY: see above; the handle is not used after.
         unsafe { super::broadcast_store_free(self.handle.get_mut()) }
