@@ -2,7 +2,7 @@
 # nothing. Those marked with * want the programs built, as `make test` leaves them.
 EVENTS ?= examples/two-peers.events
 
-.PHONY: help try check quick test lib dist border relays soak runs generated faults mutants pictures bench
+.PHONY: help try check quick test lib dist install border relays soak runs generated faults mutants pictures bench
 
 help:
 	@echo "make try        builds replay WITHOUT A PROOF, and runs it on an example: a minute"
@@ -11,6 +11,7 @@ help:
 	@echo "make quick      these, and tests without a proof: minutes"
 	@echo "make lib        proves and builds the static library for C and Rust: half an hour the first time"
 	@echo "make dist       what callers without the toolchain need, in the folder dist"
+	@echo "make install    the kept library for C, with header and pkg-config file, in PREFIX: seconds, needs cc alone"
 	@echo "make mutants    tries all wrong bodies: most of an hour *"
 	@echo "make border, relays, runs, generated, faults    single steps of the gate *"
 	@echo "make soak       twenty minutes of load and attack on relays *"
@@ -31,7 +32,7 @@ quick:
 test:
 	@scripts/gate
 
-# The static library for callers in C and Rust. In C it is linked with `c/liblibc_c.a` of the kit.
+# The static library for callers in C and Rust. In C it is linked with `ffi/heap.c`.
 lib:
 	@echo "lib: proving and building crates/broadcast_c/out/libbroadcast_c.a"
 	cd crates/broadcast_c && rt lib
@@ -39,6 +40,10 @@ lib:
 # What callers without the toolchain need, in one folder of `dist`.
 dist:
 	@scripts/dist
+
+# Needs no `rt`. `scripts/install` names the variables.
+install:
+	@scripts/install
 
 border:
 	@echo "border: building the static library by both compilers, and calling it from C and Rust"

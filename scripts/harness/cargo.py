@@ -4,6 +4,7 @@ import os
 import shutil
 from pathlib import Path
 
+from harness import packages
 from harness.common import TOP, call
 
 DEBIAN = Path("/usr/share/cargo/registry")
@@ -32,21 +33,9 @@ def without_toolchain(**more):
     return {**others, "PATH": path, **more}
 
 
-def packages_lacking():
-    """The packages that are not installed, as dpkg tells; without dpkg, none."""
-    if not shutil.which("dpkg-query"):
-        return []
-    _, said = call(["dpkg-query", "-W", "-f", "${Package} ${db:Status-Status}\n", *PACKAGES])
-    return [it for it in PACKAGES if f"{it} installed" not in said.splitlines()]
-
-
 def lacking():
     """What cargo lacks, in words, or `None`. Packages that are not there are installed, if that is allowed."""
     if not shutil.which("cargo"):
         return "cargo is not found"
-    wanted = packages_lacking()
-    if wanted and os.geteuid() == 0 and shutil.which("apt-get"):
-        for asked in (["update"], ["install", "-y", *wanted]):
-            call(["apt-get", "-q", *asked])
-        wanted = packages_lacking()
-    return f"not installed: {' '.join(wanted)}" if wanted else None
+    left = packages.lacking(PACKAGES)
+    return f"not installed: {' '.join(left)}" if left else None

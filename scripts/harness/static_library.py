@@ -16,11 +16,6 @@ def library_of(backend):
     return folder / f"lib{NAME}.a"
 
 
-def heap():
-    """The three functions by which the library asks for memory, as an archive."""
-    return kit() / "c" / "liblibc_c.a"
-
-
 def build():
     """Builds both libraries. Returns what went wrong, by compiler.
 

@@ -59,16 +59,18 @@ fn digested<M: Message>(message: engine::Digested<Wire<M>>) -> cw::Digested<M> {
 /// A provider of commonware: the primary peers of all tracked sets.
 struct PeerSets<D: cw::Provider> {
     provider: D,
+    /// What the provider replied with. It may be an actor, to which each subscription is a message.
     updates: Option<cw::Updates<D::PublicKey>>,
 }
 
 impl<D: cw::Provider<PublicKey: engine::Id>> engine::Provider for PeerSets<D> {
     type PublicKey = D::PublicKey;
 
+    async fn subscribe(&mut self) {
+        self.updates = Some(self.provider.subscribe().await);
+    }
+
     async fn next(&mut self) -> Option<Vec<D::PublicKey>> {
-        if self.updates.is_none() {
-            self.updates = Some(self.provider.subscribe().await);
-        }
         let update = self.updates.as_mut()?.recv().await?;
         Some(update.all.primary.into_iter().collect())
     }

@@ -127,6 +127,9 @@ impl<P: Id, M: Message, D: Provider<PublicKey = P>, T: Strategy> Engine<P, M, D,
         (mut sender, mut receiver): (impl Sender<PublicKey = P>, impl Receiver<PublicKey = P>),
         mut stop: Pin<&mut (impl Future<Output = ()> + Send)>,
     ) -> End {
+        if unless_stopped(self.peer_provider.subscribe(), stop.as_mut()).await.is_none() {
+            return End::Stopped;
+        }
         let mut turn = 0_u32;
         loop {
             turn = (turn + 1) % BURST;
@@ -263,7 +266,7 @@ impl<P: Id, M: Message, D: Provider<PublicKey = P>, T: Strategy> Engine<P, M, D,
         &mut self,
         peer: &P,
         bytes: Bytes,
-        mut stop: Pin<&mut (impl Future<Output = ()> + Send)>,
+        stop: Pin<&mut (impl Future<Output = ()> + Send)>,
     ) -> Option<Result<(), Error>> {
         let len = bytes.len();
         let message = match M::decode(bytes, &self.codec_config) {
@@ -277,14 +280,7 @@ impl<P: Id, M: Message, D: Provider<PublicKey = P>, T: Strategy> Engine<P, M, D,
         trace!(peer = %Hex(peer.as_ref()), "network");
         let key = id::key(peer);
         self.counters().count_peer(&key);
-        let message = {
-            let mut digested = pin!(self.strategy.digest(message));
-            let or_stopped = poll_fn(|cx| match stop.as_mut().poll(cx) {
-                Poll::Ready(()) => Poll::Ready(None),
-                Poll::Pending => digested.as_mut().poll(cx).map(Some),
-            });
-            or_stopped.await?
-        };
+        let message = unless_stopped(self.strategy.digest(message), stop).await?;
         let taken = self.take(&key, message, len);
         Some(taken.map(|outcome| self.count_received(peer, outcome)))
     }
@@ -324,6 +320,19 @@ fn reply<M: Message>(counters: &Counters, responder: Responder<M>, message: Dige
         Ok(()) => counters.subscribe.success.inc(),
         Err(_) => counters.subscribe.dropped.inc(),
     }
+}
+
+/// Waits for a future. Returns `None` if the engine was stopped before it was ready.
+async fn unless_stopped<T>(
+    future: impl Future<Output = T> + Send,
+    mut stop: Pin<&mut (impl Future<Output = ()> + Send)>,
+) -> Option<T> {
+    let mut future = pin!(future);
+    poll_fn(|cx| match stop.as_mut().poll(cx) {
+        Poll::Ready(()) => Poll::Ready(None),
+        Poll::Pending => future.as_mut().poll(cx).map(Some),
+    })
+    .await
 }
 
 /// Lets other tasks run, on any executor.

@@ -3,7 +3,7 @@
 use crate::Id;
 use bytes::Bytes;
 use std::fmt::Debug;
-use std::future::{Future, pending};
+use std::future::{Future, pending, ready};
 use tokio::sync::mpsc::{self, UnboundedReceiver};
 
 pub use broadcast_node::Recipients;
@@ -12,6 +12,12 @@ pub use broadcast_node::Recipients;
 pub trait Provider: Send + 'static {
     /// The key of a peer.
     type PublicKey: Id;
+
+    /// Subscribes to the peer sets. The engine awaits this once, before its first event; only a stop or the end of the
+    /// engine drops the future. The default is ready at once.
+    fn subscribe(&mut self) -> impl Future<Output = ()> + Send {
+        ready(())
+    }
 
     /// Waits for the next set of primary peers, of all tracked peer sets together. The first one comes at once if it
     /// is known. `None` ends the engine. Dropping the future must not lose a set.

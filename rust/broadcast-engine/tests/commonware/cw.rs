@@ -1,6 +1,7 @@
 //! Stand-ins of commonware's traits, as `commonware-broadcast` and its tests use them.
 
 use bytes::{Buf, Bytes, BytesMut};
+use std::collections::BTreeSet;
 use std::fmt::Debug;
 use std::future::Future;
 use std::hash::Hash;
@@ -132,11 +133,18 @@ pub trait Receiver: Send + 'static {
     ) -> impl Future<Output = Result<(Self::PublicKey, IoBuf), Self::Error>> + Send;
 }
 
+/// The peers of one set, or of several.
+#[derive(Clone, Debug, Default)]
 pub struct Peers<P> {
-    pub primary: Vec<P>,
+    pub primary: BTreeSet<P>,
+    pub secondary: BTreeSet<P>,
 }
 
+/// The newest peer set, and all that are tracked.
+#[derive(Clone, Debug)]
+#[allow(dead_code, reason = "an engine that goes by the newest set alone evicts too early")]
 pub struct Update<P> {
+    pub latest: Peers<P>,
     pub all: Peers<P>,
 }
 
