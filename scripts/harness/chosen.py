@@ -5,26 +5,21 @@ the wrong body, which its text tells by WRONG. With no number nothing may be ref
 is refused.
 """
 
-import contextlib
-import os
-import re
-import shutil
 import subprocess
 import sys
 import time
 from concurrent.futures import ThreadPoolExecutor
 
-from harness.common import TOP, call, lanes
+from harness import unproved
+from harness.common import TOP, lanes
 from harness.faults import call_fault
 from harness.mutants import misplaced
 from harness.programs import fault_of
 from harness.refusing import Refusal, Refusing
 from harness.stored import Row, rows_of
+from harness.unproved import CHOICE
 from inputs import beyond
 
-# The crate that tells which mutant is chosen.
-CHOICE = "wrong_body"
-HARNESS = TOP / "scripts" / "harness"
 # Seconds after which a run is given up.
 LIMIT = 60
 
@@ -35,17 +30,9 @@ def crate_of(by):
     return "examples" if kind == "shown" else words[0], kind == "tests"
 
 
-def copy(top, mutants):
+def copy(top, mutants, crates):
     """Copies what `rt` reads, with all mutants side by side, each of which is chosen by its place in the list."""
-    shutil.copytree(TOP / "crates", top / "crates", ignore=shutil.ignore_patterns("out"))
-    shutil.copy(TOP / "HANDLES", top)
-    for file, source in (("src/lib.rt", "wrong_body.rt.txt"), ("c/wrong_body.c", "wrong_body.c")):
-        path = top / "crates" / CHOICE / file
-        path.parent.mkdir(parents=True)
-        shutil.copy(HARNESS / source, path)
-    changed = "|".join({it.crate for it in mutants})
-    lines = re.sub(rf"^((?:{changed})\b[^:\n]*:)", rf"\1 {CHOICE}", (TOP / "crates.txt").read_text(), flags=re.M)
-    (top / "crates.txt").write_text(f"{lines}{CHOICE}:\n")
+    unproved.copy(top, with_choice={it.crate for it in mutants} | {crate for crate, _ in crates})
     texts = {}
     for it in mutants:
         numbers = [at for at, other in enumerate(mutants, 1) if it.label in (other.label, other.over)]
@@ -54,32 +41,13 @@ def copy(top, mutants):
         if fault:
             sys.exit(fault)
     for file, text in texts.items():
-        (top / file).write_text(text)
-
-
-def build(top, crate, with_tests):
-    """Builds a crate without proof. Returns what is built."""
-    kept = top / f"{crate}.built"
-    variables = {**os.environ, "RT_ALLOW_C": CHOICE, "CFLAGS": f"""-DKEPT='"{kept}"'"""}
-    _, said = call(["rt", "try", *(["--test"] if with_tests else [])], cwd=top / "crates" / crate, env=variables)
-    return kept if kept.exists() else sys.exit(f"{crate} is not built: {said}")
-
-
-def choosing(kept, number):
-    """What is built, by a name that chooses the mutant of the number."""
-    path = kept.with_suffix(f".body{number}")
-    with contextlib.suppress(FileExistsError):
-        os.link(kept, path)
-    return path
+        (top / unproved.place(file)).write_text(text)
 
 
 def refused_by_tests(executable, _crate, *words):
-    listed = subprocess.check_output([executable, "--list"], text=True).splitlines()
-    tests = [line.removesuffix(": test") for line in listed if line.endswith(": test")]
-    meant = [test for test in tests if not words or any(word in test for word in words)]
+    meant = [test for test in unproved.tests_of(executable) if not words or any(word in test for word in words)]
     assert meant, f"no test has one of {words} in its name"
-    ended = (call([executable, test], LIMIT) for test in meant)
-    return any(not is_well or "test result: ok" not in said for is_well, said in ended)
+    return any(unproved.fault_of_test(executable, test) for test in meant)
 
 
 def refused_by_stored(executable, program, *names):
@@ -97,7 +65,7 @@ def refused_by_first_write(executable, program):
     failed = Refusal(write=1)
     with Refusing() as refusing:
         rows = beyond.long_outputs(program)
-        return any(call_fault(row, failed, refusing.run(executable, row, failed), True) for row in rows)
+        return any(call_fault(row, failed, refusing.run(executable, row, failed)) for row in rows)
 
 
 def refused_by_output(executable):
@@ -134,17 +102,17 @@ def tried(known, wanted, room):
     began = time.monotonic()
     labels = {it.label: it for it in known}
     mutants = list(dict.fromkeys(labels[label] for it in wanted for label in (it.over, it.label) if label))
-    copy(room, mutants)
     runs = [(labels.get(it.over), by, False) for it in wanted for by in it.by]
     runs = [*dict.fromkeys(runs), *((it, by, True) for it in wanted for by in it.by)]
     crates = sorted({crate_of(by) for _, by, _ in runs})
+    copy(room, mutants, crates)
     with ThreadPoolExecutor(lanes()) as pool:
-        kept = dict(zip(crates, pool.map(lambda it: build(room, *it), crates)))
+        kept = dict(zip(crates, pool.map(lambda it: unproved.build(room, *it), crates)))
     print(f"{len(mutants)} mutants are built after {time.monotonic() - began:.0f} s", flush=True)
 
     def judged(run):
         mutant, by, is_wrong = run
-        executable = choosing(kept[crate_of(by)], mutants.index(mutant) + 1 if mutant else 0)
+        executable = unproved.chosen(kept[crate_of(by)], mutants.index(mutant) + 1 if mutant else 0)
         label = f"{mutant.label if mutant else 'no mutant'}: {' '.join(by)}"
         return label, is_wrong, is_refused(executable, by)
 

@@ -12,14 +12,11 @@ from harness.stored import Row, ending
 REFUSED = "refused memory"
 # Events that come first, one that grows nothing, and a line that ends a run before its first event.
 FIRST, GROWS_NOTHING, NO_EVENT = ("subscribe 7 61", f"payload 5 {'0' * 16}"), "get 7 61", "nonsense"
-# How a run ends that lacks memory, whose read or write fails, and one of `rates`, which reads nothing.
-MEMORY, READ_FAILED, WRITE_FAILED, RATES_FAILED = map(ending, ("memory", "read", "write", "rates-write"))
-RATES_ENDS = (b"", 0), ending("rates-memory"), ending("rates-thread")
+# How a run ends that lacks memory, or whose read or write fails.
+MEMORY, READ_FAILED, WRITE_FAILED = map(ending, ("memory", "read", "write"))
 # The parts in which the longest stream of a row is moved.
 PARTS = 8
 RELAYED = re.compile(rb"relayed: (?:None|Some\(\[(.*)\]\)), (\d+) wait\n")
-# The most seconds of a run of `rates`, and how often it is tried until it takes no more: others may keep the machine busy.
-SECONDS, TRIES = 2, 4
 # A pipe that nothing reads. It is made before any thread starts a process, which would hold the reader for a moment.
 _READER, CLOSED_PIPE = os.pipe()
 os.close(_READER)
@@ -120,7 +117,7 @@ def try_first_events(run):
         yield event, None if given == wanted else f"{given} growths give the run up, not {wanted}"
 
 
-def call_fault(row, refusal, ran, reads):
+def call_fault(row, refusal, ran):
     """What is wrong with a run of which a read or a write went wrong, or `None`."""
     stdout, stderr, status = row.outcome
     if refusal.failure == "fails" and refusal.read != NEVER:
@@ -128,7 +125,7 @@ def call_fault(row, refusal, ran, reads):
     elif refusal.failure == "fails" and refusal.write != NEVER and status == 0:
         # What a failed write leaves in the buffer is written once more as the program ends.
         stdout = ran.stdout if stdout.startswith(ran.stdout) else b""
-        stderr, status = WRITE_FAILED if reads else RATES_FAILED
+        stderr, status = WRITE_FAILED
     elif refusal.failure == "fails" and refusal.write != NEVER:
         stderr = ran.stderr if stderr.startswith(ran.stderr) else stderr
     if ran.status != status:
@@ -136,25 +133,25 @@ def call_fault(row, refusal, ran, reads):
     return None if ran.outcome == (stdout, stderr, status) else first_difference(stdout + stderr, ran.stdout + ran.stderr)
 
 
-def try_calls(row, run, reads):
+def try_calls(row, run):
     """Yields each read and write that goes wrong, and what is wrong with its run."""
     longest = max(len(row.stdin), len(row.stdout), len(row.stderr))
-    for most in (NEVER, longest // PARTS + 1) if reads else (NEVER,):
+    for most in (NEVER, longest // PARTS + 1):
         whole = Refusal(most=most)
         ample = run(row, whole)
-        is_seen = ample.writes and (not reads or ample.reads or row.status)
-        yield whole, call_fault(row, whole, ample, reads) if is_seen else "its reads and writes are not seen"
+        is_seen = ample.writes and (ample.reads or row.status)
+        yield whole, call_fault(row, whole, ample) if is_seen else "its reads and writes are not seen"
         places = [("read", it) for it in range(1, ample.reads + 1)]
         places += [("write", it) for it in range(1, ample.writes + 1)]
         for (call, number), failure in itertools.product(places, FAILURES):
             refusal = replace(whole, **{call: number, "failure": failure})
-            yield refusal, call_fault(row, refusal, run(row, refusal), reads)
-    yield "standard output is a closed pipe", closed_pipe_fault(row, run, reads)
+            yield refusal, call_fault(row, refusal, run(row, refusal))
+    yield "standard output is a closed pipe", closed_pipe_fault(row, run)
 
 
-def closed_pipe_fault(row, run, reads):
+def closed_pipe_fault(row, run):
     ran = run(row, NOTHING, stdout=CLOSED_PIPE)
-    failed = (WRITE_FAILED if reads else RATES_FAILED) if row.status == 0 else (row.stderr, row.status)
+    failed = WRITE_FAILED if row.status == 0 else (row.stderr, row.status)
     return None if (ran.stderr, ran.status) == failed else f"the status is {ran.status}, and {ran.stderr!r} is told"
 
 
@@ -171,17 +168,3 @@ def try_relay(run):
         yield refusal, fault
     yield "no memory for feedbacks", None if None in seen else "it is not seen"
     yield "no memory for a broadcast", None if seen & {b"", b"Ok"} else "it is not seen"
-
-
-def try_rates(args, run):
-    """Yields each growth that is refused, and what is wrong with its run."""
-    row = Row("", [it.encode() for it in args], b"", b"", b"", 0)
-    for number in range(run(row).growths + 1):
-        refusal = Refusal(first=number, last=number) if number else NOTHING
-        for _ in range(TRIES):
-            ran = run(row, refusal)
-            if ran.seconds <= SECONDS:
-                break
-        is_told = (ran.stderr, ran.status) in RATES_ENDS
-        fault = None if is_told and bool(ran.stdout) == (ran.status != 3) else f"{ran.status}: {ran.stderr!r}"
-        yield refusal, fault if ran.seconds <= SECONDS else f"it took {ran.seconds:.1f} s"

@@ -14,7 +14,7 @@ from harness.mutants import misplaced, read_all
 RUST = TOP / "rust"
 PLACE = RUST / "target" / "mutants"
 # What the crates read of the repository.
-PARTS = ("rust", "crates/broadcast_tests/src")
+PARTS = ("rust", "tests")
 LIMIT = 120
 PASSED = re.compile(r"^test result: ok\. [1-9]", re.M)
 

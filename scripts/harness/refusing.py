@@ -4,7 +4,6 @@ import os
 import struct
 import subprocess
 import tempfile
-import time
 from dataclasses import dataclass
 from pathlib import Path
 
@@ -44,13 +43,12 @@ NOTHING = Refusal()
 
 @dataclass(frozen=True)
 class Ran:
-    """What a run left: its streams and status, how long it took, and its numbers of growths, of refused ones, of blocks
-    that it did not free, of reads and of writes."""
+    """What a run left: its streams and status, and its numbers of growths, of refused ones, of blocks that it did not
+    free, of reads and of writes."""
 
     stdout: bytes
     stderr: bytes
     status: int
-    seconds: float
     growths: int
     refused: int
     left: int
@@ -86,8 +84,6 @@ class Refusing:
             counts.truncate(counted.size)
             given = {"LD_PRELOAD": str(self.library), "COUNTS": str(counts.fileno()), "REFUSED": refusal.words()}
             how = {"stdin": stdin, "stdout": stdout, "stderr": subprocess.PIPE, "timeout": LIMIT}
-            began = time.monotonic()
             ran = subprocess.run([executable, *row.args], env=given, pass_fds=[counts.fileno()], **how)
-            seconds = time.monotonic() - began
             numbers = counted.unpack(counts.read())
-            return Ran(ran.stdout or b"", ran.stderr, ran.returncode, seconds, *numbers)
+            return Ran(ran.stdout or b"", ran.stderr, ran.returncode, *numbers)

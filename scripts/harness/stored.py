@@ -5,6 +5,7 @@ from dataclasses import dataclass, field
 from pathlib import Path
 
 from harness.common import TOP
+from harness.libraries import rows
 
 RUNS = TOP / "runs"
 NAME = re.compile(r"^## (\S+)$", re.M)
@@ -92,7 +93,8 @@ def ending(name, number=""):
 
 
 def programs_with_rows():
-    return sorted(it.name for it in RUNS.iterdir() if it.is_dir())
+    """The programs of crates.txt that have stored runs."""
+    return sorted(it.name for it in RUNS.iterdir() if it.name in rows())
 
 
 def rows_of(program):

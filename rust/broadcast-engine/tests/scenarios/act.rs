@@ -1,4 +1,4 @@
-//! What is done to the nodes of a scenario, and what must come of it, as `crates/broadcast_tests/src/engine/act.rt` tells
+//! What is done to the nodes of a scenario, and what must come of it, as `tests/src/engine/act.rt.txt` tells
 //! of the words of a row.
 
 use broadcast_engine::Feedback;

@@ -1,4 +1,4 @@
-//! The engine in Rattle and this one do the same and count the same: both run the tables of `crates/broadcast_tests`,
+//! The engine in Rattle and this one do the same and count the same: both run the tables of `tests`,
 //! which this test includes as they are.
 
 mod act;
@@ -8,10 +8,10 @@ mod world;
 
 // The tables themselves are laid out as sources in Rattle are.
 #[rustfmt::skip]
-#[path = "../../../../crates/broadcast_tests/src/engine/counter_rows.rt"]
+#[path = "../../../../tests/src/engine/counter_rows.rt.txt"]
 mod counter_rows;
 #[rustfmt::skip]
-#[path = "../../../../crates/broadcast_tests/src/engine/scenario_rows.rt"]
+#[path = "../../../../tests/src/engine/scenario_rows.rt.txt"]
 mod scenario_rows;
 
 use act::act_of;
