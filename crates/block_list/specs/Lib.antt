@@ -1,2 +1,0 @@
-pub mod ListOf
-pub mod ListLaws
