@@ -1,10 +1,10 @@
 -- Joining a span with those that it meets.
-use Rattle.std.proofs.Common.{◌≡◌, ◌≤◌, ◌<◌, ℕ, ◌+◌, min, max, true, false, Bool, List, [], ◌∷◌, ◌++◌, length, length-append, arith, refl, sym, suc, ◌-◌, ◌∙◌, Some, ◌⊎◌, inl, inr}
+use Rattle.std.proofs.Common.{◌≡◌, ◌≤◌, ◌<◌, ℕ, ◌+◌, min, max, true, false, Bool, List, [], ◌∷◌, ◌++◌, drop, length, length-append, arith, refl, sym, suc, ◌-◌, ◌∙◌, Some, ◌⊎◌, inl, inr}
 use Rattle.std.specs.Prelude.{slice_get, nat_le, nat_lt, if◌then◌else◌, ◌&&◌, ◌||◌}
 use Rattle.std.proofs.lemmas.Bool.{ltb-true, ltb-false}
 use Rattle.std.proofs.lemmas.Bool.Decides.{nat_tests}
 use Rattle.gossip.specs.declared.span.Span.{Span}
-use Rattle.gossip.specs.Spans.{is_in, is_had, IsBefore, IsApart, IsRooted, IsCoverage, hull, joined, closed, shortened, with_had, nothing, oldest_gap, given_up, gap_for, top_of}
+use Rattle.gossip.specs.Spans.{is_in, is_had, AreFilled, IsBefore, IsApart, IsRooted, IsCoverage, hull, joined, closed, shortened, with_had, nothing, oldest_gap, given_up, gap_for, top_of}
 
 -- what holds in each of the three cases holds
 pub joined_cases : (P : List Span → Type 0) (x y : Span) (ys : List Span)
@@ -128,16 +128,58 @@ closed_length most [] m h = omega arith
 closed_length most (x ∷ []) m h = omega arith
 closed_length most (x ∷ (y ∷ ys)) m h = omega arith
 
+-- each span after the first has a stamp, if the first begins at zero
+behind_filled : (x : Span) (ys : List Span) → x.from ≡ 0 → AreFilled ys → AreFilled (drop 1 (joined x ys))
+behind_filled x [] r f = tt
+behind_filled x (y ∷ ys) r f = joined_cases (λ zs. AreFilled (drop 1 zs)) x y ys
+    (λ lt. f)
+    (λ lt. absurd (let no : ⊥ = omega (arith, r, lt) in no))
+    (λ le ge. behind_filled (hull x y) ys (omega (arith, r)) f.1)
+
+joined_filled : (x : Span) (ys : List Span) → x.from < x.to → AreFilled ys → AreFilled (joined x ys)
+joined_filled x [] h f = (h, tt)
+joined_filled x (y ∷ ys) h f = joined_cases AreFilled x y ys
+    (λ lt. (h, f))
+    (λ lt. (f.0, joined_filled x ys h f.1))
+    (λ le ge. joined_filled (hull x y) ys (omega (arith, h, f.0)) f.1)
+
+rooted_filled : (x : Span) (ys : List Span) → x.from < x.to → IsRooted ys → AreFilled (drop 1 ys) → AreFilled (drop 1 (joined x ys))
+rooted_filled x [] h r f = absurd r
+rooted_filled x (y ∷ ys) h r f = joined_cases (λ zs. AreFilled (drop 1 zs)) x y ys
+    (λ lt. absurd (let no : ⊥ = omega (arith, r, lt) in no))
+    (λ lt. joined_filled x ys h f)
+    (λ le ge. behind_filled (hull x y) ys (omega (arith, r)) f)
+
+closed_filled : (xs : List Span) → AreFilled (drop 1 xs) → AreFilled (drop 1 (closed xs))
+closed_filled [] f = f
+closed_filled (x ∷ []) f = f
+closed_filled (x ∷ (y ∷ ys)) f = f.1
+
+or_true : (a : Bool) → (a || true) ≡ true
+or_true true = refl
+or_true false = refl
+
+filled_top : (x : Span) (ys : List Span) → x.from < x.to → AreFilled ys → is_had (top_of (x ∷ ys)) (x ∷ ys) ≡ true
+filled_top x [] h f = grind (arith, nat_tests)
+filled_top x (y ∷ ys) h f = rw (filled_top y ys f.0 f.1) (or_true (is_in (top_of (y ∷ ys)) x))
+
+-- the top of a coverage is had, unless it is 0
+pub top_had : (most : ℕ) (xs : List Span) → IsCoverage most xs → 0 < top_of xs → is_had (top_of xs) xs ≡ true
+top_had most [] cov h = absurd cov.rooted
+top_had most (x ∷ []) cov h = filled_top x [] (omega (arith, cov.rooted, h)) tt
+top_had most (x ∷ (y ∷ ys)) cov h = rw (filled_top y ys cov.filled.0 cov.filled.1) (or_true (is_in (top_of (y ∷ ys)) x))
+
 -- a coverage that is joined with one more span, and shortened, is one
-pub stays_coverage : (most : ℕ) (x : Span) (ys : List Span) → 1 ≤ most → x.from ≤ x.to → IsCoverage most ys
+pub stays_coverage : (most : ℕ) (x : Span) (ys : List Span) → 1 ≤ most → x.from < x.to → IsCoverage most ys
     → IsCoverage most (shortened most (joined x ys))
 stays_coverage most x ys m h cov =
-    let apart : IsApart (joined x ys) = joined_apart x ys h cov.apart in
+    let apart : IsApart (joined x ys) = joined_apart x ys (omega (arith, h)) cov.apart in
+    let filled : AreFilled (drop 1 (joined x ys)) = rooted_filled x ys h cov.rooted cov.filled in
     let rooted : IsRooted (joined x ys) = joined_rooted x ys cov.rooted in
     let few : length (joined x ys) ≤ most + 1 = (let l = joined_length x ys in omega (arith, l, cov.few)) in
     (elim (nat_lt most (length (joined x ys))) as (λ t. nat_lt most (length (joined x ys)) ≡ t → IsCoverage most (if t then closed (joined x ys) else joined x ys)) [
-      | true ↦ λ e. record { rooted = closed_rooted _ rooted; apart = closed_apart _ apart; few = closed_length most _ m few }
-      | false ↦ λ e. record { rooted = rooted; apart = apart; few = ltb-false _ _ e }
+      | true ↦ λ e. record { rooted = closed_rooted _ rooted; apart = closed_apart _ apart; filled = closed_filled (joined x ys) filled; few = closed_length most _ m few }
+      | false ↦ λ e. record { rooted = rooted; apart = apart; filled = filled; few = ltb-false _ _ e }
     ]) refl
 
 -- what is had then: what was had, the span, and the gap that was closed

@@ -1,6 +1,6 @@
 -- Believed.
 -- Sets of stamps as lists of spans.
-use Rattle.std.specs.Prelude.{◌≡◌, ◌≤◌, ◌<◌, ℕ, min, max, nat_le, nat_lt, Bool, Option, None, Some, ◌&&◌, if◌then◌else◌, List, [], ◌∷◌, length}
+use Rattle.std.specs.Prelude.{◌≡◌, ◌≤◌, ◌<◌, ℕ, min, max, nat_le, nat_lt, Bool, Option, None, Some, ◌&&◌, if◌then◌else◌, List, [], ◌∷◌, drop, length}
 use Rattle.std.specs.List.{list_any}
 use Rattle.gossip.specs.declared.span.Span.{Span}
 
@@ -22,9 +22,14 @@ abbrev pub IsApart : List Span → Type 0
 IsApart [] = Unit {0}
 IsApart (x ∷ xs) = (x.from ≤ x.to) × IsBefore x.to xs × IsApart xs
 
--- the spans begin after this, with gaps between them
+-- each span has a stamp
+abbrev pub AreFilled : List Span → Type 0
+AreFilled [] = Unit {0}
+AreFilled (x ∷ xs) = (x.from < x.to) × AreFilled xs
+
+-- the spans begin after this, with gaps between them, and each has a stamp
 abbrev pub Follow : ℕ → List Span → Type 0
-Follow end xs = IsBefore end xs × IsApart xs
+Follow end xs = IsBefore end xs × IsApart xs × AreFilled xs
 
 -- the first span begins at zero: its end is the floor
 abbrev pub IsRooted : List Span → Type 0
@@ -42,10 +47,11 @@ top_of [] = 0
 top_of (x ∷ []) = x.to
 top_of (x ∷ (y ∷ ys)) = top_of (y ∷ ys)
 
--- few spans with gaps between them, and all up to a floor
+-- few spans with gaps between them, and all up to a floor; each span above the floor has a stamp
 pub record IsCoverage (most : ℕ) (spans : List Span) : Type 0 where
   pub rooted : IsRooted spans
   pub apart : IsApart spans
+  pub filled : AreFilled (drop 1 spans)
   pub few : length spans ≤ most
 
 -- the least span that has both

@@ -100,13 +100,13 @@ fn shorten(spans: &mut ArrayVec<Span, 65>) -> Span
     close_oldest(spans)
 }
 
-/// Returns whether the spans begin after `end`, and have gaps between them.
+/// Returns whether the spans begin after `end`, and have gaps between them and stamps in them.
 fn follow(end: u64, spans: &[Span]) -> bool
     ensures { IsTrue result ↔ Follow end spans.now }
 {
     let mut end = end;
     for span in spans {
-        if span.from <= end || span.to < span.from {
+        if span.from <= end || span.to <= span.from {
             return false;
         }
         end = span.to;
@@ -193,8 +193,8 @@ impl Coverage {
     }
 
     /// Creates the coverage that a peer reported: all stamps up to the floor, and the spans after
-    /// it. Returns `None` if there are too many spans, or they are not in order with gaps between
-    /// them.
+    /// it. Returns `None` if there are too many spans, one has no stamp, or they are not in order
+    /// with gaps between them.
     pub fn reported(floor: u64, spans: &[Span]) -> Option<Self>
         ensures reported { IsSome result
             ↔ IsCoverage 64 (record { from = 0; to = floor } ∷ spans.now) }
@@ -221,10 +221,11 @@ impl Coverage {
         }
     }
 
-    /// Returns the top: no stamp above it was had.
+    /// Returns the top: the greatest stamp that was had, or 0 if none was.
     pub fn top(&self) -> u64
         ensures top { result ≡ top_of self.now }
         ensures greatest { (s : ℕ) → is_had s self.now ≡ true → s ≤ result }
+        ensures had { 0 < result → is_had result self.now ≡ true }
     {
         match self.spans.as_slice().last() {
             Some(last) => last.to,
@@ -274,11 +275,11 @@ impl Coverage {
         first_missing(self.spans.as_slice(), other.spans.as_slice(), above, upto)
     }
 
-    /// Covers the stamps after `prev` and up to `stamp` too. If there are too many spans then,
-    /// closes the oldest gap: its stamps count as had from then on. Returns that gap, or a span of
-    /// no stamps.
+    /// Covers the stamps after `prev` and up to `stamp` too, of which there is one at least. If
+    /// there are too many spans then, closes the oldest gap: its stamps count as had from then on.
+    /// Returns that gap, or a span of no stamps.
     pub fn cover(&mut self, prev: u64, stamp: u64) -> Span
-        requires { prev ≤ stamp }
+        requires { prev < stamp }
         ensures spans { self.new ≡ with_had (record { from = prev; to = stamp }) self.old }
         ensures union { (s : ℕ) → is_had s self.new
             ≡ (is_had s self.old || is_in s (record { from = prev; to = stamp })

@@ -12,8 +12,8 @@ invariant_of-self c =
 
 pub returns-clause-union : goal.returns-clause-union
 returns-clause-union c = λ s.
-    rw (c.add.ensures.spans, c.add.ensures.gap, ← c.self.view_is) (covered_has 64 s _ _ c.requires c.self.invariant.apart)
+    rw (c.add.ensures.spans, c.add.ensures.gap, ← c.self.view_is) (covered_has 64 s _ _ (omega (arith, c.requires)) c.self.invariant.apart)
 
 pub returns-clause-not_had : goal.returns-clause-not_had
 returns-clause-not_had c = λ s h.
-    rw (← c.self.view_is) (gap_not_had s _ _ c.requires c.self.invariant.apart (rw c.add.ensures.gap at h))
+    rw (← c.self.view_is) (gap_not_had s _ _ (omega (arith, c.requires)) c.self.invariant.apart (rw c.add.ensures.gap at h))
