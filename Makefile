@@ -2,10 +2,14 @@
 # nothing. Those marked with * want the programs built, as `make test` leaves them.
 EVENTS ?= examples/two-peers.events
 
+# A target that proves or builds Rattle begins with this.
+NEEDS_RT = @command -v rt > /dev/null || { echo "rt, the tool of Rattle, is not found: docs/TOOLCHAIN.md says where it comes from." \
+	"Without it: cd rust && cargo test; make install" >&2; exit 1; }
+
 .PHONY: help try check quick test lib dist install border relays soak runs generated faults mutants pictures bench
 
 help:
-	@echo "make try        builds replay WITHOUT A PROOF, and runs it on an example: a minute"
+	@echo "make try        builds replay WITHOUT A PROOF, and prints each event of an example beside its answer: a minute"
 	@echo "make test       the merge gate: proves every crate, then runs all tests and programs: an hour"
 	@echo "make check      checks of texts: names in documents, layout, places of wrong bodies: 10 seconds"
 	@echo "make quick      these, and tests without a proof: minutes"
@@ -19,26 +23,33 @@ help:
 	@echo "make pictures   draws the pictures of the documents *"
 
 try:
-	@echo "try: building replay without a proof, and running it on $(EVENTS): a minute"
-	@cd crates/replay && rt try -- 1 10 < ../../$(EVENTS)
+	$(NEEDS_RT)
+	@echo "try: building replay without a proof, and running it on $(EVENTS): a minute or two"
+	@answers=$$(mktemp) && (cd crates/replay && rt try -- 1 10) < $(EVENTS) > $$answers && \
+		cut -c 1-60 $(EVENTS) | paste -d '\t' - $$answers | sed 's/^\t/  (at the end)\t/' | expand -t 64; \
+		status=$$?; rm -f $$answers; exit $$status
 	@echo "try: NOTHING WAS PROVED: make test proves"
 
 check:
 	@scripts/gate static
 
 quick:
+	$(NEEDS_RT)
 	@scripts/gate quick
 
 test:
+	$(NEEDS_RT)
 	@scripts/gate
 
 # The static library for callers in C and Rust. In C it is linked with `ffi/heap.c`.
 lib:
+	$(NEEDS_RT)
 	@echo "lib: proving and building crates/broadcast_c/out/libbroadcast_c.a"
 	cd crates/broadcast_c && rt lib
 
 # What callers without the toolchain need, in one folder of `dist`.
 dist:
+	$(NEEDS_RT)
 	@scripts/dist
 
 # Needs no `rt`. `scripts/install` names the variables.
