@@ -35,10 +35,10 @@ use std::fmt;
 /// # }
 /// ```
 pub struct Cache<M> {
-    store: Store,
+    pub(crate) store: Store,
     own: Key,
-    primary: Vec<Key>,
-    slots: Slots<M>,
+    pub(crate) primary: Vec<Key>,
+    pub(crate) slots: Slots<M>,
     tickets: Tickets,
 }
 
@@ -217,12 +217,7 @@ impl<M> Cache<M> {
 
     /// Returns the cached messages with their digests, in any order.
     pub fn iter(&self) -> impl Iterator<Item = (&Digest, &M)> {
-        self.charged().map(|(digest, _, message)| (digest, message))
-    }
-
-    /// Returns them with what they were charged, too.
-    pub(crate) fn charged(&self) -> impl Iterator<Item = (&Digest, usize, &M)> {
-        self.slots.iter().map(|it| (&it.digest, it.charge, &it.message))
+        self.slots.iter().map(|it| (&it.digest, &it.message))
     }
 
     /// Returns the cached message of the digest.

@@ -76,7 +76,7 @@ pub use error::{Error, Refused};
 pub use key::{Digest, Key, ParseError};
 pub use node::{Broadcast, Counters, Invalid, Limits, Message, Node, Received, Recipients};
 pub use outbox::{Listed, lag, next};
-pub use snapshot::Snapshot;
+pub use snapshot::{RestoreError, Snapshot};
 pub use taken::{Evicted, Held, Subscribed, Taken};
 pub use tickets::Ticket;
 

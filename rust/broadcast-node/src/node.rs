@@ -11,8 +11,8 @@ pub use results::{Broadcast, Message, Received, Recipients};
 pub use wire::Invalid;
 
 use crate::{
-    Cache, Counts, Digest, Error, Evicted, Key, Outcome, Refused, Snapshot, Subscribed, Taken,
-    Ticket,
+    Cache, Counts, Digest, Error, Evicted, Key, Outcome, Refused, RestoreError, Snapshot,
+    Subscribed, Taken, Ticket,
 };
 use books::{Books, Counted};
 use std::fmt;
@@ -336,16 +336,37 @@ impl<B: AsRef<[u8]> + Clone> Node<B> {
     /// # Errors
     ///
     /// [`Error::Memory`].
-    pub fn snapshot(&self) -> Result<Snapshot<B>, Error> {
+    pub fn snapshot(&mut self) -> Result<Snapshot<B>, Error> {
         self.cache.snapshot()
     }
+}
 
-    /// Creates a node with the primary keys and lists of the snapshot, as [`Cache::restore`] does.
+impl<B: AsRef<[u8]>> Node<B> {
+    /// Creates a node with the primary keys, the lists and the payloads of the snapshot, as [`Cache::restore`] does.
+    ///
+    /// Decodes each payload, and charges each list for the payload of a digest its length: the charges of the snapshot count
+    /// for nothing. It compares no digest with its message.
     ///
     /// # Errors
     ///
-    /// Those of [`Cache::new`].
-    pub fn restore(own: Key, limits: Limits, snapshot: &Snapshot<B>) -> Result<Node<B>, Error> {
+    /// Those of [`Cache::restore`], and [`RestoreError::Invalid`].
+    pub fn restore(
+        own: Key,
+        limits: Limits,
+        mut snapshot: Snapshot<B>,
+    ) -> Result<Node<B>, RestoreError> {
+        let Snapshot { lists, messages } = &mut snapshot;
+        for (digest, charge, payload) in &mut *messages {
+            let invalid = |reason| RestoreError::Invalid(*digest, reason);
+            wire::decode(payload.as_ref(), limits.max_len).map_err(invalid)?;
+            *charge = payload.as_ref().len();
+        }
+        messages.sort_unstable_by_key(|it| it.0);
+        for (digest, charge) in lists.iter_mut().flat_map(|it| &mut it.1) {
+            if let Ok(place) = messages.binary_search_by_key(digest, |it| it.0) {
+                *charge = messages[place].1;
+            }
+        }
         let cache = Cache::restore(own, limits.deque_size, limits.byte_budget, snapshot)?;
         let books = Books::default().for_keys(cache.primary_peers())?;
         Ok(Node { cache, limits, books })

@@ -28,6 +28,18 @@ impl<M> Slots<M> {
         Slots { places: Vec::new(), free: Vec::new(), bytes: 0 }
     }
 
+    /// Returns slots with these messages, each at its place.
+    pub fn filled(messages: impl ExactSizeIterator<Item = Slot<M>>) -> Result<Slots<M>, Error> {
+        let mut slots = Slots::new();
+        slots.places.try_reserve_exact(messages.len())?;
+        slots.free.try_reserve_exact(messages.len())?;
+        for slot in messages {
+            slots.bytes += slot.charge as u128;
+            slots.places.push(Some(slot));
+        }
+        Ok(slots)
+    }
+
     /// Makes room for one more message. Returns its number.
     #[inline(always)]
     pub fn vacant(&mut self) -> Result<u64, Error> {

@@ -24,6 +24,7 @@ struct Seen {
     cancelled: u64,
     not_cancelled: u64,
     strange: u64,
+    restored: u64,
 }
 
 /// Takes some of what left out, and drops the others.
@@ -157,6 +158,20 @@ impl Pair {
         assert_eq!(self.cache.contains(name), self.model.get(name).is_some());
     }
 
+    /// Goes on with a cache that is made of a snapshot. Nobody waits then.
+    fn restore(&mut self) {
+        let snapshot = self.cache.snapshot().unwrap();
+        assert_eq!(snapshot.lists, self.model.lists());
+        assert_eq!(self.cache.snapshot().unwrap(), snapshot);
+        let bytes = self.cache.bytes();
+        let (own, size, budget) = (self.model.own, self.model.deque_size, self.model.byte_budget);
+        self.cache = Cache::restore(own, size, budget, snapshot).unwrap();
+        assert_eq!(self.cache.bytes(), bytes);
+        self.model.waiters.clear();
+        self.tickets.clear();
+        self.seen.restored += 1;
+    }
+
     fn step(&mut self, at: u64) {
         let (name, peer) = (digest(self.random.below(12)), key(self.random.below(8)));
         match if at == 0 { 0 } else { self.random.below(100) } {
@@ -165,6 +180,7 @@ impl Pair {
             45..70 => self.subscribe(&name),
             70..75 => self.cleanup(),
             75..80 => self.cancel(&name),
+            80 => self.restore(),
             _ => self.get(&name),
         }
         let counts = self.cache.counts();
@@ -220,7 +236,7 @@ impl Drop for Context {
 }
 
 impl Seen {
-    fn fields(&mut self) -> [&mut u64; 15] {
+    fn fields(&mut self) -> [&mut u64; 16] {
         [
             &mut self.inserted,
             &mut self.duplicate,
@@ -237,6 +253,7 @@ impl Seen {
             &mut self.cancelled,
             &mut self.not_cancelled,
             &mut self.strange,
+            &mut self.restored,
         ]
     }
 

@@ -1,7 +1,9 @@
 //! Each allocation is refused in turn, those of the library too: nothing aborts, and a call that fails has
 //! changed nothing.
 
-use broadcast_node::{Cache, Digest, Error, Key, Limits, Node, Received, Recipients, Subscribed};
+use broadcast_node::{
+    Cache, Digest, Error, Key, Limits, Node, Received, Recipients, RestoreError, Subscribed,
+};
 use std::alloc::{GlobalAlloc, Layout, System};
 use std::cell::Cell;
 use std::fmt::Debug;
@@ -93,6 +95,17 @@ fn cache() -> Cache<&'static str> {
     cache
 }
 
+/// A cache that has some messages on two lists, which charge them differently.
+fn charged() -> Cache<&'static str> {
+    let mut cache = cache();
+    for n in 1..5 {
+        drop(cache.take_own(&digest(n), usize::from(n), "message").unwrap());
+        drop(cache.take(&peer(), &digest(n % 3), 10 + usize::from(n), "repeat").unwrap());
+    }
+    drop(cache.take_own(&digest(9), 9, "newest").unwrap());
+    cache
+}
+
 /// Takes a message. Returns how many were served.
 fn take(cache: &mut Cache<&'static str>, name: u8) -> Result<usize, Error> {
     Ok(cache.take(&peer(), &digest(name), 7, "message")?.served.len())
@@ -106,7 +119,15 @@ fn a_cache_loses_no_taking() {
     assert!(refuse_each(cache, |it| take(it, 8)) > 0);
     assert!(refuse_each(cache, |it| take(it, 9)) > 0);
     assert_eq!(refuse_each(cache, |it| it.list(&own())), 1);
-    assert!(refuse_each(cache, |it| it.snapshot()) > 0);
+    assert_eq!(refuse_each(charged, |it| it.snapshot()), 7, "two a list, and the store's block");
+    let snapshots = || vec![charged().snapshot().unwrap(); 2];
+    let restored =
+        refuse_each(snapshots, |it| match Cache::restore(own(), 10, 1_000, it.pop().unwrap()) {
+            Ok(cache) => Ok((cache.counts(), cache.bytes(), cache.bytes_of(&peer()))),
+            Err(RestoreError::Cache(error)) => Err(error),
+            Err(other) => panic!("{other:?}"),
+        });
+    assert!(restored > 20, "those of the library");
     assert_eq!(refuse_each(cache, |it| Ok(it.get(&digest(8)).copied())), 0);
     assert_eq!(refuse_each(cache, |it| Ok(it.cleanup(&[]))), 0);
     let mut waiting = cache();

