@@ -5,12 +5,29 @@ use broadcast_engine as engine;
 use bytes::{Buf, Bytes};
 use std::fmt::{self, Debug};
 use std::future::Future;
+use std::num::NonZeroUsize;
 use std::pin::Pin;
 use std::sync::Arc;
 use std::task::{Context, Poll};
 
 pub use cw::Broadcaster;
-pub use engine::{Blocking, Canceled, Config, End, Error, Handle, Metrics, Sequential};
+pub use engine::{Blocking, Canceled, End, Error, Handle, Metrics, Sequential};
+
+/// Configuration of an [`Engine`]: the fields of `commonware_broadcast` and one more, `byte_budget`. Those of
+/// `broadcast_engine::Config` say what each is.
+#[derive(Clone)]
+#[allow(missing_docs, reason = "they are those of `broadcast_engine::Config`")]
+pub struct Config<P, C, D, T> {
+    pub public_key: P,
+    pub mailbox_size: NonZeroUsize,
+    pub deque_size: usize,
+    /// The most bytes that are cached for each peer.
+    pub byte_budget: u64,
+    pub priority: bool,
+    pub codec_config: C,
+    pub peer_provider: D,
+    pub strategy: T,
+}
 
 /// A message that `commonware_broadcast` takes too. Each type with these traits is one.
 pub trait Message:
@@ -48,6 +65,12 @@ impl<M: Message> engine::Message for Wire<M> {
 
     fn digest(&self) -> M::Digest {
         self.0.digest()
+    }
+
+    /// All digests of a type of commonware have one length, so those of 32 bytes need no hash.
+    fn name_of(digest: &M::Digest) -> engine::Digest {
+        let bytes = digest.as_ref();
+        engine::Digest::try_from(bytes).unwrap_or_else(|_| engine::Digest::sha256(bytes))
     }
 }
 
@@ -124,16 +147,14 @@ where
     ///
     /// Those of `broadcast_engine::Engine::new`.
     pub fn new(config: Config<P, M::Cfg, D, T>) -> Result<(Self, Mailbox<P, M>), Error> {
-        let (engine, mailbox) = engine::Engine::new(Config {
-            public_key: config.public_key,
-            mailbox_size: config.mailbox_size,
-            deque_size: config.deque_size,
-            byte_budget: config.byte_budget,
-            priority: config.priority,
-            codec_config: config.codec_config,
-            peer_provider: PeerSets { provider: config.peer_provider, updates: None },
-            strategy: config.strategy,
-        })?;
+        let peer_sets = PeerSets { provider: config.peer_provider, updates: None };
+        let config = engine::Config::new(config.public_key, peer_sets, config.codec_config)
+            .mailbox_size(config.mailbox_size)
+            .deque_size(config.deque_size)
+            .byte_budget(config.byte_budget)
+            .priority(config.priority)
+            .strategy(config.strategy);
+        let (engine, mailbox) = engine::Engine::new(config)?;
         Ok((Engine(engine), Mailbox(mailbox)))
     }
 

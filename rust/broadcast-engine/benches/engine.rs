@@ -6,7 +6,6 @@ use broadcast_engine::{
 };
 use bytes::Bytes;
 use sha2::{Digest, Sha256};
-use std::num::NonZeroUsize;
 use std::sync::{Arc, OnceLock};
 use std::time::{Duration, Instant};
 use tokio::sync::mpsc;
@@ -54,16 +53,8 @@ struct Run {
 }
 
 fn config() -> Config<Key, usize, Fixed<Key>, Sequential> {
-    Config {
-        public_key: [0; 32],
-        mailbox_size: NonZeroUsize::new(1_024).unwrap(),
-        deque_size: DEQUE,
-        byte_budget: BUDGET,
-        priority: false,
-        codec_config: 1 << 20,
-        peer_provider: Fixed::new((0..PEERS).map(|it| [it; 32]).collect::<Vec<_>>()),
-        strategy: Sequential,
-    }
+    let peers: Vec<Key> = (0..PEERS).map(|it| [it; 32]).collect();
+    Config::new([0; 32], Fixed::new(peers), 1 << 20).deque_size(DEQUE).byte_budget(BUDGET)
 }
 
 fn start() -> Run {

@@ -3,11 +3,10 @@
 //! `cargo run -p broadcast-engine --example two_nodes`
 
 use broadcast_engine::{
-    Config, Digested, Engine, Error, Fixed, Mailbox, Message, Recipients, Sender, Sequential,
+    Config, Digested, Engine, Error, Fixed, Mailbox, Message, Recipients, Sender,
 };
 use bytes::Bytes;
 use sha2::{Digest, Sha256};
-use std::num::NonZeroUsize;
 use tokio::sync::mpsc;
 
 type Key = [u8; 32];
@@ -55,16 +54,10 @@ fn start(
     to: mpsc::Sender<Packet>,
     from: mpsc::Receiver<Packet>,
 ) -> Result<Mailbox<Key, Text>, Error> {
-    let (engine, mailbox) = Engine::new(Config {
-        public_key: own,
-        mailbox_size: NonZeroUsize::new(1_024).unwrap(),
-        deque_size: 100,      // messages for each peer
-        byte_budget: 1 << 20, // bytes for each peer
-        priority: false,
-        codec_config: 10_000,
-        peer_provider: Fixed::new(NODES),
-        strategy: Sequential,
-    })?;
+    let config = Config::new(own, Fixed::new(NODES), 10_000)
+        .deque_size(100) // messages for each peer
+        .byte_budget(1 << 20); // bytes for each peer
+    let (engine, mailbox) = Engine::new(config)?;
     engine.start((ToOther(own, to), from));
     Ok(mailbox)
 }

@@ -7,6 +7,7 @@ use std::pin::Pin;
 use std::sync::Arc;
 use std::sync::atomic::{AtomicU64, Ordering::Relaxed};
 use std::task::{Context, Poll};
+use tokio::sync::Semaphore;
 use tokio::sync::mpsc::{self, error::TrySendError};
 
 /// The engine's end of a stream.
@@ -43,7 +44,7 @@ pub struct Deliveries<P, M: Message> {
 
 impl<P, M: Message> Deliveries<P, M> {
     pub(crate) fn new(capacity: usize, mailbox: Mailbox<P, M>) -> (Deliveries<P, M>, Feed<M>) {
-        let (sender, messages) = mpsc::channel(capacity.max(1));
+        let (sender, messages) = mpsc::channel(capacity.clamp(1, Semaphore::MAX_PERMITS));
         let missed = Arc::new(AtomicU64::new(0));
         let feed = Feed { messages: sender, missed: missed.clone() };
         (Deliveries { messages, missed, _mailbox: mailbox }, feed)

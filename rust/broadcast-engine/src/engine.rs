@@ -269,8 +269,8 @@ impl<P: Id, M: Message, D: Provider<PublicKey = P>, T: Strategy> Engine<P, M, D,
         stop: Pin<&mut (impl Future<Output = ()> + Send)>,
     ) -> Option<Result<(), Error>> {
         let len = bytes.len();
-        let message = match M::decode(bytes, &self.codec_config) {
-            Ok(message) => message,
+        let (message, digest) = match M::decode_digested(bytes, &self.codec_config) {
+            Ok(decoded) => decoded,
             Err(err) => {
                 debug!(?err, peer = %Hex(peer.as_ref()), "failed to decode message");
                 self.counters().receive.invalid.inc();
@@ -280,7 +280,10 @@ impl<P: Id, M: Message, D: Provider<PublicKey = P>, T: Strategy> Engine<P, M, D,
         trace!(peer = %Hex(peer.as_ref()), "network");
         let key = id::key(peer);
         self.counters().count_peer(&key);
-        let message = unless_stopped(self.strategy.digest(message), stop).await?;
+        let message = match digest {
+            Some(digest) => Digested::precomputed(message, digest),
+            None => unless_stopped(self.strategy.digest(message), stop).await?,
+        };
         let taken = self.take(&key, message, len);
         Some(taken.map(|outcome| self.count_received(peer, outcome)))
     }

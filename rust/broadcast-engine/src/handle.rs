@@ -1,6 +1,7 @@
 //! Engines that run in a task of tokio.
 
 use crate::{End, Engine, Id, Message, Provider, Receiver, Sender, Strategy};
+use std::fmt;
 use std::future::Future;
 use std::pin::Pin;
 use std::sync::Arc;
@@ -28,7 +29,7 @@ impl<P: Id, M: Message, D: Provider<PublicKey = P>, T: Strategy> Engine<P, M, D,
 }
 
 /// Stops an engine. Clones stop the same engine.
-#[derive(Clone, Debug)]
+#[derive(Clone)]
 pub struct Stopper(Arc<Notify>);
 
 impl Stopper {
@@ -38,8 +39,13 @@ impl Stopper {
     }
 }
 
+impl fmt::Debug for Stopper {
+    fn fmt(&self, f: &mut fmt::Formatter<'_>) -> fmt::Result {
+        f.debug_struct("Stopper").finish_non_exhaustive()
+    }
+}
+
 /// A started engine: a future of its end. If it is dropped, the engine runs on.
-#[derive(Debug)]
 pub struct Handle {
     stopper: Stopper,
     task: JoinHandle<End>,
@@ -64,6 +70,12 @@ impl Handle {
     /// Returns whether the engine has ended.
     pub fn is_finished(&self) -> bool {
         self.task.is_finished()
+    }
+}
+
+impl fmt::Debug for Handle {
+    fn fmt(&self, f: &mut fmt::Formatter<'_>) -> fmt::Result {
+        f.debug_struct("Handle").field("is_finished", &self.is_finished()).finish_non_exhaustive()
     }
 }
 

@@ -2,10 +2,9 @@
 //! `commonware_broadcast::buffered` over the verified cache of [`broadcast_node`], on tokio.
 //!
 //! ```
-//! use broadcast_engine::{Config, Digested, Engine, Message, Recipients, Sequential};
+//! use broadcast_engine::{Config, Digested, Engine, Fixed, Message, Recipients};
 //! use bytes::Bytes;
-//! use std::num::NonZeroUsize;
-//! # use broadcast_engine::{Fixed, Receiver, Sender};
+//! # use broadcast_engine::{Receiver, Sender};
 //! #
 //! # struct Nowhere;
 //! # impl Sender for Nowhere {
@@ -45,16 +44,8 @@
 //! # #[tokio::main(flavor = "current_thread")]
 //! # async fn main() -> Result<(), broadcast_engine::Error> {
 //! # let (sender, receiver) = (Nowhere, Silence);
-//! let (engine, mailbox) = Engine::new(Config {
-//!     public_key: [1; 32],
-//!     mailbox_size: NonZeroUsize::new(1_024).unwrap(),
-//!     deque_size: 100,
-//!     byte_budget: 1 << 20,
-//!     priority: false,
-//!     codec_config: (),
-//!     peer_provider: Fixed::new([[1; 32], [2; 32]]),
-//!     strategy: Sequential,
-//! })?;
+//! let (own, other) = ([1; 32], [2; 32]);
+//! let (engine, mailbox) = Engine::new(Config::new(own, Fixed::new([own, other]), ()))?;
 //! let _handle = engine.start((sender, receiver));
 //!
 //! let message = Digested::new(Block(Bytes::from_static(&[7; 40])));

@@ -104,7 +104,8 @@ impl<P: Id, M: Message> Mailbox<P, M> {
     }
 
     /// Returns a stream of the messages that are cached from now on. Messages that come while `capacity` of them wait to
-    /// be read are left out of the stream, and counted.
+    /// be read are left out of the stream, and counted. A capacity of 0 is one of 1, and the greatest is that of a channel
+    /// of tokio, `usize::MAX / 8`.
     pub fn deliveries(&self, capacity: usize) -> Deliveries<P, M> {
         let (deliveries, feed) = Deliveries::new(capacity, self.clone());
         let _ = self.inbox.enqueue(Request::Deliver(feed));

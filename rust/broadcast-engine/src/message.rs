@@ -29,6 +29,22 @@ pub trait Message: Send + Sync + Sized + 'static {
     /// Fails if the bytes are no message. The engine counts them, and drops them.
     fn decode(bytes: Bytes, config: &Self::Config) -> Result<Self, Self::Error>;
 
+    /// Reads a message as [`decode`](Message::decode) does, and returns its digest too if that is known afterwards. By
+    /// default it is not, and the engine's [`Strategy`](crate::Strategy) computes it by [`digest`](Message::digest).
+    ///
+    /// A message whose digest is the hash of its encoding computes it here, in the engine's own task, and need not be
+    /// encoded again. The digest must be that of the message: whoever awaits it gets the message.
+    ///
+    /// # Errors
+    ///
+    /// Those of `decode`.
+    fn decode_digested(
+        bytes: Bytes,
+        config: &Self::Config,
+    ) -> Result<(Self, Option<Self::Digest>), Self::Error> {
+        Ok((Self::decode(bytes, config)?, None))
+    }
+
     /// Returns the digest.
     fn digest(&self) -> Self::Digest;
 

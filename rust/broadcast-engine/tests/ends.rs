@@ -115,6 +115,15 @@ async fn all_is_closed(mailbox: &TestMailbox) {
 }
 
 #[tokio::test(start_paused = true)]
+async fn what_is_shown_of_a_started_engine_is_its_own() {
+    let (engine, mailbox) = Engine::<_, TestMessage, _, _>::new(fixed()).unwrap();
+    let (_payloads, network) = mpsc::channel(1);
+    let handle = engine.start((Nowhere, network));
+    let shown = format!("{handle:?} {:?} {mailbox:?}", handle.stopper());
+    assert_eq!(shown, "Handle { is_finished: false, .. } Stopper { .. } Mailbox { .. }");
+}
+
+#[tokio::test(start_paused = true)]
 async fn a_mailbox_of_a_dropped_engine_is_closed() {
     let (engine, mailbox) = TestEngine::new(config([1; 32], &Tracker::new(1))).unwrap();
     let waits = mailbox.subscribe([7; 32]);
@@ -148,17 +157,7 @@ impl Provider for Never {
 
 #[tokio::test(start_paused = true)]
 async fn an_engine_stops_while_it_waits_for_its_first_peer_set() {
-    let config = config([1; 32], &Tracker::new(1));
-    let config = Config {
-        public_key: config.public_key,
-        mailbox_size: config.mailbox_size,
-        deque_size: config.deque_size,
-        byte_budget: config.byte_budget,
-        priority: false,
-        codec_config: config.codec_config,
-        peer_provider: Never,
-        strategy: Sequential,
-    };
+    let config = Config::new([1; 32], Never, 0);
     let (engine, mailbox) = Engine::<_, TestMessage, _, _>::new(config).unwrap();
     let handle = engine.start(Network::new(0.0).join([1; 32]));
     settle().await;
@@ -207,7 +206,8 @@ fn an_engine_needs_no_runtime() {
 #[tokio::test(start_paused = true)]
 async fn deliveries_are_the_messages_that_are_cached_anew() {
     let nodes = Nodes::start(2, 0.0).await;
-    let (mut all, mut few) = (nodes.mailboxes[1].deliveries(100), nodes.mailboxes[1].deliveries(3));
+    let [mut all, mut few, mut one] =
+        [usize::MAX, 3, 0].map(|it| nodes.mailboxes[1].deliveries(it));
     let messages: Vec<_> = (0..5_u8).map(|it| TestMessage::digested([it])).collect();
     for message in messages.iter().chain(&messages) {
         nodes.broadcast(0, message);
@@ -220,6 +220,7 @@ async fn deliveries_are_the_messages_that_are_cached_anew() {
     }
     assert_eq!((delivered, all.missed()), (messages.clone(), 0));
     assert_eq!((few.next().await, few.missed()), (Some(messages[0].clone()), 2));
+    assert_eq!((one.next().await, one.missed()), (Some(messages[0].clone()), 4));
 }
 
 /// Neither the mailbox's own code nor a drop of the engine panics after a panic of the message's code.
@@ -241,18 +242,8 @@ fn a_panic_of_a_message_closes_the_mailbox() {
             [0; 32]
         }
     }
-    let fixed = fixed();
-    let (engine, mailbox) = Engine::<_, Bomb, _, _>::new(Config {
-        public_key: fixed.public_key,
-        mailbox_size: fixed.mailbox_size,
-        deque_size: fixed.deque_size,
-        byte_budget: fixed.byte_budget,
-        priority: false,
-        codec_config: (),
-        peer_provider: fixed.peer_provider,
-        strategy: Sequential,
-    })
-    .unwrap();
+    let config = Config::new([1; 32], Fixed::new([[1; 32]]), ());
+    let (engine, mailbox) = Engine::<_, Bomb, _, _>::new(config).unwrap();
     let _ = mailbox.broadcast(Recipients::All, Bomb);
     let (_payloads, network) = mpsc::channel(1);
     let run = engine.run((Nowhere, network), pending());

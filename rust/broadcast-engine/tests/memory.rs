@@ -4,13 +4,11 @@
 
 use broadcast_engine::{
     Canceled, Config, Digested, Engine, Error, Fixed, Mailbox, Message, Recipients, Sender,
-    Sequential,
 };
 use bytes::Bytes;
 use std::alloc::{GlobalAlloc, Layout, System};
 use std::cell::Cell;
 use std::future::{Future, pending};
-use std::num::NonZeroUsize;
 use std::pin::{Pin, pin};
 use std::ptr::null_mut;
 use std::sync::Arc;
@@ -100,17 +98,8 @@ fn poll<F: Future>(future: F) -> Poll<F::Output> {
 
 impl Run {
     fn new() -> Run {
-        let (engine, mailbox) = Engine::new(Config {
-            public_key: [1; 32],
-            mailbox_size: NonZeroUsize::new(10).unwrap(),
-            deque_size: 10,
-            byte_budget: 1_000,
-            priority: false,
-            codec_config: (),
-            peer_provider: Fixed::new([[1; 32]]),
-            strategy: Sequential,
-        })
-        .unwrap();
+        let config = Config::new([1; 32], Fixed::new([[1; 32]]), ());
+        let (engine, mailbox) = Engine::new(config).unwrap();
         let (sent, (_payloads, network)) = (Arc::new(AtomicUsize::new(0)), mpsc::channel(1));
         let engine = Box::pin(engine.run((Sent(sent.clone()), network), pending()));
         let mut run = Run { engine, mailbox, sent, _payloads };

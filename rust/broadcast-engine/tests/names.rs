@@ -2,11 +2,9 @@
 
 use broadcast_engine::{
     Config, Digest, Digested, Engine, Fixed, Mailbox, Message, Metrics, Recipients, Sender,
-    Sequential,
 };
 use bytes::Bytes;
 use std::future::{Future, pending};
-use std::num::NonZeroUsize;
 use std::pin::{Pin, pin};
 use std::task::{Context, Poll, Waker};
 use tokio::sync::mpsc;
@@ -57,17 +55,8 @@ struct Run {
 
 impl Run {
     fn new(others: &[Name]) -> Run {
-        let (engine, mailbox) = Engine::new(Config {
-            public_key: Name::new(),
-            mailbox_size: NonZeroUsize::MIN,
-            deque_size: 100,
-            byte_budget: 10_000,
-            priority: false,
-            codec_config: (),
-            peer_provider: Fixed::new([&[Name::new()], others].concat()),
-            strategy: Sequential,
-        })
-        .unwrap();
+        let peers = Fixed::new([&[Name::new()], others].concat());
+        let (engine, mailbox) = Engine::new(Config::new(Name::new(), peers, ())).unwrap();
         let (metrics, (payloads, network)) = (engine.metrics(), mpsc::channel(100));
         let engine = Box::pin(engine.run((Nowhere, network), pending()));
         let mut run = Run { engine, mailbox, payloads, metrics };

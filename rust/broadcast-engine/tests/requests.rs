@@ -3,13 +3,15 @@
 mod support;
 
 use broadcast_engine::{
-    Canceled, Digested, End, Engine, Feedback, Message, Recipients, Sender, Strategy,
+    Canceled, Config, Digest, Digested, End, Engine, Feedback, Fixed, Message, Recipients, Sender,
+    Strategy,
 };
+use bytes::Bytes;
 use std::future::Future;
 use std::num::NonZeroUsize;
 use std::sync::Arc;
 use support::*;
-use tokio::sync::Semaphore;
+use tokio::sync::{Semaphore, mpsc};
 
 #[tokio::test(start_paused = true)]
 async fn a_subscription_waits_for_an_absent_message() {
@@ -186,4 +188,44 @@ async fn a_dropped_get_is_counted_as_dropped() {
     settle().await;
     assert_eq!(count(&metrics, "get.dropped"), 1);
     assert_eq!(count(&metrics, "get.failure"), 0);
+}
+
+/// A message that computes its digest when it is decoded.
+#[derive(Debug, PartialEq)]
+struct Whole(Bytes);
+
+impl Message for Whole {
+    type Digest = Digest;
+    type Config = ();
+    type Error = ();
+
+    fn encode(&self) -> Bytes {
+        self.0.clone()
+    }
+
+    fn decode(bytes: Bytes, (): &()) -> Result<Whole, ()> {
+        Ok(Whole(bytes))
+    }
+
+    fn decode_digested(bytes: Bytes, (): &()) -> Result<(Whole, Option<Digest>), ()> {
+        let digest = Digest::sha256(&bytes);
+        Ok((Whole(bytes), Some(digest)))
+    }
+
+    fn digest(&self) -> Digest {
+        Digest::sha256(&self.0)
+    }
+}
+
+#[tokio::test(start_paused = true)]
+async fn a_digest_that_was_decoded_is_not_computed_again() {
+    let never = Gated(Arc::new(Semaphore::new(0)));
+    let peers = Fixed::new([[1; 32], [2; 32]]);
+    let (engine, mailbox) = Engine::new(Config::new([1; 32], peers, ()).strategy(never)).unwrap();
+    let (payloads, network) = mpsc::channel(1);
+    let _handle = engine.start((Nowhere, network));
+    let message = Digested::new(Whole(Bytes::from_static(b"whole")));
+    let waits = mailbox.subscribe(message.digest());
+    payloads.try_send(([2; 32], message.encode())).unwrap();
+    assert_eq!(waits.await, Ok(message));
 }

@@ -10,7 +10,6 @@ use bytes::{Buf, Bytes};
 use rand::{Rng, SeedableRng, rngs::StdRng};
 use sha2::{Digest as _, Sha256};
 use std::collections::BTreeMap;
-use std::num::NonZeroUsize;
 use std::sync::{Arc, Mutex};
 use std::time::Duration;
 use tokio::sync::mpsc::{UnboundedReceiver, UnboundedSender, unbounded_channel};
@@ -219,30 +218,15 @@ pub fn config(public_key: Key, tracker: &Tracker) -> TestConfig {
 }
 
 pub fn config_with<T>(public_key: Key, tracker: &Tracker, strategy: T) -> TestConfig<T> {
-    Config {
-        public_key,
-        mailbox_size: NonZeroUsize::new(1024).unwrap(),
-        deque_size: CACHE_SIZE,
-        byte_budget: 1 << 20,
-        priority: false,
-        codec_config: 1 << 16,
-        peer_provider: tracker.sets(),
-        strategy,
-    }
+    Config::new(public_key, tracker.sets(), 1 << 16)
+        .deque_size(CACHE_SIZE)
+        .byte_budget(1 << 20)
+        .strategy(strategy)
 }
 
 /// The configuration of an engine whose peers are itself, `[1; 32]`, and `[2; 32]`.
 pub fn fixed() -> Config<Key, usize, Fixed<Key>, Sequential> {
-    Config {
-        public_key: [1; 32],
-        mailbox_size: NonZeroUsize::new(1024).unwrap(),
-        deque_size: 1_000,
-        byte_budget: 1 << 20,
-        priority: false,
-        codec_config: 1 << 16,
-        peer_provider: Fixed::new([[1; 32], [2; 32]]),
-        strategy: Sequential,
-    }
+    Config::new([1; 32], Fixed::new([[1; 32], [2; 32]]), 1 << 16).deque_size(1_000)
 }
 
 /// A sender that sends nothing.
