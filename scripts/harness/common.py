@@ -3,9 +3,25 @@
 import os
 import signal
 import subprocess
+import sys
 from pathlib import Path
 
 TOP = Path(__file__).resolve().parents[2]
+
+
+def usage(text, status=2):
+    """Prints how a command is called, on standard error if the status is not 0, and ends it."""
+    print(text.strip(), file=sys.stderr if status else sys.stdout)
+    sys.exit(status)
+
+
+def asked(text, *known):
+    """Returns the words of the command line. Where one of them asks for help the command prints this text and ends. So it
+    does, with status 2, where known lists of words are named and the words are none of them."""
+    words = sys.argv[1:]
+    if {"-h", "--help"} & set(words):
+        usage(text, 0)
+    return words if not known or words in known else usage(text)
 
 
 class Tally:

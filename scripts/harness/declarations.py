@@ -120,7 +120,7 @@ def wanted_in_c(exports):
 
 def declared_in_c(header):
     header = without_comments(header)
-    yield from re.findall(r"^(?:uint32_t|uint64_t|void) [^;{]*;", header, re.M)
+    yield from re.findall(r"^(?!typedef\b)[a-z][\w *]*\([^;{]*;", header, re.M)
     yield from re.findall(r"typedef struct \{[^}]*\} \w+;", header)
     yield from re.findall(r"^\s*(BROADCAST_\w+ = \d+|#define BROADCAST_\w+ \d+)\b", header, re.M)
 

@@ -8,7 +8,7 @@ import sys
 from contextlib import ExitStack
 from pathlib import Path
 
-from harness.common import TOP
+from harness.common import TOP, usage
 
 # A program as LLVM builds it, and as Rattle's own compiler does.
 SUFFIXES = ("", ".by-rattle")
@@ -31,7 +31,7 @@ def unbuilt(executable):
     return f"{shown(executable)}: it is not built; `rt ci` builds it"
 
 
-def chosen(words, programs, usage):
+def chosen(words, programs, text):
     """The programs with their executables that the words of a command name: all, or one."""
     match words:
         case []:
@@ -39,7 +39,7 @@ def chosen(words, programs, usage):
         case [program, executable] if program in programs:
             return [(program, Path(executable).resolve())]
         case _:
-            sys.exit(usage)
+            usage(text)
 
 
 def run_row(executable, row):
