@@ -34,10 +34,11 @@ extern "C" {
 
 /* The version of these functions. It changes whenever one of them does, so a caller compares it with
  * `broadcast_c_version()` once. */
-#define BROADCAST_VERSION 8
+#define BROADCAST_VERSION 9
 
 /* The status that a call returns. After any other than OK and WAITS the store is as it was. After
- * EMPTY, MEMORY, NONE, TOO_LONG and NO_COVERAGE so is each variable that the call could have set. */
+ * EMPTY, MEMORY, NONE, TOO_LONG and NO_COVERAGE so is each variable that the call could have set, and
+ * after SHORT of `broadcast_coverage_cover` each but `needed`. */
 enum {
     BROADCAST_OK = 0,
     BROADCAST_MEMORY = 1,         /* an allocation failed */
@@ -200,11 +201,12 @@ uint32_t broadcast_store_list(broadcast_store *store, const broadcast_name *peer
 /* Reports the sizes of the store. */
 uint32_t broadcast_store_count(broadcast_store *store, broadcast_counts *out);
 
-/* ---- Coverages: which stamps of an author a relay has had. A coverage has all stamps up to `floor`,
- * and those of at most 63 spans: the first begins after `floor`, each other one after the end of the
- * one before it, and none ends before it begins. No call allocates. ---- */
+/* ---- Coverages: which stamps of an author a relay has had. A coverage has all stamps from 1 to
+ * `floor`, and those of at most 63 spans: the first begins after `floor`, each other one after the end
+ * of the one before it, and each has a stamp. A call returns NO_COVERAGE if and only if what is passed
+ * is not so. No call allocates. ---- */
 
-/* Reports whether the stamp was had: OK, NONE or NO_COVERAGE. */
+/* Reports whether the stamp was had: OK, NONE or NO_COVERAGE. The stamp 0 never was. */
 uint32_t broadcast_coverage_has(uint64_t floor, const broadcast_span *spans, size_t spans_len,
                                 uint64_t stamp);
 /* Sets `end` to that of the stamps which the coverage has one after another from `at` on, to `at` if
@@ -218,8 +220,10 @@ uint32_t broadcast_coverage_missing(uint64_t floor, const broadcast_span *spans,
                                     size_t others_len, uint64_t above, uint64_t upto,
                                     uint64_t *stamp);
 /* Covers the stamps after `prev` and up to `stamp` too. Sets `floor`, and fills `out` with the spans
- * after it: OK, SHORT or NO_COVERAGE. If there are more than 63 spans then, the gap after `floor` is
- * closed: its stamps count as had. Sets `gap` to that gap, or to a span of no stamps. */
+ * after it: OK, SHORT, or NO_COVERAGE also if `stamp` is less than `prev`. If `stamp` is `prev`, the
+ * coverage stays the same. If there are more than 63 spans then, the gap after `floor` is closed: its
+ * stamps count as had. Sets `gap` to that gap, or to a span of no stamps. SHORT sets `needed` and
+ * nothing else: call again with room for `needed` spans. Room for 63 is always enough. */
 uint32_t broadcast_coverage_cover(uint64_t *floor, const broadcast_span *spans, size_t spans_len,
                                   uint64_t prev, uint64_t stamp, broadcast_span *out,
                                   size_t out_len, size_t *needed, broadcast_span *gap);
@@ -229,8 +233,8 @@ uint32_t broadcast_coverage_cover(uint64_t *floor, const broadcast_span *spans, 
 
 /* Sets `index` to that of the message on the list which the peer is sent next: OK, NONE or
  * NO_COVERAGE. It is the first that the peer lacks and that is not in flight. There is none while the
- * bytes in flight reach `room`. A peer that is held back is sent nothing above the top of its
- * coverage, which is the greatest stamp that the coverage has. */
+ * bytes in flight reach `room`. A peer that is held back is sent nothing above the greatest stamp that
+ * its coverage has. */
 uint32_t broadcast_outbox_next(const broadcast_listed *list, size_t list_len, uint64_t floor,
                                const broadcast_span *spans, size_t spans_len, bool is_held,
                                const broadcast_listed *in_flight, size_t in_flight_len,
