@@ -150,7 +150,8 @@ uint32_t broadcast_packet_read(const uint8_t *bytes, size_t bytes_len, size_t ma
 uint32_t broadcast_packet_head(size_t len, uint8_t out[4]);
 
 /* ---- A store. It knows a message by a handle, which the caller chooses, and by the number of bytes
- * that the caller charges for it. ---- */
+ * that the caller charges for it. After any calls, of which those that failed do not count, a store has
+ * what their history gives: this is proved (`store_law` in crates/broadcast_c/src/laws.rt). ---- */
 
 /* Makes a store for the node `own`, which lists at most `deque_size` digests for each peer, charged
  * at most `byte_budget` together. Frees the store that was there. */
@@ -177,9 +178,10 @@ uint32_t broadcast_store_receive(broadcast_store *store, const broadcast_name *p
 uint32_t broadcast_store_served(broadcast_store *store, uint64_t *out, size_t out_len,
                                 size_t *needed);
 /* Moves the handles of messages that left the cache to the front of `out`, which has room for `out_len`
- * handles, those that left last first, and sets `moved` to their number: OK. A take that was OK or a peer
- * set adds each message that was cached before it and is not after it, once; a message that was never
- * cached does not leave. Never fails for memory. */
+ * handles, and sets `moved` to their number: OK. Those that left last come first; of several that one
+ * call evicted no order is promised. A take that was OK or a peer set adds each message that was cached
+ * before it and is not after it, once; a message that was never cached does not leave. Never fails for
+ * memory. */
 uint32_t broadcast_store_left(broadcast_store *store, uint64_t *out, size_t out_len,
                               size_t *moved);
 /* Sets `handle` to that of the cached message: OK or NONE. */
