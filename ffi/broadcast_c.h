@@ -17,6 +17,9 @@
  *  - There is one call at a time for each store. Calls may come from several threads.
  *  - There is no call from a signal handler, or in the forked child of a process with threads.
  *
+ * A length `x_len` is the number of elements of the array `x`: of bytes only if `x` points to bytes,
+ * else of tickets, handles, keys, digests, spans, messages or sums, as each comment says.
+ *
  * A function that fills the buffer `out` of `out_len` elements copies what there is to the front of
  * the buffer, as far as there is room, and leaves the rest of it. The function sets `needed` to the
  * number of elements that there are, and returns SHORT if that is more than `out_len`.
@@ -34,10 +37,11 @@ extern "C" {
 
 /* The version of these functions. It changes whenever one of them does, so a caller compares it with
  * `broadcast_c_version()` once. */
-#define BROADCAST_VERSION 8
+#define BROADCAST_VERSION 9
 
 /* The status that a call returns. After any other than OK and WAITS the store is as it was. After
- * EMPTY, MEMORY, NONE, TOO_LONG and NO_COVERAGE so is each variable that the call could have set. */
+ * EMPTY, MEMORY, NONE, TOO_LONG and NO_COVERAGE so is each variable that the call could have set, and
+ * after SHORT of `broadcast_coverage_cover` each but `needed`. */
 enum {
     BROADCAST_OK = 0,
     BROADCAST_MEMORY = 1,         /* an allocation failed */
@@ -129,14 +133,14 @@ typedef struct {
 
 /* Returns the version of these functions. */
 uint32_t broadcast_c_version(void);
-/* Computes the SHA-256 of the bytes. */
+/* Computes the SHA-256 of `bytes_len` bytes. */
 void broadcast_sha256(const uint8_t *bytes, size_t bytes_len, uint8_t out[32]);
 
 /* ---- The wire format: the length of the message in four bytes, highest first, and then the message.
  * Neither call allocates. ---- */
 
-/* Reads a packet whose message has at most `max_len` bytes. OK: the message is the `out.length` bytes
- * at `out.offset`. INVALID_LENGTH: `out.length` is the length that the packet has in front.
+/* Reads a packet of `bytes_len` bytes whose message has at most `max_len` bytes. OK: the message is the
+ * `out.length` bytes at `out.offset`. INVALID_LENGTH: `out.length` is the length that the packet has in front.
  * EXTRA_DATA: `out.length` is the number of bytes that follow the message. END_OF_BUFFER: `out` is
  * unchanged. Of several errors the first in reading order is returned: INVALID_LENGTH also if the
  * message is not complete. */
@@ -146,7 +150,8 @@ uint32_t broadcast_packet_read(const uint8_t *bytes, size_t bytes_len, size_t ma
 uint32_t broadcast_packet_head(size_t len, uint8_t out[4]);
 
 /* ---- A store. It knows a message by a handle, which the caller chooses, and by the number of bytes
- * that the caller charges for it. ---- */
+ * that the caller charges for it. After any calls, of which those that failed do not count, a store has
+ * what their history gives: this is proved (`store_law` in crates/broadcast_c/src/laws.rt). ---- */
 
 /* Makes a store for the node `own`, which lists at most `deque_size` digests for each peer, charged
  * at most `byte_budget` together. Frees the store that was there. */
@@ -154,11 +159,11 @@ uint32_t broadcast_store_new(broadcast_store *store, const broadcast_name *own, 
                              uint64_t byte_budget);
 /* Frees the store. It is empty then, and freeing it again does nothing. */
 void broadcast_store_free(broadcast_store *store);
-/* Makes the keys the primary ones. They may come in any order, and repeat. An empty set never
- * fails. */
+/* Makes the `names_len` keys the primary ones. They may come in any order, and repeat. An empty set
+ * never fails. */
 uint32_t broadcast_store_peers(broadcast_store *store, const broadcast_name *names,
                                size_t names_len);
-/* Takes the message of the handle under the key `peer`. The message is cached if a list has its
+/* Takes the message of the handle under the key `peer`, charged `charge` bytes. The message is cached if a list has its
  * digest then and none had before. It leaves the cache when the last list drops its digest. */
 uint32_t broadcast_store_take(broadcast_store *store, const broadcast_name *peer,
                               const uint8_t digest[32], size_t charge, uint64_t handle,
@@ -168,13 +173,15 @@ uint32_t broadcast_store_take(broadcast_store *store, const broadcast_name *peer
 uint32_t broadcast_store_receive(broadcast_store *store, const broadcast_name *peer,
                                  const uint8_t digest[32], size_t charge, uint64_t handle,
                                  broadcast_counters *counters, broadcast_stored *out);
-/* Copies the tickets that the last taken message served, in the order of their subscribes. */
+/* Copies the tickets that the last taken message served, in the order of their subscribes. `out` has
+ * room for `out_len` tickets. */
 uint32_t broadcast_store_served(broadcast_store *store, uint64_t *out, size_t out_len,
                                 size_t *needed);
-/* Moves the handles of messages that left the cache to the front of `out`, those that left last
- * first, as far as there is room, and sets `moved` to their number: OK. A take that was OK or a peer
- * set adds each message that was cached before it and is not after it, once; a message that was never
- * cached does not leave. Never fails for memory. */
+/* Moves the handles of messages that left the cache to the front of `out`, which has room for `out_len`
+ * handles, and sets `moved` to their number: OK. Those that left last come first; of several that one
+ * call evicted no order is promised. A take that was OK or a peer set adds each message that was cached
+ * before it and is not after it, once; a message that was never cached does not leave. Never fails for
+ * memory. */
 uint32_t broadcast_store_left(broadcast_store *store, uint64_t *out, size_t out_len,
                               size_t *moved);
 /* Sets `handle` to that of the cached message: OK or NONE. */
@@ -182,29 +189,31 @@ uint32_t broadcast_store_get(broadcast_store *store, const uint8_t digest[32], u
 /* Lets the ticket wait: WAITS, or OK if the message is cached. */
 uint32_t broadcast_store_subscribe(broadcast_store *store, uint64_t ticket,
                                    const uint8_t digest[32]);
-/* Drops the waiters with these tickets, and sets `removed` to their number. */
+/* Drops the waiters with these `tickets_len` tickets, and sets `removed` to their number. */
 uint32_t broadcast_store_cleanup(broadcast_store *store, const uint64_t *tickets,
                                  size_t tickets_len, uint64_t *removed);
-/* Drops the waiters of `digest` with these tickets, and sets `removed` to their number. Looks at
- * the waiters of that digest only. */
+/* Drops the waiters of `digest` with these `tickets_len` tickets, and sets `removed` to their number.
+ * Looks at the waiters of that digest only. */
 uint32_t broadcast_store_cleanup_of(broadcast_store *store, const uint8_t digest[32],
                                     const uint64_t *tickets, size_t tickets_len,
                                     uint64_t *removed);
 /* Sets `out` to whether the key is primary. */
 uint32_t broadcast_store_is_primary(broadcast_store *store, const broadcast_name *peer, bool *out);
-/* Sets `out` to what the list of `peer` is charged, at most the byte budget. */
+/* Sets `out` to the bytes that the list of `peer` is charged, at most the byte budget. */
 uint32_t broadcast_store_bytes(broadcast_store *store, const broadcast_name *peer, uint64_t *out);
-/* Copies the digests on the list of `peer`, newest first. */
-uint32_t broadcast_store_list(broadcast_store *store, const broadcast_name *peer, uint8_t *out,
+/* Copies the digests on the list of `peer`, newest first. `out` has room for `out_len` digests of 32
+ * bytes each, and `needed` counts digests. */
+uint32_t broadcast_store_list(broadcast_store *store, const broadcast_name *peer, uint8_t (*out)[32],
                               size_t out_len, size_t *needed);
 /* Reports the sizes of the store. */
 uint32_t broadcast_store_count(broadcast_store *store, broadcast_counts *out);
 
-/* ---- Coverages: which stamps of an author a relay has had. A coverage has all stamps up to `floor`,
- * and those of at most 63 spans: the first begins after `floor`, each other one after the end of the
- * one before it, and none ends before it begins. No call allocates. ---- */
+/* ---- Coverages: which stamps of an author a relay has had. A coverage has all stamps from 1 to
+ * `floor`, and those of at most 63 spans: the first begins after `floor`, each other one after the end
+ * of the one before it, and each has a stamp. A call returns NO_COVERAGE if and only if what is passed
+ * is not so. `spans_len`, `others_len` and `out_len` count spans. No call allocates. ---- */
 
-/* Reports whether the stamp was had: OK, NONE or NO_COVERAGE. */
+/* Reports whether the stamp was had: OK, NONE or NO_COVERAGE. The stamp 0 never was. */
 uint32_t broadcast_coverage_has(uint64_t floor, const broadcast_span *spans, size_t spans_len,
                                 uint64_t stamp);
 /* Sets `end` to that of the stamps which the coverage has one after another from `at` on, to `at` if
@@ -218,19 +227,22 @@ uint32_t broadcast_coverage_missing(uint64_t floor, const broadcast_span *spans,
                                     size_t others_len, uint64_t above, uint64_t upto,
                                     uint64_t *stamp);
 /* Covers the stamps after `prev` and up to `stamp` too. Sets `floor`, and fills `out` with the spans
- * after it: OK, SHORT or NO_COVERAGE. If there are more than 63 spans then, the gap after `floor` is
- * closed: its stamps count as had. Sets `gap` to that gap, or to a span of no stamps. */
+ * after it: OK, SHORT, or NO_COVERAGE also if `stamp` is less than `prev`. If `stamp` is `prev`, the
+ * coverage stays the same. If there are more than 63 spans then, the gap after `floor` is closed: its
+ * stamps count as had. Sets `gap` to that gap, or to a span of no stamps. SHORT sets `needed` and
+ * nothing else: call again with room for `needed` spans. Room for 63 is always enough. */
 uint32_t broadcast_coverage_cover(uint64_t *floor, const broadcast_span *spans, size_t spans_len,
                                   uint64_t prev, uint64_t stamp, broadcast_span *out,
                                   size_t out_len, size_t *needed, broadcast_span *gap);
 
 /* ---- What a relay sends: a list of an author's messages, and a peer that has reported a coverage of
- * that author. Neither call allocates. ---- */
+ * that author. `list_len` and `in_flight_len` count messages, `sums_len` sums and `spans_len` spans.
+ * Neither call allocates. ---- */
 
 /* Sets `index` to that of the message on the list which the peer is sent next: OK, NONE or
  * NO_COVERAGE. It is the first that the peer lacks and that is not in flight. There is none while the
- * bytes in flight reach `room`. A peer that is held back is sent nothing above the top of its
- * coverage, which is the greatest stamp that the coverage has. */
+ * bytes in flight reach `room`. A peer that is held back is sent nothing above the greatest stamp that
+ * its coverage has. */
 uint32_t broadcast_outbox_next(const broadcast_listed *list, size_t list_len, uint64_t floor,
                                const broadcast_span *spans, size_t spans_len, bool is_held,
                                const broadcast_listed *in_flight, size_t in_flight_len,

@@ -77,10 +77,26 @@ static void finds_what_is_missing(void)
     must(stamp == 6);
 }
 
+/* A buffer that is too short, and a message without stamps, leave the coverage as it was. */
+static void keeps_what_it_has(void)
+{
+    static const broadcast_span had[] = {{7, 9}, {12, 13}};
+    broadcast_span gap = {9, 9}, room[2] = {{1, 1}, {1, 1}};
+    uint64_t floor = 5;
+    size_t needed = 9;
+    must(broadcast_coverage_cover(&floor, had, 2, 5, 7, room, 0, &needed, &gap) == BROADCAST_SHORT);
+    must(floor == 5 && needed == 1 && gap.from == 9 && room[0].from == 1);
+    must(broadcast_coverage_cover(&floor, had, 2, 10, 10, room, 2, &needed, &gap) == BROADCAST_OK);
+    must(floor == 5 && needed == 2 && gap.from == 0 && gap.to == 0 && !memcmp(room, had, sizeof had));
+    must(broadcast_coverage_cover(&floor, had, 2, 5, 7, room, 1, &needed, &gap) == BROADCAST_OK);
+    must(floor == 9 && needed == 1 && room[0].from == 12 && room[0].to == 13);
+}
+
 /* What is refused changes nothing. */
 static void refuses(void)
 {
-    static const broadcast_span wrong[][2] = {{{5, 7}, {8, 9}}, {{6, 7}, {7, 9}}, {{8, 7}, {9, 9}}};
+    static const broadcast_span wrong[][2] = {
+        {{5, 7}, {8, 9}}, {{6, 7}, {7, 9}}, {{8, 7}, {9, 9}}, {{6, 7}, {9, 9}}};
     uint64_t floor = 5;
     size_t needed = 9;
     broadcast_span gap = {9, 9}, room = {9, 9};
@@ -104,6 +120,7 @@ int main(void)
     joins();
     closes_the_oldest_gap();
     finds_what_is_missing();
+    keeps_what_it_has();
     refuses();
     puts("coverage: ok");
     return 0;

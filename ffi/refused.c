@@ -67,7 +67,7 @@ static void look(store_state *to)
     must(broadcast_store_count(&store, &to->counts) == BROADCAST_OK);
     must(broadcast_store_served(&store, to->served, CALLS, &to->served_len) == BROADCAST_OK);
     for (int i = 0; i < KEYS; i++) {
-        must(broadcast_store_list(&store, &keys[i], to->lists[i][0], LISTED, &to->lengths[i]) ==
+        must(broadcast_store_list(&store, &keys[i], to->lists[i], LISTED, &to->lengths[i]) ==
              BROADCAST_OK);
         must(broadcast_store_is_primary(&store, &keys[i], &to->are_primary[i]) == BROADCAST_OK);
         must(broadcast_store_bytes(&store, &keys[i], &to->charged[i]) == BROADCAST_OK);

@@ -105,7 +105,7 @@ static void evicts(void)
     must(left_are(1, 700, 9) && left_are(0, 9, 9));
     must(broadcast_store_get(&store, digest, &handle) == BROADCAST_NONE);
     must(broadcast_store_get(&store, third, &handle) == BROADCAST_OK && handle == 706);
-    must(broadcast_store_list(&store, &peer, list[0], 4, &needed) == BROADCAST_OK);
+    must(broadcast_store_list(&store, &peer, list, 4, &needed) == BROADCAST_OK);
     must(needed == 2 && !memcmp(list[0], third, 32) && !memcmp(list[1], other, 32));
     must(broadcast_store_list(&store, &peer, NULL, 0, &needed) == BROADCAST_SHORT);
 }

@@ -91,8 +91,11 @@ def in_c(name, kind):
     to = re.sub(r"^&(mut )?", "", kind)
     if array := ARRAY.fullmatch(to):
         return [f"{const}{SCALARS[array[1]]} {name}[{array[2]}]"]
-    item = ARRAY.sub(r"\1", to.removeprefix("[").removesuffix("]"))
-    pointer = f"{const}{STRUCTS.get(item) or SCALARS[item]} *{name}"
+    item = to.removeprefix("[").removesuffix("]") if to.startswith("[") else to
+    if array := ARRAY.fullmatch(item):
+        pointer = f"{const}{SCALARS[array[1]]} (*{name})[{array[2]}]"
+    else:
+        pointer = f"{const}{STRUCTS.get(item) or SCALARS[item]} *{name}"
     return [pointer, f"size_t {name}_len"] if to.startswith("[") else [pointer]
 
 

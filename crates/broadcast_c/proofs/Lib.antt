@@ -1,4 +1,8 @@
+pub mod Following
+pub mod Leaving
+pub mod Moving
 pub mod Overlaying
 pub mod Reading
+pub mod Serving
 pub mod StoreBox
 pub mod Values

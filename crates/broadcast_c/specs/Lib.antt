@@ -2,5 +2,6 @@ pub mod Calls
 pub mod Counting
 pub mod Coverages
 pub mod Holding
+pub mod Law
 pub mod Packets
 pub mod Storing

@@ -5,7 +5,7 @@ ghost use Rattle.broadcast_c.specs.Calls.{outcome_code};
 use broadcast_core::Outcome;
 
 /// The version of these functions. It changes whenever one of them does.
-pub const VERSION: u32 = 8;
+pub const VERSION: u32 = 9;
 
 /// Returns the version of these functions.
 #[unsafe(no_mangle)]

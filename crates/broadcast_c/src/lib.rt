@@ -10,5 +10,8 @@ mod codes;
 mod counters;
 mod exports;
 mod handle;
+mod laws;
 mod parts;
 mod store;
+
+pub use laws::store_law;

@@ -1,6 +1,7 @@
 //! A cache of messages that the caller keeps.
 ghost use Rattle.std.specs.Prelude.{◌≡◌, List, [], IfOk, IsOk, OnErr, OnOk, is_some, true, false, None, Ok};
-ghost use Rattle.std.specs.List.{count_by};
+ghost use Rattle.std.specs.List.{count_by, IsDistinct};
+ghost use Rattle.std.specs.Map.{keys_of};
 ghost use Rattle.broadcast_core.specs.Content.{message_at, waiting_at};
 ghost use Rattle.broadcast_core.specs.Empty.{empty};
 ghost use Rattle.broadcast_core.specs.Fronted.{has_primary};
@@ -151,9 +152,12 @@ impl Store {
             ≡ counted (gone_from (λ t. t) tickets.now self.old.cache.core.waiters) }
         ensures dropped { Cleans same_bytes (is_gone (λ t. t) tickets.now)
             self.old.cache.core self.new.cache.core }
+        ensures distinct { IsDistinct same_bytes.digest (keys_of self.old.cache.core.waiters) }
         ensures left { self.new.cache.left ≡ self.old.cache.left }
         ensures served { self.new.served ≡ self.old.served }
     {
+        // Cited: no digest has two lists of waiters.
+        self.cache.core().awaited();
         self.cache.cleanup(tickets)
     }
 

@@ -13,8 +13,8 @@ pub struct Span {
     pub to: u64,
 }
 
-/// Which stamps of an author a relay has had: all up to a floor, and those of some spans behind it, which have gaps before
-/// and between them. The verified library decides.
+/// Which stamps of an author a relay has had: all from 1 up to a floor, and those of some spans behind it, which have gaps
+/// before and between them. The verified library decides.
 ///
 /// ```
 /// # fn main() -> Result<(), broadcast_node::Error> {
@@ -51,8 +51,8 @@ impl Coverage {
         Ok(Coverage { floor, spans: Vec::new() })
     }
 
-    /// Creates the coverage that a peer reported. Returns `None` if there are more than [`Coverage::MOST`] spans, or the
-    /// spans are not in order with gaps before and between them.
+    /// Creates the coverage that a peer reported. Returns `None` if there are more than [`Coverage::MOST`] spans, if one of
+    /// them has no stamp, or if the spans are not in order with gaps before and between them.
     ///
     /// # Errors
     ///
@@ -88,9 +88,9 @@ impl Coverage {
         raw::coverage_missing(self, other, above, upto).ok().flatten()
     }
 
-    /// Covers the stamps after `prev` and up to `stamp` too; none if `stamp` is less than `prev`. If there are more than
-    /// [`Coverage::MOST`] spans then, the gap after the floor is closed: its stamps count as had. Returns that gap, or an
-    /// empty span.
+    /// Covers the stamps after `prev` and up to `stamp` too. Nothing changes if there are none, which is if `stamp` is at
+    /// most `prev`. If there are more than [`Coverage::MOST`] spans then, the gap after the floor is closed: its stamps
+    /// count as had. Returns that gap, or an empty span.
     ///
     /// # Errors
     ///

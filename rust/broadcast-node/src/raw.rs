@@ -16,7 +16,7 @@ use std::ops::Range;
 use std::ptr::null_mut;
 
 /// The version of the library's functions that this crate was written for.
-pub const VERSION: u32 = 8;
+pub const VERSION: u32 = 9;
 
 pub const OK: u32 = 0;
 pub const MEMORY: u32 = 1;

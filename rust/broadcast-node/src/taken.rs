@@ -42,8 +42,8 @@ impl<M> Deref for Held<'_, M> {
     }
 }
 
-/// The messages that left the cache with a call, with their digests, in the order in which they left. Those that the caller
-/// does not ask for are dropped with it.
+/// The messages that left the cache with a call, with their digests, in no promised order. Those that the caller does not
+/// read are dropped with it.
 pub struct Evicted<'a, M> {
     /// The numbers of their places, the newest first.
     numbers: Rev<slice::Iter<'a, u64>>,

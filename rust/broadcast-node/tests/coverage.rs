@@ -42,7 +42,7 @@ fn the_oldest_gap_is_closed_and_returned() {
 
 #[test]
 fn what_is_no_coverage_is_refused_and_changes_nothing() {
-    for spans in [&[(5, 7)][..], &[(6, 7), (7, 9)], &[(8, 7)], &[(8, 9), (6, 7)]] {
+    for spans in [&[(5, 7)][..], &[(6, 7), (7, 9)], &[(8, 7)], &[(7, 7)], &[(8, 9), (6, 7)]] {
         let spans = spans.iter().copied().map(span).collect();
         assert_eq!(Coverage::reported(5, spans), Ok(None));
     }
@@ -52,5 +52,14 @@ fn what_is_no_coverage_is_refused_and_changes_nothing() {
     let mut had = Coverage::reported(5, many(3)).unwrap().unwrap();
     let before = had.clone();
     assert_eq!(had.cover(9, 8), Ok(Span::default()));
+    assert_eq!(had, before);
+}
+
+#[test]
+fn a_message_without_stamps_closes_no_gap() {
+    let spans: Vec<_> = (1..=Coverage::MOST as u64).map(|it| span((10 * it, 10 * it + 5))).collect();
+    let mut had = Coverage::reported(5, spans).unwrap().unwrap();
+    let before = had.clone();
+    assert_eq!(had.cover(7, 7), Ok(Span::default()));
     assert_eq!(had, before);
 }

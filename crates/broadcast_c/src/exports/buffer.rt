@@ -16,8 +16,8 @@ pub fn fill<T: Copy>(from: &[T], out: &mut [T], needed: &mut usize) -> u32
     status
 }
 
-// Copies the elements to the front of `out`, as far as there is room.
-fn copy_front<T: Copy>(from: &[T], out: &mut [T])
+/// Copies the elements to the front of `out`, as far as there is room.
+pub fn copy_front<T: Copy>(from: &[T], out: &mut [T])
     ensures { out.new ≡ overlaid from.now out.old }
 {
     if from.len() <= out.len() {

@@ -28,6 +28,7 @@ pub extern "C" fn broadcast_outbox_next(
         NoneOfFirst had (top_if is_held had) in_flight.now (length list.now) list.now }
     ensures invalid { ¬ (result ≡ OK) → ¬ (result ≡ NONE)
         → (result ≡ NO_COVERAGE) × ¬ (IsCoverage 64 (coverage_of floor spans.now)) }
+    ensures valid { ¬ (result ≡ NO_COVERAGE) → IsCoverage 64 (coverage_of floor spans.now) }
     ensures reports_nothing { ¬ (result ≡ OK) → index.new ≡ index.old }
 {
     let Some(reported) = Coverage::reported(floor, spans) else {
@@ -63,6 +64,7 @@ pub extern "C" fn broadcast_outbox_lag(
         → bytes.new ≡ lag (coverage_of floor spans.now) list.now }
     ensures invalid { ¬ (result ≡ OK)
         → (result ≡ NO_COVERAGE) × ¬ (IsCoverage 64 (coverage_of floor spans.now)) }
+    ensures valid { ¬ (result ≡ NO_COVERAGE) → IsCoverage 64 (coverage_of floor spans.now) }
     ensures reports_nothing { ¬ (result ≡ OK) → bytes.new ≡ bytes.old }
 {
     let Some(reported) = Coverage::reported(floor, spans) else {

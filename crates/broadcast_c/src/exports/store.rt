@@ -1,16 +1,8 @@
 //! The functions of a store.
-ghost use Rattle.std.specs.Prelude.{◌≡◌, List, [], length, is_some, true, None, MatchOption};
-ghost use Rattle.std.specs.List.{count_by};
-ghost use Rattle.broadcast_core.specs.Content.{bytes_of, charged_at, list_at, message_at, waiting_at};
-ghost use Rattle.broadcast_core.specs.Empty.{empty};
-ghost use Rattle.broadcast_core.specs.Fronted.{has_primary};
-ghost use Rattle.broadcast_core.specs.Changes.{TakesPeers, Awaits, Cleans, CleansAt};
-ghost use Rattle.broadcast_core.specs.Reports.{Reports};
-ghost use Rattle.broadcast_core.specs.Waiters.{is_gone, gone_from};
-ghost use Rattle.broadcast_core.specs.Counted.{counted};
-ghost use Rattle.broadcast_c.specs.Calls.{BothHold, Fails, Finds, IsFilled, ReportsTaking};
+ghost use Rattle.std.specs.Prelude.{◌≡◌, [], true, false, None, MatchOption};
+ghost use Rattle.broadcast_c.specs.Calls.{BothHold, Fails, Finds};
 ghost use Rattle.broadcast_c.specs.Counting.{counted_as};
-ghost use Rattle.broadcast_c.specs.Storing.{HaveSameNames, MovesLeft, handle_at, same_bytes};
+ghost use Rattle.broadcast_c.specs.Law.{Does, IsNew, store_peers, store_take, store_subscribe, store_cleanup, store_cleanup_of, store_left, store_served, store_get, store_is_primary, store_bytes, store_list, store_count};
 
 use super::buffer::fill;
 use super::counters::broadcast_counters_count;
@@ -56,9 +48,8 @@ pub extern "C" fn broadcast_store_new(
     deque_size: usize,
     byte_budget: u64,
 ) -> u32
-    ensures made { result ≡ OK → MatchOption store.new.value ⊥ (λ new.
-        (new.cache.core ≡ empty own.now deque_size byte_budget)
-        × (new.served ≡ []) × (new.cache.left ≡ [])) }
+    ensures made { result ≡ OK → MatchOption store.new.value ⊥
+        (IsNew own.now deque_size byte_budget) }
     ensures fails { ¬ (result ≡ OK) → (result ≡ MEMORY) × (store.new.value ≡ store.old.value) }
 {
     match Box::new(alloc, Store::new(alloc, *own, deque_size, byte_budget)) {
@@ -86,10 +77,8 @@ pub extern "C" fn broadcast_store_peers(
     store: &mut StoreHandle,
     names: &[Name],
 ) -> u32
-    ensures taken { result ≡ OK → BothHold store.old.value store.new.value (λ old new.
-        (set : List Name) × HaveSameNames names.now set
-        × TakesPeers same_bytes set old.cache.core new.cache.core × (new.served ≡ old.served)
-        × Reports same_bytes old.cache new.cache) }
+    ensures taken { result ≡ OK → BothHold store.old.value store.new.value
+        (Does (store_peers names.now)) }
     ensures fails { ¬ (result ≡ OK) → Fails store.old.value store.new.value result }
     ensures succeeds_on_none { result ≡ MEMORY → ¬ (names.now ≡ []) }
 {
@@ -115,8 +104,8 @@ pub extern "C" fn broadcast_store_take(
     handle: u64,
     out: &mut Stored,
 ) -> u32
-    ensures taken { result ≡ OK → BothHold store.old.value store.new.value (λ old new.
-        ReportsTaking peer.now digest.now charge handle old new out.new) }
+    ensures taken { result ≡ OK → BothHold store.old.value store.new.value
+        (Does (store_take peer.now digest.now charge handle out.new)) }
     ensures fails { ¬ (result ≡ OK) → Fails store.old.value store.new.value result }
     ensures reports_nothing { ¬ (result ≡ OK) → out.new ≡ out.old }
 {
@@ -154,8 +143,8 @@ pub extern "C" fn broadcast_store_receive(
     counters: &mut Counters,
     out: &mut Stored,
 ) -> u32
-    ensures taken { result ≡ OK → BothHold store.old.value store.new.value (λ old new.
-        ReportsTaking peer.now digest.now charge handle old new out.new) }
+    ensures taken { result ≡ OK → BothHold store.old.value store.new.value
+        (Does (store_take peer.now digest.now charge handle out.new)) }
     ensures counted { result ≡ OK → counters.new ≡ counted_as out.new.outcome counters.old }
     ensures fails { ¬ (result ≡ OK) → Fails store.old.value store.new.value result }
     ensures uncounted { ¬ (result ≡ OK) → counters.new ≡ counters.old }
@@ -176,8 +165,8 @@ pub extern "C" fn broadcast_store_served(
     out: &mut [u64],
     needed: &mut usize,
 ) -> u32
-    ensures finds { Finds store.old.value store.new.value result (λ old new. (new ≡ old)
-        × IsFilled old.served out.old out.new needed.new result) }
+    ensures finds { Finds store.old.value store.new.value result
+        (Does (store_served out.old out.new needed.new result)) }
     ensures reports_nothing { result ≡ EMPTY → (out.new ≡ out.old) × (needed.new ≡ needed.old) }
 {
     let Some(held) = store.take(alloc) else {
@@ -197,7 +186,7 @@ pub extern "C" fn broadcast_store_left(
     moved: &mut usize,
 ) -> u32
     ensures finds { Finds store.old.value store.new.value result (λ old new. (result ≡ OK)
-        × MovesLeft old new out.old out.new moved.new) }
+        × Does (store_left out.old out.new moved.new) old new) }
     ensures reports_nothing { result ≡ EMPTY → (out.new ≡ out.old) × (moved.new ≡ moved.old) }
 {
     let Some(mut held) = store.take(alloc) else {
@@ -216,9 +205,8 @@ pub extern "C" fn broadcast_store_get(
     digest: &Digest,
     handle: &mut u64,
 ) -> u32
-    ensures finds { Finds store.old.value store.new.value result (λ old new. (new ≡ old)
-        × MatchOption (handle_at old.cache.core digest.now) (result ≡ NONE)
-        (λ it. (result ≡ OK) × (handle.new ≡ it))) }
+    ensures finds { Finds store.old.value store.new.value result
+        (Does (store_get digest.now handle.new result)) }
     ensures reports_nothing { ¬ (result ≡ OK) → handle.new ≡ handle.old }
 {
     let Some(held) = store.take(alloc) else {
@@ -243,12 +231,10 @@ pub extern "C" fn broadcast_store_subscribe(
     ticket: u64,
     digest: &Digest,
 ) -> u32
-    ensures waits { result ≡ WAITS → BothHold store.old.value store.new.value (λ old new.
-        (message_at same_bytes old.cache.core digest.now ≡ None)
-        × Awaits same_bytes digest.now ticket old.cache.core new.cache.core
-        × (new.served ≡ old.served) × (new.cache.left ≡ old.cache.left)) }
-    ensures answered { result ≡ OK → BothHold store.old.value store.new.value (λ old new.
-        (is_some (message_at same_bytes old.cache.core digest.now) ≡ true) × (new ≡ old)) }
+    ensures waits { result ≡ WAITS → BothHold store.old.value store.new.value
+        (Does (store_subscribe ticket digest.now true)) }
+    ensures answered { result ≡ OK → BothHold store.old.value store.new.value
+        (Does (store_subscribe ticket digest.now false)) }
     ensures fails { ¬ (result ≡ OK) → ¬ (result ≡ WAITS)
         → Fails store.old.value store.new.value result }
 {
@@ -273,9 +259,7 @@ pub extern "C" fn broadcast_store_cleanup(
     removed: &mut u64,
 ) -> u32
     ensures finds { Finds store.old.value store.new.value result (λ old new. (result ≡ OK)
-        × Cleans same_bytes (is_gone (λ t. t) tickets.now) old.cache.core new.cache.core
-        × (new.served ≡ old.served) × (new.cache.left ≡ old.cache.left)
-        × (removed.new ≡ counted (gone_from (λ t. t) tickets.now old.cache.core.waiters))) }
+        × Does (store_cleanup tickets.now removed.new) old new) }
     ensures reports_nothing { result ≡ EMPTY → removed.new ≡ removed.old }
 {
     let Some(mut held) = store.take(alloc) else {
@@ -296,10 +280,7 @@ pub extern "C" fn broadcast_store_cleanup_of(
     removed: &mut u64,
 ) -> u32
     ensures finds { Finds store.old.value store.new.value result (λ old new. (result ≡ OK)
-        × CleansAt same_bytes digest.now (is_gone (λ t. t) tickets.now) old.cache.core
-        new.cache.core × (new.served ≡ old.served) × (new.cache.left ≡ old.cache.left)
-        × (removed.new ≡ count_by (is_gone (λ t. t) tickets.now)
-        (waiting_at same_bytes old.cache.core digest.now))) }
+        × Does (store_cleanup_of digest.now tickets.now removed.new) old new) }
     ensures reports_nothing { result ≡ EMPTY → removed.new ≡ removed.old }
 {
     let Some(mut held) = store.take(alloc) else {
@@ -318,8 +299,8 @@ pub extern "C" fn broadcast_store_is_primary(
     peer: &Name,
     out: &mut bool,
 ) -> u32
-    ensures finds { Finds store.old.value store.new.value result (λ old new. (new ≡ old)
-        × (result ≡ OK) × (out.new ≡ has_primary same_bytes old.cache.core peer.now)) }
+    ensures finds { Finds store.old.value store.new.value result (λ old new. (result ≡ OK)
+        × Does (store_is_primary peer.now out.new) old new) }
     ensures reports_nothing { result ≡ EMPTY → out.new ≡ out.old }
 {
     let Some(held) = store.take(alloc) else {
@@ -338,8 +319,8 @@ pub extern "C" fn broadcast_store_bytes(
     peer: &Name,
     out: &mut u64,
 ) -> u32
-    ensures finds { Finds store.old.value store.new.value result (λ old new. (new ≡ old)
-        × (result ≡ OK) × (out.new ≡ bytes_of (charged_at same_bytes old.cache.core peer.now))) }
+    ensures finds { Finds store.old.value store.new.value result (λ old new. (result ≡ OK)
+        × Does (store_bytes peer.now out.new) old new) }
     ensures reports_nothing { result ≡ EMPTY → out.new ≡ out.old }
 {
     let Some(held) = store.take(alloc) else {
@@ -359,8 +340,8 @@ pub extern "C" fn broadcast_store_list(
     out: &mut [Digest],
     needed: &mut usize,
 ) -> u32
-    ensures finds { Finds store.old.value store.new.value result (λ old new. (new ≡ old)
-        × IsFilled (list_at same_bytes old.cache.core peer.now) out.old out.new needed.new result) }
+    ensures finds { Finds store.old.value store.new.value result
+        (Does (store_list peer.now out.old out.new needed.new result)) }
     ensures reports_nothing { result ≡ EMPTY → (out.new ≡ out.old) × (needed.new ≡ needed.old) }
 {
     let Some(held) = store.take(alloc) else {
@@ -379,9 +360,8 @@ pub extern "C" fn broadcast_store_count(
     store: &mut StoreHandle,
     out: &mut Counts,
 ) -> u32
-    ensures finds { Finds store.old.value store.new.value result (λ old new. (new ≡ old)
-        × (result ≡ OK) × (out.new.cached ≡ length old.cache.core.cached)
-        × (out.new.awaited ≡ length old.cache.core.waiters)) }
+    ensures finds { Finds store.old.value store.new.value result (λ old new. (result ≡ OK)
+        × Does (store_count out.new) old new) }
     ensures reports_nothing { result ≡ EMPTY → out.new ≡ out.old }
 {
     let Some(held) = store.take(alloc) else {
