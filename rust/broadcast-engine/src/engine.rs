@@ -10,11 +10,12 @@ use crate::inbox::{Inbox, Incoming, Request};
 use crate::metrics::Counters;
 use crate::waiting::{Responder, Waiting};
 use crate::{
-    Config, Digested, Error, Id, Mailbox, Message, Metrics, Outcome, Provider, Receiver, Sender,
-    Strategy,
+    Config, Digested, Error, Id, Mailbox, Message, Metrics, Provider, Receiver, RestoreError,
+    Sender, Snapshot, Strategy,
 };
-use broadcast_node::{Cache, Digest, Held, Key};
+use broadcast_node::{Cache, Digest, Held, Key, Outcome};
 use bytes::Bytes;
+use std::collections::HashMap;
 use std::fmt;
 use std::future::{Future, poll_fn};
 use std::pin::{Pin, pin};
@@ -67,15 +68,46 @@ impl<P: Id, M: Message, D: Provider<PublicKey = P>, T: Strategy> Engine<P, M, D,
     ///
     /// # Errors
     ///
-    /// Those of [`Cache::new`]: there is no memory, or the library cannot be used.
+    /// There is no memory, or the library cannot be used.
     pub fn new(config: Config<P, M::Config, D, T>) -> Result<(Self, Mailbox<P, M>), Error> {
         let own = id::key(&config.public_key);
         let cache = Cache::new(own, config.deque_size, config.byte_budget)?;
-        Ok(Engine::with_cache(config, cache))
+        Ok(Engine::over(config, cache))
     }
 
-    /// Creates an engine over an empty cache, which has the sizes of the configuration.
-    pub fn with_cache(
+    /// Creates an engine as [`Engine::new`] does, with the peer set and the lists of a snapshot, which another engine has
+    /// made by [`Mailbox::snapshot`]. The first peer set of the provider keeps the lists of its peers.
+    ///
+    /// It goes by the messages: each has the digest that it says, and is charged the length of its encoding, whatever the
+    /// snapshot says of it. A program that has stored their encodings decodes them first.
+    ///
+    /// # Errors
+    ///
+    /// Those of [`Engine::new`]. One that names what does not fit, if the lists are not those of an engine with this
+    /// configuration: lists that are too long, a listed digest without a message, a message on no list, and repeats.
+    pub fn restore(
+        config: Config<P, M::Config, D, T>,
+        snapshot: Snapshot<Digested<M>>,
+    ) -> Result<(Self, Mailbox<P, M>), RestoreError> {
+        let mut charges = HashMap::new();
+        let mut messages = Vec::new();
+        for (_, _, message) in snapshot.messages {
+            let (digest, charge) = (message.name(), message.encode().len());
+            charges.insert(digest, charge);
+            messages.push((digest, charge, message));
+        }
+        let charged = |digest| (digest, charges.get(&digest).copied().unwrap_or(0));
+        let lists = snapshot.lists.into_iter().map(|(key, list)| {
+            let digests = list.into_iter().map(|(digest, _)| charged(digest));
+            (key, digests.collect())
+        });
+        let own = id::key(&config.public_key);
+        let snapshot = Snapshot::new(lists.collect(), messages);
+        let cache = Cache::restore(own, config.deque_size, config.byte_budget, snapshot)?;
+        Ok(Engine::over(config, cache))
+    }
+
+    fn over(
         config: Config<P, M::Config, D, T>,
         cache: Cache<Digested<M>>,
     ) -> (Self, Mailbox<P, M>) {
@@ -227,6 +259,11 @@ impl<P: Id, M: Message, D: Provider<PublicKey = P>, T: Strategy> Engine<P, M, D,
             }
             Request::List(peer, responder) => {
                 let _ = responder.send(self.list(&peer));
+            }
+            Request::Snapshot(responder) if responder.is_closed() => {}
+            Request::Snapshot(responder) => {
+                trace!("mailbox: snapshot");
+                let _ = responder.send(self.cache.snapshot());
             }
             Request::Deliver(feed) => {
                 self.feeds.retain(|it| !it.is_closed());

@@ -3,7 +3,7 @@
 
 use crate::deliveries::Feed;
 use crate::waiting::Responder;
-use crate::{Digested, Error, Message, Recipients};
+use crate::{Digested, Error, Message, Recipients, Snapshot};
 use std::collections::VecDeque;
 use std::sync::atomic::{AtomicU64, Ordering};
 use std::sync::{Arc, Mutex, MutexGuard, PoisonError};
@@ -35,6 +35,7 @@ pub enum Request<P, M: Message> {
     Subscribe(u64, M::Digest, Responder<M>),
     Get(M::Digest, oneshot::Sender<Option<Digested<M>>>),
     List(P, oneshot::Sender<Result<Vec<Digested<M>>, Error>>),
+    Snapshot(oneshot::Sender<Result<Snapshot<Digested<M>>, Error>>),
     Deliver(Feed<M>),
 }
 
@@ -45,6 +46,7 @@ impl<P, M: Message> Request<P, M> {
             Request::Subscribe(_, _, responder) => responder.is_closed(),
             Request::Get(_, responder) => responder.is_closed(),
             Request::List(_, responder) => responder.is_closed(),
+            Request::Snapshot(responder) => responder.is_closed(),
             Request::Deliver(feed) => feed.is_closed(),
         }
     }

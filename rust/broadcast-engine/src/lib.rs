@@ -82,7 +82,7 @@ mod prometheus;
 mod strategy;
 mod waiting;
 
-pub use broadcast_node::{Cache, Digest, Error, Outcome};
+pub use broadcast_node::{Digest, Error, Key, RestoreError, Snapshot};
 pub use config::Config;
 pub use deliveries::Deliveries;
 pub use engine::{End, Engine};

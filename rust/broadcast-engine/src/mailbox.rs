@@ -3,7 +3,7 @@
 use crate::deliveries::Deliveries;
 use crate::id::Hex;
 use crate::inbox::{Feedback, Inbox, Request};
-use crate::{Digested, Error, Id, Message, Recipients};
+use crate::{Digested, Error, Id, Message, Recipients, Snapshot};
 use std::fmt;
 use std::future::Future;
 use std::pin::Pin;
@@ -100,6 +100,20 @@ impl<P: Id, M: Message> Mailbox<P, M> {
     ) -> impl Future<Output = Result<Vec<Digested<M>>, Canceled>> + Send + use<P, M> {
         let (responder, receiver) = oneshot::channel();
         let _ = self.inbox.enqueue(Request::List(peer, responder));
+        async move { receiver.await.map_err(|_| Canceled::Ended)?.map_err(Canceled::Failed) }
+    }
+
+    /// Returns all lists and their messages, which the reply shares. [`Engine::restore`](crate::Engine::restore) makes an
+    /// engine of it. The engine does nothing else for about a microsecond a listed digest.
+    ///
+    /// # Errors
+    ///
+    /// [`Canceled`], if the engine has ended or the cache fails.
+    pub fn snapshot(
+        &self,
+    ) -> impl Future<Output = Result<Snapshot<Digested<M>>, Canceled>> + Send + use<P, M> {
+        let (responder, receiver) = oneshot::channel();
+        let _ = self.inbox.enqueue(Request::Snapshot(responder));
         async move { receiver.await.map_err(|_| Canceled::Ended)?.map_err(Canceled::Failed) }
     }
 

@@ -134,6 +134,19 @@ fn a_list_without_memory_is_no_empty_list() {
     assert_eq!(poll(list), Poll::Ready(Ok(vec![Digested::new(Text("hello"))])));
 }
 
+#[test]
+fn a_snapshot_without_memory_is_no_empty_snapshot() {
+    let mut run = Run::new();
+    run.broadcast(None);
+    let snapshot = run.mailbox.snapshot();
+    run.step(Some(0));
+    assert_eq!(poll(snapshot), Poll::Ready(Err(Canceled::Failed(Error::Memory))));
+    let snapshot = run.mailbox.snapshot();
+    run.step(None);
+    let Poll::Ready(Ok(snapshot)) = poll(snapshot) else { panic!("no snapshot") };
+    assert_eq!((snapshot.lists[0].1.len(), snapshot.messages.len()), (1, 1));
+}
+
 /// The first allocation is the engine's own.
 #[test]
 fn a_subscription_without_memory_does_not_wait() {
