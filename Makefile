@@ -6,7 +6,7 @@ EVENTS ?= examples/two-peers.events
 NEEDS_RT = @command -v rt > /dev/null || { echo "rt, the tool of Rattle, is not found: docs/TOOLCHAIN.md says where it comes from." \
 	"Without it: cd rust && cargo test; make install" >&2; exit 1; }
 
-.PHONY: help try check quick test lib dist install border relays soak runs generated faults mutants pictures bench
+.PHONY: help try check quick test lib dist install border relays engines soak runs generated faults mutants pictures bench
 
 help:
 	@echo "make try        builds replay WITHOUT A PROOF, and prints each event of an example beside its answer: a minute"
@@ -17,7 +17,7 @@ help:
 	@echo "make dist       what callers without the toolchain need, in the folder dist"
 	@echo "make install    the kept library for C, with header and pkg-config file, in PREFIX: seconds, needs cc alone"
 	@echo "make mutants    tries all wrong bodies: most of an hour *"
-	@echo "make border, relays, runs, generated, faults    single steps of the gate *"
+	@echo "make border, relays, engines, runs, generated, faults    single steps of the gate *"
 	@echo "make soak       twenty minutes of load and attack on relays *"
 	@echo "make bench      times replay beside a plain Rust program *"
 	@echo "make pictures   draws the pictures of the documents *"
@@ -63,6 +63,11 @@ border:
 relays:
 	@echo "relays: testing the async engine, and relays under attack, over that library"
 	@scripts/relays
+
+engines:
+	$(NEEDS_RT)
+	@echo "engines: running the same scenarios through the engine in Rattle and the async one"
+	@scripts/engines
 
 # Twenty minutes of load and attack; no part of the gate.
 soak:

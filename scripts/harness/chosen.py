@@ -10,7 +10,7 @@ import sys
 import time
 from concurrent.futures import ThreadPoolExecutor
 
-from harness import unproved
+from harness import scenarios, unproved
 from harness.common import TOP, lanes
 from harness.faults import call_fault
 from harness.mutants import misplaced
@@ -27,7 +27,7 @@ LIMIT = 60
 def crate_of(by):
     """The crate that is built for what must refuse a mutant, and whether its tests are."""
     kind, *words = by
-    return "examples" if kind == "shown" else words[0], kind == "tests"
+    return {"shown": "examples", "scenarios": scenarios.CRATE}.get(kind) or words[0], kind == "tests"
 
 
 def copy(top, mutants, crates):
@@ -48,6 +48,10 @@ def refused_by_tests(executable, _crate, *words):
     meant = [test for test in unproved.tests_of(executable) if not words or any(word in test for word in words)]
     assert meant, f"no test has one of {words} in its name"
     return any(unproved.fault_of_test(executable, test) for test in meant)
+
+
+def refused_by_scenarios(executable, *names):
+    return any(fault for path in scenarios.stored(names) for fault in scenarios.faults(executable, path))
 
 
 def refused_by_stored(executable, program, *names):
@@ -80,6 +84,7 @@ def refused_by_success(executable, _program, *words):
 
 KINDS = {
     "tests": refused_by_tests,
+    "scenarios": refused_by_scenarios,
     "stored": refused_by_stored,
     "beyond": refused_by_beyond,
     "first-write": refused_by_first_write,

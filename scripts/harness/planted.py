@@ -16,11 +16,14 @@ PLACE = RUST / "target" / "mutants"
 # What the crates read of the repository.
 PARTS = ("rust", "tests")
 LIMIT = 120
+# The test that runs the scenarios which the engine in Rattle told of.
+GENERATED = ("cargo", "scenarios", "generated", "--include-ignored")
 PASSED = re.compile(r"^test result: ok\. [1-9]", re.M)
 
 
-def known():
-    return read_all("mutants/rust")
+def known(kind="cargo"):
+    """The wrong bodies that something of this kind must refuse."""
+    return [it for it in read_all("mutants/rust") if any(by[0] == kind for by in it.by)]
 
 
 def copy():
@@ -40,7 +43,7 @@ def tests_of(crate, target):
 
 def run(crate, by, env):
     """Returns whether the tests are built, whether they passed, and what was said."""
-    _, target, *words = by
+    _, target, *words = by if by[0] == "cargo" else GENERATED
     tests = tests_of(crate, target)
     is_built, said = cargo("test", [*tests, "--no-run"], env, 1_200, cwd=PLACE / "rust")
     if not is_built:
@@ -60,17 +63,18 @@ def plant(mutant):
     return texts
 
 
-def tried(mutants, env):
-    """Tries mutants. Yields a label, whether all went as it must, and what was said."""
+def tried(mutants, env, kind="cargo"):
+    """Tries mutants by what is of this kind. Yields a label, whether all went as it must, and what was said."""
     copy()
     env = {**env, "CARGO_TARGET_DIR": str(RUST / "target")}
-    for crate, by in dict.fromkeys((it.crate, by) for it in mutants for by in it.by):
+    of_kind = {it: [by for by in it.by if by[0] == kind] for it in mutants}
+    for crate, by in dict.fromkeys((it.crate, by) for it in mutants for by in of_kind[it]):
         _, is_well, said = run(crate, by, env)
-        yield f"no mutant: {crate} {' '.join(by[1:])}", is_well, said
+        yield f"no mutant: {crate} {' '.join(by)}", is_well, said
     for mutant in mutants:
         changed = plant(mutant)
-        for by in mutant.by:
+        for by in of_kind[mutant]:
             is_built, is_well, said = run(mutant.crate, by, env)
-            yield f"{mutant.label}: {' '.join(by[1:])}", is_built and not is_well, said
+            yield f"{mutant.label}: {' '.join(by)}", is_built and not is_well, said
         for file in changed:
             (PLACE / file).write_text((TOP / file).read_text())

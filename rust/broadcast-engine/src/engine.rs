@@ -1,6 +1,6 @@
 //! The engine: a future that owns the cache and handles one event a turn.
 //!
-//! In each turn it looks, in this order, for dropped subscriptions, a stop, a new peer set, a request, and a payload of
+//! In each turn it looks, in this order, for a stop, dropped subscriptions, a new peer set, a request, and a payload of
 //! the network: so a payload never overtakes a request, and waits while there are requests. Before one turn of 64 the
 //! engine lets other tasks run, which changes no order.
 
@@ -192,7 +192,7 @@ impl<P: Id, M: Message, D: Provider<PublicKey = P>, T: Strategy> Engine<P, M, D,
         }
     }
 
-    /// Drops what nobody waits for any more, and waits for the next event. Each poll has the order of a turn.
+    /// Waits for the next event, and drops what nobody waits for any more. Each poll has the order of a turn.
     async fn next<R: Receiver<PublicKey = P>>(
         &mut self,
         receiver: &mut R,
@@ -203,15 +203,15 @@ impl<P: Id, M: Message, D: Provider<PublicKey = P>, T: Strategy> Engine<P, M, D,
         let mut peers = pin!(self.peer_provider.next());
         let (mut incoming, mut received) = (pin!(inbox.next()), pin!(receiver.recv()));
         poll_fn(|cx| {
+            if stop.as_mut().poll(cx).is_ready() {
+                return Poll::Ready(Event::Stopped);
+            }
             for number in inbox.take_dropped() {
                 if waiting.remove(cache, number) {
                     counters.subscribe.dropped.inc();
                 }
             }
             counters.show_sizes(cache.counts());
-            if stop.as_mut().poll(cx).is_ready() {
-                return Poll::Ready(Event::Stopped);
-            }
             if let Poll::Ready(peers) = peers.as_mut().poll(cx) {
                 return Poll::Ready(Event::Peers(peers));
             }

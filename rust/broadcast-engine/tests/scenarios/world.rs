@@ -1,189 +1,164 @@
-//! Nodes with the keys from 1, their callers, and what feeds them.
+//! Nodes, and the futures of their callers.
 
-use crate::act::{Act, Given, To};
-use crate::engines::{
-    Key, Network, TestEngine, TestMailbox, TestMessage, Tracker, config, count, payloads_of, settle,
-};
-use broadcast_engine::{Digested, Handle, Message, Metrics, Recipients};
-use std::fmt::Debug;
-use std::future::Future;
+use crate::feeds::Sent;
+use crate::node::{Asked, Node, Sizes};
+use crate::words::{key, keys, message, number, number_behind, number_of};
+use broadcast_engine::{Message, Recipients};
 use std::num::NonZeroUsize;
-use std::pin::Pin;
-use std::task::{Context, Poll, Waker};
+use std::time::Duration;
 
-/// What an action shows that it should not.
-pub type Wrong = String;
-
-/// A future of a get or a subscribe, until it is ready or dropped.
-type Asked = Option<Pin<Box<dyn Future<Output = Given>>>>;
-
-struct Node {
-    tracker: Tracker,
-    mailbox: TestMailbox,
-    metrics: Metrics,
-    _handle: Handle,
-}
-
+/// Nodes in the order in which they were created, and futures by their numbers.
 pub struct World {
-    network: Network,
     nodes: Vec<Node>,
     asked: Vec<Asked>,
+    /// How many sends are still lost.
+    lose: u64,
 }
 
-fn key(number: u64) -> Key {
-    [number as u8; 32]
-}
-
-fn keys(digits: &[u8]) -> Vec<Key> {
-    digits.iter().map(|it| key(u64::from(it - b'0'))).collect()
-}
-
-fn recipients(to: To) -> Recipients<Key> {
-    match to {
-        To::All => Recipients::All,
-        To::Some(digits) => Recipients::Some(keys(digits)),
-        To::One(number) => Recipients::One(key(number)),
+fn sizes(words: &[&str]) -> Sizes {
+    let mailbox = number_behind(words, "mailbox").unwrap_or(1) as usize;
+    Sizes {
+        mailbox: NonZeroUsize::new(mailbox).unwrap(),
+        lists: number_behind(words, "lists").unwrap_or(0) as usize,
+        bytes: number_behind(words, "bytes").unwrap_or(u64::MAX),
     }
 }
 
-/// The message of a letter, under the digest of another letter's.
-fn message(letter: u8, goes_by: u8) -> Digested<TestMessage> {
-    Digested::precomputed(TestMessage::shared([letter]), TestMessage::digested([goes_by]).digest())
+/// A digest of a number, which no message has.
+fn numbered(number: u64) -> [u8; 32] {
+    let mut digest = [0; 32];
+    digest[24..].copy_from_slice(&number.to_be_bytes());
+    digest
 }
 
-/// What the future of a message gives: its letter, or 0 if it has none.
-fn given(found: Option<Digested<TestMessage>>) -> Given {
-    found.map_or(Given::Nothing, |it| {
-        let has_letter = it.commitment == it.content;
-        Given::Letter(it.content.first().copied().filter(|_| has_letter).unwrap_or(0))
-    })
-}
-
-fn poll(asked: &mut Asked) -> Given {
-    let Some(future) = asked else { return Given::Nothing };
-    match future.as_mut().poll(&mut Context::from_waker(Waker::noop())) {
-        Poll::Ready(given) => given,
-        Poll::Pending => Given::Waits,
-    }
-}
-
-fn same<T: PartialEq + Debug>(wanted: T, found: T) -> Result<(), Wrong> {
-    if wanted == found { Ok(()) } else { Err(format!("it is {found:?}")) }
-}
-
-impl Node {
-    fn start(network: &Network, number: u64, sizes: (usize, usize)) -> Node {
-        let tracker = Tracker::new(1);
-        let mut config = config(key(number), &tracker);
-        config.mailbox_size = NonZeroUsize::new(sizes.0).unwrap();
-        config.deque_size = sizes.1;
-        // That of ten messages of letters.
-        config.byte_budget = 100;
-        let (engine, mailbox) = TestEngine::new(config).unwrap();
-        let metrics = engine.metrics();
-        let handle = engine.start(network.join(key(number)));
-        Node { tracker, mailbox, metrics, _handle: handle }
-    }
-
-    fn by<const N: usize>(&self, family: &str, statuses: [&str; N]) -> [u64; N] {
-        statuses.map(|it| count(&self.metrics, &format!("{family}.{it}")))
-    }
-
-    /// Compares the counters with those of `Act::All`. All others must be 0. What came from a key while it was not
-    /// primary is counted with that of all such keys, so only the sum over all keys is equal.
-    fn has(&self, totals: Act) -> Result<(), Wrong> {
-        let Act::All(_, peers, received, subscribed, got, waiters) = totals else {
-            return Ok(());
-        };
-        let own = [1, 2, 3, 4].map(|it| payloads_of(&self.metrics, &key(it)).unwrap_or(0));
-        let others = self.metrics.snapshot().other_peers;
-        same(peers.iter().sum(), own.iter().sum::<u64>() + others)?;
-        same(true, own.iter().zip(peers).all(|(own, all)| *own <= all))?;
-        same(received, self.by("receive", ["success", "dropped", "invalid"]))?;
-        same(subscribed, self.by("subscribe", ["success", "dropped"]))?;
-        same(got, self.by("get", ["success", "failure", "dropped"]))?;
-        same(waiters, count(&self.metrics, "waiters"))?;
-        let never = ["receive.failure", "subscribe.failure", "subscribe.invalid", "get.invalid"];
-        same([0; 4], never.map(|it| count(&self.metrics, it)))
+fn is_for(sent: &Sent, number: u64) -> bool {
+    match &sent.recipients {
+        Recipients::All => true,
+        Recipients::Some(keys) => keys.contains(&key(number)),
+        Recipients::One(one) => number_of(one) == number,
     }
 }
 
 impl World {
     pub fn new() -> World {
-        World { network: Network::new(0.0), nodes: Vec::new(), asked: Vec::new() }
+        World { nodes: Vec::new(), asked: Vec::new(), lose: 0 }
     }
 
-    fn node(&self, number: u64) -> &Node {
-        &self.nodes[number as usize - 1]
+    fn node(&mut self, number: u64) -> &mut Node {
+        self.nodes.iter_mut().find(|it| it.number == number).expect("no such node")
     }
 
-    /// Does what the action says, and looks whether it goes as it should.
-    pub async fn goes(&mut self, act: Act) -> Result<(), Wrong> {
-        match act {
-            Act::Nodes(nodes, mailbox, deque) => {
-                let start = |it| Node::start(&self.network, it, (mailbox, deque));
-                self.nodes = (1..=nodes).map(start).collect();
+    /// Does what the words of a sentence say, and returns what is seen.
+    pub async fn does(&mut self, words: &[&str]) -> Option<String> {
+        match words {
+            [] => {}
+            ["nodes", last, rest @ ..] => {
+                self.nodes.extend((1..=number(last)).map(|it| Node::new(it, sizes(rest))));
             }
-            Act::AllTrack(peers) => {
-                self.nodes.iter().for_each(|it| it.tracker.track(0, &keys(peers)));
-                settle().await;
+            ["node", it, rest @ ..] => self.nodes.push(Node::new(number(it), sizes(rest))),
+            ["peers", words @ ..] => {
+                self.nodes.iter().for_each(|it| it.peers.set(keys(words)));
+                self.run().await;
             }
-            Act::Track(number, peers) => self.node(number).tracker.track(0, &keys(peers)),
-            Act::Broadcast(number, to, letter) => self.broadcast(number, to, letter, letter)?,
-            Act::BroadcastAs(number, to, letter, goes_by) => {
-                self.broadcast(number, to, letter, goes_by)?;
-            }
-            Act::Told(number, wanted) => {
-                let mailbox = &self.node(number).mailbox;
-                same(wanted, mailbox.broadcast(Recipients::All, message(b'z', b'z')))?;
-            }
-            Act::Subscribe(..) | Act::Get(..) => self.ask(act),
-            Act::Gives(place, wanted) => same(wanted, poll(&mut self.asked[place]))?,
-            Act::Hang(place) => self.asked[place] = None,
-            Act::Finds(.., wanted) | Act::Hears(.., wanted) => {
-                self.ask(act);
-                settle().await;
-                let mut asked = self.asked.pop().flatten();
-                same(wanted, matches!(poll(&mut asked), Given::Letter(_)))?;
-            }
-            Act::Payload(to, from, bytes) => {
-                self.network.hand(&key(to), key(from), bytes.into());
-            }
-            Act::Comes(to, from, letter) => {
-                self.network.hand(&key(to), key(from), message(letter, letter).encode());
-            }
-            Act::Run => settle().await,
-            Act::Lose(sends) => self.network.lose(sends),
-            Act::All(number, ..) => self.node(number).has(act)?,
+            ["run"] => self.run().await,
+            ["lose", sends] => self.lose = number(sends),
+            ["drop", future] => self.drop_futures(number(future), number(future)),
+            ["drop", first, "to", last] => self.drop_futures(number(first), number(last)),
+            [future] => return Some(self.asked[number(future) as usize].look()),
+            [node, rest @ ..] => return self.calls(number(node), rest).await,
         }
-        Ok(())
+        None
     }
 
-    fn broadcast(&self, number: u64, to: To, letter: u8, goes_by: u8) -> Result<(), Wrong> {
-        let mailbox = &self.node(number).mailbox;
-        same(true, mailbox.broadcast(recipients(to), message(letter, goes_by)).accepted())
-    }
-
-    /// Makes a get or a subscribe, whose future gets the next number.
-    fn ask(&mut self, act: Act) {
-        let (Act::Subscribe(number, letter)
-        | Act::Get(number, letter)
-        | Act::Finds(number, letter, _)
-        | Act::Hears(number, letter, _)) = act
-        else {
-            return;
-        };
-        let mailbox = self.node(number).mailbox.clone();
-        let digest = message(letter, letter).digest();
-        let mut asked: Asked = Some(match act {
-            Act::Subscribe(..) | Act::Hears(..) => {
-                let subscription = mailbox.subscribe(digest);
-                Box::pin(async move { given(subscription.await.ok()) })
+    /// Makes the call that the words say at a node, and returns what is seen.
+    async fn calls(&mut self, number_of_node: u64, words: &[&str]) -> Option<String> {
+        match words {
+            ["subscribes", "to", "digests", first, "to", last] => {
+                for at in number(first)..=number(last) {
+                    self.ask(number_of_node, false, numbered(at), at);
+                }
             }
-            _ => Box::pin(async move { given(mailbox.get(digest).await) }),
-        });
-        // A get is queued when it is polled first.
-        assert_eq!(poll(&mut asked), Given::Waits);
-        self.asked.push(asked);
+            [verb @ ("subscribes" | "gets"), name, "as", future] => {
+                let digest = message(name).digest();
+                self.ask(number_of_node, *verb == "gets", digest, number(future));
+            }
+            [verb @ ("subscribes" | "gets"), name] => {
+                return Some(self.hear(number_of_node, *verb == "gets", name).await);
+            }
+            ["has", names @ ..] => return Some(self.has(number_of_node, names).await),
+            _ => return self.node(number_of_node).does(words),
+        }
+        None
+    }
+
+    /// Makes a get or a subscribe, whose future gets the number.
+    fn ask(&mut self, node: u64, is_get: bool, digest: [u8; 32], future: u64) {
+        let asked = self.node(node).ask(is_get, digest);
+        let place = future as usize;
+        if self.asked.len() <= place {
+            self.asked.resize_with(place + 1, || Asked::GONE);
+        }
+        self.asked[place] = asked;
+    }
+
+    /// Makes a get or a subscribe, lets all run, and drops the future. Returns what it gives.
+    async fn hear(&mut self, node: u64, is_get: bool, name: &str) -> String {
+        let mut asked = self.node(node).ask(is_get, message(name).digest());
+        self.run().await;
+        asked.look()
+    }
+
+    /// The names whose messages a get finds.
+    async fn has(&mut self, node: u64, names: &[&str]) -> String {
+        let mut found = Vec::new();
+        for name in names {
+            let heard = self.hear(node, true, name).await;
+            if heard != "nothing" {
+                found.push(heard);
+            }
+        }
+        if found.is_empty() { "nothing".to_owned() } else { found.join(" ") }
+    }
+
+    fn drop_futures(&mut self, first: u64, last: u64) {
+        for asked in self.asked.iter_mut().take(last as usize + 1).skip(first as usize) {
+            *asked = Asked::GONE;
+        }
+    }
+
+    /// Lets all nodes run, and delivers what they sent, until all rest.
+    async fn run(&mut self) {
+        loop {
+            // The clock is paused, and goes on once no engine has anything to do.
+            tokio::time::sleep(Duration::from_millis(1)).await;
+            if !self.deliver() {
+                return;
+            }
+        }
+    }
+
+    /// Delivers what was sent, but for what is lost. Returns whether there was anything.
+    fn deliver(&mut self) -> bool {
+        let mut are_any = false;
+        for at in 0..self.nodes.len() {
+            for sent in self.nodes[at].undelivered() {
+                are_any = true;
+                if self.lose > 0 {
+                    self.lose -= 1;
+                } else {
+                    self.spread(self.nodes[at].number, &sent);
+                }
+            }
+        }
+        are_any
+    }
+
+    /// Delivers what a node sent to each other node that it is for.
+    fn spread(&self, sender: u64, sent: &Sent) {
+        for node in &self.nodes {
+            if node.number != sender && is_for(sent, node.number) {
+                node.inbound.push(key(sender), sent.bytes.clone());
+            }
+        }
     }
 }
