@@ -307,18 +307,18 @@ impl Hub {
         });
     }
 
-    /// Takes a message: checks the signature, journals it and prints it, if it is new. Returns how long the connection rests then, which
-    /// is long only for a peer that sends more than it has room for.
-    pub fn take(&self, session: &Session, message: Signed) -> io::Result<Duration> {
+    /// Takes a message: checks the signature, journals it and prints it, if it is wanted. Returns whether it was new.
+    pub fn take(&self, session: &Session, message: Signed) -> io::Result<bool> {
         let peer = &session.peer;
         let count = |it: &IntCounterVec| it.with_label_values(&[&peer.config.name]).inc();
         let Some(author) = self.find(&message.author) else {
             count(&self.metrics.unlisted);
-            return Ok(Duration::ZERO);
+            return Ok(false);
         };
         let (node, is_own, mut cost) = (author.node, author.node == self.own.node, 0);
         let mut known = author.author.lock();
-        let is_wanted = self.gossip.lock().machine.wants(node, message.stamp);
+        let it = item(node, &message);
+        let is_wanted = self.gossip.lock().machine.wants(now(), peer.node, &it);
         if is_wanted {
             cost = known.check(&message).map_err(invalid)? * self.signature_cost;
             // An own message that comes back is not journaled: the journal has those after which the next one comes.
@@ -328,22 +328,21 @@ impl Hub {
                 journal.append(slice::from_ref(&message))?;
             }
         }
-        let (taken, rest) = self.act(|gossip, now| {
-            // What came over a connection that is replaced counts against none.
-            if !is_wanted && !gossip.seats[peer.node].is_of(session) {
-                return Ok((Taken::Again, 0));
-            }
+        let taken = self.act(|gossip, now| {
             gossip.machine.charge(now, node, cost);
-            let taken = gossip.machine.message(now, peer.node, item(node, &message));
-            taken.map(|it| (it, gossip.machine.ready(now, node) - now)).map_err(invalid)
-        })?;
+            // What came over a connection that is replaced is not of the new one.
+            let from = gossip.seats[peer.node].is_of(session).then_some(peer.node);
+            gossip.machine.message(now, from, it, is_wanted)
+        });
+        let taken = taken.map_err(invalid)?;
         match taken {
             Taken::New if is_own => {}
             Taken::New => self.deliver(&author, &message),
             Taken::Again => count(&self.metrics.again),
+            Taken::LeftOut => count(&self.metrics.left_out),
             Taken::Unlisted => count(&self.metrics.unlisted),
         }
-        Ok(Duration::from_micros(rest))
+        Ok(taken == Taken::New)
     }
 
     fn deliver(&self, author: &Peer, message: &Signed) {
