@@ -23,6 +23,8 @@ use tracing::{debug, info, warn};
 
 /// How often it is looked at least whether something is due.
 const LOOK: Duration = Duration::from_secs(1);
+/// The longest round trip, in microseconds, that a peer has that dials, unless this relay dials a peer that is farther away.
+const ACCEPTED: Time = 50_000;
 
 pub struct Hub {
     pub identity: Identity,
@@ -47,6 +49,8 @@ struct Gossip {
     seats: Vec<Seat>,
     /// When the timer goes off.
     timer: Time,
+    /// The longest round trip of a connection that was dialed.
+    farthest: Time,
 }
 
 /// A message as the protocol has it.
@@ -102,7 +106,7 @@ impl Hub {
         let limits = &config.limits;
         let machine = Machine::new(limits.bounds(), 0, rand::random());
         let (nodes, peers, seats) = (HashMap::new(), Vec::new(), Vec::new());
-        let mut gossip = Gossip { machine, nodes, peers, seats, timer: NEVER };
+        let mut gossip = Gossip { machine, nodes, peers, seats, timer: NEVER, farthest: ACCEPTED };
         let own = PeerConfig { name: "own".into(), key: identity.id, address: None };
         let (author, past) = open(config, &own.key)?;
         let start = || Output::start("output", io::stdout(), MAX_WAITING, &metrics.output_dropped);
@@ -242,7 +246,13 @@ impl Hub {
                 info!(peer = name, is_dialed, "connected");
             }
             gossip.machine.disconnect(now, node);
-            gossip.machine.connect(now, node, round_trip.as_micros() as Time);
+            let mut far = round_trip.as_micros() as Time;
+            match is_dialed {
+                true => gossip.farthest = gossip.farthest.max(far),
+                // What was measured is what the peer chose.
+                false => far = far.min(gossip.farthest),
+            }
+            gossip.machine.connect(now, node, far);
             Some(session)
         })
     }

@@ -84,6 +84,11 @@ impl Coverage {
         self.gaps() < Verified::MOST || !self.clone().cover(after, upto)
     }
 
+    /// Whether all that `other` covers is covered.
+    pub fn holds(&self, other: &Coverage) -> bool {
+        self.first_missing(other, 0, u64::MAX).is_none()
+    }
+
     /// The gap `(after, upto]` that is closed where there are too many intervals.
     pub fn oldest_gap(&self) -> Option<(u64, u64)> {
         self.0.spans().first().map(|it| (self.0.floor(), it.from))

@@ -75,22 +75,20 @@ impl Log {
         self.queue_report(peer, links);
     }
 
-    pub fn disconnect(&mut self, peer: usize) {
-        self.views[peer].session = Session::new(0);
+    pub fn disconnect(&mut self, now: Time, peer: usize) {
         if self.feeder == Some(peer) {
+            // Whoever showed what it did not bring is blamed, however the grant ends.
+            if peer != self.author && self.shown(peer).is_some() {
+                self.views[peer].bar.fail(now, 0);
+            }
             self.feeder = None;
         }
+        self.views[peer].session = Session::new(0);
     }
 
     /// Replaces a peer's report.
     pub fn hear(&mut self, now: Time, peer: usize, report: Report) {
-        let view = &mut self.views[peer];
-        let before = view.session.theirs.as_ref().map(|it| self.list.lacking(&it.coverage));
-        let after = self.list.lacking(&report.coverage);
-        if let Some(took) = before.and_then(|it| it.checked_sub(after)) {
-            view.patience.renew(now, took, self.bounds.pace);
-        }
-        view.session.replace(report);
+        self.views[peer].hear(now, report, &self.list, self.bounds.pace);
     }
 
     /// Lets messages be sent to a peer.

@@ -83,7 +83,7 @@ impl Machine {
         log.is_listed = false;
         log.list = List::new(self.bounds.list);
         log.wake = NEVER;
-        (0..count).for_each(|peer| log.disconnect(peer));
+        (0..count).for_each(|peer| log.disconnect(now, peer));
     }
 
     fn listed(&self) -> Vec<usize> {
@@ -106,7 +106,7 @@ impl Machine {
     pub fn disconnect(&mut self, now: Time, peer: usize) {
         self.links.each[peer] = Link::default();
         for author in self.listed() {
-            self.logs[author].disconnect(peer);
+            self.logs[author].disconnect(now, peer);
             self.step(now, author);
         }
     }

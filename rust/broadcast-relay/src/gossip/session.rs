@@ -84,8 +84,13 @@ impl Session {
         self.theirs.as_ref().is_some_and(|it| it.is_held)
     }
 
-    /// Replaces the peer's report. What has landed is not in flight any more, nor what was left out, which is sent again.
-    pub fn replace(&mut self, report: Report) {
+    /// Replaces the peer's report, unless that takes something back. Returns the bytes that were sent and have landed. They are not
+    /// in flight any more, nor is what was left out, which is sent again.
+    pub fn replace(&mut self, report: Report) -> Option<u64> {
+        if self.theirs.as_ref().is_some_and(|it| !report.coverage.holds(&it.coverage)) {
+            return None;
+        }
+        let before = self.in_flight;
         for (after, upto) in report.coverage.runs() {
             while let Some((&stamp, (it, _))) = self.flying.range(..=upto).next_back()
                 && stamp > after
@@ -94,6 +99,7 @@ impl Session {
                 self.flying.remove(&stamp);
             }
         }
+        let landed = before - self.in_flight;
         let (in_flight, cursor) = (&mut self.in_flight, &mut self.cursor);
         self.flying.retain(|stamp, (it, number)| {
             let is_left_out = *number <= report.done;
@@ -104,6 +110,7 @@ impl Session {
             !is_left_out
         });
         self.theirs = Some(report);
+        Some(landed)
     }
 
     fn room(&self) -> u64 {

@@ -336,6 +336,74 @@ fn who_reports_nothing_is_not_waited_for_again_and_again() {
     assert!(held <= 6 * SECOND + 12_000 * STEP / 16, "{held}");
 }
 
+/// A peer that takes no byte, and reports by turns that it has all and nothing, is waited for no longer than one that stands still,
+/// whether it reports over one connection or many.
+#[test]
+fn who_reports_all_and_nothing_by_turns_is_waited_for_once() {
+    const STEP: u64 = SECOND / 100;
+    for is_anew in [false, true] {
+        let (mut relay, mut held) = (machine(&fast(), 0, 3, None), 0);
+        relay.connect(0, 1, 100);
+        for now in (0..12_000).map(|it| it * STEP) {
+            if now % (SECOND / 2) == 0 {
+                if is_anew && now % SECOND == 0 {
+                    relay.disconnect(now, 1);
+                    relay.connect(now, 1, 100);
+                }
+                let top = relay.log(2).covered.top();
+                let top = if now % SECOND == 0 { 0 } else { top };
+                let coverage = Coverage::up_to(top);
+                relay.report(now, 1, 2, Report { coverage, ..Report::default() });
+            }
+            relay.timeout(now);
+            match relay.log(2).is_held {
+                true => held += STEP,
+                false => fill(now, &mut relay),
+            }
+        }
+        assert!(held <= 6 * SECOND + 12_000 * STEP / 16, "{held}");
+    }
+}
+
+/// Who claims a message and takes that back, or ends its connection, once it is to bring the message, is barred like who keeps silent.
+#[test]
+fn who_takes_a_claim_back_does_not_feed_again_and_again() {
+    for ends in [false, true] {
+        let mut relay = machine(&Bounds::default(), 0, 4, None);
+        relay.connect(0, 1, 100);
+        relay.connect(0, 2, 100);
+        let report = |upto| Report { coverage: Coverage::up_to(upto), ..Report::default() };
+        let (mut turns, mut had) = (0, 0);
+        for now in (1..1_000).map(|it| it * 10_000) {
+            // The honest peer brings what it has, if it is to; the other claims more, and never brings anything.
+            let stamp = now / 10_000;
+            relay.report(now, 1, 3, report(stamp));
+            relay.report(now, 2, 3, report(stamp + 100));
+            if relay.log(3).feeder == Some(2) {
+                turns += 1;
+                match ends {
+                    true => {
+                        relay.disconnect(now, 2);
+                        relay.connect(now, 2, 100);
+                    }
+                    false => relay.report(now, 2, 3, report(0)),
+                }
+            }
+            (1..3).for_each(|it| while relay.frame(now, it).is_some() {});
+            if relay.log(3).feeder == Some(1) {
+                for stamp in had + 1..=stamp {
+                    let bytes = vec![0; 90].into();
+                    take(now, &mut relay, 1, Message { author: 3, stamp, prev: stamp - 1, bytes });
+                }
+                had = stamp;
+            }
+            relay.timeout(now);
+        }
+        // Ten seconds: it is barred for 1, 2, 4 s.
+        assert!(had > 900 && turns < 60, "ends {ends}: {had} {turns}");
+    }
+}
+
 /// Each lacks more of the other's list than it waits for, and both are held: a gap is filled all the same, at once.
 #[test]
 fn relays_that_lack_each_others_messages_do_not_wait_for_each_other() {
