@@ -23,6 +23,8 @@ use tracing::{debug, info, warn};
 
 /// How often it is looked at least whether something is due.
 const LOOK: Duration = Duration::from_secs(1);
+/// The longest round trip, in microseconds, that a peer has that dials, unless this relay dials a peer that is farther away.
+const ACCEPTED: Time = 50_000;
 
 pub struct Hub {
     pub identity: Identity,
@@ -47,6 +49,8 @@ struct Gossip {
     seats: Vec<Seat>,
     /// When the timer goes off.
     timer: Time,
+    /// The longest round trip of a connection that was dialed.
+    farthest: Time,
 }
 
 /// A message as the protocol has it.
@@ -102,7 +106,7 @@ impl Hub {
         let limits = &config.limits;
         let machine = Machine::new(limits.bounds(), 0, rand::random());
         let (nodes, peers, seats) = (HashMap::new(), Vec::new(), Vec::new());
-        let mut gossip = Gossip { machine, nodes, peers, seats, timer: NEVER };
+        let mut gossip = Gossip { machine, nodes, peers, seats, timer: NEVER, farthest: ACCEPTED };
         let own = PeerConfig { name: "own".into(), key: identity.id, address: None };
         let (author, past) = open(config, &own.key)?;
         let start = || Output::start("output", io::stdout(), MAX_WAITING, &metrics.output_dropped);
@@ -242,7 +246,13 @@ impl Hub {
                 info!(peer = name, is_dialed, "connected");
             }
             gossip.machine.disconnect(now, node);
-            gossip.machine.connect(now, node, round_trip.as_micros() as Time);
+            let mut far = round_trip.as_micros() as Time;
+            match is_dialed {
+                true => gossip.farthest = gossip.farthest.max(far),
+                // What was measured is what the peer chose.
+                false => far = far.min(gossip.farthest),
+            }
+            gossip.machine.connect(now, node, far);
             Some(session)
         })
     }
@@ -307,18 +317,18 @@ impl Hub {
         });
     }
 
-    /// Takes a message: checks the signature, journals it and prints it, if it is new. Returns how long the connection rests then, which
-    /// is long only for a peer that sends more than it has room for.
-    pub fn take(&self, session: &Session, message: Signed) -> io::Result<Duration> {
+    /// Takes a message: checks the signature, journals it and prints it, if it is wanted. Returns whether it was new.
+    pub fn take(&self, session: &Session, message: Signed) -> io::Result<bool> {
         let peer = &session.peer;
         let count = |it: &IntCounterVec| it.with_label_values(&[&peer.config.name]).inc();
         let Some(author) = self.find(&message.author) else {
             count(&self.metrics.unlisted);
-            return Ok(Duration::ZERO);
+            return Ok(false);
         };
         let (node, is_own, mut cost) = (author.node, author.node == self.own.node, 0);
         let mut known = author.author.lock();
-        let is_wanted = self.gossip.lock().machine.wants(node, message.stamp);
+        let it = item(node, &message);
+        let is_wanted = self.gossip.lock().machine.wants(now(), peer.node, &it);
         if is_wanted {
             cost = known.check(&message).map_err(invalid)? * self.signature_cost;
             // An own message that comes back is not journaled: the journal has those after which the next one comes.
@@ -328,22 +338,21 @@ impl Hub {
                 journal.append(slice::from_ref(&message))?;
             }
         }
-        let (taken, rest) = self.act(|gossip, now| {
-            // What came over a connection that is replaced counts against none.
-            if !is_wanted && !gossip.seats[peer.node].is_of(session) {
-                return Ok((Taken::Again, 0));
-            }
+        let taken = self.act(|gossip, now| {
             gossip.machine.charge(now, node, cost);
-            let taken = gossip.machine.message(now, peer.node, item(node, &message));
-            taken.map(|it| (it, gossip.machine.ready(now, node) - now)).map_err(invalid)
-        })?;
+            // What came over a connection that is replaced is not of the new one.
+            let from = gossip.seats[peer.node].is_of(session).then_some(peer.node);
+            gossip.machine.message(now, from, it, is_wanted)
+        });
+        let taken = taken.map_err(invalid)?;
         match taken {
             Taken::New if is_own => {}
             Taken::New => self.deliver(&author, &message),
             Taken::Again => count(&self.metrics.again),
+            Taken::LeftOut => count(&self.metrics.left_out),
             Taken::Unlisted => count(&self.metrics.unlisted),
         }
-        Ok(Duration::from_micros(rest))
+        Ok(taken == Taken::New)
     }
 
     fn deliver(&self, author: &Peer, message: &Signed) {

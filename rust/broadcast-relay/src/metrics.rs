@@ -30,6 +30,7 @@ pub struct Metrics {
     pub published: IntCounter,
     pub delivered: IntCounterVec,
     pub again: IntCounterVec,
+    pub left_out: IntCounterVec,
     pub unlisted: IntCounterVec,
     pub invalid: IntCounterVec,
     pub strangers: IntCounter,
@@ -50,6 +51,7 @@ impl Metrics {
             published: counter!("published_total", "Own messages", registry)?,
             delivered: counters!("delivered_total", "New messages", &["author"], registry)?,
             again: counters!("again_total", "Messages that came again", &["peer"], registry)?,
+            left_out: counters!("left_out_total", "Messages left out", &["peer"], registry)?,
             unlisted: counters!("unlisted_total", "Of unlisted authors", &["peer"], registry)?,
             invalid: counters!("invalid_total", "Closed for what came", &["peer"], registry)?,
             strangers: counter!("strangers_total", "Who proved no listed key", registry)?,
@@ -64,7 +66,8 @@ impl Metrics {
     /// Shows the counters of a peer from the start.
     pub fn add_peer(&self, name: &str) {
         self.connected.with_label_values(&[name]);
-        for counter in [&self.delivered, &self.again, &self.unlisted, &self.invalid] {
+        for counter in [&self.delivered, &self.again, &self.left_out, &self.unlisted, &self.invalid]
+        {
             counter.with_label_values(&[name]);
         }
     }

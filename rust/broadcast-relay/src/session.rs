@@ -17,9 +17,11 @@ use tokio::time::{Instant, sleep, timeout, timeout_at};
 /// How often an idle connection carries a beat, and how long it may be silent or refuse to take bytes.
 const BEAT: Duration = Duration::from_secs(1);
 const SILENCE: Duration = Duration::from_secs(10);
-/// How many frames are read of a peer in a second. A report counts as many, since it makes the protocol decide anew.
+/// How many frames are read of a peer in a second. A report counts as many, since it makes the protocol decide anew, and so do so many
+/// bytes of a message that was not new.
 const FRAMES_PER_SECOND: u64 = 100_000;
 const REPORT: u64 = 5;
+const USELESS: u64 = 128;
 /// How much is written at once.
 const BATCH: usize = 64 << 10;
 
@@ -78,17 +80,22 @@ async fn read(hub: &Hub, session: &Session, from: impl AsyncRead + Unpin) -> io:
     loop {
         let frame = timeout(SILENCE, read_frame(&mut from)).await??;
         session.hear();
-        let now = now();
-        frames.charge(now, if let Frame::Report(..) = frame { REPORT } else { 1 });
-        let mut rest = Duration::from_micros(frames.when(now, 1) - now);
-        match frame {
-            Frame::Beat => {}
-            Frame::Report(author, report) => hub.hear(session, &author, report),
+        let cost = match frame {
+            Frame::Beat => 1,
+            Frame::Report(author, report) => {
+                hub.hear(session, &author, report);
+                REPORT
+            }
             Frame::Message(bytes) => {
-                rest = rest.max(hub.take(session, Signed::decode(bytes).map_err(invalid)?)?);
+                let len = bytes.len() as u64;
+                let is_new = hub.take(session, Signed::decode(bytes).map_err(invalid)?)?;
+                1 + if is_new { 0 } else { len / USELESS }
             }
             Frame::Hello(_) => return Err(invalid("a second first frame")),
-        }
+        };
+        let now = now();
+        frames.charge(now, cost);
+        let rest = Duration::from_micros(frames.when(now, 1) - now);
         if !rest.is_zero() {
             sleep(rest.min(SILENCE / 2)).await;
         }

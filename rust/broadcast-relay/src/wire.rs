@@ -9,7 +9,7 @@ use std::io;
 use tokio::io::{AsyncRead, AsyncReadExt};
 
 /// The version of the protocol, which each side says first.
-pub const VERSION: u16 = 3;
+pub const VERSION: u16 = 4;
 /// The most bytes of a kind and a body.
 const MAX_FRAME: usize = MAX_MESSAGE + 1;
 
@@ -40,6 +40,7 @@ impl Frame {
                 out.extend_from_slice(author);
                 out.extend(report.since.to_be_bytes());
                 out.extend(report.room.to_be_bytes());
+                out.extend(report.done.to_be_bytes());
                 out.push(report.is_held.into());
                 report.coverage.encode(out);
             }
@@ -66,14 +67,16 @@ impl Frame {
 }
 
 fn report(mut body: Bytes) -> Option<Frame> {
-    if body.len() < 32 + 8 + 8 + 1 {
+    if body.len() < 32 + 8 + 8 + 8 + 1 {
         return None;
     }
     let mut author = [0; 32];
     body.copy_to_slice(&mut author);
-    let (since, room, held) = (body.get_u64(), body.get_u64(), body.get_u8());
-    let report = Report { coverage: Coverage::decode(&body)?, since, room, is_held: held == 1 };
-    (held < 2).then_some(Frame::Report(author, report))
+    let [since, room, done] = [(); 3].map(|()| body.get_u64());
+    let is_held = body.get_u8();
+    let coverage = Coverage::decode(&body)?;
+    let report = Report { coverage, since, room, done, is_held: is_held == 1 };
+    (is_held < 2).then_some(Frame::Report(author, report))
 }
 
 /// Reads a frame. What is no frame is invalid data.
@@ -107,7 +110,7 @@ mod tests {
             coverage.cover(2 * it, 2 * it + 1);
         }
         let report = |coverage, is_held| {
-            Frame::Report([1; 32], Report { coverage, since: 7, room: 9, is_held })
+            Frame::Report([1; 32], Report { coverage, since: 7, room: 9, done: 8, is_held })
         };
         for frame in [
             Frame::Beat,

@@ -79,6 +79,21 @@ impl Coverage {
         self.0.cover(after, upto).expect(LINKED) != Span::default()
     }
 
+    /// Whether `(after, upto]` can be added without closing a gap.
+    pub fn fits(&self, after: u64, upto: u64) -> bool {
+        self.gaps() < Verified::MOST || !self.clone().cover(after, upto)
+    }
+
+    /// Whether all that `other` covers is covered.
+    pub fn holds(&self, other: &Coverage) -> bool {
+        self.first_missing(other, 0, u64::MAX).is_none()
+    }
+
+    /// The gap `(after, upto]` that is closed where there are too many intervals.
+    pub fn oldest_gap(&self) -> Option<(u64, u64)> {
+        self.0.spans().first().map(|it| (self.0.floor(), it.from))
+    }
+
     /// The least stamp above `above` and at most `upto` that `other` covers and this does not.
     pub fn first_missing(&self, other: &Coverage, above: u64, upto: u64) -> Option<u64> {
         self.0.first_missing(&other.0, above, upto)

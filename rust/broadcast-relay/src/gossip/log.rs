@@ -23,6 +23,8 @@ pub struct Log {
     brought: Time,
     /// Since when others show something that is missing here, and its stamp.
     short: Option<(Time, u64)>,
+    /// Since when a message is left out that would need one interval too many, and the oldest gap was not filled in part.
+    full: Option<Time>,
     /// A peer is waited for; and how many bytes are left until one is.
     pub is_held: bool,
     left: u64,
@@ -51,6 +53,7 @@ impl Log {
             granted: 0,
             brought: 0,
             short: None,
+            full: None,
             is_held: false,
             left: bounds.behind,
             patience: Patience::new(bounds.patience),
@@ -72,22 +75,20 @@ impl Log {
         self.queue_report(peer, links);
     }
 
-    pub fn disconnect(&mut self, peer: usize) {
-        self.views[peer].session = Session::new(0);
+    pub fn disconnect(&mut self, now: Time, peer: usize) {
         if self.feeder == Some(peer) {
+            // Whoever showed what it did not bring is blamed, however the grant ends.
+            if peer != self.author && self.shown(peer).is_some() {
+                self.views[peer].bar.fail(now, 0);
+            }
             self.feeder = None;
         }
+        self.views[peer].session = Session::new(0);
     }
 
     /// Replaces a peer's report.
     pub fn hear(&mut self, now: Time, peer: usize, report: Report) {
-        let view = &mut self.views[peer];
-        let before = view.session.theirs.as_ref().map(|it| self.list.lacking(&it.coverage));
-        let after = self.list.lacking(&report.coverage);
-        if let Some(took) = before.and_then(|it| it.checked_sub(after)) {
-            view.patience.renew(now, took, self.bounds.pace);
-        }
-        view.session.replace(report);
+        self.views[peer].hear(now, report, &self.list, self.bounds.pace);
     }
 
     /// Lets messages be sent to a peer.
@@ -107,9 +108,34 @@ impl Log {
         }
     }
 
+    /// Whether a message of a peer is taken. A peer without room may only go on where something was had, and the author say what it
+    /// likes.
+    pub fn wants(&self, now: Time, peer: usize, it: &Message) -> bool {
+        let has_room = self.views[peer].session.allowed >= it.size();
+        let goes_on = peer == self.author || self.covered.covers(it.prev);
+        self.is_listed
+            && !self.covered.covers(it.stamp)
+            && self.covered.fits(it.prev, it.stamp)
+            && (has_room || (goes_on && self.bucket.level(now) > 0))
+    }
+
+    /// Notes a message that is left out.
+    pub fn leave_out(&mut self, now: Time, peer: usize, it: &Message) {
+        if !self.covered.fits(it.prev, it.stamp) {
+            self.full.get_or_insert(now);
+        }
+        let session = &mut self.views[peer].session;
+        session.has_left_out = true;
+        session.lazy_due = session.lazy_due.min(now + self.bounds.lazy);
+        self.wake = self.wake.min(session.lazy_due);
+    }
+
     /// Takes a new message: covers it, lists it, and sees who is to get it or hear of it. Returns whether a step is due.
     pub fn take(&mut self, now: Time, from: Option<usize>, it: Message, links: &mut Links) -> bool {
         let (stamp, size) = (it.stamp, it.size());
+        if self.full.is_some() && self.covered.oldest_gap().is_some_and(|gap| stamp <= gap.1) {
+            self.full = Some(now);
+        }
         self.given_up += u64::from(self.covered.cover(it.prev, stamp));
         self.list.insert(it);
         self.patience.renew(now, size, self.bounds.pace);
@@ -181,10 +207,33 @@ impl Log {
     /// Decides all that depends on reports and on time.
     pub fn step(&mut self, now: Time, links: &mut Links) {
         (self.wake, self.unchecked) = (NEVER, 0);
+        self.give_up(now, links);
         self.hold(now, links);
         self.choose(now, links);
         self.grant(now, links);
         self.report(now, links);
+    }
+
+    /// Closes the oldest gap, if a message waits for its interval and nobody fills the gap.
+    fn give_up(&mut self, now: Time, links: &Links) {
+        let (Some(since), Some((after, upto))) = (self.full, self.covered.oldest_gap()) else {
+            return;
+        };
+        if self.covered.gaps() + 1 < Coverage::MOST {
+            self.full = None;
+            return;
+        }
+        // Who is not connected may still come: first of all the author.
+        let shows = |it: usize| self.views[it].session.shows(&self.covered, upto).is_some();
+        let may_come = !links.each[self.author].has_reported || links.others(None).any(shows);
+        let end = since + if may_come { self.bounds.somebody } else { self.bounds.nobody };
+        if now < end {
+            self.wake = self.wake.min(end);
+            return;
+        }
+        self.covered.cover(after, upto);
+        self.given_up += 1;
+        self.full = None;
     }
 
     /// Decides which peers are waited for.
@@ -308,12 +357,6 @@ impl Log {
         // A new feeder is judged from then on.
         self.wake = self.wake.min(now + self.bounds.idle);
         self.views.iter_mut().for_each(|it| it.ahead = 0);
-        // What is in flight from one of them may come from the other too.
-        let more = self.bounds.repeats();
-        for peer in [old, peer].into_iter().flatten() {
-            let repeats = &mut self.views[peer].session.repeats;
-            *repeats = (*repeats + more).min(16 * more);
-        }
         if let Some(old) = old.filter(|&it| Some(it) != peer) {
             self.queue_report(old, links);
         }
@@ -359,14 +402,19 @@ impl Log {
 
     fn current(&self, room: u64) -> Report {
         let (coverage, since) = (self.covered.clone(), self.list.since());
-        Report { coverage, since, room, is_held: self.is_held }
+        Report { coverage, since, room, done: 0, is_held: self.is_held }
     }
 
     /// The report for a peer, which is sent now.
     pub fn report_to(&mut self, now: Time, peer: usize) -> Report {
         let room = self.room(now, peer);
-        let report = self.current(room);
-        self.views[peer].session.report(&report);
+        let session = &self.views[peer].session;
+        let report = Report { done: session.came, ..self.current(room) };
+        let session = &mut self.views[peer].session;
+        if room > 0 {
+            session.allowed = self.bounds.room + self.bounds.largest;
+        }
+        session.report(&report);
         report
     }
 }

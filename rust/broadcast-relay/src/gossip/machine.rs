@@ -2,7 +2,7 @@
 
 use super::links::{Link, Links};
 use super::log::Log;
-use super::{Bounds, Breach, Coverage, Frame, List, Message, NEVER, Report, Time};
+use super::{Bounds, Coverage, Frame, List, Malformed, Message, NEVER, Report, Time};
 use bytes::Bytes;
 
 /// What is known of an author from before a start.
@@ -18,6 +18,8 @@ pub enum Taken {
     New,
     /// It was had before.
     Again,
+    /// It is left out, and may come again.
+    LeftOut,
     /// Its author is not listed.
     Unlisted,
 }
@@ -81,7 +83,7 @@ impl Machine {
         log.is_listed = false;
         log.list = List::new(self.bounds.list);
         log.wake = NEVER;
-        (0..count).for_each(|peer| log.disconnect(peer));
+        (0..count).for_each(|peer| log.disconnect(now, peer));
     }
 
     fn listed(&self) -> Vec<usize> {
@@ -104,7 +106,7 @@ impl Machine {
     pub fn disconnect(&mut self, now: Time, peer: usize) {
         self.links.each[peer] = Link::default();
         for author in self.listed() {
-            self.logs[author].disconnect(peer);
+            self.logs[author].disconnect(now, peer);
             self.step(now, author);
         }
     }
@@ -128,29 +130,39 @@ impl Machine {
         self.accept(now, None, Message { author: self.own, stamp, prev, bytes });
     }
 
-    /// Whether the signature of a message is worth a check.
-    pub fn wants(&self, author: usize, stamp: u64) -> bool {
-        self.logs[author].is_listed && !self.logs[author].covered.covers(stamp)
+    /// Whether a message of a peer is taken, if its signature holds. Else that is not worth a check.
+    pub fn wants(&self, now: Time, peer: usize, message: &Message) -> bool {
+        self.logs[message.author].wants(now, peer, message)
     }
 
-    /// Takes a message of a peer. Its signature holds, or it is not wanted.
-    pub fn message(&mut self, now: Time, peer: usize, message: Message) -> Result<Taken, Breach> {
+    /// Takes a message of a peer, if it was wanted since another message of its author came. Its signature holds then. It is of no
+    /// peer if its connection has been replaced.
+    pub fn message(
+        &mut self,
+        now: Time,
+        from: Option<usize>,
+        message: Message,
+        was_wanted: bool,
+    ) -> Result<Taken, Malformed> {
         if message.prev >= message.stamp || message.size() > self.bounds.largest {
-            return Err(Breach::Malformed);
+            return Err(Malformed);
         }
         let log = &mut self.logs[message.author];
         if !log.is_listed {
             return Ok(Taken::Unlisted);
         }
-        let session = &mut log.views[peer].session;
-        session.has(&message);
+        if let Some(peer) = from {
+            log.views[peer].session.note_came(&message);
+        }
         if log.covered.covers(message.stamp) {
-            let left = session.repeats.checked_sub(message.size());
-            session.repeats = left.ok_or(Breach::Repeats)?;
             return Ok(Taken::Again);
         }
+        if !was_wanted {
+            from.into_iter().for_each(|it| log.leave_out(now, it, &message));
+            return Ok(Taken::LeftOut);
+        }
         log.bucket.charge(now, message.size().max(self.bounds.least));
-        self.accept(now, Some(peer), message);
+        self.accept(now, from, message);
         Ok(Taken::New)
     }
 
@@ -174,11 +186,6 @@ impl Machine {
     /// Charges an author for something beside the bytes of its messages.
     pub fn charge(&mut self, now: Time, author: usize, amount: u64) {
         self.logs[author].bucket.charge(now, amount);
-    }
-
-    /// When a connection may be read again that brought a message of an author. Only who ignores its room has to wait.
-    pub fn ready(&self, now: Time, author: usize) -> Time {
-        self.logs[author].bucket.when(now, 1)
     }
 
     /// Does what is due by now.

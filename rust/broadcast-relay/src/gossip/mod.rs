@@ -11,6 +11,8 @@
 //!   relay reads no input, and others report that they want nothing above the top of their coverage. A gap can always be filled,
 //!   so relays never wait for each other in a circle.
 //! - **Patience.** A peer is waited for as long as its patience lasts, which waiting uses up and what it takes renews.
+//! - **Left out.** A message that would need one interval too many is left out, uncovered, and so is one of a peer without room that
+//!   does not go on where something was had. The peer sees from `done` that it was left out, and may send it again.
 //! - **First reports.** A connection begins with a report of each listed author. The own log is last, so its report shows that the
 //!   peer lists nobody else. Until then the peer is waited for as if it listed each author, and had it up to that time.
 //!
@@ -65,6 +67,9 @@ pub struct Bounds {
     /// How long a feeder may bring nothing, and how long a message may be lacking, while others report it.
     pub idle: Time,
     pub slow: Time,
+    /// For how long the oldest gap is kept while a message waits for its interval: if nobody shows what is in it, and else.
+    pub nobody: Time,
+    pub somebody: Time,
 }
 
 impl Default for Bounds {
@@ -83,6 +88,8 @@ impl Default for Bounds {
             lazy: 200_000,
             idle: 20_000,
             slow: SECOND,
+            nobody: 2 * SECOND,
+            somebody: 60 * SECOND,
         }
     }
 }
@@ -92,11 +99,6 @@ impl Bounds {
     /// before patience ends.
     fn step(&self) -> u64 {
         (self.behind / 16).min(self.pace * self.patience / SECOND / 4)
-    }
-
-    /// How many bytes may come again for each change of a feeder: what may be in flight from the one before.
-    fn repeats(&self) -> u64 {
-        2 * (self.room + self.largest)
     }
 }
 
@@ -128,6 +130,9 @@ pub struct Report {
     pub since: u64,
     /// The bytes that may be in flight to that relay beyond `coverage`.
     pub room: u64,
+    /// How many messages of the peer that relay is done with, in this connection: what is not had of these was left out, and may be
+    /// sent again.
+    pub done: u64,
     /// The relay waits for others: it wants nothing above its top.
     pub is_held: bool,
 }
@@ -139,20 +144,12 @@ pub enum Frame {
     Message(Message),
 }
 
-/// What a peer did that no honest one does.
+/// What no honest peer sends: a message that is too long or covers nothing.
 #[derive(Clone, Copy, Debug, PartialEq, Eq)]
-pub enum Breach {
-    /// A message that is too long or covers nothing.
-    Malformed,
-    /// More came again than changes of feeders explain.
-    Repeats,
-}
+pub struct Malformed;
 
-impl fmt::Display for Breach {
+impl fmt::Display for Malformed {
     fn fmt(&self, f: &mut fmt::Formatter<'_>) -> fmt::Result {
-        f.write_str(match self {
-            Breach::Malformed => "a message that cannot be",
-            Breach::Repeats => "messages again and again",
-        })
+        f.write_str("a message that cannot be")
     }
 }

@@ -16,13 +16,17 @@ pub struct Session {
     pub ours: Report,
     /// The top of this relay's coverage when the connection began.
     pub began_at: u64,
-    /// Sent, and not in the peer's coverage: by stamp, and the sum of sizes.
-    flying: BTreeMap<u64, Listed>,
+    /// Sent, and not in the peer's coverage: by stamp, with the number of each; how many were sent; and the sum of sizes.
+    flying: BTreeMap<u64, (Listed, u64)>,
+    sent: u64,
     in_flight: u64,
+    /// How many messages came, and whether one was left out since the last report.
+    pub came: u64,
+    pub has_left_out: bool,
+    /// The bytes that may come of what was sent while there was room.
+    pub allowed: u64,
     /// Everything on the list at or below is in the peer's coverage or flying.
     cursor: u64,
-    /// The bytes that may still come again.
-    pub repeats: u64,
     /// The author is among the peer's turns.
     pub has_turn: bool,
     /// A report is due, or will be at these times.
@@ -40,9 +44,12 @@ impl Session {
             ours: Report::default(),
             began_at,
             flying: BTreeMap::new(),
+            sent: 0,
             in_flight: 0,
+            came: 0,
+            has_left_out: false,
+            allowed: 0,
             cursor: 0,
-            repeats: 0,
             has_turn: false,
             is_due: false,
             news_due: NEVER,
@@ -61,9 +68,13 @@ impl Session {
         covered.first_missing(&theirs.coverage, theirs.since, limit)
     }
 
-    /// Notes that the peer has a message, since it sent it.
-    pub fn has(&mut self, message: &Message) {
-        if let Some(theirs) = &mut self.theirs {
+    /// Notes that the peer sent a message, so it has it.
+    pub fn note_came(&mut self, message: &Message) {
+        self.came += 1;
+        self.allowed = self.allowed.saturating_sub(message.size());
+        if let Some(theirs) = &mut self.theirs
+            && theirs.coverage.fits(message.prev, message.stamp)
+        {
             theirs.coverage.cover(message.prev, message.stamp);
             theirs.since = theirs.since.min(message.prev);
         }
@@ -73,17 +84,33 @@ impl Session {
         self.theirs.as_ref().is_some_and(|it| it.is_held)
     }
 
-    /// Replaces the peer's report. What has landed is not in flight any more.
-    pub fn replace(&mut self, report: Report) {
+    /// Replaces the peer's report, unless that takes something back. Returns the bytes that were sent and have landed. They are not
+    /// in flight any more, nor is what was left out, which is sent again.
+    pub fn replace(&mut self, report: Report) -> Option<u64> {
+        if self.theirs.as_ref().is_some_and(|it| !report.coverage.holds(&it.coverage)) {
+            return None;
+        }
+        let before = self.in_flight;
         for (after, upto) in report.coverage.runs() {
-            while let Some((&stamp, it)) = self.flying.range(..=upto).next_back()
+            while let Some((&stamp, (it, _))) = self.flying.range(..=upto).next_back()
                 && stamp > after
             {
                 self.in_flight -= it.bytes;
                 self.flying.remove(&stamp);
             }
         }
+        let landed = before - self.in_flight;
+        let (in_flight, cursor) = (&mut self.in_flight, &mut self.cursor);
+        self.flying.retain(|stamp, (it, number)| {
+            let is_left_out = *number <= report.done;
+            if is_left_out {
+                *in_flight -= it.bytes;
+                *cursor = (*cursor).min(stamp - 1);
+            }
+            !is_left_out
+        });
         self.theirs = Some(report);
+        Some(landed)
     }
 
     fn room(&self) -> u64 {
@@ -106,9 +133,12 @@ impl Session {
         let index = self.find_next(list, bounds)?;
         let message = list.get(index);
         self.cursor = message.stamp;
-        self.flying.insert(message.stamp, message.listed());
+        self.sent += 1;
+        self.flying.insert(message.stamp, (message.listed(), self.sent));
         self.in_flight += message.size();
-        self.ours.coverage.cover(message.prev, message.stamp);
+        if self.ours.coverage.fits(message.prev, message.stamp) {
+            self.ours.coverage.cover(message.prev, message.stamp);
+        }
         Some(message.clone())
     }
 
@@ -122,7 +152,7 @@ impl Session {
             let few = list.listed(from);
             let few = &few[..few.len().min(FEW)];
             let (first, last) = (few.first()?.stamp, few.last()?.stamp);
-            let flying: Vec<Listed> = self.flying.range(first..=last).map(|(_, it)| *it).collect();
+            let flying: Vec<Listed> = self.flying.range(first..=last).map(|(_, it)| it.0).collect();
             let others = self.in_flight - flying.iter().map(|it| it.bytes).sum::<u64>();
             let left = room.saturating_sub(others);
             match theirs.coverage.next(few, theirs.is_held, &flying, left) {
@@ -138,7 +168,7 @@ impl Session {
     pub fn report(&mut self, report: &Report) {
         self.ours.clone_from(report);
         self.unreported = 0;
-        self.is_due = false;
+        (self.is_due, self.has_left_out) = (false, false);
         (self.news_due, self.lazy_due) = (NEVER, NEVER);
     }
 
@@ -157,8 +187,9 @@ impl Session {
         }
         if self.lazy_due <= now {
             self.lazy_due = NEVER;
-            is_due |=
-                self.ours.coverage != current.coverage || self.ours.is_held != current.is_held;
+            is_due |= self.has_left_out
+                || self.ours.coverage != current.coverage
+                || self.ours.is_held != current.is_held;
         }
         is_due
     }
@@ -193,7 +224,7 @@ mod tests {
         for _ in 0..1_000 {
             let (mut list, mut session) = (List::new(1 << 20), Session::new(0));
             let (mut told, mut flying) = (Coverage::default(), BTreeSet::new());
-            let mut listed = BTreeSet::new();
+            let (mut listed, mut sent) = (BTreeSet::new(), 0);
             for _ in 0..80 {
                 let stamp = random.gen_range(1..200);
                 match random.gen_range(0..4) {
@@ -205,16 +236,19 @@ mod tests {
                     }
                     1 => {
                         told.cover(stamp - 1, stamp + random.gen_range(0..9));
-                        flying.retain(|it: &u64| !told.covers(*it));
+                        // What was left out is not in flight any more.
+                        let done = if random.gen_bool(0.3) { sent } else { 0 };
+                        flying.retain(|it: &u64| done == 0 && !told.covers(*it));
                         let (room, is_held) = (random.gen_range(0..3_000), random.gen_bool(0.3));
                         let coverage = told.clone();
-                        session.replace(Report { coverage, since: 0, room, is_held });
+                        session.replace(Report { coverage, since: 0, room, done, is_held });
                     }
                     _ => {
-                        let sent = session.next(&list, &bounds).map(|it| it.stamp);
+                        let next = session.next(&list, &bounds).map(|it| it.stamp);
                         let Some(theirs) = &session.theirs else { continue };
-                        assert_eq!(sent, wanted(&list, theirs, &flying, &bounds));
-                        flying.extend(sent);
+                        assert_eq!(next, wanted(&list, theirs, &flying, &bounds));
+                        flying.extend(next);
+                        sent += u64::from(next.is_some());
                     }
                 }
             }

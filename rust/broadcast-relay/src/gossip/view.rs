@@ -2,7 +2,7 @@
 
 use super::pace::{Bar, Patience, Wait};
 use super::session::Session;
-use super::{Bounds, NEVER, Time};
+use super::{Bounds, List, NEVER, Report, SECOND, Time};
 
 /// How often in a row, nearly, a peer must have reported a message before the feeder brought it, to take its place.
 const AHEAD: u32 = 32;
@@ -10,6 +10,8 @@ const AHEAD: u32 = 32;
 #[derive(Debug)]
 pub struct View {
     pub session: Session,
+    /// When it last came nearer, whoever brought it what it lacked.
+    moved: Time,
     /// It is barred as a feeder if it had room, reported what is missing, and did not bring it.
     pub bar: Bar,
     /// How often in a row it was ahead of the feeder.
@@ -24,11 +26,24 @@ impl View {
     pub fn new(bounds: &Bounds) -> View {
         View {
             session: Session::new(0),
+            moved: 0,
             bar: Bar::default(),
             ahead: 0,
             patience: Patience::new(bounds.patience),
             is_waited_for: false,
             is_stalled: false,
+        }
+    }
+
+    /// Takes a report, unless that takes something back. What was sent and has landed renews the peer's patience.
+    pub fn hear(&mut self, now: Time, report: Report, list: &List, pace: u64) {
+        let lacks =
+            |session: &Session| session.theirs.as_ref().map(|it| list.lacking(&it.coverage));
+        let before = lacks(&self.session);
+        let Some(landed) = self.session.replace(report) else { return };
+        self.patience.renew(now, landed, pace);
+        if lacks(&self.session) < before {
+            self.moved = now;
         }
     }
 
@@ -45,6 +60,11 @@ impl View {
         self.is_waited_for = !self.is_stalled && lacks > bounds.behind - step;
         // Patience runs from an eighth on: who stands still is known before it holds an author back.
         let is_behind = !self.is_stalled && lacks > bounds.behind / 8;
+        let still = self.moved + SECOND;
+        if is_behind && !self.is_waited_for && now < still {
+            self.patience.wait(now, Wait::No);
+            return still;
+        }
         let wait = match (self.is_waited_for || is_behind, self.session.is_held()) {
             (false, _) => Wait::No,
             (true, false) => Wait::Yes,

@@ -1,6 +1,6 @@
 //! What hostile relays do.
 
-use crate::world::{Event, FULL, Kind, World};
+use crate::world::{Event, FULL, Kind, Random, World};
 use broadcast_relay::gossip::{Coverage, Frame, Message, Report, SECOND};
 use bytes::Bytes;
 
@@ -25,7 +25,8 @@ impl World {
     fn brings(&mut self, kind: Kind, from: usize, to: usize) -> bool {
         let link = self.links.get_mut(&(from, to)).unwrap();
         match kind {
-            Kind::Mute | Kind::Sly => false,
+            Kind::Mute | Kind::Sly | Kind::Turns | Kind::Part | Kind::Push => false,
+            Kind::Tenth => self.random.chance(10),
             Kind::Drip if self.now < link.last_drip + SECOND => false,
             Kind::Drip => {
                 link.last_drip = self.now;
@@ -44,7 +45,8 @@ impl World {
     ) -> Report {
         let now = self.now;
         match kind {
-            Kind::Mute => {
+            Kind::Turns if now / 150_000 % 2 == 1 => report.coverage = Coverage::default(),
+            Kind::Mute | Kind::Turns | Kind::Part | Kind::Tenth => {
                 report.coverage = Coverage::up_to(now + 1_000_000_000);
                 report.since = 0;
             }
@@ -79,6 +81,33 @@ impl World {
         }
         if self.now < self.scene.stop {
             self.at(self.now + SECOND, Event::Leave(number));
+        }
+    }
+
+    /// Sends others' messages unasked, in any order.
+    pub fn push(&mut self, number: usize) {
+        let (now, is_half) = (self.now, self.nodes[number].kind == Kind::Part);
+        for to in self.near[number].clone() {
+            let link = &self.links[&(number, to)];
+            let is_idle = link.is_up && link.transit < 200_000;
+            for _ in 0..if is_idle { 8 } else { 0 } {
+                let author = self.random.below(self.nodes.len() as u64) as usize;
+                let list = &self.nodes[number].machine.as_ref().unwrap().log(author).list;
+                let count = list.iter().count() as u64;
+                if author == number || count == 0 {
+                    continue;
+                }
+                // Mostly of the newest.
+                let most = if self.random.chance(50) { count } else { count.min(20) };
+                let message = list.get((count - 1 - self.random.below(most)) as usize).clone();
+                if is_half && Random::new(message.stamp).chance(50) {
+                    continue;
+                }
+                self.send(number, to, Frame::Message(message));
+            }
+        }
+        if now < self.scene.end - 10 * SECOND {
+            self.at(now + 10_000, Event::Push(number));
         }
     }
 

@@ -5,7 +5,9 @@ mod scenes;
 mod verdict;
 mod world;
 
-use broadcast_relay::gossip::{Bounds, Frame, Machine, Message, Past, Report, SECOND, Taken};
+use broadcast_relay::gossip::{
+    Bounds, Coverage, Frame, Machine, Message, Past, Report, SECOND, Taken,
+};
 use scenes::CLASSES;
 use verdict::Outcome;
 use world::{Random, World, machine};
@@ -104,6 +106,53 @@ fn thousands_of_seeds() {
     assert_eq!(failed, 0, "of {total} runs");
 }
 
+/// Gives a relay a message, whose signature holds.
+fn take(now: u64, relay: &mut Machine, from: usize, message: Message) -> Taken {
+    let is_wanted = relay.wants(now, from, &message);
+    relay.message(now, Some(from), message, is_wanted).unwrap()
+}
+
+/// Its sender is told, and may send it again.
+#[test]
+fn what_is_left_out_is_reported() {
+    let mut relay = machine(&Bounds::default(), 0, 3, None);
+    relay.connect(0, 1, 100);
+    while relay.frame(0, 1).is_some() {}
+    let message = Message { author: 2, stamp: 9, prev: 8, bytes: vec![].into() };
+    assert_eq!(take(1, &mut relay, 1, message), Taken::LeftOut);
+    (2..100).for_each(|it| relay.timeout(it * 10_000));
+    let Some(Frame::Report(2, report)) = relay.frame(SECOND, 1) else { panic!("no report") };
+    assert!(report.done == 1 && !report.coverage.covers(9));
+}
+
+/// A peer replays what an author said long ago to a relay that has forgotten it.
+#[test]
+fn who_replays_old_messages_takes_nothing_of_their_authors_rate() {
+    let message =
+        |stamp| Message { author: 1, stamp, prev: stamp - 1, bytes: vec![0; 60_000].into() };
+    let mut relay = machine(&Bounds::default(), 0, 3, None);
+    relay.connect(0, 1, 100);
+    relay.connect(0, 2, 100);
+    assert_eq!(take(0, &mut relay, 1, message(900)), Taken::New);
+    let level = relay.log(1).bucket.level(0);
+    assert!((1..700).all(|it| take(0, &mut relay, 2, message(it)) == Taken::LeftOut));
+    assert_eq!(relay.log(1).bucket.level(0), level);
+    assert_eq!(take(0, &mut relay, 1, message(901)), Taken::New);
+}
+
+/// A hostile author lets its messages come over another peer first. Whom they were asked of once broke the rules by bringing them.
+#[test]
+fn who_brings_what_came_meanwhile_breaks_no_rule() {
+    let mut relay = machine(&Bounds::default(), 0, 4, None);
+    (1..4).for_each(|it| relay.connect(0, it, 100));
+    for stamp in 1..=4_000 {
+        let message = Message { author: 3, stamp, prev: stamp - 1, bytes: vec![0; 900].into() };
+        let from = if stamp == 1 { 3 } else { 2 };
+        assert_eq!(take(stamp * 1_000, &mut relay, from, message.clone()), Taken::New);
+        assert_eq!(take(stamp * 1_000, &mut relay, 1, message), Taken::Again);
+    }
+}
+
 /// Carries all frames between relays, whose places are their numbers.
 fn meet(now: u64, relays: &mut [&mut Machine]) {
     let ways = (0..relays.len()).flat_map(|from| (0..relays.len()).map(move |to| (from, to)));
@@ -116,7 +165,7 @@ fn meet(now: u64, relays: &mut [&mut Machine]) {
             is_quiet = false;
             match frame {
                 Frame::Report(author, report) => relays[to].report(now, from, author, report),
-                Frame::Message(it) => drop(relays[to].message(now, from, it).unwrap()),
+                Frame::Message(it) => drop(take(now, relays[to], from, it)),
             }
         }
     }
@@ -153,15 +202,64 @@ fn an_author_that_lost_its_journal_closes_nothing() {
 }
 
 #[test]
-fn a_gap_that_is_given_up_is_counted() {
+fn a_gap_that_nobody_fills_is_given_up_late_and_counted() {
     let mut relay = machine(&Bounds::default(), 0, 2, None);
     relay.connect(0, 1, 100);
-    for it in 1..=70 {
-        let message = Message { author: 1, stamp: 2 * it, prev: 2 * it - 1, bytes: vec![].into() };
-        assert_eq!(relay.message(it, 1, message), Ok(Taken::New));
-    }
+    let message = |it| Message { author: 1, stamp: 2 * it, prev: 2 * it - 1, bytes: vec![].into() };
     // A floor, and 63 intervals behind it.
-    assert_eq!(relay.log(1).given_up, 70 - 63);
+    for it in 1..=70 {
+        let taken = if it <= 63 { Taken::New } else { Taken::LeftOut };
+        assert_eq!(take(it, &mut relay, 1, message(it)), taken);
+    }
+    // The author has reported, and nobody shows what is lacking.
+    relay.report(SECOND, 1, 1, Report::default());
+    for (now, given_up) in [(2 * SECOND, 0), (2 * SECOND + 64, 1), (9 * SECOND, 1)] {
+        relay.timeout(now);
+        assert_eq!(relay.log(1).given_up, given_up);
+    }
+    assert_eq!(take(9 * SECOND, &mut relay, 1, message(64)), Taken::New);
+    assert_eq!(take(9 * SECOND, &mut relay, 1, message(65)), Taken::LeftOut);
+}
+
+/// A peer brings each second message of an author, over which gaps were once closed by force.
+#[test]
+fn who_brings_a_part_in_any_order_keeps_nothing_away() {
+    const ALL: u64 = 400;
+    let message = |stamp| Message { author: 1, stamp, prev: stamp - 1, bytes: vec![0; 90].into() };
+    for has_room in [false, true] {
+        let past = Past { messages: (1..=ALL).map(message).collect(), ..Past::default() };
+        let mut author = machine(&Bounds::default(), 1, 3, Some(vec![Past::default(), past]));
+        let mut relay = machine(&Bounds::default(), 0, 3, None);
+        relay.connect(0, 2, 100);
+        if has_room {
+            // It shows all, and becomes the feeder.
+            let coverage = Coverage::up_to(ALL);
+            relay.report(0, 2, 1, Report { coverage, ..Report::default() });
+            while relay.frame(0, 2).is_some() {}
+        }
+        for stamp in (2..=ALL).step_by(2) {
+            take(stamp, &mut relay, 2, message(stamp));
+        }
+        relay.connect(SECOND, 1, 100);
+        author.connect(SECOND, 0, 100);
+        for now in (1..200).map(|it| SECOND + it * 10_000) {
+            while let Some(frame) = relay.frame(now, 1) {
+                if let Frame::Report(of, report) = frame {
+                    author.report(now, 0, of, report);
+                }
+            }
+            while let Some(frame) = author.frame(now, 0) {
+                match frame {
+                    Frame::Report(of, report) => relay.report(now, 1, of, report),
+                    Frame::Message(it) => drop(take(now, &mut relay, 1, it)),
+                }
+            }
+            relay.timeout(now);
+            author.timeout(now);
+        }
+        assert!(relay.log(1).covered.runs().eq([(0, ALL)]), "room {has_room}");
+        assert_eq!((relay.log(1).given_up, relay.log(1).list.iter().count()), (0, ALL as usize));
+    }
 }
 
 /// A log of which nothing new comes any more.
@@ -188,19 +286,24 @@ fn who_lists_an_author_late_gets_what_its_peers_have() {
     assert!(one.log(2).covered.runs().eq([(0, 19)]));
 }
 
+/// The bounds by default, where no author is too fast.
+fn fast() -> Bounds {
+    Bounds { rate: 1 << 40, burst: 1 << 40, ..Bounds::default() }
+}
+
 /// Gives a relay 1 MB of author 2.
 fn fill(now: u64, relay: &mut Machine) {
     for _ in 0..10 {
         let prev = relay.log(2).covered.top();
         let message = Message { author: 2, stamp: prev + 1, prev, bytes: vec![0; 100_000].into() };
-        assert_eq!(relay.message(now, 2, message), Ok(Taken::New));
+        assert_eq!(take(now, relay, 2, message), Taken::New);
     }
     relay.timeout(now + 1);
 }
 
 #[test]
 fn who_does_not_list_an_author_is_not_waited_for() {
-    let mut relay = machine(&Bounds::default(), 0, 3, None);
+    let mut relay = machine(&fast(), 0, 3, None);
     relay.connect(0, 1, 100);
     let reports = std::iter::from_fn(|| relay.frame(0, 1));
     let authors =
@@ -216,7 +319,7 @@ fn who_does_not_list_an_author_is_not_waited_for() {
 #[test]
 fn who_reports_nothing_is_not_waited_for_again_and_again() {
     const STEP: u64 = SECOND / 100;
-    let mut relay = machine(&Bounds::default(), 0, 3, None);
+    let mut relay = machine(&fast(), 0, 3, None);
     let mut held = 0;
     for now in (0..12_000).map(|it| it * STEP) {
         if now % SECOND == 0 {
@@ -231,6 +334,74 @@ fn who_reports_nothing_is_not_waited_for_again_and_again() {
     }
     assert!(held > 6 * SECOND, "it is not waited for");
     assert!(held <= 6 * SECOND + 12_000 * STEP / 16, "{held}");
+}
+
+/// A peer that takes no byte, and reports by turns that it has all and nothing, is waited for no longer than one that stands still,
+/// whether it reports over one connection or many.
+#[test]
+fn who_reports_all_and_nothing_by_turns_is_waited_for_once() {
+    const STEP: u64 = SECOND / 100;
+    for is_anew in [false, true] {
+        let (mut relay, mut held) = (machine(&fast(), 0, 3, None), 0);
+        relay.connect(0, 1, 100);
+        for now in (0..12_000).map(|it| it * STEP) {
+            if now % (SECOND / 2) == 0 {
+                if is_anew && now % SECOND == 0 {
+                    relay.disconnect(now, 1);
+                    relay.connect(now, 1, 100);
+                }
+                let top = relay.log(2).covered.top();
+                let top = if now % SECOND == 0 { 0 } else { top };
+                let coverage = Coverage::up_to(top);
+                relay.report(now, 1, 2, Report { coverage, ..Report::default() });
+            }
+            relay.timeout(now);
+            match relay.log(2).is_held {
+                true => held += STEP,
+                false => fill(now, &mut relay),
+            }
+        }
+        assert!(held <= 6 * SECOND + 12_000 * STEP / 16, "{held}");
+    }
+}
+
+/// Who claims a message and takes that back, or ends its connection, once it is to bring the message, is barred like who keeps silent.
+#[test]
+fn who_takes_a_claim_back_does_not_feed_again_and_again() {
+    for ends in [false, true] {
+        let mut relay = machine(&Bounds::default(), 0, 4, None);
+        relay.connect(0, 1, 100);
+        relay.connect(0, 2, 100);
+        let report = |upto| Report { coverage: Coverage::up_to(upto), ..Report::default() };
+        let (mut turns, mut had) = (0, 0);
+        for now in (1..1_000).map(|it| it * 10_000) {
+            // The honest peer brings what it has, if it is to; the other claims more, and never brings anything.
+            let stamp = now / 10_000;
+            relay.report(now, 1, 3, report(stamp));
+            relay.report(now, 2, 3, report(stamp + 100));
+            if relay.log(3).feeder == Some(2) {
+                turns += 1;
+                match ends {
+                    true => {
+                        relay.disconnect(now, 2);
+                        relay.connect(now, 2, 100);
+                    }
+                    false => relay.report(now, 2, 3, report(0)),
+                }
+            }
+            (1..3).for_each(|it| while relay.frame(now, it).is_some() {});
+            if relay.log(3).feeder == Some(1) {
+                for stamp in had + 1..=stamp {
+                    let bytes = vec![0; 90].into();
+                    take(now, &mut relay, 1, Message { author: 3, stamp, prev: stamp - 1, bytes });
+                }
+                had = stamp;
+            }
+            relay.timeout(now);
+        }
+        // Ten seconds: it is barred for 1, 2, 4 s.
+        assert!(had > 900 && turns < 60, "ends {ends}: {had} {turns}");
+    }
 }
 
 /// Each lacks more of the other's list than it waits for, and both are held: a gap is filled all the same, at once.
@@ -259,7 +430,7 @@ fn relays_that_lack_each_others_messages_do_not_wait_for_each_other() {
     assert!(other.log(2).covered.runs().eq([(0, 60)]));
 }
 
-/// Who ignores its room is taken at its author's rate: its connection rests.
+/// Of who ignores its room, what is above its author's rate is left out.
 #[test]
 fn an_author_is_taken_at_its_rate_whatever_it_sends() {
     for (rate, least, len, cost) in
@@ -269,15 +440,18 @@ fn an_author_is_taken_at_its_rate_whatever_it_sends() {
         let mut machine = machine(&bounds, 0, 3, None);
         machine.connect(0, 1, 100);
         machine.connect(0, 2, 100);
-        let (mut now, mut stamp, mut taken) = (0, 0, 0_u64);
+        let (mut now, mut taken) = (0, 0_u64);
         while now < 10 * SECOND {
-            stamp += 1;
-            let message = Message { author: 2, stamp, prev: stamp - 1, bytes: vec![0; len].into() };
-            machine.charge(now, 2, cost);
-            let peer = 1 + stamp as usize % 2;
-            assert_eq!(machine.message(now, peer, message), Ok(Taken::New));
-            taken += 1;
-            now = now.max(machine.ready(now, 2));
+            let (stamp, peer) = (taken + 1, 2 - taken as usize % 2);
+            let message = Message { author: 2, stamp, prev: taken, bytes: vec![0; len].into() };
+            match take(now, &mut machine, peer, message) {
+                Taken::New => {
+                    machine.charge(now, 2, cost);
+                    taken += 1;
+                }
+                it => assert_eq!(it, Taken::LeftOut),
+            }
+            now += 500;
         }
         // Ten seconds and the burst, of some 10,000 bytes each.
         assert!((1_050..=1_200).contains(&taken), "{taken}");

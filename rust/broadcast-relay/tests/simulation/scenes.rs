@@ -5,7 +5,7 @@ use broadcast_relay::gossip::{Bounds, Coverage, Message, Past, SECOND};
 use bytes::Bytes;
 
 /// Those without hostile relays first.
-pub const CLASSES: [&str; 24] = [
+pub const CLASSES: [&str; 28] = [
     "calm",
     "slow",
     "pause",
@@ -30,10 +30,14 @@ pub const CLASSES: [&str; 24] = [
     "contradict",
     "mixed",
     "swarm",
+    "part",
+    "push",
+    "turns",
+    "tenth",
 ];
 const HONEST: usize = 11;
 
-const HOSTILE: [Kind; 11] = [
+const HOSTILE: [Kind; 15] = [
     Kind::Silent,
     Kind::Mute,
     Kind::Sly,
@@ -45,6 +49,10 @@ const HOSTILE: [Kind; 11] = [
     Kind::Gappy,
     Kind::Contradict,
     Kind::Flood,
+    Kind::Part,
+    Kind::Push,
+    Kind::Turns,
+    Kind::Tenth,
 ];
 
 /// How long bodies are.
@@ -240,6 +248,7 @@ impl World {
             self.outcome.what += &format!(", {number} {kind:?}");
             match kind {
                 Kind::Flood => self.nodes[number].rate = FULL,
+                Kind::Part | Kind::Push => events.push((SECOND / 2, Event::Push(number))),
                 Kind::Silent => events.push((SECOND, Event::Leave(number))),
                 Kind::Gappy | Kind::Contradict => {
                     self.nodes[number].rate = 0;

@@ -10,7 +10,7 @@ pub struct Outcome {
     pub what: String,
     pub published: u64,
     pub deliveries: u64,
-    /// The messages of honest authors that came to honest relays, however often.
+    /// The messages of honest authors that honest relays sent each other, however often.
     pub copies: u64,
     pub report_bytes: u64,
     pub lost: u64,

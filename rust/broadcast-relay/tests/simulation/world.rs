@@ -4,7 +4,7 @@
 use crate::scenes::Scene;
 use crate::verdict::Outcome;
 use broadcast_relay::gossip::{
-    Bounds, Breach, Coverage, Frame, Machine, NEVER, Past, SECOND, Taken,
+    Bounds, Coverage, Frame, Machine, Malformed, NEVER, Past, SECOND, Taken,
 };
 use std::cmp::Reverse;
 use std::collections::{BinaryHeap, HashMap, VecDeque};
@@ -68,6 +68,14 @@ pub enum Kind {
     Contradict,
     /// Publishes without regard to others.
     Flood,
+    /// Reports everything, and brings a half of what it has of others, unasked and in any order.
+    Part,
+    /// Brings all that it has of others, unasked, in any order, again and again.
+    Push,
+    /// Reports by turns everything and nothing, and brings nothing of others.
+    Turns,
+    /// Reports everything, and brings one of ten messages of others.
+    Tenth,
 }
 
 pub struct Link {
@@ -160,6 +168,7 @@ pub enum Event {
     Start(usize),
     Raw(usize),
     Leave(usize),
+    Push(usize),
 }
 
 pub struct ArrivalAt(Arrival);
@@ -282,6 +291,7 @@ impl World {
             Event::Start(node) => self.start(node),
             Event::Raw(node) => self.raw(node),
             Event::Leave(node) => self.leave(node),
+            Event::Push(node) => self.push(node),
         }
     }
 
@@ -403,9 +413,9 @@ impl World {
         {
             self.outcome.report_bytes += wire;
         }
-        if let Err(breach) = self.take(from, to, frame) {
+        if let Err(Malformed) = self.take(from, to, frame) {
             if self.nodes[from].is_honest() && is_honest {
-                let why = format!("{breach:?} of honest {from} at {to}, {} ms", now / 1_000);
+                let why = format!("{from} broke the rules at {to}, {} ms", now / 1_000);
                 self.outcome.wrong.push(why);
             }
             self.cut(from, to);
@@ -414,20 +424,20 @@ impl World {
     }
 
     /// Hands a frame to a relay.
-    fn take(&mut self, from: usize, to: usize, frame: Frame) -> Result<(), Breach> {
+    fn take(&mut self, from: usize, to: usize, frame: Frame) -> Result<(), Malformed> {
         let now = self.now;
-        let Node { machine, kind, .. } = &mut self.nodes[to];
-        let (machine, is_honest) = (machine.as_mut().unwrap(), *kind == Kind::Honest);
+        let is_honest = self.nodes[to].is_honest();
+        let are_honest = is_honest && self.nodes[from].is_honest();
+        let machine = self.nodes[to].machine.as_mut().unwrap();
         match frame {
             Frame::Report(author, report) => machine.report(now, from, author, report),
             Frame::Message(message) => {
                 let id = (message.author, message.stamp);
-                let taken = machine.message(now, from, message)?;
-                if is_honest {
-                    self.outcome.copies += u64::from(self.nodes[id.0].is_honest());
-                    if taken == Taken::New {
-                        self.deliver(to, id);
-                    }
+                let is_wanted = machine.wants(now, from, &message);
+                let taken = machine.message(now, Some(from), message, is_wanted)?;
+                self.outcome.copies += u64::from(are_honest && self.nodes[id.0].is_honest());
+                if is_honest && taken == Taken::New {
+                    self.deliver(to, id);
                 }
             }
         }

@@ -45,12 +45,13 @@ pub fn frames(bytes: &[u8]) -> impl Iterator<Item = &[u8]> {
 
 /// The first frame of a peer.
 pub fn hello() -> Vec<u8> {
-    frame(3, &3_u16.to_be_bytes())
+    frame(3, &4_u16.to_be_bytes())
 }
 
 /// A report: which intervals of an author's stamps a peer has had, since when it can send them, and what room it has.
 pub fn report(author: &[u8], runs: &[(u64, u64)], since: u64, room: u64) -> Vec<u8> {
-    let mut body = [author, &since.to_be_bytes(), &room.to_be_bytes(), &[0]].concat();
+    // It is done with nothing of what was left out, and not held.
+    let mut body = [author, &since.to_be_bytes(), &room.to_be_bytes(), &[0; 9]].concat();
     // The floor comes first: an interval that begins at 0 ends there.
     let has_floor = runs.first().is_some_and(|it| it.0 == 0);
     let numbers = runs.iter().flat_map(|it| [it.0, it.1]).skip(has_floor.into());
