@@ -58,8 +58,8 @@ impl<P, M: Message> Drop for Mailbox<P, M> {
 }
 
 impl<P: Id, M: Message> Mailbox<P, M> {
-    /// Caches a message under the own key, and sends it to `recipients`. If the cache fails for want of memory, the
-    /// message is neither cached nor sent, and the engine logs an error.
+    /// Caches a message under the own key, if the peer set has that, and sends the message to `recipients`. If the cache
+    /// finds no memory, the message is neither cached nor sent, and the engine logs an error.
     pub fn broadcast(
         &self,
         recipients: Recipients<P>,

@@ -60,7 +60,8 @@ pub trait Sender: Send + 'static {
     /// The key of a peer.
     type PublicKey: Id;
 
-    /// Queues a message. It must not block, since the engine does nothing else meanwhile.
+    /// Queues a message. It must not block, since the engine does nothing else meanwhile: where the queue is full, it
+    /// drops the message. The engine sends none again.
     fn send(&mut self, recipients: Recipients<Self::PublicKey>, message: Bytes, priority: bool);
 }
 

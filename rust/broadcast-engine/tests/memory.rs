@@ -1,9 +1,10 @@
-//! The cache of an engine is refused an allocation: what was refused changes nothing, and the engine goes on.
+//! What an engine allocates, and what becomes of it where its cache is refused an allocation: what was refused changes
+//! nothing, and the engine goes on.
 
 #![allow(unsafe_code, reason = "an allocator")]
 
 use broadcast_engine::{
-    Canceled, Config, Digested, Engine, Error, Fixed, Mailbox, Message, Recipients, Sender,
+    Canceled, Config, Digest, Digested, Engine, Error, Fixed, Mailbox, Message, Recipients, Sender,
 };
 use bytes::Bytes;
 use std::alloc::{GlobalAlloc, Layout, System};
@@ -16,12 +17,14 @@ use std::sync::atomic::{AtomicUsize, Ordering::Relaxed};
 use std::task::{Context, Poll, Waker};
 use tokio::sync::mpsc;
 
-/// The allocator of this test, which refuses one allocation of a thread.
+/// The allocator of this test, which counts what a thread has allocated, and refuses one of its allocations.
 struct Refusing;
 
 thread_local! {
     /// How many allocations pass before the one that is refused.
     static LEFT: Cell<Option<usize>> = const { Cell::new(None) };
+    /// The bytes that are allocated.
+    static BYTES: Cell<usize> = const { Cell::new(0) };
 }
 
 fn is_refused() -> bool {
@@ -35,12 +38,16 @@ unsafe impl GlobalAlloc for Refusing {
     unsafe fn alloc(&self, layout: Layout) -> *mut u8 {
         match is_refused() {
             true => null_mut(),
-            // SAFETY: as asked of the caller.
-            false => unsafe { System.alloc(layout) },
+            false => {
+                BYTES.set(BYTES.get().wrapping_add(layout.size()));
+                // SAFETY: as asked of the caller.
+                unsafe { System.alloc(layout) }
+            }
         }
     }
 
     unsafe fn dealloc(&self, at: *mut u8, layout: Layout) {
+        BYTES.set(BYTES.get().wrapping_sub(layout.size()));
         // SAFETY: as asked of the caller.
         unsafe { System.dealloc(at, layout) }
     }
@@ -53,24 +60,28 @@ type Key = [u8; 32];
 
 /// A message that encodes itself without an allocation.
 #[derive(Debug, PartialEq)]
-struct Text(&'static str);
+struct Text(Bytes);
 
 impl Message for Text {
-    type Digest = Key;
+    type Digest = Digest;
     type Config = ();
-    type Error = &'static str;
+    type Error = ();
 
     fn encode(&self) -> Bytes {
-        Bytes::from_static(self.0.as_bytes())
+        self.0.clone()
     }
 
-    fn decode(_: Bytes, (): &()) -> Result<Text, &'static str> {
-        Err("nothing is received")
+    fn decode(bytes: Bytes, (): &()) -> Result<Text, ()> {
+        Ok(Text(bytes))
     }
 
-    fn digest(&self) -> Key {
-        [self.0.len() as u8; 32]
+    fn digest(&self) -> Digest {
+        Digest::sha256(&self.0)
     }
+}
+
+fn hello() -> Digested<Text> {
+    Digested::new(Text(Bytes::from_static(b"hello")))
 }
 
 /// Counts what is sent.
@@ -89,7 +100,7 @@ struct Run {
     engine: Pin<Box<dyn Future<Output = broadcast_engine::End>>>,
     mailbox: Mailbox<Key, Text>,
     sent: Arc<AtomicUsize>,
-    _payloads: mpsc::Sender<(Key, Bytes)>,
+    payloads: mpsc::Sender<(Key, Bytes)>,
 }
 
 fn poll<F: Future>(future: F) -> Poll<F::Output> {
@@ -98,11 +109,17 @@ fn poll<F: Future>(future: F) -> Poll<F::Output> {
 
 impl Run {
     fn new() -> Run {
-        let config = Config::new([1; 32], Fixed::new([[1; 32]]), ());
+        Run::of(256, 16)
+    }
+
+    /// An engine with lists of so many messages, of peers up to this one.
+    fn of(deque_size: usize, peers: u8) -> Run {
+        let peers: Vec<Key> = (1..=peers).map(|it| [it; 32]).collect();
+        let config = Config::new([1; 32], Fixed::new(peers), ()).deque_size(deque_size);
         let (engine, mailbox) = Engine::new(config).unwrap();
-        let (sent, (_payloads, network)) = (Arc::new(AtomicUsize::new(0)), mpsc::channel(1));
+        let (sent, (payloads, network)) = (Arc::new(AtomicUsize::new(0)), mpsc::channel(1));
         let engine = Box::pin(engine.run((Sent(sent.clone()), network), pending()));
-        let mut run = Run { engine, mailbox, sent, _payloads };
+        let mut run = Run { engine, mailbox, sent, payloads };
         run.step(None);
         run
     }
@@ -116,8 +133,7 @@ impl Run {
     }
 
     fn broadcast(&mut self, left: Option<usize>) {
-        let message = Digested::new(Text("hello"));
-        assert!(self.mailbox.broadcast(Recipients::All, message).accepted());
+        assert!(self.mailbox.broadcast(Recipients::All, hello()).accepted());
         self.step(left);
     }
 }
@@ -131,7 +147,7 @@ fn a_list_without_memory_is_no_empty_list() {
     assert_eq!(poll(list), Poll::Ready(Err(Canceled::Failed(Error::Memory))));
     let list = run.mailbox.list([1; 32]);
     run.step(None);
-    assert_eq!(poll(list), Poll::Ready(Ok(vec![Digested::new(Text("hello"))])));
+    assert_eq!(poll(list), Poll::Ready(Ok(vec![hello()])));
 }
 
 #[test]
@@ -151,26 +167,48 @@ fn a_snapshot_without_memory_is_no_empty_snapshot() {
 #[test]
 fn a_subscription_without_memory_does_not_wait() {
     let mut run = Run::new();
-    let mut waits = run.mailbox.subscribe([5; 32]);
+    let mut waits = run.mailbox.subscribe(hello().digest());
     run.step(Some(1));
     assert_eq!(waits.try_recv(), Err(Canceled::Failed(Error::Memory)));
-    let mut waits = run.mailbox.subscribe([5; 32]);
+    let mut waits = run.mailbox.subscribe(hello().digest());
     run.step(None);
     run.broadcast(None);
-    assert_eq!(waits.try_recv(), Ok(Some(Digested::new(Text("hello")))));
+    assert_eq!(waits.try_recv(), Ok(Some(hello())));
 }
 
 #[test]
 fn a_broadcast_without_memory_is_neither_kept_nor_sent() {
     let mut run = Run::new();
-    let mut waits = run.mailbox.subscribe([5; 32]);
+    let mut waits = run.mailbox.subscribe(hello().digest());
     run.step(None);
     run.broadcast(Some(0));
     assert_eq!((run.sent.load(Relaxed), waits.try_recv()), (0, Ok(None)));
-    let get = run.mailbox.get([5; 32]);
+    let get = run.mailbox.get(hello().digest());
     run.step(None);
     assert_eq!(poll(get), Poll::Ready(None));
     run.broadcast(None);
     assert_eq!(run.sent.load(Relaxed), 1);
-    assert_eq!(waits.try_recv(), Ok(Some(Digested::new(Text("hello")))));
+    assert_eq!(waits.try_recv(), Ok(Some(hello())));
+}
+
+/// The README's formula of memory has this number. Each list is filled, and then goes through all its places twice.
+#[test]
+fn a_cached_message_costs_at_most_1_000_bytes_beside_its_encoding() {
+    for (peers, deque_size, len) in
+        [(1, 256, 100), (16, 256, 100), (1, 2_000, 100), (1, 256, 5_000)]
+    {
+        let mut run = Run::of(deque_size, peers);
+        let before = BYTES.get();
+        for peer in 1..=peers {
+            for number in 0..3 * deque_size as u64 {
+                let mut payload = vec![peer; len];
+                payload[..8].copy_from_slice(&number.to_be_bytes());
+                run.payloads.try_send(([peer; 32], payload.into())).unwrap();
+                run.step(None);
+            }
+        }
+        let messages = usize::from(peers) * deque_size;
+        let beside = BYTES.get() - before - messages * len;
+        assert!(beside <= 1_000 * messages, "{beside} bytes for {messages} messages");
+    }
 }
