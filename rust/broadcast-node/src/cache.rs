@@ -7,6 +7,9 @@ use crate::tickets::Tickets;
 use crate::{Counters, Counts, Digest, Error, Key, Refused, Ticket};
 use std::fmt;
 
+/// The most places that are made for a list before its length is known. For longer lists the library is called twice.
+const FEW: usize = 128;
+
 /// A node's cache of messages, and the tickets that wait for one.
 ///
 /// The verified library decides which digests are listed and cached, and which tickets wait. It knows a message by its
@@ -37,6 +40,7 @@ use std::fmt;
 pub struct Cache<M> {
     pub(crate) store: Store,
     own: Key,
+    deque_size: usize,
     pub(crate) primary: Vec<Key>,
     pub(crate) slots: Slots<M>,
     tickets: Tickets,
@@ -53,6 +57,7 @@ impl<M> Cache<M> {
         Ok(Cache {
             store: Store::new(&own, deque_size, byte_budget)?,
             own,
+            deque_size,
             primary: Vec::new(),
             slots: Slots::new(),
             tickets: Tickets::new(),
@@ -245,17 +250,16 @@ impl<M> Cache<M> {
     ///
     /// # Errors
     ///
-    /// [`Error::Memory`].
+    /// [`Error::Memory`], with an empty `list`.
     pub fn list_into(&self, peer: &Key, list: &mut Vec<Digest>) -> Result<(), Error> {
-        list.resize(list.capacity(), Digest::default());
-        let (mut len, had_room) = self.store.list(peer, list)?;
-        if !had_room {
-            list.clear();
-            list.try_reserve_exact(len)?;
-            list.resize(len, Digest::default());
-            (len, _) = self.store.list(peer, list)?;
+        if list.capacity() == 0 && self.deque_size <= FEW {
+            list.try_reserve_exact(self.deque_size)?;
         }
-        list.truncate(len);
+        let len = self.store.list(peer, list)?;
+        if len > list.len() {
+            list.try_reserve_exact(len)?;
+            self.store.list(peer, list)?;
+        }
         Ok(())
     }
 

@@ -224,7 +224,8 @@ fn table(load: &Load) {
     gets(&cache, &plain, &asked, &absent);
     cancels(&mut cache, &mut plain, &absent);
     assert!(absent.iter().all(|it| expert.subscribe(1, it) && expert.cancel(it, 1)));
-    lists(&cache, &plain, &expert, load);
+    let listed: Vec<usize> = (0..2_000).map(|_| random.place(load.keys.len())).collect();
+    lists(&cache, &plain, &expert, load, &listed);
 }
 
 /// Subscribes to digests that are not cached, and then cancels one subscription after the other.
@@ -297,6 +298,7 @@ fn lists(
     plain: &Plain<Bytes32, Shared>,
     expert: &Expert<Bytes32, Shared>,
     load: &Load,
+    listed: &[usize],
 ) {
     for (key, plain_key) in load.keys.iter().zip(&load.plain_keys) {
         let list: Vec<Bytes32> = cache.list(key).unwrap().into_iter().map(Bytes32::from).collect();
@@ -305,9 +307,9 @@ fn lists(
     }
     row(
         "list",
-        load.keys.len(),
-        each(&load.keys, |it| cache.list(it).unwrap().len()),
-        each(&load.plain_keys, |it| plain.list(it).len()),
+        listed.len(),
+        each(listed, |it| cache.list(&load.keys[*it]).unwrap().len()),
+        each(listed, |it| plain.list(&load.plain_keys[*it]).len()),
     );
 }
 

@@ -141,19 +141,24 @@ impl Store {
         out
     }
 
-    /// Writes the list of a peer. Returns its length, and whether there was room.
-    pub fn list(&self, peer: &Key, out: &mut [Digest]) -> Result<(usize, bool), Error> {
-        let (at, len) = (out.as_mut_ptr(), out.len());
+    /// Puts the list of a peer into `out`, if that has room for all of it, and nothing else. Returns the length of the list.
+    pub fn list(&self, peer: &Key, out: &mut Vec<Digest>) -> Result<usize, Error> {
+        out.clear();
+        let room = out.spare_capacity_mut();
+        let (at, len) = (room.as_mut_ptr().cast::<Digest>(), room.len());
         let mut needed = 0;
-        // SAFETY: see above, and the field.
+        // SAFETY: see above, and the field. The library reads no place of the room. If it returns OK it has written the
+        // first `needed` ones, which are there.
         let status = unsafe {
             super::broadcast_store_list(&mut *self.handle.get(), peer, at, len, &mut needed)
         };
         match status {
-            OK => Ok((needed, true)),
-            SHORT => Ok((needed, false)),
-            other => Err(error(other)),
+            // SAFETY: see above.
+            OK => unsafe { out.set_len(needed) },
+            SHORT => {}
+            other => return Err(error(other)),
         }
+        Ok(needed)
     }
 
     /// Returns how many messages are cached, and how many digests are awaited.
