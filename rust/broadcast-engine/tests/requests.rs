@@ -17,14 +17,17 @@ use tokio::sync::{Semaphore, mpsc};
 async fn a_subscription_waits_for_an_absent_message() {
     let nodes = Nodes::start(2, 0.0).await;
     let message = TestMessage::digested("future message");
-    let waits = nodes.mailboxes[0].subscribe(message.digest());
+    let waiting = [0, 0, 1, 1].map(|it| nodes.mailboxes[it].subscribe(message.digest()));
     drop(nodes.mailboxes[0].subscribe(message.digest()));
     drop(nodes.mailboxes[1].subscribe(message.digest()));
     nodes.broadcast(0, &message);
-    assert_eq!(waits.await, Ok(message));
+    for waits in waiting {
+        assert_eq!(waits.await.as_ref(), Ok(&message));
+    }
     settle().await;
     for metrics in &nodes.metrics {
-        assert_eq!(count(metrics, "subscribe.dropped"), 1);
+        let counted = ["success", "dropped"].map(|it| count(metrics, &format!("subscribe.{it}")));
+        assert_eq!(counted, [2, 1]);
     }
 }
 
