@@ -104,7 +104,7 @@ impl<P: Id, M: Message> Mailbox<P, M> {
     }
 
     /// Returns all lists and their messages, which the reply shares. [`Engine::restore`](crate::Engine::restore) makes an
-    /// engine of it. The engine does nothing else for about a microsecond a listed digest.
+    /// engine of it. The engine does nothing else meanwhile, and needs time for each listed digest.
     ///
     /// # Errors
     ///
