@@ -10,9 +10,11 @@ use Rattle.gossip.specs.declared.outbox.Listed.{Listed}
 use Rattle.gossip.specs.Spans.{is_had, IsApart}
 use Rattle.gossip.specs.Outbox.{AreSums, bytes_of, lag}
 use Rattle.gossip.specs.Parts.{bytes_had, bytes_up_to}
-use Rattle.gossip.proofs.CatchingUp.{blank}
 use Rattle.gossip.proofs.Joining.{none_before}
 use Rattle.gossip.proofs.Lacking.{ahead, passed, within}
+
+abbrev blank : Listed
+blank = record { prev = 0; stamp = 0; bytes = 0 }
 
 -- each message was had, or is lacking
 pub parts : (had : List Span) (list : List Listed) → lag had list + bytes_had had list ≡ bytes_of list

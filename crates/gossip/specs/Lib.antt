@@ -1,8 +1,12 @@
-pub mod Deliveries
-pub mod Mesh
+pub mod Cutting
+pub mod Held
+pub mod Members
 pub mod Missing
+pub mod Newest
 pub mod Outbox
 pub mod Parts
+pub mod Placing
+pub mod Sending
+pub mod Showing
 pub mod Spans
-pub mod Steps
 pub mod Tokens

@@ -1,9 +1,9 @@
 -- Believed.
--- What is sent to a peer next, and for which peers a relay waits.
-use Rattle.std.specs.Prelude.{◌≡◌, ◌<◌, ◌≤◌, ◌+◌, ℕ, Bool, true, false, not, nat_le, nat_eq, ◌&&◌, if◌then◌else◌, List, [], ◌∷◌, length, slice_get, slice_index, Option, Some, None}
+-- What is sent to a peer next, and what it lacks.
+use Rattle.std.specs.Prelude.{◌≡◌, ◌<◌, ◌+◌, ℕ, Bool, true, false, not, nat_le, nat_eq, ◌&&◌, if◌then◌else◌, List, [], ◌∷◌, length, slice_get, slice_index, Option, Some, None}
 use Rattle.std.specs.List.{list_any, sum_by}
 use Rattle.std.specs.List.Sorted.{IsNonDecreasingBy}
-use Rattle.gossip.specs.Spans.{is_had, top_of}
+use Rattle.gossip.specs.Spans.{is_had}
 use Rattle.gossip.specs.declared.span.Span.{Span}
 use Rattle.gossip.specs.declared.outbox.Listed.{Listed}
 
@@ -34,32 +34,10 @@ module _ (reported : List Span) (top : Option ℕ) (in_flight : List Listed) whe
     pub wanted : is_wanted message ≡ true
     pub first : NoneOfFirst index list
 
--- each message is later than the one before it of its author
-abbrev pub AreLater : List Listed → Type 0
-AreLater list = (k : ℕ) (m : Listed) → slice_get list k ≡ Some m → m.prev < m.stamp
-
--- no message is later than the top
-abbrev pub AreUpTo : ℕ → List Listed → Type 0
-AreUpTo top list = (k : ℕ) (m : Listed) → slice_get list k ≡ Some m → m.stamp ≤ top
-
--- each message was had
-abbrev pub AreHad : List Span → List Listed → Type 0
-AreHad had list = (k : ℕ) (m : Listed) → slice_get list k ≡ Some m → is_had m.stamp had ≡ true
-
--- the number of messages that are lacking
-abbrev pub lacking : List Span → List Listed → ℕ
-lacking reported [] = 0
-lacking reported (m ∷ ms) = (if is_had m.stamp reported then 0 else 1) + lacking reported ms
-
--- their bytes
+-- the bytes of the messages that are lacking
 abbrev pub lag : List Span → List Listed → ℕ
 lag reported [] = 0
 lag reported (m ∷ ms) = (if is_had m.stamp reported then 0 else m.bytes) + lag reported ms
-
--- the peer wants nothing of the list that is no later than its own top
-abbrev pub WantsNothingBelow : List Span → List Listed → Type 0
-WantsNothingBelow reported list =
-    NoneOfFirst reported (Some (top_of reported)) [] (length list) list
 
 -- no message is earlier than one before it
 abbrev pub IsInOrder : List Listed → Type 0

@@ -1,5 +1,5 @@
 //! What a relay has had of an author.
-ghost use Rattle.std.specs.Prelude.{◌≡◌, ◌≤◌, ◌<◌, ◌+◌, ◌||◌, ◌++◌, ℕ, not, true, false, is_some, ◌↔◌, IsTrue, IsSome, IfSome, IfNone, List, [], ◌∷◌, drop, length};
+ghost use Rattle.std.specs.Prelude.{◌≡◌, ◌≤◌, ◌<◌, ◌+◌, ◌||◌, ◌++◌, ℕ, true, false, ◌↔◌, IsTrue, IsSome, IfSome, IfNone, List, [], ◌∷◌, drop, length};
 ghost use Rattle.std.specs.Bool.{OnTrue, OnFalse};
 ghost use Rattle.arrayvec.specs.ArrayVec.{array_vec_len};
 ghost use Rattle.gossip.specs.Spans.{floor_of, top_of, is_had, is_in, joined, joined_with, still, closed, with_had, given_up, shortened, gap_for, nothing, oldest_gap, Follow, IsApart, IsCoverage};
@@ -192,6 +192,14 @@ impl Coverage {
         Coverage { spans }
     }
 
+    /// Creates the coverage of these spans.
+    pub(crate) fn of(spans: ArrayVec<Span, 65>) -> Self
+        requires { IsCoverage 64 spans.items }
+        ensures { result ≡ spans.items }
+    {
+        Coverage { spans }
+    }
+
     /// Creates the coverage that a peer reported: all stamps up to the floor, and the spans after
     /// it. Returns `None` if there are too many spans, one has no stamp, or they are not in order
     /// with gaps between them.
@@ -292,22 +300,5 @@ impl Coverage {
             to: stamp,
         };
         add(&mut self.spans, span)
-    }
-
-    /// Covers the message of this stamp, whose author sent the one of `prev` before it. Returns
-    /// `None` if the stamp was had. Otherwise the message is to be delivered, and the result is the
-    /// gap that was closed for it, as `cover` returns it.
-    pub fn deliver(&mut self, prev: u64, stamp: u64) -> Option<Span>
-        requires { prev < stamp }
-        ensures delivered { is_some result ≡ not (is_had stamp self.old) }
-        ensures new { IfSome result (λ gap.
-            (self.new ≡ with_had (record { from = prev; to = stamp }) self.old)
-            × (gap ≡ gap_for (record { from = prev; to = stamp }) self.old)) }
-        ensures seen { IfNone result (self.new ≡ self.old) }
-    {
-        if self.covers(stamp) {
-            return None;
-        }
-        Some(self.cover(prev, stamp))
     }
 }

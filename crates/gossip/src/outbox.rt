@@ -1,9 +1,9 @@
-//! What is sent to a peer next, and for which peers a relay waits.
-ghost use Rattle.std.specs.Prelude.{◌≡◌, ℕ, ◌<◌, ◌≤◌, ◌+◌, length, nat_eq, nat_lt, slice_index, true, IsSome, IfSome, IfNone};
+//! What is sent to a peer next, and what it lacks.
+ghost use Rattle.std.specs.Prelude.{◌≡◌, ◌<◌, ◌+◌, length, nat_eq, slice_index, IsSome, IfSome, IfNone};
 ghost use Rattle.std.specs.List.{list_any};
-ghost use Rattle.gossip.specs.Outbox.{is_within, is_wanted, bytes_of, NoneOfFirst, IsNext, AreLater, AreHad, AreUpTo, AreSums, IsInOrder, WantsNothingBelow, lacking, lag};
+ghost use Rattle.gossip.specs.Outbox.{is_within, is_wanted, bytes_of, NoneOfFirst, IsNext, AreSums, IsInOrder, lag};
 ghost use Rattle.gossip.specs.Parts.{bytes_up_to};
-ghost use Rattle.gossip.specs.Spans.{IsApart, top_of};
+ghost use Rattle.gossip.specs.Spans.{IsApart};
 
 use crate::coverage::Coverage;
 use crate::span::Span;
@@ -84,24 +84,6 @@ pub fn next(
     None
 }
 
-/// Sends the next message until there is none, to a peer that covers what it gets. Returns the
-/// number of messages sent. It shows what the decisions of `next` amount to: the peer has all.
-pub fn catch_up(list: &[Listed], peer: &mut Coverage) -> usize
-    requires { AreLater list.now }
-    ensures all { AreHad peer.new list.now }
-    ensures few { result + lacking peer.new list.now ≤ lacking peer.old list.now }
-{
-    let mut sent = 0;
-    loop {
-        let Some(i) = next(list, peer, None, &[], 1) else {
-            return sent;
-        };
-        let message = list[i];
-        peer.cover(message.prev, message.stamp);
-        sent += 1;
-    }
-}
-
 /// Returns the bytes of the list that a peer with this coverage lacks.
 pub fn lag(list: &[Listed], reported: &Coverage) -> u128
     ensures { result ≡ lag reported.now list.now }
@@ -155,19 +137,4 @@ pub fn lag_by_sums(list: &[Listed], sums: &[u64], reported: &Coverage) -> u64
         → result ≡ lag reported.now list.now }
 {
     lag_behind(list, sums, reported.spans())
-}
-
-/// Returns whether a relay waits for a peer: the peer lacks more than the window of the relay's
-/// list. While a relay waits, it is held back: it takes nothing above the top of its coverage.
-///
-/// Relays that wait for each other can't stand in a circle. If a relay waits for a peer that wants
-/// nothing up to the peer's own top, then that top is lower than the relay's, which no message on
-/// its list is above. So of the relays that are held back, the one with the lowest top waits for a
-/// peer that takes something from it.
-pub fn waits_for(list: &[Listed], reported: &Coverage, window: u64) -> bool
-    ensures waits { result ≡ nat_lt window (lag reported.now list.now) }
-    ensures no_circle { result ≡ true → WantsNothingBelow reported.now list.now
-        → (top : ℕ) → AreUpTo top list.now → top_of reported.now < top }
-{
-    u128::from(window) < lag(list, reported)
 }

@@ -1,10 +1,12 @@
 //! Each public call once, at values that were worked out by hand.
 use crate::bucket::{Bucket, Call, charge_all};
 use crate::coverage::Coverage;
-use crate::deliveries::{Arrival, Deliveries, deliver_all};
-use crate::mesh::{Event, Log, run_mesh};
-use crate::outbox::{Listed, bytes_of, catch_up, lag, lag_by_sums, next, waits_for};
+use crate::laws::{converge, exchange, run_log};
+use crate::log::Log;
+use crate::message::{Arrival, Arrived, Message};
+use crate::outbox::{Listed, bytes_of, lag, lag_by_sums, next};
 use crate::span::Span;
+use std::alloc::AllocError;
 
 const SECOND: u64 = 1_000_000_000;
 
@@ -36,8 +38,7 @@ fn closes_the_oldest_gap(rt: HostRuntime) {
     }
     // The 65th span closes the gap before the second.
     let gap = Span { from: 5, to: 10 };
-    assert_eq!(rt; had.deliver(640, 645), Some(gap));
-    assert_eq!(rt; had.deliver(640, 645), None);
+    assert_eq!(rt; had.cover(640, 645), gap);
     assert!(rt; had.floor() == 15 && had.top() == 645 && had.above_floor().len() == 63);
     assert!(rt; had.covers(7) && !had.covers(16) && had.covers(645));
     let again = Coverage::reported(15, had.above_floor());
@@ -59,25 +60,6 @@ fn finds_what_is_missing(rt: HostRuntime) {
 }
 
 #[test]
-fn delivers_once(rt: HostRuntime) {
-    let arrival = |author, prev, stamp| Arrival {
-        author,
-        prev,
-        stamp,
-    };
-    let arrivals = [
-        arrival(1, 4, 9),
-        arrival(1, 4, 9),
-        arrival(0, 4, 9),
-        arrival(1, 0, 4),
-    ];
-    let mut deliveries = Deliveries::new(rt.alloc(), 2).expect(&rt, "memory");
-    let delivered = deliver_all(rt.alloc(), &mut deliveries, &arrivals).expect(&rt, "memory");
-    let expected = [arrivals[0], arrivals[2], arrivals[3]];
-    assert_eq!(rt; delivered.as_slice(), &expected[..]);
-}
-
-#[test]
 fn sends_in_order_within_the_room(rt: HostRuntime) {
     let listed = |stamp, bytes| Listed {
         prev: stamp - 1,
@@ -94,47 +76,131 @@ fn sends_in_order_within_the_room(rt: HostRuntime) {
     peer.cover(1, 2);
     assert_eq!(rt; next(&list, &peer, Some(2), &[], 9), Some(0));
     assert_eq!(rt; next(&list, &peer, Some(2), &list[..1], 10), None);
-    assert!(rt; lag(&list, &peer) == 12 && waits_for(&list, &peer, 11));
+    assert_eq!(rt; lag(&list, &peer), 12);
     assert_eq!(rt; lag_by_sums(&list, &[5, 14, 17, 20], &peer), 12);
-    assert!(rt; !waits_for(&list, &peer, 12));
-    assert_eq!(rt; catch_up(&list, &mut peer), 2);
+}
+
+fn message(prev: u64, stamp: u64, bytes: u64) -> Message {
+    Message {
+        prev,
+        stamp,
+        bytes,
+        handle: 100 + stamp,
+    }
 }
 
 #[test]
-fn relays_in_a_row_beside_a_hostile_one(rt: HostRuntime) {
-    // The logs of one author that three relays have. What arrives comes from the author, from a
-    // network that repeats and reorders, or from a hostile relay.
-    let log = || Log {
-        had: Coverage::new(0),
-        list: Vec::new(rt.alloc()),
-    };
-    let listed = |prev, stamp| Listed {
-        prev,
-        stamp,
-        bytes: 1,
-    };
-    let [one, two, three, invented] = [listed(0, 1), listed(1, 2), listed(2, 3), listed(7, 9)];
-    let arrives = |to, message| Event::Arrives { to, message };
-    let exchange = |from, to| Event::Exchange { from, to };
-    let events = [
-        arrives(0, one),
-        arrives(0, two),
-        arrives(0, three),
-        exchange(0, 1),
-        arrives(1, one),
-        arrives(1, three),
-        exchange(0, 1),
-        exchange(0, 1),
-        exchange(1, 2),
-        arrives(2, invented),
-        exchange(1, 2),
-        exchange(1, 2),
-        exchange(2, 0),
+fn keeps_the_newest_that_fit(rt: HostRuntime) -> Result<(), AllocError> {
+    // Each message is charged 64 beside its bytes.
+    let mut left = Vec::new(rt.alloc());
+    let mut log = Log::new(rt.alloc(), 300);
+    let later = message(20, 30, 36);
+    assert_eq!(rt; log.arrive(later, 29, &mut left)?, Arrived::Untimely);
+    assert_eq!(rt; log.arrive(later, 30, &mut left)?, Arrived::Listed);
+    assert_eq!(rt;
+        log.arrive(message(0, 10, 36), 99, &mut left)?,
+        Arrived::Listed
+    );
+    assert_eq!(rt;
+        log.arrive(message(0, 10, 36), 99, &mut left)?,
+        Arrived::Refused
+    );
+    assert_eq!(rt;
+        log.arrive(message(10, 20, 36), 99, &mut left)?,
+        Arrived::Listed
+    );
+    assert!(rt; log.len() == 3 && log.floor() == 0 && log.bytes() == 300 && left.is_empty());
+    assert_eq!(rt;
+        log.arrive(message(30, 40, 237), 99, &mut left)?,
+        Arrived::Oversize
+    );
+    assert_eq!(rt;
+        log.arrive(message(50, 50, 1), 99, &mut left)?,
+        Arrived::Refused
+    );
+    assert_eq!(rt; log.leaving(message(30, 40, 37)), 2);
+    assert_eq!(rt;
+        log.arrive(message(30, 40, 37), 99, &mut left)?,
+        Arrived::Listed
+    );
+    assert_eq!(rt; left.as_slice(), [110, 120].as_slice());
+    assert!(rt; log.floor() == 20 && log.has(20) && !log.has(21) && log.has(30));
+    assert_eq!(rt; log.leaving(message(20, 25, 36)), 1);
+    assert_eq!(rt;
+        log.arrive(message(20, 25, 36), 99, &mut left)?,
+        Arrived::Passed
+    );
+    assert_eq!(rt; left.as_slice(), [110, 120, 125].as_slice());
+    assert!(rt; log.floor() == 25 && log.bytes() == 201 && log.len() == 2);
+    assert!(rt; log.get(0) == Some(later) && log.find(30) == Some(later));
+    assert!(rt; log.get(2).is_none() && log.find(25).is_none());
+    Ok(())
+}
+
+#[test]
+fn a_peer_is_sent_what_it_lacks(rt: HostRuntime) -> Result<(), AllocError> {
+    let mut left = Vec::new(rt.alloc());
+    let mut log = Log::new(rt.alloc(), 296);
+    for stamp in 1..6u64 {
+        log.arrive(message(stamp - 1, stamp, 10), stamp, &mut left)?;
+    }
+    // Of the messages 2 to 5 the peer has 3.
+    let mut peer = Log::new(rt.alloc(), 296);
+    peer.arrive(message(2, 3, 10), 3, &mut left)?;
+    let report = peer.report();
+    assert!(rt; log.floor() == 1 && report.floor() == 0 && report.covers(3) && !report.covers(2));
+    assert_eq!(rt; log.next(&report, 0, &[], 0, 1), log.find(2));
+    assert_eq!(rt; log.next(&report, 0, &[2], 10, 11), log.find(4));
+    assert_eq!(rt; log.next(&report, 0, &[2], 10, 10), None);
+    assert_eq!(rt; log.next(&report, 4, &[2], 10, 11), log.find(5));
+    assert_eq!(rt; log.next(&report, 0, &[5, 4, 2], 10, 11), None);
+    assert_eq!(rt; log.lag(&report), 3 * 74);
+    assert!(rt; exchange(&log, &mut peer, &mut left)?);
+    let all = peer.report();
+    assert!(rt; all.floor() == 0 && all.top() == 5 && log.lag(&all) == 0 && peer.len() == 4);
+    assert_eq!(rt; log.next(&all, 0, &[], 0, 1), None);
+    Ok(())
+}
+
+#[test]
+fn a_report_that_is_cut_off_ends_an_exchange(rt: HostRuntime) -> Result<(), AllocError> {
+    // 70 messages, each with a gap before it: a report has 64 spans, the first up to the floor.
+    let mut left = Vec::new(rt.alloc());
+    let mut logs = [
+        Log::new(rt.alloc(), 10_000),
+        Log::new(rt.alloc(), 10_000),
+        Log::new(rt.alloc(), 73),
     ];
-    let mut logs = [log(), log(), log()];
-    let delivered = run_mesh(rt.alloc(), &mut logs, &events).expect(&rt, "memory");
-    assert_eq!(rt; logs[0].list.as_slice(), &[one, two, three, invented][..]);
-    assert_eq!(rt; logs[1].list.as_slice(), &[one, three, two][..]);
-    assert_eq!(rt; logs[2].list.as_slice(), &[one, invented, three, two][..]);
-    assert!(rt; delivered.len() == 11 && logs[2].had.floor() == 3 && logs[2].had.top() == 9);
+    for i in 1..71u64 {
+        logs[0].arrive(message(10 * i, 10 * i + 1, 10), 999, &mut left)?;
+        logs[1].arrive(message(10 * i, 10 * i + 1, 10), 999, &mut left)?;
+    }
+    let report = logs[1].report();
+    assert!(rt; report.spans().len() == 64 && report.top() == 631);
+    // What the report does not show above its top is sent once, though it is known.
+    assert_eq!(rt; logs[0].next(&report, 0, &[], 0, 1), logs[0].find(641));
+    assert_eq!(rt; logs[0].next(&report, 641, &[], 0, 1), logs[0].find(651));
+    assert_eq!(rt; logs[0].next(&report, 701, &[], 0, 1), None);
+    let [first, second, small] = &mut logs;
+    assert!(rt; exchange(first, second, &mut left)?);
+    // A log of a smaller budget has no room for a message.
+    assert!(rt; !exchange(first, small, &mut left)?);
+    Ok(())
+}
+
+#[test]
+fn logs_that_received_the_same_are_the_same(rt: HostRuntime) -> Result<(), AllocError> {
+    let arrival = |stamp| Arrival {
+        message: message(stamp - 1, stamp, stamp),
+        latest: 7,
+    };
+    let rising = [1, 2, 3, 4, 5, 6, 7, 8].map(arrival);
+    let other = [7, 8, 3, 3, 5, 6, 4, 1, 2].map(arrival);
+    let mut log = Log::new(rt.alloc(), 210);
+    // 2 came when 5, 6 and 7 had filled the list, 4 likewise.
+    assert_eq!(rt; run_log(rt.alloc(), &mut log, &other)?.len(), 4);
+    let mut logs = (Log::new(rt.alloc(), 210), Log::new(rt.alloc(), 210));
+    converge(rt.alloc(), &mut logs, &rising, &other)?;
+    assert!(rt; logs.0.floor() == 4 && logs.1.floor() == 4 && logs.1.bytes() == 210);
+    Ok(())
 }

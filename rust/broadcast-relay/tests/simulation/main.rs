@@ -473,7 +473,7 @@ fn some_of(random: &mut Random, author: usize) -> Vec<Past> {
     past
 }
 
-/// Clause `no_circle` of the crate `gossip`, for this relay: from any state each has at last what its neighbours can send, though nobody
+/// Relays never wait in a circle: from any state each has at last what its neighbours can send, though nobody
 /// ever loses patience.
 #[test]
 fn no_relays_wait_in_a_circle() {
