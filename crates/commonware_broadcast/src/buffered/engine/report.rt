@@ -67,28 +67,6 @@ where
             BroadcastsOnly V.watched → settled.skipped ≡ 0) }
         ensures unchanged_on_error { IfErr result (λ both. (both.0 ≡ self) × (both.1 ≡ tally)) }
     {
-        match self.into_settled(tally) {
-            Ok((settled, metrics)) => {
-                drop::<_>(metrics);
-                Ok(settled)
-            }
-            Err(both) => Err(both),
-        }
-    }
-
-    /// Tells what became of the counted requests, as `settle` does, with the counters.
-    pub fn into_settled(self, tally: Tally<A>) -> Result<(Settled, Metrics<P>), (Self, Tally<A>)>
-        requires accounts { (A.all ≡ A.parts) × (K.all ≡ K.parts) }
-        ensures whole { (is_err result ≡ false) ↔ (tally.parts ≡ A.parts) }
-        ensures accepted { IfOk result (λ left. tally.accepted ≡ left.0.applied
-            + left.0.refused + left.0.skipped + left.0.given_up) }
-        ensures taken { IfOk result (λ left.
-            left.0.applied + left.0.refused ≡ self.requests.taken) }
-        ensures refused { IfOk result (λ left. left.0.refused ≡ self.requests.refused) }
-        ensures broadcasts { IfOk result (λ left. BroadcastsOnly V.watched → left.0.skipped ≡ 0) }
-        ensures metrics { IfOk result (λ left. left.1 ≡ self.metrics) }
-        ensures unchanged_on_error { IfErr result (λ both. (both.0 ≡ self) × (both.1 ≡ tally)) }
-    {
         let Report {
             cause,
             failure,
@@ -96,7 +74,10 @@ where
             requests,
         } = self;
         match requests.settle(tally) {
-            Ok(settled) => Ok((settled, metrics)),
+            Ok(settled) => {
+                drop::<_>(metrics);
+                Ok(settled)
+            }
             Err((requests, tally)) => {
                 let report = Report {
                     cause,
