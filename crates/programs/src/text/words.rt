@@ -84,12 +84,10 @@ impl<'a> Words<'a> {
 fn place_of(byte: u8, text: &[u8]) -> Option<usize>
     ensures { IfSome result (λ place. place < length text.now) }
 {
-    let mut i = 0;
-    while i < text.len() && i < NEAR {
-        if text[i] == byte {
-            return Some(i);
+    for place in 0..text.len().min(NEAR) {
+        if text[place] == byte {
+            return Some(place);
         }
-        i += 1;
     }
     memchr(byte, text)
 }
@@ -141,12 +139,16 @@ pub fn expect_number(word: &[u8]) -> Result<u64, LineError> {
 /// an allocation fails.
 pub fn parse_numbers(alloc: Global, mut words: Words<'_>) -> Result<Vec<u64>, LineError> {
     let mut numbers = Vec::new(alloc);
-    while let Some(word) = words.take() {
+    // A loop must be shown to end. No vector has room for that many numbers.
+    for _ in 0..u64::MAX {
+        let Some(word) = words.take() else {
+            return Ok(numbers);
+        };
         let Ok(()) = numbers.push(expect_number(word)?) else {
-            return Err(LineError::Memory);
+            break;
         };
     }
-    Ok(numbers)
+    Err(LineError::Memory)
 }
 
 /// Returns what follows the mark.
