@@ -18,7 +18,7 @@ from harness.programs import fault_of
 from harness.refusing import Refusal, Refusing
 from harness.stored import Row, rows_of
 from harness.unproved import CHOICE
-from inputs import beyond
+from inputs import beyond, lines
 
 # Seconds after which a run is given up.
 LIMIT = 60
@@ -65,6 +65,10 @@ def refused_by_beyond(executable, program, *words):
     return fault_of(executable, row)
 
 
+def refused_by_lines(executable, program):
+    return any(fault_of(executable, row) for row in lines.rows(program))
+
+
 def refused_by_first_write(executable, program):
     failed = Refusal(write=1)
     with Refusing() as refusing:
@@ -87,6 +91,7 @@ KINDS = {
     "scenarios": refused_by_scenarios,
     "stored": refused_by_stored,
     "beyond": refused_by_beyond,
+    "lines": refused_by_lines,
     "first-write": refused_by_first_write,
     "shown": refused_by_output,
     "fault": refused_by_success,

@@ -4,9 +4,18 @@ import os
 import signal
 import subprocess
 import sys
+import threading
 from pathlib import Path
 
 TOP = Path(__file__).resolve().parents[2]
+
+PRINTING = threading.Lock()
+
+
+def say(line):
+    """Prints a line at once, and whole, whatever other threads print meanwhile."""
+    with PRINTING:
+        print(line.rstrip("\n"), flush=True)
 
 
 def usage(text, status=2):

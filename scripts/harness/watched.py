@@ -1,12 +1,13 @@
 """Which crates take the time of `rt ci`, and at which it is: read off the provers that run below this repository."""
 
 import os
+import re
 import threading
 import time
 from collections import Counter
 from pathlib import Path
 
-from harness.common import TOP
+from harness.common import TOP, say
 from harness.libraries import rows
 
 TICKS = os.sysconf("SC_CLK_TCK")
@@ -14,6 +15,7 @@ TICKS = os.sysconf("SC_CLK_TCK")
 PAUSE, REPORT = 0.5, 60
 # The crates whose proofs are the unit of the gate's time: a ratio is the same on a slow machine and on a fast one.
 UNIT = ("entries", "broadcast_core")
+FN = re.compile(r"^ *(?:pub(?:\(\w+\))? )?(?:(?:unsafe|const|final|extern \"C\") )*fn \w+", re.M)
 
 
 def seconds_of(process):
@@ -30,6 +32,11 @@ def work_of(process):
         return None
     is_own = os.readlink(process / "cwd").startswith(f"{TOP}/crates/") and "--test" not in words
     return words[words.index("--crate-name") + 1], is_own
+
+
+def functions(crate):
+    """How many functions a crate has. How many are proved cannot be known: `rt ci` keeps what the prover prints to its end."""
+    return sum(len(FN.findall(it.read_text())) for it in (TOP / "crates" / crate / "src").rglob("*.rt"))
 
 
 class Watch:
@@ -67,11 +74,11 @@ class Watch:
             self.look()
             if time.monotonic() - reported >= REPORT and self.at_work:
                 reported = time.monotonic()
-                seen = {crate for (_, (crate, _)) in self.taken}
-                print(
+                seen, taken = {crate for (_, (crate, _)) in self.taken}, self.by_crate()
+                at_work = (f"{it} of {functions(it)} functions, {taken[it]:.0f} s so far" for it in self.at_work)
+                say(
                     f"gate: {self.name}: {(reported - self.began) / 60:.0f} min; "
-                    f"begun {len(seen)} of {len(rows())} crates; at work: {', '.join(self.at_work)}",
-                    flush=True,
+                    f"begun {len(seen)} of {len(rows())} crates; at work: {'; '.join(at_work)}"
                 )
 
     def by_crate(self, only_own=False):

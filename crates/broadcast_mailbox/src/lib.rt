@@ -4,6 +4,8 @@
 
 mod broadcaster;
 pub mod buffered;
+#[cfg(test)]
+mod tests;
 
 pub use broadcaster::{Broadcaster, Feedback, MailboxError};
 

@@ -5,15 +5,13 @@ use Rattle.engine_io.specs.declared.asleep.CannotWait.{CannotWait}
 use Rattle.engine_io.specs.declared.input.EndCause.{EndCause}
 use Rattle.engine_io.specs.declared.input.EndCause.TheVariants.{WaitFailed}
 use Rattle.engine_io.specs.declared.input.Turn.{Turn}
-use Rattle.engine_io.specs.declared.input.Turn.TheVariants as turn
 use Rattle.engine_io.specs.Sources.{given}
 use Rattle.commonware_broadcast.specs.declared.buffered.engine.report.Report.{Report}
-use Rattle.commonware_broadcast.specs.EngineHistory.{end_told}
 use Rattle.commonware_broadcast.specs.EngineState.{Moment}
 use Rattle.commonware_broadcast.specs.Interfaces.{Format, Interfaces}
 use Rattle.commonware_broadcast.specs.Polls.{IsPoll}
 use Rattle.commonware_broadcast.specs.Drives.{Polls}
-use Rattle.commonware_broadcast.specs.Shown.{SomePolls, ShowsPolls, ShowsPollsTo, ShowsRun, unended}
+use Rattle.commonware_broadcast.specs.Runs.{SomePolls, PollsToEnd, IsRun}
 
 -- a poll after others that had these turns, and what they are with its own
 pub record Next {P M D S G O J N V B Q C T : Type 0} (f : Format P M D C) (i : Interfaces P M D S G O J N V B Q) (mid new : Moment P M S O D J B Q C T N V) (turns listed : List (Turn P D)) : Type 0 where
@@ -40,40 +38,6 @@ abbrev plus : ℕ → ℕ → ℕ
 plus zero more = more
 plus (suc count) more = suc (plus count more)
 
-module _ {P D : Type 0} where
-  unended-append : (xs ys : List (Turn P D)) → unended (xs ++ ys) ≡ unended xs ++ unended ys
-  unended-append [] ys = refl
-  unended-append (turn.Peers ∷ xs) ys = ap (λ l. turn.Peers ∷ l) (unended-append xs ys)
-  unended-append (turn.Broadcast d out ∷ xs) ys = ap (λ l. turn.Broadcast d out ∷ l) (unended-append xs ys)
-  unended-append (turn.Subscribe ∷ xs) ys = ap (λ l. turn.Subscribe ∷ l) (unended-append xs ys)
-  unended-append (turn.Get ∷ xs) ys = ap (λ l. turn.Get ∷ l) (unended-append xs ys)
-  unended-append (turn.Payload p d out ∷ xs) ys = ap (λ l. turn.Payload p d out ∷ l) (unended-append xs ys)
-  unended-append (turn.Invalid p error ∷ xs) ys = ap (λ l. turn.Invalid p error ∷ l) (unended-append xs ys)
-  unended-append (turn.Refused peer cause ∷ xs) ys = ap (λ l. turn.Refused peer cause ∷ l) (unended-append xs ys)
-  unended-append (turn.Ended cause ∷ xs) ys = unended-append xs ys
-
-  -- a turn that tells no end
-  pub unended-open : (t : Turn P D) → end_told t ≡ None → unended (t ∷ []) ≡ t ∷ []
-  unended-open turn.Peers h = refl
-  unended-open (turn.Broadcast d out) h = refl
-  unended-open turn.Subscribe h = refl
-  unended-open turn.Get h = refl
-  unended-open (turn.Payload p d out) h = refl
-  unended-open (turn.Invalid p error) h = refl
-  unended-open (turn.Refused peer cause) h = refl
-  unended-open (turn.Ended cause) h = absurd (let no : Some cause ≡ None = h in cc)
-
-  -- a turn that tells an end
-  pub unended-end : (t : Turn P D) (cause : EndCause) → end_told t ≡ Some cause → unended (t ∷ []) ≡ []
-  unended-end turn.Peers cause h = absurd (let no : None ≡ Some cause = h in cc)
-  unended-end (turn.Broadcast d out) cause h = absurd (let no : None ≡ Some cause = h in cc)
-  unended-end turn.Subscribe cause h = absurd (let no : None ≡ Some cause = h in cc)
-  unended-end turn.Get cause h = absurd (let no : None ≡ Some cause = h in cc)
-  unended-end (turn.Payload p d out) cause h = absurd (let no : None ≡ Some cause = h in cc)
-  unended-end (turn.Invalid p error) cause h = absurd (let no : None ≡ Some cause = h in cc)
-  unended-end (turn.Refused peer why) cause h = absurd (let no : None ≡ Some cause = h in cc)
-  unended-end (turn.Ended why) cause h = refl
-
 module _ {P M D S G O J N V B Q C T : Type 0} {f : Format P M D C} {i : Interfaces P M D S G O J N V B Q} where
   Polls-append : {mid new : Moment P M S O D J B Q C T N V} (count : ℕ) (old : Moment P M S O D J B Q C T N V) (turns : List (Turn P D)) → Polls f i count old mid turns
       → (more : SomePolls f i mid new) → Polls f i (plus count more.count) old new (turns ++ more.turns)
@@ -82,78 +46,54 @@ module _ {P M D S G O J N V B Q C T : Type 0} {f : Format P M D C} {i : Interfac
   Polls-append (suc count) old turns (next, told, poll, rest, is, tail) more =
       (next, told, poll, rest ++ more.turns, ap (λ l. l ++ more.turns) is ∙ append_assoc (given told) rest more.turns, Polls-append count next rest tail more)
 
-module _ {P M D S G O J N V B Q C T W : Type 0} {f : Format P M D C} {i : Interfaces P M D S G O J N V B Q} {seen : W → List (Turn P D) → Type 0} where
-  -- nothing was polled, and nothing shown
-  pub ShowsPolls-none : {old : Moment P M S O D J B Q C T N V} {watching : W} → ShowsPolls f i seen old old watching watching
-  ShowsPolls-none {old} {watching} = record {
-    took = record { count = zero; turns = []; polls = (refl, refl) };
-    shown = λ turns h. subst (seen watching) (sym (append-nil turns)) h;
-  }
+module _ {P M D S G O J N V B Q C T : Type 0} {f : Format P M D C} {i : Interfaces P M D S G O J N V B Q} where
+  -- no poll
+  pub SomePolls-none : {old : Moment P M S O D J B Q C T N V} → SomePolls f i old old
+  SomePolls-none = record { count = zero; turns = []; polls = (refl, refl) }
 
   -- some polls, and then some more
-  pub ShowsPolls-more : {old mid new : Moment P M S O D J B Q C T N V × W} → ShowsPolls f i seen old.0 mid.0 old.1 mid.1 → ShowsPolls f i seen mid.0 new.0 mid.1 new.1
-      → ShowsPolls f i seen old.0 new.0 old.1 new.1
-  ShowsPolls-more {old} {new = new} one more = record {
-    took = record {
-      count = plus one.took.count more.took.count;
-      turns = one.took.turns ++ more.took.turns;
-      polls = Polls-append one.took.count old.0 one.took.turns one.took.polls more.took;
-    };
-    shown = λ turns h. subst (seen new.1) (append_assoc turns (unended one.took.turns) (unended more.took.turns) ∙ ap (λ l. turns ++ l) (sym (unended-append one.took.turns more.took.turns)))
-        (more.shown (turns ++ unended one.took.turns) (one.shown turns h));
+  pub SomePolls-more : {old mid new : Moment P M S O D J B Q C T N V} → SomePolls f i old mid → SomePolls f i mid new → SomePolls f i old new
+  SomePolls-more {old} one more = record {
+    count = plus one.count more.count;
+    turns = one.turns ++ more.turns;
+    polls = Polls-append one.count old one.turns one.polls more;
   }
 
   -- some polls, and then one more
-  pub ShowsPolls-one : {old mid new : Moment P M S O D J B Q C T N V × W} {result : Poll (Turn P D)} → ShowsPolls f i seen old.0 mid.0 old.1 mid.1 → IsPoll f i mid.0 new.0 result
-      → ((turns : List (Turn P D)) → seen mid.1 turns → seen new.1 (turns ++ unended (given result))) → ShowsPolls f i seen old.0 new.0 old.1 new.1
-  ShowsPolls-one {new = new} {result} one poll step =
-      ShowsPolls-more one (record {
-        took = record {
-          count = suc zero;
-          turns = given result ++ [];
-          polls = (new.0, result, poll, [], refl, (refl, refl));
-        };
-        shown = λ turns h. subst (λ l. seen new.1 (turns ++ unended l)) (sym (append-nil (given result))) (step turns h);
-      })
+  pub SomePolls-one : {old mid new : Moment P M S O D J B Q C T N V} {result : Poll (Turn P D)} → SomePolls f i old mid → IsPoll f i mid new result → SomePolls f i old new
+  SomePolls-one {new = new} {result} one poll = SomePolls-more one (record {
+    count = suc zero;
+    turns = given result ++ [];
+    polls = (new, result, poll, [], refl, (refl, refl));
+  })
 
-module _ {P M D S G O J N V B Q C T W A : Type 0} (f : Format P M D C) (i : Interfaces P M D S G O J N V B Q) (seen : W → List (Turn P D) → Type 0)
-    (at : A → Moment P M S O D J B Q C T N V × W) where
-  -- what a run gives from a moment on, it gives from one that polls took to it
-  pub ShowsPollsTo-back : (old mid : Option A) (left : Moment P M S O D J B Q C T N V × W) (cause : EndCause)
-      → IfSome old (λ p. IsSomeAnd mid (λ q. ShowsPolls f i seen (at p).0 (at q).0 (at p).1 (at q).1)) → IfSome mid (λ q. ShowsPollsTo f i seen (at q).0 (at q).1 left cause)
-      → IfSome old (λ p. ShowsPollsTo f i seen (at p).0 (at p).1 left cause)
-  ShowsPollsTo-back None mid left cause took ran = tt
-  ShowsPollsTo-back (Some p) None left cause took ran = absurd took
-  ShowsPollsTo-back (Some p) (Some q) left cause took ran = (ShowsPolls-more took ran.0, ran.1)
+module _ {P M D S G O J N V B Q C T A : Type 0} (f : Format P M D C) (i : Interfaces P M D S G O J N V B Q) (at : A → Moment P M S O D J B Q C T N V) where
+  -- an end that polls reach from a moment on, they reach from one that polls took to it
+  pub PollsToEnd-back : (old mid : Option A) (left : Moment P M S O D J B Q C T N V) (cause : EndCause) → IfSome old (λ p. IsSomeAnd mid (λ q. SomePolls f i (at p) (at q)))
+      → IfSome mid (λ q. PollsToEnd f i (at q) left cause) → IfSome old (λ p. PollsToEnd f i (at p) left cause)
+  PollsToEnd-back None mid left cause took ran = tt
+  PollsToEnd-back (Some p) None left cause took ran = absurd took
+  PollsToEnd-back (Some p) (Some q) left cause took ran = (SomePolls-more took ran.0, ran.1)
 
-module _ {P M D S G O J N V B Q C T W : Type 0} {f : Format P M D C} {i : Interfaces P M D S G O J N V B Q} {seen : W → List (Turn P D) → Type 0} where
+module _ {P M D S G O J N V B Q C T : Type 0} {f : Format P M D C} {i : Interfaces P M D S G O J N V B Q} where
   -- the report of a run whose last poll ended the engine
-  pub ShowsRun-ended : {old : Moment P M S O D J B Q C T N V} {watching : W} {left : Moment P M S O D J B Q C T N V × W} {cause : EndCause} (report : Report P Q W)
-      → ShowsPollsTo f i seen old watching left cause → report.cause ≡ cause → report.failure ≡ None
-      → report.metrics ≡ left.0.engine.node.metrics → report.requests ≡ left.0.engine.requests
-      → ((turns : List (Turn P D)) → seen left.1 turns → seen report.observer (turns ++ turn.Ended cause ∷ []))
-      → ShowsRun f i seen old watching report
-  ShowsRun-ended {old} {left = left} report ran cause failure metrics requests told = record {
-    last = left.0;
-    took = ran.0.took;
+  pub IsRun-ended : {old last : Moment P M S O D J B Q C T N V} {cause : EndCause} (report : Report P Q) → PollsToEnd f i old last cause → report.cause ≡ cause → report.failure ≡ None
+      → report.metrics ≡ last.engine.node.metrics → report.requests ≡ last.engine.requests → IsRun f i old report
+  IsRun-ended {old} {last} report ran cause failure metrics requests = record {
+    last = last;
+    took = ran.0;
     counters = metrics;
-    caused = subst (λ o. MatchOption o ((left.0.engine.end ≡ Some report.cause) × (report.requests ≡ left.0.engine.requests)) (λ failed. (report.cause ≡ WaitFailed) × (left.0 ≡ old)))
+    caused = subst (λ o. MatchOption o ((last.engine.end ≡ Some report.cause) × (report.requests ≡ last.engine.requests)) (λ failed. (report.cause ≡ WaitFailed) × (last ≡ old)))
         (sym failure) (ran.1 ∙ ap (λ c. Some c) (sym cause), requests);
-    shown = λ turns h. subst (λ c. seen report.observer ((turns ++ unended ran.0.took.turns) ++ turn.Ended c ∷ [])) (sym cause)
-        (told (turns ++ unended ran.0.took.turns) (ran.0.shown turns h));
   }
 
   -- the report of a run whose thread could not wait
-  pub ShowsRun-failed : {old : Moment P M S O D J B Q C T N V} {watching : W} {failed : CannotWait} (report : Report P Q W)
-      → report.cause ≡ WaitFailed → report.failure ≡ Some failed → report.metrics ≡ old.engine.node.metrics
-      → ((turns : List (Turn P D)) → seen watching turns → seen report.observer (turns ++ turn.Ended WaitFailed ∷ []))
-      → ShowsRun f i seen old watching report
-  ShowsRun-failed {old} {watching} report cause failure metrics told = record {
+  pub IsRun-failed : {old : Moment P M S O D J B Q C T N V} {failed : CannotWait} (report : Report P Q) → report.cause ≡ WaitFailed → report.failure ≡ Some failed
+      → report.metrics ≡ old.engine.node.metrics → IsRun f i old report
+  IsRun-failed {old} report cause failure metrics = record {
     last = old;
-    took = record { count = zero; turns = []; polls = (refl, refl) };
+    took = SomePolls-none;
     counters = metrics;
     caused = subst (λ o. MatchOption o ((old.engine.end ≡ Some report.cause) × (report.requests ≡ old.engine.requests)) (λ failed. (report.cause ≡ WaitFailed) × (old ≡ old)))
         (sym failure) (cause, refl);
-    shown = λ turns h. subst (λ c. seen report.observer ((turns ++ []) ++ turn.Ended c ∷ [])) (sym cause)
-        (told (turns ++ []) (subst (seen watching) (sym (append-nil turns)) h));
   }

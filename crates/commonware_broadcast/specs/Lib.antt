@@ -15,5 +15,5 @@ pub mod Waits
 pub mod First
 pub mod FirstSource
 pub mod Fresh
-pub mod Shown
+pub mod Runs
 pub mod Drives

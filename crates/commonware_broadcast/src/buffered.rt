@@ -13,15 +13,14 @@ pub use broadcast_mailbox::buffered::{
     Queued, Reply, Request, Responder, Settled, Stopper, Subscription, Taker, Tally, Watch,
     WatchedEnds, WatchedMailbox, channel, ticket_law, watched_channel,
 };
-pub use config::{Config, Observed};
+pub use config::Config;
 pub use digest_strategies::{
     Done, Gate, Job, Open, Sequential, Strategy, Threaded, Work, Worker, Working,
 };
 pub use engine::{Engine, Report, StartError, drive, new_engine_law};
 pub use engine_io::{
-    CannotWait, Counter, Direct, EndCause, Input, Metrics, MetricsError, NetworkFailed, Observer,
-    Outlet, Provider, Receiver, Recent, Requests, Sender, Sequencer, SetNumber, Snapshots, Status,
-    Turn, observer, snapshots,
+    CannotWait, Counter, Direct, EndCause, Input, Metrics, MetricsError, NetworkFailed, Outlet,
+    Provider, Receiver, Requests, Sender, Sequencer, Snapshots, Status, Turn, snapshots,
 };
 pub use front::{MailboxEngine, WatchedEngine, WatchedNode};
 pub use launch::start;

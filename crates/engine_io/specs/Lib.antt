@@ -9,4 +9,3 @@ pub mod Causes
 pub mod Heard
 pub mod Scripts
 pub mod Recorded
-pub mod SetNumber

@@ -1,6 +1,6 @@
 // SPDX-License-Identifier: Apache-2.0
-//! The interfaces of an engine: its sources and sinks, its inputs, turns and counters, who sees and
-//! asks for those, and scripts and recorders for tests.
+//! The interfaces of an engine: its sources and sinks, its inputs, turns and counters, who asks for
+//! those, and scripts and recorders for tests.
 #![tactic(auto)]
 
 pub mod asleep;
@@ -8,7 +8,6 @@ pub mod input;
 pub mod metrics;
 pub mod mocks;
 pub mod network;
-pub mod observer;
 pub mod outlet;
 pub mod reply;
 pub mod requests;
@@ -19,9 +18,6 @@ pub use asleep::{CannotWait, Seat, block_on_asleep, may_look};
 pub use input::{EndCause, Input, Turn};
 pub use metrics::{Counter, Metrics, Sequencer, Status};
 pub use network::{NetworkFailed, Provider, Receiver, Sender};
-pub use observer::Observer;
-pub use observer::recent::Recent;
-pub use observer::set_number::SetNumber;
 pub use outlet::{Direct, Outlet};
 pub use reply::{copies, respond_get, respond_subscribe, respond_waiters};
 pub use requests::Requests;

@@ -113,7 +113,6 @@ pub struct Snapshots<P: PublicKey> {
     asking: Mutex<Asking<P>>,
     // Whether somebody asked since the callers were last taken.
     is_asked: AtomicBool,
-    has_ended: AtomicBool,
 }
 
 impl<P: PublicKey> Snapshots<P> {
@@ -123,13 +122,7 @@ impl<P: PublicKey> Snapshots<P> {
             asked: Source::new(),
             asking: Mutex::new(Asking::new(alloc)),
             is_asked: AtomicBool::new(false),
-            has_ended: AtomicBool::new(false),
         }
-    }
-
-    /// Returns whether the engine has ended.
-    pub fn has_ended(&self) -> bool {
-        self.has_ended.load(Ordering::SeqCst)
     }
 
     /// Waits for a copy of the counters.
@@ -189,7 +182,6 @@ impl<P: PublicKey> Snapshots<P> {
 
     /// Tells callers that the engine has ended: those who ask, and those who will.
     pub fn end(&self, rt: &impl Wait, alloc: Global) {
-        self.has_ended.store(true, Ordering::SeqCst);
         let (callers, waker) = self.asking.lock(rt).end(alloc);
         drop::<_>((callers, waker));
     }

@@ -1,10 +1,1 @@
-pub mod ByteLists
-pub mod EventLines
 pub mod Loopbacks
-pub mod Naming
-pub mod Numbers
-pub mod Reading
-pub mod Shown
-pub mod Splits
-pub mod StepLines
-pub mod Written

@@ -1,16 +1,2 @@
-pub mod EventLine
-pub mod FaultText
-pub mod Lines
-pub mod Lists
 pub mod Loopback
-pub mod Message
-pub mod Printed
-pub mod Recipients
-pub mod ReplayArguments
-pub mod ReplayReport
 pub mod Runs
-pub mod StepLine
-pub mod Words
-pub mod WorldArguments
-pub mod WorldReport
-pub mod Parsing

@@ -1,7 +1,7 @@
 //! The program `replay`: runs the events of a file, and prints the answer to each of them.
 ghost use Rattle.std.specs.Prelude.{IfOk};
 ghost use Rattle.broadcast_core.specs.HasRun.{HasRun};
-ghost use Rattle.programs.specs.ReplayArguments.{setting_of};
+ghost use Rattle.programs.specs.Runs.{setting_of};
 
 pub mod events;
 pub mod loopback;

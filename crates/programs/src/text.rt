@@ -1,5 +1,5 @@
 //! Text of the programs: arguments, words and numbers, byte lists, recipients, lines, messages,
-//! events, answers and faults.
+//! events, answers and faults. No contract states what a text means: runs show it.
 pub mod answer;
 pub mod arguments;
 pub mod byte_list;

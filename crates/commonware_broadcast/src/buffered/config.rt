@@ -29,7 +29,7 @@ pub struct Config<P, MCfg, D, T> {
 impl<P, D> Config<P, (), D, Sequential> {
     /// Creates a configuration whose ready list has 1,024 places. Of each peer at most 256 digests
     /// are kept, which are charged at most 64 MiB. Messages are not sent as priority, are digested
-    /// at once, and are decoded without a configuration. Each of these is a field with a setter.
+    /// at once, and are decoded without a configuration. Each of these is a field.
     pub fn new(public_key: P, peer_provider: D) -> Self
         ensures key { result.public_key ≡ public_key }
         ensures provider { result.peer_provider ≡ peer_provider }
@@ -77,43 +77,7 @@ impl<P, D, T> Config<P, (), D, T> {
     }
 }
 
-impl<P, MCfg, D> Config<P, MCfg, D, Sequential> {
-    /// Sets what digests messages.
-    pub fn with_strategy<T>(self, strategy: T) -> Config<P, MCfg, D, T>
-        ensures { result ≡ record {
-          public_key = self.public_key;
-          mailbox_size = self.mailbox_size;
-          deque_size = self.deque_size;
-          byte_budget = self.byte_budget;
-          priority = self.priority;
-          codec_config = self.codec_config;
-          peer_provider = self.peer_provider;
-          strategy = strategy;
-        } }
-    {
-        Config {
-            public_key: self.public_key,
-            mailbox_size: self.mailbox_size,
-            deque_size: self.deque_size,
-            byte_budget: self.byte_budget,
-            priority: self.priority,
-            codec_config: self.codec_config,
-            peer_provider: self.peer_provider,
-            strategy,
-        }
-    }
-}
-
 impl<P, MCfg, D, T> Config<P, MCfg, D, T> {
-    /// Sets the greatest number of requests in the mailbox's ready list.
-    pub fn with_mailbox_size(self, mailbox_size: NonZeroUsize) -> Self
-        ensures { result ≡ record self { mailbox_size = mailbox_size } }
-    {
-        let mut config = self;
-        config.mailbox_size = mailbox_size;
-        config
-    }
-
     /// Sets the greatest number of digests that are kept of each peer.
     pub fn with_deque_size(self, deque_size: usize) -> Self
         ensures { result ≡ record self { deque_size = deque_size } }
@@ -131,33 +95,4 @@ impl<P, MCfg, D, T> Config<P, MCfg, D, T> {
         config.byte_budget = byte_budget;
         config
     }
-
-    /// Sets whether messages are sent as priority.
-    pub fn with_priority(self, priority: bool) -> Self
-        ensures { result ≡ record self { priority = priority } }
-    {
-        let mut config = self;
-        config.priority = priority;
-        config
-    }
-
-    /// Adds an observer. It is handed each turn of the engine that is started with it, and is in
-    /// the engine's report. If the start fails it is told that as an end, and dropped.
-    pub fn observed_by<W>(self, observer: W) -> Observed<P, MCfg, D, T, W>
-        ensures { result ≡ record { config = self; observer = observer } }
-    {
-        Observed {
-            config: self,
-            observer,
-        }
-    }
-}
-
-/// A configuration, and the observer that is handed the turns of its engine.
-#[derive(Drop)]
-pub struct Observed<P, MCfg, D, T, W> {
-    /// The configuration.
-    pub config: Config<P, MCfg, D, T>,
-    /// The observer.
-    pub observer: W,
 }

@@ -22,4 +22,4 @@ pub use report::Report;
 pub(crate) use running::Running;
 pub use state::Engine;
 pub use thread::StartError;
-pub(crate) use thread::{give_up, spawn};
+pub(crate) use thread::spawn;

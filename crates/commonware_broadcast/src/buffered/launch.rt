@@ -1,18 +1,18 @@
-//! Engines that are made and started by one call, with or without an observer.
+//! Engines that are made and started by one call.
 ghost use Rattle.std.specs.Prelude.{◌≡◌, IfOk};
 ghost use Rattle.std.specs.NonZero.{non_zero_usize_get};
 ghost use Rattle.broadcast_mailbox.specs.Ends.{IngressEnd, MailboxEnd};
 ghost use Rattle.commonware_broadcast.specs.Fresh.{fresh};
 
-use crate::buffered::config::{Config, Observed};
-use crate::buffered::engine::{Engine, StartError, give_up};
+use crate::buffered::config::Config;
+use crate::buffered::engine::{Engine, StartError};
 use crate::buffered::front::MailboxEngine;
 use crate::buffered::runtime::{Movable, Runtime};
 use crate::buffered::started::Handle;
 use broadcast_core::{Codec, Digestible, PublicKey};
 use broadcast_mailbox::buffered::Mailbox;
 use digest_strategies::Strategy;
-use engine_io::{Observer, Provider, Receiver, Sender};
+use engine_io::{Provider, Receiver, Sender};
 use std::alloc::{AllocError, AllocGlobal};
 
 /// Creates an engine and its mailbox, and starts it in a thread of its own, where it runs until it
@@ -39,46 +39,12 @@ where
     ensures mailbox_size { IfOk result (λ started.
         started.1.inbox.size ≡ non_zero_usize_get cfg.mailbox_size) }
 {
-    cfg.observed_by(()).start(rt, network)
-}
-
-/// The handle and the mailbox of a started engine that has an observer.
-type Started<P, M, R, W> = (Handle<P, M, R, (), W>, Mailbox<P, M, R>);
-
-impl<P: PublicKey + Send + 'static, C: Movable, B, T, W> Observed<P, C, B, T, W>
-where
-    B: Provider<P> + Movable,
-    T: Movable,
-    W: Movable,
-{
-    /// Creates an engine and its mailbox, and starts it, as [`start`] does.
-    pub fn start<M, N, V, R>(
-        self,
-        rt: &R,
-        network: (N, V),
-    ) -> Result<Started<P, M, R, W>, StartError>
-    where
-        M: Digestible + Codec<Cfg = C> + Send + Sync + 'static,
-        M::Digest: 'static,
-        T: Strategy<M>,
-        T::Job: Send + 'static,
-        N: Sender<P> + Movable,
-        V: Receiver<P> + Movable,
-        R: Runtime,
-        W: Observer<P, M::Digest>,
-        ensures own_mailbox { IfOk result (λ started. started.0.inbox ≡ started.1.inbox) }
-        ensures mailbox_size { IfOk result (λ started.
-            started.1.inbox.size ≡ non_zero_usize_get self.config.mailbox_size) }
-    {
-        let Observed { config, observer } = self;
-        let Ok((engine, mailbox)) = new_engine::<P, M, B, T, R>(rt, config) else {
-            drop::<_>(network);
-            give_up::<P, M::Digest, W>(observer);
-            return Err(StartError::Memory);
-        };
-        let handle = engine.start_with(rt, network, observer)?;
-        Ok((handle, mailbox))
-    }
+    let Ok((engine, mailbox)) = new_engine::<P, M, B, T, R>(rt, cfg) else {
+        drop::<_>(network);
+        return Err(StartError::Memory);
+    };
+    let handle = engine.start(rt, network)?;
+    Ok((handle, mailbox))
 }
 
 /// Creates an engine and its mailbox.

@@ -3,13 +3,13 @@ ghost use Rattle.std.specs.Prelude.{◌≡◌, IfOk};
 ghost use Rattle.std.specs.Arc.{arc_value};
 ghost use Rattle.broadcast_mailbox.specs.Ends.{IngressEnd, MailboxEnd};
 
-use crate::buffered::engine::{Report, Running, StartError, give_up, spawn};
+use crate::buffered::engine::{Report, Running, StartError, spawn};
 use crate::buffered::front::MailboxEngine;
 use crate::buffered::runtime::{Movable, Runtime};
 use broadcast_core::{Codec, Digestible, PublicKey};
 use broadcast_mailbox::buffered::{Bookkeeping, Incoming, Ingress, Stopper};
 use digest_strategies::Strategy;
-use engine_io::{Metrics, MetricsError, Observer, Provider, Receiver, Sender, Snapshots};
+use engine_io::{Metrics, MetricsError, Provider, Receiver, Sender, Snapshots};
 use std::alloc::{AllocError, AllocGlobal};
 use std::marker::Model;
 use std::random::RandomSource;
@@ -20,12 +20,12 @@ use std::thread::{JoinHandle, Threads};
 /// its end is not waited for.
 ///
 /// Contracts see it as an end of the engine's mailbox.
-pub struct Handle<P: PublicKey, M: Digestible, R: Wait, A: Bookkeeping = (), W = ()> {
+pub struct Handle<P: PublicKey, M: Digestible, R: Wait, A: Bookkeeping = ()> {
     control: Arc<Control<P, M, R, A>>,
-    thread: JoinHandle<MailboxReport<P, M, R, A, W>>,
+    thread: JoinHandle<MailboxReport<P, M, R, A>>,
 }
 
-impl<P: PublicKey, M: Digestible, R: Wait, A: Bookkeeping, W> Model for Handle<P, M, R, A, W> {
+impl<P: PublicKey, M: Digestible, R: Wait, A: Bookkeeping> Model for Handle<P, M, R, A> {
     ghost use Rattle.std.specs.Arc.{arc_value};
     ghost use Rattle.broadcast_mailbox.specs.Ends.{MailboxEnd};
 
@@ -35,7 +35,7 @@ impl<P: PublicKey, M: Digestible, R: Wait, A: Bookkeeping, W> Model for Handle<P
 }
 
 /// The report of a started engine that has a mailbox.
-pub type MailboxReport<P, M, R, A = (), W = ()> = Report<P, Ingress<Incoming<P, M>, R, A>, W>;
+pub type MailboxReport<P, M, R, A = ()> = Report<P, Ingress<Incoming<P, M>, R, A>>;
 
 /// The channel to a started engine: it requests a stop, and asks for the counters.
 #[derive(Drop)]
@@ -76,18 +76,10 @@ impl<P: PublicKey, M: Digestible, R: AllocGlobal + Clone + Drop, A: Bookkeeping>
     }
 }
 
-impl<P: PublicKey, M: Digestible, R: Threads + Wait + Drop, A, W> Handle<P, M, R, A, W>
-where
-    A: Bookkeeping,
-{
+impl<P: PublicKey, M: Digestible, R: Threads + Wait + Drop, A: Bookkeeping> Handle<P, M, R, A> {
     /// Asks the engine to stop. Does not wait for its end.
     pub fn stop(&self) {
         self.control.stopper.request_stop();
-    }
-
-    /// Returns whether the engine has ended. Does not wait for its end.
-    pub fn is_finished(&self) -> bool {
-        self.control.snapshots.has_ended()
     }
 
     /// Returns a copy of the counters that the engine has now. Waits for its thread, but not for
@@ -100,29 +92,15 @@ where
     }
 
     /// Waits for the end of the engine. Returns what it leaves.
-    pub fn join(self, rt: &R) -> MailboxReport<P, M, R, A, W> {
+    pub fn join(self, rt: &R) -> MailboxReport<P, M, R, A> {
         let Handle { control, thread } = self;
         let report = thread.join(rt);
         drop::<_>(control);
         report
     }
-
-    /// Lets the engine run on until it ends by itself, as when its network fails. Nothing is left
-    /// then to stop it by.
-    pub fn detach(self)
-    where
-        W: Drop,
-    {
-        let Handle { control, thread } = self;
-        drop::<_>(control);
-        drop::<_>(thread);
-    }
 }
 
-impl<P: PublicKey, M: Digestible, R: Wait + Drop, A: Bookkeeping, W> Drop for Handle<P, M, R, A, W>
-where
-    W: Drop,
-{
+impl<P: PublicKey, M: Digestible, R: Wait + Drop, A: Bookkeeping> Drop for Handle<P, M, R, A> {
     fn drop(self) {
         let Handle { control, thread } = self;
         control.stopper.request_stop();
@@ -153,33 +131,14 @@ where
         V: Receiver<P> + Movable,
         ensures { IfOk result (λ handle. handle.inbox ≡ self.requests.inbox) }
     {
-        self.start_with(rt, network, ())
-    }
-
-    /// Starts the engine as `start` does. The observer is handed its turns, and is in its report.
-    pub(super) fn start_with<N, V, W>(
-        self,
-        rt: &R,
-        network: (N, V),
-        observer: W,
-    ) -> Result<Handle<P, M, R, A, W>, StartError>
-    where
-        T::Job: Send + 'static,
-        N: Sender<P> + Movable,
-        V: Receiver<P> + Movable,
-        W: Observer<P, M::Digest> + Movable,
-        ensures { IfOk result (λ handle. handle.inbox ≡ self.requests.inbox) }
-    {
         let Ok((own, control, snapshots)) = Control::new(rt, self.requests()) else {
             self.requests().close();
             drop::<_>((self, network));
-            give_up::<P, M::Digest, W>(observer);
             return Err(StartError::Memory);
         };
         let running = Running {
             engine: self,
             network,
-            observer,
         };
         let work = move || {
             let report = running.run(&own, &snapshots);

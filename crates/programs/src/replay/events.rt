@@ -1,9 +1,4 @@
 //! The events of a reader.
-ghost use Rattle.std.specs.Prelude.{◌≡◌, ℕ, IfSome, IfOk, IfErr};
-ghost use Rattle.programs.specs.Lines.{AreRead, IsFirstUnread, IsOfReading, lines_of};
-ghost use Rattle.programs.specs.EventLine.{IsLine, Means};
-ghost use Rattle.programs.specs.declared.text.fault.Fault.TheVariants.{Syntax};
-
 use crate::text::event::{File, parse_event};
 use crate::text::fault::Fault;
 use crate::text::line_error::LineError;
@@ -17,13 +12,7 @@ use std::io::Read;
 struct EventLines;
 
 impl LineFormat for EventLines {
-    ghost use Rattle.programs.specs.EventLine.{IsLine, Means};
-
     type Item = Event<u64, TestMessage>;
-
-    ghost means = { Means };
-
-    ghost spells = { IsLine };
 
     fn parse(alloc: Global, line: &[u8]) -> Result<Event<u64, TestMessage>, LineError> {
         let mut words = Words::new(line, b' ');
@@ -42,13 +31,6 @@ impl LineFormat for EventLines {
 pub fn read_events<R: Read + Drop>(
     alloc: Global,
     reader: R,
-) -> Result<Vec<Event<u64, TestMessage>>, Fault>
-    ensures each_line { IfOk result (λ events. IfSome (R.remaining reader)
-        (λ text. AreRead Means (lines_of text) events.items)) }
-    ensures first_unread { IfErr result (λ fault. (number : ℕ) → fault ≡ Syntax number
-        → IfSome (R.remaining reader)
-        (λ text. IsFirstUnread Means IsLine (lines_of text) number)) }
-    ensures faults { IfErr result IsOfReading }
-{
+) -> Result<Vec<Event<u64, TestMessage>>, Fault> {
     read_all::<EventLines, R>(alloc, reader)
 }

@@ -1,11 +1,4 @@
 //! What the program prints.
-ghost use Rattle.std.specs.Prelude.{◌≡◌, ◌∷◌, OnOk, map};
-ghost use Rattle.std.specs.List.{flat_map};
-ghost use Rattle.std.specs.Fmt.{decimal};
-ghost use Rattle.std.specs.Io.KnownBytes.{Appends};
-ghost use Rattle.programs.specs.Printed.{answer_line};
-ghost use Rattle.programs.specs.ReplayReport.{comma_list, recipients_word, sent_line, report_text};
-
 use crate::text::answer::write_answer;
 use crate::text::byte_list::write_spaced;
 use crate::text::peer_list::{PeerList, write_lists};
@@ -17,10 +10,7 @@ pub fn write_report<W: Write>(
     out: &mut W,
     run: &Run<u64, TestMessage>,
     lists: &[PeerList<'_>],
-) -> io::Result<()>
-    ensures { OnOk result (Appends (W.contents out.old) (W.contents out.new)
-        (report_text run.now.answers lists.now run.now.core run.now.sent)) }
-{
+) -> io::Result<()> {
     write_answers(out, run.answers.as_slice())?;
     write_lists(out, lists)?;
     writeln!(out, "cached {}", run.core.cached_len())?;
@@ -29,10 +19,7 @@ pub fn write_report<W: Write>(
 }
 
 /// Writes the line of each answer.
-fn write_answers<W: Write>(out: &mut W, answers: &[Answer<TestMessage>]) -> io::Result<()>
-    ensures { OnOk result (Appends (W.contents out.old) (W.contents out.new)
-        (flat_map answer_line answers.now)) }
-{
+fn write_answers<W: Write>(out: &mut W, answers: &[Answer<TestMessage>]) -> io::Result<()> {
     for answer in answers {
         write_answer(out, answer)?;
     }
@@ -40,10 +27,7 @@ fn write_answers<W: Write>(out: &mut W, answers: &[Answer<TestMessage>]) -> io::
 }
 
 /// Writes the line of each send.
-fn write_sends<W: Write>(out: &mut W, sends: &[Sent<u64>]) -> io::Result<()>
-    ensures { OnOk result (Appends (W.contents out.old) (W.contents out.new)
-        (flat_map sent_line sends.now)) }
-{
+fn write_sends<W: Write>(out: &mut W, sends: &[Sent<u64>]) -> io::Result<()> {
     for sent in sends {
         write_sent(out, sent)?;
     }
@@ -51,9 +35,7 @@ fn write_sends<W: Write>(out: &mut W, sends: &[Sent<u64>]) -> io::Result<()>
 }
 
 /// Writes the line of a send.
-fn write_sent<W: Write>(out: &mut W, sent: &Sent<u64>) -> io::Result<()>
-    ensures { OnOk result (Appends (W.contents out.old) (W.contents out.new) (sent_line sent.now)) }
-{
+fn write_sent<W: Write>(out: &mut W, sent: &Sent<u64>) -> io::Result<()> {
     out.write_all(b"sent ")?;
     write_recipients(out, &sent.recipients)?;
     write_spaced(out, sent.bytes.as_slice())?;
@@ -61,10 +43,7 @@ fn write_sent<W: Write>(out: &mut W, sent: &Sent<u64>) -> io::Result<()>
 }
 
 /// Writes `all`, or the keys with commas between.
-fn write_recipients<W: Write>(out: &mut W, recipients: &Recipients<u64>) -> io::Result<()>
-    ensures { OnOk result (Appends (W.contents out.old) (W.contents out.new)
-        (recipients_word recipients.now)) }
-{
+fn write_recipients<W: Write>(out: &mut W, recipients: &Recipients<u64>) -> io::Result<()> {
     match recipients {
         Recipients::All => out.write_all(b"all"),
         Recipients::One(key) => write!(out, "{key}"),
@@ -73,10 +52,7 @@ fn write_recipients<W: Write>(out: &mut W, recipients: &Recipients<u64>) -> io::
 }
 
 /// Writes the keys with commas between.
-fn write_keys<W: Write>(out: &mut W, keys: &[u64]) -> io::Result<()>
-    ensures { OnOk result (Appends (W.contents out.old) (W.contents out.new)
-        (comma_list (map decimal keys.now))) }
-{
+fn write_keys<W: Write>(out: &mut W, keys: &[u64]) -> io::Result<()> {
     let Some((first, others)) = keys.split_first() else {
         return Ok(());
     };

@@ -1,19 +1,10 @@
 //! Answers as lines.
-ghost use Rattle.std.specs.Prelude.{◌≡◌, [], ◌∷◌, OnOk, map, codes};
-ghost use Rattle.std.specs.Io.KnownBytes.{Appends};
-ghost use Rattle.std.specs.Fmt.{decimal};
-ghost use Rattle.programs.specs.Words.{byte_list_word};
-ghost use Rattle.programs.specs.Printed.{line_of, spaced, outcome_word, refusal_words, parts_words, answer_line};
-
 use crate::text::byte_list::write_spaced;
 use broadcast_core::{Answer, Cause, CodecError, Outcome, TestMessage};
 use std::io::{self, Write};
 
 /// Writes the line of an answer.
-pub fn write_answer<W: Write>(out: &mut W, answer: &Answer<TestMessage>) -> io::Result<()>
-    ensures { OnOk result
-        (Appends (W.contents out.old) (W.contents out.new) (answer_line answer.now)) }
-{
+pub fn write_answer<W: Write>(out: &mut W, answer: &Answer<TestMessage>) -> io::Result<()> {
     match answer {
         Answer::Peers => out.write_all(b"ok\n"),
         Answer::Taken {
@@ -33,19 +24,14 @@ pub fn write_answer<W: Write>(out: &mut W, answer: &Answer<TestMessage>) -> io::
 }
 
 /// Writes the line of a taken message.
-fn write_taken<W: Write>(out: &mut W, outcome: Outcome, served: &[u64]) -> io::Result<()>
-    ensures { OnOk result (Appends (W.contents out.old) (W.contents out.new)
-        (line_of (outcome_word outcome) (map decimal served.now))) }
-{
+fn write_taken<W: Write>(out: &mut W, outcome: Outcome, served: &[u64]) -> io::Result<()> {
     out.write_all(outcome_text(outcome))?;
     write_numbers(out, served)?;
     out.write_all(b"\n")
 }
 
 /// Returns the word of the outcome.
-fn outcome_text(outcome: Outcome) -> &'static [u8]
-    ensures { result.now ≡ outcome_word outcome }
-{
+fn outcome_text(outcome: Outcome) -> &'static [u8] {
     match outcome {
         Outcome::Inserted => b"inserted",
         Outcome::Duplicate => b"duplicate",
@@ -55,10 +41,7 @@ fn outcome_text(outcome: Outcome) -> &'static [u8]
 }
 
 /// Writes each number after a space.
-fn write_numbers<W: Write>(out: &mut W, numbers: &[u64]) -> io::Result<()>
-    ensures { OnOk result (Appends (W.contents out.old) (W.contents out.new)
-        (spaced (map decimal numbers.now))) }
-{
+fn write_numbers<W: Write>(out: &mut W, numbers: &[u64]) -> io::Result<()> {
     for number in numbers {
         write!(out, " {number}")?;
     }
@@ -66,10 +49,7 @@ fn write_numbers<W: Write>(out: &mut W, numbers: &[u64]) -> io::Result<()>
 }
 
 /// Writes the line of a refused payload.
-fn write_invalid<W: Write>(out: &mut W, refusal: CodecError) -> io::Result<()>
-    ensures { OnOk result (Appends (W.contents out.old) (W.contents out.new)
-        (line_of (codes "invalid") (refusal_words refusal))) }
-{
+fn write_invalid<W: Write>(out: &mut W, refusal: CodecError) -> io::Result<()> {
     match refusal {
         CodecError::EndOfBuffer => out.write_all(b"invalid EndOfBuffer\n"),
         CodecError::InvalidLength(length) => writeln!(out, "invalid InvalidLength {length}"),
@@ -81,10 +61,7 @@ fn write_invalid<W: Write>(out: &mut W, refusal: CodecError) -> io::Result<()>
 }
 
 /// Writes the line of a word and a message.
-fn write_message<W: Write>(out: &mut W, word: &[u8], message: &TestMessage) -> io::Result<()>
-    ensures { OnOk result (Appends (W.contents out.old) (W.contents out.new)
-        (line_of word.now (parts_words message.now))) }
-{
+fn write_message<W: Write>(out: &mut W, word: &[u8], message: &TestMessage) -> io::Result<()> {
     out.write_all(word)?;
     write_spaced(out, &message.commitment)?;
     write_spaced(out, &message.content)?;

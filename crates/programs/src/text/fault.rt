@@ -1,8 +1,4 @@
 //! The faults of the programs.
-ghost use Rattle.std.specs.Prelude.{◌≡◌};
-ghost use Rattle.programs.specs.FaultText.{fault_status};
-ghost use Rattle.programs.specs.declared.text.fault.Fault.TheVariants.{Memory};
-
 use std::alloc::AllocError;
 use std::fmt::{self, Display, Formatter};
 use std::io::Write;
@@ -27,19 +23,12 @@ pub enum Fault {
 }
 
 impl From<AllocError> for Fault {
-    ghost from_gives = { λ _ fault. fault ≡ Memory };
-
     fn from(_error: AllocError) -> Fault {
         Fault::Memory
     }
 }
 
 impl Display for Fault {
-    ghost use Rattle.std.specs.Prelude.{Some};
-    ghost use Rattle.programs.specs.FaultText.{fault_text};
-
-    ghost output = { λ fault. Some (fault_text fault) };
-
     fn fmt<W: fmt::Write>(&self, f: &mut Formatter<W>) -> fmt::Result {
         match self {
             Fault::Usage(line) => f.write_str(line),
@@ -57,9 +46,7 @@ impl std::error::Error for Fault {}
 
 impl Fault {
     /// Returns the exit status: 2 for what the caller wrote, 3 for what the system refused.
-    pub fn status(&self) -> u8
-        ensures { result ≡ fault_status self.now }
-    {
+    pub fn status(&self) -> u8 {
         match self {
             Fault::Usage(_) | Fault::SharedKey | Fault::Syntax(_) => 2,
             Fault::Read | Fault::Mailbox | Fault::Write | Fault::Memory => 3,
@@ -67,9 +54,7 @@ impl Fault {
     }
 
     /// Writes the text in one line, and returns the exit status. A failure to write is ignored.
-    pub fn report<E: Write + Drop>(&self, mut err: E) -> u8
-        ensures { result ≡ fault_status self.now }
-    {
+    pub fn report<E: Write + Drop>(&self, mut err: E) -> u8 {
         let _ = writeln!(err, "{self}");
         self.status()
     }

@@ -1,7 +1,4 @@
 //! Why a line is refused.
-ghost use Rattle.std.specs.Prelude.{◌≡◌};
-ghost use Rattle.programs.specs.declared.text.line_error.LineError.TheVariants.{Memory};
-
 use std::alloc::AllocError;
 
 /// Why a line is refused.
@@ -14,8 +11,6 @@ pub enum LineError {
 }
 
 impl From<AllocError> for LineError {
-    ghost from_gives = { λ _ e. e ≡ Memory };
-
     fn from(_error: AllocError) -> LineError {
         LineError::Memory
     }

@@ -1,12 +1,4 @@
 //! The lines of a reader, each read as an item.
-ghost use Rattle.std.specs.Prelude.{◌≡◌, ◌++◌, ◌∷◌, ◌+◌, ℕ, List, [], IfSome, IfOk, IfErr, OnOk, OnSome, None, length, Ok, true, false};
-ghost use Rattle.std.specs.Io.KnownBytes.{IsAtEnd, Keeps};
-ghost use Rattle.programs.specs.Lines.{AreRead, IsFirstUnread, IsFailure, IsOfReading, lines_of};
-ghost use Rattle.programs.specs.Parsing.{IsParsed, Extends, IsLineRead, LinesLeft, ending_of, line_end};
-ghost use Rattle.programs.specs.declared.text.lines.Progress.TheVariants.{InputEnd};
-ghost use Rattle.programs.specs.declared.text.line_error.LineError.TheVariants as line_error;
-ghost use Rattle.programs.specs.declared.text.fault.Fault.TheVariants as faults;
-
 use crate::text::fault::Fault;
 use crate::text::line_error::LineError;
 use memchr::memchr;
@@ -31,23 +23,13 @@ pub trait LineFormat {
     /// What a line is read as.
     type Item: Drop;
 
-    /// Whether the line means the item.
-    ghost means: { List ℕ → Self.Item → Type 0 };
-
-    /// Whether the line is one of the format.
-    ghost spells: { List ℕ → Type 0 };
-
     /// Returns the item of a line, which is given without its end.
     ///
     /// # Errors
     ///
     /// Fails with [`LineError::Syntax`] if the line is none of the format, and with
     /// [`LineError::Memory`] if an allocation fails.
-    fn parse(alloc: Global, line: &[u8]) -> Result<Self::Item, LineError>
-        ensures means { IfOk result (λ item. means line.now item) }
-        ensures reads_each_line { IfErr result (λ e. e ≡ line_error.Syntax → ¬ spells line.now) }
-        ensures no_memory_for_others { IfErr result (λ e.
-            e ≡ line_error.Memory → spells line.now) };
+    fn parse(alloc: Global, line: &[u8]) -> Result<Self::Item, LineError>;
 }
 
 /// Returns the items of the whole input, one for each line. A line ends with a line feed; the last
@@ -61,14 +43,7 @@ pub trait LineFormat {
 pub fn read_all<L: LineFormat, R: Read + Drop>(
     alloc: Global,
     reader: R,
-) -> Result<Vec<L::Item>, Fault>
-    ensures each_line { IfOk result (λ items. IfSome (R.remaining reader)
-        (λ text. AreRead L.means (lines_of text) items.items)) }
-    ensures first_unread { IfErr result (λ fault. (number : ℕ) → fault ≡ faults.Syntax number
-        → IfSome (R.remaining reader)
-        (λ text. IsFirstUnread L.means L.spells (lines_of text) number)) }
-    ensures faults { IfErr result IsOfReading }
-{
+) -> Result<Vec<L::Item>, Fault> {
     let mut items = Vec::new(alloc);
     let Ok(mut reader) = BufReader::with_capacity(alloc, BUFFER_LEN, reader) else {
         return Err(Fault::Memory);
@@ -82,15 +57,7 @@ fn read_items<L: LineFormat, R: BufRead>(
     alloc: Global,
     reader: &mut R,
     items: &mut Vec<L::Item>,
-) -> Result<(), Fault>
-    requires { items.old.items ≡ [] }
-    ensures each_line { OnOk result (IfSome (R.remaining reader.old)
-        (λ text. AreRead L.means (lines_of text) items.new.items)) }
-    ensures first_unread { IfErr result (λ fault. (number : ℕ) → fault ≡ faults.Syntax number
-        → IfSome (R.remaining reader.old)
-        (λ text. IsFirstUnread L.means L.spells (lines_of text) number)) }
-    ensures faults { IfErr result IsOfReading }
-{
+) -> Result<(), Fault> {
     let mut line = Vec::new(alloc);
     // A loop must be shown to end. No vector has room for that many items.
     for _ in 0..u64::MAX {
@@ -109,18 +76,7 @@ fn read_item<L: LineFormat, R: BufRead>(
     reader: &mut R,
     line: &mut Vec<u8>,
     items: &mut Vec<L::Item>,
-) -> Result<bool, Fault>
-    ensures next_lines { OnOk result ((lines : List (List ℕ)) × (more : List L.Item)
-        × LinesLeft (R.remaining reader.old) (R.remaining reader.new) lines
-        × AreRead L.means lines more × (items.new.items ≡ items.old.items ++ more)) }
-    ensures at_end { result ≡ Ok false
-        → OnSome (R.remaining reader.old) (IsAtEnd (R.remaining reader.new)) }
-    ensures unread { IfErr result (λ fault. (number : ℕ) → fault ≡ faults.Syntax number
-        → (number ≡ length items.old.items + 1)
-        × IfSome (R.remaining reader.old) (λ text. (next : List ℕ) × (back : List (List ℕ))
-        × (lines_of text ≡ next ∷ back) × ¬ L.spells next)) }
-    ensures faults { IfErr result IsOfReading }
-{
+) -> Result<bool, Fault> {
     let Some(parsed) = parse_line::<L, R>(alloc, reader, line)? else {
         return Ok(false);
     };
@@ -142,16 +98,7 @@ fn parse_line<L: LineFormat, R: BufRead>(
     alloc: Global,
     reader: &mut R,
     line: &mut Vec<u8>,
-) -> Result<Option<Parsed<L>>, Fault>
-    ensures next_line { IfOk result (λ next. IfSome next (λ parsed. (text : List ℕ)
-        × LinesLeft (R.remaining reader.old) (R.remaining reader.new) (text ∷ [])
-        × IsParsed L.means L.spells text parsed)) }
-    ensures no_line { result ≡ Ok None
-        → LinesLeft (R.remaining reader.old) (R.remaining reader.new) [] }
-    ensures at_end { result ≡ Ok None
-        → OnSome (R.remaining reader.old) (IsAtEnd (R.remaining reader.new)) }
-    ensures faults { IfErr result IsFailure }
-{
+) -> Result<Option<Parsed<L>>, Fault> {
     if let Some(parsed) = parse_buffered::<L, R>(alloc, reader)? {
         return Ok(Some(parsed));
     }
@@ -167,13 +114,7 @@ fn parse_line<L: LineFormat, R: BufRead>(
 fn parse_buffered<L: LineFormat, R: BufRead>(
     alloc: Global,
     reader: &mut R,
-) -> Result<Option<Parsed<L>>, Fault>
-    ensures next_line { IfOk result (λ next. IfSome next (λ parsed. (text : List ℕ)
-        × LinesLeft (R.remaining reader.old) (R.remaining reader.new) (text ∷ [])
-        × IsParsed L.means L.spells text parsed)) }
-    ensures unread { result ≡ Ok None → Keeps (R.remaining reader.old) (R.remaining reader.new) }
-    ensures faults { IfErr result IsFailure }
-{
+) -> Result<Option<Parsed<L>>, Fault> {
     let buffered = match reader.fill_buf() {
         Ok(buffered) => buffered,
         Err(error) if error.kind() == ErrorKind::Interrupted => return Ok(None),
@@ -188,11 +129,7 @@ fn parse_buffered<L: LineFormat, R: BufRead>(
 }
 
 /// Returns the fault of a line that was not read. What is left is read too.
-fn fault_of<R: BufRead>(reader: &mut R, error: LineError, number: u64) -> Fault
-    ensures syntax { (n : ℕ) → result ≡ faults.Syntax n
-        → (error ≡ line_error.Syntax) × (n ≡ number) }
-    ensures faults { IsOfReading result }
-{
+fn fault_of<R: BufRead>(reader: &mut R, error: LineError, number: u64) -> Fault {
     match error {
         LineError::Memory => Fault::Memory,
         LineError::Syntax => match skip_rest(reader) {
@@ -204,9 +141,7 @@ fn fault_of<R: BufRead>(reader: &mut R, error: LineError, number: u64) -> Fault
 }
 
 /// Reads what is left, and drops it. Does not allocate.
-fn skip_rest<R: BufRead>(reader: &mut R) -> Result<(), Fault>
-    ensures { IfErr result (λ fault. fault ≡ faults.Read) }
-{
+fn skip_rest<R: BufRead>(reader: &mut R) -> Result<(), Fault> {
     // No input is so long that the bound is met.
     for _ in 0..u64::MAX {
         if skip_buffered(reader)? {
@@ -217,9 +152,7 @@ fn skip_rest<R: BufRead>(reader: &mut R) -> Result<(), Fault>
 }
 
 /// Drops what is buffered. Returns whether the input has ended.
-fn skip_buffered<R: BufRead>(reader: &mut R) -> Result<bool, Fault>
-    ensures { IfErr result (λ fault. fault ≡ faults.Read) }
-{
+fn skip_buffered<R: BufRead>(reader: &mut R) -> Result<bool, Fault> {
     let used = match reader.fill_buf() {
         Ok(buffered) => buffered.len(),
         Err(error) if error.kind() == ErrorKind::Interrupted => return Ok(false),
@@ -230,15 +163,7 @@ fn skip_buffered<R: BufRead>(reader: &mut R) -> Result<bool, Fault>
 }
 
 /// Reads the next line without its end. Returns whether there was one.
-fn next_line<R: BufRead>(reader: &mut R, line: &mut Vec<u8>) -> Result<bool, Fault>
-    ensures line { result ≡ Ok true
-        → LinesLeft (R.remaining reader.old) (R.remaining reader.new) (line.new.items ∷ []) }
-    ensures no_line { result ≡ Ok false
-        → LinesLeft (R.remaining reader.old) (R.remaining reader.new) [] }
-    ensures at_end { result ≡ Ok false
-        → OnSome (R.remaining reader.old) (IsAtEnd (R.remaining reader.new)) }
-    ensures faults { IfErr result IsFailure }
-{
+fn next_line<R: BufRead>(reader: &mut R, line: &mut Vec<u8>) -> Result<bool, Fault> {
     let has_end = read_line(reader, line)?;
     Ok(has_end || !line.is_empty())
 }
@@ -248,15 +173,7 @@ fn next_line<R: BufRead>(reader: &mut R, line: &mut Vec<u8>) -> Result<bool, Fau
 ///
 /// The end of a line is sought by `memchr`: `BufRead::read_until` makes a run over long lines a
 /// third slower.
-fn read_line<R: BufRead>(reader: &mut R, line: &mut Vec<u8>) -> Result<bool, Fault>
-    ensures with_end { result ≡ Ok true
-        → IsLineRead (R.remaining reader.old) (R.remaining reader.new) line.new.items line_end }
-    ensures without_end { result ≡ Ok false
-        → IsLineRead (R.remaining reader.old) (R.remaining reader.new) line.new.items [] }
-    ensures at_end { result ≡ Ok false
-        → OnSome (R.remaining reader.old) (IsAtEnd (R.remaining reader.new)) }
-    ensures faults { IfErr result IsFailure }
-{
+fn read_line<R: BufRead>(reader: &mut R, line: &mut Vec<u8>) -> Result<bool, Fault> {
     line.clear();
     // No line is so long that the bound is met.
     for _ in 0..u64::MAX {
@@ -270,13 +187,7 @@ fn read_line<R: BufRead>(reader: &mut R, line: &mut Vec<u8>) -> Result<bool, Fau
 }
 
 /// Appends what is buffered to the line, up to the line's end, which is dropped.
-fn append_buffered<R: BufRead>(reader: &mut R, line: &mut Vec<u8>) -> Result<Progress, Fault>
-    ensures more { IfOk result (λ progress. Extends (R.remaining reader.old)
-        (R.remaining reader.new) line.old.items line.new.items (ending_of progress)) }
-    ensures at_end { result ≡ Ok InputEnd
-        → OnSome (R.remaining reader.old) (IsAtEnd (R.remaining reader.new)) }
-    ensures faults { IfErr result IsFailure }
-{
+fn append_buffered<R: BufRead>(reader: &mut R, line: &mut Vec<u8>) -> Result<Progress, Fault> {
     let buffered = match reader.fill_buf() {
         Ok(buffered) => buffered,
         Err(error) if error.kind() == ErrorKind::Interrupted => return Ok(Progress::More),

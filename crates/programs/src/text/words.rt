@@ -1,15 +1,9 @@
 //! Words of a line, and numbers.
-ghost use Rattle.std.specs.Prelude.{◌≡◌, ◌+◌, ◌-◌, ◌*◌, ◌^◌, ◌<◌, ◌≤◌, ℕ, List, [], ◌∷◌, ◌++◌, map, All, Some, IfSome, IfNone, IfOk, IfErr, OnOk, OnErr, true, ◌≢◌};
-ghost use Rattle.std.specs.Fmt.{decimal};
-ghost use Rattle.memchr.specs.Find.{IsFirstByte, is_byte};
-ghost use Rattle.programs.specs.Words.{SpellNumbers, words_of};
-ghost use Rattle.programs.specs.Parsing.{BeginsNumber, IsDigit};
-ghost use Rattle.programs.specs.declared.text.line_error.LineError.TheVariants.{Syntax, Memory};
+ghost use Rattle.std.specs.Prelude.{◌<◌, IfSome, length};
 
 use crate::text::line_error::LineError;
 use memchr::memchr;
 use std::alloc::Global;
-use std::marker::Model;
 
 /// How many places of a text are looked at one by one.
 const NEAR: usize = 8;
@@ -23,21 +17,9 @@ pub struct Words<'a> {
     has_ended: bool,
 }
 
-/// The list of the words that are still to come.
-impl<'a> Model for Words<'a> {
-    ghost use Rattle.std.specs.Prelude.{List, ℕ};
-    ghost use Rattle.programs.specs.Words.{words_left};
-
-    ghost Value = { List (List ℕ) };
-
-    ghost view = { λ words. words_left words.has_ended words.separator words.rest.now };
-}
-
 impl<'a> Words<'a> {
     /// Creates the words of a text.
-    pub fn new(text: &'a [u8], separator: u8) -> Self
-        ensures { result ≡ words_of separator text.now }
-    {
+    pub fn new(text: &'a [u8], separator: u8) -> Self {
         Words {
             rest: text,
             separator,
@@ -46,10 +28,7 @@ impl<'a> Words<'a> {
     }
 
     /// Takes the next word, or returns `None` if no word is left.
-    pub fn take(&mut self) -> Option<&'a [u8]>
-        ensures first { IfSome result (λ word. self.old ≡ word.now ∷ self.new) }
-        ensures none_left { IfNone result ((self.old ≡ []) × (self.new ≡ [])) }
-    {
+    pub fn take(&mut self) -> Option<&'a [u8]> {
         if self.has_ended {
             return None;
         }
@@ -71,10 +50,7 @@ impl<'a> Words<'a> {
     /// # Errors
     ///
     /// Fails with [`LineError::Syntax`] if no word is left.
-    pub fn expect(&mut self) -> Result<&'a [u8], LineError>
-        ensures first { IfOk result (λ word. self.old ≡ word.now ∷ self.new) }
-        ensures none_left { IfErr result (λ e. (e ≡ Syntax) × (self.old ≡ [])) }
-    {
+    pub fn expect(&mut self) -> Result<&'a [u8], LineError> {
         self.take().ok_or(LineError::Syntax)
     }
 
@@ -83,12 +59,7 @@ impl<'a> Words<'a> {
     /// # Errors
     ///
     /// Fails with [`LineError::Syntax`] if more words or fewer are left.
-    pub fn expect_two(mut self) -> Result<(&'a [u8], &'a [u8]), LineError>
-        ensures all_words { IfOk result (λ two. self.entry ≡ two.0.now ∷ two.1.now ∷ []) }
-        ensures fails_for_others { IfErr result (λ e.
-            (first second : List ℕ) → self.entry ≢ first ∷ second ∷ []) }
-        ensures fails_for_syntax { IfErr result (λ e. e ≡ Syntax) }
-    {
+    pub fn expect_two(mut self) -> Result<(&'a [u8], &'a [u8]), LineError> {
         let first = self.expect()?;
         let second = self.expect()?;
         self.end()?;
@@ -100,10 +71,7 @@ impl<'a> Words<'a> {
     /// # Errors
     ///
     /// Fails with [`LineError::Syntax`] if a word is left.
-    pub fn end(mut self) -> Result<(), LineError>
-        ensures none_left { IfOk result (λ _. self.entry ≡ []) }
-        ensures some_left { IfErr result (λ e. (e ≡ Syntax) × (self.entry ≢ [])) }
-    {
+    pub fn end(mut self) -> Result<(), LineError> {
         match self.take() {
             None => Ok(()),
             Some(_) => Err(LineError::Syntax),
@@ -114,41 +82,31 @@ impl<'a> Words<'a> {
 /// Returns the first place of a byte. The nearest places are looked at one by one, since most words
 /// are short, and the others by `memchr`.
 fn place_of(byte: u8, text: &[u8]) -> Option<usize>
-    ensures { IsFirstByte (is_byte byte) text.now result }
+    ensures { IfSome result (λ place. place < length text.now) }
 {
-    let mut i = 0;
-    while i < text.len() && i < NEAR {
-        if text[i] == byte {
-            return Some(i);
+    for place in 0..text.len().min(NEAR) {
+        if text[place] == byte {
+            return Some(place);
         }
-        i += 1;
     }
     memchr(byte, text)
 }
 
 /// Returns the number that the word spells: decimal digits without leading zeros, up to
 /// `u64::MAX`.
-pub fn parse_number(word: &[u8]) -> Option<u64>
-    ensures spelled_so { IfSome result (λ n. word.now ≡ decimal n) }
-    ensures reads_each_number { (n : ℕ) → n < 2 ^ 64 → word.now ≡ decimal n → result ≡ Some n }
-{
+pub fn parse_number(word: &[u8]) -> Option<u64> {
     if !begins_number(word) {
         return None;
     }
     let mut number = 0;
-    let mut i = 0;
-    while i < word.len() {
-        number = with_digit(number, word[i])?;
-        i += 1;
+    for digit in word {
+        number = with_digit(number, *digit)?;
     }
     Some(number)
 }
 
 /// Returns the number whose digits are those of `number`, and this one behind them.
-fn with_digit(number: u64, digit: u8) -> Option<u64>
-    ensures behind { IfSome result (λ n. IsDigit digit × (n ≡ number * 10 + (digit - 48))) }
-    ensures fails_for_others { IfNone result (IsDigit digit → 2 ^ 64 ≤ number * 10 + (digit - 48)) }
-{
+fn with_digit(number: u64, digit: u8) -> Option<u64> {
     if !digit.is_ascii_digit() {
         return None;
     }
@@ -156,10 +114,7 @@ fn with_digit(number: u64, digit: u8) -> Option<u64>
 }
 
 /// Returns whether the first byte is a digit, and a zero only if it stands alone.
-fn begins_number(word: &[u8]) -> bool
-    ensures begins { result ≡ true → BeginsNumber word.now }
-    ensures only_others_fail { BeginsNumber word.now → result ≡ true }
-{
+fn begins_number(word: &[u8]) -> bool {
     match word {
         [] => false,
         [digit] => digit.is_ascii_digit(),
@@ -172,11 +127,7 @@ fn begins_number(word: &[u8]) -> bool
 /// # Errors
 ///
 /// Fails with [`LineError::Syntax`] if it spells none.
-pub fn expect_number(word: &[u8]) -> Result<u64, LineError>
-    ensures spelled_so { IfOk result (λ n. word.now ≡ decimal n) }
-    ensures reads_each_number { IfErr result (λ e. (n : ℕ) → n < 2 ^ 64 → word.now ≢ decimal n) }
-    ensures fails_for_syntax { IfErr result (λ e. e ≡ Syntax) }
-{
+pub fn expect_number(word: &[u8]) -> Result<u64, LineError> {
     parse_number(word).ok_or(LineError::Syntax)
 }
 
@@ -186,38 +137,18 @@ pub fn expect_number(word: &[u8]) -> Result<u64, LineError>
 ///
 /// Fails with [`LineError::Syntax`] if a word spells no number, and with [`LineError::Memory`] if
 /// an allocation fails.
-pub fn parse_numbers(alloc: Global, mut words: Words<'_>) -> Result<Vec<u64>, LineError>
-    ensures spelled_so { IfOk result (λ numbers. words.entry ≡ map decimal numbers.items) }
-    ensures reads_all_numbers { (numbers : List ℕ) → All (λ n. n < 2 ^ 64) numbers
-        → words.entry ≡ map decimal numbers → IfErr result (λ e. e ≡ Memory) }
-    ensures are_numbers { IfOk result (λ numbers. All (λ n. n < 2 ^ 64) numbers.items) }
-    ensures no_memory_for_numbers { IfErr result (λ e. e ≡ Memory → SpellNumbers words.entry) }
-{
+pub fn parse_numbers(alloc: Global, mut words: Words<'_>) -> Result<Vec<u64>, LineError> {
     let mut numbers = Vec::new(alloc);
-    while let Some(word) = words.take() {
-        let number = expect_number(word)?;
-        if numbers.push(number).is_err() {
-            judge_numbers(words)?;
-            return Err(LineError::Memory);
-        }
+    // A loop must be shown to end. No vector has room for that many numbers.
+    for _ in 0..u64::MAX {
+        let Some(word) = words.take() else {
+            return Ok(numbers);
+        };
+        let Ok(()) = numbers.push(expect_number(word)?) else {
+            break;
+        };
     }
-    Ok(numbers)
-}
-
-/// Returns `Ok` if each word spells a number. Does not allocate.
-///
-/// # Errors
-///
-/// Fails with [`LineError::Syntax`] if a word spells none.
-pub fn judge_numbers(mut words: Words<'_>) -> Result<(), LineError>
-    ensures numbers { OnOk result (SpellNumbers words.entry) }
-    ensures reads_all_numbers { OnErr result (¬ SpellNumbers words.entry) }
-    ensures fails_for_syntax { IfErr result (λ e. e ≡ Syntax) }
-{
-    while let Some(word) = words.take() {
-        expect_number(word)?;
-    }
-    Ok(())
+    Err(LineError::Memory)
 }
 
 /// Returns what follows the mark.
@@ -225,10 +156,6 @@ pub fn judge_numbers(mut words: Words<'_>) -> Result<(), LineError>
 /// # Errors
 ///
 /// Fails with [`LineError::Syntax`] if the word does not begin with the mark.
-pub fn strip_mark<'a>(word: &'a [u8], mark: &[u8]) -> Result<&'a [u8], LineError>
-    ensures follows_mark { IfOk result (λ rest. word.now ≡ mark.now ++ rest.now) }
-    ensures lacks_mark { IfErr result (λ e. (rest : List ℕ) → word.now ≢ mark.now ++ rest) }
-    ensures fails_for_syntax { IfErr result (λ e. e ≡ Syntax) }
-{
+pub fn strip_mark<'a>(word: &'a [u8], mark: &[u8]) -> Result<&'a [u8], LineError> {
     word.strip_prefix(mark).ok_or(LineError::Syntax)
 }

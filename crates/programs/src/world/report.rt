@@ -1,17 +1,10 @@
 //! What the program prints.
-ghost use Rattle.std.specs.Prelude.{◌≡◌, IfOk, OnOk};
-ghost use Rattle.std.specs.List.{flat_map};
-ghost use Rattle.std.specs.Option.{option_copied};
-ghost use Rattle.std.specs.Io.KnownBytes.{Appends};
-ghost use Rattle.programs.specs.WorldReport.{lists_in, nodes_shown, step_line, node_line, node_lines, part_text};
-
 use crate::text::answer::write_answer;
 use crate::text::peer_list::{PeerList, lists_of, write_list};
 use broadcast_core::{Core, TestMessage};
 use broadcast_world::{World, WorldAnswer, WorldLog};
 use std::alloc::{AllocError, Global};
 use std::io::{self, Write};
-use std::marker::Model;
 
 /// The lists of a node.
 #[derive(Drop)]
@@ -20,20 +13,12 @@ pub struct NodeLists<'a> {
     lists: Vec<PeerList<'a>>,
 }
 
-/// The node and its lists.
-impl<'a> Model for NodeLists<'a> {
-    ghost use Rattle.std.specs.Prelude.{ℕ, List};
-
-    ghost Value = { ℕ × List (ℕ × List (List ℕ)) };
-
-    ghost view = { λ it. (it.node, it.lists.items) };
-}
-
 /// Returns the lists of each node that are not empty, in ascending order of nodes and then of
 /// peers.
-pub fn nodes_of<'a>(alloc: Global, world: &'a World<u64>) -> Result<Vec<NodeLists<'a>>, AllocError>
-    ensures { IfOk result (λ nodes. nodes.items ≡ nodes_shown world.now) }
-{
+pub fn nodes_of<'a>(
+    alloc: Global,
+    world: &'a World<u64>,
+) -> Result<Vec<NodeLists<'a>>, AllocError> {
     let mut nodes = Vec::with_capacity(alloc, world.nodes().len())?;
     for node in world.nodes().as_slice() {
         let lists = lists_in(alloc, world.core(node))?;
@@ -46,9 +31,7 @@ pub fn nodes_of<'a>(alloc: Global, world: &'a World<u64>) -> Result<Vec<NodeList
 fn lists_in<'a>(
     alloc: Global,
     core: Option<&'a Core<u64, TestMessage, u64>>,
-) -> Result<Vec<PeerList<'a>>, AllocError>
-    ensures { IfOk result (λ lists. lists.items ≡ lists_in (option_copied core.entry)) }
-{
+) -> Result<Vec<PeerList<'a>>, AllocError> {
     match core {
         None => Ok(Vec::new(alloc)),
         Some(core) => lists_of(alloc, core),
@@ -61,20 +44,14 @@ pub fn write_part<W: Write>(
     title: &str,
     log: &WorldLog,
     nodes: &[NodeLists<'_>],
-) -> io::Result<()>
-    ensures { OnOk result (Appends (W.contents out.old) (W.contents out.new)
-        (part_text title.now log.now.answers nodes.now)) }
-{
+) -> io::Result<()> {
     writeln!(out, "{title}")?;
     write_steps(out, log.answers.as_slice())?;
     write_nodes(out, nodes)
 }
 
 /// Writes the line of each step.
-fn write_steps<W: Write>(out: &mut W, answers: &[WorldAnswer]) -> io::Result<()>
-    ensures { OnOk result (Appends (W.contents out.old) (W.contents out.new)
-        (flat_map step_line answers.now)) }
-{
+fn write_steps<W: Write>(out: &mut W, answers: &[WorldAnswer]) -> io::Result<()> {
     for answer in answers {
         write_step(out, answer)?;
     }
@@ -82,10 +59,7 @@ fn write_steps<W: Write>(out: &mut W, answers: &[WorldAnswer]) -> io::Result<()>
 }
 
 /// Writes the line of a step.
-fn write_step<W: Write>(out: &mut W, answer: &WorldAnswer) -> io::Result<()>
-    ensures { OnOk result (Appends (W.contents out.old) (W.contents out.new)
-        (step_line answer.now)) }
-{
+fn write_step<W: Write>(out: &mut W, answer: &WorldAnswer) -> io::Result<()> {
     match answer {
         WorldAnswer::Given(answer) => write_answer(out, answer),
         WorldAnswer::NoSuch => out.write_all(b"nosuch\n"),
@@ -93,10 +67,7 @@ fn write_step<W: Write>(out: &mut W, answer: &WorldAnswer) -> io::Result<()>
 }
 
 /// Writes the lines of each node.
-fn write_nodes<W: Write>(out: &mut W, nodes: &[NodeLists<'_>]) -> io::Result<()>
-    ensures { OnOk result (Appends (W.contents out.old) (W.contents out.new)
-        (flat_map node_lines nodes.now)) }
-{
+fn write_nodes<W: Write>(out: &mut W, nodes: &[NodeLists<'_>]) -> io::Result<()> {
     for node in nodes {
         write_node(out, node)?;
     }
@@ -104,18 +75,12 @@ fn write_nodes<W: Write>(out: &mut W, nodes: &[NodeLists<'_>]) -> io::Result<()>
 }
 
 /// Writes the lines of a node.
-fn write_node<W: Write>(out: &mut W, node: &NodeLists<'_>) -> io::Result<()>
-    ensures { OnOk result (Appends (W.contents out.old) (W.contents out.new)
-        (node_lines node.now)) }
-{
+fn write_node<W: Write>(out: &mut W, node: &NodeLists<'_>) -> io::Result<()> {
     write_lists(out, node.node, &node.lists)
 }
 
 /// Writes the line of each list of the node.
-fn write_lists<W: Write>(out: &mut W, node: u64, lists: &[PeerList<'_>]) -> io::Result<()>
-    ensures { OnOk result (Appends (W.contents out.old) (W.contents out.new)
-        (flat_map (node_line node) lists.now)) }
-{
+fn write_lists<W: Write>(out: &mut W, node: u64, lists: &[PeerList<'_>]) -> io::Result<()> {
     for list in lists {
         write_node_list(out, node, list)?;
     }
@@ -123,10 +88,7 @@ fn write_lists<W: Write>(out: &mut W, node: u64, lists: &[PeerList<'_>]) -> io::
 }
 
 /// Writes the line of a list of the node.
-fn write_node_list<W: Write>(out: &mut W, node: u64, list: &PeerList<'_>) -> io::Result<()>
-    ensures { OnOk result (Appends (W.contents out.old) (W.contents out.new)
-        (node_line node list.now)) }
-{
+fn write_node_list<W: Write>(out: &mut W, node: u64, list: &PeerList<'_>) -> io::Result<()> {
     write!(out, "node {node} ")?;
     write_list(out, list)
 }

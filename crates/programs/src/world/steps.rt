@@ -1,9 +1,4 @@
 //! The steps of a reader.
-ghost use Rattle.std.specs.Prelude.{◌≡◌, ℕ, IfSome, IfOk, IfErr, OnErr};
-ghost use Rattle.programs.specs.Lines.{AreRead, IsFirstUnread, IsOfReading, lines_of};
-ghost use Rattle.programs.specs.StepLine.{IsStepLine, MeansStep, step_of as step};
-ghost use Rattle.programs.specs.declared.text.fault.Fault.TheVariants.{Syntax};
-
 use crate::text::event::{File, parse_event};
 use crate::text::fault::Fault;
 use crate::text::line_error::LineError;
@@ -18,13 +13,7 @@ use std::io::Read;
 struct StepLines;
 
 impl LineFormat for StepLines {
-    ghost use Rattle.programs.specs.StepLine.{IsStepLine, MeansStep};
-
     type Item = Step<u64>;
-
-    ghost means = { MeansStep };
-
-    ghost spells = { IsStepLine };
 
     fn parse(alloc: Global, line: &[u8]) -> Result<Step<u64>, LineError> {
         let mut words = Words::new(line, b' ');
@@ -40,9 +29,7 @@ impl LineFormat for StepLines {
 }
 
 /// Returns the step of an event at a node, or of a payload that a hostile key sends.
-fn step_of(number: u64, event: Event<u64, TestMessage>) -> Step<u64>
-    ensures { result ≡ step number event }
-{
+fn step_of(number: u64, event: Event<u64, TestMessage>) -> Step<u64> {
     match event {
         Event::Peers(peers) => Step::Peers(number, peers),
         Event::Broadcast(recipients, message) => Step::Broadcast(number, recipients, message),
@@ -64,13 +51,6 @@ fn step_of(number: u64, event: Event<u64, TestMessage>) -> Step<u64>
 /// Fails with [`Fault::Read`] if the reader fails, also after a line that is no step; else with
 /// [`Fault::Syntax`] and the number of the first line that is none. Fails with [`Fault::Memory`] if
 /// an allocation fails.
-pub fn read_steps<R: Read + Drop>(alloc: Global, reader: R) -> Result<Vec<Step<u64>>, Fault>
-    ensures each_line { IfOk result (λ steps. IfSome (R.remaining reader)
-        (λ text. AreRead MeansStep (lines_of text) steps.items)) }
-    ensures first_unread { IfErr result (λ fault. (number : ℕ) → fault ≡ Syntax number
-        → IfSome (R.remaining reader)
-        (λ text. IsFirstUnread MeansStep IsStepLine (lines_of text) number)) }
-    ensures faults { IfErr result IsOfReading }
-{
+pub fn read_steps<R: Read + Drop>(alloc: Global, reader: R) -> Result<Vec<Step<u64>>, Fault> {
     read_all::<StepLines, R>(alloc, reader)
 }

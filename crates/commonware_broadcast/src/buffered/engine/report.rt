@@ -11,15 +11,14 @@ use std::sync::Wait;
 
 /// The report of a started engine.
 #[derive(Drop)]
-pub struct Report<P: PublicKey, Q, W = ()> {
+pub struct Report<P: PublicKey, Q> {
     pub(super) cause: EndCause,
     pub(super) failure: Option<CannotWait>,
     pub(super) metrics: Metrics<P>,
     pub(super) requests: Q,
-    pub(super) observer: W,
 }
 
-impl<P: PublicKey, Q, W> Report<P, Q, W> {
+impl<P: PublicKey, Q> Report<P, Q> {
     /// Returns why the engine ended.
     pub fn cause(&self) -> EndCause
         ensures { result ≡ self.now.cause }
@@ -41,36 +40,11 @@ impl<P: PublicKey, Q, W> Report<P, Q, W> {
     {
         &self.metrics
     }
-
-    /// Returns the observer, which was handed every turn.
-    pub fn observer(&self) -> &W
-        ensures { result.now ≡ self.now.observer }
-    {
-        &self.observer
-    }
-
-    /// Returns the observer, and drops the rest.
-    pub fn into_observer(self) -> W
-    where
-        Q: Drop,
-        ensures { result ≡ self.observer }
-    {
-        let Report {
-            cause: _,
-            failure: _,
-            metrics,
-            requests,
-            observer,
-        } = self;
-        drop::<_>((metrics, requests));
-        observer
-    }
 }
 
-impl<P: PublicKey, M: Digestible, S: Responder<Reply<M>> + Drop, G, R, A, K, V, W> Report<
+impl<P: PublicKey, M: Digestible, S: Responder<Reply<M>> + Drop, G, R, A, K, V> Report<
     P,
     Ingress<Message<P, M, S, G>, R, Books<A, K, V, M::Digest>>,
-    W,
 >
 where
     G: Responder<Option<Reply<M>>> + Drop,
@@ -78,7 +52,6 @@ where
     A: Account,
     K: Account,
     V: Watch<M::Digest>,
-    W: Drop,
 {
     /// Tells what became of the counted requests, of which none is left. Fails only if the tally
     /// lacks a part.
@@ -94,46 +67,23 @@ where
             BroadcastsOnly V.watched → settled.skipped ≡ 0) }
         ensures unchanged_on_error { IfErr result (λ both. (both.0 ≡ self) × (both.1 ≡ tally)) }
     {
-        match self.into_settled(tally) {
-            Ok((settled, metrics, observer)) => {
-                drop::<_>((metrics, observer));
-                Ok(settled)
-            }
-            Err(both) => Err(both),
-        }
-    }
-
-    /// Tells what became of the counted requests, as `settle` does, with the counters and the
-    /// observer.
-    pub fn into_settled(self, tally: Tally<A>) -> Result<(Settled, Metrics<P>, W), (Self, Tally<A>)>
-        requires accounts { (A.all ≡ A.parts) × (K.all ≡ K.parts) }
-        ensures whole { (is_err result ≡ false) ↔ (tally.parts ≡ A.parts) }
-        ensures accepted { IfOk result (λ left. tally.accepted ≡ left.0.applied
-            + left.0.refused + left.0.skipped + left.0.given_up) }
-        ensures taken { IfOk result (λ left.
-            left.0.applied + left.0.refused ≡ self.requests.taken) }
-        ensures refused { IfOk result (λ left. left.0.refused ≡ self.requests.refused) }
-        ensures broadcasts { IfOk result (λ left. BroadcastsOnly V.watched → left.0.skipped ≡ 0) }
-        ensures metrics { IfOk result (λ left. left.1 ≡ self.metrics) }
-        ensures observer { IfOk result (λ left. left.2 ≡ self.observer) }
-        ensures unchanged_on_error { IfErr result (λ both. (both.0 ≡ self) × (both.1 ≡ tally)) }
-    {
         let Report {
             cause,
             failure,
             metrics,
             requests,
-            observer,
         } = self;
         match requests.settle(tally) {
-            Ok(settled) => Ok((settled, metrics, observer)),
+            Ok(settled) => {
+                drop::<_>(metrics);
+                Ok(settled)
+            }
             Err((requests, tally)) => {
                 let report = Report {
                     cause,
                     failure,
                     metrics,
                     requests,
-                    observer,
                 };
                 Err((report, tally))
             }

@@ -1,22 +1,19 @@
 //! An engine that runs until it ends.
-ghost use Rattle.std.specs.Prelude.{◌≡◌, List, [], ◌∷◌, ◌++◌, Some, IfSome, IsSomeAnd};
+ghost use Rattle.std.specs.Prelude.{◌≡◌, Some, IfSome, IsSomeAnd};
 ghost use Rattle.futures.specs.Poll.{IfReady, OnPending};
 ghost use Rattle.futures.specs.Task.{IsArmed, Keeps};
 ghost use Rattle.commonware_broadcast.specs.EngineHistory.{end_told};
-ghost use Rattle.engine_io.specs.declared.input.Turn.TheVariants as turn;
-ghost use Rattle.commonware_broadcast.specs.Shown.{ShowsPollsTo, ShowsPolls, ShowsRun};
+ghost use Rattle.commonware_broadcast.specs.Runs.{SomePolls, PollsToEnd, IsRun};
 ghost use Rattle.commonware_broadcast.specs.EngineState.{moment};
 ghost use Rattle.commonware_broadcast.specs.Interfaces.{format_of, over};
 
 use crate::buffered::engine::report::Report;
 use crate::buffered::engine::state::Engine;
-use crate::buffered::engine::thread::tell_end;
 use broadcast_core::{Codec, Digestible, PublicKey};
 use broadcast_mailbox::buffered::{Message, Reply, Responder};
 use digest_strategies::Strategy;
 use engine_io::{
-    CannotWait, EndCause, Observer, Outlet, Provider, Receiver, Requests, Seat, Sender, Snapshots,
-    Turn,
+    CannotWait, EndCause, Outlet, Provider, Receiver, Requests, Seat, Sender, Snapshots, Turn,
 };
 use futures::Future;
 use futures::future::{PollFn, poll_fn};
@@ -29,26 +26,14 @@ use std::time::Clock;
 /// The turns that a poll takes at most before it lets other tasks run.
 const TURNS: u64 = 128;
 
-/// An engine with its network, and the observer of its turns. It moves to the thread that runs it.
+/// An engine with its network. It moves to the thread that runs it.
 #[derive(Drop)]
-pub(crate) struct Running<
-    P: PublicKey,
-    M: Digestible + Codec,
-    S,
-    O,
-    B,
-    Q,
-    T: Strategy<M>,
-    N,
-    V,
-    W,
-> {
+pub(crate) struct Running<P: PublicKey, M: Digestible + Codec, S, O, B, Q, T: Strategy<M>, N, V> {
     pub(crate) engine: Engine<P, M, S, O, B, Q, T>,
     pub(crate) network: (N, V),
-    pub(crate) observer: W,
 }
 
-impl<P, M, S, O, B, Q, T, N, V, W> Running<P, M, S, O, B, Q, T, N, V, W>
+impl<P, M, S, O, B, Q, T, N, V> Running<P, M, S, O, B, Q, T, N, V>
 where
     P: PublicKey,
     M: Digestible + Codec,
@@ -58,30 +43,28 @@ where
     T: Strategy<M> + Drop,
     N: Sender<P> + Drop,
     V: Receiver<P> + Drop,
-    W: Observer<P, M::Digest> + Drop,
 {
-    /// Polls the engine until it ends or is pending. The observer is handed the turns, but not the
-    /// end.
+    /// Polls the engine until it ends or is pending.
     fn poll_turns<G>(&mut self, alloc: Global, cx: &mut Context<'_>) -> Poll<EndCause>
     where
         G: Drop,
         O: Outlet<S, G, Reply<M>, Option<Reply<M>>>,
         Q: Requests<Message<P, M, S, G>>,
-        ensures took { ShowsPolls (format_of P.cmp M.Digest.cmp M.encoding M.digest_of M.reading)
+        ensures took { SomePolls (format_of P.cmp M.Digest.cmp M.encoding M.digest_of M.reading)
             (over S.may_answer T.Job.is_of O.Outlet N.Sender V.Receiver B.Provider Q.Requests)
-            W.seen (moment self.old.engine self.old.network)
-            (moment self.new.engine self.new.network)
-            self.old.observer self.new.observer }
+            (moment self.old.engine self.old.network)
+            (moment self.new.engine self.new.network) }
         ensures ended { IfReady result (λ cause. self.new.engine.end ≡ Some cause) }
         ensures armed { OnPending result (IsArmed cx.new) }
         ensures kept { Keeps cx.old cx.new }
     {
         for _ in 0..TURNS {
             match self.engine.poll::<G, N, V>(alloc, cx, &mut self.network) {
-                Poll::Ready(turn) => match end_told(&turn) {
-                    Some(cause) => return Poll::Ready(cause),
-                    None => self.observer.turn(&turn),
-                },
+                Poll::Ready(turn) => {
+                    if let Some(cause) = end_told(&turn) {
+                        return Poll::Ready(cause);
+                    }
+                }
                 Poll::Pending => return Poll::Pending,
             }
         }
@@ -100,11 +83,10 @@ where
         O: Outlet<S, G, Reply<M>, Option<Reply<M>>>,
         Q: Requests<Message<P, M, S, G>>,
         R: Wait + Clock + AllocGlobal,
-        ensures took { ShowsPolls (format_of P.cmp M.Digest.cmp M.encoding M.digest_of M.reading)
+        ensures took { SomePolls (format_of P.cmp M.Digest.cmp M.encoding M.digest_of M.reading)
             (over S.may_answer T.Job.is_of O.Outlet N.Sender V.Receiver B.Provider Q.Requests)
-            W.seen (moment self.old.engine self.old.network)
-            (moment self.new.engine self.new.network)
-            self.old.observer self.new.observer }
+            (moment self.old.engine self.old.network)
+            (moment self.new.engine self.new.network) }
         ensures ended { IfReady result (λ cause. self.new.engine.end ≡ Some cause) }
         ensures armed { OnPending result (IsArmed cx.new) }
         ensures kept { Keeps cx.old cx.new }
@@ -136,18 +118,17 @@ where
         O: Outlet<S, G, Reply<M>, Option<Reply<M>>> + Drop,
         Q: Requests<Message<P, M, S, G>> + Drop,
         R: Wait + Clock + AllocGlobal,
-        ensures ready { IfReady result (λ left. IfSome running.old (λ old. ShowsPollsTo
+        ensures ready { IfReady result (λ left. IfSome running.old (λ old. PollsToEnd
             (format_of P.cmp M.Digest.cmp M.encoding M.digest_of M.reading)
             (over S.may_answer T.Job.is_of O.Outlet N.Sender V.Receiver B.Provider Q.Requests)
-            W.seen (moment old.value.engine old.value.network) old.value.observer
-            (moment left.0.value.engine left.0.value.network, left.0.value.observer) left.1)) }
+            (moment old.value.engine old.value.network)
+            (moment left.0.value.engine left.0.value.network) left.1)) }
         ensures pending { OnPending result (IfSome running.old (λ old.
-            IsSomeAnd running.new (λ new. ShowsPolls
+            IsSomeAnd running.new (λ new. SomePolls
             (format_of P.cmp M.Digest.cmp M.encoding M.digest_of M.reading)
             (over S.may_answer T.Job.is_of O.Outlet N.Sender V.Receiver B.Provider Q.Requests)
-            W.seen (moment old.value.engine old.value.network)
-            (moment new.value.engine new.value.network)
-            old.value.observer new.value.observer))) }
+            (moment old.value.engine old.value.network)
+            (moment new.value.engine new.value.network)))) }
         ensures armed { OnPending result (IsArmed cx.new) }
         ensures kept { Keeps cx.old cx.new }
     {
@@ -165,15 +146,15 @@ where
 
     /// Runs the engine until it ends, on a thread that sleeps at once while there is nothing to do.
     /// Returns what it leaves. If the thread can't wait, no poll is taken.
-    pub(crate) fn run<G, R>(self, rt: &R, snapshots: &Snapshots<P>) -> Report<P, Q, W>
+    pub(crate) fn run<G, R>(self, rt: &R, snapshots: &Snapshots<P>) -> Report<P, Q>
     where
         G: Drop,
         O: Outlet<S, G, Reply<M>, Option<Reply<M>>> + Drop,
         Q: Requests<Message<P, M, S, G>> + Drop,
         R: Wait + Clock + RandomSource + AllocGlobal,
-        ensures runs { ShowsRun (format_of P.cmp M.Digest.cmp M.encoding M.digest_of M.reading)
+        ensures runs { IsRun (format_of P.cmp M.Digest.cmp M.encoding M.digest_of M.reading)
             (over S.may_answer T.Job.is_of O.Outlet N.Sender V.Receiver B.Provider Q.Requests)
-            W.seen (moment self.engine self.network) self.observer result }
+            (moment self.engine self.network) result }
     {
         // A poll that is pending moves no engine in a box.
         match Seat::with_boxed(rt, self) {
@@ -190,39 +171,33 @@ where
         }
     }
 
-    /// Returns what an engine leaves that has ended for this cause, and tells that it has.
+    /// Returns what an engine leaves that has ended for this cause. Those who ask for its counters
+    /// learn that it has.
     fn leave<R>(
         self,
         rt: &R,
         snapshots: &Snapshots<P>,
         cause: EndCause,
         failure: Option<CannotWait>,
-    ) -> Report<P, Q, W>
+    ) -> Report<P, Q>
     where
         O: Drop,
         Q: Drop,
-        R: Wait + Clock + AllocGlobal,
+        R: Wait + AllocGlobal,
         ensures cause { result.cause ≡ cause }
         ensures failure { result.failure ≡ failure }
         ensures metrics { result.metrics ≡ self.engine.node.metrics }
         ensures requests { result.requests ≡ self.engine.requests }
-        ensures told { (turns : List (Turn P M.Digest)) → W.seen self.observer turns
-            → W.seen result.observer (turns ++ turn.Ended cause ∷ []) }
     {
-        let Running {
-            engine,
-            network,
-            mut observer,
-        } = self;
+        let Running { engine, network } = self;
         drop::<_>(network);
-        tell_end(rt, cause, &mut observer, snapshots);
+        snapshots.end(rt, rt.alloc());
         let (metrics, requests) = engine.into_metrics();
         Report {
             cause,
             failure,
             metrics,
             requests,
-            observer,
         }
     }
 
@@ -238,28 +213,24 @@ where
         O: Outlet<S, G, Reply<M>, Option<Reply<M>>> + Drop,
         Q: Requests<Message<P, M, S, G>> + Drop,
         R: Wait + Clock + AllocGlobal,
-        ensures ran { ShowsPollsTo (format_of P.cmp M.Digest.cmp M.encoding M.digest_of M.reading)
+        ensures ran { PollsToEnd (format_of P.cmp M.Digest.cmp M.encoding M.digest_of M.reading)
             (over S.may_answer T.Job.is_of O.Outlet N.Sender V.Receiver B.Provider Q.Requests)
-            W.seen (moment running.value.engine running.value.network)
-            running.value.observer
-            (moment result.0.value.engine result.0.value.network, result.0.value.observer)
-            result.1 }
+            (moment running.value.engine running.value.network)
+            (moment result.0.value.engine result.0.value.network) result.1 }
     {
         let mut running = Some(running);
         let poll = move |cx: &mut Context<'_>| -> Poll<(Box<Self>, EndCause)>
-            ensures ready { IfReady result (λ left. IfSome running.entry (λ old. ShowsPollsTo
+            ensures ready { IfReady result (λ left. IfSome running.entry (λ old. PollsToEnd
                 (format_of P.cmp M.Digest.cmp M.encoding M.digest_of M.reading)
                 (over S.may_answer T.Job.is_of O.Outlet N.Sender V.Receiver B.Provider Q.Requests)
-                W.seen (moment old.value.engine old.value.network) old.value.observer
-                (moment left.0.value.engine left.0.value.network, left.0.value.observer)
-                left.1)) }
+                (moment old.value.engine old.value.network)
+                (moment left.0.value.engine left.0.value.network) left.1)) }
             ensures pending { OnPending result (IfSome running.entry (λ old.
-                IsSomeAnd running.exit (λ new. ShowsPolls
+                IsSomeAnd running.exit (λ new. SomePolls
                 (format_of P.cmp M.Digest.cmp M.encoding M.digest_of M.reading)
                 (over S.may_answer T.Job.is_of O.Outlet N.Sender V.Receiver B.Provider Q.Requests)
-                W.seen (moment old.value.engine old.value.network)
-                (moment new.value.engine new.value.network)
-                old.value.observer new.value.observer))) }
+                (moment old.value.engine old.value.network)
+                (moment new.value.engine new.value.network)))) }
             ensures armed { OnPending result (IsArmed cx.new) }
             ensures kept { Keeps cx.old cx.new }
         { Self::poll_to_end::<G, R>(&mut running, rt, snapshots, cx) };

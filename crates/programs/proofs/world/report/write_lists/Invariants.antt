@@ -1,8 +1,0 @@
-use Rattle.std.proofs.Common.{take}
-use Rattle.std.specs.List.{flat_map}
-use Rattle.std.specs.Io.KnownBytes.{Appends}
-use Rattle.programs.specs.WorldReport.{node_line}
-use Rattle.programs.proofs.world.report.write_lists.Given as goal
-
-abbrev pub invariant-loop-list : goal.invariant-loop-list
-invariant-loop-list g l = Appends (g.W.Write.contents l.initial.out) (g.W.Write.contents l.out) (flat_map (node_line l.node) (take l.list-index l.lists))

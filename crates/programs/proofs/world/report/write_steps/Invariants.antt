@@ -1,8 +1,0 @@
-use Rattle.std.proofs.Common.{take}
-use Rattle.std.specs.List.{flat_map}
-use Rattle.std.specs.Io.KnownBytes.{Appends}
-use Rattle.programs.specs.WorldReport.{step_line}
-use Rattle.programs.proofs.world.report.write_steps.Given as goal
-
-abbrev pub invariant-loop-answer : goal.invariant-loop-answer
-invariant-loop-answer g l = Appends (g.W.Write.contents l.initial.out) (g.W.Write.contents l.out) (flat_map step_line (take l.answer-index l.answers))
