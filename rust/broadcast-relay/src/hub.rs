@@ -9,7 +9,7 @@ use crate::metrics::Metrics;
 use crate::output::{self, MAX_WAITING, Output};
 use crate::peer::{Author, Peer, Seat, Session};
 use crate::{invalid, now, wire};
-use broadcast_relay::gossip::{Frame, Machine, Message, NEVER, Past, Report, Taken, Time};
+use broadcast_relay::gossip::{Frame, Machine, Message, NEVER, Past, Report, SECOND, Taken, Time};
 use prometheus::{IntCounterVec, TextEncoder};
 use std::collections::HashMap;
 use std::io::{self, ErrorKind};
@@ -35,6 +35,8 @@ pub struct Hub {
     opened: Notify,
     timer: Notify,
     is_ending: AtomicBool,
+    /// Why a journal is not written, if it is not.
+    unwritten: Mutex<Option<String>>,
     /// What a signature that is checked counts, in bytes.
     signature_cost: u64,
     output: Option<Output>,
@@ -119,6 +121,7 @@ impl Hub {
             opened: Notify::new(),
             timer: Notify::new(),
             is_ending: AtomicBool::new(false),
+            unwritten: Mutex::new(None),
             signature_cost: limits.author_bytes_per_second / limits.author_signatures_per_second,
         })
     }
@@ -214,6 +217,7 @@ impl Hub {
 
     /// Tells the protocol the time whenever it is due, for ever.
     pub async fn keep_time(&self) {
+        let mut looked = now();
         loop {
             let next = {
                 let mut gossip = self.gossip.lock();
@@ -224,7 +228,61 @@ impl Hub {
             if timeout(rest, self.timer.notified()).await.is_err() {
                 self.act(|gossip, now| gossip.machine.timeout(now));
             }
+            if now() >= looked + SECOND {
+                looked = now();
+                self.look();
+            }
         }
+    }
+
+    /// Logs what begins and what is over that an operator is to know.
+    fn look(&self) {
+        let (mut gossip, now) = (self.gossip.lock(), now());
+        let Gossip { machine, peers, seats, .. } = &mut *gossip;
+        for peer in peers.iter().filter(|it| machine.log(it.node).is_listed) {
+            let (name, node, seat) = (&peer.config.name, peer.node, &mut seats[peer.node]);
+            match seat.stalled.note_whether(now, machine.is_stalled(now, node)) {
+                Some(true) => warn!(peer = name, "it stands still: nobody waits for it any more"),
+                Some(false) => warn!(peer = name, "it does not stand still any more"),
+                None => {}
+            }
+            let messages = machine.left_behind(node);
+            match seat.left_behind.note(now, messages) {
+                Some(true) => warn!(peer = name, messages, "what it lacks leaves the lists"),
+                Some(false) => warn!(peer = name, messages, "nothing more that it lacks leaves"),
+                None => {}
+            }
+            let gaps = machine.log(node).lost;
+            match seat.lost.note(now, gaps) {
+                Some(true) => warn!(author = name, gaps, "lost: no connected peer has it any more"),
+                Some(false) => warn!(author = name, gaps, "nothing more is lost"),
+                None => {}
+            }
+        }
+    }
+
+    /// Notes whether a journal was written.
+    fn note_written(&self, written: io::Result<()>) -> io::Result<()> {
+        let mut unwritten = self.unwritten.lock();
+        match &written {
+            Ok(()) if unwritten.take().is_some() => warn!("the journal is written again"),
+            Ok(()) => {}
+            Err(why) => {
+                if unwritten.replace(why.to_string()).is_none() {
+                    warn!(%why, "the journal is not written");
+                }
+            }
+        }
+        written
+    }
+
+    /// What keeps this relay from its work, if anything does.
+    pub fn trouble(&self) -> Option<String> {
+        let gossip = self.gossip.lock();
+        let is_alone = gossip.listed().count() > 1 && gossip.sessions().next().is_none();
+        let unwritten = self.unwritten.lock();
+        let unwritten = unwritten.as_ref().map(|it| format!("the journal is not written: {it}"));
+        unwritten.or(is_alone.then(|| "no peer is connected".into()))
     }
 
     /// Gives the place of a peer to a new connection, if it may have it.
@@ -335,7 +393,7 @@ impl Hub {
             if let Some(journal) = &mut known.journal
                 && !is_own
             {
-                journal.append(slice::from_ref(&message))?;
+                self.note_written(journal.append(slice::from_ref(&message)))?;
             }
         }
         let taken = self.act(|gossip, now| {
@@ -376,7 +434,7 @@ impl Hub {
         let next = self.gossip.lock().machine.next_own(clock.as_nanos() as u64);
         let messages = Signed::batch(&self.identity, next, texts)?;
         if let Some(journal) = &mut own.journal {
-            journal.append(&messages)?;
+            self.note_written(journal.append(&messages))?;
         }
         self.metrics.published.inc_by(messages.len() as u64);
         self.act(|gossip, now| {
@@ -389,11 +447,22 @@ impl Hub {
 
     /// The page of all metrics.
     pub fn metrics_page(&self) -> String {
-        let gossip = self.gossip.lock();
+        let (gossip, now) = (self.gossip.lock(), now());
+        let raise = |counter: &IntCounterVec, name: &str, to: u64| {
+            let counter = counter.with_label_values(&[name]);
+            counter.inc_by(to.saturating_sub(counter.get()));
+        };
         for peer in gossip.listed() {
-            let (log, name) = (gossip.machine.log(peer.node), &peer.config.name);
+            let (machine, name, node) = (&gossip.machine, &*peer.config.name, peer.node);
+            let log = machine.log(node);
             self.metrics.held.with_label_values(&[name]).set(log.is_held.into());
             self.metrics.given_up.with_label_values(&[name]).set(log.given_up as i64);
+            raise(&self.metrics.lost, name, log.lost);
+            if node != self.own.node {
+                let is_stalled = machine.is_stalled(now, node);
+                self.metrics.stalled.with_label_values(&[name]).set(is_stalled.into());
+                raise(&self.metrics.left_behind, name, machine.left_behind(node));
+            }
         }
         drop(gossip);
         TextEncoder::new().encode_to_string(&self.metrics.registry.gather()).unwrap_or_default()

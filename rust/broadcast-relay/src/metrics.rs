@@ -25,7 +25,10 @@ pub struct Metrics {
     pub registry: Registry,
     pub connected: IntGaugeVec,
     pub held: IntGaugeVec,
+    pub stalled: IntGaugeVec,
     pub given_up: IntGaugeVec,
+    pub lost: IntCounterVec,
+    pub left_behind: IntCounterVec,
     pub handshakes: IntGauge,
     pub published: IntCounter,
     pub delivered: IntCounterVec,
@@ -46,6 +49,9 @@ impl Metrics {
         Ok(Metrics {
             connected: gauges!("connected", "Whether a peer is connected", &["peer"], registry)?,
             held: gauges!("held", "Whether an author waits for a peer", &["author"], registry)?,
+            stalled: gauges!("stalled", "Whether a peer stands still", &["peer"], registry)?,
+            lost: counters!("lost_total", "Gaps nobody can fill", &["author"], registry)?,
+            left_behind: counters!("left_behind_total", "Left lists unsent", &["peer"], registry)?,
             given_up: gauges!("given_up", "Gaps that were closed", &["author"], registry)?,
             handshakes: gauge!("handshakes", "Connections that have proved no key", registry)?,
             published: counter!("published_total", "Own messages", registry)?,
@@ -66,8 +72,8 @@ impl Metrics {
     /// Shows the counters of a peer from the start.
     pub fn add_peer(&self, name: &str) {
         self.connected.with_label_values(&[name]);
-        for counter in [&self.delivered, &self.again, &self.left_out, &self.unlisted, &self.invalid]
-        {
+        let others = [&self.lost, &self.left_behind, &self.delivered, &self.again];
+        for counter in others.into_iter().chain([&self.left_out, &self.unlisted, &self.invalid]) {
             counter.with_label_values(&[name]);
         }
     }
@@ -98,7 +104,10 @@ pub async fn serve_metrics(hub: Arc<Hub>, listener: TcpListener) {
 fn answer(hub: &Hub, request: &Request<Body>) -> http::Result<Response<Body>> {
     let (status, body) = match (request.method(), request.uri().path()) {
         (&Method::GET, "/metrics") => (StatusCode::OK, hub.metrics_page()),
-        (&Method::GET, "/healthz") => (StatusCode::OK, "ok\n".to_owned()),
+        (&Method::GET, "/healthz") => match hub.trouble() {
+            None => (StatusCode::OK, "ok\n".to_owned()),
+            Some(why) => (StatusCode::SERVICE_UNAVAILABLE, why + "\n"),
+        },
         _ => (StatusCode::NOT_FOUND, String::new()),
     };
     Response::builder().status(status).body(body.into())

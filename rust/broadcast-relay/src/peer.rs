@@ -75,16 +75,57 @@ impl Session {
     }
 }
 
+/// What is counted and to be noticed: how much of it there was, and when that grew last, until it has not grown for a while.
+#[derive(Default)]
+pub struct Trouble {
+    count: u64,
+    grew: Option<Time>,
+}
+
+impl Trouble {
+    /// How long nothing more has happened once it is over.
+    const OVER: Time = 10 * SECOND;
+
+    /// Notes a count. Returns whether it begins (`true`) or is over (`false`), if it does.
+    pub fn note(&mut self, now: Time, count: u64) -> Option<bool> {
+        if count > self.count {
+            self.count = count;
+            return self.grew.replace(now).is_none().then_some(true);
+        }
+        let is_over = self.grew.is_some_and(|it| now >= it + Self::OVER);
+        is_over.then(|| {
+            self.grew = None;
+            false
+        })
+    }
+
+    /// The same for what is so or not.
+    pub fn note_whether(&mut self, now: Time, is_so: bool) -> Option<bool> {
+        self.note(now, self.count + u64::from(is_so))
+    }
+}
+
 /// The place of a peer's one connection, and what the peer did before.
 pub struct Seat {
     pub session: Option<Arc<Session>>,
+    /// It stands still; what it lacks leaves the lists; what it said is lost here.
+    pub stalled: Trouble,
+    pub left_behind: Trouble,
+    pub lost: Trouble,
     bar: Bar,
     logged: Bucket,
 }
 
 impl Seat {
     pub fn new() -> Seat {
-        Seat { session: None, bar: Bar::default(), logged: Bucket::new(LOGGED.0, LOGGED.1) }
+        Seat {
+            session: None,
+            stalled: Trouble::default(),
+            left_behind: Trouble::default(),
+            lost: Trouble::default(),
+            bar: Bar::default(),
+            logged: Bucket::new(LOGGED.0, LOGGED.1),
+        }
     }
 
     pub fn is_banned(&self) -> bool {
@@ -169,6 +210,15 @@ mod tests {
         let bans = [(); 3].map(|()| seat.ban());
         assert_eq!(bans, [SECOND, 2 * SECOND, 4 * SECOND]);
         assert_eq!(seat.attach(session(true), true).err(), Some("it broke the rules"));
+    }
+
+    #[test]
+    fn what_goes_on_is_noticed_once_at_its_begin_and_at_its_end() {
+        let mut trouble = Trouble::default();
+        let counts = [(0, 0), (1, 3), (2, 4), (11, 4), (12, 4), (13, 4), (14, 5), (24, 5)];
+        let noticed = counts.map(|(at, count)| trouble.note(at * SECOND, count));
+        let (begins, ends) = (Some(true), Some(false));
+        assert_eq!(noticed, [None, begins, None, None, ends, None, begins, ends]);
     }
 
     #[test]

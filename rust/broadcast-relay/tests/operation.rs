@@ -183,7 +183,7 @@ fn the_metrics_are_served_beside_silent_connections() {
     relays[0].start();
     let silent: Vec<TcpStream> =
         (0..64).map(|_| TcpStream::connect(relays[0].metrics).unwrap()).collect();
-    assert!(relays[0].http("/healthz").ends_with("ok\n"));
+    assert!(relays[0].http("/healthz").ends_with("no peer is connected\n"));
     drop(silent);
 }
 
@@ -197,6 +197,59 @@ fn a_relay_that_is_not_listed_is_told() {
     let words = "refused: r0 does not list this relay's key";
     wait_for(words, || relays[1].log().contains(words));
     assert!(!relays[1].log().contains("connected"));
+}
+
+/// A peer stands still for longer than it is waited for, and what it lacks leaves the list of an author at full speed.
+#[test]
+fn what_is_lost_is_counted_and_logged() {
+    let mut relays = pair("lost");
+    relays.iter_mut().for_each(Relay::start);
+    wait_for("connected", || relays[0].is_connected("r1"));
+    relays[0].write("first");
+    wait_for("the first line", || relays[1].has_printed("r0", "first"));
+    relays[1].signal("-STOP");
+    let (filler, count) = ("x".repeat(10_000), 1_500);
+    let mut author = relays.remove(0);
+    let writer = spawn(move || {
+        (0..count).for_each(|it| author.write(&format!("{it} {filler}")));
+        author
+    });
+    let mut author = writer.join().unwrap();
+    wait_for("all is published", || author.metric("relay_published_total") > f64::from(count));
+    let left_behind = "relay_left_behind_total{peer=\"r1\"}";
+    assert!(author.metric(left_behind) > 0.0 && author.metric("relay_stalled{peer=\"r1\"}") == 1.0);
+    let words = ["it stands still", "what it lacks leaves"];
+    wait_for("warnings", || words.iter().all(|it| author.log().contains(it)));
+    relays[0].signal("-CONT");
+    wait_for("the loss", || relays[0].metric("relay_lost_total{author=\"r0\"}") == 1.0);
+    wait_for("a warning", || relays[0].log().contains("no connected peer has it any more"));
+    wait_for("it moves", || author.metric("relay_stalled{peer=\"r1\"}") == 0.0);
+    wait_for("its end", || author.log().contains("does not stand still any more"));
+    assert!(relays[0].terminate() && author.terminate());
+}
+
+/// As where the disk is full: the place of a new file of the journal is taken.
+#[test]
+fn a_journal_that_cannot_be_written_is_told() {
+    let limits = "[limits]\nbytes_per_peer = 1048576";
+    let mut relays =
+        Relay::wired(&Lab::loopback(), &folder("unwritten"), 2, &[], limits, |_, _| true);
+    let file = relays[1].journal_folder().join(&relays[0].key.text).with_extension("new");
+    fs::create_dir_all(&file).unwrap();
+    relays.iter_mut().for_each(Relay::start);
+    wait_for("connected", || relays[0].is_connected("r1"));
+    assert!(relays[1].http("/healthz").ends_with("ok\n"));
+    (0..125).for_each(|it| relays[0].write(&format!("{it} {}", "x".repeat(9_000))));
+    wait_for("it is told", || relays[1].http("/healthz").contains("503 Service Unavailable"));
+    wait_for("the file", || relays[1].http("/healthz").contains(&relays[0].key.text));
+    fs::remove_dir(&file).unwrap();
+    wait_for("all lines", || relays[1].delivered("r0") == 125);
+    wait_for("it is well", || relays[1].http("/healthz").ends_with("ok\n"));
+    let log = relays[1].log();
+    assert!(
+        log.contains("the journal is not written") && log.contains("is written again"),
+        "{log}"
+    );
 }
 
 /// Takes connections, and passes each on to another address.

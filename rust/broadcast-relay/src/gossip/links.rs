@@ -18,6 +18,8 @@ pub struct Link {
 #[derive(Debug, Default)]
 pub struct Links {
     pub each: Vec<Link>,
+    /// How many messages left a list of this relay while a peer lacked them.
+    pub left_behind: Vec<u64>,
     /// The peers to whom something may be sent since they were taken last.
     pub woken: Vec<usize>,
 }

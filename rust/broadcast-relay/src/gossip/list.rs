@@ -37,7 +37,9 @@ impl List {
         self.messages.front().map_or(u64::MAX, |it| it.prev)
     }
 
-    pub fn insert(&mut self, message: Message) {
+    /// Lists a message. Returns the stamps of those that have left the list for it.
+    pub fn insert(&mut self, message: Message) -> Vec<u64> {
+        let mut gone = Vec::new();
         let place = self.count_up_to(message.stamp);
         let (at, size) = (self.left + place, message.size());
         self.sums.insert(at, self.sums[at]);
@@ -45,7 +47,7 @@ impl List {
         self.listed.insert(at, message.listed());
         self.messages.insert(place, message);
         while self.bytes() > self.most && self.messages.len() > 1 {
-            self.messages.pop_front();
+            gone.extend(self.messages.pop_front().map(|it| it.stamp));
             self.left += 1;
         }
         if self.left > self.messages.len() {
@@ -53,6 +55,7 @@ impl List {
             self.sums.drain(..self.left);
             self.left = 0;
         }
+        gone
     }
 
     pub fn get(&self, index: usize) -> &Message {
@@ -95,12 +98,14 @@ mod tests {
                 }
                 let bytes = vec![0; random.gen_range(0..300)].into();
                 let message = Message { author: 0, stamp, prev: stamp - 1, bytes };
-                list.insert(message.clone());
+                let gone = list.insert(message.clone());
                 all.push(message);
                 all.sort_by_key(|it| it.stamp);
+                let mut left = Vec::new();
                 while all.len() > 1 && all.iter().map(Message::size).sum::<u64>() > 2_000 {
-                    all.remove(0);
+                    left.push(all.remove(0).stamp);
                 }
+                assert_eq!(gone, left);
             }
             assert!(list.iter().eq(&all));
             let mut coverage = Coverage::default();

@@ -11,8 +11,15 @@ pub struct Log {
     author: usize,
     pub is_listed: bool,
     pub covered: Coverage,
-    /// How many gaps of it were closed, and given up.
+    /// How many gaps of it were closed; and how many gaps there were that nobody could fill any more.
     pub given_up: u64,
+    pub lost: u64,
+    /// What is lacking up to here nobody can send; that may be so up to there, since when; and when the author was last connected.
+    lost_upto: u64,
+    losing: Option<(Time, u64)>,
+    seen: Time,
+    /// Some peer is not waited for any more.
+    pub has_stalled: bool,
     pub list: List,
     bounds: Bounds,
     pub bucket: Bucket,
@@ -39,12 +46,17 @@ pub struct Log {
 }
 
 impl Log {
-    pub fn new(author: usize, bounds: &Bounds, spread: u64) -> Log {
+    pub fn new(now: Time, author: usize, bounds: &Bounds, spread: u64) -> Log {
         Log {
             author,
             is_listed: true,
             covered: Coverage::default(),
             given_up: 0,
+            lost: 0,
+            lost_upto: 0,
+            losing: None,
+            seen: now,
+            has_stalled: false,
             list: List::new(bounds.list),
             bounds: bounds.clone(),
             bucket: Bucket::new(bounds.rate, bounds.burst),
@@ -83,7 +95,18 @@ impl Log {
             }
             self.feeder = None;
         }
-        self.views[peer].session = Session::new(0);
+        if peer == self.author {
+            self.seen = now;
+        }
+        let view = &mut self.views[peer];
+        let session = std::mem::replace(&mut view.session, Session::new(0));
+        view.past = session.theirs.map(|it| it.coverage).or(view.past.take());
+    }
+
+    /// Waits for a peer no more that is not listed any more.
+    pub fn forget(&mut self, peer: usize) {
+        let view = &mut self.views[peer];
+        (view.past, view.is_stalled, view.is_waited_for) = (None, false, false);
     }
 
     /// Replaces a peer's report.
@@ -115,14 +138,14 @@ impl Log {
         let goes_on = peer == self.author || self.covered.covers(it.prev);
         self.is_listed
             && !self.covered.covers(it.stamp)
-            && self.covered.fits(it.prev, it.stamp)
+            && self.fits(it)
             && (has_room || (goes_on && self.bucket.level(now) > 0))
     }
 
     /// Notes a message that is left out.
     pub fn leave_out(&mut self, now: Time, peer: usize, it: &Message) {
-        if !self.covered.fits(it.prev, it.stamp) {
-            self.full.get_or_insert(now);
+        if !self.fits(it) {
+            self.wake = self.wake.min(*self.full.get_or_insert(now) + self.bounds.somebody);
         }
         let session = &mut self.views[peer].session;
         session.has_left_out = true;
@@ -137,7 +160,12 @@ impl Log {
             self.full = Some(now);
         }
         self.given_up += u64::from(self.covered.cover(it.prev, stamp));
-        self.list.insert(it);
+        for gone in self.list.insert(it) {
+            let lacks = |peer: &usize| self.had(*peer, links).is_some_and(|it| !it.covers(gone));
+            let peers: Vec<usize> = (0..self.views.len()).filter(lacks).collect();
+            let left = peers.into_iter().filter(|it| !self.views[*it].session.flies(gone));
+            left.for_each(|it| links.left_behind[it] += 1);
+        }
         self.patience.renew(now, size, self.bounds.pace);
         let is_fed = from.is_some() && self.feeder == from;
         if is_fed {
@@ -207,33 +235,62 @@ impl Log {
     /// Decides all that depends on reports and on time.
     pub fn step(&mut self, now: Time, links: &mut Links) {
         (self.wake, self.unchecked) = (NEVER, 0);
-        self.give_up(now, links);
+        self.settle(now, links);
+        self.give_up(now);
         self.hold(now, links);
         self.choose(now, links);
         self.grant(now, links);
         self.report(now, links);
     }
 
-    /// Closes the oldest gap, if a message waits for its interval and nobody fills the gap.
-    fn give_up(&mut self, now: Time, links: &Links) {
-        let (Some(since), Some((after, upto))) = (self.full, self.covered.oldest_gap()) else {
+    /// Sees what nobody can send any more: all that lay for a while below the lists of all peers that report this author. While the
+    /// author may come back, it is given time.
+    fn settle(&mut self, now: Time, links: &Links) {
+        let reports = || links.others(None).filter_map(|it| self.views[it].session.theirs.as_ref());
+        let low = reports().map(|it| it.since).min().map_or(0, |it| it.min(self.covered.top()));
+        if low <= self.lost_upto {
+            self.losing = None;
             return;
+        }
+        let (since, low) = self.losing.map_or((now, low), |it| (it.0, it.1.min(low)));
+        let has_come = links.each[self.author].has_reported;
+        let wait = match has_come || now >= self.seen + self.bounds.somebody {
+            true => self.bounds.nobody,
+            false => self.bounds.somebody,
         };
+        self.losing = Some((since, low));
+        if now < since + wait {
+            self.wake = self.wake.min(since + wait);
+            return;
+        }
+        // What is below the first interval was before this relay's time.
+        let mut above = self.covered.runs().next().map_or(low, |it| it.1).max(self.lost_upto);
+        while let Some(stamp) =
+            reports().filter_map(|it| self.covered.first_missing(&it.coverage, above, low)).min()
+        {
+            self.lost += 1;
+            let behind = self.covered.runs().map(|it| it.0).find(|it| *it >= stamp);
+            above = behind.unwrap_or(low);
+        }
+        (self.lost_upto, self.losing) = (low, None);
+    }
+
+    /// Gives up the oldest gap, if a message waited long for its interval and the gap was not filled in part.
+    fn give_up(&mut self, now: Time) {
+        let (Some(since), Some((_, upto))) = (self.full, self.covered.oldest_gap()) else { return };
         if self.covered.gaps() + 1 < Coverage::MOST {
             self.full = None;
-            return;
+        } else if now < since + self.bounds.somebody {
+            self.wake = self.wake.min(since + self.bounds.somebody);
+        } else {
+            (self.lost_upto, self.full) = (self.lost_upto.max(upto), None);
         }
-        // Who is not connected may still come: first of all the author.
-        let shows = |it: usize| self.views[it].session.shows(&self.covered, upto).is_some();
-        let may_come = !links.each[self.author].has_reported || links.others(None).any(shows);
-        let end = since + if may_come { self.bounds.somebody } else { self.bounds.nobody };
-        if now < end {
-            self.wake = self.wake.min(end);
-            return;
-        }
-        self.covered.cover(after, upto);
-        self.given_up += 1;
-        self.full = None;
+    }
+
+    /// Whether a message needs no interval too many: the oldest gap is closed for it if nobody can fill that.
+    fn fits(&self, it: &Message) -> bool {
+        let is_lost = |gap: (u64, u64)| gap.1 <= self.lost_upto;
+        self.covered.fits(it.prev, it.stamp) || self.covered.oldest_gap().is_some_and(is_lost)
     }
 
     /// Decides which peers are waited for.
@@ -266,16 +323,23 @@ impl Log {
             self.granted = now;
         }
         self.is_held = is_held;
+        self.has_stalled = self.views.iter().any(|it| it.is_stalled);
     }
 
-    /// The bytes of the list that a connected peer lacks. Until it has reported all that it lists, it may list this author too: then
-    /// it lacks what is newer than the connection.
+    /// The bytes of the list that a peer lacks, as far as is known.
     pub fn lacks(&self, peer: usize, links: &Links) -> u64 {
-        let (session, link) = (&self.views[peer].session, &links.each[peer]);
-        match &session.theirs {
-            Some(theirs) => self.list.lacking(&theirs.coverage),
-            None if !link.is_connected || link.has_reported || peer == self.author => 0,
-            None => self.list.lacking(&Coverage::up_to(session.began_at)),
+        self.had(peer, links).map_or(0, |it| self.list.lacking(it))
+    }
+
+    /// What a peer has: by its report, or when its last connection ended. Until it has reported all that it lists, it may list this author
+    /// too: then it lacks what is newer than the connection.
+    fn had(&self, peer: usize, links: &Links) -> Option<&Coverage> {
+        let (view, link) = (&self.views[peer], &links.each[peer]);
+        match (&view.session.theirs, &view.past) {
+            (Some(theirs), _) => Some(&theirs.coverage),
+            (None, _) if link.has_reported || peer == self.author => None,
+            (None, Some(past)) => Some(past),
+            (None, None) => link.is_connected.then_some(&view.session.began),
         }
     }
 
@@ -283,7 +347,10 @@ impl Log {
     fn choose(&mut self, now: Time, links: &mut Links) {
         let Some(feeder) = self.feeder else {
             let best = self.best(now, None, links);
-            return self.feed_from(now, best, links);
+            if best.is_some() {
+                self.feed_from(now, best, links);
+            }
+            return;
         };
         let missing = self.missing(now, feeder, links);
         // While the author is at the end of its rate nobody is judged.

@@ -45,10 +45,11 @@ impl Machine {
     /// Adds a node. Returns its number.
     pub fn add(&mut self, now: Time, past: Past) -> usize {
         let node = self.logs.len();
-        let mut log = Log::new(node, &self.bounds, self.spread.wrapping_mul(31));
+        let mut log = Log::new(now, node, &self.bounds, self.spread.wrapping_mul(31));
         (0..node).for_each(|_| log.add_view());
         self.logs.push(log);
         self.links.each.push(Link::default());
+        self.links.left_behind.push(0);
         self.logs.iter_mut().for_each(Log::add_view);
         self.restore(now, node, past);
         node
@@ -84,6 +85,8 @@ impl Machine {
         log.list = List::new(self.bounds.list);
         log.wake = NEVER;
         (0..count).for_each(|peer| log.disconnect(now, peer));
+        // It is waited for no more.
+        self.logs.iter_mut().for_each(|it| it.forget(node));
     }
 
     fn listed(&self) -> Vec<usize> {
@@ -228,6 +231,17 @@ impl Machine {
 
     pub fn log(&self, author: usize) -> &Log {
         &self.logs[author]
+    }
+
+    /// How many messages left a list here while a peer lacked them, that is connected or was.
+    pub fn left_behind(&self, peer: usize) -> u64 {
+        self.links.left_behind[peer]
+    }
+
+    /// Whether a peer stands still, so that nobody waits for it any more.
+    pub fn is_stalled(&self, now: Time, peer: usize) -> bool {
+        let logs = self.logs.iter().filter(|it| it.is_listed && it.has_stalled);
+        logs.into_iter().any(|it| it.views[peer].stands_still(now))
     }
 
     /// Whether a peer lacks own messages, as far as is known.

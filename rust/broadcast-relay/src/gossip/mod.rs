@@ -67,7 +67,8 @@ pub struct Bounds {
     /// How long a feeder may bring nothing, and how long a message may be lacking, while others report it.
     pub idle: Time,
     pub slow: Time,
-    /// For how long the oldest gap is kept while a message waits for its interval: if nobody shows what is in it, and else.
+    /// After what time is lost what no peer can send, if the author is connected or was not for long; and else. So long a message waits
+    /// for the interval of the oldest gap, too, that somebody can fill.
     pub nobody: Time,
     pub somebody: Time,
 }

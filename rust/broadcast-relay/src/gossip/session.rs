@@ -14,8 +14,8 @@ pub struct Session {
     pub theirs: Option<Report>,
     /// What the peer knows of this relay: by the last report, and by what was sent.
     pub ours: Report,
-    /// The top of this relay's coverage when the connection began.
-    pub began_at: u64,
+    /// What this relay had when the connection began, as if it were all up to its top.
+    pub began: Coverage,
     /// Sent, and not in the peer's coverage: by stamp, with the number of each; how many were sent; and the sum of sizes.
     flying: BTreeMap<u64, (Listed, u64)>,
     sent: u64,
@@ -42,7 +42,7 @@ impl Session {
         Session {
             theirs: None,
             ours: Report::default(),
-            began_at,
+            began: Coverage::up_to(began_at),
             flying: BTreeMap::new(),
             sent: 0,
             in_flight: 0,
@@ -56,6 +56,11 @@ impl Session {
             lazy_due: NEVER,
             unreported: 0,
         }
+    }
+
+    /// Whether a message is on its way to the peer.
+    pub fn flies(&self, stamp: u64) -> bool {
+        self.flying.contains_key(&stamp)
     }
 
     pub fn covers(&self, stamp: u64) -> bool {

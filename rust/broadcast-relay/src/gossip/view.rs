@@ -2,7 +2,7 @@
 
 use super::pace::{Bar, Patience, Wait};
 use super::session::Session;
-use super::{Bounds, List, NEVER, Report, SECOND, Time};
+use super::{Bounds, Coverage, List, NEVER, Report, SECOND, Time};
 
 /// How often in a row, nearly, a peer must have reported a message before the feeder brought it, to take its place.
 const AHEAD: u32 = 32;
@@ -10,6 +10,8 @@ const AHEAD: u32 = 32;
 #[derive(Debug)]
 pub struct View {
     pub session: Session,
+    /// What it had when its connection ended, until it reports again.
+    pub past: Option<Coverage>,
     /// When it last came nearer, whoever brought it what it lacked.
     moved: Time,
     /// It is barred as a feeder if it had room, reported what is missing, and did not bring it.
@@ -26,6 +28,7 @@ impl View {
     pub fn new(bounds: &Bounds) -> View {
         View {
             session: Session::new(0),
+            past: None,
             moved: 0,
             bar: Bar::default(),
             ahead: 0,
@@ -41,6 +44,7 @@ impl View {
             |session: &Session| session.theirs.as_ref().map(|it| list.lacking(&it.coverage));
         let before = lacks(&self.session);
         let Some(landed) = self.session.replace(report) else { return };
+        self.past = None;
         self.patience.renew(now, landed, pace);
         if lacks(&self.session) < before {
             self.moved = now;
@@ -76,6 +80,11 @@ impl View {
             return NEVER;
         }
         end
+    }
+
+    /// Whether nobody waits for it any more, and it does not come nearer either.
+    pub fn stands_still(&self, now: Time) -> bool {
+        self.is_stalled && now >= self.moved + SECOND
     }
 
     pub fn give_up(&mut self, now: Time) {

@@ -49,6 +49,13 @@ fn a_gap_is_filled() {
     }
 }
 
+/// A relay stands still for longer than others wait for it. What is lost there is counted, which each run judges.
+#[test]
+fn what_is_lost_is_told() {
+    let lost: u64 = small_runs("long", 0, false).take(4).map(|it| check("long", it).lost).sum();
+    assert!(lost > 0);
+}
+
 /// A relay was once waited for only after its first report.
 #[test]
 fn who_stands_still_before_it_reports_misses_nothing() {
@@ -74,7 +81,7 @@ fn thousands_of_seeds() {
     let (first, count): (u64, u64) = (first.parse().unwrap(), count.parse().unwrap());
     let (mut failed, mut total) = (0, 0);
     println!(
-        "class, bounds: seeds, deliveries, copies, bytes of reports, ms of slow authors p50 p99"
+        "class, bounds: seeds, deliveries, copies, bytes of reports, ms of slow authors p50 p99, lost"
     );
     for (class, is_default) in CLASSES.iter().flat_map(|it| [(it, false), (it, true)]) {
         let (mut sum, mut ages) = (Outcome::default(), Vec::new());
@@ -88,19 +95,21 @@ fn thousands_of_seeds() {
             sum.deliveries += outcome.deliveries;
             sum.copies += outcome.copies;
             sum.report_bytes += outcome.report_bytes;
+            sum.lost += outcome.lost;
             ages.extend(outcome.slow_ages);
         }
         ages.sort_unstable();
         let at = |part: usize| ages.get(ages.len().saturating_sub(1) * part / 100).unwrap_or(&0);
         let each = sum.deliveries.max(1) as f64;
         println!(
-            "{class}, {}: {count}, {}, {:.3}, {:.0}, {} {}",
+            "{class}, {}: {count}, {}, {:.3}, {:.0}, {} {}, {}",
             if is_default { "default" } else { "small" },
             sum.deliveries,
             sum.copies as f64 / each,
             sum.report_bytes as f64 / each,
             at(50),
             at(99),
+            sum.lost,
         );
     }
     assert_eq!(failed, 0, "of {total} runs");
@@ -211,14 +220,32 @@ fn a_gap_that_nobody_fills_is_given_up_late_and_counted() {
         let taken = if it <= 63 { Taken::New } else { Taken::LeftOut };
         assert_eq!(take(it, &mut relay, 1, message(it)), taken);
     }
-    // The author has reported, and nobody shows what is lacking.
-    relay.report(SECOND, 1, 1, Report::default());
-    for (now, given_up) in [(2 * SECOND, 0), (2 * SECOND + 64, 1), (9 * SECOND, 1)] {
+    // The author has reported, and can send the 60th and what is behind it.
+    let coverage = Coverage::up_to(140);
+    relay.report(SECOND, 1, 1, Report { coverage, since: 119, ..Report::default() });
+    relay.timeout(3 * SECOND - 1);
+    assert_eq!(take(3 * SECOND - 1, &mut relay, 1, message(64)), Taken::LeftOut);
+    relay.timeout(3 * SECOND);
+    // What is in front of the first was before this relay's time.
+    assert_eq!((relay.log(1).lost, relay.log(1).given_up), (59, 0));
+    (64..=70).for_each(|it| assert_eq!(take(3 * SECOND, &mut relay, 1, message(it)), Taken::New));
+    assert_eq!((relay.log(1).lost, relay.log(1).given_up), (59, 7));
+}
+
+/// The author is away when a peer brings what has too many gaps, and is given a minute to come back and fill them.
+#[test]
+fn a_gap_that_its_author_may_fill_is_kept_for_a_minute() {
+    let mut relay = machine(&Bounds::default(), 0, 3, None);
+    relay.connect(0, 1, 100);
+    let coverage = Coverage::up_to(200);
+    relay.report(0, 1, 2, Report { coverage, since: 199, ..Report::default() });
+    while relay.frame(0, 1).is_some() {}
+    let message = |it| Message { author: 2, stamp: 2 * it, prev: 2 * it - 1, bytes: vec![].into() };
+    (1..=63).for_each(|it| assert_eq!(take(it, &mut relay, 1, message(it)), Taken::New));
+    for (now, taken) in [(59 * SECOND, Taken::LeftOut), (61 * SECOND, Taken::New)] {
         relay.timeout(now);
-        assert_eq!(relay.log(1).given_up, given_up);
+        assert_eq!(take(now, &mut relay, 1, message(64)), taken);
     }
-    assert_eq!(take(9 * SECOND, &mut relay, 1, message(64)), Taken::New);
-    assert_eq!(take(9 * SECOND, &mut relay, 1, message(65)), Taken::LeftOut);
 }
 
 /// A peer brings each second message of an author, over which gaps were once closed by force.

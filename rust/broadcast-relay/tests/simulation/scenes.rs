@@ -5,7 +5,7 @@ use broadcast_relay::gossip::{Bounds, Coverage, Message, Past, SECOND};
 use bytes::Bytes;
 
 /// Those without hostile relays first.
-pub const CLASSES: [&str; 28] = [
+pub const CLASSES: [&str; 29] = [
     "calm",
     "slow",
     "pause",
@@ -17,6 +17,7 @@ pub const CLASSES: [&str; 28] = [
     "heavy",
     "gaps",
     "big",
+    "long",
     "flood",
     "silent",
     "mute",
@@ -35,7 +36,7 @@ pub const CLASSES: [&str; 28] = [
     "turns",
     "tenth",
 ];
-const HONEST: usize = 11;
+const HONEST: usize = 12;
 
 const HOSTILE: [Kind; 15] = [
     Kind::Silent,
@@ -161,6 +162,9 @@ impl World {
         let more =
             if ["gaps", "creep", "swarm", "mixed", "heavy"].contains(&class) { 100 } else { 25 };
         let end = stop + more * SECOND;
+        if class == "long" {
+            bounds.somebody = 10 * SECOND;
+        }
         let scene = Scene { stop, quiet: stop, end, is_strict: true, ..Scene::default() };
         let mut world = World::empty(scene, bounds, random, count);
         world.outcome.what = format!("seed {seed}, {name}");
@@ -180,8 +184,9 @@ impl World {
             world.at(time, Event::Connect(one, other));
         }
         for (time, event) in events {
-            // No fault is longer than four seconds.
-            world.scene.quiet = world.scene.quiet.max(time + 4 * SECOND);
+            // No fault is longer.
+            let longest = if class == "long" { 14 } else { 4 };
+            world.scene.quiet = world.scene.quiet.max(time + longest * SECOND);
             world.at(time, event);
         }
         world
@@ -278,6 +283,16 @@ impl World {
                 events.push((0, Event::Pause(self.draw_honest(), 4 * SECOND)));
             }
             "busy" => events.extend(self.draw_turns()),
+            "long" => {
+                // Beyond the patience of all others, so what fast authors say meanwhile is lost there.
+                (self.scene.is_strict, self.scene.stop) = (false, 20 * SECOND);
+                (self.scene.quiet, self.scene.end) = (20 * SECOND, 50 * SECOND);
+                let node = self.draw_honest();
+                events.push((2 * SECOND, Event::Pause(node, 14 * SECOND)));
+                let near = edges.iter().filter(|it| it.0 == node || it.1 == node);
+                // A silent connection ends.
+                events.extend(near.map(|it| (12 * SECOND, Event::Break(it.0, it.1, SECOND))));
+            }
             _ => {}
         }
         if class == "pause" || (class == "mixed" && self.random.chance(50)) {

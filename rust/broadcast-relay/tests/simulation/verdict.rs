@@ -72,6 +72,14 @@ impl World {
         }
     }
 
+    /// Whether an operator is told that messages of an author are lost at a relay.
+    fn is_told(&self, author: usize, lacking: usize) -> bool {
+        let machine = |it: usize| self.nodes[it].machine.as_ref().unwrap();
+        let log = machine(lacking).log(author);
+        let mut near = self.near[lacking].iter().filter(|it| self.nodes[**it].is_honest());
+        log.lost > 0 || log.given_up > 0 || near.any(|it| machine(*it).left_behind(lacking) > 0)
+    }
+
     /// All messages of slow honest authors are everywhere, and those of fast ones if nothing broke.
     fn judge_messages(&self, honest: &[usize], wrong: &mut Vec<String>) -> u64 {
         let mut lost = 0;
@@ -87,6 +95,9 @@ impl World {
                 lost += 1;
                 if self.scene.is_strict || node.rate != FULL {
                     wrong.push(format!("{author}/{stamp} is lost at {lacking}"));
+                } else if !self.is_told(author, lacking) {
+                    wrong
+                        .push(format!("{author}/{stamp} is lost at {lacking}, and nobody says so"));
                 }
             }
         }
