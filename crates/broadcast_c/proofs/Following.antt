@@ -2,36 +2,35 @@
 use Rattle.std.proofs.Common.{◌≡◌, ℕ, ◌+◌, ◌<◌, Bool, true, false, not, ◌&&◌, ◌==◌, if◌then◌else◌, cond, List, [], ◌∷◌, length, reverse, Option, Some, None, is_some, filter, refl, sym, ap, ◌∙◌, subst, arith}
 use Rattle.std.specs.List.{list_any, count_by}
 use Rattle.std.specs.Option.{option_map, option_to_list}
-use Rattle.std.specs.Cmp.{IsEquivalence, on_total}
-use Rattle.std.specs.Cmp.Lexicographic.{nat_list_cmp_total}
+use Rattle.std.specs.Cmp.{IsEquivalence}
 use Rattle.std.proofs.lemmas.Bool.{eq-eqb, ne_eqb}
 use Rattle.std.proofs.lemmas.List.{length-map, length-replicate, length-reverse}
-use Rattle.std.proofs.lemmas.Map.Text.{is_eq-slice_cmp}
-use Rattle.std.proofs.lemmas.Slice.Eq.{bytes_eq-Decides}
 use Rattle.broadcast_core.specs.Carried.{Carried}
 use Rattle.broadcast_core.specs.Content.{Content, bytes_of, digests_of, message_at}
-use Rattle.broadcast_core.specs.Fronted.{outcome_at, is_on_list}
+use Rattle.broadcast_core.specs.Fronted.{outcome_at}
 use Rattle.broadcast_core.specs.Changes.{Takes, CleansAt}
 use Rattle.broadcast_core.specs.Counted.{counted}
 use Rattle.broadcast_core.specs.Reports.{Reports}
 use Rattle.broadcast_core.specs.Waiters.{is_gone}
-use Rattle.broadcast_core.specs.Happening.{Happening, peers, arrival, subscribe, cleanup}
+use Rattle.broadcast_core.specs.Happening.{Happening, peers, subscribe, cleanup}
 use Rattle.broadcast_core.specs.Setting.{Setting}
 use Rattle.broadcast_core.specs.Cache.{is_listed, message}
-use Rattle.broadcast_core.specs.Waiting.{Awaiting, waiting, with_digest, waiters_of, replied_at}
+use Rattle.broadcast_core.specs.Waiting.{Awaiting, waiting, with_digest}
 use Rattle.broadcast_core.specs.HasContent.{HasContent}
 use Rattle.broadcast_core.proofs.Distinct.{by_test}
 use Rattle.broadcast_core.proofs.Concerning.{list-same}
-use Rattle.broadcast_core.proofs.Lawful.{IsLawful, same_by-lawful}
 use Rattle.broadcast_core.proofs.Choice.{Rises}
 use Rattle.broadcast_core.proofs.WaitsAfter.{waiting-rises, waiting-cleanup}
 use Rattle.broadcast_core.proofs.Following.{message-some, HasStore-content, HasContent-store, HasStore-other, is_on_list-followed, has_primary-followed}
 use Rattle.broadcast_core.proofs.TakenLaws.{message-if_listed}
 use Rattle.broadcast_core.proofs.Handing.{outcome-taken, served-arrival}
+use Rattle.broadcast_core.proofs.AwaitedCount.{awaited-counted}
 use Rattle.broadcast_core.proofs.Stepping.{HasContent-empty, HasContent-peers, HasContent-arrival, HasContent-waiting, HasContent-answered, HasContent-cleanup, cleanup-counted}
+use Rattle.broadcast_c.proofs.Lawful.{lawful}
+use Rattle.broadcast_c.proofs.Sizes.{cached-counted}
 use Rattle.broadcast_c.proofs.Values.{is_there}
 use Rattle.broadcast_c.specs.Calls.{IsFilled, outcome_code}
-use Rattle.broadcast_c.specs.Storing.{HaveSameNames, carried_at, handle_at, left_in, same_bytes}
+use Rattle.broadcast_c.specs.Storing.{HaveSameNames, carried_at, left_in, same_bytes}
 use Rattle.broadcast_c.specs.Law.{Call, store_peers, store_take, store_subscribe, store_cleanup, store_cleanup_of, store_left, store_served, store_get, store_is_primary, store_bytes, store_list, store_count, Does, Calls, store_after, AreDone, IsNew, StoreHistory, store_setting, take_of, drops_of, after_call, history_of, last_served, HasHistory, Leaves, IsFound, IsAnswered, AreAnswered, IsListByConcerns, IsCachedIfListed}
 use Rattle.broadcast_c.specs.declared.store.held.Held.{Held}
 use Rattle.broadcast_c.specs.declared.store.name.Name.{Name}
@@ -92,14 +91,6 @@ pub mapped : (o : Option (Carried Held (List ℕ))) → is_some (option_map (λ 
 mapped None = refl
 mapped (Some x) = refl
 
--- equal bytes are lawful
-pub lawful : IsLawful same_bytes
-lawful = same_by-lawful (on_total (λ (name : Name). name.bytes) nat_list_cmp_total) nat_list_cmp_total
-
--- equal digests are one
-pub same_digest : (d e : List ℕ) → same_bytes.digest d e ≡ true → d ≡ e
-same_digest d e h = (bytes_eq-Decides d e).0 (sym (is_eq-slice_cmp d e) ∙ h)
-
 module _ (own : Name) (deque_size byte_budget : ℕ) where
   abbrev pub s : Setting Name Held (List ℕ)
   s = store_setting own deque_size byte_budget
@@ -132,7 +123,7 @@ module _ (own : Name) (deque_size byte_budget : ℕ) where
         subst (λ ps. HasContent s (peers ps ∷ past) new.cache.core) (sym takes.primary) (HasContent-peers refl lawful has takes)
     content_after (store_take peer digest charge handle report) new does =
         HasContent-arrival refl lawful has refl
-        (subst (λ n. Takes same_bytes peer (carried_at handle charge digest) (Some n) old.cache.core new.cache.core) (sym (length-replicate charge 0)) does.taken.ok)
+        (subst (λ n. Takes same_bytes peer (carried_at handle charge digest) (Some n) old.cache.core new.cache.core) (sym (length-replicate charge 0)) does.0.taken.ok)
     content_after (store_subscribe ticket digest true) new (lacks, awaits, served, left) = HasContent-waiting refl lawful has lacks awaits
     content_after (store_subscribe ticket digest false) new (there, is) =
         let found = is_there (message_at same_bytes old.cache.core digest) there in
@@ -145,11 +136,11 @@ module _ (own : Name) (deque_size byte_budget : ℕ) where
     content_after (store_is_primary peer primary) new (is, got) = subst (λ (st : Store). HasContent s past st.cache.core) (sym is) has
     content_after (store_bytes peer bytes) new (is, got) = subst (λ (st : Store). HasContent s past st.cache.core) (sym is) has
     content_after (store_list peer room out needed status) new (is, got) = subst (λ (st : Store). HasContent s past st.cache.core) (sym is) has
-    content_after (store_count counts) new (is, cached, awaited) = subst (λ (st : Store). HasContent s past st.cache.core) (sym is) has
+    content_after (store_count counts) new (is, one, cached, awaited) = subst (λ (st : Store). HasContent s past st.cache.core) (sym is) has
 
     served_after : (x : Call) (new : Store) → Does x old new → new.served ≡ last_served s (after_call s x new past)
     served_after (store_peers names) new (set, same, takes, served, reports) = served ∙ had.served
-    served_after (store_take peer digest charge handle report) new does = does.taken.served ∙ served-arrival refl lawful has peer (carried_at handle charge digest)
+    served_after (store_take peer digest charge handle report) new does = does.0.taken.served ∙ served-arrival refl lawful has peer (carried_at handle charge digest)
     served_after (store_subscribe ticket digest true) new (lacks, awaits, served, left) = served ∙ had.served
     served_after (store_subscribe ticket digest false) new (there, is) = ap (λ (st : Store). st.served) is ∙ had.served
     served_after (store_cleanup tickets removed) new (cleans, served, left, apart, count) = served ∙ had.served
@@ -160,7 +151,7 @@ module _ (own : Name) (deque_size byte_budget : ℕ) where
     served_after (store_is_primary peer primary) new (is, got) = ap (λ (st : Store). st.served) is ∙ had.served
     served_after (store_bytes peer bytes) new (is, got) = ap (λ (st : Store). st.served) is ∙ had.served
     served_after (store_list peer room out needed status) new (is, got) = ap (λ (st : Store). st.served) is ∙ had.served
-    served_after (store_count counts) new (is, cached, awaited) = ap (λ (st : Store). st.served) is ∙ had.served
+    served_after (store_count counts) new (is, one, cached, awaited) = ap (λ (st : Store). st.served) is ∙ had.served
 
     pub stepped : (x : Call) (new : Store) → Does x old new → HasHistory s (after_call s x new past) new
     stepped x new does = record { content = content_after x new does; served = served_after x new does }
@@ -184,13 +175,14 @@ module _ (own : Name) (deque_size byte_budget : ℕ) where
     told (store_take peer digest charge handle report) new does =
         let after = content_after (store_take peer digest charge handle report) new does in
         record {
-          outcome = does.outcome ∙ ap outcome_code (does.taken.outcome ∙ ap (λ n. outcome_at same_bytes old.cache.core peer digest (Some n)) (sym (length-replicate charge 0))
+          outcome = does.0.outcome ∙ ap outcome_code (does.0.taken.outcome ∙ ap (λ n. outcome_at same_bytes old.cache.core peer digest (Some n)) (sym (length-replicate charge 0))
               ∙ outcome-taken refl lawful has refl peer (carried_at handle charge digest));
-          served = does.served ∙ ap length (served_after (store_take peer digest charge handle report) new does);
-          kept = does.kept ∙ ap (λ b. not b && is_some (message_at same_bytes new.cache.core digest)) (listed digest)
+          served = does.0.served ∙ ap length (served_after (store_take peer digest charge handle report) new does);
+          kept = does.0.kept ∙ ap (λ b. not b && is_some (message_at same_bytes new.cache.core digest)) (listed digest)
               ∙ ap (λ b. not (is_listed s digest past) && b) (ap is_some (after.cached digest) ∙ message-if_listed s lawful.key digest (take_of peer digest charge handle ∷ past));
-          left = does.left ∙ length-left new;
-          leaves = leaves (take_of peer digest charge handle) new after does.added;
+          cached = does.0.cached ∙ cached-counted own deque_size byte_budget (take_of peer digest charge handle ∷ past) new after does.1.cached;
+          left = does.0.left ∙ length-left new;
+          leaves = leaves (take_of peer digest charge handle) new after does.0.added;
         }
     told (store_subscribe ticket digest true) new (lacks, awaits, served, left) = ap not (ap is_some (sym lacks) ∙ listed digest)
     told (store_subscribe ticket digest false) new (there, is) = ap not (sym there ∙ listed digest)
@@ -202,7 +194,10 @@ module _ (own : Name) (deque_size byte_budget : ℕ) where
     told (store_is_primary peer primary) new (is, got) = got ∙ has_primary-followed s past old.cache.core (HasStore-content s past old.cache.core has) peer
     told (store_bytes peer bytes) new (is, got) = got ∙ ap bytes_of (has.lists peer)
     told (store_list peer room out needed status) new (is, got) = subst (λ ds. IsFilled ds room out needed status) (ap digests_of (has.lists peer)) got
-    told (store_count counts) new (is, cached, awaited) = tt
+    told (store_count counts) new (is, one, cached, awaited) = (
+      cached ∙ cached-counted own deque_size byte_budget past old has one.cached,
+      awaited ∙ awaited-counted refl lawful has one.waiters one.some,
+    )
 
     pub cached_if_listed : IsCachedIfListed old
     cached_if_listed d = mapped (message_at same_bytes old.cache.core d) ∙ listed d ∙ sym (is_on_list-followed s past old.cache.core (HasStore-content s past old.cache.core has) d)

@@ -1,5 +1,5 @@
 -- Each handle that a store cached leaves it once.
-use Rattle.std.proofs.Common.{◌≡◌, ℕ, Bool, true, false, not, ◌&&◌, if◌then◌else◌, List, [], ◌∷◌, ◌++◌, length, map, drop, filter, Option, Some, None, is_some, refl, sym, ap, ◌∙◌, subst}
+use Rattle.std.proofs.Common.{◌≡◌, ℕ, Bool, true, false, not, ◌&&◌, if◌then◌else◌, List, [], ◌∷◌, ◌++◌, length, map, drop, filter, Option, Some, None, is_some, refl, sym, ap, ◌∙◌}
 use Rattle.std.specs.Option.{option_map, option_to_list}
 use Rattle.std.specs.Map.{lookup}
 use Rattle.broadcast_core.specs.Carried.{Carried}
@@ -8,7 +8,8 @@ use Rattle.broadcast_core.specs.Fronted.{is_on_list}
 use Rattle.broadcast_core.specs.Reports.{Reports}
 use Rattle.broadcast_core.proofs.Distinct.{by_test}
 use Rattle.broadcast_core.proofs.TakenLaws.{message-from}
-use Rattle.broadcast_c.proofs.Following.{s, lawful, mapped, same_digest, stepped, follows, cached_if_listed}
+use Rattle.broadcast_c.proofs.Lawful.{lawful, same_digest}
+use Rattle.broadcast_c.proofs.Following.{s, mapped, stepped, follows, cached_if_listed}
 use Rattle.broadcast_c.proofs.Moving.{drop-front}
 use Rattle.broadcast_c.specs.Storing.{carried_at, handle_at, same_bytes}
 use Rattle.broadcast_c.specs.Law.{Call, store_peers, store_take, store_subscribe, store_cleanup, store_cleanup_of, store_left, store_served, store_get, store_is_primary, store_bytes, store_list, store_count, Does, Calls, store_after, AreDone, IsNew, StoreHistory, HasHistory, take_of, history_of, gone_at, entered_by, have_entered, have_left_of}
@@ -83,14 +84,14 @@ module _ (d : List ℕ) where
         let x : Message = carried_at handle charge digest in
         let o = message_at same_bytes old.cache.core d in
         let n = message_at same_bytes new.cache.core d in
-        let is = does.taken.ok.cached d in
+        let is = does.0.taken.ok.cached d in
         -- a message of this digest enters by the report if it was not cached and is
         let kept : same_bytes.digest d digest ≡ true → report.kept ≡ (not (is_some o) && is_some n) = λ h.
-        does.kept ∙ ap (λ e. not (is_some (message_at same_bytes old.cache.core e)) && is_some (message_at same_bytes new.cache.core e)) (sym (same_digest d digest h)) in
+        does.0.kept ∙ ap (λ e. not (is_some (message_at same_bytes old.cache.core e)) && is_some (message_at same_bytes new.cache.core e)) (sym (same_digest d digest h)) in
         let out : (not (is_some o) && is_some n) ≡ false → (report.kept && same_bytes.digest d digest) ≡ false = λ no. by_test (same_bytes.digest d digest)
         (λ h. rw (kept h, no) refl)
         (λ h. rw h (and-false report.kept)) in
-        rw (gone-told old new does.added)
+        rw (gone-told old new does.0.added)
         (by_test (is_on_list same_bytes new.cache.core d)
         (λ after. by_test (is_on_list same_bytes old.cache.core d)
         (λ before. let same : n ≡ o = rw (after, before) at is in
@@ -113,7 +114,7 @@ module _ (d : List ℕ) where
     step (store_is_primary peer primary) new (is, got) rest = stays old new (ap (λ (st : Store). st.cache.core.cached) is) rest
     step (store_bytes peer bytes) new (is, got) rest = stays old new (ap (λ (st : Store). st.cache.core.cached) is) rest
     step (store_list peer room out needed status) new (is, got) rest = stays old new (ap (λ (st : Store). st.cache.core.cached) is) rest
-    step (store_count counts) new (is, cached, awaited) rest = stays old new (ap (λ (st : Store). st.cache.core.cached) is) rest
+    step (store_count counts) new (is, alone, cached, awaited) rest = stays old new (ap (λ (st : Store). st.cache.core.cached) is) rest
 
   -- all calls
   pub gone_once : (own : Name) (deque_size byte_budget : ℕ) (first : Store) → IsNew own deque_size byte_budget first → (calls : Calls) → AreDone first calls

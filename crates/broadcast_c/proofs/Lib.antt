@@ -1,8 +1,10 @@
 pub mod Following
+pub mod Lawful
 pub mod Leaving
 pub mod Moving
 pub mod Overlaying
 pub mod Reading
 pub mod Serving
+pub mod Sizes
 pub mod StoreBox
 pub mod Values

@@ -45,7 +45,7 @@ same-left old new is = ap (λ xs. map (λ (x : Carried Held (List ℕ)). x.messa
 -- one call
 flows : (x : Call) (old new : Store) → Does x old new → handles_of (gone_at x old new) ++ left_in old ≡ moved_by x ++ left_in new
 flows (store_peers names) old new (set, same, takes, served, reports) = added-front old new reports
-flows (store_take peer digest charge handle report) old new does = added-front old new does.added
+flows (store_take peer digest charge handle report) old new does = added-front old new does.0.added
 flows (store_subscribe ticket digest true) old new (lacks, awaits, served, left) = same-left old new left
 flows (store_subscribe ticket digest false) old new (there, is) = same-left old new (ap (λ (st : Store). st.cache.left) is)
 flows (store_cleanup tickets removed) old new (cleans, served, left, apart, count) = same-left old new left
@@ -59,7 +59,7 @@ flows (store_get digest handle status) old new (is, got) = same-left old new (ap
 flows (store_is_primary peer primary) old new (is, got) = same-left old new (ap (λ (st : Store). st.cache.left) is)
 flows (store_bytes peer bytes) old new (is, got) = same-left old new (ap (λ (st : Store). st.cache.left) is)
 flows (store_list peer room out needed status) old new (is, got) = same-left old new (ap (λ (st : Store). st.cache.left) is)
-flows (store_count counts) old new (is, cached, awaited) = same-left old new (ap (λ (st : Store). st.cache.left) is)
+flows (store_count counts) old new (is, one, cached, awaited) = same-left old new (ap (λ (st : Store). st.cache.left) is)
 
 -- all calls
 pub moved_once : (first : Store) → first.cache.left ≡ [] → (calls : Calls) → AreDone first calls → AreMovedOnce first calls

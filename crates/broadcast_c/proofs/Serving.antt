@@ -1,13 +1,13 @@
 -- A ticket that waits is served once at most.
-use Rattle.std.proofs.Common.{◌≡◌, ◌≤◌, ℕ, ◌+◌, Bool, true, false, not, ◌&&◌, ◌==◌, if◌then◌else◌, cond, List, [], ◌∷◌, ◌++◌, filter, refl, sym, ap, ◌∙◌, arith}
+use Rattle.std.proofs.Common.{◌≡◌, ◌≤◌, ℕ, ◌+◌, Bool, true, false, not, ◌==◌, cond, List, [], ◌∷◌, ◌++◌, filter, ap, ◌∙◌, arith}
 use Rattle.std.specs.List.{count_by}
 use Rattle.std.proofs.lemmas.List.Sums.{sum_by-append}
-use Rattle.broadcast_core.specs.Content.{Content, waiting_at}
+use Rattle.broadcast_core.specs.Content.{waiting_at}
 use Rattle.broadcast_core.specs.Waiters.{is_gone}
 use Rattle.broadcast_core.proofs.Distinct.{by_test}
-use Rattle.broadcast_c.proofs.Following.{same_digest}
+use Rattle.broadcast_c.proofs.Lawful.{same_digest}
 use Rattle.broadcast_c.specs.Storing.{same_bytes}
-use Rattle.broadcast_c.specs.Law.{Call, store_peers, store_take, store_subscribe, store_cleanup, store_cleanup_of, store_left, store_served, store_get, store_is_primary, store_bytes, store_list, store_count, Does, Calls, store_after, AreDone, waits_by, serves_by, waited, served, AreServedOnce}
+use Rattle.broadcast_c.specs.Law.{Call, store_peers, store_take, store_subscribe, store_cleanup, store_cleanup_of, store_left, store_served, store_get, store_is_primary, store_bytes, store_list, store_count, Does, Calls, store_after, AreDone, waits_by, serves_by, waited, served}
 use Rattle.broadcast_c.specs.declared.store.Store.{Store}
 
 module _ (t : ℕ) where
@@ -33,11 +33,11 @@ module _ (t : ℕ) where
     step : (x : Call) (old new : Store) → Does x old new → serves_by t d x new + now_in new ≤ waits_by t d x + now_in old
     step (store_peers names) old new (set, same, takes, kept, reports) = let e = ap times (takes.waiters d) in omega (arith, e)
     step (store_take peer digest charge handle report) old new does =
-        let left = ap times (does.taken.ok.waiters d) in
+        let left = ap times (does.0.taken.ok.waiters d) in
         by_test (same_bytes.digest digest d)
         (λ h. let is : digest ≡ d = same_digest digest d h in
         let none : now_in new ≡ 0 = rw h at left in
-        let all : times new.served ≡ now_in old = ap times does.taken.served ∙ ap (λ e. times (waiting_at same_bytes old.cache.core e)) is in
+        let all : times new.served ≡ now_in old = ap times does.0.taken.served ∙ ap (λ e. times (waiting_at same_bytes old.cache.core e)) is in
         rw h (omega (arith, none, all)))
         (λ h. let same : now_in new ≡ now_in old = rw h at left in rw h (omega (arith, same)))
     step (store_subscribe ticket digest true) old new (lacks, awaits, kept, left) =
@@ -63,7 +63,7 @@ module _ (t : ℕ) where
     step (store_is_primary peer primary) old new (is, got) = let e = ap now_in is in omega (arith, e)
     step (store_bytes peer bytes) old new (is, got) = let e = ap now_in is in omega (arith, e)
     step (store_list peer room out needed status) old new (is, got) = let e = ap now_in is in omega (arith, e)
-    step (store_count counts) old new (is, cached, awaited) = let e = ap now_in is in omega (arith, e)
+    step (store_count counts) old new (is, one, cached, awaited) = let e = ap now_in is in omega (arith, e)
 
     -- all calls
     pub served_once : (first : Store) → now_in first ≡ 0 → (calls : Calls) → AreDone first calls → served t d calls + now_in (store_after first calls) ≤ waited t d calls

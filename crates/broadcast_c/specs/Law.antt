@@ -5,20 +5,20 @@ use Rattle.std.specs.List.{filter, list_any, count_by, IsDistinct}
 use Rattle.std.specs.Map.{keys_of}
 use Rattle.std.specs.Option.{option_map, option_to_list}
 use Rattle.broadcast_core.specs.Carried.{Carried}
-use Rattle.broadcast_core.specs.Content.{Content, bytes_of, charged_at, list_at, message_at, waiting_at}
+use Rattle.broadcast_core.specs.Content.{Content, bytes_of, charged_at, first_places, list_at, message_at, waiting_at}
 use Rattle.broadcast_core.specs.Changes.{TakesPeers, Awaits, Cleans, CleansAt}
 use Rattle.broadcast_core.specs.Counted.{counted}
 use Rattle.broadcast_core.specs.Empty.{empty}
 use Rattle.broadcast_core.specs.Fronted.{has_primary, is_on_list}
 use Rattle.broadcast_core.specs.Reports.{Reports}
-use Rattle.broadcast_core.specs.Waiters.{is_gone, gone_from}
+use Rattle.broadcast_core.specs.Waiters.{NoneEmpty, is_gone, gone_from}
 use Rattle.broadcast_core.specs.Setting.{Setting, setting}
 use Rattle.broadcast_core.specs.Happening.{Happening, History, peers, arrival, subscribe, cleanup}
 use Rattle.broadcast_core.specs.Concerns.{concerns}
-use Rattle.broadcast_core.specs.Peers.{is_primary}
+use Rattle.broadcast_core.specs.Peers.{is_primary, primary}
 use Rattle.broadcast_core.specs.Lists.{charged_list, list, outcome}
 use Rattle.broadcast_core.specs.Cache.{is_listed, message}
-use Rattle.broadcast_core.specs.Waiting.{Awaiting, replied_at, waiters_of, waiting, waiting_for}
+use Rattle.broadcast_core.specs.Waiting.{Awaiting, awaited, replied_at, waiters_of, waiting, waiting_for}
 use Rattle.broadcast_core.specs.HasContent.{HasContent}
 use Rattle.broadcast_core.specs.declared.codec.CodecError.TheVariants.{EndOfBuffer}
 use Rattle.broadcast_c.specs.Calls.{IsFilled, ReportsTaking, outcome_code}
@@ -29,36 +29,31 @@ use Rattle.broadcast_c.specs.declared.store.Store.{Store}
 use Rattle.broadcast_c.specs.declared.exports.store.Counts.{Counts}
 use Rattle.broadcast_c.specs.declared.exports.store.Stored.{Stored}
 
--- a call that did not fail, by the name of its function: what it was passed, then what it reported
+-- a call that did not fail, by the name of its function: what it was passed, then what it reported;
+-- `room` is a buffer before the call, and `out` that buffer after it
 pub data Call : Type 0 where
-  -- the keys
-  store_peers : List Name → Call
-  -- the key, the digest, the charge, the handle; the report
-  store_take : Name → List ℕ → ℕ → ℕ → Stored → Call
-  -- the ticket, the digest; whether the ticket waits
-  store_subscribe : ℕ → List ℕ → Bool → Call
-  -- the tickets; how many were dropped
-  store_cleanup : List ℕ → ℕ → Call
-  -- the digest, the tickets; how many were dropped
-  store_cleanup_of : List ℕ → List ℕ → ℕ → Call
-  -- the buffer; the buffer after the call, how many handles were moved
-  store_left : List ℕ → List ℕ → ℕ → Call
-  -- the buffer; the buffer after the call, how many tickets there are, the status
-  store_served : List ℕ → List ℕ → ℕ → ℕ → Call
-  -- the digest; the handle, the status
-  store_get : List ℕ → ℕ → ℕ → Call
-  -- the key; whether it is primary
-  store_is_primary : Name → Bool → Call
-  -- the key; what its list is charged
-  store_bytes : Name → ℕ → Call
-  -- the key, the buffer; the buffer after the call, how many digests there are, the status
-  store_list : Name → List (List ℕ) → List (List ℕ) → ℕ → ℕ → Call
-  -- the sizes
-  store_count : Counts → Call
+  store_peers : (names : List Name) → Call
+  store_take : (peer : Name) (digest : List ℕ) (charge handle : ℕ) (report : Stored) → Call
+  store_subscribe : (ticket : ℕ) (digest : List ℕ) (waits : Bool) → Call
+  store_cleanup : (tickets : List ℕ) (removed : ℕ) → Call
+  store_cleanup_of : (digest tickets : List ℕ) (removed : ℕ) → Call
+  store_left : (room out : List ℕ) (moved : ℕ) → Call
+  store_served : (room out : List ℕ) (needed status : ℕ) → Call
+  store_get : (digest : List ℕ) (handle status : ℕ) → Call
+  store_is_primary : (peer : Name) (primary : Bool) → Call
+  store_bytes : (peer : Name) (bytes : ℕ) → Call
+  store_list : (peer : Name) (room out : List (List ℕ)) (needed status : ℕ) → Call
+  store_count : (counts : Counts) → Call
 
 -- OK with the handle, or NONE
 abbrev pub IsFound : Option ℕ → ℕ → ℕ → Type 0
 IsFound found handle status = MatchOption found (status ≡ 3) (λ it. (status ≡ 0) × (handle ≡ it))
+
+-- no digest has two messages, or two lists of waiters, and no list of waiters is empty
+pub record IsOneEach (core : Content Name Held (List ℕ) ℕ) : Type 0 where
+  pub cached : IsDistinct same_bytes.digest (keys_of core.cached)
+  pub waiters : IsDistinct same_bytes.digest (keys_of core.waiters)
+  pub some : NoneEmpty same_bytes.digest core.waiters
 
 -- what each function promises of the store before a call and after it
 abbrev pub Does : Call → Store → Store → Type 0
@@ -67,6 +62,7 @@ Does (store_peers names) old new = (set : List Name) × HaveSameNames names set
     × Reports same_bytes old.cache new.cache
 Does (store_take peer digest charge handle report) old new =
     ReportsTaking peer digest charge handle old new report
+    × IsOneEach new.cache.core
 Does (store_subscribe ticket digest true) old new =
     (message_at same_bytes old.cache.core digest ≡ None)
     × Awaits same_bytes digest ticket old.cache.core new.cache.core
@@ -93,7 +89,7 @@ Does (store_bytes peer bytes) old new =
     (new ≡ old) × (bytes ≡ bytes_of (charged_at same_bytes old.cache.core peer))
 Does (store_list peer room out needed status) old new =
     (new ≡ old) × IsFilled (list_at same_bytes old.cache.core peer) room out needed status
-Does (store_count counts) old new = (new ≡ old)
+Does (store_count counts) old new = (new ≡ old) × IsOneEach old.cache.core
     × (counts.cached ≡ length old.cache.core.cached)
     × (counts.awaited ≡ length old.cache.core.waiters)
 
@@ -160,6 +156,15 @@ module _ (s : Setting Name Held (List ℕ)) where
   last_served (arrival p c ∷ past) = waiters_of (replied_at s (arrival p c) past)
   last_served (_ ∷ past) = last_served past
 
+  -- the digests on the lists of these keys
+  abbrev pub listed_by : StoreHistory → List Name → List (List ℕ)
+  listed_by past [] = []
+  listed_by past (p ∷ ps) = list s p past ++ listed_by past ps
+
+  -- the cached digests, each once
+  abbrev pub cached_digests : StoreHistory → List (List ℕ)
+  cached_digests past = first_places s.same.digest (listed_by past (primary s past))
+
   -- the store has what the history gives
   pub record HasHistory (past : StoreHistory) (store : Store) : Type 0 where
     pub content : HasContent s past store.cache.core
@@ -181,6 +186,7 @@ module _ (s : Setting Name Held (List ℕ)) where
     pub outcome : report.outcome ≡ outcome_code (outcome s peer c past)
     pub served : report.served ≡ length (waiters_of (replied_at s e past))
     pub kept : report.kept ≡ (not (is_listed s c.digest past) && is_listed s c.digest (e ∷ past))
+    pub cached : report.cached ≡ length (cached_digests (e ∷ past))
     pub left : report.left ≡ length (left_in new)
     pub leaves : Leaves e past old new
 
@@ -206,7 +212,8 @@ module _ (s : Setting Name Held (List ℕ)) where
   IsAnswered past (store_bytes peer bytes) old new = bytes ≡ bytes_of (charged_list s peer past)
   IsAnswered past (store_list peer room out needed status) old new =
       IsFilled (list s peer past) room out needed status
-  IsAnswered past (store_count counts) old new = Unit {0}
+  IsAnswered past (store_count counts) old new =
+      (counts.cached ≡ length (cached_digests past)) × (counts.awaited ≡ length (awaited s past))
 
   -- each call is answered by the history before it
   abbrev pub AreAnswered : Store → Calls → Type 0

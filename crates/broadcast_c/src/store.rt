@@ -1,5 +1,5 @@
 //! A cache of messages that the caller keeps.
-ghost use Rattle.std.specs.Prelude.{◌≡◌, List, [], IfOk, IsOk, OnErr, OnOk, is_some, true, false, None, Ok};
+ghost use Rattle.std.specs.Prelude.{◌≡◌, List, [], length, IfOk, IsOk, OnErr, OnOk, is_some, true, false, None, Ok};
 ghost use Rattle.std.specs.List.{count_by, IsDistinct};
 ghost use Rattle.std.specs.Map.{keys_of};
 ghost use Rattle.broadcast_core.specs.Content.{message_at, waiting_at};
@@ -9,6 +9,7 @@ ghost use Rattle.broadcast_core.specs.Changes.{TakesPeers, Cleans, CleansAt, Awa
 ghost use Rattle.broadcast_core.specs.Reports.{Reports};
 ghost use Rattle.broadcast_core.specs.Waiters.{is_gone, gone_from};
 ghost use Rattle.broadcast_core.specs.Counted.{counted};
+ghost use Rattle.broadcast_c.specs.Law.{IsOneEach};
 ghost use Rattle.broadcast_c.specs.Storing.{HaveSameNames, MovesLeft, TakesHandle, enters, handle_at, same_bytes};
 
 mod held;
@@ -137,6 +138,16 @@ impl Store {
             Ok(Subscribed::Answered(_, _)) => Ok(false),
             Err(_) => Err(AllocError),
         }
+    }
+
+    /// Returns the number of cached messages, and that of digests that have waiters.
+    pub fn sizes(&self) -> (usize, usize)
+        ensures cached { result.0 ≡ length self.now.cache.core.cached }
+        ensures awaited { result.1 ≡ length self.now.cache.core.waiters }
+        ensures one_each { IsOneEach self.now.cache.core }
+    {
+        let core = self.cache.core();
+        (core.cached_len(), core.awaited())
     }
 
     /// Returns whether the key is primary.

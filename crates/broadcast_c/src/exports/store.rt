@@ -113,8 +113,8 @@ pub extern "C" fn broadcast_store_take(
         return EMPTY;
     };
     let result = held.take(alloc, peer, *digest, charge, handle);
-    let (served, cached) = (held.served.len(), held.cache.core().cached_len());
-    let left = held.cache.left_len();
+    let (served, left) = (held.served.len(), held.cache.left_len());
+    let (cached, _) = held.sizes();
     store.put(held);
     match result {
         Ok((outcome, kept)) => {
@@ -367,8 +367,7 @@ pub extern "C" fn broadcast_store_count(
     let Some(held) = store.take(alloc) else {
         return EMPTY;
     };
-    out.cached = held.cache.core().cached_len();
-    out.awaited = held.cache.core().awaited();
+    (out.cached, out.awaited) = held.sizes();
     store.put(held);
     OK
 }
